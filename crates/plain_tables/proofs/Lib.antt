@@ -1,0 +1,15 @@
+pub mod Canonical
+pub mod DatabaseLemmas
+pub mod DivisionLemmas
+pub mod EffectLemmas
+pub mod FirstWords
+pub mod Integers
+pub mod Lexemes
+pub mod ListLemmas
+pub mod RowLemmas
+pub mod RunLemmas
+pub mod RunSteps
+pub mod Spellable
+pub mod Uniqueness
+pub mod ValueLemmas
+pub mod WellFormed

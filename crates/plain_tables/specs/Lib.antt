@@ -1,0 +1,12 @@
+pub mod AnswerText
+pub mod Csv
+pub mod Databases
+pub mod Division
+pub mod Effects
+pub mod Names
+pub mod Reading
+pub mod Refusals
+pub mod Runs
+pub mod Spelling
+pub mod Tables
+pub mod Values

@@ -1,0 +1,39 @@
+//! What a command line asks for, and the limits under which it is done.
+
+use crate::{Schema, Sequence, Text, Value};
+
+/// A command of the language. Each has one variant.
+#[derive(Debug, Drop)]
+pub enum Command {
+    /// `table NAME ( .. )`: a new table with these columns and no rows.
+    Table {
+        name: Text,
+        schema: Schema,
+    },
+    /// `insert NAME ( .. )`: one row more.
+    Insert {
+        table: Text,
+        values: Sequence<Value>,
+    },
+    /// `select * from NAME`: all rows of a table.
+    Select {
+        table: Text,
+    },
+}
+
+/// How much a session takes: the rows that one table may have, and the bytes of a block.
+///
+/// `rows` is from 1 to 16,777,216 and `block` from 0 to 16,777,216.
+#[derive(Clone, Copy, Debug, PartialEq, Eq)]
+pub struct Limits {
+    pub rows: u32,
+    pub block: u32,
+}
+
+impl Limits {
+    /// The greatest limits, which hold where nothing else is said.
+    pub const STANDARD: Limits = Limits {
+        rows: 16_777_216,
+        block: 16_777_216,
+    };
+}

@@ -1,0 +1,38 @@
+//! The columns of a table, and the kinds of indexes.
+
+use crate::{Sequence, Text};
+
+/// What a column holds: integers, texts, or references to rows of the table named.
+#[derive(Debug, Drop)]
+pub enum ColKind {
+    Int,
+    Text,
+    Ref(Text),
+}
+
+/// A column of a table. A table's first column is its key.
+#[derive(Debug, Drop)]
+pub struct Column {
+    pub name: Text,
+    pub kind: ColKind,
+}
+
+/// The columns of a table, in the order of their declaration.
+#[derive(Debug, Drop)]
+pub struct Schema {
+    pub columns: Sequence<Column>,
+}
+
+/// The type of a column's values. Those of a reference column are keys, and so of one of these too.
+#[derive(Clone, Copy, Debug, PartialEq, Eq)]
+pub enum BaseKind {
+    Int,
+    Text,
+}
+
+/// What a declared index is: a T-tree, which keeps the order of the values, or a hash table.
+#[derive(Clone, Copy, Debug, PartialEq, Eq)]
+pub enum IndexKind {
+    Tree,
+    Hash,
+}
