@@ -1,0 +1,14 @@
+use Rattle.std.proofs.Common.{◌∙◌, ap, Err}
+use Rattle.mm_session.specs.Answered.{no_memory, not_a_command}
+use Rattle.mm_session.proofs.AnswerLemmas.{declines}
+use Rattle.mm_session.proofs.respond.obey.Goals as goal
+
+pub returns-in-Err-Syntax-clause-err : goal.returns-in-Err-Syntax-clause-err
+returns-in-Err-Syntax-clause-err c = not_a_command (c.parse.ensures.syntax (c.in-Err-Syntax.is ∙ ap Err c.in-Err-Syntax.field-0-is))
+
+pub returns-in-Err-NoMemory-clause-err : goal.returns-in-Err-NoMemory-clause-err
+returns-in-Err-NoMemory-clause-err c = no_memory
+
+pub returns-clause-err : goal.returns-clause-err
+returns-clause-err c =
+    declines c.args.limits c.args.tables.now c.execute.new.self c.args.line.now c.in-Ok.command c.execute.result c.in-Ok.ensures.command c.execute.ensures.err

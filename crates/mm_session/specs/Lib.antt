@@ -1,0 +1,6 @@
+pub mod Answered
+pub mod Kept
+pub mod Places
+pub mod Sessions
+pub mod WholeRuns
+pub mod Writing

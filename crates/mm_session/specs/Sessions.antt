@@ -1,0 +1,59 @@
+-- What a session is seen as, and what its calls do to the run that it is in.
+use Rattle.std.specs.Prelude.{◌≡◌, ℕ, List, [], ◌++◌, Bool, true, false, Option}
+use Rattle.std.specs.Io.KnownBytes.{Appends}
+use Rattle.mm_session.specs.Kept.{Kept, kept_of}
+use Rattle.plain_tables.specs.Databases.{Database}
+use Rattle.plain_tables.specs.Division.{Divides}
+use Rattle.plain_tables.specs.Runs.{RunOf}
+use Rattle.plain_tables.specs.declared.command.Limits.{Limits}
+
+-- A session is seen as its limits, its tables, whether it has ended, and what it keeps of the line that has not.
+pub record State : Type 0 where
+  pub limits : Limits
+  pub database : Database
+  pub ended : Bool
+  pub kept : Kept
+
+-- This is kept of the stream: what is kept of the rest that it leaves behind its lines.
+abbrev pub KeepsOf : Kept → List ℕ → Type 0
+KeepsOf kept stream = (lines : List (List ℕ)) × (rest : List ℕ) × Divides stream lines rest × (kept ≡ kept_of rest)
+
+-- The session stands in a run: from that database the stream had these answers so far.
+pub record StandsIn (session : State) (from : Database) (stream answers : List ℕ) : Type 0 where
+  pub keeps : KeepsOf session.kept stream
+  pub run : RunOf session.limits from stream false answers session.database
+
+-- the writer, whose bytes are known or not, gained some bytes of which that holds
+abbrev pub Gains : Option (List ℕ) → Option (List ℕ) → (List ℕ → Type 0) → Type 0
+Gains before after says = (gained : List ℕ) × Appends before after gained × says gained
+
+-- In whichever run the session stood, it stands in that run still, with the piece behind the stream and what was
+-- gained behind the answers.
+pub record Feeds (old new : State) (piece gained : List ℕ) : Type 0 where
+  pub going_on : new.ended ≡ false
+  pub limits : new.limits ≡ old.limits
+  pub run : (from : Database) (stream answers : List ℕ) → StandsIn old from stream answers
+      → StandsIn new from (stream ++ piece) (answers ++ gained)
+
+-- in whichever run the session stood, the finished stream has the answers so far and what was gained
+abbrev pub Finishes : State → List ℕ → Type 0
+Finishes old gained =
+    (from : Database) (stream answers : List ℕ) → StandsIn old from stream answers
+    → (after : Database) × RunOf old.limits from stream true (answers ++ gained) after
+
+-- the bytes are the front of the answers of some run over that stream
+abbrev pub IsFrontOfRun : Limits → Database → List ℕ → Bool → List ℕ → Type 0
+IsFrontOfRun limits from stream finished bytes =
+    (answers : List ℕ) × (after : Database) × RunOf limits from stream finished answers after
+    × ((more : List ℕ) × (answers ≡ bytes ++ more))
+
+-- in whichever run the session stood, the answers so far and what was gained are the front of those of some run over
+-- the stream with the piece behind it
+abbrev pub BreaksOff : State → List ℕ → Bool → List ℕ → Type 0
+BreaksOff old piece finished gained =
+    (from : Database) (stream answers : List ℕ) → StandsIn old from stream answers
+    → IsFrontOfRun old.limits from (stream ++ piece) finished (answers ++ gained)
+
+-- a session that has been fed nothing
+abbrev pub new_session : Limits → State
+new_session limits = record { limits = limits; database = []; ended = false; kept = kept_of [] }

@@ -1,0 +1,77 @@
+//! The bytes of one answer, made whole before the first of them is written.
+
+ghost use Rattle.std.specs.Prelude.{◌≡◌, ◌++◌, ◌≤◌, [], length, IfOk, OnOk};
+ghost use Rattle.std.specs.Fmt.{decimal, signed_decimal};
+
+use itoa::Buffer;
+use plain_tables::NoMemory;
+use std::alloc::Global;
+use std::marker::Model;
+
+/// The bytes of an answer. Short ones need no memory.
+#[derive(Drop)]
+pub struct Answer {
+    bytes: Vec<u8>,
+}
+
+impl Model for Answer {
+    ghost use Rattle.std.specs.Prelude.{List, ℕ, ◌≤◌};
+    ghost use Rattle.std.specs.Vec.{vec_capacity};
+
+    ghost Value = { List ℕ };
+
+    ghost view = { λ a. a.bytes.items };
+
+    ghost invariant = { λ a. 64 ≤ vec_capacity a.bytes };
+}
+
+impl Answer {
+    pub fn new(alloc: Global) -> Result<Answer, NoMemory>
+        ensures { IfOk result (λ answer. answer ≡ []) }
+    {
+        let bytes = Vec::with_capacity(alloc, 64)?;
+        Ok(Answer { bytes })
+    }
+
+    pub fn as_slice(&self) -> &[u8]
+        ensures { result.now ≡ self.now }
+    {
+        self.bytes.as_slice()
+    }
+
+    pub fn clear(&mut self)
+        ensures { self.new ≡ [] }
+    {
+        self.bytes.clear();
+    }
+
+    /// Makes this the answer. A short text needs no memory.
+    pub fn set(&mut self, text: &[u8])
+        requires { length text.now ≤ 64 }
+        ensures { self.new ≡ text.now }
+    {
+        self.bytes.clear();
+        let _ = self.bytes.extend_from_slice(text);
+    }
+
+    pub fn push(&mut self, bytes: &[u8]) -> Result<(), NoMemory>
+        ensures { OnOk result (self.new ≡ self.old ++ bytes.now) }
+    {
+        self.bytes.extend_from_slice(bytes)?;
+        Ok(())
+    }
+
+    pub fn push_number(&mut self, n: u64) -> Result<(), NoMemory>
+        ensures { OnOk result (self.new ≡ self.old ++ decimal n) }
+    {
+        let mut buffer = Buffer::new();
+        self.push(buffer.format(n).as_bytes())
+    }
+
+    pub fn push_integer(&mut self, z: i64) -> Result<(), NoMemory>
+        ensures { OnOk result (self.new ≡ self.old ++ signed_decimal z) }
+    {
+        let mut buffer = Buffer::new();
+        self.push(buffer.format(z).as_bytes())
+    }
+}

@@ -1,0 +1,28 @@
+//! Why a session or a run stopped.
+
+use thiserror::Error;
+
+/// Why a piece was not taken to its end.
+#[derive(Clone, Copy, Debug, PartialEq, Eq, Error)]
+pub enum SessionFault {
+    /// A write answered an error or took no byte. The session has ended.
+    #[error("write fault")]
+    Write,
+    /// The session had ended before the call.
+    #[error("the session has ended")]
+    Ended,
+}
+
+/// Why a run stopped before the end of its stream.
+#[derive(Clone, Copy, Debug, PartialEq, Eq, Error)]
+pub enum RunFault {
+    /// A read answered an error, or 2^40 reads did not reach the end.
+    #[error("read fault")]
+    Read,
+    /// A write or a flush answered an error, or a write took no byte.
+    #[error("write fault")]
+    Write,
+    /// No memory was found to begin.
+    #[error("no memory")]
+    NoMemory,
+}

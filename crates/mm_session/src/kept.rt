@@ -1,0 +1,80 @@
+//! What is kept of a line that has not ended.
+
+ghost use Rattle.std.specs.Prelude.{◌≡◌, [], IfOk};
+ghost use Rattle.mm_session.specs.Kept.{PartOfLine, grown, line_kept, is_start};
+ghost use Rattle.std.specs.Option.{option_copied};
+
+use plain_tables::NoMemory;
+use std::alloc::Global;
+use std::marker::Model;
+
+/// The greatest number of bytes that are kept: a line of 8,192 and a carriage return.
+const ROOM: usize = 8193;
+
+/// The bytes of a line that has not ended, or only that it is too long. It never grows.
+#[derive(Drop)]
+pub struct LineBuffer {
+    bytes: Vec<u8>,
+    is_too_long: bool,
+}
+
+impl Model for LineBuffer {
+    ghost use Rattle.std.specs.Prelude.{◌≤◌, if◌then◌else◌};
+    ghost use Rattle.std.specs.Vec.{vec_capacity, vec_len};
+    ghost use Rattle.mm_session.specs.Kept.{Kept, PartOfLine, LongLine};
+
+    ghost Value = { Kept };
+
+    ghost view = { λ b. if b.is_too_long then LongLine else PartOfLine b.bytes.items };
+
+    ghost invariant = { λ b. (8193 ≤ vec_capacity b.bytes) × (vec_len b.bytes ≤ 8193) };
+}
+
+impl LineBuffer {
+    pub fn new(alloc: Global) -> Result<LineBuffer, NoMemory>
+        ensures { IfOk result (λ kept. kept ≡ PartOfLine []) }
+    {
+        let bytes = Vec::with_capacity(alloc, ROOM)?;
+        Ok(LineBuffer {
+            bytes,
+            is_too_long: false,
+        })
+    }
+
+    /// The line so far, unless it is too long.
+    pub fn line(&self) -> Option<&[u8]>
+        ensures { option_copied result ≡ line_kept self.now }
+    {
+        if self.is_too_long {
+            None
+        } else {
+            Some(self.bytes.as_slice())
+        }
+    }
+
+    /// Whether nothing has come of the line yet.
+    pub fn is_empty(&self) -> bool
+        ensures { result ≡ is_start self.now }
+    {
+        !self.is_too_long && self.bytes.is_empty()
+    }
+
+    /// Adds the next bytes of the line.
+    pub fn extend(&mut self, more: &[u8])
+        ensures { self.new ≡ grown self.old more.now }
+    {
+        if self.is_too_long || more.len() > ROOM - self.bytes.len() {
+            self.is_too_long = true;
+        } else {
+            let _ = self.bytes.extend_from_slice(more);
+        }
+    }
+
+    /// Begins the next line.
+    pub fn clear(&mut self)
+        ensures { self.new ≡ PartOfLine [] }
+    {
+        self.bytes.clear();
+        self.is_too_long = false;
+    }
+}

@@ -1,0 +1,38 @@
+//! How a stream is cut into lines, and what a line is before it is read as a command.
+
+ghost use Rattle.std.specs.Prelude.{◌≡◌, ◌++◌, ◌∷◌, MatchOption, IsTrue};
+ghost use Rattle.plain_tables.specs.Division.{IsUnbroken};
+ghost use Rattle.plain_tables.specs.Runs.{without_return, is_silent as is_silent_line};
+
+use memchr::memchr;
+
+/// The bytes before the first line feed and those behind it, where there is one.
+pub fn split_line(bytes: &[u8]) -> Option<(&[u8], &[u8])>
+    ensures { MatchOption result (IsUnbroken bytes.now)
+        (λ parts. IsUnbroken parts.0.now × (bytes.now ≡ parts.0.now ++ 10 ∷ parts.1.now)) }
+{
+    let at = memchr(b'\n', bytes)?;
+    Some((&bytes[..at], &bytes[at + 1..]))
+}
+
+/// The line without one carriage return at its end.
+pub fn trim_return(line: &[u8]) -> &[u8]
+    ensures { result.now ≡ without_return line.now }
+{
+    match line.last() {
+        Some(b'\r') => &line[..line.len() - 1],
+        _ => line,
+    }
+}
+
+/// Whether a line is blanks alone or a comment, and so has no answer.
+pub fn is_silent(line: &[u8]) -> bool
+    ensures { result ≡ is_silent_line line.now }
+{
+    for c in line {
+        if *c != b' ' && *c != b'\t' {
+            return *c == b'#';
+        }
+    }
+    true
+}

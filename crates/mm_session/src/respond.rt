@@ -1,0 +1,75 @@
+//! The answer to one line.
+
+ghost use Rattle.std.specs.Prelude.{◌≡◌, OnOk, IfErr, OnErr, ◌⊎◌};
+ghost use Rattle.plain_tables.specs.AnswerText.{refusal_text};
+ghost use Rattle.plain_tables.specs.Runs.{Answers, without_return};
+ghost use Rattle.mm_session.specs.Answered.{Obeys, Declines};
+
+use crate::answer::Answer;
+use crate::lines::{is_silent, trim_return};
+use crate::records::push_refusal;
+use crate::tables::Tables;
+use mm_lang::{ParseRefusal, parse};
+use plain_tables::{Limits, Refusal};
+use std::alloc::Global;
+
+/// The greatest number of bytes that a line may have.
+const LONGEST_LINE: usize = 8192;
+
+pub const LINE_TOO_LONG: &[u8] = b"error 10 line too long\n";
+
+const NOT_UTF8: &[u8] = b"error 11 not UTF-8\n";
+
+const NO_MEMORY: &[u8] = b"error 90 no memory\n";
+
+/// Makes the refusal the answer, or want of memory if there is none for that.
+fn refuse(answer: &mut Answer, refusal: Refusal)
+    ensures { (answer.new ≡ refusal_text refusal) ⊎ (answer.new ≡ refusal_text Refusal.NoMemory) }
+{
+    answer.clear();
+    if push_refusal(answer, refusal).is_err() {
+        answer.set(NO_MEMORY);
+    }
+}
+
+/// Reads a line as a command, and does what it says.
+fn obey(
+    alloc: Global,
+    limits: Limits,
+    tables: &mut Tables,
+    line: &str,
+    answer: &mut Answer,
+) -> Result<(), Refusal>
+    ensures ok { OnOk result (Obeys limits tables.old line.now tables.new answer.old answer.new) }
+    ensures err { IfErr result (Declines limits tables.old line.now) }
+    ensures unchanged { OnErr result (tables.new ≡ tables.old) }
+{
+    let command = match parse(alloc, line) {
+        Ok(command) => command,
+        Err(ParseRefusal::Syntax) => return Err(Refusal::NotACommand),
+        Err(ParseRefusal::NoMemory) => return Err(Refusal::NoMemory),
+    };
+    tables.execute(limits, command, answer)
+}
+
+/// Answers a line that has ended. A silent line has the empty answer.
+pub fn respond(alloc: Global, limits: Limits, tables: &mut Tables, line: &[u8], answer: &mut Answer)
+    ensures { Answers limits tables.old (without_return line.now) answer.new tables.new }
+{
+    let line = trim_return(line);
+    if line.len() > LONGEST_LINE {
+        answer.set(LINE_TOO_LONG);
+        return;
+    }
+    let Ok(text) = std::str::from_utf8(line) else {
+        answer.set(NOT_UTF8);
+        return;
+    };
+    answer.clear();
+    if is_silent(line) {
+        return;
+    }
+    if let Err(refusal) = obey(alloc, limits, tables, text, answer) {
+        refuse(answer, refusal);
+    }
+}

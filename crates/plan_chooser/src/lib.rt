@@ -1,0 +1,18 @@
+//! Which plans a session may choose from.
+#![tactic(auto)]
+
+/// How plans are chosen. No policy changes an answer.
+#[derive(Clone, Copy, Debug, Default, PartialEq, Eq)]
+pub enum Policy {
+    /// The plan that reads the fewest rows, by simple rules.
+    #[default]
+    Auto,
+    /// Always in key order through the whole table.
+    Scan,
+    /// Through hash tables.
+    Hash,
+    /// Through trees.
+    Tree,
+    /// By merging trees.
+    Merge,
+}
