@@ -1,0 +1,69 @@
+"""What the outside tests share: the built program and ways to feed it."""
+
+import array
+import fcntl
+import os
+import pathlib
+import subprocess
+import tempfile
+import termios
+import time
+
+TESTS = pathlib.Path(__file__).resolve().parent
+ROOT = TESTS.parent
+ROWS = TESTS / "rows"
+PROGRAM = ROOT / "crates" / "mmdb" / "out" / "mmdb"
+SECONDS = 60
+
+
+class Ended:
+    """How a run of the program ended."""
+
+    def __init__(self, status, out, err):
+        self.status = status
+        self.out = out
+        self.err = err
+
+
+def run_whole(stream, words=(), **how):
+    """Runs the program over a stream that a pipe holds whole."""
+    ran = subprocess.run([PROGRAM, *words], input=stream, capture_output=True, timeout=SECONDS, check=False, **how)
+    return Ended(ran.returncode, ran.stdout, ran.stderr)
+
+
+def run_in_pieces(pieces, **how):
+    """Runs the program over a stream that a pipe gives piece by piece: each is sent once the last has been read."""
+    with tempfile.TemporaryFile() as out, tempfile.TemporaryFile() as err:
+        with subprocess.Popen([PROGRAM], stdin=subprocess.PIPE, stdout=out, stderr=err, bufsize=0, **how) as program:
+            try:
+                for piece in pieces:
+                    os.write(program.stdin.fileno(), piece)
+                    wait_until_read(program)
+            except BrokenPipeError:
+                pass
+            program.stdin.close()
+            status = program.wait(timeout=SECONDS)
+        out.seek(0)
+        err.seek(0)
+        return Ended(status, out.read(), err.read())
+
+
+def wait_until_read(program):
+    """Waits until the program has read all that its pipe held, or has ended."""
+    held = array.array("i", [0])
+    latest = time.monotonic() + SECONDS
+    while time.monotonic() < latest:
+        fcntl.ioctl(program.stdin.fileno(), termios.FIONREAD, held)
+        if held[0] == 0 or program.poll() is not None:
+            return
+    raise TimeoutError("the program stopped reading")
+
+
+def pieces_of(stream, size):
+    return [stream[at : at + size] for at in range(0, len(stream), size)]
+
+
+def rows():
+    """The rows: streams beside the answers that they must have, by name."""
+    for stream in sorted(ROWS.glob("*.in")):
+        yield stream.stem, stream.read_bytes(), stream.with_suffix(".out").read_bytes()

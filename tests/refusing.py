@@ -1,0 +1,51 @@
+"""Runs of a program in which one call for memory finds none."""
+
+import os
+import pathlib
+import subprocess
+import tempfile
+
+from harness import SECONDS, TESTS, Ended
+
+MOST_CALLS = 100_000
+
+
+class Refuser:
+    """The library that refuses one call for memory, built into a temporary folder."""
+
+    def __init__(self):
+        self.room = tempfile.TemporaryDirectory(prefix="mmdb-tests-")
+        self.library = pathlib.Path(self.room.name) / "refuse_nth.so"
+        words = ["cc", "-O1", "-shared", "-fPIC", "-fno-builtin", "-o", self.library, TESTS / "refuse_nth.c"]
+        subprocess.run(words, check=True)
+
+    def close(self):
+        self.room.cleanup()
+
+    def run(self, command, stream, nth):
+        """Runs a command with its nth call for memory refused. Gives how it ended, and whether it made that call."""
+        hears, tells = os.pipe()
+        with os.fdopen(hears, "rb") as heard:
+            try:
+                how = {"LD_PRELOAD": str(self.library), "REFUSE_NTH": str(nth), "REFUSE_TOLD": str(tells)}
+                ran = subprocess.run(
+                    command,
+                    input=stream,
+                    capture_output=True,
+                    timeout=SECONDS,
+                    check=False,
+                    pass_fds=[tells],
+                    env={**os.environ, **how},
+                )
+            finally:
+                os.close(tells)
+            return Ended(ran.returncode, ran.stdout, ran.stderr), heard.read() != b""
+
+    def each_run(self, command, stream=b""):
+        """Refuses each call for memory in turn, until a run makes no further one, and gives how each run ended."""
+        for nth in range(1, MOST_CALLS):
+            ended, is_met = self.run(command, stream, nth)
+            yield nth, ended, is_met
+            if not is_met:
+                return
+        raise AssertionError(f"{command} makes {MOST_CALLS} calls for memory or more")

@@ -1,0 +1,28 @@
+"""Each row of tests/rows: a stream and its answers, whole and in pieces of several sizes."""
+
+import unittest
+
+import harness
+
+
+class Rows(unittest.TestCase):
+    """Each stream of bytes has its answers, however it is cut."""
+
+    def check(self, ended, answers):
+        self.assertEqual(ended.out, answers)
+        self.assertEqual(ended.err, b"")
+        self.assertEqual(ended.status, 0)
+
+
+def whole(stream, answers):
+    return lambda test: test.check(harness.run_whole(stream), answers)
+
+
+def cut(stream, answers, size):
+    return lambda test: test.check(harness.run_in_pieces(harness.pieces_of(stream, size)), answers)
+
+
+for name, stream, answers in harness.rows():
+    setattr(Rows, f"test_{name}_whole", whole(stream, answers))
+    for size in (1, 2, 7):
+        setattr(Rows, f"test_{name}_in_pieces_of_{size}", cut(stream, answers, size))
