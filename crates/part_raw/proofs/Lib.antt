@@ -1,0 +1,11 @@
+pub mod Bits
+pub mod Refs
+pub mod Tuples
+pub mod Chain
+pub mod Deeds
+pub mod Lending
+pub mod Block
+pub mod Lookup
+pub mod Slots
+pub mod Sound
+pub mod Parts

@@ -1,0 +1,144 @@
+-- The slots of a partition: how many are free, and that the bitmap tells which hold a tuple.
+use Rattle.std.proofs.Common.{◌≡◌, ℕ, zero, suc, ◌+◌, ◌<◌, Bool, true, false, cond, List, [], ◌∷◌, length, get_or, set, count_by, Option, Some, None, is_some, IsSome, IsTrue, MatchOption, not, ◌↔◌, refl, sym, ap, ◌∙◌, inl, inr, arith}
+use Rattle.std.proofs.lemmas.Bool.{cases_eq, true≢false}
+use Rattle.std.proofs.lemmas.List.{get_or-set_same, get_or-set_other, length-set, length-replicate}
+use Rattle.std.proofs.lemmas.List.Sums.{sum_by-cons, sum_by-set}
+use Rattle.std.proofs.Math.ListN.{replicate}
+use Rattle.std.specs.Option.{is_none}
+use Rattle.part_raw.specs.Layout.{is_set, ChangesBit, IsPartition, IsVacant, vacancies}
+
+module _ {T : Type 0} where
+  abbrev one_if_free : Option T → ℕ
+  one_if_free o = cond (is_none o) 1 0
+
+  -- a slot that holds a tuple is one of the slots
+  pub held_within : (slots : List (Option T)) (slot : ℕ) → IsSome (get_or slots slot None) → slot < length slots
+  held_within [] slot held = absurd (true≢false (sym held))
+  held_within (o ∷ rest) zero held = omega arith
+  held_within (o ∷ rest) (suc slot) held = omega (arith, held_within rest slot held)
+
+  -- where each slot holds a tuple none is free
+  pub no_vacancy : (slots : List (Option T)) → ((slot : ℕ) → slot < length slots → is_some (get_or slots slot None) ≡ true) → vacancies slots ≡ 0
+  no_vacancy [] held = refl
+  no_vacancy (None ∷ rest) held = absurd (true≢false (sym (held 0 (omega arith))))
+  no_vacancy (Some tuple ∷ rest) held = omega (arith, sum_by-cons one_if_free (Some tuple) rest, no_vacancy rest (λ slot within. held (suc slot) (omega arith)))
+
+  -- where none is free each slot holds a tuple
+  pub full_slot : (slots : List (Option T)) (slot : ℕ) → vacancies slots ≡ 0 → slot < length slots → is_some (get_or slots slot None) ≡ true
+  full_slot [] slot none within = absurd (omega arith)
+  full_slot (None ∷ rest) slot none within = absurd (omega (arith, sum_by-cons one_if_free None rest, none))
+  full_slot (Some tuple ∷ rest) zero none within = refl
+  full_slot (Some tuple ∷ rest) (suc slot) none within = full_slot rest slot (omega (arith, sum_by-cons one_if_free (Some tuple) rest, none)) (omega arith)
+
+  -- where no slot holds a tuple all are free
+  pub all_vacant : (slots : List (Option T)) → ((slot : ℕ) → get_or slots slot None ≡ None) → vacancies slots ≡ length slots
+  all_vacant [] empty = refl
+  all_vacant (None ∷ rest) empty = omega (arith, sum_by-cons one_if_free None rest, all_vacant rest (λ slot. empty (suc slot)))
+  all_vacant (Some tuple ∷ rest) empty = absurd (some_is_not_none tuple (empty 0))
+    where
+      some_is_not_none : (tuple : T) → Some tuple ≡ None → ⊥
+      some_is_not_none tuple e = cc
+
+  -- a slot that was free is filled
+  pub vacancies-fill : (slots : List (Option T)) (slot : ℕ) (tuple : T) → slot < length slots → get_or slots slot None ≡ None → vacancies (set slots slot (Some tuple)) + 1 ≡ vacancies slots
+  vacancies-fill slots slot tuple within free =
+      let counted = sum_by-set one_if_free slots slot (Some tuple) None within in
+      let one : one_if_free (get_or slots slot None) ≡ 1 = ap one_if_free free in
+      omega (arith, counted, one)
+
+  -- a slot that held a tuple is freed
+  pub vacancies-free : (slots : List (Option T)) (slot : ℕ) (tuple : T) → slot < length slots → get_or slots slot None ≡ Some tuple → vacancies (set slots slot None) ≡ vacancies slots + 1
+  vacancies-free slots slot tuple within held =
+      let counted = sum_by-set one_if_free slots slot None None within in
+      let none : one_if_free (get_or slots slot None) ≡ 0 = ap one_if_free held in
+      omega (arith, counted, none)
+
+  -- a slot that held a tuple holds another
+  pub vacancies-rewrite : (slots : List (Option T)) (slot : ℕ) (old tuple : T) → slot < length slots → get_or slots slot None ≡ Some old → vacancies (set slots slot (Some tuple)) ≡ vacancies slots
+  vacancies-rewrite slots slot old tuple within held =
+      let counted = sum_by-set one_if_free slots slot (Some tuple) None within in
+      let none : one_if_free (get_or slots slot None) ≡ 0 = ap one_if_free held in
+      omega (arith, counted, none)
+
+  -- the slot's bit follows what it holds
+  pub IsPartition-set : (words words' : List ℕ) (slots : List (Option T)) (slot : ℕ) (o : Option T) → slot < 256 → IsPartition words slots → ChangesBit words words' slot (is_some o) → IsPartition words' (set slots slot o)
+  IsPartition-set words words' slots slot o within is changes =
+      let in_slots : slot < length slots = omega (arith, is.count) in
+      record {
+        count = length-set slots slot o ∙ is.count;
+        bits = λ other in_range.
+            elim (cases_eq other slot) [
+              | inl same ↦
+                  ap (is_set words') same ∙ changes.changed
+                  ∙ sym (ap is_some (ap (λ k. get_or (set slots slot o) k None) same ∙ get_or-set_same slots slot o None in_slots))
+              | inr differs ↦
+                  changes.others other in_range differs ∙ is.bits other in_range
+                  ∙ sym (ap is_some (get_or-set_other slots slot other o None differs))
+            ];
+      }
+
+  -- in a partition whose bits are all set none is free
+  pub no_vacancy_of_bits : (words : List ℕ) (slots : List (Option T)) → IsPartition words slots → ((slot : ℕ) → slot < 256 → is_set words slot ≡ true) → vacancies slots ≡ 0
+  no_vacancy_of_bits words slots is all_set =
+      no_vacancy slots (λ slot within. let in_range : slot < 256 = omega (arith, is.count) in sym (is.bits slot in_range) ∙ all_set slot in_range)
+
+  -- in a partition with a bit that is not set a slot is free
+  pub vacancy_of_bit : (words : List ℕ) (slots : List (Option T)) (slot : ℕ) → IsPartition words slots → slot < 256 → is_set words slot ≡ false → vacancies slots ≡ 0 → ⊥
+  vacancy_of_bit words slots slot is in_range clear none =
+      true≢false (sym (full_slot slots slot none (omega (arith, is.count))) ∙ sym (is.bits slot in_range) ∙ clear)
+
+  none_of : (o : Option T) → is_some o ≡ false → o ≡ None
+  none_of None e = refl
+  none_of (Some tuple) e = absurd (true≢false e)
+
+  -- a slot whose bit is not set is free
+  pub free_of_bit : (words : List ℕ) (slots : List (Option T)) (slot : ℕ) → IsPartition words slots → slot < 256 → is_set words slot ≡ false → get_or slots slot None ≡ None
+  free_of_bit words slots slot is in_range clear = none_of _ (sym (is.bits slot in_range) ∙ clear)
+
+  -- so many empty slots
+  pub IsVacant-replicate : (slots : List (Option T)) (n : ℕ) → slots ≡ replicate n None → n ≡ 256 → IsVacant slots
+  IsVacant-replicate slots n is count =
+      record {
+        count = ap length is ∙ length-replicate n None ∙ count;
+        empty = λ slot. ap (λ xs. get_or xs slot None) is ∙ empty_at n slot;
+      }
+    where
+      empty_at : (n slot : ℕ) → ◌≡◌ {A = Option T} (get_or (replicate n None) slot None) None
+      empty_at zero slot = refl
+      empty_at (suc n) zero = refl
+      empty_at (suc n) (suc slot) = empty_at n slot
+
+  -- in a partition whose bits are all clear each slot is empty
+  pub all_empty : (words : List ℕ) (slots : List (Option T)) → IsPartition words slots → ((slot : ℕ) → slot < 256 → is_set words slot ≡ false) → slots ≡ replicate 256 None
+  all_empty words slots is clear =
+      empties slots (λ slot within. let in_range : slot < 256 = omega (arith, is.count) in none_of _ (sym (is.bits slot in_range) ∙ clear slot in_range))
+      ∙ ap (λ (n : ℕ). replicate n None) is.count
+    where
+      empties : (slots : List (Option T)) → ((slot : ℕ) → slot < length slots → get_or slots slot None ≡ None) → slots ≡ replicate (length slots) None
+      empties [] empty = refl
+      empties (o ∷ rest) empty = λ i. empty 0 (omega arith) i ∷ empties rest (λ slot within. empty (suc slot) (omega arith)) i
+
+  -- how many slots hold a tuple
+  abbrev one_if_held : Option T → ℕ
+  one_if_held o = cond (is_some o) 1 0
+
+  -- a slot that is emptied leaves one fewer
+  pub fewer_held : (slots : List (Option T)) (slot : ℕ) → IsSome (get_or slots slot None) → count_by is_some (set slots slot None) < count_by is_some slots
+  fewer_held slots slot held =
+      let counted = sum_by-set one_if_held slots slot None None (held_within slots slot held) in
+      let one : ◌≡◌ {A = ℕ} (one_if_held (get_or slots slot None)) 1 = ap (λ (b : Bool). cond b 1 0) held in
+      omega (arith, counted, one)
+
+  -- free slots and a clear bitmap make a partition
+  pub IsPartition-vacant : (words : List ℕ) (slots : List (Option T)) → ((slot : ℕ) → slot < 256 → is_set words slot ≡ false) → IsVacant slots → IsPartition words slots
+  IsPartition-vacant words slots clear is =
+      record { count = is.count; bits = λ slot in_range. clear slot in_range ∙ sym (ap is_some (is.empty slot)) }
+
+  -- a partition is full exactly where no bit of it is clear
+  pub full_where_none_clear : (words : List ℕ) (slots : List (Option T)) (first : Option ℕ) (full : Bool) → IsPartition words slots
+      → MatchOption first ((slot : ℕ) → slot < 256 → is_set words slot ≡ true) (λ slot. (slot < 256) × (is_set words slot ≡ false))
+      → is_some first ≡ not full → IsTrue full ↔ (vacancies slots ≡ 0)
+  full_where_none_clear words slots None true is found e = (λ _. no_vacancy_of_bits words slots is found, λ _. refl)
+  full_where_none_clear words slots None false is found e = absurd (true≢false (sym e))
+  full_where_none_clear words slots (Some slot) true is found e = absurd (true≢false e)
+  full_where_none_clear words slots (Some slot) false is found e = (λ t. absurd (true≢false (sym t)), λ none. absurd (vacancy_of_bit words slots slot is found.0 found.1 none))

@@ -1,0 +1,19 @@
+-- A `&` to a deed holds nothing. Assumes `Logic`.
+use denote.RattleType.{RattleType}
+use denote.RawPtr.{RawPtr}
+use denote.Param.Laws.{Laws}
+use denote.Param.Shared.{copy_shared}
+use denote.SharingLaws.{nothing_shr_laws}
+use denote.Struct.Laws.{field_copy}
+use denote.Struct.Lending.{of_Lends, Lends-nothing}
+use Rattle.core.specs.declared.alloc.Allocator.{Ghosts}
+use Rattle.core.specs.contracts.marker.PhantomData as marker
+use Rattle.part_raw.specs.contracts.raw.Deed as D
+use Rattle.part_raw.proofs.raw.Deed.TheLaw.Statement.{statement}
+
+pub shares : (R A : RattleType) (g : Ghosts A.Denot) (L : Laws R) (P : Laws A) → statement R A g L P
+shares R A g L P =
+    let codes = D.the_codes R.Denot A.Denot R.coded A.coded (marker.the_row RawPtr).coded in
+    of_Lends (D.struct R A g) codes (D.the_heap R A g) (D.the_lent R A g) (λ deed at. nothing_shr_laws)
+    (copy_shared (marker.the_field RawPtr) (field_copy (marker.the_type RawPtr) tt), tt)
+    (λ M 𝓤 𝓛 deed at. Lends-nothing 𝓛 (D.the_heap R A g deed) (D.the_row R A g).lives)

@@ -1,0 +1,9 @@
+pub mod TupleRefs
+pub mod Store
+pub mod Layout
+pub mod Lends
+pub mod Raw
+pub mod Block
+pub mod RawLends
+pub mod Open
+pub mod StoreLends

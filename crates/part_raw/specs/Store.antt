@@ -1,0 +1,41 @@
+-- What a contract sees of a `Partitions`: a finite map from references to tuples, and a count of free slots. The laws of the map
+-- are in `proofs.Tuples`.
+use Rattle.std.specs.Prelude.{ℕ, Option, IsSome, refl, if◌then◌else◌, nat_lt}
+use Rattle.std.specs.Coded.{Coded, code_by, coded×, coded_ℕ}
+use Rattle.std.specs.FinMap as map
+use Rattle.part_raw.specs.TupleRefs.{ref_cmp, ref_code}
+use Rattle.part_raw.specs.declared.tuple_ref.TupleRef.{TupleRef}
+
+-- the tuples that are held, each under its reference
+abbrev pub Tuples : Type 0 → Type 0
+Tuples T = map.FinMap ref_cmp T
+
+-- the tuples, and how many more can be put with no memory
+pub record Store (T : Type 0) : Type 0 where
+  pub tuples : Tuples T
+  pub free : ℕ
+
+-- a store is stored as the pair of its fields
+abbrev pub store_code : {T : Type 0} → Coded T → Coded (Store T)
+store_code {T} code =
+    code_by (Tuples T × ℕ) (coded× (map.code ref_code code) coded_ℕ) (λ s. (s.tuples, s.free)) (λ p. record { tuples = p.0; free = p.1 }) (λ _. refl)
+
+-- how many slots are free once room is made: where there was none, a partition of 256 is new
+abbrev pub free_reserved : ℕ → ℕ
+free_reserved free = if nat_lt 0 free then free else 256
+
+module _ {T : Type 0} where
+  abbrev pub store : Tuples T → ℕ → Store T
+  store tuples free = record { tuples = tuples; free = free }
+
+  -- the tuple under a reference
+  abbrev pub tuple_at : Store T → TupleRef → Option T
+  tuple_at s r = map.get s.tuples r
+
+  -- the store holds a tuple under this reference
+  abbrev pub IsHeld : Store T → TupleRef → Type 0
+  IsHeld s r = IsSome (tuple_at s r)
+
+  -- the store with this as the tuple under the reference
+  abbrev pub with_tuple : Store T → TupleRef → T → Store T
+  with_tuple s r tuple = record s { tuples = map.insert s.tuples r tuple }

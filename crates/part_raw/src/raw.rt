@@ -1,0 +1,111 @@
+//! The memory of a partition: slots side by side in one block. Every pointer of the crate is read and written here.
+ghost use Rattle.std.specs.Prelude.{◌≡◌, ℕ, ◌<◌, List, Option, None, Some, length, replicate, slice_index_or, slice_set, IfOk, IsSome};
+ghost use Rattle.std.specs.Borrow.{sem};
+ghost use Rattle.std.specs.Vec.Ownership.{FitsInBlock};
+ghost use base.Fml.{ftrue};
+ghost use denote.RawPtr.{Ptr};
+ghost use Rattle.part_raw.specs.Raw.{block_owns, block_lends, deed_owns};
+
+use std::alloc::{AllocError, Allocator};
+use std::marker::{Model, PhantomData};
+use std::mem::{align_of, size_of};
+
+/// The slots of one block. An empty slot has room for a tuple, and nothing is known of its bytes.
+pub struct Slots<T> {
+    ptr: *mut T,
+    ghost held: { List (Option T) },
+}
+
+impl<T> Model for Slots<T> {
+    ghost also_owns = { λ s. block_owns T.row s.ptr s.held };
+
+    ghost also_shares = { λ s _ κ. block_lends T.row s.ptr s.held κ };
+}
+
+/// The right to give a block of `count` slots back to its allocator. It takes no space.
+pub struct Deed<T, A: Allocator> {
+    mark: PhantomData<*const (T, A)>,
+    ghost at: { Ptr },
+    ghost count: { ℕ },
+    ghost alloc: { A },
+}
+
+impl<T, A: Allocator> Model for Deed<T, A> {
+    ghost also_owns = { λ d. deed_owns T.row (A.dealloc_token d.alloc) d.at d.count };
+
+    ghost also_shares = { λ _ _ _. ftrue };
+}
+
+/// A block of `count` empty slots.
+pub(crate) fn allocate<T, A: Allocator>(
+    alloc: &A,
+    count: usize,
+) -> Result<(Slots<T>, Deed<T, A>), AllocError>
+    requires { FitsInBlock T.row count }
+    ensures { IfOk result (λ made. (made.0.held ≡ replicate count None) × (made.1.at ≡ made.0.ptr) × (made.1.count ≡ count) × (made.1.alloc ≡ alloc.now)) }
+{
+    match alloc.allocate(count * size_of::<T>(), align_of::<T>()) {
+        Ok(block) => {
+            let slots = Slots {
+                ptr: block as *mut T,
+            };
+            Ok((slots, Deed { mark: PhantomData }))
+        }
+        Err(refused) => Err(refused),
+    }
+}
+
+/// Gives a block back whose slots are all empty.
+pub(crate) fn deallocate<T, A: Allocator>(
+    alloc: &A,
+    slots: Slots<T>,
+    count: usize,
+    deed: Deed<T, A>,
+)
+    requires { (slots.held ≡ replicate count None) × (deed.at ≡ slots.ptr) × (deed.count ≡ count) × (deed.alloc ≡ alloc.now) }
+{
+    let Slots { ptr } = slots;
+    let Deed { mark: _ } = deed;
+    unsafe {
+        alloc.deallocate(ptr as *mut u8, count * size_of::<T>(), align_of::<T>());
+    }
+}
+
+impl<T> Slots<T> {
+    ghost use Rattle.part_raw.specs.RawLends.{LendsHeld};
+
+    /// Writes a tuple into an empty slot.
+    pub(crate) fn write(&mut self, slot: usize, tuple: T)
+        requires within { slot < length self.old.held }
+        requires empty { slice_index_or self.old.held slot None ≡ None }
+        ensures held { self.new.held ≡ slice_set self.old.held slot (Some tuple) }
+        ensures ptr { self.new.ptr ≡ self.old.ptr }
+    {
+        unsafe { self.ptr.add(slot).write(tuple) }
+    }
+
+    /// Reads the tuple out of a slot, which is empty from then on.
+    pub(crate) fn read(&mut self, slot: usize) -> T
+        requires { IsSome (slice_index_or self.old.held slot None) }
+        ensures tuple { slice_index_or self.old.held slot None ≡ Some result }
+        ensures held { self.new.held ≡ slice_set self.old.held slot None }
+        ensures ptr { self.new.ptr ≡ self.old.ptr }
+    {
+        unsafe { self.ptr.add(slot).read() }
+    }
+
+    pub(crate) fn get(&self, slot: usize) -> &T
+        requires { IsSome (slice_index_or self.now.held slot None) }
+        ensures { slice_index_or self.now.held slot None ≡ Some result.now }
+    {
+        unsafe { &*self.ptr.add(slot) }
+    }
+
+    pub(crate) fn get_mut(&mut self, slot: usize) -> &mut T
+        requires { IsSome (slice_index_or self.old.held slot None) }
+        ensures* writes_back { sem 𝓛 (LendsHeld T.row self.entry slot result) }
+        ensures tuple { slice_index_or self.old.held slot None ≡ Some result.now }
+    {
+        unsafe { &mut *self.ptr.add(slot) }
+    }
+}
