@@ -1,0 +1,25 @@
+-- A probe that is asked again and again is only asked.
+use Rattle.std.proofs.Common.{◌≡◌, ℕ, ◌+◌, ◌≤◌, refl, ◌∙◌, arith, Ordering}
+use Rattle.std.proofs.lemmas.Grind.{common_steps}
+use Rattle.mm_index.specs.Asking.{counted, IsOnlyAsked}
+
+counted-ge : (n : ℕ) → n ≤ counted n
+counted-ge n = grind (arith, common_steps)
+
+pub counted-le : (n : ℕ) → counted n ≤ n + 1
+counted-le n = grind (arith, common_steps)
+
+module _ {P R : Type 0} (can_place : P → R → Type 0) (place : P → R → Ordering) (asked : P → ℕ) where
+  pub IsOnlyAsked-refl : (p : P) → IsOnlyAsked can_place place asked p p
+  IsOnlyAsked-refl p = record { answers = refl; may_ask = λ r h. h; count = omega arith }
+
+  pub IsOnlyAsked-trans : (p q r : P) → IsOnlyAsked can_place place asked p q → IsOnlyAsked can_place place asked q r → IsOnlyAsked can_place place asked p r
+  IsOnlyAsked-trans p q r h k = record {
+    answers = k.answers ∙ h.answers;
+    may_ask = λ a m. k.may_ask a (h.may_ask a m);
+    count = omega (arith, h.count, k.count);
+  }
+
+  -- one call of `place`, by its clauses
+  pub IsOnlyAsked-once : (p q : P) → place q ≡ place p → ((r : R) → can_place p r → can_place q r) → asked q ≡ counted (asked p) → IsOnlyAsked can_place place asked p q
+  IsOnlyAsked-once p q e m n = record { answers = e; may_ask = m; count = omega (arith, counted-ge (asked p)) }

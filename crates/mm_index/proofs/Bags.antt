@@ -1,0 +1,145 @@
+-- Lists that are the same bag.
+use Rattle.std.proofs.Common.{◌≡◌, ℕ, zero, suc, ◌+◌, ◌<◌, Bool, true, false, cond, ◌==◌, ◌&&◌, List, [], ◌∷◌, ◌++◌, length, get_or, refl, sym, ap, ◌∙◌, arith, subst, ◌≤◌}
+use Rattle.std.specs.List.{filter, count_by, swap_remove, Contains}
+use Rattle.std.specs.Prelude.{map}
+use Rattle.std.proofs.lemmas.List.{get_or_default}
+use Rattle.std.proofs.lemmas.List.Sums.{sum_by-cons, sum_by-append, sum_by_push, sum_by-swap_remove, get_or-le-sum_by}
+use Rattle.std.specs.Bool.{Decides}
+use Rattle.std.proofs.lemmas.Bool.{eq-eqb, eqb-true}
+use Rattle.mm_index.proofs.Listed.{Contains-cons, Contains-filter, Contains-from_filter}
+use Rattle.mm_index.specs.Bag.{IsSameBag, with_hash}
+
+-- what one element adds to a count
+abbrev one : {A : Type 0} → (A → Bool) → A → ℕ
+one test x = cond (test x) 1 0
+
+pub IsSameBag-refl : {A : Type 0} (xs : List A) → IsSameBag xs xs
+IsSameBag-refl xs = record { count = λ test. refl }
+
+pub IsSameBag-sym : {A : Type 0} {xs ys : List A} → IsSameBag xs ys → IsSameBag ys xs
+IsSameBag-sym h = record { count = λ test. sym (h.count test) }
+
+pub IsSameBag-trans : {A : Type 0} {xs ys zs : List A} → IsSameBag xs ys → IsSameBag ys zs → IsSameBag xs zs
+IsSameBag-trans h k = record { count = λ test. h.count test ∙ k.count test }
+
+-- one list is the other
+pub IsSameBag-from_same : {A : Type 0} (xs ys : List A) → xs ≡ ys → IsSameBag xs ys
+IsSameBag-from_same xs ys e = record { count = λ test. ap (count_by test) e }
+
+pub IsSameBag-append : {A : Type 0} {xs ys us vs : List A} → IsSameBag xs ys → IsSameBag us vs → IsSameBag (xs ++ us) (ys ++ vs)
+IsSameBag-append {A} {xs} {ys} {us} {vs} h k = record {
+  count = λ test. sum_by-append (one test) xs us ∙ (rw (h.count test, k.count test) (sym (sum_by-append (one test) ys vs)));
+}
+
+pub IsSameBag-cons : {A : Type 0} {xs ys : List A} (x : A) → IsSameBag xs ys → IsSameBag (x ∷ xs) (x ∷ ys)
+IsSameBag-cons {A} {xs} {ys} x h = record {
+  count = λ test. sum_by-cons (one test) x xs ∙ ap (λ n. one test x + n) (h.count test) ∙ sym (sum_by-cons (one test) x ys);
+}
+
+-- an element at the end, or in front
+pub IsSameBag-push : {A : Type 0} (xs : List A) (x : A) → IsSameBag (xs ++ x ∷ []) (x ∷ xs)
+IsSameBag-push xs x = record {
+  count = λ test.
+      let end : count_by test (xs ++ x ∷ []) ≡ count_by test xs + one test x = sum_by_push (one test) xs x in
+      let front : count_by test (x ∷ xs) ≡ one test x + count_by test xs = sum_by-cons (one test) x xs in
+      omega arith;
+}
+
+-- two lists joined either way round
+pub IsSameBag-swap : {A : Type 0} (xs ys : List A) → IsSameBag (xs ++ ys) (ys ++ xs)
+IsSameBag-swap xs ys = record {
+  count = λ test.
+      let here : count_by test (xs ++ ys) ≡ count_by test xs + count_by test ys = sum_by-append (one test) xs ys in
+      let there : count_by test (ys ++ xs) ≡ count_by test ys + count_by test xs = sum_by-append (one test) ys xs in
+      omega arith;
+}
+
+-- what `swap_remove` takes out, and what it leaves
+pub IsSameBag-swap_remove : {A : Type 0} (xs : List A) (i : ℕ) (x d : A) → i < length xs → get_or xs i x ≡ x → IsSameBag xs (x ∷ swap_remove xs i d)
+IsSameBag-swap_remove xs i x d inside e = record {
+  count = λ test.
+      let whole : count_by test (swap_remove xs i d) + one test (get_or xs i d) ≡ count_by test xs = sum_by-swap_remove (one test) xs i d inside in
+      let front : count_by test (x ∷ swap_remove xs i d) ≡ one test x + count_by test (swap_remove xs i d) =
+      sum_by-cons (one test) x (swap_remove xs i d) in
+      let same : one test (get_or xs i d) ≡ one test x = ap (one test) (get_or_default xs i d x inside ∙ e) in
+      omega arith;
+}
+
+-- bags are as long as each other
+count_by-all : {A : Type 0} (xs : List A) → count_by (λ x. true) xs ≡ length xs
+count_by-all [] = refl
+count_by-all (x ∷ xs) = sum_by-cons (λ y. 1) x xs ∙ omega (arith, count_by-all xs)
+
+pub length-same_bag : {A : Type 0} (xs ys : List A) → IsSameBag xs ys → length xs ≡ length ys
+length-same_bag xs ys h = sym (count_by-all xs) ∙ h.count (λ x. true) ∙ count_by-all ys
+
+-- what a bag holds under a hash
+count_by-with_hash : {A : Type 0} (test : A → Bool) (hash : ℕ) (entries : List (ℕ × A)) → count_by test (with_hash hash entries) ≡ count_by (λ e. (e.0 == hash) && test e.1) entries
+count_by-with_hash test hash [] = refl
+count_by-with_hash {A} test hash (e ∷ es) =
+    let kept : List (ℕ × A) = filter (λ d. d.0 == hash) es in
+    let both : ℕ × A → Bool = λ d. (d.0 == hash) && test d.1 in
+    let rest : count_by test (map (λ d. d.1) kept) ≡ count_by both es = count_by-with_hash test hash es in
+    elim (e.0 == hash) as (λ b. count_by test (map (λ d. d.1) (cond b (e ∷ kept) kept)) ≡ cond (b && test e.1) 1 0 + count_by both es) [
+      | true ↦ sum_by-cons (one test) e.1 (map (λ d. d.1) kept) ∙ ap (λ n. one test e.1 + n) rest
+      | false ↦ omega (arith, rest)
+    ] ∙ sym (sum_by-cons (one both) e es)
+
+pub IsSameBag-with_hash : {A : Type 0} (hash : ℕ) {xs ys : List (ℕ × A)} → IsSameBag xs ys → IsSameBag (with_hash hash xs) (with_hash hash ys)
+IsSameBag-with_hash hash {xs} {ys} h = record {
+  count = λ test. count_by-with_hash test hash xs ∙ h.count (λ e. (e.0 == hash) && test e.1) ∙ sym (count_by-with_hash test hash ys);
+}
+
+-- a bag's members
+count_by-of_member : {A : Type 0} (test : A → Bool) (xs : List A) (x : A) → Contains xs x → test x ≡ true → 0 < count_by test xs
+count_by-of_member test xs x h e =
+    let at : one test (get_or xs h.0 x) ≤ count_by test xs = get_or-le-sum_by (one test) xs h.0 x h.1 in
+    let passes : one test (get_or xs h.0 x) ≡ 1 = rw (h.2, e) refl in
+    omega arith
+
+member-from_count_by : {A : Type 0} (test : A → Bool) (xs : List A) → 0 < count_by test xs → (x : A) × Contains xs x × (test x ≡ true)
+member-from_count_by test [] h = absurd (omega arith)
+member-from_count_by {A} test (x ∷ xs) h =
+    let sum : count_by test (x ∷ xs) ≡ one test x + count_by test xs = sum_by-cons (one test) x xs in
+    elim (test x) as (λ b. test x ≡ b → (y : A) × Contains (x ∷ xs) y × (test y ≡ true)) [
+      | true ↦ λ e. (x, (0, omega arith, refl), e)
+      | false ↦ λ e.
+          let none : one test x ≡ 0 = rw e refl in
+          let rest = member-from_count_by test xs (omega (arith, h)) in
+          (rest.0, Contains-cons x xs rest.0 rest.1, rest.2)
+    ] refl
+
+-- where a test tells equal elements
+pub Contains-same_bag : {A : Type 0} (same : A → A → Bool) → ((a b : A) → Decides (same a b) (a ≡ b)) → (xs ys : List A) (x : A) → IsSameBag xs ys → Contains xs x → Contains ys x
+Contains-same_bag same decides xs ys x bag h =
+    let here : 0 < count_by (same x) xs = count_by-of_member (same x) xs x h ((decides x x).1 refl) in
+    let there = member-from_count_by (same x) ys (rw (bag.count (same x)) at here) in
+    subst (Contains ys) (sym ((decides x there.0).0 there.2)) there.1
+
+-- the members of a mapped list
+pub Contains-map : {A B : Type 0} (f : A → B) (xs : List A) (x : A) → Contains xs x → Contains (map f xs) (f x)
+Contains-map f [] x h = absurd (omega (arith, h.1))
+Contains-map f (y ∷ ys) x (zero, l, e) = (0, omega arith, ap f e)
+Contains-map f (y ∷ ys) x (suc k, l, e) = Contains-cons (f y) (map f ys) (f x) (Contains-map f ys x (k, omega arith, e))
+
+pub Contains-from_map : {A B : Type 0} (f : A → B) (xs : List A) (y : B) → Contains (map f xs) y → (x : A) × Contains xs x × (f x ≡ y)
+Contains-from_map f [] y h = absurd (omega (arith, h.1))
+Contains-from_map f (x ∷ xs) y (zero, l, e) = (x, (0, omega arith, refl), e)
+Contains-from_map f (x ∷ xs) y (suc k, l, e) =
+    let rest = Contains-from_map f xs y (k, omega arith, e) in
+    (rest.0, Contains-cons x xs rest.0 rest.1, rest.2)
+
+-- what is held under a hash
+pub Contains-with_hash : {A : Type 0} (hash : ℕ) (entries : List (ℕ × A)) (r : A) → Contains entries (hash, r) → Contains (with_hash hash entries) r
+Contains-with_hash {A} hash entries r h =
+    Contains-map (λ (e : ℕ × A). e.1) (filter (λ e. e.0 == hash) entries) (hash, r)
+    (Contains-filter (λ (e : ℕ × A). e.0 == hash) entries (hash, r) h (eq-eqb hash hash refl))
+
+pub Contains-from_with_hash : {A : Type 0} (hash : ℕ) (entries : List (ℕ × A)) (r : A) → Contains (with_hash hash entries) r → Contains entries (hash, r)
+Contains-from_with_hash {A} hash entries r h =
+    let test : ℕ × A → Bool = λ e. e.0 == hash in
+    let found = Contains-from_map (λ (e : ℕ × A). e.1) (filter test entries) r h in
+    let there = Contains-from_filter test entries found.0 found.1 in
+    let key : found.0.0 ≡ hash = eqb-true found.0.0 hash there.1 in
+    let pair : found.0 ≡ (hash, r) = λ i. (key i, found.2 i) in
+    subst (Contains entries) pair there.0

@@ -1,0 +1,87 @@
+-- The binary search for the first element that does not stand below.
+use Rattle.std.proofs.Common.{◌≡◌, ◌≢◌, ℕ, ◌+◌, ◌<◌, ◌≤◌, true, false, List, length, get_or, refl, arith, Ordering}
+use Rattle.std.specs.List.{AllWithin}
+use Rattle.std.specs.declared.cmp.Ordering.TheVariants.{Less, Equal, Greater}
+use Rattle.std.specs.Ordering.{ordering_index, is_lt, is_eq}
+use Rattle.std.proofs.lemmas.List.{get_or_default}
+use Rattle.std.proofs.lemmas.List.Elements.{AllWithin-more}
+use Rattle.mm_index.specs.Range.{NeverFalls}
+
+-- what stands before low is below, and what stands from high on is not
+pub record IsHalved {A : Type 0} (place : A → Ordering) (xs : List A) (low high : ℕ) : Type 0 where
+  pub ordered : low ≤ high
+  pub within : high ≤ length xs
+  pub below : AllWithin (λ r. place r ≡ Less) xs 0 low
+  pub not_below : AllWithin (λ r. place r ≢ Less) xs high (length xs)
+
+-- a place below, and one that is not
+as_low : (o p : Ordering) → is_lt p ≡ true → ordering_index o ≤ ordering_index p → o ≡ Less
+as_low Less p e h = refl
+as_low o Equal e h = cc
+as_low o Greater e h = cc
+as_low Equal Less e h = absurd (omega arith)
+as_low Greater Less e h = absurd (omega arith)
+
+not_low : (o p : Ordering) → is_lt p ≡ false → ordering_index p ≤ ordering_index o → o ≢ Less
+not_low o Less e h = λ _. cc
+not_low Less Equal e h = absurd (omega arith)
+not_low Less Greater e h = absurd (omega arith)
+not_low Equal p e h = λ f. cc
+not_low Greater p e h = λ f. cc
+
+module _ {A : Type 0} (place : A → Ordering) (xs : List A) (in_order : NeverFalls place xs) (low high middle : ℕ) (halved : IsHalved place xs low high) (from : low ≤ middle) (upto : middle < high) where
+  within : middle < length xs
+  within = let h : high ≤ length xs = halved.within in omega arith
+
+  pub IsHalved-low : (c : A) → is_lt (place (get_or xs middle c)) ≡ true → IsHalved place xs (middle + 1) high
+  IsHalved-low c e = record {
+    ordered = omega arith;
+    within = halved.within;
+    below = λ k d z n.
+        as_low (place (get_or xs k d)) (place (get_or xs middle d)) (rw (get_or_default xs middle d c within) e)
+        (in_order k middle d (omega arith) within);
+    not_below = halved.not_below;
+  }
+
+  pub IsHalved-high : (c : A) → is_lt (place (get_or xs middle c)) ≡ false → IsHalved place xs low middle
+  IsHalved-high c e = record {
+    ordered = from;
+    within = omega (arith, within);
+    below = halved.below;
+    not_below = λ k d z n.
+        not_low (place (get_or xs k d)) (place (get_or xs middle d)) (rw (get_or_default xs middle d c within) e) (in_order middle k d z n);
+  }
+
+-- what stands from first on is in the range, up to end
+pub record IsPassed {A : Type 0} (place : A → Ordering) (xs : List A) (first end : ℕ) : Type 0 where
+  pub from_first : first ≤ end
+  pub within : end ≤ length xs
+  pub equal : AllWithin (λ r. place r ≡ Equal) xs first end
+
+is_Equal : (o : Ordering) → is_eq o ≡ true → o ≡ Equal
+is_Equal Less e = cc
+is_Equal Equal e = refl
+is_Equal Greater e = cc
+
+Greater-above : (o p : Ordering) → p ≢ Less → is_eq p ≡ false → ordering_index p ≤ ordering_index o → o ≡ Greater
+Greater-above o Less h e l = absurd (h refl)
+Greater-above o Equal h e l = cc
+Greater-above Less Greater h e l = absurd (omega arith)
+Greater-above Equal Greater h e l = absurd (omega arith)
+Greater-above Greater Greater h e l = refl
+
+module _ {A : Type 0} (place : A → Ordering) (xs : List A) (first end : ℕ) (passed : IsPassed place xs first end) (c : A) where
+  pub IsPassed-more : end < length xs → is_eq (place (get_or xs end c)) ≡ true → IsPassed place xs first (end + 1)
+  IsPassed-more l e = record {
+    from_first = let h : first ≤ end = passed.from_first in omega arith;
+    within = omega arith;
+    equal = AllWithin-more (λ r. place r ≡ Equal) xs first end passed.equal
+        (λ d. is_Equal (place (get_or xs end d)) (rw (get_or_default xs end d c l) e));
+  }
+
+  -- the rest stands above
+  pub above_passed : NeverFalls place xs → AllWithin (λ r. place r ≢ Less) xs first (length xs) → is_eq (place (get_or xs end c)) ≡ false → AllWithin (λ r. place r ≡ Greater) xs end (length xs)
+  above_passed in_order not_below e = λ k d l m.
+      let inside : end < length xs = omega arith in
+      Greater-above (place (get_or xs k d)) (place (get_or xs end d)) (not_below end d passed.from_first inside)
+      (rw (get_or_default xs end d c inside) e) (in_order end k d l m)

@@ -1,0 +1,10 @@
+pub mod Asked
+pub mod Bags
+pub mod Filtered
+pub mod Halving
+pub mod KeyPlaces
+pub mod Listed
+pub mod Pairs
+pub mod Placed
+pub mod Ranged
+pub mod Refs

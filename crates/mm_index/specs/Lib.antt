@@ -1,0 +1,5 @@
+pub mod Asking
+pub mod Bag
+pub mod Held
+pub mod Order
+pub mod Range

@@ -1,0 +1,46 @@
+//! An order as a probe for one reference.
+ghost use Rattle.std.specs.Prelude.{◌≡◌};
+
+use crate::probe::Probe;
+use crate::tuple_order::TupleOrder;
+use part_raw::TupleRef;
+use std::cmp::Ordering;
+
+/// Places references beside the sought one by an order: only the sought one is `Equal`.
+#[derive(Drop)]
+pub struct OrderProbe<'a, O> {
+    pub order: &'a O,
+    pub sought: TupleRef,
+    pub asked: u64,
+}
+
+impl<'a, O: TupleOrder> OrderProbe<'a, O> {
+    pub fn new(order: &'a O, sought: TupleRef) -> OrderProbe<'a, O>
+        ensures order { result.order.now ≡ order.now }
+        ensures sought { result.sought ≡ sought }
+        ensures asked { result.asked ≡ 0 }
+    {
+        OrderProbe {
+            order,
+            sought,
+            asked: 0,
+        }
+    }
+}
+
+impl<'a, O: TupleOrder> Probe for OrderProbe<'a, O> {
+    ghost can_place = { λ p r. O.covers p.order.now r × O.covers p.order.now p.sought };
+
+    ghost place = { λ p r. O.cmp p.order.now r p.sought };
+
+    ghost asked = { λ p. p.asked };
+
+    fn place(&mut self, r: TupleRef) -> Ordering {
+        self.asked = self.asked.saturating_add(1);
+        self.order.cmp(r, self.sought)
+    }
+
+    fn asked(&self) -> u64 {
+        self.asked
+    }
+}

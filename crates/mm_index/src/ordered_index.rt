@@ -1,0 +1,89 @@
+//! Indexes that list references in an order.
+ghost use Rattle.std.specs.Prelude.{◌≡◌, ◌≢◌, ℕ, ◌+◌, ◌^◌, ◌<◌, ◌≤◌, List, ◌++◌, length, Option, None, IfSome, IfNone, OnOk, OnErr, OnSome, All, Contains};
+ghost use Rattle.std.specs.declared.cmp.Ordering.{Ordering};
+ghost use Rattle.part_raw.specs.declared.tuple_ref.TupleRef.{TupleRef};
+ghost use Rattle.mm_index.specs.Asking.{IsOnlyAsked};
+ghost use Rattle.mm_index.specs.Order.{IsRising, insert_by, remove_by};
+ghost use Rattle.mm_index.specs.Range.{NeverFalls, in_range};
+
+use crate::probe::Probe;
+use crate::tuple_order::TupleOrder;
+use part_raw::TupleRef;
+use plain_tables::NoMemory;
+
+/// A list of references that rises by an order. The order is handed in with each call that needs
+/// it, and may change between calls as long as the list rises by the one that is handed in.
+pub trait OrderedIndex {
+    // the references in order
+    ghost items: { Self → List TupleRef };
+
+    // how many inserts are sure of their memory
+    ghost room: { Self → ℕ };
+
+    // at most how often one search asks its probe, where the index says so
+    ghost most_asked: { Self → Option ℕ } = { λ _. None };
+
+    /// Makes sure of memory for `n` inserts, until `release_spares`.
+    fn reserve(&mut self, n: usize) -> Result<(), NoMemory>
+        requires { n ≤ 2 ^ 32 }
+        ensures items { items self.new ≡ items self.old }
+        ensures reserved { OnOk result (n ≤ room self.new) }
+        ensures room { room self.old ≤ room self.new };
+
+    /// Puts `r` at its place. Takes no memory.
+    fn insert<O: TupleOrder>(&mut self, order: &O, r: TupleRef)
+        // There is room for one more, and `r` is not held.
+        requires reserved { 0 < room self.old }
+        requires short { length (items self.old) < 2 ^ 32 }
+        requires absent { ¬ (Contains (items self.old) r) }
+
+        // The list rises by the order, which covers it and `r`.
+        requires covered { All (O.covers order.now) (items self.old) }
+        requires r_covered { O.covers order.now r }
+        requires rising { IsRising (O.cmp order.now) (items self.old) }
+
+        ensures items { items self.new ≡ insert_by (O.cmp order.now) r (items self.old) }
+        ensures rising { IsRising (O.cmp order.now) (items self.new) }
+        ensures room { room self.old ≤ room self.new + 1 };
+
+    /// Takes `r` out. Takes no memory.
+    fn remove<O: TupleOrder>(&mut self, order: &O, r: TupleRef)
+        requires held { Contains (items self.old) r }
+
+        // The list rises by the order, which covers it.
+        requires covered { All (O.covers order.now) (items self.old) }
+        requires rising { IsRising (O.cmp order.now) (items self.old) }
+
+        ensures items { items self.new ≡ remove_by (O.cmp order.now) r (items self.old) }
+        ensures rising { IsRising (O.cmp order.now) (items self.new) }
+        ensures room { room self.old ≤ room self.new };
+
+    /// A reference in the range of the probe.
+    fn find<P: Probe>(&self, probe: &mut P) -> Option<TupleRef>
+        requires placed { All (P.can_place probe.old) (items self.now) }
+        requires in_order { NeverFalls (P.place probe.old) (items self.now) }
+        ensures held { IfSome result (Contains (items self.now)) }
+        ensures found { IfSome result (λ r. P.place probe.old r ≡ Ordering.Equal) }
+        ensures none { IfNone result (All (λ r. P.place probe.old r ≢ Ordering.Equal) (items self.now)) }
+        ensures probe { IsOnlyAsked P.can_place P.place P.asked probe.old probe.new }
+        ensures most_asked { IfSome (most_asked self.now) (λ n. P.asked probe.new ≤ P.asked probe.old + n) };
+
+    /// Appends the references in the range of the probe, in order.
+    fn range<P: Probe>(&self, probe: &mut P, out: &mut Vec<TupleRef>) -> Result<(), NoMemory>
+        requires placed { All (P.can_place probe.old) (items self.now) }
+        requires in_order { NeverFalls (P.place probe.old) (items self.now) }
+        ensures ok { OnOk result (out.new.items ≡ out.old.items ++ in_range (P.place probe.old) (items self.now)) }
+        ensures err { OnErr result (out.new.items ≡ out.old.items) }
+        ensures probe { IsOnlyAsked P.can_place P.place P.asked probe.old probe.new }
+
+        // Beyond the search it asks once for each reference that it appends, and once more.
+        ensures most_asked { IfSome (most_asked self.now) (λ n. OnOk result (P.asked probe.new ≤ P.asked probe.old + n + length (in_range (P.place probe.old) (items self.now)) + 1)) };
+
+    /// How many references there are.
+    fn len(&self) -> usize
+        ensures { result ≡ length (items self.now) };
+
+    /// Gives back the memory that was reserved and not used. Takes no memory.
+    fn release_spares(&mut self)
+        ensures { items self.new ≡ items self.old };
+}

@@ -1,0 +1,134 @@
+//! The plain hash index: pairs of a hash and a reference in a vector.
+ghost use Rattle.std.specs.Prelude.{◌≡◌, ◌<◌, [], length, Contains, slice_index_or};
+ghost use Rattle.std.specs.Iterator.{YieldsFirst, item_count};
+ghost use Rattle.mm_index.specs.Bag.{IsSameBag, with_hash};
+
+use crate::exact_index::ExactIndex;
+use part_raw::TupleRef;
+use plain_tables::NoMemory;
+use std::alloc::Global;
+use std::marker::Model;
+
+/// Pairs in a vector, in no order. A look-up passes over all of them.
+#[derive(Drop)]
+pub struct PlainBag {
+    pairs: Vec<(u64, TupleRef)>,
+}
+
+impl Model for PlainBag {
+    ghost use Rattle.std.specs.Prelude.{◌-◌, vec_len, vec_capacity};
+    ghost use Rattle.mm_index.specs.Held.{HeldPairs};
+
+    ghost Value = { HeldPairs };
+
+    ghost view = { λ b. record { entries = b.pairs.items; room = vec_capacity b.pairs - vec_len b.pairs } };
+}
+
+impl PlainBag {
+    /// An empty index, which has taken no memory.
+    pub fn new(alloc: Global) -> PlainBag
+        ensures { result.entries ≡ [] }
+    {
+        PlainBag {
+            pairs: Vec::new(alloc),
+        }
+    }
+
+    /// The references with that hash, each as often as it is held, in any order.
+    pub fn chain(&self, hash: u64) -> Chain<'_>
+        ensures { IsSameBag result (with_hash hash self.now.entries) }
+    {
+        Chain {
+            hash,
+            rest: self.pairs.as_slice(),
+        }
+    }
+}
+
+impl ExactIndex for PlainBag {
+    ghost entries = { λ b. b.entries };
+
+    ghost room = { λ b. b.room };
+
+    fn reserve(&mut self, n: usize) -> Result<(), NoMemory> {
+        self.pairs.reserve(n)?;
+        Ok(())
+    }
+
+    fn insert(&mut self, hash: u64, r: TupleRef) {
+        let pushed = self.pairs.push((hash, r));
+        prove!(pushed.is_ok());
+    }
+
+    fn remove(&mut self, hash: u64, r: TupleRef) {
+        let place = place_of(self.pairs.as_slice(), hash, r);
+        self.pairs.swap_remove(place);
+    }
+
+    fn matching(&self, hash: u64, out: &mut Vec<TupleRef>) -> Result<(), NoMemory> {
+        let before = out.len();
+        for (held, r) in &self.pairs {
+            if *held == hash && out.push(*r).is_err() {
+                out.truncate(before);
+                return Err(NoMemory);
+            }
+        }
+        Ok(())
+    }
+
+    fn len(&self) -> usize {
+        self.pairs.len()
+    }
+
+    fn release_spares(&mut self) {
+        self.pairs.shrink_to_fit();
+    }
+}
+
+// Where the pair stands first.
+fn place_of(pairs: &[(u64, TupleRef)], hash: u64, r: TupleRef) -> usize
+    requires { Contains pairs.now (hash, r) }
+    ensures bound { result < length pairs.now }
+    ensures found { slice_index_or pairs.now result (hash, r) ≡ (hash, r) }
+{
+    let place = pairs.iter().position(|pair| *pair == (hash, r));
+    place.unwrap()
+}
+
+/// The references with one hash that are left to visit.
+#[derive(Drop)]
+pub struct Chain<'a> {
+    hash: u64,
+    rest: &'a [(u64, TupleRef)],
+}
+
+impl<'a> Model for Chain<'a> {
+    ghost use Rattle.std.specs.Prelude.{List};
+    ghost use Rattle.part_raw.specs.declared.tuple_ref.TupleRef.{TupleRef};
+    ghost use Rattle.mm_index.specs.Bag.{with_hash};
+
+    ghost Value = { List TupleRef };
+
+    ghost view = { λ c. with_hash c.hash c.rest.now };
+}
+
+impl<'a> Iterator for Chain<'a> {
+    type Item = TupleRef;
+
+    ghost next_gives = { YieldsFirst (λ c. c) };
+
+    ghost remaining = { item_count (λ c. c) };
+
+    fn next(&mut self) -> Option<TupleRef> {
+        let mut rest = self.rest;
+        while let Some(((held, r), others)) = rest.split_first() {
+            rest = others;
+            if *held == self.hash {
+                self.rest = rest;
+                return Some(*r);
+            }
+        }
+        self.rest = rest;
+        None
+    }
+}

@@ -1,0 +1,65 @@
+//! The binary search of a sorted list.
+ghost use Rattle.std.specs.Prelude.{◌≡◌, ◌≢◌, ◌≤◌, length, All};
+ghost use Rattle.std.specs.List.{AllWithin};
+ghost use Rattle.mm_index.specs.Asking.{IsOnlyAsked};
+ghost use Rattle.mm_index.specs.Order.{IsRising};
+ghost use Rattle.mm_index.specs.Range.{NeverFalls};
+
+use crate::order_probe::OrderProbe;
+use crate::probe::Probe;
+use crate::tuple_order::TupleOrder;
+use part_raw::TupleRef;
+use std::cmp::Ordering;
+
+// The place of the first reference that does not stand below the range, or the length.
+pub(crate) fn first_not_below<P: Probe>(items: &[TupleRef], probe: &mut P) -> usize
+    requires placed { All (P.can_place probe.old) items.now }
+    requires in_order { NeverFalls (P.place probe.old) items.now }
+    ensures bound { result ≤ length items.now }
+    ensures below { AllWithin (λ r. P.place probe.old r ≡ Ordering.Less) items.now 0 result }
+    ensures not_below { AllWithin (λ r. P.place probe.old r ≢ Ordering.Less) items.now result (length items.now) }
+    ensures probe { IsOnlyAsked P.can_place P.place P.asked probe.old probe.new }
+{
+    let mut low = 0;
+    let mut high = items.len();
+    while low < high {
+        let middle = low + (high - low) / 2;
+        if probe.place(items[middle]).is_lt() {
+            low = middle + 1;
+        } else {
+            high = middle;
+        }
+    }
+    low
+}
+
+// The place of the first reference that does not stand below `r`, or the length.
+pub(crate) fn place_by_order<O: TupleOrder>(items: &[TupleRef], order: &O, r: TupleRef) -> usize
+    requires covered { All (O.covers order.now) items.now }
+    requires r_covered { O.covers order.now r }
+    requires rising { IsRising (O.cmp order.now) items.now }
+    ensures bound { result ≤ length items.now }
+    ensures below { AllWithin (λ q. O.cmp order.now q r ≡ Ordering.Less) items.now 0 result }
+    ensures not_below { AllWithin (λ q. O.cmp order.now q r ≢ Ordering.Less) items.now result (length items.now) }
+{
+    first_not_below(items, &mut OrderProbe::new(order, r))
+}
+
+// The place of the first reference from `first` on that stands above the range, or the length.
+pub(crate) fn first_not_equal<P: Probe>(items: &[TupleRef], first: usize, probe: &mut P) -> usize
+    requires within { first ≤ length items.now }
+    requires placed { All (P.can_place probe.old) items.now }
+    requires in_order { NeverFalls (P.place probe.old) items.now }
+    requires not_below { AllWithin (λ r. P.place probe.old r ≢ Ordering.Less) items.now first (length items.now) }
+    ensures from_first { first ≤ result }
+    ensures bound { result ≤ length items.now }
+    ensures equal { AllWithin (λ r. P.place probe.old r ≡ Ordering.Equal) items.now first result }
+    ensures above { AllWithin (λ r. P.place probe.old r ≡ Ordering.Greater) items.now result (length items.now) }
+    ensures probe { IsOnlyAsked P.can_place P.place P.asked probe.old probe.new }
+{
+    let mut end = first;
+    while end < items.len() && probe.place(items[end]).is_eq() {
+        end += 1;
+    }
+    end
+}
