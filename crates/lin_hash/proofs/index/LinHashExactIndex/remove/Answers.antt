@@ -1,0 +1,41 @@
+use Rattle.std.proofs.Common.{◌-◌, ◌*◌, ap, arith, inl, inr}
+use Rattle.std.proofs.lemmas.Bool.{cases_lt}
+use Rattle.lin_hash.specs.Held.{table_buckets}
+use Rattle.mm_index.proofs.Bags.{length-same_bag}
+use Rattle.lin_hash.proofs.index.LinHashExactIndex.remove.Goals as goal
+
+pub invariant_of-self : goal.invariant_of-self
+invariant_of-self c =
+    let n = length-same_bag _ _ c.remove_node-node.ensures.entries in
+    let counted = c.self.invariant.counted in
+    let dense = c.self.invariant.dense in
+    let short = c.self.invariant.short in
+    let few = c.self.invariant.few in
+    record {
+      counted = omega (arith, n, counted);
+      dense = elim (cases_lt (2 * (c.self.inside.len - 1)) (table_buckets c.self.inside.table)) [
+        | inl few ↦ elim (cases_lt 4 (table_buckets c.self.inside.table)) [
+          | inl above ↦ let folded = c.remove_node-node.ensures.folded few above in omega arith
+          | inr upto ↦ let same = c.remove_node-node.ensures.first upto in omega arith
+        ]
+        | inr many ↦ let same = c.remove_node-node.ensures.unfolded many in omega arith
+      ];
+      short = omega (arith, short);
+      few = omega (arith, n, counted, few, c.put.ensures);
+    }
+
+pub returns-clause-folded : goal.returns-clause-folded
+returns-clause-folded c = λ h k.
+    let n = length-same_bag _ _ c.remove_node-node.ensures.entries in
+    let b = ap (λ t. t.buckets) c.self.view_is in
+    let counted = c.self.invariant.counted in
+    let folded = c.remove_node-node.ensures.folded (omega arith) (omega arith) in
+    omega arith
+
+pub returns-clause-unfolded : goal.returns-clause-unfolded
+returns-clause-unfolded c = λ h.
+    let n = length-same_bag _ _ c.remove_node-node.ensures.entries in
+    let b = ap (λ t. t.buckets) c.self.view_is in
+    let counted = c.self.invariant.counted in
+    let unfolded = c.remove_node-node.ensures.unfolded (omega arith) in
+    omega arith

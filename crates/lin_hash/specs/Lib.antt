@@ -1,0 +1,4 @@
+pub mod Address
+pub mod Chain
+pub mod Counted
+pub mod Held

@@ -1,0 +1,207 @@
+//! The index: a table of buckets, and the nodes that are kept for the next inserts.
+ghost use Rattle.std.specs.Prelude.{◌≡◌, ◌+◌, ◌*◌, ◌^◌, ◌<◌, ◌≤◌, [], ◌∷◌, length, Contains, OnOk};
+ghost use Rattle.mm_index.specs.Bag.{IsSameBag, with_hash};
+ghost use Rattle.lin_hash.specs.Held.{table_entries, table_room, table_buckets};
+ghost use Rattle.lin_hash.specs.Chain.{entry_of};
+
+use crate::bucket::Node;
+use crate::chain::Chain;
+use crate::spares::Spares;
+use crate::table::{FIRST_BUCKETS, Table};
+use mm_index::ExactIndex;
+use part_raw::TupleRef;
+use plain_tables::NoMemory;
+use std::alloc::Global;
+use std::marker::Model;
+
+/// A modified linear hash. There are always at least four buckets and at most twice as many entries
+/// as buckets; a look-up visits the nodes of one bucket.
+#[derive(Drop)]
+pub struct LinHash {
+    alloc: Global,
+    table: Option<Table>,
+    len: usize,
+    spares: Spares,
+}
+
+impl Model for LinHash {
+    ghost use Rattle.std.specs.Prelude.{min};
+    ghost use Rattle.lin_hash.specs.Held.{HeldBuckets, table_entries, table_room, table_buckets};
+
+    ghost Value = { HeldBuckets };
+
+    ghost view = { λ h. record {
+      entries = table_entries h.table;
+      room = min h.spares (table_room h.table);
+      buckets = table_buckets h.table;
+    } };
+
+    ghost use Rattle.lin_hash.specs.Counted.{IsCounted};
+
+    ghost invariant = { λ h. IsCounted h };
+}
+
+impl LinHash {
+    /// An empty index, which has taken no memory.
+    pub fn new(alloc: Global) -> LinHash
+        ensures entries { result.entries ≡ [] }
+        ensures buckets { result.buckets ≡ 4 }
+    {
+        LinHash {
+            alloc,
+            table: None,
+            len: 0,
+            spares: Spares::new(),
+        }
+    }
+
+    /// How many buckets there are.
+    pub fn buckets(&self) -> usize
+        ensures value { result ≡ self.now.buckets }
+        ensures first { 4 ≤ result }
+        ensures dense { length self.now.entries ≤ 2 * result }
+    {
+        match &self.table {
+            Some(table) => table.buckets(),
+            None => FIRST_BUCKETS,
+        }
+    }
+
+    /// The references with that hash, each as often as it is held, in any order.
+    pub fn chain(&self, hash: u64) -> Chain<'_>
+        ensures { IsSameBag result (with_hash hash self.now.entries) }
+    {
+        match &self.table {
+            Some(table) => Chain::from_node(hash, table.first(hash)),
+            None => Chain::from_node(hash, None),
+        }
+    }
+}
+
+impl ExactIndex for LinHash {
+    ghost entries = { λ h. h.entries };
+
+    ghost room = { λ h. h.room };
+
+    fn reserve(&mut self, n: usize) -> Result<(), NoMemory>
+        requires { n ≤ 2 ^ 32 }
+        ensures entries { IsSameBag self.new.entries self.old.entries }
+        ensures reserved { OnOk result (n ≤ self.new.room) }
+        ensures room { self.old.room ≤ self.new.room }
+        ensures buckets { self.new.buckets ≡ self.old.buckets }
+    {
+        reserve_buckets(&mut self.table, self.alloc, n)?;
+        self.spares.reserve(self.alloc, n)
+    }
+
+    fn insert(&mut self, hash: u64, r: TupleRef)
+        requires reserved { 0 < self.old.room }
+        requires short { length self.old.entries < 2 ^ 32 }
+        ensures entries { IsSameBag self.new.entries ((hash, r) ∷ self.old.entries) }
+        ensures room { self.old.room ≤ self.new.room + 1 }
+
+        // The buckets grow by one exactly where there are then more entries than twice the buckets.
+        ensures split { 2 * self.old.buckets < length self.new.entries → self.new.buckets ≡ self.old.buckets + 1 }
+        ensures unsplit { length self.new.entries ≤ 2 * self.old.buckets → self.new.buckets ≡ self.old.buckets }
+    {
+        let mut node = self.spares.take();
+        node.hash = hash;
+        node.reference = r;
+        self.len += 1;
+        insert_node(&mut self.table, node, self.len);
+    }
+
+    fn remove(&mut self, hash: u64, r: TupleRef)
+        requires { Contains self.old.entries (hash, r) }
+        ensures entries { IsSameBag self.old.entries ((hash, r) ∷ self.new.entries) }
+        ensures room { self.old.room ≤ self.new.room }
+
+        // The buckets shrink by one exactly where there are more than four, and then fewer entries than half
+        // of them.
+        ensures folded { 2 * length self.new.entries < self.old.buckets → 4 < self.old.buckets → self.new.buckets + 1 ≡ self.old.buckets }
+        ensures unfolded { self.old.buckets ≤ 2 * length self.new.entries → self.new.buckets ≡ self.old.buckets }
+        ensures first { self.old.buckets ≤ 4 → self.new.buckets ≡ self.old.buckets }
+    {
+        self.len -= 1;
+        let node = remove_node(&mut self.table, hash, r, self.len);
+        self.spares.put(node);
+    }
+
+    fn matching(&self, hash: u64, out: &mut Vec<TupleRef>) -> Result<(), NoMemory> {
+        let before = out.len();
+        for r in self.chain(hash) {
+            if out.push(r).is_err() {
+                out.truncate(before);
+                return Err(NoMemory);
+            }
+        }
+        Ok(())
+    }
+
+    fn len(&self) -> usize {
+        self.len
+    }
+
+    fn release_spares(&mut self)
+        ensures entries { IsSameBag self.new.entries self.old.entries }
+        ensures room { self.new.room ≡ 0 }
+        ensures buckets { self.new.buckets ≡ self.old.buckets }
+    {
+        self.spares.release();
+        if let Some(table) = &mut self.table {
+            table.release_spares();
+        }
+    }
+}
+
+// Makes sure of the buckets of n inserts, the first four among them.
+fn reserve_buckets(table: &mut Option<Table>, alloc: Global, n: usize) -> Result<(), NoMemory>
+    requires { n ≤ 2 ^ 32 }
+    ensures entries { table_entries table.new ≡ table_entries table.old }
+    ensures reserved { OnOk result (n ≤ table_room table.new) }
+    ensures room { table_room table.old ≤ table_room table.new }
+    ensures buckets { table_buckets table.new ≡ table_buckets table.old }
+{
+    match table {
+        Some(table) => table.reserve(n),
+        None => {
+            let mut first = Table::new(alloc)?;
+            first.reserve(n)?;
+            *table = Some(first);
+            Ok(())
+        }
+    }
+}
+
+// Puts a node into the table, which then has `len` entries.
+fn insert_node(table: &mut Option<Table>, node: Box<Node>, len: usize)
+    requires room { 0 < table_room table.old }
+    requires counted { len ≡ length (table_entries table.old) + 1 }
+    requires short { len ≤ 2 ^ 32 }
+    ensures entries { IsSameBag (table_entries table.new) (entry_of node.value ∷ table_entries table.old) }
+    ensures room { table_room table.old ≤ table_room table.new + 1 }
+    ensures split { 2 * table_buckets table.old < len → table_buckets table.new ≡ table_buckets table.old + 1 }
+    ensures unsplit { len ≤ 2 * table_buckets table.old → table_buckets table.new ≡ table_buckets table.old }
+{
+    match table {
+        Some(table) => table.insert(node, len),
+        None => unreachable!(),
+    }
+}
+
+// Takes a node out of the table, which then has `len` entries.
+fn remove_node(table: &mut Option<Table>, hash: u64, r: TupleRef, len: usize) -> Box<Node>
+    requires held { Contains (table_entries table.old) (hash, r) }
+    requires counted { length (table_entries table.old) ≡ len + 1 }
+    requires short { len < 2 ^ 32 }
+    ensures entries { IsSameBag (table_entries table.old) ((hash, r) ∷ table_entries table.new) }
+    ensures room { table_room table.old ≤ table_room table.new }
+    ensures folded { 2 * len < table_buckets table.old → 4 < table_buckets table.old → table_buckets table.new + 1 ≡ table_buckets table.old }
+    ensures unfolded { table_buckets table.old ≤ 2 * len → table_buckets table.new ≡ table_buckets table.old }
+    ensures first { table_buckets table.old ≤ 4 → table_buckets table.new ≡ table_buckets table.old }
+{
+    match table {
+        Some(table) => table.remove(hash, r, len),
+        None => unreachable!(),
+    }
+}
