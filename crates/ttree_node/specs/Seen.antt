@@ -1,0 +1,75 @@
+-- What a caller sees of linked nodes: a tree of item lists with stated heights, the number of spare nodes, and a place in the tree. No pointer occurs here.
+use Rattle.std.specs.Prelude.{ℕ, Option, Bool, true, false}
+use Rattle.part_raw.specs.declared.tuple_ref.TupleRef.{TupleRef}
+use Rattle.ttree_node.specs.Tree.{Tree, empty, Zipper, Label, relabel, relabel_zipper, down_left, down_right, is_node, has_left, has_right, left_of, right_of, merged_left, merged_right, items_of, up_from_left, up_from_right, down_to_left, down_to_right}
+use Rattle.ttree_node.specs.declared.node.Side.{Side}
+use Rattle.ttree_node.specs.declared.node.Side.TheVariants.{Root, Left, Right}
+use Rattle.ttree_node.specs.declared.node.Way.{Way}
+use Rattle.ttree_node.specs.declared.node.Way.TheVariants.{Up, Down}
+use Rattle.ttree_node.specs.Linked.{located, zipper_at}
+use Rattle.ttree_node.specs.declared.nodes.Place.{Place}
+use Rattle.ttree_node.specs.declared.parts.Parts.{Parts}
+
+-- the tree of a `Links`
+abbrev pub tree_of : {MAX : ℕ} → Parts MAX → Tree (Label TupleRef)
+tree_of p = relabel (λ x. x.label) (located p)
+
+-- the number of its spare nodes
+abbrev pub spares_of : {MAX : ℕ} → Parts MAX → ℕ
+spares_of p = p.spares
+
+-- the place in the tree at which a node lies
+abbrev pub position_at : {MAX : ℕ} → Parts MAX → Option Place → Zipper (Label TupleRef)
+position_at p q = relabel_zipper (λ x. x.label) (zipper_at p.nodes.held q)
+
+-- where a child on that side of the place is, or the place itself for the root
+abbrev pub on_side : {X : Type 0} → Side → Zipper X → Zipper X
+on_side Root z = z
+on_side Left z = down_left z
+on_side Right z = down_right z
+
+-- a child hangs on a node, and the root on nothing
+abbrev pub hangs_on_node : Side → Bool
+hangs_on_node Root = false
+hangs_on_node Left = true
+hangs_on_node Right = true
+
+-- whether a child hangs on that side of the node, or for the root whether there is one
+abbrev pub child_on : {X : Type 0} → Side → Tree X → Bool
+child_on Root t = is_node t
+child_on Left t = has_left t
+child_on Right t = has_right t
+
+-- the child on that side of the node
+abbrev pub child : {X : Type 0} → Side → Tree X → Tree X
+child Root t = empty
+child Left t = left_of t
+child Right t = right_of t
+
+abbrev pub opposite : Side → Side
+opposite Root = Root
+opposite Left = Right
+opposite Right = Left
+
+-- the node has all items of its child on that side, a leaf, which is gone
+abbrev pub merged : {I : Type 0} → Side → Tree (Label I) → Tree (Label I)
+merged Root t = t
+merged Left t = merged_left t
+merged Right t = merged_right t
+
+-- where items that go that way come from, and where they go to
+abbrev pub giver : {X : Type 0} → Way → Side → Tree X → Tree X
+giver Up side t = child side t
+giver Down side t = t
+
+abbrev pub taker : {X : Type 0} → Way → Side → Tree X → Tree X
+taker Up side t = t
+taker Down side t = child side t
+
+-- so many items go that way between the node and its child on that side, nearest first
+abbrev pub slid : {I : Type 0} → Side → Way → ℕ → Tree (Label I) → Tree (Label I)
+slid Root way n t = t
+slid Left Up n t = up_from_left n (items_of t) (items_of (left_of t)) t
+slid Left Down n t = down_to_left n (items_of t) (items_of (left_of t)) t
+slid Right Up n t = up_from_right n (items_of t) (items_of (right_of t)) t
+slid Right Down n t = down_to_right n (items_of t) (items_of (right_of t)) t

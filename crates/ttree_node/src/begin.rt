@@ -1,0 +1,35 @@
+//! Where a look and an edit begin.
+ghost use Rattle.std.specs.Prelude.{◌≡◌, []};
+
+use crate::editor::Editor;
+use crate::links::Links;
+use crate::look::Look;
+
+impl<const MAX: usize> Links<MAX> {
+    ghost use Rattle.ttree_node.specs.Tree.{at};
+    ghost use Rattle.ttree_node.specs.Seen.{tree_of, spares_of};
+    ghost use Rattle.ttree_node.specs.Look.{position};
+    ghost use Rattle.ttree_node.specs.Editor.{position as edited, tree_at, spares_at};
+
+    /// The root of the tree, to be read.
+    pub fn look(&self) -> Look<'_, MAX>
+        ensures links { result.links.now ≡ self.now }
+        ensures root { position result ≡ at [] (tree_of self.now) }
+    {
+        Look {
+            links: self,
+            at: self.root(),
+        }
+    }
+
+    /// The root of the tree, to be edited.
+    pub fn edit(&mut self) -> Editor<'_, MAX>
+        ensures same_reference { result.links.ghost_name ≡ self.entry.ghost_name }
+        ensures tree { tree_at result ≡ tree_of self.old }
+        ensures root { edited result ≡ at [] (tree_of self.old) }
+        ensures spares { spares_at result ≡ spares_of self.old }
+    {
+        let at = self.root();
+        Editor { links: self, at }
+    }
+}

@@ -1,0 +1,52 @@
+//! A leaf that comes, and one that goes.
+ghost use Rattle.std.specs.Prelude.{◌≡◌, ◌+◌, ◌<◌, true, false, []};
+
+use crate::links::Links;
+use crate::node::Side;
+use crate::nodes::Place;
+use part_raw::TupleRef;
+
+impl<const MAX: usize> Links<MAX> {
+    ghost use Rattle.ttree_node.specs.Tree.{whole, is_node, is_leaf, with_leaf, without_leaf};
+    ghost use Rattle.ttree_node.specs.Linked.{located, misplaced};
+    ghost use Rattle.ttree_node.specs.Seen.{tree_of, position_at, spares_of, on_side, child_on, hangs_on_node};
+
+    pub(crate) fn new_leaf(
+        &mut self,
+        place: Option<Place>,
+        side: Side,
+        item: TupleRef,
+    ) -> Option<Place>
+        requires placed { misplaced (located self.old) place ≡ 0 }
+        requires fits { is_node (position_at self.old place).here ≡ hangs_on_node side }
+        requires open { child_on side (position_at self.old place).here ≡ false }
+        requires spare { 0 < spares_of self.old }
+        requires room { 0 < MAX }
+        ensures placed { misplaced (located self.new) result ≡ 0 }
+        ensures tree { tree_of self.new ≡ whole (position_at self.new result) }
+        ensures leaf { position_at self.new result ≡ with_leaf item (on_side side (position_at self.old place)) }
+        ensures spares { spares_of self.new + 1 ≡ spares_of self.old }
+    {
+        let leaf = self.parts.fill_spare(place, side, item);
+        self.parts.set_child(place, side, Some(leaf));
+        Some(leaf)
+    }
+
+    /// The place above, if the leaf was not the root.
+    pub(crate) fn drop_leaf(&mut self, place: Option<Place>) -> Option<Place>
+        requires placed { misplaced (located self.old) place ≡ 0 }
+        requires leaf { is_leaf (position_at self.old place).here }
+        ensures placed { misplaced (located self.new) result ≡ 0 }
+        ensures tree { tree_of self.new ≡ whole (position_at self.new result) }
+        ensures gone { position_at self.new result ≡ without_leaf (position_at self.old place) }
+        ensures spares { spares_of self.new ≡ spares_of self.old + 1 }
+    {
+        let leaf = place.unwrap();
+        let node = self.parts.nodes.get(leaf);
+        let parent = node.parent;
+        let side = node.side;
+        self.parts.retire(leaf);
+        self.parts.set_child(parent, side, None);
+        parent
+    }
+}

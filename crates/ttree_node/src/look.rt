@@ -1,0 +1,91 @@
+//! A place in a tree that is only read.
+ghost use Rattle.std.specs.Prelude.{◌≡◌, true, false};
+ghost use Rattle.ttree_node.specs.Linked.{located, misplaced};
+
+use crate::links::Links;
+use crate::nodes::Place;
+use part_raw::TupleRef;
+
+/// A place in the tree of a `Links`: a node, or nothing where the tree is empty.
+#[derive(Drop)]
+pub struct Look<'a, const MAX: usize> {
+    pub(crate) links: &'a Links<MAX>,
+    pub(crate) at: Option<Place>,
+    ghost placed: { misplaced (located links.now) at ≡ 0 },
+}
+
+impl<'a, const MAX: usize> Look<'a, MAX> {
+    ghost use Rattle.ttree_node.specs.Tree.{is_node, is_root, has_left, has_right, left_of, right_of, down_left, down_right, up, to_root, items_of, stated};
+    ghost use Rattle.ttree_node.specs.Look.{position};
+
+    /// Whether a node is there.
+    pub fn has_node(&self) -> bool
+        ensures { result ≡ is_node (position self.now).here }
+    {
+        self.links.is_node(self.at)
+    }
+
+    pub fn at_root(&self) -> bool
+        ensures { result ≡ is_root (position self.now).above }
+    {
+        self.links.is_root(self.at)
+    }
+
+    pub fn has_left(&self) -> bool
+        ensures { result ≡ has_left (position self.now).here }
+    {
+        self.links.has_left(self.at)
+    }
+
+    pub fn has_right(&self) -> bool
+        ensures { result ≡ has_right (position self.now).here }
+    {
+        self.links.has_right(self.at)
+    }
+
+    /// The items of the node.
+    pub fn items(&self) -> &[TupleRef]
+        ensures { result.now ≡ items_of (position self.now).here }
+    {
+        self.links.items(self.at)
+    }
+
+    /// The stated heights of the left and of the right child, 0 for none.
+    pub fn heights(&self) -> (u32, u32)
+        ensures left { result.0 ≡ stated (left_of (position self.now).here) }
+        ensures right { result.1 ≡ stated (right_of (position self.now).here) }
+    {
+        self.links.heights(self.at)
+    }
+
+    pub fn to_root(&mut self)
+        ensures links { self.new.links ≡ self.old.links }
+        ensures moved { position self.new ≡ to_root (position self.old) }
+    {
+        self.at = self.links.root();
+    }
+
+    pub fn down_left(&mut self)
+        requires { has_left (position self.old).here ≡ true }
+        ensures links { self.new.links ≡ self.old.links }
+        ensures moved { position self.new ≡ down_left (position self.old) }
+    {
+        self.at = self.links.left_of(self.at);
+    }
+
+    pub fn down_right(&mut self)
+        requires { has_right (position self.old).here ≡ true }
+        ensures links { self.new.links ≡ self.old.links }
+        ensures moved { position self.new ≡ down_right (position self.old) }
+    {
+        self.at = self.links.right_of(self.at);
+    }
+
+    pub fn up(&mut self)
+        requires { is_root (position self.old).above ≡ false }
+        ensures links { self.new.links ≡ self.old.links }
+        ensures moved { position self.new ≡ up (position self.old) }
+    {
+        self.at = self.links.parent_of(self.at);
+    }
+}

@@ -1,0 +1,129 @@
+//! The steps from node to node, and what is read at a node. Each is a read of one link or two.
+ghost use Rattle.std.specs.Prelude.{◌≡◌, ◌≤◌, true, false, length, []};
+
+use crate::links::Links;
+use crate::nodes::Place;
+use part_raw::TupleRef;
+
+impl<const MAX: usize> Links<MAX> {
+    ghost use Rattle.ttree_node.specs.Tree.{at, whole, is_root, has_left, has_right, left_of, right_of, down_left, down_right, up, items_of, stated, is_node};
+    ghost use Rattle.ttree_node.specs.Linked.{located, misplaced};
+    ghost use Rattle.ttree_node.specs.Seen.{tree_of, position_at};
+    ghost use Rattle.std.specs.Prelude.{Option};
+    ghost use Rattle.std.specs.Option.{is_some};
+    ghost use Rattle.ttree_node.specs.declared.nodes.Place.{Place};
+
+    pub(crate) fn root(&self) -> Option<Place>
+        ensures placed { misplaced (located self.now) result ≡ 0 }
+        ensures moved { position_at self.now result ≡ at [] (tree_of self.now) }
+        ensures whole { (place : Option Place) → misplaced (located self.now) place ≡ 0 → whole (position_at self.now place) ≡ tree_of self.now }
+    {
+        self.parts.root
+    }
+
+    pub(crate) fn is_node(&self, place: Option<Place>) -> bool
+        requires { misplaced (located self.now) place ≡ 0 }
+        ensures node { result ≡ is_node (position_at self.now place).here }
+        ensures some { result ≡ is_some place }
+    {
+        let _parts = &self.parts;
+        place.is_some()
+    }
+
+    pub(crate) fn left_of(&self, place: Option<Place>) -> Option<Place>
+        requires placed { misplaced (located self.now) place ≡ 0 }
+        requires child { has_left (position_at self.now place).here ≡ true }
+        ensures placed { misplaced (located self.now) result ≡ 0 }
+        ensures moved { position_at self.now result ≡ down_left (position_at self.now place) }
+    {
+        self.parts.nodes.get(place.unwrap()).left
+    }
+
+    pub(crate) fn right_of(&self, place: Option<Place>) -> Option<Place>
+        requires placed { misplaced (located self.now) place ≡ 0 }
+        requires child { has_right (position_at self.now place).here ≡ true }
+        ensures placed { misplaced (located self.now) result ≡ 0 }
+        ensures moved { position_at self.now result ≡ down_right (position_at self.now place) }
+    {
+        self.parts.nodes.get(place.unwrap()).right
+    }
+
+    pub(crate) fn parent_of(&self, place: Option<Place>) -> Option<Place>
+        requires placed { misplaced (located self.now) place ≡ 0 }
+        requires below { is_root (position_at self.now place).above ≡ false }
+        ensures placed { misplaced (located self.now) result ≡ 0 }
+        ensures moved { position_at self.now result ≡ up (position_at self.now place) }
+    {
+        self.parts.nodes.get(place.unwrap()).parent
+    }
+
+    pub(crate) fn is_root(&self, place: Option<Place>) -> bool
+        requires { misplaced (located self.now) place ≡ 0 }
+        ensures { result ≡ is_root (position_at self.now place).above }
+    {
+        match place {
+            Some(found) => !self.parts.nodes.get(found).parent.is_some(),
+            None => true,
+        }
+    }
+
+    pub(crate) fn has_left(&self, place: Option<Place>) -> bool
+        requires { misplaced (located self.now) place ≡ 0 }
+        ensures { result ≡ has_left (position_at self.now place).here }
+    {
+        match place {
+            Some(found) => self.parts.nodes.get(found).left.is_some(),
+            None => false,
+        }
+    }
+
+    pub(crate) fn has_right(&self, place: Option<Place>) -> bool
+        requires { misplaced (located self.now) place ≡ 0 }
+        ensures { result ≡ has_right (position_at self.now place).here }
+    {
+        match place {
+            Some(found) => self.parts.nodes.get(found).right.is_some(),
+            None => false,
+        }
+    }
+
+    pub(crate) fn items(&self, place: Option<Place>) -> &[TupleRef]
+        requires { misplaced (located self.now) place ≡ 0 }
+        ensures items { result.now ≡ items_of (position_at self.now place).here }
+        ensures narrow { is_node (position_at self.now place).here ≡ true → MAX ≤ 72057594037927936 }
+        ensures fits { length result.now ≤ MAX }
+    {
+        match place {
+            Some(found) => self.parts.nodes.get(found).items.as_slice(),
+            None => &[],
+        }
+    }
+
+    pub(crate) fn height_at(&self, place: Option<Place>) -> u32
+        requires { misplaced (located self.now) place ≡ 0 }
+        ensures { result ≡ stated (position_at self.now place).here }
+    {
+        match place {
+            Some(found) => self.parts.nodes.get(found).height,
+            None => 0,
+        }
+    }
+
+    pub(crate) fn heights(&self, place: Option<Place>) -> (u32, u32)
+        requires { misplaced (located self.now) place ≡ 0 }
+        ensures left { result.0 ≡ stated (left_of (position_at self.now place).here) }
+        ensures right { result.1 ≡ stated (right_of (position_at self.now place).here) }
+    {
+        let left = if self.has_left(place) {
+            self.height_at(self.left_of(place))
+        } else {
+            0
+        };
+        let right = if self.has_right(place) {
+            self.height_at(self.right_of(place))
+        } else {
+            0
+        };
+        (left, right)
+    }
+}

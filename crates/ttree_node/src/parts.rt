@@ -1,0 +1,184 @@
+//! The nodes of a tree and its spare nodes, with the steps that link and unlink them.
+ghost use Rattle.std.specs.Prelude.{◌≡◌, ◌+◌, ◌-◌, ◌<◌, ◌≤◌, ◌^◌, List, [], ◌∷◌, Some, None, IsSome, OnOk, OnErr};
+ghost use denote.RawPtr.{Ptr};
+
+use crate::node::{Node, Side};
+use crate::nodes::{Block, Nodes, Place};
+use arrayvec::ArrayVec;
+use part_raw::TupleRef;
+use plain_tables::NoMemory;
+use std::alloc::Global;
+
+// A node for more items than these has more bytes than any heap gives.
+const MOST_ITEMS: usize = 0x100_0000_0000_0000;
+
+/// The fields of a `Links`, of which a step may leave some links wrong for a while.
+pub struct Parts<const MAX: usize> {
+    pub(crate) nodes: Nodes<Node<MAX>>,
+    pub(crate) alloc: Global,
+    pub(crate) root: Option<Place>,
+    pub(crate) free: Option<Place>,
+    pub(crate) spares: usize,
+}
+
+impl<const MAX: usize> Parts<MAX> {
+    ghost use Rattle.ttree_node.specs.Held.{node_at, set_node};
+    ghost use Rattle.ttree_node.specs.Tree.{Tree, size};
+    ghost use Rattle.ttree_node.specs.declared.node.Side.TheVariants.{Root};
+    ghost use Rattle.ttree_node.specs.declared.node.Node.{Node};
+    ghost use Rattle.ttree_node.specs.Linked.{Spot, Linked, Sound, located, Present, linked_down, linked_up, rooted, node_for, label_of, head_of};
+
+    pub(crate) fn new(alloc: Global) -> Parts<MAX>
+        ensures { (result.nodes.held ≡ []) × (result.root ≡ None) × (result.free ≡ None) × (result.spares ≡ 0) }
+    {
+        Parts {
+            nodes: Nodes::new(),
+            alloc,
+            root: None,
+            free: None,
+            spares: 0,
+        }
+    }
+
+    /// Takes the first spare node as a leaf with one item that links its parent. No node links it yet.
+    pub(crate) fn fill_spare(&mut self, parent: Option<Place>, side: Side, item: TupleRef) -> Place
+        requires sound { Sound self.old }
+        requires some { 0 < self.old.spares }
+        requires room { 0 < MAX }
+        ensures first { self.old.free ≡ Some result }
+        ensures held { self.new.nodes.held ≡ set_node result.at (node_for (record { items = item ∷ []; height = 1 }) parent side None None) self.old.nodes.held }
+        ensures root { self.new.root ≡ self.old.root }
+        ensures next { (t : Tree Spot) (ps : List Ptr) → Linked self.old t (result.at ∷ ps) → self.new.free ≡ head_of ps }
+        ensures spares { self.new.spares + 1 ≡ self.old.spares }
+    {
+        let place = self.free.unwrap();
+        let node = self.nodes.get_mut(place);
+        let next = node.left;
+        node.height = 1;
+        node.side = side;
+        node.left = None;
+        node.parent = parent;
+        node.items.push(item);
+        self.free = next;
+        self.spares -= 1;
+        place
+    }
+
+    /// Makes the node there the first spare node. Nodes that link it are left as they are.
+    pub(crate) fn retire(&mut self, place: Place)
+        requires present { IsSome (node_at place.at self.old.nodes.held) }
+        requires narrow { MAX ≤ 72057594037927936 }
+        requires few { self.old.spares < 2 ^ 40 }
+        ensures held { self.new.nodes.held ≡ set_node place.at (node_for (record { items = []; height = 0 }) None Root self.old.free None) self.old.nodes.held }
+        ensures root { self.new.root ≡ self.old.root }
+        ensures free { self.new.free ≡ Some place }
+        ensures spares { self.new.spares ≡ self.old.spares + 1 }
+    {
+        let next = self.free;
+        let node = self.nodes.get_mut(place);
+        node.height = 0;
+        node.side = Side::Root;
+        node.left = next;
+        node.right = None;
+        node.parent = None;
+        node.items.clear();
+        self.free = Some(place);
+        self.spares += 1;
+    }
+
+    /// Makes `child` the child of `parent` on that side, or the root where there is no parent.
+    pub(crate) fn set_child(&mut self, parent: Option<Place>, side: Side, child: Option<Place>)
+        requires { Present self.old.nodes.held parent }
+        ensures held { self.new.nodes.held ≡ linked_down parent side child self.old.nodes.held }
+        ensures root { self.new.root ≡ rooted parent child self.old.root }
+        ensures rest { (self.new.free ≡ self.old.free) × (self.new.spares ≡ self.old.spares) }
+    {
+        match parent {
+            None => self.root = child,
+            Some(above) => {
+                let node = self.nodes.get_mut(above);
+                match side {
+                    Side::Left => node.left = child,
+                    Side::Right => node.right = child,
+                    Side::Root => {}
+                }
+            }
+        }
+    }
+
+    /// Sets all links of a node.
+    pub(crate) fn set_links(
+        &mut self,
+        place: Place,
+        parent: Option<Place>,
+        side: Side,
+        left: Option<Place>,
+        right: Option<Place>,
+    )
+        requires { IsSome (node_at place.at self.old.nodes.held) }
+        ensures held { (v : Node MAX) → node_at place.at self.old.nodes.held ≡ Some v → self.new.nodes.held ≡ set_node place.at (node_for (label_of v) parent side left right) self.old.nodes.held }
+        ensures rest { (self.new.root ≡ self.old.root) × (self.new.free ≡ self.old.free) × (self.new.spares ≡ self.old.spares) }
+    {
+        let node = self.nodes.get_mut(place);
+        node.parent = parent;
+        node.side = side;
+        node.left = left;
+        node.right = right;
+    }
+
+    /// Hangs `child`, if it is a node, on that side of `parent`. The parent's link is left as it is.
+    pub(crate) fn set_parent(&mut self, child: Option<Place>, parent: Option<Place>, side: Side)
+        requires { Present self.old.nodes.held child }
+        ensures held { self.new.nodes.held ≡ linked_up child parent side self.old.nodes.held }
+        ensures rest { (self.new.root ≡ self.old.root) × (self.new.free ≡ self.old.free) × (self.new.spares ≡ self.old.spares) }
+    {
+        if let Some(below) = child {
+            let node = self.nodes.get_mut(below);
+            node.parent = parent;
+            node.side = side;
+        }
+    }
+
+    /// Takes memory for one more spare node.
+    pub(crate) fn add_spare(&mut self) -> Result<(), NoMemory>
+        requires sound { Sound self.old }
+        requires room { size (located self.old) + self.old.spares + 1 < 2 ^ 40 }
+        ensures sound { Sound self.new }
+        ensures tree { located self.new ≡ located self.old }
+        ensures ok { OnOk result (self.new.spares ≡ self.old.spares + 1) }
+        ensures err { OnErr result (self.new.spares ≡ self.old.spares) }
+    {
+        if MAX > MOST_ITEMS {
+            return Err(NoMemory);
+        }
+        let node = Node {
+            height: 0,
+            side: Side::Root,
+            left: self.free,
+            right: None,
+            parent: None,
+            items: ArrayVec::new(),
+        };
+        let block = Block::of(Box::new(self.alloc, node)?);
+        let place = self.nodes.take_in(block);
+        self.free = Some(place);
+        self.spares += 1;
+        Ok(())
+    }
+
+    /// Gives one spare node back to the heap.
+    pub(crate) fn shed_spare(&mut self)
+        requires sound { Sound self.old }
+        requires some { 0 < self.old.spares }
+        ensures sound { Sound self.new }
+        ensures tree { located self.new ≡ located self.old }
+        ensures spares { self.new.spares + 1 ≡ self.old.spares }
+    {
+        let place = self.free.unwrap();
+        let next = self.nodes.get(place).left;
+        let block = self.nodes.give_out(place, self.alloc);
+        drop(block.into_box());
+        self.free = next;
+        self.spares -= 1;
+    }
+}
