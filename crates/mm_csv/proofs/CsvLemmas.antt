@@ -1,0 +1,98 @@
+-- Lemmas on what the crate csv writes: it is what the definitions of CSV say.
+use Rattle.std.proofs.Common.{◌≡◌, ◌∙◌, ◌++◌, ◌∷◌, [], ℕ, List, Bool, true, false, Option, length, refl, arith, suc}
+use Rattle.std.proofs.Common.{length-append}
+use Rattle.std.specs.Prelude.{◌==◌, ◌||◌, ◌&&◌, ◌<◌, ◌+◌, ◌-◌, ◌^◌, ◌≢◌, min, not, if◌then◌else◌}
+use Rattle.std.proofs.lemmas.Bool.{ne_eqb}
+use Rattle.std.specs.List.{flat_map}
+use Rattle.std.specs.Io.KnownBytes.{Appends}
+use Rattle.std.proofs.KnownBytes.{Appends-nil, Appends-trans}
+use Rattle.csv.specs.Writing as Csv
+use Rattle.csv.specs.declared.writer.Writer.{Writer}
+use Rattle.csv.specs.declared.writer.QuoteStyle.TheVariants as style
+use Rattle.csv.proofs.WriteFacts.{blank-more, row-more}
+use Rattle.plain_tables.specs.Csv.{calls_for_quotes, doubled, field_text, joined, needs_quotes, record_text}
+use Rattle.mm_csv.specs.Records.{AddsField, EndsRecord, HasBegun, IsBetweenRecords, setup}
+
+-- ---- the two texts of a record
+
+any-of-five : (p q r s : Bool) → (p || q || (r || s) || (false && false) || false) ≡ (p || q || r || s)
+any-of-five true q r s = refl
+any-of-five false true r s = refl
+any-of-five false false true s = refl
+any-of-five false false false true = refl
+any-of-five false false false false = refl
+
+calls-same : (b : ℕ) → Csv.needs_byte setup b ≡ calls_for_quotes b
+calls-same b = any-of-five (b == 44) (b == 34) (b == 13) (b == 10)
+
+needs-same : (field : List ℕ) → Csv.needs_quotes setup field ≡ needs_quotes field
+needs-same [] = refl
+needs-same (b ∷ field) = rw (calls-same b, needs-same field) refl
+
+double-first : (c : Bool) (b : ℕ) (xs : List ℕ) → (if c then 34 ∷ b ∷ xs else b ∷ xs) ≡ (if c then 34 ∷ b ∷ [] else b ∷ []) ++ xs
+double-first true b xs = refl
+double-first false b xs = refl
+
+doubled-same : (field : List ℕ) → Csv.escaped setup field ≡ flat_map doubled field
+unfolding Csv.escaped
+doubled-same [] = refl
+doubled-same (b ∷ field) = rw (doubled-same field) (double-first (b == 34) b (flat_map doubled field))
+
+field-same : (field : List ℕ) → Csv.field_text setup field ≡ field_text field
+field-same field = rw (needs-same field, doubled-same field) refl
+
+fields-same : (fields : List (List ℕ)) → Csv.fields_text setup fields ≡ flat_map (λ f. 44 ∷ field_text f) fields
+unfolding Csv.fields_text
+fields-same [] = refl
+fields-same (field ∷ fields) = rw (field-same field, fields-same fields) refl
+
+body-same : (fields : List (List ℕ)) → Csv.row_body setup fields ≡ joined fields
+body-same [] = refl
+body-same (field ∷ fields) = rw (field-same field, fields-same fields) refl
+
+choice-shows : (c : Bool) (b : ℕ) (xs ys : List ℕ) → (length (if c then 34 ∷ xs else b ∷ ys) == 0) ≡ false
+choice-shows true b xs ys = ne_eqb (suc (length xs)) 0 (λ e. cc e)
+choice-shows false b xs ys = ne_eqb (suc (length ys)) 0 (λ e. cc e)
+
+-- a record that shows a byte
+shown : (blank : Bool) (body text : List ℕ) → blank ≡ false → body ≡ text
+    → body ++ ((if blank then 34 ∷ 34 ∷ [] else []) ++ 10 ∷ []) ≡ text ++ 10 ∷ []
+shown blank body text e p = rw (e, p) refl
+
+-- What csv writes of a record is the record.
+pub record-same : (fields : List (List ℕ)) → 0 < length fields → Csv.row_text setup fields ≡ record_text fields
+unfolding Csv.is_blank Csv.fields_text
+record-same [] some = absurd (omega arith)
+record-same ([] ∷ []) some = refl
+record-same ((b ∷ field) ∷ []) some =
+    shown _ _ _ (choice-shows (Csv.needs_quotes setup (b ∷ field)) b (Csv.escaped setup (b ∷ field) ++ 34 ∷ []) field) (body-same ((b ∷ field) ∷ []))
+record-same ([] ∷ other ∷ fields) some = shown false _ _ refl (body-same ([] ∷ other ∷ fields))
+record-same ((b ∷ field) ∷ other ∷ fields) some = shown false _ _ refl (body-same ((b ∷ field) ∷ other ∷ fields))
+
+-- ---- field by field
+
+pub begun-none : {W : Type 0} (contents : W → Option (List ℕ)) (w : Writer W) → IsBetweenRecords w → HasBegun contents w w []
+unfolding Csv.is_blank
+begun-none contents w (same, count, wrote) = (same, count, Appends-nil _, rw wrote refl)
+
+pub begun-more : {W : Type 0} (contents : W → Option (List ℕ)) (w after : Writer W) (field : List ℕ)
+    → ((Csv.writer_setup w).style ≢ style.NonNumeric → Appends (Csv.text_written contents w) (Csv.text_written contents after) (Csv.next_sep (Csv.writer_setup w) (Csv.fields_written w) ++ Csv.field_text (Csv.writer_setup w) field))
+    → Csv.writer_setup after ≡ Csv.writer_setup w
+    → Csv.fields_written after ≡ min (Csv.fields_written w + 1) (2 ^ 64 - 1)
+    → (Csv.has_written w ≡ false → (Csv.writer_setup w).style ≢ style.NonNumeric → Csv.has_written after ≡ not (length (Csv.field_text (Csv.writer_setup w) field) == 0))
+    → (Csv.has_written w ≡ true → Csv.has_written after ≡ true)
+    → AddsField contents w after field
+begun-more contents w after field text same count wrote stays before fields fits (is, so_far, body, blank) =
+    let necessary : (Csv.writer_setup w).style ≢ style.NonNumeric = rw is (λ e. cc e) in
+    let size = length-append fields (field ∷ []) in
+    let more = rw (is, so_far) at (text necessary) in (
+      same ∙ is,
+      count ∙ rw (so_far, size) (omega arith),
+      rw (row-more setup fields field) (Appends-trans _ _ _ _ _ body more),
+      rw size (blank-more setup fields field (Csv.has_written w) (Csv.has_written after) blank (λ none. rw is at (wrote none necessary)) stays),
+    )
+
+pub record-ended : {W : Type 0} (contents : W → Option (List ℕ)) (before w after : Writer W) (fields : List (List ℕ)) → 0 < length fields
+    → HasBegun contents before w fields → EndsRecord contents w after
+    → Appends (Csv.text_written contents before) (Csv.text_written contents after) (record_text fields)
+record-ended contents before w after fields some begun ends = rw (record-same fields some) at (ends before fields begun).1

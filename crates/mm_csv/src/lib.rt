@@ -1,0 +1,15 @@
+//! Rows as CSV: fields between commas, each record ended by a line feed, a field quoted only where it must be.
+//!
+//! `RecordWriter` writes one record at a time, from values that it borrows; `block_of` writes a header and all rows.
+#![tactic(auto)]
+
+mod block;
+mod fields;
+pub mod laws;
+mod record_writer;
+
+pub use block::block_of;
+pub use record_writer::RecordWriter;
+
+#[cfg(test)]
+mod tests;

@@ -1,0 +1,93 @@
+//! A writer of records that takes values by reference.
+
+ghost use Rattle.std.specs.Prelude.{◌≡◌, ◌<◌, true, false, length, IfOk, OnOk, OnErr};
+ghost use Rattle.std.specs.Io.KnownBytes.{Appends, Keeps};
+ghost use Rattle.plain_tables.specs.Csv.{record_text, row_record};
+
+use crate::fields::{write_names, write_row};
+use csv::{Writer, WriterBuilder};
+use plain_tables::{NoMemory, Text, Value};
+use std::io::Write;
+use std::marker::Model;
+
+/// Writes records to `W`, which is to take every byte unless it finds no memory, as a `Vec<u8>`.
+///
+/// Contracts see what `W` holds with what is still kept here behind it, and whether a call has failed. A call that
+/// fails may leave a part of its record behind, and every later one fails.
+#[derive(Drop)]
+pub struct RecordWriter<W: Write + Drop> {
+    writer: Writer<W>,
+    failed: bool,
+}
+
+impl<W: Write + Drop> Model for RecordWriter<W> {
+    ghost use Rattle.std.specs.Prelude.{◌≡◌, false};
+    ghost use Rattle.csv.specs.Writing.{text_written};
+    ghost use Rattle.mm_csv.specs.Records.{IsBetweenRecords, Written};
+
+    ghost Value = { Written };
+
+    ghost view = { λ r. record { failed = r.failed; bytes = text_written W.contents r.writer } };
+
+    ghost invariant = { λ r. r.failed ≡ false → IsBetweenRecords r.writer };
+}
+
+impl<W: Write + Drop> RecordWriter<W> {
+    /// A writer of what follows the bytes in `to`.
+    pub fn new(to: W) -> RecordWriter<W>
+        ensures fresh { result.failed ≡ false }
+        ensures bytes { Keeps (W.contents to) result.bytes }
+    {
+        RecordWriter {
+            writer: WriterBuilder::new().flexible(true).from_writer(to),
+            failed: false,
+        }
+    }
+
+    /// A row as a record.
+    pub fn push_record(&mut self, row: &[Value]) -> Result<(), NoMemory>
+        requires { 0 < length row.now }
+        ensures bytes { OnOk result (Appends self.old.bytes self.new.bytes (row_record row.now)) }
+        ensures goes { OnOk result ((self.old.failed ≡ false) × (self.new.failed ≡ false)) }
+        ensures failed { OnErr result (self.new.failed ≡ true) }
+    {
+        if self.failed {
+            return Err(NoMemory);
+        }
+        self.failed = true;
+        write_row(&mut self.writer, row)?;
+        self.failed = false;
+        Ok(())
+    }
+
+    /// Names as a record.
+    pub fn push_names(&mut self, names: &[Text]) -> Result<(), NoMemory>
+        requires { 0 < length names.now }
+        ensures bytes { OnOk result (Appends self.old.bytes self.new.bytes (record_text names.now)) }
+        ensures goes { OnOk result ((self.old.failed ≡ false) × (self.new.failed ≡ false)) }
+        ensures failed { OnErr result (self.new.failed ≡ true) }
+    {
+        if self.failed {
+            return Err(NoMemory);
+        }
+        self.failed = true;
+        write_names(&mut self.writer, names)?;
+        self.failed = false;
+        Ok(())
+    }
+
+    /// Gives back what was written to, once it has every byte.
+    pub fn finish(self) -> Result<W, NoMemory>
+        ensures bytes { IfOk result (λ to. Keeps self.bytes (W.contents to)) }
+        ensures goes { OnOk result (self.failed ≡ false) }
+    {
+        let RecordWriter { writer, failed } = self;
+        if failed {
+            return Err(NoMemory);
+        }
+        match writer.into_inner() {
+            Ok(to) => Ok(to),
+            Err(_) => Err(NoMemory),
+        }
+    }
+}
