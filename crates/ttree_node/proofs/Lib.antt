@@ -15,7 +15,9 @@ pub mod Relabels
 pub mod Shape
 pub mod Sizes
 pub mod Spares
+pub mod Splits
 pub mod Turns
 pub mod TurnSteps
 pub mod Visit
 pub mod Sharing
+pub mod Successors

@@ -2,7 +2,7 @@
 use Rattle.std.specs.Prelude.{◌≡◌, ℕ, ◌-◌, true, false, length, take, drop, List, [], ◌∷◌, ◌++◌, refl}
 use Rattle.std.proofs.lemmas.List.{take-append-drop}
 use Rattle.std.proofs.Common.{append_assoc, sym, ap, ◌∙◌}
-use Rattle.ttree_node.specs.Tree.{Tree, empty, node, Frame, went_left, went_right, Zipper, Label, plug, whole, list, rotated_left, rotated_right, with_tree, is_leaf, left_of, right_of, merged_left, merged_right, has_left, has_right, is_node, refilled_left, refilled_right, items_of}
+use Rattle.ttree_node.specs.Tree.{Tree, empty, node, Frame, went_left, went_right, Zipper, Label, plug, whole, list, list_above, list_before, rotated_left, rotated_right, with_tree, is_leaf, left_of, right_of, merged_left, merged_right, has_left, has_right, is_node, refilled_left, refilled_right, items_of}
 use Rattle.ttree_node.specs.declared.node.Way.{Way}
 use Rattle.ttree_node.specs.declared.node.Way.TheVariants.{Up, Down}
 use Rattle.ttree_node.specs.declared.node.Side.{Side}
@@ -12,14 +12,10 @@ use Rattle.ttree_node.specs.Seen.{child, opposite, merged, slid}
 module _ {I : Type 0} where
   -- the whole list is that of the subtree, between what is to its left and what is to its right
   abbrev pub before : List (Frame (Label I)) → List I
-  before [] = []
-  before (went_left x r ∷ c) = before c
-  before (went_right l x ∷ c) = before c ++ (list l ++ x.items)
+  before c = list_before c
 
   abbrev pub after : List (Frame (Label I)) → List I
-  after [] = []
-  after (went_left x r ∷ c) = x.items ++ (list r ++ after c)
-  after (went_right l x ∷ c) = after c
+  after c = list_above c
 
   -- a rotation keeps the list
   pub list-rotated_left : (t : Tree (Label I)) → list (rotated_left t) ≡ list t

@@ -4,5 +4,6 @@ pub mod Laws
 pub mod Lends
 pub mod Linked
 pub mod Look
+pub mod Order
 pub mod Seen
 pub mod Tree

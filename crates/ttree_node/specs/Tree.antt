@@ -230,3 +230,29 @@ module _ {I : Type 0} where
 
   abbrev pub down_to_left : ℕ → List I → List I → Tree (Label I) → Tree (Label I)
   down_to_left n xs ys t = refilled_left (drop n xs) (ys ++ take n xs) t
+
+-- ---- the list from a place on, and up to it
+module _ {I : Type 0} where
+  -- what stands behind on the way up: for each step to the left the items of the node that it left and the list of its right tree, and for a step to the right nothing
+  abbrev pub list_above : List (Frame (Label I)) → List I
+  list_above [] = []
+  list_above (went_left x r ∷ c) = x.items ++ (list r ++ list_above c)
+  list_above (went_right l x ∷ c) = list_above c
+
+  -- what stands behind the items of the node: the list of its right tree, and what stands behind on the way up
+  abbrev pub list_behind : Zipper (Label I) → List I
+  list_behind z = list (right_of z.here) ++ list_above z.above
+
+  -- the list from item i of the node on
+  abbrev pub list_from : ℕ → Zipper (Label I) → List I
+  list_from i z = drop i (items_of z.here) ++ list_behind z
+
+  -- what stands before on the way up: for each step to the right the list of the left tree of the node that it left and that node's items, and for a step to the left nothing
+  abbrev pub list_before : List (Frame (Label I)) → List I
+  list_before [] = []
+  list_before (went_left x r ∷ c) = list_before c
+  list_before (went_right l x ∷ c) = list_before c ++ (list l ++ x.items)
+
+  -- the list up to item i of the node, without it
+  abbrev pub list_until : ℕ → Zipper (Label I) → List I
+  list_until i z = list_before z.above ++ (list (left_of z.here) ++ take i (items_of z.here))

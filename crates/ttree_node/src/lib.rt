@@ -12,13 +12,16 @@ pub mod merges;
 pub mod moves;
 pub mod node;
 pub mod nodes;
+pub mod order;
 pub mod parts;
 pub mod rotations;
 pub mod slides;
+pub mod walk;
 
 pub use editor::Editor;
 pub use links::Links;
 pub use look::Look;
+pub use walk::Walk;
 
 #[cfg(test)]
 mod tests;

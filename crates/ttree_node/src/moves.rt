@@ -90,6 +90,7 @@ impl<const MAX: usize> Links<MAX> {
     pub(crate) fn items(&self, place: Option<Place>) -> &[TupleRef]
         requires { misplaced (located self.now) place ≡ 0 }
         ensures items { result.now ≡ items_of (position_at self.now place).here }
+        ensures some { is_some place ≡ is_node (position_at self.now place).here }
         ensures narrow { is_node (position_at self.now place).here ≡ true → MAX ≤ 72057594037927936 }
         ensures fits { length result.now ≤ MAX }
     {

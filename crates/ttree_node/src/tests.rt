@@ -1,7 +1,7 @@
 ghost use Rattle.std.specs.Prelude.{◌≡◌};
 
 use crate::node::{Side, Way};
-use crate::{Editor, Links};
+use crate::{Editor, Links, Look, Walk};
 use part_raw::TupleRef;
 use std::alloc::Global;
 use std::process::Abort;
@@ -11,6 +11,15 @@ fn item(key: u32) -> TupleRef
     ensures { result.slot ≡ key }
 {
     TupleRef { part: 0, slot: key }
+}
+
+// The walk gives just these keys.
+fn gives<R: Abort>(rt: &R, mut walk: Walk<'_, 3>, keys: &[u32]) {
+    for key in keys {
+        assert_eq!(rt; walk.next(), Some(item(*key)));
+    }
+    assert_eq!(rt; walk.next(), None);
+    assert_eq!(rt; walk.next(), None);
 }
 
 // The chain 20, 30, 40, each on the right of the one before. The editor is at 40.
@@ -47,7 +56,10 @@ fn a_chain_turns(rt: HostRuntime) -> Result<(), Fail> {
     assert!(rt; !edit.has_left());
     assert!(rt; !edit.has_right());
     assert!(rt; !edit.at_root());
-    edit.up();
+    gives(&rt, links.walk(), &[20, 30, 40]);
+    assert_eq!(rt; links.spares(), 0);
+    let mut edit = links.edit();
+    assert!(rt; edit.at_root());
     assert!(rt; edit.has_right());
     edit.down_right();
     assert_eq!(rt; edit.items().len(), 1);
@@ -61,6 +73,7 @@ fn a_chain_turns(rt: HostRuntime) -> Result<(), Fail> {
     assert_eq!(rt; edit.items(), [item(30)].as_slice());
     assert!(rt; !edit.has_right());
     assert_eq!(rt; edit.spares(), 1);
+    gives(&rt, links.walk(), &[20, 30]);
     Ok(())
 }
 
@@ -166,5 +179,105 @@ fn a_tree_of_three_levels(rt: HostRuntime) -> Result<(), Fail> {
     assert_eq!(rt; look.items(), [item(10), item(15)].as_slice());
     look.to_root();
     assert_eq!(rt; look.heights(), (1, 1));
+    Ok(())
+}
+
+// A leaf with that key on the left of the node, where the editor then stands.
+fn grow_left<R: Abort>(rt: &R, edit: &mut Editor<'_, 3>, key: u32)
+    ensures same_reference { edit.new.links.ghost_name ≡ edit.old.links.ghost_name }
+{
+    assert!(rt; edit.has_node());
+    assert!(rt; !edit.has_left());
+    assert!(rt; edit.spares() > 0);
+    edit.new_leaf(Side::Left, item(key));
+}
+
+// The same on the right.
+fn grow_right<R: Abort>(rt: &R, edit: &mut Editor<'_, 3>, key: u32)
+    ensures same_reference { edit.new.links.ghost_name ≡ edit.old.links.ghost_name }
+{
+    assert!(rt; edit.has_node());
+    assert!(rt; !edit.has_right());
+    assert!(rt; edit.spares() > 0);
+    edit.new_leaf(Side::Right, item(key));
+}
+
+fn climb<R: Abort>(rt: &R, edit: &mut Editor<'_, 3>)
+    ensures same_reference { edit.new.links.ghost_name ≡ edit.old.links.ghost_name }
+{
+    assert!(rt; !edit.at_root());
+    edit.up();
+}
+
+// The root [40, 45], below it [20] and [80], below [20] the leaves [10] and [30], below [80] a node with no items on the left, and below that the leaf [70] on the right.
+fn plant<R: Abort>(rt: &R, edit: &mut Editor<'_, 3>)
+    ensures same_reference { edit.new.links.ghost_name ≡ edit.old.links.ghost_name }
+{
+    assert!(rt; !edit.has_node());
+    assert!(rt; edit.spares() > 0);
+    edit.new_leaf(Side::Root, item(40));
+    assert!(rt; edit.has_node());
+    assert!(rt; edit.items().len() == 1);
+    edit.put(1, item(45));
+    grow_left(rt, edit, 20);
+    grow_left(rt, edit, 10);
+    climb(rt, edit);
+    grow_right(rt, edit, 30);
+    edit.to_root();
+    grow_right(rt, edit, 80);
+    grow_left(rt, edit, 60);
+    assert!(rt; edit.items().len() == 1);
+    let _gone = edit.cut(0);
+    grow_right(rt, edit, 70);
+}
+
+// The place that these steps lead to from the root.
+fn place<'a, R: Abort>(rt: &R, links: &'a Links<3>, steps: &[Side]) -> Look<'a, 3> {
+    let mut look = links.look();
+    for step in steps {
+        match step {
+            Side::Root => look.to_root(),
+            Side::Left => {
+                assert!(rt; look.has_left());
+                look.down_left();
+            }
+            Side::Right => {
+                assert!(rt; look.has_right());
+                look.down_right();
+            }
+        }
+    }
+    look
+}
+
+// The walk from an item of that place on gives just these keys.
+fn leaves<R: Abort>(rt: &R, links: &Links<3>, steps: &[Side], index: usize, keys: &[u32]) {
+    let look = place(rt, links, steps);
+    assert!(rt; index <= look.items().len());
+    gives(rt, look.walk_from(index), keys);
+}
+
+#[test]
+fn walks_of_four_levels(rt: HostRuntime) -> Result<(), Fail> {
+    let mut links: Links<3> = Links::new(rt.alloc());
+    gives(&rt, links.walk(), &[]);
+    leaves(&rt, &links, &[], 0, &[]);
+    links.reserve(7)?;
+    let mut edit = links.edit();
+    plant(&rt, &mut edit);
+    gives(&rt, links.walk(), &[10, 20, 30, 40, 45, 70, 80]);
+    leaves(&rt, &links, &[], 0, &[40, 45, 70, 80]);
+    leaves(&rt, &links, &[], 1, &[45, 70, 80]);
+    leaves(&rt, &links, &[], 2, &[70, 80]);
+    leaves(&rt, &links, &[Side::Left], 0, &[20, 30, 40, 45, 70, 80]);
+    leaves(
+        &rt,
+        &links,
+        &[Side::Left, Side::Right],
+        1,
+        &[40, 45, 70, 80],
+    );
+    leaves(&rt, &links, &[Side::Right, Side::Left], 0, &[70, 80]);
+    leaves(&rt, &links, &[Side::Right], 1, &[]);
     Ok(())
 }

@@ -1,0 +1,75 @@
+//! A walk over the items of a tree in list order.
+ghost use Rattle.std.specs.Prelude.{◌≡◌, ◌≤◌, ◌++◌, length};
+ghost use Rattle.std.specs.Iterator.{YieldsFirst, item_count};
+
+use crate::links::Links;
+use crate::look::Look;
+use part_raw::TupleRef;
+use std::marker::Model;
+
+/// The items of a tree that are left to visit, in list order. It goes from node to node by their links, and takes no memory.
+#[derive(Drop)]
+pub struct Walk<'a, const MAX: usize> {
+    look: Look<'a, MAX>,
+    index: usize,
+}
+
+impl<'a, const MAX: usize> Model for Walk<'a, MAX> {
+    ghost use Rattle.std.specs.Prelude.{List};
+    ghost use Rattle.part_raw.specs.declared.tuple_ref.TupleRef.{TupleRef};
+    ghost use Rattle.ttree_node.specs.Tree.{list_from};
+    ghost use Rattle.ttree_node.specs.Look.{position};
+
+    ghost Value = { List TupleRef };
+
+    ghost view = { λ w. list_from w.index (position w.look) };
+}
+
+impl<const MAX: usize> Links<MAX> {
+    ghost use Rattle.ttree_node.specs.Tree.{list};
+    ghost use Rattle.ttree_node.specs.Seen.{tree_of};
+
+    /// All items in list order.
+    pub fn walk(&self) -> Walk<'_, MAX>
+        ensures { result ≡ list (tree_of self.now) }
+    {
+        let at = self.first_below(self.root());
+        Walk {
+            look: Look { links: self, at },
+            index: 0,
+        }
+    }
+}
+
+impl<'a, const MAX: usize> Look<'a, MAX> {
+    ghost use Rattle.ttree_node.specs.Tree.{items_of, list, list_from, list_until, whole};
+    ghost use Rattle.ttree_node.specs.Look.{position};
+
+    /// The items in list order, from item `index` of this node on.
+    pub fn walk_from(self, index: usize) -> Walk<'a, MAX>
+        requires { index ≤ length (items_of (position self).here) }
+        ensures from { result ≡ list_from index (position self.entry) }
+        ensures parts { list_until index (position self.entry) ++ result ≡ list (whole (position self.entry)) }
+    {
+        Walk { look: self, index }
+    }
+}
+
+impl<'a, const MAX: usize> Iterator for Walk<'a, MAX> {
+    type Item = TupleRef;
+
+    ghost next_gives = { YieldsFirst (λ w. w) };
+
+    ghost remaining = { item_count (λ w. w) };
+
+    fn next(&mut self) -> Option<TupleRef> {
+        let links = self.look.links;
+        if links.items(self.look.at).len() <= self.index {
+            self.look.at = Some(links.next_filled(self.look.at)?);
+            self.index = 0;
+        }
+        let item = links.items(self.look.at)[self.index];
+        self.index += 1;
+        Some(item)
+    }
+}
