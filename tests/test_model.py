@@ -10,25 +10,86 @@ SEED = 20260717
 STREAMS = 300
 NAMES = ["t", "u", "dept", "_x1", "n" * 32, "n" * 33, "select", "T"]
 NUMBERS = ["0", "-0", "1", "2", "3", "-1", "007", "9223372036854775807", "9223372036854775808", "-9223372036854775808", "12x"]
+TEXTS = ["''", "'a'", "'b'", "'it''s'", "''''", "'a,b'", "'\"'", "'é'", "'#'", "'\r'", "'open", "'a'b'"]
+LONG_TEXTS = ["'" + "x" * 1024 + "'", "'" + "x" * 1025 + "'"]
+COLUMNS = ["id", "n", "m", "k"]
+SIGNS = ["=", "<>", "<", "<=", ">", ">="]
+NO_SIGNS = ["< >", "==", "=<", "!="]
 NOISE = ["", " ", "\t", "#", "# ok", "tables", "table", "select * from", "insert t", "é", "(", "'", "--1", "- 1", "1-2", "\r"]
+FRONT = b"table t (id int, n int, m text)\ntable u (id text, n int)\n"
 
 
-def separated(draw, items):
-    return draw.choice([",", ", ", " ,\t"]).join(items)
+def separated(draw, items, between=","):
+    return draw.choice([between, between + " ", " " + between + "\t"]).join(items)
+
+
+def rarely(draw, likely, unlikely, chance=0.05):
+    return draw.choice(unlikely if draw.random() < chance else likely)
+
+
+def value(draw):
+    luck = draw.random()
+    if luck < 0.6:
+        return integer(draw)
+    return draw.choice(NUMBERS) if luck < 0.65 else rarely(draw, TEXTS, LONG_TEXTS)
+
+
+def column(draw):
+    name = rarely(draw, COLUMNS[:3], COLUMNS)
+    return name if draw.random() < 0.8 else separated(draw, [draw.choice(NAMES[:2]), name], ".")
+
+
+def condition(draw):
+    blank = draw.choice(["", " "])
+    return column(draw) + blank + rarely(draw, SIGNS, NO_SIGNS) + blank + value(draw)
+
+
+def conditions(draw):
+    """No conditions, a few, or too many."""
+    count = draw.choice([0, 0, 1, 1, 1, 2, 3] if draw.random() < 0.97 else [8, 9])
+    return " where " + " and ".join(condition(draw) for _ in range(count)) if count else ""
+
+
+def declaration(draw):
+    columns = draw.sample(COLUMNS, draw.randrange(1, 4)) if draw.random() < 0.9 else ["id", "n", "id"]
+    return separated(draw, [f"{name} {draw.choice(['int', 'int', 'text'])}" for name in columns])
+
+
+def setting(draw):
+    return f"{rarely(draw, COLUMNS[1:3], COLUMNS, 0.2)} = {value(draw)}"
+
+
+def items(draw):
+    return "*" if draw.random() < 0.4 else separated(draw, [column(draw) for _ in range(rarely(draw, [1, 1, 2, 3], [17]))])
+
+
+def integer(draw):
+    return str(draw.randrange(-4, 5))
+
+
+def row(draw, name):
+    """Values for a table of the front, or any."""
+    if draw.random() < 0.3:
+        return [value(draw) for _ in range(draw.choice([1, 2, 2, 3]))]
+    text = draw.choice(TEXTS[:10])
+    return [text, integer(draw)] if name == "u" else [integer(draw), integer(draw), text]
 
 
 def command(draw):
     """A command, which may be wrong in many ways."""
-    name = draw.choice(NAMES[:3] if draw.random() < 0.8 else NAMES)
-    kind = draw.choice(["table", "insert", "insert", "insert", "select", "noise"])
+    name = rarely(draw, NAMES[:2], NAMES, 0.2)
+    kind = draw.choice(["table", *["insert"] * 5, "update", "delete", "select", "select", "noise"])
     if kind == "table":
-        columns = draw.sample(["id", "n", "m", "k"], draw.randrange(1, 4)) if draw.random() < 0.9 else ["id", "n", "id"]
-        return f"table {name} ({separated(draw, [f'{column} int' for column in columns])})"
+        return f"table {name} ({declaration(draw)})"
     if kind == "insert":
-        row = [str(draw.randrange(-9, 10)) if draw.random() < 0.9 else draw.choice(NUMBERS) for _ in range(draw.randrange(1, 4))]
-        return f"insert {name} ({separated(draw, row)})"
+        return f"insert {name} ({separated(draw, row(draw, name))})"
+    if kind == "update":
+        settings = [setting(draw) for _ in range(draw.choice([1, 1, 2]))]
+        return f"update {name} set {separated(draw, settings)}{conditions(draw)}"
+    if kind == "delete":
+        return f"delete {name}{conditions(draw)}"
     if kind == "select":
-        return f"select * from {name}"
+        return f"select {items(draw)} from {name}{conditions(draw)}"
     return draw.choice(NOISE)
 
 
@@ -36,17 +97,19 @@ def line(draw):
     """A line of bytes: a command, a command with a byte changed, a long line or bytes of any value."""
     bytes_of_line = bytearray(command(draw), "utf-8")
     luck = draw.random()
-    if luck < 0.1 and bytes_of_line:
+    if luck < 0.05 and bytes_of_line:
         bytes_of_line[draw.randrange(len(bytes_of_line))] = draw.randrange(256)
-    elif luck < 0.13:
+    elif luck < 0.06:
         bytes_of_line += b" " * (draw.randrange(8188, 8196) - len(bytes_of_line))
-    elif luck < 0.18:
+    elif luck < 0.09:
         bytes_of_line = bytearray(draw.randrange(256) for _ in range(draw.randrange(40)))
     return bytes(bytes_of_line) + draw.choice([b"\n", b"\n", b"\n", b"\r\n"])
 
 
 def stream_of(draw):
-    stream = b"".join(line(draw) for _ in range(draw.randrange(40)))
+    stream = b"".join(line(draw) for _ in range(draw.randrange(60)))
+    if draw.random() < 0.8:
+        stream = FRONT + stream
     return stream[: -draw.randrange(1, 4)] if stream and draw.random() < 0.3 else stream
 
 

@@ -1,1 +1,2 @@
+pub mod FullNames
 pub mod Records

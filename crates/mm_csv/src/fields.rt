@@ -5,10 +5,15 @@ ghost use Rattle.std.specs.Io.KnownBytes.{Appends};
 ghost use Rattle.csv.specs.Writing.{text_written};
 ghost use Rattle.plain_tables.specs.Csv.{record_text, row_record, value_field};
 ghost use Rattle.mm_csv.specs.Records.{AddsField, EndsRecord, IsBetweenRecords};
+ghost use Rattle.mm_csv.specs.FullNames.{full_name_text};
+ghost use Rattle.plain_tables.specs.Queries.{value_at};
+ghost use Rattle.std.specs.List.{All};
 
+use crate::FullName;
 use csv::Writer;
 use itoa::Buffer;
 use plain_tables::{NoMemory, Text, Value};
+use std::alloc::Global;
 use std::io::Write;
 
 fn write_field<W: Write + Drop>(writer: &mut Writer<W>, field: &[u8]) -> Result<(), NoMemory>
@@ -51,6 +56,24 @@ pub fn write_row<W: Write + Drop>(writer: &mut Writer<W>, row: &[Value]) -> Resu
     end_record(writer)
 }
 
+/// The values of a row at these places as a record. After an error a part of it may have been written.
+pub fn write_chosen<W: Write + Drop>(
+    writer: &mut Writer<W>,
+    row: &[Value],
+    places: &[usize],
+) -> Result<(), NoMemory>
+    requires between { IsBetweenRecords writer.old }
+    requires some { 0 < length places.now }
+    requires within { All (λ place. place < length row.now) places.now }
+    ensures between { OnOk result (IsBetweenRecords writer.new) }
+    ensures text { OnOk result (Appends (text_written W.contents writer.old) (text_written W.contents writer.new) (row_record (map (value_at row.now) places.now))) }
+{
+    for &place in places {
+        write_value(writer, &row[place])?;
+    }
+    end_record(writer)
+}
+
 /// Names as a record. After an error a part of it may have been written.
 pub fn write_names<W: Write + Drop>(writer: &mut Writer<W>, names: &[Text]) -> Result<(), NoMemory>
     requires between { IsBetweenRecords writer.old }
@@ -60,6 +83,39 @@ pub fn write_names<W: Write + Drop>(writer: &mut Writer<W>, names: &[Text]) -> R
 {
     for name in names {
         write_field(writer, name.as_bytes())?;
+    }
+    end_record(writer)
+}
+
+/// A full name as a field. The bytes of `text` are not used.
+fn write_full_name<W: Write + Drop>(
+    writer: &mut Writer<W>,
+    text: &mut Vec<u8>,
+    name: &FullName,
+) -> Result<(), NoMemory>
+    ensures { OnOk result (AddsField W.contents writer.old writer.new (full_name_text name.now)) }
+{
+    text.clear();
+    text.extend_from_slice(name.table.as_bytes())?;
+    text.push(b'.')?;
+    text.extend_from_slice(name.column.as_bytes())?;
+    write_field(writer, text.as_slice())
+}
+
+/// Full names as a record. After an error a part of it may have been written.
+pub fn write_full_names<W: Write + Drop>(
+    alloc: Global,
+    writer: &mut Writer<W>,
+    names: &[FullName],
+) -> Result<(), NoMemory>
+    requires between { IsBetweenRecords writer.old }
+    requires some { 0 < length names.now }
+    ensures between { OnOk result (IsBetweenRecords writer.new) }
+    ensures text { OnOk result (Appends (text_written W.contents writer.old) (text_written W.contents writer.new) (record_text (map full_name_text names.now))) }
+{
+    let mut text = Vec::new(alloc);
+    for full_name in names {
+        write_full_name(writer, &mut text, full_name)?;
     }
     end_record(writer)
 }

@@ -5,10 +5,12 @@
 
 mod block;
 mod fields;
+mod full_name;
 pub mod laws;
 mod record_writer;
 
 pub use block::block_of;
+pub use full_name::FullName;
 pub use record_writer::RecordWriter;
 
 #[cfg(test)]

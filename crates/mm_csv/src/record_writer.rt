@@ -1,12 +1,17 @@
 //! A writer of records that takes values by reference.
 
-ghost use Rattle.std.specs.Prelude.{◌≡◌, ◌<◌, true, false, length, IfOk, OnOk, OnErr};
+ghost use Rattle.std.specs.Prelude.{◌≡◌, ◌<◌, true, false, length, map, IfOk, OnOk, OnErr};
+ghost use Rattle.std.specs.List.{All};
 ghost use Rattle.std.specs.Io.KnownBytes.{Appends, Keeps};
 ghost use Rattle.plain_tables.specs.Csv.{record_text, row_record};
+ghost use Rattle.plain_tables.specs.Queries.{value_at};
+ghost use Rattle.mm_csv.specs.FullNames.{full_name_text};
 
-use crate::fields::{write_names, write_row};
+use crate::FullName;
+use crate::fields::{write_chosen, write_full_names, write_names, write_row};
 use csv::{Writer, WriterBuilder};
 use plain_tables::{NoMemory, Text, Value};
+use std::alloc::Global;
 use std::io::Write;
 use std::marker::Model;
 
@@ -60,6 +65,23 @@ impl<W: Write + Drop> RecordWriter<W> {
         Ok(())
     }
 
+    /// The values of a row at these places as a record.
+    pub fn push_chosen(&mut self, row: &[Value], places: &[usize]) -> Result<(), NoMemory>
+        requires some { 0 < length places.now }
+        requires within { All (λ place. place < length row.now) places.now }
+        ensures bytes { OnOk result (Appends self.old.bytes self.new.bytes (row_record (map (value_at row.now) places.now))) }
+        ensures goes { OnOk result ((self.old.failed ≡ false) × (self.new.failed ≡ false)) }
+        ensures failed { OnErr result (self.new.failed ≡ true) }
+    {
+        if self.failed {
+            return Err(NoMemory);
+        }
+        self.failed = true;
+        write_chosen(&mut self.writer, row, places)?;
+        self.failed = false;
+        Ok(())
+    }
+
     /// Names as a record.
     pub fn push_names(&mut self, names: &[Text]) -> Result<(), NoMemory>
         requires { 0 < length names.now }
@@ -72,6 +94,22 @@ impl<W: Write + Drop> RecordWriter<W> {
         }
         self.failed = true;
         write_names(&mut self.writer, names)?;
+        self.failed = false;
+        Ok(())
+    }
+
+    /// Full names as a record.
+    pub fn push_full_names(&mut self, alloc: Global, names: &[FullName]) -> Result<(), NoMemory>
+        requires { 0 < length names.now }
+        ensures bytes { OnOk result (Appends self.old.bytes self.new.bytes (record_text (map full_name_text names.now))) }
+        ensures goes { OnOk result ((self.old.failed ≡ false) × (self.new.failed ≡ false)) }
+        ensures failed { OnErr result (self.new.failed ≡ true) }
+    {
+        if self.failed {
+            return Err(NoMemory);
+        }
+        self.failed = true;
+        write_full_names(alloc, &mut self.writer, names)?;
         self.failed = false;
         Ok(())
     }

@@ -2,7 +2,7 @@
 
 ghost use Rattle.std.specs.Prelude.{◌≡◌, length, IfOk};
 
-use crate::{RecordWriter, block_of};
+use crate::{FullName, RecordWriter, block_of};
 use plain_tables::{NoMemory, Sequence, Text, Value};
 use std::alloc::Global;
 use std::test::Fail;
@@ -46,6 +46,32 @@ fn one_empty_text_is_shown(rt: HostRuntime) -> Result<(), Fail> {
     Ok(())
 }
 
+#[test]
+fn columns_are_chosen_and_named_in_full(rt: HostRuntime) -> Result<(), Fail> {
+    let alloc = rt.alloc();
+    let (table, id) = (Text::from_str(alloc, "w")?, Text::from_str(alloc, "id")?);
+    let names = [
+        FullName {
+            table: &table,
+            column: &table,
+        },
+        FullName {
+            table: &table,
+            column: &id,
+        },
+    ];
+    let row = [Value::Int(-7), Value::Text(Text::from_str(alloc, "a,b")?)];
+    let mut records = RecordWriter::new(Vec::new(alloc));
+    records.push_full_names(alloc, &names)?;
+    records.push_chosen(&row, &[1, 0])?;
+    records.push_chosen(&row, &[0])?;
+    assert_eq!(rt;
+        records.finish()?.as_slice(),
+        b"w.w,w.id\n\"a,b\",-7\n-7\n".as_slice()
+    );
+    Ok(())
+}
+
 // As long as what is kept before it is written out, or longer.
 #[test]
 fn records_past_the_writers_room_are_whole(rt: HostRuntime) -> Result<(), Fail> {
@@ -75,6 +101,31 @@ fn block_under_refusal(rt: HostRuntime) {
     };
     match block_of(alloc, &[name, other], &[row]) {
         Ok(block) => assert_eq!(rt; block.as_slice(), b"id,s\n1,a\n".as_slice()),
+        Err(refused) => assert_eq!(rt; refused, NoMemory),
+    }
+}
+
+#[test]
+fn chosen_under_refusal(rt: HostRuntime) {
+    let alloc = rt.alloc();
+    let (Ok(name), Ok(row)) = (Text::from_str(alloc, "t"), pair(alloc, 1, "a")) else {
+        return;
+    };
+    let full = FullName {
+        table: &name,
+        column: &name,
+    };
+    let mut records = RecordWriter::new(Vec::new(alloc));
+    if let Err(refused) = records.push_full_names(alloc, &[full]) {
+        assert_eq!(rt; refused, NoMemory);
+        return;
+    }
+    if let Err(refused) = records.push_chosen(row.as_slice(), &[1]) {
+        assert_eq!(rt; refused, NoMemory);
+        return;
+    }
+    match records.finish() {
+        Ok(bytes) => assert_eq!(rt; bytes.as_slice(), b"t.t\na\n".as_slice()),
         Err(refused) => assert_eq!(rt; refused, NoMemory),
     }
 }

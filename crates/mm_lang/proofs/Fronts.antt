@@ -1,6 +1,6 @@
--- Fronts: what stands at the front of a line, by its lexeme.
-use Rattle.std.proofs.Common.{◌≡◌, ◌≢◌, ℕ, ◌<◌, List, [], ◌∷◌, true, false, refl, sym, ◌∙◌, ap, arith}
-use Rattle.std.specs.Prelude.{ℤ, Bool, Result, Err, ◌==◌, length}
+-- Fronts: what stands at the front of a line, symbol by symbol.
+use Rattle.std.proofs.Common.{◌≡◌, ◌≢◌, ℕ, ◌<◌, ◌≤◌, List, [], ◌∷◌, ◌++◌, length, Option, Some, None, true, false, refl, sym, ◌∙◌, ap, arith, subst}
+use Rattle.std.specs.Prelude.{Bool, Result, Err, ◌==◌}
 use Rattle.std.specs.Str.{IsUtf8, IsAscii, bytes_eq}
 use Rattle.std.proofs.lemmas.Bool.{and_parts, eqb-true, eqb-false}
 use Rattle.std.proofs.lemmas.Bool.Decides.{nat_tests}
@@ -8,16 +8,21 @@ use Rattle.std.proofs.lemmas.Slice.Eq.{bytes_eq-Decides}
 use Rattle.std.proofs.lemmas.Str.{IsUtf8-from_ascii}
 use Rattle.std.proofs.lemmas.Str.Ascii.{IsAscii-nil, IsAscii-cons}
 use lib.Chars.{codes}
-use Rattle.plain_tables.specs.Names.{is_name, is_word, is_word_character, is_letter}
-use Rattle.plain_tables.specs.Spelling.{Name, Kind, Literal, IsSymbol, IsMadeOf, IsInteger, value_symbols, column_symbols}
-use Rattle.plain_tables.specs.Reading.{lexeme, after_lexeme}
+use Rattle.plain_tables.specs.Names.{IsName, is_name, is_word, is_word_character, is_letter}
+use Rattle.plain_tables.specs.Spelling.{Symbol, Name, Kind, Literal, Sign, Operator, operator_text, IsSymbol, value_symbols, column_symbols, name_symbols, setting_symbols, condition_symbols}
+use Rattle.plain_tables.specs.Reading.{begins_run, lexeme, after_lexeme}
 use Rattle.plain_tables.specs.declared.value.Value.{Value}
 use Rattle.plain_tables.specs.declared.value.Value.TheVariants as value
-use Rattle.plain_tables.specs.declared.schema.ColKind.TheVariants as kind
-use Rattle.plain_tables.proofs.Lexemes.{AllPass, IsRun, word-run, letter-word, lexeme-of_made, made-from_lexeme}
+use Rattle.plain_tables.specs.declared.schema.ColKind.{ColKind}
+use Rattle.plain_tables.specs.declared.condition.Op.{Op}
+use Rattle.plain_tables.specs.declared.condition.Op.TheVariants as op
+use Rattle.plain_tables.specs.declared.condition.ColName.{ColName}
+use Rattle.plain_tables.proofs.Lexemes.{AllPass, IsRun, word-run, letter-word, integer-run, length-lexeme}
 use Rattle.plain_tables.proofs.Integers.{Literal-only}
-use Rattle.plain_tables.proofs.Uniqueness.{kind-only}
-use Rattle.mm_lang.specs.Parsing.{BeginsWith, BeginsWithNone, name_symbols}
+use Rattle.plain_tables.proofs.FirstWords.{different}
+use Rattle.plain_tables.proofs.SingleItems.{kind-one, operator-one, whole_name}
+use Rattle.mm_lang.specs.Parsing.{Reads, IsOfText, BeginsWith, BeginsWithNone}
+use Rattle.mm_lang.proofs.Utf8.{of_text-after, literal-utf8}
 
 -- ---- comparisons
 
@@ -26,14 +31,6 @@ same-bytes xs ys zs r h e f = (bytes_eq-Decides xs ys).0 (sym e ∙ h) ∙ f
 
 pub other-bytes : (xs ys zs : List ℕ) (r : Bool) → r ≡ false → r ≡ bytes_eq xs ys → ys ≡ zs → xs ≢ zs
 other-bytes xs ys zs r h e f same = let both : bytes_eq xs ys ≡ true = (bytes_eq-Decides xs ys).1 (same ∙ sym f) in cc
-
-pub lexeme-is : (line bytes xs ys zs : List ℕ) (r : Bool) → bytes ≡ line → xs ≡ lexeme bytes → r ≡ true → r ≡ bytes_eq xs ys → ys ≡ zs
-    → lexeme line ≡ zs
-lexeme-is line bytes xs ys zs r e f h same g = ap lexeme (sym e) ∙ (sym f ∙ same-bytes xs ys zs r h same g)
-
-pub lexeme-is_not : (line bytes xs ys zs : List ℕ) (r : Bool) → bytes ≡ line → xs ≡ lexeme bytes → r ≡ false → r ≡ bytes_eq xs ys → ys ≡ zs
-    → lexeme line ≢ zs
-lexeme-is_not line bytes xs ys zs r e f h same g is = other-bytes xs ys zs r h same g (f ∙ (ap lexeme e ∙ is))
 
 pub empty-list : (xs : List ℕ) → (length xs == 0) ≡ true → xs ≡ []
 empty-list [] h = refl
@@ -65,67 +62,223 @@ name-utf8 name h =
     let word : is_word name ≡ true = (and_parts (is_word name) _ h).0 in
     IsUtf8-from_ascii name (letters-ascii name (word-run name word) word)
 
-pub begins-name : (line name rest : List ℕ) → is_name (lexeme line) ≡ true → name ≡ lexeme line → rest ≡ after_lexeme line
-    → BeginsWith name_symbols line name rest
-begins-name line name rest is e f = record {
-  whole = λ more made. made-from_lexeme line (Name name) more tt (sym e, rw e is) (rw f at made);
-  only = λ y more made.
-      let parts : IsSymbol (lexeme line) (Name y) × IsMadeOf (after_lexeme line) more = lexeme-of_made line (Name y) more tt made in
-      (sym parts.0.0 ∙ sym e, rw f parts.1);
-}
+minus-or-word : (c : ℕ) → begins_run c ≡ true → c < 128
+minus-or-word c h = grind (arith, nat_tests)
 
-pub begins-no_name : (line : List ℕ) → is_name (lexeme line) ≡ false → BeginsWithNone name_symbols line
-begins-no_name line not = record {
-  none = λ y more made.
-      let is : IsSymbol (lexeme line) (Name y) = (lexeme-of_made line (Name y) more tt made).0 in
-      let name : is_name (lexeme line) ≡ true = rw is.0 is.1 in
-      cc;
-}
+run-is_ascii : (cs : List ℕ) → IsRun cs → IsAscii cs
+run-is_ascii [] run = elim run [ ]
+run-is_ascii (c ∷ cs) run = IsAscii-cons c cs (minus-or-word c run.1) (run-ascii cs run.2)
+
+pub no-name : (line name : List ℕ) → (IsName (lexeme line) → ⊥) → IsSymbol (lexeme line) (Name name) → ⊥
+no-name line name not is = not (subst IsName (sym is.0) is.1)
+
+-- ---- symbols, one after another
+
+pub reads-append : (line : List ℕ) (xs ys : List Symbol) (mid rest : List ℕ) → Reads line xs mid → Reads mid ys rest → Reads line (xs ++ ys) rest
+reads-append line [] ys mid rest e reads = subst (λ l. Reads l ys rest) (sym e) reads
+reads-append line (x ∷ xs) ys mid rest (is, first) reads = (is, reads-append (after_lexeme line) xs ys mid rest first reads)
+
+pub reads-split : (line : List ℕ) (xs ys : List Symbol) (rest : List ℕ) → Reads line (xs ++ ys) rest
+    → (mid : List ℕ) × Reads line xs mid × Reads mid ys rest
+reads-split line [] ys rest reads = (line, refl, reads)
+reads-split line (x ∷ xs) ys rest (is, reads) =
+    let parts : (mid : List ℕ) × Reads (after_lexeme line) xs mid × Reads mid ys rest = reads-split (after_lexeme line) xs ys rest reads in
+    (parts.0, (is, parts.1), parts.2)
+
+pub reads-shorter : (line : List ℕ) (symbols : List Symbol) (rest : List ℕ) → Reads line symbols rest → length rest ≤ length line
+reads-shorter line [] rest e = omega (arith, ap length e)
+reads-shorter line (x ∷ xs) rest (is, reads) = omega (arith, length-lexeme line, reads-shorter (after_lexeme line) xs rest reads)
+
+pub reads-of_text : (line : List ℕ) (symbols : List Symbol) (rest : List ℕ) → IsOfText line → Reads line symbols rest → IsOfText rest
+reads-of_text line [] rest of e = subst IsOfText e of
+reads-of_text line (x ∷ xs) rest of (is, reads) = reads-of_text (after_lexeme line) xs rest (of_text-after line of) reads
+
+-- ---- words and signs that are no dot, and others
+
+pub not-word : (characters word other : List ℕ) → bytes_eq word other ≡ false → characters ≡ word → characters ≢ other
+not-word characters word other test e f = different word other test (sym e ∙ f)
+
+operator-test : (o : Op) → bytes_eq (operator_text o) (codes ".") ≡ false
+operator-test op.Eq = refl
+operator-test op.Ne = refl
+operator-test op.Lt = refl
+operator-test op.Le = refl
+operator-test op.Gt = refl
+operator-test op.Ge = refl
+
+operator-no_dot : (o : Op) (characters : List ℕ) → characters ≡ operator_text o → characters ≢ codes "."
+operator-no_dot o characters e = not-word characters (operator_text o) (codes ".") (operator-test o) e
 
 -- ---- values
 
-pub begins-integer : (line rest : List ℕ) (z : ℤ) → IsInteger (lexeme line) z → rest ≡ after_lexeme line
-    → BeginsWith value_symbols line (value.Int z) rest
-begins-integer line rest z is f = record {
-  whole = λ more made. made-from_lexeme line (Literal (value.Int z)) more tt is (rw f at made);
-  only = λ y more made.
-      let parts : IsSymbol (lexeme line) (Literal y) × IsMadeOf (after_lexeme line) more = lexeme-of_made line (Literal y) more tt made in
-      (Literal-only (lexeme line) (value.Int z) y is parts.0, rw f parts.1);
+pub begins-value : (line rest : List ℕ) (v : Value) → IsSymbol (lexeme line) (Literal v) → rest ≡ after_lexeme line
+    → BeginsWith value_symbols line v rest
+begins-value line rest v is f = record {
+  found = (is, sym f);
+  only = λ y other reads free. (Literal-only (lexeme line) v y is reads.0, sym reads.1 ∙ sym f);
 }
 
-no_literal : (characters : List ℕ) → ((z : ℤ) → IsInteger characters z → ⊥) → (v : Value) → IsSymbol characters (Literal v) → ⊥
-no_literal characters none (value.Int z) is = none z is
-no_literal characters none (value.Text t) is = is
-
-pub begins-no_value : (line : List ℕ) → ((z : ℤ) → IsInteger (lexeme line) z → ⊥) → BeginsWithNone value_symbols line
-begins-no_value line not = record {
-  none = λ y more made. no_literal (lexeme line) not y (lexeme-of_made line (Literal y) more tt made).0;
-}
+pub begins-no_value : (line : List ℕ) → (IsOfText line → (v : Value) → IsSymbol (lexeme line) (Literal v) → ⊥)
+    → BeginsWithNone value_symbols line
+begins-no_value line not = record { none = λ of y other reads free. not of y reads.0 }
 
 -- ---- columns
 
-pub begins-column : (line name behind rest : List ℕ) → BeginsWith name_symbols line name behind
-    → lexeme behind ≡ codes "int" → rest ≡ after_lexeme behind
-    → BeginsWith column_symbols line (record { name = name; kind = kind.Int }) rest
-begins-column line name behind rest named int f = record {
-  whole = λ more made.
-      named.whole (Kind kind.Int ∷ more) (made-from_lexeme behind (Kind kind.Int) more tt int (rw f at made));
-  only = λ y more made.
-      let first : (y.name ≡ name) × IsMadeOf behind (Kind y.kind ∷ more) = named.only y.name (Kind y.kind ∷ more) made in
-      let second : IsSymbol (lexeme behind) (Kind y.kind) × IsMadeOf (after_lexeme behind) more = lexeme-of_made behind (Kind y.kind) more tt first.1 in
-      let same : y.kind ≡ kind.Int = (kind-only (lexeme behind) y.kind second.0).1 in
-      (λ i. record { name = first.0 i; kind = same i }, rw f second.1);
+pub begins-column : (line : List ℕ) (name : List ℕ) (kind : ColKind) (rest : List ℕ) → IsName (lexeme line) → name ≡ lexeme line
+    → IsSymbol (lexeme (after_lexeme line)) (Kind kind) → rest ≡ after_lexeme (after_lexeme line)
+    → BeginsWith column_symbols line (record { name = name; kind = kind }) rest
+begins-column line name kind rest is e k f = record {
+  found = ((sym e, subst IsName (sym e) is), (k, sym f));
+  only = λ y other reads free.
+      let same : y.name ≡ name = sym reads.0.0 ∙ sym e in
+      let kinds : y.kind ≡ kind = kind-one (lexeme (after_lexeme line)) y.kind kind reads.1.0 k in
+      ((λ i. record { name = same i; kind = kinds i }), sym reads.1.1 ∙ sym f);
 }
 
-pub begins-no_name_of_column : (line : List ℕ) → BeginsWithNone name_symbols line → BeginsWithNone column_symbols line
-begins-no_name_of_column line not = record {
-  none = λ y more made. not.none y.name (Kind y.kind ∷ more) made;
+pub begins-no_column : (line : List ℕ) → (IsName (lexeme line) → ⊥) → BeginsWithNone column_symbols line
+begins-no_column line not = record { none = λ of y other reads free. no-name line y.name not reads.0 }
+
+pub begins-no_kind : (line : List ℕ) → ((k : ColKind) → IsSymbol (lexeme (after_lexeme line)) (Kind k) → ⊥) → BeginsWithNone column_symbols line
+begins-no_kind line not = record { none = λ of y other reads free. not y.kind reads.1.0 }
+
+-- ---- names of columns
+
+bare-only : (line name rest : List ℕ) → name ≡ lexeme line → rest ≡ after_lexeme line → lexeme rest ≢ codes "."
+    → (table : Option (List ℕ)) (column other : List ℕ) → Reads line (whole_name table column) other → lexeme other ≢ codes "."
+    → (table ≡ None) × (column ≡ name) × (other ≡ rest)
+bare-only line name rest e f free None column other reads not = (refl, sym reads.0.0 ∙ sym e, sym reads.1 ∙ sym f)
+bare-only line name rest e f free (Some t) column other reads not = absurd (free (ap lexeme f ∙ reads.1.0))
+
+pub begins-bare : (line name rest : List ℕ) → IsName (lexeme line) → name ≡ lexeme line → rest ≡ after_lexeme line
+    → lexeme rest ≢ codes "." → BeginsWith name_symbols line (record { table = None; column = name }) rest
+begins-bare line name rest is e f free = record {
+  found = ((sym e, subst IsName (sym e) is), sym f);
+  only = λ y other reads not.
+      let parts : (y.table ≡ None) × (y.column ≡ name) × (other ≡ rest) = bare-only line name rest e f free y.table y.column other reads not in
+      ((λ i. record { table = parts.0 i; column = parts.1 i }), parts.2);
 }
 
-pub begins-no_kind : (line name behind : List ℕ) → BeginsWith name_symbols line name behind → lexeme behind ≢ codes "int"
-    → BeginsWithNone column_symbols line
-begins-no_kind line name behind named not = record {
-  none = λ y more made.
-      let first : (y.name ≡ name) × IsMadeOf behind (Kind y.kind ∷ more) = named.only y.name (Kind y.kind ∷ more) made in
-      not (kind-only (lexeme behind) y.kind (lexeme-of_made behind (Kind y.kind) more tt first.1).0).0;
+dotted-only : (line table column rest : List ℕ) → table ≡ lexeme line → lexeme (after_lexeme line) ≡ codes "."
+    → column ≡ lexeme (after_lexeme (after_lexeme line)) → rest ≡ after_lexeme (after_lexeme (after_lexeme line))
+    → (t : Option (List ℕ)) (c other : List ℕ) → Reads line (whole_name t c) other → lexeme other ≢ codes "."
+    → (t ≡ Some table) × (c ≡ column) × (other ≡ rest)
+dotted-only line table column rest e dot f g None c other reads not = absurd (not (ap lexeme (sym reads.1) ∙ dot))
+dotted-only line table column rest e dot f g (Some t) c other reads not =
+    (ap Some (sym reads.0.0 ∙ sym e), sym reads.1.1.0.0 ∙ sym f, sym reads.1.1.1 ∙ sym g)
+
+pub begins-dotted : (line table column rest : List ℕ) → IsName (lexeme line) → table ≡ lexeme line → lexeme (after_lexeme line) ≡ codes "."
+    → IsName (lexeme (after_lexeme (after_lexeme line))) → column ≡ lexeme (after_lexeme (after_lexeme line))
+    → rest ≡ after_lexeme (after_lexeme (after_lexeme line))
+    → BeginsWith name_symbols line (record { table = Some table; column = column }) rest
+begins-dotted line table column rest is e dot is' f g = record {
+  found = ((sym e, subst IsName (sym e) is), (dot, ((sym f, subst IsName (sym f) is'), sym g)));
+  only = λ y other reads not.
+      let parts : (y.table ≡ Some table) × (y.column ≡ column) × (other ≡ rest) =
+      dotted-only line table column rest e dot f g y.table y.column other reads not in
+      ((λ i. record { table = parts.0 i; column = parts.1 i }), parts.2);
 }
+
+pub no-first : (line : List ℕ) → (IsName (lexeme line) → ⊥) → (t : Option (List ℕ)) (c other : List ℕ) → Reads line (whole_name t c) other → ⊥
+no-first line not None c other reads = no-name line c not reads.0
+no-first line not (Some t) c other reads = no-name line t not reads.0
+
+pub begins-no_name : (line : List ℕ) → (IsName (lexeme line) → ⊥) → BeginsWithNone name_symbols line
+begins-no_name line not = record { none = λ of y other reads free. no-first line not y.table y.column other reads }
+
+no-second : (line : List ℕ) → lexeme (after_lexeme line) ≡ codes "." → (IsName (lexeme (after_lexeme (after_lexeme line))) → ⊥)
+    → (t : Option (List ℕ)) (c other : List ℕ) → Reads line (whole_name t c) other → lexeme other ≢ codes "." → ⊥
+no-second line dot not None c other reads free = free (ap lexeme (sym reads.1) ∙ dot)
+no-second line dot not (Some t) c other reads free = no-name (after_lexeme (after_lexeme line)) c not reads.1.1.0
+
+pub begins-no_column_of_table : (line : List ℕ) → lexeme (after_lexeme line) ≡ codes "." → (IsName (lexeme (after_lexeme (after_lexeme line))) → ⊥)
+    → BeginsWithNone name_symbols line
+begins-no_column_of_table line dot not = record {
+  none = λ of y other reads free. no-second line dot not y.table y.column other reads free;
+}
+
+-- ---- settings
+
+pub begins-setting : (line name : List ℕ) (v : Value) (rest : List ℕ) → IsName (lexeme line) → name ≡ lexeme line
+    → lexeme (after_lexeme line) ≡ codes "=" → BeginsWith value_symbols (after_lexeme (after_lexeme line)) v rest
+    → BeginsWith setting_symbols line (record { column = name; value = v }) rest
+begins-setting line name v rest is e eq value = record {
+  found = ((sym e, subst IsName (sym e) is), (eq, value.found));
+  only = λ y other reads free.
+      let same : y.column ≡ name = sym reads.0.0 ∙ sym e in
+      let values : (y.value ≡ v) × (other ≡ rest) = value.only y.value other reads.1.1 free in
+      ((λ i. record { column = same i; value = values.0 i }), values.1);
+}
+
+pub begins-no_setting : (line : List ℕ) → (IsName (lexeme line) → ⊥) → BeginsWithNone setting_symbols line
+begins-no_setting line not = record { none = λ of y other reads free. no-name line y.column not reads.0 }
+
+pub begins-no_equals : (line : List ℕ) → lexeme (after_lexeme line) ≢ codes "=" → BeginsWithNone setting_symbols line
+begins-no_equals line not = record { none = λ of y other reads free. not reads.1.0 }
+
+pub begins-no_set_value : (line : List ℕ) → BeginsWithNone value_symbols (after_lexeme (after_lexeme line)) → BeginsWithNone setting_symbols line
+begins-no_set_value line not = record {
+  none = λ of y other reads free.
+      not.none (of_text-after (after_lexeme line) (of_text-after line of)) y.value other reads.1.1 free;
+}
+
+-- ---- conditions
+
+abbrev compared : Op → Value → List Symbol
+compared o v = Sign (Operator o) ∷ Literal v ∷ []
+
+pub begins-condition : (line mid rest : List ℕ) (column : ColName) (o : Op) (v : Value) → BeginsWith name_symbols line column mid
+    → lexeme mid ≡ operator_text o → BeginsWith value_symbols (after_lexeme mid) v rest
+    → BeginsWith condition_symbols line (record { column = column; op = o; value = v }) rest
+begins-condition line mid rest column o v named e value = record {
+  found = reads-append line (name_symbols column) (compared o v) mid rest named.found (e, value.found);
+  only = λ y other reads free.
+      let parts : (m : List ℕ) × Reads line (name_symbols y.column) m × Reads m (compared y.op y.value) other =
+      reads-split line (name_symbols y.column) (compared y.op y.value) other reads in
+      let names : (y.column ≡ column) × (parts.0 ≡ mid) = named.only y.column parts.0 parts.1 (operator-no_dot y.op (lexeme parts.0) parts.2.0) in
+      let ops : y.op ≡ o = operator-one y.op o (sym parts.2.0 ∙ (ap lexeme names.1 ∙ e)) in
+      let tail : Reads (after_lexeme mid) (value_symbols y.value) other =
+      subst (λ l. Reads (after_lexeme l) (value_symbols y.value) other) names.1 parts.2.1 in
+      let values : (y.value ≡ v) × (other ≡ rest) = value.only y.value other tail free in
+      ((λ i. record { column = names.0 i; op = ops i; value = values.0 i }), values.1);
+}
+
+pub begins-no_condition : (line : List ℕ) → BeginsWithNone name_symbols line → BeginsWithNone condition_symbols line
+begins-no_condition line not = record {
+  none = λ of y other reads free.
+      let parts : (m : List ℕ) × Reads line (name_symbols y.column) m × Reads m (compared y.op y.value) other =
+      reads-split line (name_symbols y.column) (compared y.op y.value) other reads in
+      not.none of y.column parts.0 parts.1 (operator-no_dot y.op (lexeme parts.0) parts.2.0);
+}
+
+-- what stands behind the column of a condition
+behind-column : (line mid : List ℕ) (column : ColName) → BeginsWith name_symbols line column mid
+    → (y : ColName) (o : Op) (v : Value) (other : List ℕ) → Reads line (name_symbols y ++ compared o v) other → Reads mid (compared o v) other
+behind-column line mid column named y o v other reads =
+    let parts : (m : List ℕ) × Reads line (name_symbols y) m × Reads m (compared o v) other =
+    reads-split line (name_symbols y) (compared o v) other reads in
+    let names : (y ≡ column) × (parts.0 ≡ mid) = named.only y parts.0 parts.1 (operator-no_dot o (lexeme parts.0) parts.2.0) in
+    subst (λ l. Reads l (compared o v) other) names.1 parts.2
+
+pub begins-no_operator : (line mid : List ℕ) (column : ColName) → BeginsWith name_symbols line column mid
+    → ((o : Op) → lexeme mid ≢ operator_text o) → BeginsWithNone condition_symbols line
+begins-no_operator line mid column named not = record {
+  none = λ of y other reads free. not y.op (behind-column line mid column named y.column y.op y.value other reads).0;
+}
+
+pub begins-no_compared : (line mid : List ℕ) (column : ColName) → BeginsWith name_symbols line column mid
+    → BeginsWithNone value_symbols (after_lexeme mid) → BeginsWithNone condition_symbols line
+begins-no_compared line mid column named not = record {
+  none = λ of y other reads free.
+      not.none (of_text-after mid (reads-of_text line (name_symbols column) mid of named.found)) y.value other
+      (behind-column line mid column named y.column y.op y.value other reads).1 free;
+}
+
+-- Where the characters of the first symbol spell no value, if they are UTF-8, it is none.
+value-utf8 : (line : List ℕ) (v : Value) → IsOfText line → IsSymbol (lexeme line) (Literal v) → IsUtf8 (lexeme line)
+value-utf8 line (value.Int z) of is = IsUtf8-from_ascii (lexeme line) (run-is_ascii (lexeme line) (integer-run (lexeme line) z is))
+value-utf8 line (value.Text text) of is = literal-utf8 line text of is
+
+pub no-literal : (line characters : List ℕ) → characters ≡ lexeme line
+    → (IsUtf8 characters → (v : Value) → IsSymbol characters (Literal v) → ⊥) → IsOfText line → (v : Value) → IsSymbol (lexeme line) (Literal v) → ⊥
+no-literal line characters e not of v is =
+    not (subst IsUtf8 (sym e) (value-utf8 line v of is)) v (subst (λ w. IsSymbol w (Literal v)) (sym e) is)

@@ -1,146 +1,162 @@
 -- Lists: how far a list has been read from the front of a line.
-use Rattle.std.proofs.Common.{◌≡◌, ◌≢◌, ℕ, ◌<◌, List, [], ◌∷◌, ◌++◌, length, refl, sym, ◌∙◌, ap, arith, append_assoc, length-append, subst}
+use Rattle.std.proofs.Common.{◌≡◌, ◌≢◌, ℕ, ◌<◌, List, [], ◌∷◌, ◌++◌, length, map, refl, sym, ◌∙◌, ap, arith, append_assoc, subst}
 use lib.Chars.{codes}
-use Rattle.plain_tables.specs.Spelling.{Symbol, Sign, Close, Comma, IsMadeOf}
+use Rattle.plain_tables.specs.Spelling.{Symbol, separated_by, IsSymbol}
 use Rattle.plain_tables.specs.Reading.{lexeme, after_lexeme}
-use Rattle.plain_tables.proofs.Lexemes.{lexeme-of_made, made-from_lexeme}
-use Rattle.plain_tables.proofs.Uniqueness.{sign-lexeme, comma-no_close, separated-more}
-use Rattle.mm_lang.specs.Parsing.{BeginsWith, BeginsWithNone, BeginsWithList, BeginsWithNoList, listed}
+use Rattle.mm_lang.specs.Parsing.{Reads, ReadsList, IsOfText, BeginsWith, BeginsWithNone, BeginsWithList, BeginsWithNoList}
+use Rattle.mm_lang.proofs.Fronts.{reads-append, reads-split, reads-of_text}
+use Rattle.mm_lang.proofs.Utf8.{of_text-after}
+
+-- ---- a list as it is read, and as it is spelled
+
+pub list-some : {X : Type 0} (symbols : X → List Symbol) (between line : List ℕ) (xs : List X) (rest : List ℕ)
+    → ReadsList symbols between line xs rest → 0 < length xs
+list-some symbols between line [] rest reads = elim reads [ ]
+list-some symbols between line (x ∷ xs) rest reads = omega arith
+
+pub list-first : {X : Type 0} (symbols : X → List Symbol) (between line : List ℕ) (xs : List X) (rest : List ℕ)
+    → ReadsList symbols between line xs rest → (x : X) × (behind : List ℕ) × Reads line (symbols x) behind
+list-first symbols between line [] rest reads = elim reads [ ]
+list-first symbols between line (x ∷ []) rest reads = (x, rest, reads)
+list-first symbols between line (x ∷ y ∷ xs) rest (behind, first, e, others) = (x, behind, first)
+
+pub list-of_text : {X : Type 0} (symbols : X → List Symbol) (between line : List ℕ) (xs : List X) (rest : List ℕ) → IsOfText line
+    → ReadsList symbols between line xs rest → IsOfText rest
+list-of_text symbols between line [] rest of reads = elim reads [ ]
+list-of_text symbols between line (x ∷ []) rest of reads = reads-of_text line (symbols x) rest of reads
+list-of_text symbols between line (x ∷ y ∷ xs) rest of (behind, first, e, others) =
+    list-of_text symbols between (after_lexeme behind) (y ∷ xs) rest (of_text-after behind (reads-of_text line (symbols x) behind of first)) others
+
+pub list-spelled : {X : Type 0} (symbols : X → List Symbol) (between : Symbol) (word : List ℕ)
+    → ((characters : List ℕ) → characters ≡ word → IsSymbol characters between) → (line : List ℕ) (xs : List X) (rest : List ℕ)
+    → ReadsList symbols word line xs rest → Reads line (separated_by between (map symbols xs)) rest
+list-spelled symbols between word is line [] rest reads = elim reads [ ]
+list-spelled symbols between word is line (x ∷ []) rest reads = reads
+list-spelled symbols between word is line (x ∷ y ∷ xs) rest (behind, first, e, others) =
+    reads-append line (symbols x) (between ∷ separated_by between (map symbols (y ∷ xs))) behind rest first
+    (is (lexeme behind) e, list-spelled symbols between word is (after_lexeme behind) (y ∷ xs) rest others)
+
+pub spelled-list : {X : Type 0} (symbols : X → List Symbol) (between : Symbol) (word : List ℕ)
+    → ((characters : List ℕ) → IsSymbol characters between → characters ≡ word) → (line : List ℕ) (xs : List X) (rest : List ℕ)
+    → 0 < length xs → Reads line (separated_by between (map symbols xs)) rest → ReadsList symbols word line xs rest
+spelled-list symbols between word is line [] rest some reads = omega arith
+spelled-list symbols between word is line (x ∷ []) rest some reads = reads
+spelled-list symbols between word is line (x ∷ y ∷ xs) rest some reads =
+    let others : List Symbol = separated_by between (map symbols (y ∷ xs)) in
+    let parts : (mid : List ℕ) × Reads line (symbols x) mid × Reads mid (between ∷ others) rest =
+    reads-split line (symbols x) (between ∷ others) rest reads in
+    (parts.0, parts.1, is (lexeme parts.0) parts.2.0, spelled-list symbols between word is (after_lexeme parts.0) (y ∷ xs) rest (omega arith) parts.2.1)
+
+-- ---- the reading of a list
 
 -- A list stands at the front of the line where these items are the first of it, and its other items, one or more,
 -- stand at the front of the rest.
-pub record HasRead {X : Type 0} (symbols : X → List Symbol) (line : List ℕ) (items : List X) (rest : List ℕ) : Type 0 where
-  pub whole : (zs : List X) (more : List Symbol) → 0 < length zs → IsMadeOf rest (listed symbols zs more) → IsMadeOf line (listed symbols (items ++ zs) more)
-  pub only : (ys : List X) (more : List Symbol) → 0 < length ys → IsMadeOf line (listed symbols ys more)
-      → (zs : List X) × (0 < length zs) × (ys ≡ items ++ zs) × IsMadeOf rest (listed symbols zs more)
+pub record HasRead {X : Type 0} (symbols : X → List Symbol) (between line : List ℕ) (items : List X) (rest : List ℕ) : Type 0 where
+  pub of_text : IsOfText line → IsOfText rest
+  pub found : (zs : List X) (other : List ℕ) → ReadsList symbols between rest zs other → ReadsList symbols between line (items ++ zs) other
+  pub only : (ys : List X) (other : List ℕ) → ReadsList symbols between line ys other → lexeme other ≢ codes "." → lexeme other ≢ between
+      → (zs : List X) × (ys ≡ items ++ zs) × ReadsList symbols between rest zs other
 
-pub has_read-none : {X : Type 0} (symbols : X → List Symbol) (line : List ℕ) → HasRead symbols line [] line
-has_read-none symbols line = record {
-  whole = λ zs more some made. made;
-  only = λ ys more some made. (ys, some, refl, made);
+pub has_read-none : {X : Type 0} (symbols : X → List Symbol) (between line : List ℕ) → HasRead symbols between line [] line
+has_read-none symbols between line = record {
+  of_text = λ of. of;
+  found = λ zs other reads. reads;
+  only = λ ys other reads free end. (ys, refl, reads);
 }
 
--- ---- a list by its first item
+-- what a list is by its first item: nothing else, or a separator and the others behind it
+data Tail {X : Type 0} (symbols : X → List Symbol) (between behind : List ℕ) (x : X) (zs : List X) (other : List ℕ) : Type 0 where
+  Ends : zs ≡ x ∷ [] → other ≡ behind → Tail symbols between behind x zs other
+  GoesOn : (ws : List X) → zs ≡ x ∷ ws → lexeme behind ≡ between → ReadsList symbols between (after_lexeme behind) ws other
+      → Tail symbols between behind x zs other
 
-listed-more : {X : Type 0} (symbols : X → List Symbol) (x : X) (zs : List X) (more : List Symbol) → 0 < length zs
-    → listed symbols (x ∷ zs) more ≡ symbols x ++ (Sign Comma ∷ listed symbols zs more)
-listed-more symbols x [] more some = absurd (omega arith)
-listed-more symbols x (z ∷ zs) more some = separated-more symbols x z zs (Sign Close ∷ more)
-
--- what stands behind the first item of a list: the list's end, or a comma and the others
-data Tail {X : Type 0} (symbols : X → List Symbol) (behind : List ℕ) (zs : List X) (more : List Symbol) : Type 0 where
-  Ends : zs ≡ [] → IsMadeOf behind (Sign Close ∷ more) → Tail symbols behind zs more
-  GoesOn : 0 < length zs → IsMadeOf behind (Sign Comma ∷ listed symbols zs more) → Tail symbols behind zs more
-
-first-item : {X : Type 0} (symbols : X → List Symbol) (rest : List ℕ) (x : X) (behind : List ℕ) → BeginsWith symbols rest x behind
-    → (zs : List X) (more : List Symbol) → 0 < length zs → IsMadeOf rest (listed symbols zs more)
-    → (ws : List X) × (zs ≡ x ∷ ws) × Tail symbols behind ws more
-first-item symbols rest x behind begins [] more some made = absurd (omega arith)
-first-item symbols rest x behind begins (z ∷ []) more some made =
-    let parts : (z ≡ x) × IsMadeOf behind (Sign Close ∷ more) = begins.only z (Sign Close ∷ more) made in
-    ([], ap (λ y. y ∷ []) parts.0, Ends refl parts.1)
-first-item symbols rest x behind begins (z ∷ w ∷ ws) more some made =
-    let others : List Symbol = Sign Comma ∷ listed symbols (w ∷ ws) more in
-    let e : listed symbols (z ∷ w ∷ ws) more ≡ symbols z ++ others = listed-more symbols z (w ∷ ws) more (omega arith) in
-    let parts : (z ≡ x) × IsMadeOf behind others = begins.only z others (subst (λ ss. IsMadeOf rest ss) e made) in
-    (w ∷ ws, ap (λ y. y ∷ w ∷ ws) parts.0, GoesOn (omega arith) parts.1)
-
--- the items that a list still has behind those that are read
-abbrev Others : {X : Type 0} → (X → List Symbol) → List X → List ℕ → List X → List Symbol → Type 0
-Others {X} symbols items rest ys more = (zs : List X) × (0 < length zs) × (ys ≡ items ++ zs) × IsMadeOf rest (listed symbols zs more)
+first-item : {X : Type 0} (symbols : X → List Symbol) (between rest : List ℕ) (x : X) (behind : List ℕ) → between ≢ codes "."
+    → BeginsWith symbols rest x behind → (zs : List X) (other : List ℕ) → ReadsList symbols between rest zs other
+    → lexeme other ≢ codes "." → Tail symbols between behind x zs other
+first-item symbols between rest x behind dot begins [] other reads free = elim reads [ ]
+first-item symbols between rest x behind dot begins (z ∷ []) other reads free =
+    let parts : (z ≡ x) × (other ≡ behind) = begins.only z other reads free in
+    Ends (ap (λ y. y ∷ []) parts.0) parts.1
+first-item symbols between rest x behind dot begins (z ∷ w ∷ ws) other (mid, first, e, others) free =
+    let parts : (z ≡ x) × (mid ≡ behind) = begins.only z mid first (λ is. dot (sym e ∙ is)) in
+    GoesOn (w ∷ ws) (ap (λ y. y ∷ w ∷ ws) parts.0) (ap lexeme (sym parts.1) ∙ e)
+    (subst (λ l. ReadsList symbols between (after_lexeme l) (w ∷ ws) other) parts.1 others)
 
 one_later : {X : Type 0} (items : List X) (x : X) (ys zs ws : List X) → ys ≡ items ++ zs → zs ≡ x ∷ ws → ys ≡ (items ++ x ∷ []) ++ ws
 one_later items x ys zs ws e f = e ∙ (ap (λ l. items ++ l) f ∙ sym (append_assoc items (x ∷ []) ws))
 
--- ---- a comma behind an item
+put-first : {X : Type 0} (symbols : X → List Symbol) (between rest : List ℕ) (x : X) (behind : List ℕ) → Reads rest (symbols x) behind
+    → lexeme behind ≡ between → (zs : List X) (other : List ℕ) → ReadsList symbols between (after_lexeme behind) zs other
+    → ReadsList symbols between rest (x ∷ zs) other
+put-first symbols between rest x behind first e [] other reads = elim reads [ ]
+put-first symbols between rest x behind first e (z ∷ zs) other reads = (behind, first, e, reads)
 
-comma-tail : {X : Type 0} (symbols : X → List Symbol) (items : List X) (x : X) (behind : List ℕ) → lexeme behind ≡ codes ","
-    → (ys zs ws : List X) (more : List Symbol) → ys ≡ items ++ zs → zs ≡ x ∷ ws → Tail symbols behind ws more
-    → Others symbols (items ++ x ∷ []) (after_lexeme behind) ys more
-comma-tail symbols items x behind comma ys zs ws more e f (Ends none made) =
-    absurd (comma-no_close (lexeme behind) comma (sign-lexeme behind Close more made))
-comma-tail symbols items x behind comma ys zs ws more e f (GoesOn some made) =
-    (ws, some, one_later items x ys zs ws e f, (lexeme-of_made behind (Sign Comma) (listed symbols ws more) tt made).1)
+-- ---- a separator behind an item
 
-comma-only : {X : Type 0} (symbols : X → List Symbol) (items : List X) (rest : List ℕ) (x : X) (behind : List ℕ)
-    → BeginsWith symbols rest x behind → lexeme behind ≡ codes "," → (ys : List X) (more : List Symbol)
-    → Others symbols items rest ys more → Others symbols (items ++ x ∷ []) (after_lexeme behind) ys more
-comma-only symbols items rest x behind begins comma ys more (zs, some, e, made) =
-    let first : (ws : List _) × (zs ≡ x ∷ ws) × Tail symbols behind ws more = first-item symbols rest x behind begins zs more some made in
-    comma-tail symbols items x behind comma ys zs first.0 more e first.1 first.2
+-- the items that a list still has behind those that are read
+abbrev Others : {X : Type 0} → (X → List Symbol) → List ℕ → List X → List ℕ → List X → List ℕ → Type 0
+Others {X} symbols between items rest ys other = (zs : List X) × (ys ≡ items ++ zs) × ReadsList symbols between rest zs other
 
-pub has_read-comma : {X : Type 0} (symbols : X → List Symbol) (line : List ℕ) (items : List X) (rest : List ℕ) (x : X) (behind : List ℕ)
-    → HasRead symbols line items rest → BeginsWith symbols rest x behind → lexeme behind ≡ codes ","
-    → HasRead symbols line (items ++ x ∷ []) (after_lexeme behind)
-has_read-comma symbols line items rest x behind read begins comma = record {
-  whole = λ zs more some made.
-      let others : IsMadeOf behind (Sign Comma ∷ listed symbols zs more) = made-from_lexeme behind (Sign Comma) (listed symbols zs more) tt comma made in
-      let whole : IsMadeOf rest (listed symbols (x ∷ zs) more) =
-      subst (λ ss. IsMadeOf rest ss) (sym (listed-more symbols x zs more some)) (begins.whole (Sign Comma ∷ listed symbols zs more) others) in
-      subst (λ l. IsMadeOf line (listed symbols l more)) (sym (append_assoc items (x ∷ []) zs)) (read.whole (x ∷ zs) more (omega arith) whole);
-  only = λ ys more some made. comma-only symbols items rest x behind begins comma ys more (read.only ys more some made);
+further-tail : {X : Type 0} (symbols : X → List Symbol) (between : List ℕ) (items : List X) (x : X) (behind : List ℕ) → lexeme behind ≡ between
+    → (ys zs : List X) (other : List ℕ) → ys ≡ items ++ zs → lexeme other ≢ between → Tail symbols between behind x zs other
+    → Others symbols between (items ++ x ∷ []) (after_lexeme behind) ys other
+further-tail symbols between items x behind sep ys zs other e end (Ends f same) = absurd (end (ap lexeme same ∙ sep))
+further-tail symbols between items x behind sep ys zs other e end (GoesOn ws f g others) = (ws, one_later items x ys zs ws e f, others)
+
+further-only : {X : Type 0} (symbols : X → List Symbol) (between : List ℕ) (items : List X) (rest : List ℕ) (x : X) (behind : List ℕ)
+    → between ≢ codes "." → BeginsWith symbols rest x behind → lexeme behind ≡ between → (ys : List X) (other : List ℕ)
+    → lexeme other ≢ codes "." → lexeme other ≢ between → Others symbols between items rest ys other
+    → Others symbols between (items ++ x ∷ []) (after_lexeme behind) ys other
+further-only symbols between items rest x behind dot begins sep ys other free end (zs, e, reads) =
+    further-tail symbols between items x behind sep ys zs other e end (first-item symbols between rest x behind dot begins zs other reads free)
+
+pub has_read-further : {X : Type 0} (symbols : X → List Symbol) (between line : List ℕ) (items : List X) (rest : List ℕ) (x : X) (behind : List ℕ)
+    → between ≢ codes "." → HasRead symbols between line items rest → BeginsWith symbols rest x behind → lexeme behind ≡ between
+    → HasRead symbols between line (items ++ x ∷ []) (after_lexeme behind)
+has_read-further symbols between line items rest x behind dot read begins sep = record {
+  of_text = λ of. of_text-after behind (reads-of_text rest (symbols x) behind (read.of_text of) begins.found);
+  found = λ zs other reads.
+      subst (λ l. ReadsList symbols between line l other) (sym (append_assoc items (x ∷ []) zs))
+      (read.found (x ∷ zs) other (put-first symbols between rest x behind begins.found sep zs other reads));
+  only = λ ys other reads free end.
+      further-only symbols between items rest x behind dot begins sep ys other free end (read.only ys other reads free end);
 }
 
--- ---- a closing parenthesis behind an item
+-- ---- the last item
 
-close-tail : {X : Type 0} (symbols : X → List Symbol) (items : List X) (x : X) (behind : List ℕ) → lexeme behind ≡ codes ")"
-    → (ys zs ws : List X) (more : List Symbol) → ys ≡ items ++ zs → zs ≡ x ∷ ws → Tail symbols behind ws more
-    → (ys ≡ items ++ x ∷ []) × IsMadeOf (after_lexeme behind) more
-close-tail symbols items x behind close ys zs ws more e f (Ends none made) =
-    (e ∙ ap (λ l. items ++ l) (f ∙ ap (λ l. x ∷ l) none), (lexeme-of_made behind (Sign Close) more tt made).1)
-close-tail symbols items x behind close ys zs ws more e f (GoesOn some made) =
-    absurd (comma-no_close (lexeme behind) (sign-lexeme behind Comma (listed symbols ws more) made) close)
+last-tail : {X : Type 0} (symbols : X → List Symbol) (between : List ℕ) (items : List X) (x : X) (behind : List ℕ) → lexeme behind ≢ between
+    → (ys zs : List X) (other : List ℕ) → ys ≡ items ++ zs → Tail symbols between behind x zs other
+    → (ys ≡ items ++ x ∷ []) × (other ≡ behind)
+last-tail symbols between items x behind end ys zs other e (Ends f same) = (e ∙ ap (λ l. items ++ l) f, same)
+last-tail symbols between items x behind end ys zs other e (GoesOn ws f g others) = absurd (end g)
 
-close-only : {X : Type 0} (symbols : X → List Symbol) (items : List X) (rest : List ℕ) (x : X) (behind : List ℕ)
-    → BeginsWith symbols rest x behind → lexeme behind ≡ codes ")" → (ys : List X) (more : List Symbol)
-    → Others symbols items rest ys more → (ys ≡ items ++ x ∷ []) × IsMadeOf (after_lexeme behind) more
-close-only symbols items rest x behind begins close ys more (zs, some, e, made) =
-    let first : (ws : List _) × (zs ≡ x ∷ ws) × Tail symbols behind ws more = first-item symbols rest x behind begins zs more some made in
-    close-tail symbols items x behind close ys zs first.0 more e first.1 first.2
+last-only : {X : Type 0} (symbols : X → List Symbol) (between : List ℕ) (items : List X) (rest : List ℕ) (x : X) (behind : List ℕ)
+    → between ≢ codes "." → BeginsWith symbols rest x behind → lexeme behind ≢ between → (ys : List X) (other : List ℕ)
+    → lexeme other ≢ codes "." → Others symbols between items rest ys other → (ys ≡ items ++ x ∷ []) × (other ≡ behind)
+last-only symbols between items rest x behind dot begins end ys other free (zs, e, reads) =
+    last-tail symbols between items x behind end ys zs other e (first-item symbols between rest x behind dot begins zs other reads free)
 
-pub has_read-close : {X : Type 0} (symbols : X → List Symbol) (line : List ℕ) (items : List X) (rest : List ℕ) (x : X) (behind : List ℕ)
-    → HasRead symbols line items rest → BeginsWith symbols rest x behind → lexeme behind ≡ codes ")"
-    → BeginsWithList symbols line (items ++ x ∷ []) (after_lexeme behind)
-has_read-close symbols line items rest x behind read begins close = record {
-  some = omega (arith, length-append items (x ∷ []));
-  whole = λ more made.
-      let last : IsMadeOf rest (listed symbols (x ∷ []) more) = begins.whole (Sign Close ∷ more) (made-from_lexeme behind (Sign Close) more tt close made) in
-      read.whole (x ∷ []) more (omega arith) last;
-  only = λ ys more some made. close-only symbols items rest x behind begins close ys more (read.only ys more some made);
+pub has_read-last : {X : Type 0} (symbols : X → List Symbol) (between line : List ℕ) (items : List X) (rest : List ℕ) (x : X) (behind : List ℕ)
+    → between ≢ codes "." → HasRead symbols between line items rest → BeginsWith symbols rest x behind → lexeme behind ≢ between
+    → BeginsWithList symbols between line (items ++ x ∷ []) behind
+has_read-last symbols between line items rest x behind dot read begins end = record {
+  found = read.found (x ∷ []) behind begins.found;
+  only = λ ys other reads free last.
+      last-only symbols between items rest x behind dot begins end ys other free (read.only ys other reads free last);
 }
 
--- ---- what ends it
+-- ---- no item
 
-neither-tail : {X : Type 0} (symbols : X → List Symbol) (behind : List ℕ) (ws : List X) (more : List Symbol) → lexeme behind ≢ codes ","
-    → lexeme behind ≢ codes ")" → Tail symbols behind ws more → ⊥
-neither-tail symbols behind ws more not_comma not_close (Ends none made) = not_close (sign-lexeme behind Close more made)
-neither-tail symbols behind ws more not_comma not_close (GoesOn some made) = not_comma (sign-lexeme behind Comma (listed symbols ws more) made)
+no-first : {X : Type 0} (symbols : X → List Symbol) (between rest : List ℕ) → between ≢ codes "." → IsOfText rest → BeginsWithNone symbols rest
+    → (zs : List X) (other : List ℕ) → lexeme other ≢ codes "." → ReadsList symbols between rest zs other → ⊥
+no-first symbols between rest dot of not [] other free reads = reads
+no-first symbols between rest dot of not (z ∷ []) other free reads = not.none of z other reads free
+no-first symbols between rest dot of not (z ∷ w ∷ ws) other free (mid, first, e, others) = not.none of z mid first (λ is. dot (sym e ∙ is))
 
-neither-only : {X : Type 0} (symbols : X → List Symbol) (items : List X) (rest : List ℕ) (x : X) (behind : List ℕ)
-    → BeginsWith symbols rest x behind → lexeme behind ≢ codes "," → lexeme behind ≢ codes ")" → (ys : List X) (more : List Symbol)
-    → Others symbols items rest ys more → ⊥
-neither-only symbols items rest x behind begins not_comma not_close ys more (zs, some, e, made) =
-    let first : (ws : List _) × (zs ≡ x ∷ ws) × Tail symbols behind ws more = first-item symbols rest x behind begins zs more some made in
-    neither-tail symbols behind first.0 more not_comma not_close first.2
-
-pub has_read-neither : {X : Type 0} (symbols : X → List Symbol) (line : List ℕ) (items : List X) (rest : List ℕ) (x : X) (behind : List ℕ)
-    → HasRead symbols line items rest → BeginsWith symbols rest x behind → lexeme behind ≢ codes "," → lexeme behind ≢ codes ")"
-    → BeginsWithNoList symbols line
-has_read-neither symbols line items rest x behind read begins not_comma not_close = record {
-  none = λ ys more some made. neither-only symbols items rest x behind begins not_comma not_close ys more (read.only ys more some made);
-}
-
-no-first : {X : Type 0} (symbols : X → List Symbol) (rest : List ℕ) → BeginsWithNone symbols rest → (zs : List X) (more : List Symbol)
-    → 0 < length zs → IsMadeOf rest (listed symbols zs more) → ⊥
-no-first symbols rest not [] more some made = omega arith
-no-first symbols rest not (z ∷ []) more some made = not.none z (Sign Close ∷ more) made
-no-first symbols rest not (z ∷ w ∷ ws) more some made =
-    not.none z (Sign Comma ∷ listed symbols (w ∷ ws) more)
-    (subst (λ ss. IsMadeOf rest ss) (listed-more symbols z (w ∷ ws) more (omega arith)) made)
-
-pub has_read-no_item : {X : Type 0} (symbols : X → List Symbol) (line : List ℕ) (items : List X) (rest : List ℕ)
-    → HasRead symbols line items rest → BeginsWithNone symbols rest → BeginsWithNoList symbols line
-has_read-no_item symbols line items rest read not = record {
-  none = λ ys more some made. let others : Others symbols items rest ys more = read.only ys more some made in
-      no-first symbols rest not others.0 more others.1 others.3;
+pub has_read-no_item : {X : Type 0} (symbols : X → List Symbol) (between line : List ℕ) (items : List X) (rest : List ℕ) → between ≢ codes "."
+    → HasRead symbols between line items rest → BeginsWithNone symbols rest → BeginsWithNoList symbols between line
+has_read-no_item symbols between line items rest dot read not = record {
+  none = λ of ys other reads free end.
+      let others : Others symbols between items rest ys other = read.only ys other reads free end in
+      no-first symbols between rest dot (read.of_text of) not others.0 other free others.2;
 }

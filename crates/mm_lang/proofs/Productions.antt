@@ -1,194 +1,359 @@
 -- Productions: what a line is behind its first word.
-use Rattle.std.proofs.Common.{◌≡◌, ◌≢◌, ℕ, List, [], ◌∷◌, refl, sym, ◌∙◌, ap, subst, true}
+use Rattle.std.proofs.Common.{◌≡◌, ◌≢◌, ℕ, ◌<◌, List, [], ◌∷◌, ◌++◌, length, map, false, ◌⊎◌, inl, inr, refl, sym, ◌∙◌, ap, arith, subst}
+use Rattle.std.specs.Str.{bytes_eq}
 use lib.Chars.{codes}
-use Rattle.plain_tables.specs.Names.{is_word}
-use Rattle.plain_tables.specs.Spelling.{Symbol, Keyword, Name, Sign, Open, Star, AreBlanks, symbols_of, column_symbols, value_symbols, IsMadeOf, Spells}
+use Rattle.plain_tables.specs.Names.{IsName}
+use Rattle.plain_tables.specs.Spelling.{Symbol, Keyword, Name, Sign, Open, Close, Comma, separated, column_symbols, value_symbols, name_symbols, setting_symbols, condition_symbols, items_symbols, where_symbols, NamesSomething}
 use Rattle.plain_tables.specs.Reading.{lexeme, after_lexeme}
 use Rattle.plain_tables.specs.declared.value.Value.{Value}
 use Rattle.plain_tables.specs.declared.schema.Column.{Column}
 use Rattle.plain_tables.specs.declared.schema.Schema.{Schema}
+use Rattle.plain_tables.specs.declared.condition.ColName.{ColName}
+use Rattle.plain_tables.specs.declared.condition.Cond.{Cond}
+use Rattle.plain_tables.specs.declared.command.Setting.{Setting}
+use Rattle.plain_tables.specs.declared.command.Items.{Items}
+use Rattle.plain_tables.specs.declared.command.Items.TheVariants as items
 use Rattle.plain_tables.specs.declared.command.Command.{Command}
-use Rattle.plain_tables.specs.declared.command.Command.TheVariants.{Table, Insert, Select}
-use Rattle.plain_tables.proofs.Lexemes.{lexeme-of_made, made-from_lexeme}
-use Rattle.plain_tables.proofs.FirstWords.{first_word, behind_word, split-word, spells-word, table-no_insert, table-no_select, insert-no_select}
-use Rattle.plain_tables.proofs.Uniqueness.{sign-lexeme}
-use Rattle.plain_tables.proofs.WellFormed.{made-no_line_feed}
-use Rattle.mm_lang.specs.Parsing.{BeginsWith, BeginsWithNone, BeginsWithList, BeginsWithNoList, listed, name_symbols, IsNameAndList, Completes}
+use Rattle.plain_tables.specs.declared.command.Command.TheVariants.{Table, Insert, Update, Delete, Select}
+use Rattle.plain_tables.proofs.FirstWords.{different, first_word, behind_word, split-word}
+use Rattle.mm_lang.specs.Parsing.{Reads, IsWhole, ReadsList, IsOfText, BeginsWithList, BeginsWithNoList, NameSomething, BeginsWithItems, BeginsWithNoItems, IsNameAndList, IsWhere, Completes}
+use Rattle.mm_lang.proofs.Fronts.{reads-append, reads-split, not-word, no-first}
+use Rattle.mm_lang.proofs.Lists.{list-some, list-first, list-spelled, spelled-list}
+use Rattle.mm_lang.proofs.Utf8.{of_text-after}
 
--- ---- a name and a list
+-- lists with commas between their items
+comma-spelled : {X : Type 0} (symbols : X → List Symbol) (line : List ℕ) (xs : List X) (rest : List ℕ)
+    → ReadsList symbols (codes ",") line xs rest → Reads line (separated (map symbols xs)) rest
+comma-spelled symbols line xs rest reads = list-spelled symbols (Sign Comma) (codes ",") (λ characters e. e) line xs rest reads
 
-pub no-name : {X : Type 0} (symbols : X → List Symbol) (line : List ℕ) → BeginsWithNone name_symbols line
-    → (name : List ℕ) (xs : List X) → IsNameAndList symbols line name xs → ⊥
-no-name symbols line not name xs is = not.none name (Sign Open ∷ listed symbols xs []) is.made
+spelled-comma : {X : Type 0} (symbols : X → List Symbol) (line : List ℕ) (xs : List X) (rest : List ℕ) → 0 < length xs
+    → Reads line (separated (map symbols xs)) rest → ReadsList symbols (codes ",") line xs rest
+spelled-comma symbols line xs rest some reads = spelled-list symbols (Sign Comma) (codes ",") (λ characters e. e) line xs rest some reads
 
-behind-name : {X : Type 0} (symbols : X → List Symbol) (line first behind : List ℕ) → BeginsWith name_symbols line first behind
-    → (name : List ℕ) (xs : List X) → IsNameAndList symbols line name xs → IsMadeOf behind (Sign Open ∷ listed symbols xs [])
-behind-name symbols line first behind named name xs is = (named.only name (Sign Open ∷ listed symbols xs []) is.made).1
+-- ---- conditions, up to the end of the line
 
-pub no-open : {X : Type 0} (symbols : X → List Symbol) (line first behind : List ℕ) → BeginsWith name_symbols line first behind
-    → lexeme behind ≢ codes "(" → (name : List ℕ) (xs : List X) → IsNameAndList symbols line name xs → ⊥
-no-open symbols line first behind named not name xs is =
-    not (sign-lexeme behind Open (listed symbols xs []) (behind-name symbols line first behind named name xs is))
+pub where-some : (line front : List ℕ) (conditions : List Cond) (rest : List ℕ) → lexeme line ≡ codes "where" → front ≡ after_lexeme line
+    → ReadsList condition_symbols (codes "and") front conditions rest → lexeme rest ≡ [] → IsWhere line conditions
+where-some line front [] rest word f reads end = elim reads [ ]
+where-some line front (x ∷ xs) rest word f reads end =
+    let behind : ReadsList condition_symbols (codes "and") (after_lexeme line) (x ∷ xs) rest =
+    subst (λ l. ReadsList condition_symbols (codes "and") l (x ∷ xs) rest) f reads in
+    (rest, (word, list-spelled condition_symbols (Keyword (codes "and")) (codes "and") (λ characters e. e) (after_lexeme line) (x ∷ xs) rest behind), end)
 
-behind-open : {X : Type 0} (symbols : X → List Symbol) (line first behind : List ℕ) → BeginsWith name_symbols line first behind
-    → (name : List ℕ) (xs : List X) → IsNameAndList symbols line name xs → IsMadeOf (after_lexeme behind) (listed symbols xs [])
-behind-open symbols line first behind named name xs is =
-    (lexeme-of_made behind (Sign Open) (listed symbols xs []) tt (behind-name symbols line first behind named name xs is)).1
+where-behind : (line : List ℕ) (conditions : List Cond) → IsWhere line conditions → lexeme line ≡ codes "where"
+    → (rest : List ℕ) × ReadsList condition_symbols (codes "and") (after_lexeme line) conditions rest × (lexeme rest ≡ [])
+where-behind line [] (rest, e, end) word = absurd (different (codes "where") [] refl (sym word ∙ (ap lexeme e ∙ end)))
+where-behind line (x ∷ xs) (rest, (word', reads), end) word =
+    (rest, spelled-list condition_symbols (Keyword (codes "and")) (codes "and") (λ characters e. e) (after_lexeme line) (x ∷ xs) rest (omega arith) reads, end)
 
-pub no-list : {X : Type 0} (symbols : X → List Symbol) (line first behind front : List ℕ) → BeginsWith name_symbols line first behind
-    → front ≡ after_lexeme behind → BeginsWithNoList symbols front
-    → (name : List ℕ) (xs : List X) → IsNameAndList symbols line name xs → ⊥
-no-list symbols line first behind front named e not name xs is =
-    not.none xs [] is.some (rw e (behind-open symbols line first behind named name xs is))
+pub no-conditions : (line front : List ℕ) → lexeme line ≡ codes "where" → front ≡ after_lexeme line
+    → BeginsWithNoList condition_symbols (codes "and") front → IsOfText line → (conditions : List Cond) → IsWhere line conditions → ⊥
+no-conditions line front word f not of conditions is =
+    let parts : (rest : List ℕ) × ReadsList condition_symbols (codes "and") (after_lexeme line) conditions rest × (lexeme rest ≡ []) =
+    where-behind line conditions is word in
+    not.none (subst IsOfText (sym f) (of_text-after line of)) conditions parts.0
+    (subst (λ l. ReadsList condition_symbols (codes "and") l conditions parts.0) (sym f) parts.1)
+    (not-word (lexeme parts.0) [] (codes ".") refl parts.2) (not-word (lexeme parts.0) [] (codes "and") refl parts.2)
 
-pub more-behind : {X : Type 0} (symbols : X → List Symbol) (line first behind front : List ℕ) (items : List X) (rest : List ℕ)
-    → BeginsWith name_symbols line first behind → front ≡ after_lexeme behind → BeginsWithList symbols front items rest
-    → (AreBlanks rest → ⊥) → (name : List ℕ) (xs : List X) → IsNameAndList symbols line name xs → ⊥
-more-behind symbols line first behind front items rest named e list not name xs is =
-    not (list.only xs [] is.some (rw e (behind-open symbols line first behind named name xs is))).1
+pub more-behind_conditions : (line front : List ℕ) (found : List Cond) (behind : List ℕ) → lexeme line ≡ codes "where" → front ≡ after_lexeme line
+    → BeginsWithList condition_symbols (codes "and") front found behind → lexeme behind ≢ []
+    → (conditions : List Cond) → IsWhere line conditions → ⊥
+more-behind_conditions line front found behind word f list more conditions is =
+    let parts : (rest : List ℕ) × ReadsList condition_symbols (codes "and") (after_lexeme line) conditions rest × (lexeme rest ≡ []) =
+    where-behind line conditions is word in
+    let same : (conditions ≡ found) × (parts.0 ≡ behind) =
+    list.only conditions parts.0 (subst (λ l. ReadsList condition_symbols (codes "and") l conditions parts.0) (sym f) parts.1)
+    (not-word (lexeme parts.0) [] (codes ".") refl parts.2) (not-word (lexeme parts.0) [] (codes "and") refl parts.2) in
+    more (ap lexeme (sym same.1) ∙ parts.2)
 
-pub name-and_list : {X : Type 0} (symbols : X → List Symbol) (line first behind front : List ℕ) (items : List X) (rest : List ℕ)
-    → BeginsWith name_symbols line first behind → lexeme behind ≡ codes "(" → front ≡ after_lexeme behind
-    → BeginsWithList symbols front items rest → AreBlanks rest → IsNameAndList symbols line first items
-name-and_list symbols line first behind front items rest named open_ e list are = record {
-  some = list.some;
-  made = named.whole (Sign Open ∷ listed symbols items [])
-      (made-from_lexeme behind (Sign Open) (listed symbols items []) tt open_ (rw e at (list.whole [] are)));
-}
+where-begins : (line : List ℕ) (conditions : List Cond) → IsWhere line conditions → (lexeme line ≡ []) ⊎ (lexeme line ≡ codes "where")
+where-begins line [] (rest, e, end) = inl (ap lexeme e ∙ end)
+where-begins line (x ∷ xs) (rest, (word, reads), end) = inr word
+
+either-not : (characters word : List ℕ) → bytes_eq [] word ≡ false → bytes_eq (codes "where") word ≡ false
+    → (characters ≡ []) ⊎ (characters ≡ codes "where") → characters ≢ word
+either-not characters word test test' (inl e) = not-word characters [] word test e
+either-not characters word test test' (inr e) = not-word characters (codes "where") word test' e
 
 -- ---- the first word
 
 tails : (word other : List ℕ) (xs ys : List Symbol) → Keyword word ∷ xs ≡ Keyword other ∷ ys → (word ≡ other) × (xs ≡ ys)
 tails word other xs ys e = (cc, cc)
 
--- ---- table
+other-word : (line word : List ℕ) (command : Command) → bytes_eq (first_word command) word ≡ false → Completes word line command → ⊥
+other-word line word command test completes =
+    different (first_word command) word test
+    (tails (first_word command) word (behind_word command) completes.symbols (sym (split-word command).0 ∙ completes.first)).0
+
+behind-first : (line : List ℕ) (command : Command) → Completes (first_word command) line command → IsWhole line (behind_word command)
+behind-first line command completes =
+    subst (λ ss. IsWhole line ss)
+    (sym (tails (first_word command) (first_word command) (behind_word command) completes.symbols (sym (split-word command).0 ∙ completes.first)).1)
+    completes.made
+
+completed : (line : List ℕ) (command : Command) → NamesSomething command → IsWhole line (behind_word command)
+    → Completes (first_word command) line command
+completed line command some made = record { some = some; symbols = behind_word command; first = (split-word command).0; made = made }
+
+-- ---- a name and a list in parentheses
+
+named-list : {X : Type 0} (symbols : X → List Symbol) (line name : List ℕ) (xs : List X) → IsNameAndList symbols line name xs
+    → IsWhole line (Name name ∷ Sign Open ∷ separated (map symbols xs) ++ Sign Close ∷ [])
+named-list symbols line name xs is =
+    let front : List ℕ = after_lexeme (after_lexeme line) in
+    let list : Reads front (separated (map symbols xs) ++ Sign Close ∷ []) (after_lexeme is.rest) =
+    reads-append front (separated (map symbols xs)) (Sign Close ∷ []) is.rest (after_lexeme is.rest)
+    (comma-spelled symbols front xs is.rest is.listed) (is.closes, refl) in
+    (after_lexeme is.rest, ((is.first, is.is), (is.opens, list)), is.ends)
+
+list-named : {X : Type 0} (symbols : X → List Symbol) (line name : List ℕ) (xs : List X) → 0 < length xs
+    → IsWhole line (Name name ∷ Sign Open ∷ separated (map symbols xs) ++ Sign Close ∷ []) → IsNameAndList symbols line name xs
+list-named symbols line name xs some (end, (first, (opens, reads)), ends) =
+    let front : List ℕ = after_lexeme (after_lexeme line) in
+    let parts : (mid : List ℕ) × Reads front (separated (map symbols xs)) mid × Reads mid (Sign Close ∷ []) end =
+    reads-split front (separated (map symbols xs)) (Sign Close ∷ []) end reads in
+    record {
+      is = first.1;
+      first = first.0;
+      opens = opens;
+      rest = parts.0;
+      listed = spelled-comma symbols front xs parts.0 some parts.1;
+      closes = parts.2.0;
+      ends = ap lexeme parts.2.1 ∙ ends;
+    }
+
+pub no-list : {X : Type 0} (symbols : X → List Symbol) (line front : List ℕ) → front ≡ after_lexeme (after_lexeme line)
+    → BeginsWithNoList symbols (codes ",") front → IsOfText line → (name : List ℕ) (xs : List X) → IsNameAndList symbols line name xs → ⊥
+no-list symbols line front f not of name xs is =
+    not.none (subst IsOfText (sym f) (of_text-after (after_lexeme line) (of_text-after line of))) xs is.rest
+    (subst (λ l. ReadsList symbols (codes ",") l xs is.rest) (sym f) is.listed)
+    (not-word (lexeme is.rest) (codes ")") (codes ".") refl is.closes) (not-word (lexeme is.rest) (codes ")") (codes ",") refl is.closes)
+
+-- ---- table and insert
 
 pub table-completed : (line name : List ℕ) (schema : Schema) → IsNameAndList column_symbols line name schema.columns
     → Completes (codes "table") line (Table name schema)
-table-completed line name schema is = record {
-  some = is.some;
-  symbols = Name name ∷ Sign Open ∷ listed column_symbols schema.columns [];
-  first = refl;
-  made = is.made;
-}
+table-completed line name schema is =
+    completed line (Table name schema) (list-some column_symbols (codes ",") _ schema.columns is.rest is.listed)
+    (named-list column_symbols line name schema.columns is)
 
 pub table-only : (line : List ℕ) → ((name : List ℕ) (columns : List Column) → IsNameAndList column_symbols line name columns → ⊥)
     → (command : Command) → Completes (codes "table") line command → ⊥
-table-only line not (Table name schema) completes = not name schema.columns (record {
-  some = completes.some;
-  made = subst (λ ss. IsMadeOf line ss) (sym (tails (codes "table") (codes "table") _ _ completes.first).1) completes.made;
-})
-table-only line not (Insert table values) completes = table-no_insert (sym (tails (codes "insert") (codes "table") _ _ completes.first).0)
-table-only line not (Select table) completes = table-no_select (sym (tails (codes "select") (codes "table") _ _ completes.first).0)
-
--- ---- insert
+table-only line not (Table name schema) completes =
+    not name schema.columns (list-named column_symbols line name schema.columns completes.some (behind-first line (Table name schema) completes))
+table-only line not command completes = other-word line (codes "table") command refl completes
 
 pub insert-completed : (line table : List ℕ) (values : List Value) → IsNameAndList value_symbols line table values
     → Completes (codes "insert") line (Insert table values)
-insert-completed line table values is = record {
-  some = is.some;
-  symbols = Name table ∷ Sign Open ∷ listed value_symbols values [];
-  first = refl;
-  made = is.made;
-}
+insert-completed line table values is =
+    completed line (Insert table values) (list-some value_symbols (codes ",") _ values is.rest is.listed) (named-list value_symbols line table values is)
 
 pub insert-only : (line : List ℕ) → ((table : List ℕ) (values : List Value) → IsNameAndList value_symbols line table values → ⊥)
     → (command : Command) → Completes (codes "insert") line command → ⊥
-insert-only line not (Insert table values) completes = not table values (record {
-  some = completes.some;
-  made = subst (λ ss. IsMadeOf line ss) (sym (tails (codes "insert") (codes "insert") _ _ completes.first).1) completes.made;
-})
-insert-only line not (Table name schema) completes = table-no_insert (tails (codes "table") (codes "insert") _ _ completes.first).0
-insert-only line not (Select table) completes = insert-no_select (sym (tails (codes "select") (codes "insert") _ _ completes.first).0)
+insert-only line not (Insert table values) completes =
+    not table values (list-named value_symbols line table values completes.some (behind-first line (Insert table values) completes))
+insert-only line not command completes = other-word line (codes "insert") command refl completes
+
+-- ---- update
+
+-- The line is a name, `set`, settings with commas between them, and conditions.
+pub record IsUpdate (line table : List ℕ) (settings : List Setting) (conditions : List Cond) : Type 0 where
+  pub is : IsName table
+  pub first : lexeme line ≡ table
+  pub sets : lexeme (after_lexeme line) ≡ codes "set"
+  pub rest : List ℕ
+  pub listed : ReadsList setting_symbols (codes ",") (after_lexeme (after_lexeme line)) settings rest
+  pub tail : IsWhere rest conditions
+
+pub update-completed : (line table : List ℕ) (settings : List Setting) (conditions : List Cond) → IsUpdate line table settings conditions
+    → Completes (codes "update") line (Update table settings conditions)
+update-completed line table settings conditions is =
+    let front : List ℕ = after_lexeme (after_lexeme line) in
+    let reads : Reads front (separated (map setting_symbols settings) ++ where_symbols conditions) is.tail.0 =
+    reads-append front (separated (map setting_symbols settings)) (where_symbols conditions) is.rest is.tail.0
+    (comma-spelled setting_symbols front settings is.rest is.listed) is.tail.1 in
+    completed line (Update table settings conditions) (list-some setting_symbols (codes ",") front settings is.rest is.listed)
+    (is.tail.0, ((is.first, is.is), (is.sets, reads)), is.tail.2)
+
+update-parts : (line table : List ℕ) (settings : List Setting) (conditions : List Cond)
+    → Completes (codes "update") line (Update table settings conditions) → IsUpdate line table settings conditions
+update-parts line table settings conditions completes =
+    let front : List ℕ = after_lexeme (after_lexeme line) in
+    let made : IsWhole line (behind_word (Update table settings conditions)) = behind-first line (Update table settings conditions) completes in
+    let parts : (mid : List ℕ) × Reads front (separated (map setting_symbols settings)) mid × Reads mid (where_symbols conditions) made.0 =
+    reads-split front (separated (map setting_symbols settings)) (where_symbols conditions) made.0 made.1.1.1 in
+    record {
+      is = made.1.0.1;
+      first = made.1.0.0;
+      sets = made.1.1.0;
+      rest = parts.0;
+      listed = spelled-comma setting_symbols front settings parts.0 completes.some parts.1;
+      tail = (made.0, parts.2, made.2);
+    }
+
+pub update-only : (line : List ℕ) → ((table : List ℕ) (settings : List Setting) (conditions : List Cond) → IsUpdate line table settings conditions → ⊥)
+    → (command : Command) → Completes (codes "update") line command → ⊥
+update-only line not (Update table settings conditions) completes =
+    not table settings conditions (update-parts line table settings conditions completes)
+update-only line not command completes = other-word line (codes "update") command refl completes
+
+pub no-settings : (line front : List ℕ) → front ≡ after_lexeme (after_lexeme line) → BeginsWithNoList setting_symbols (codes ",") front
+    → IsOfText line → (table : List ℕ) (settings : List Setting) (conditions : List Cond) → IsUpdate line table settings conditions → ⊥
+no-settings line front f not of table settings conditions is =
+    not.none (subst IsOfText (sym f) (of_text-after (after_lexeme line) (of_text-after line of))) settings is.rest
+    (subst (λ l. ReadsList setting_symbols (codes ",") l settings is.rest) (sym f) is.listed)
+    (either-not (lexeme is.rest) (codes ".") refl refl (where-begins is.rest conditions is.tail))
+    (either-not (lexeme is.rest) (codes ",") refl refl (where-begins is.rest conditions is.tail))
+
+pub no-tail_of_update : (line front : List ℕ) (found : List Setting) (behind : List ℕ) → front ≡ after_lexeme (after_lexeme line)
+    → BeginsWithList setting_symbols (codes ",") front found behind → ((conditions : List Cond) → IsWhere behind conditions → ⊥)
+    → (table : List ℕ) (settings : List Setting) (conditions : List Cond) → IsUpdate line table settings conditions → ⊥
+no-tail_of_update line front found behind f list not table settings conditions is =
+    let same : (settings ≡ found) × (is.rest ≡ behind) =
+    list.only settings is.rest (subst (λ l. ReadsList setting_symbols (codes ",") l settings is.rest) (sym f) is.listed)
+    (either-not (lexeme is.rest) (codes ".") refl refl (where-begins is.rest conditions is.tail))
+    (either-not (lexeme is.rest) (codes ",") refl refl (where-begins is.rest conditions is.tail)) in
+    not conditions (subst (λ l. IsWhere l conditions) same.1 is.tail)
+
+-- ---- delete
+
+pub delete-completed : (line table rest : List ℕ) (conditions : List Cond) → IsName (lexeme line) → table ≡ lexeme line → rest ≡ after_lexeme line
+    → IsWhere rest conditions → Completes (codes "delete") line (Delete table conditions)
+delete-completed line table rest conditions is e f tail =
+    let behind : IsWhere (after_lexeme line) conditions = subst (λ l. IsWhere l conditions) f tail in
+    completed line (Delete table conditions) tt (behind.0, ((sym e, subst IsName (sym e) is), behind.1), behind.2)
+
+pub delete-only : (line rest : List ℕ) → rest ≡ after_lexeme line → ((conditions : List Cond) → IsWhere rest conditions → ⊥)
+    → (command : Command) → Completes (codes "delete") line command → ⊥
+delete-only line rest f not (Delete table conditions) completes =
+    let made : IsWhole line (behind_word (Delete table conditions)) = behind-first line (Delete table conditions) completes in
+    not conditions (subst (λ l. IsWhere l conditions) (sym f) (made.0, made.1.1, made.2))
+delete-only line rest f not command completes = other-word line (codes "delete") command refl completes
 
 -- ---- select
 
-abbrev pub select_symbols : List ℕ → List Symbol
-select_symbols table = Sign Star ∷ Keyword (codes "from") ∷ Name table ∷ []
+-- The line is items, `from`, a name, and conditions.
+pub record IsSelect (line : List ℕ) (items : Items) (table : List ℕ) (conditions : List Cond) : Type 0 where
+  pub some : NameSomething items
+  pub behind : List ℕ
+  pub found : Reads line (items_symbols items) behind
+  pub begins : lexeme behind ≡ codes "from"
+  pub is : IsName table
+  pub named : lexeme (after_lexeme behind) ≡ table
+  pub tail : IsWhere (after_lexeme (after_lexeme behind)) conditions
 
-pub select-completed : (line behind_star front table rest : List ℕ) → lexeme line ≡ codes "*" → behind_star ≡ after_lexeme line
-    → lexeme behind_star ≡ codes "from" → front ≡ after_lexeme behind_star → BeginsWith name_symbols front table rest → AreBlanks rest
-    → Completes (codes "select") line (Select table)
-select-completed line behind_star front table rest star e from f named are = record {
-  some = tt;
-  symbols = select_symbols table;
-  first = refl;
-  made =
-      let name : IsMadeOf front (Name table ∷ []) = named.whole [] are in
-      let behind : IsMadeOf behind_star (Keyword (codes "from") ∷ Name table ∷ []) =
-      made-from_lexeme behind_star (Keyword (codes "from")) (Name table ∷ []) refl from (rw f at name) in
-      made-from_lexeme line (Sign Star) (Keyword (codes "from") ∷ Name table ∷ []) tt star (rw e at behind);
-}
+names-something : (items : Items) (table : List ℕ) (conditions : List Cond) → NameSomething items → NamesSomething (Select items table conditions)
+names-something items.All table conditions some = tt
+names-something (items.Named names) table conditions some = some
 
-pub select-only : (line : List ℕ) → ((table : List ℕ) → IsMadeOf line (select_symbols table) → ⊥)
+name-something : (items : Items) (table : List ℕ) (conditions : List Cond) → NamesSomething (Select items table conditions) → NameSomething items
+name-something items.All table conditions some = tt
+name-something (items.Named names) table conditions some = some
+
+pub select-completed : (line : List ℕ) (items : Items) (table : List ℕ) (conditions : List Cond) → IsSelect line items table conditions
+    → Completes (codes "select") line (Select items table conditions)
+select-completed line items table conditions is =
+    let others : List Symbol = Keyword (codes "from") ∷ Name table ∷ where_symbols conditions in
+    completed line (Select items table conditions) (names-something items table conditions is.some)
+    (is.tail.0, reads-append line (items_symbols items) others is.behind is.tail.0 is.found (is.begins, ((is.named, is.is), is.tail.1)), is.tail.2)
+
+select-parts : (line : List ℕ) (items : Items) (table : List ℕ) (conditions : List Cond)
+    → Completes (codes "select") line (Select items table conditions) → IsSelect line items table conditions
+select-parts line items table conditions completes =
+    let others : List Symbol = Keyword (codes "from") ∷ Name table ∷ where_symbols conditions in
+    let made : IsWhole line (items_symbols items ++ others) = behind-first line (Select items table conditions) completes in
+    let parts : (mid : List ℕ) × Reads line (items_symbols items) mid × Reads mid others made.0 =
+    reads-split line (items_symbols items) others made.0 made.1 in
+    record {
+      some = name-something items table conditions completes.some;
+      behind = parts.0;
+      found = parts.1;
+      begins = parts.2.0;
+      is = parts.2.1.0.1;
+      named = parts.2.1.0.0;
+      tail = (made.0, parts.2.1.1, made.2);
+    }
+
+pub select-only : (line : List ℕ) → ((items : Items) (table : List ℕ) (conditions : List Cond) → IsSelect line items table conditions → ⊥)
     → (command : Command) → Completes (codes "select") line command → ⊥
-select-only line not (Select table) completes =
-    not table (subst (λ ss. IsMadeOf line ss) (sym (tails (codes "select") (codes "select") _ _ completes.first).1) completes.made)
-select-only line not (Table name schema) completes = table-no_select (tails (codes "table") (codes "select") _ _ completes.first).0
-select-only line not (Insert table values) completes = insert-no_select (tails (codes "insert") (codes "select") _ _ completes.first).0
+select-only line not (Select items table conditions) completes = not items table conditions (select-parts line items table conditions completes)
+select-only line not command completes = other-word line (codes "select") command refl completes
 
-behind-star : (line table : List ℕ) → IsMadeOf line (select_symbols table)
-    → (lexeme line ≡ codes "*") × IsMadeOf (after_lexeme line) (Keyword (codes "from") ∷ Name table ∷ [])
-behind-star line table made = lexeme-of_made line (Sign Star) (Keyword (codes "from") ∷ Name table ∷ []) tt made
+pub no-items : (line : List ℕ) → BeginsWithNoItems line → IsOfText line → (items : Items) (table : List ℕ) (conditions : List Cond)
+    → IsSelect line items table conditions → ⊥
+no-items line not of items table conditions is = not.none of items is.behind is.some is.found is.begins
 
-behind-from : (line table : List ℕ) → IsMadeOf line (select_symbols table)
-    → (lexeme (after_lexeme line) ≡ codes "from") × IsMadeOf (after_lexeme (after_lexeme line)) (Name table ∷ [])
-behind-from line table made = lexeme-of_made (after_lexeme line) (Keyword (codes "from")) (Name table ∷ []) refl (behind-star line table made).1
+-- the items that a select begins with are those that are found
+items-behind : (line : List ℕ) (found : Items) (rest : List ℕ) → BeginsWithItems line found rest → (items : Items) (table : List ℕ)
+    (conditions : List Cond) → (is : IsSelect line items table conditions) → is.behind ≡ rest
+items-behind line found rest begins items table conditions is = (begins.only items is.behind is.some is.found is.begins).1
 
-pub no-star : (line : List ℕ) → lexeme line ≢ codes "*" → (table : List ℕ) → IsMadeOf line (select_symbols table) → ⊥
-no-star line not table made = not (behind-star line table made).0
+pub no-from : (line : List ℕ) (found : Items) (rest : List ℕ) → BeginsWithItems line found rest → lexeme rest ≢ codes "from"
+    → (items : Items) (table : List ℕ) (conditions : List Cond) → IsSelect line items table conditions → ⊥
+no-from line found rest begins not items table conditions is =
+    not (ap lexeme (sym (items-behind line found rest begins items table conditions is)) ∙ is.begins)
 
-pub no-from : (line behind_star : List ℕ) → behind_star ≡ after_lexeme line → lexeme behind_star ≢ codes "from"
-    → (table : List ℕ) → IsMadeOf line (select_symbols table) → ⊥
-no-from line behind_star e not table made = not (ap lexeme e ∙ (behind-from line table made).0)
+pub no-table : (line : List ℕ) (found : Items) (rest front : List ℕ) → BeginsWithItems line found rest → front ≡ after_lexeme rest
+    → (IsName (lexeme front) → ⊥) → (items : Items) (table : List ℕ) (conditions : List Cond) → IsSelect line items table conditions → ⊥
+no-table line found rest front begins f not items table conditions is =
+    let same : lexeme front ≡ table =
+    ap lexeme f ∙ (ap (λ l. lexeme (after_lexeme l)) (sym (items-behind line found rest begins items table conditions is)) ∙ is.named) in
+    not (subst IsName (sym same) is.is)
 
-pub no-table : (line behind_star front : List ℕ) → behind_star ≡ after_lexeme line → front ≡ after_lexeme behind_star
-    → BeginsWithNone name_symbols front → (table : List ℕ) → IsMadeOf line (select_symbols table) → ⊥
-no-table line behind_star front e f not table made =
-    let g : front ≡ after_lexeme (after_lexeme line) = f ∙ ap after_lexeme e in
-    not.none table [] (rw g (behind-from line table made).1)
+pub no-tail_of_select : (line : List ℕ) (found : Items) (rest front behind : List ℕ) → BeginsWithItems line found rest → front ≡ after_lexeme rest
+    → behind ≡ after_lexeme front → ((conditions : List Cond) → IsWhere behind conditions → ⊥)
+    → (items : Items) (table : List ℕ) (conditions : List Cond) → IsSelect line items table conditions → ⊥
+no-tail_of_select line found rest front behind begins f g not items table conditions is =
+    let same : after_lexeme (after_lexeme is.behind) ≡ behind =
+    ap (λ l. after_lexeme (after_lexeme l)) (items-behind line found rest begins items table conditions is) ∙ sym (g ∙ ap after_lexeme f) in
+    not conditions (subst (λ l. IsWhere l conditions) same is.tail)
 
-pub more-behind_table : (line behind_star front first rest : List ℕ) → behind_star ≡ after_lexeme line → front ≡ after_lexeme behind_star
-    → BeginsWith name_symbols front first rest → (AreBlanks rest → ⊥) → (table : List ℕ) → IsMadeOf line (select_symbols table) → ⊥
-more-behind_table line behind_star front first rest e f named not table made =
-    let g : front ≡ after_lexeme (after_lexeme line) = f ∙ ap after_lexeme e in
-    not (named.only table [] (rw g (behind-from line table made).1)).1
+-- ---- the items of a select
 
--- ---- the whole line
+star-no_name : (line : List ℕ) → lexeme line ≡ codes "*" → IsName (lexeme line) → ⊥
+star-no_name line star is = let name : IsName (codes "*") = subst IsName star is in cc
 
-pub spelled : (line word rest : List ℕ) (command : Command) → is_word word ≡ true → lexeme line ≡ word → rest ≡ after_lexeme line
-    → Completes word rest command → Spells line command
-spelled line word rest command is e f completes =
-    let others : IsMadeOf (after_lexeme line) completes.symbols = rw f at completes.made in
-    let all : IsMadeOf line (Keyword word ∷ completes.symbols) = made-from_lexeme line (Keyword word) completes.symbols is e others in
-    let made : IsMadeOf line (symbols_of command) = subst (λ ss. IsMadeOf line ss) (sym completes.first) all in
-    (made-no_line_feed command line made, completes.some, made)
+pub all-items : (line rest : List ℕ) → lexeme line ≡ codes "*" → rest ≡ after_lexeme line → BeginsWithItems line items.All rest
+all-items line rest star f = record {
+  some = tt;
+  found = (star, sym f);
+  only = λ others other some reads begins. all-only line rest star f others other some reads;
+}
+  where
+    all-only : (line rest : List ℕ) → lexeme line ≡ codes "*" → rest ≡ after_lexeme line → (others : Items) (other : List ℕ)
+        → NameSomething others → Reads line (items_symbols others) other → (others ≡ items.All) × (other ≡ rest)
+    all-only line rest star f items.All other some reads = (refl, sym reads.1 ∙ sym f)
+    all-only line rest star f (items.Named names) other some reads =
+        let first : (x : ColName) × (behind : List ℕ) × Reads line (name_symbols x) behind =
+        list-first name_symbols (codes ",") line names other (spelled-comma name_symbols line names other some reads) in
+        absurd (no-first line (star-no_name line star) first.0.table first.0.column first.1 first.2)
 
--- A line that spells a command begins with the command's first word, and what follows it completes the command.
-pub spelled-completes : (line : List ℕ) (command : Command) → Spells line command
-    → (lexeme line ≡ first_word command) × Completes (lexeme line) (after_lexeme line) command
-spelled-completes line command spells =
-    let parts : (lexeme line ≡ first_word command) × IsMadeOf (after_lexeme line) (behind_word command) = spells-word line command spells in (
-      parts.0,
-      record {
-        some = spells.1;
-        symbols = behind_word command;
-        first = (split-word command).0 ∙ ap (λ w. Keyword w ∷ behind_word command) (sym parts.0);
-        made = parts.1;
-      },
-    )
+pub named-items : (line : List ℕ) (names found : List ColName) (rest : List ℕ) → lexeme line ≢ codes "*" → found ≡ names
+    → BeginsWithList name_symbols (codes ",") line names rest → BeginsWithItems line (items.Named found) rest
+named-items line names found rest star same list = subst (λ l. BeginsWithItems line (items.Named l) rest) (sym same) (record {
+  some = list-some name_symbols (codes ",") line names rest list.found;
+  found = comma-spelled name_symbols line names rest list.found;
+  only = λ others other some reads begins. named-only line names rest star list others other some reads begins;
+})
+  where
+    named-only : (line : List ℕ) (names : List ColName) (rest : List ℕ) → lexeme line ≢ codes "*"
+        → BeginsWithList name_symbols (codes ",") line names rest → (others : Items) (other : List ℕ) → NameSomething others
+        → Reads line (items_symbols others) other → lexeme other ≡ codes "from" → (others ≡ items.Named names) × (other ≡ rest)
+    named-only line names rest star list items.All other some reads begins = absurd (star reads.0)
+    named-only line names rest star list (items.Named ys) other some reads begins =
+        let parts : (ys ≡ names) × (other ≡ rest) =
+        list.only ys other (spelled-comma name_symbols line ys other some reads)
+        (not-word (lexeme other) (codes "from") (codes ".") refl begins) (not-word (lexeme other) (codes "from") (codes ",") refl begins) in
+        (ap items.Named parts.0, parts.1)
 
-pub not-spelled : (line word rest : List ℕ) → lexeme line ≡ word → rest ≡ after_lexeme line
-    → ((command : Command) → Completes word rest command → ⊥) → (command : Command) → Spells line command → ⊥
-not-spelled line word rest e f not command spells =
-    not command (subst (λ w. Completes w rest command) e (subst (λ r. Completes (lexeme line) r command) (sym f) (spelled-completes line command spells).1))
-
-known-word : (command : Command) (word : List ℕ) → word ≡ first_word command → word ≢ codes "insert" → word ≢ codes "select" → word ≢ codes "table" → ⊥
-known-word (Table name schema) word e no_insert no_select no_table = no_table e
-known-word (Insert table values) word e no_insert no_select no_table = no_insert e
-known-word (Select table) word e no_insert no_select no_table = no_select e
-
-pub unknown-word : (line : List ℕ) → lexeme line ≢ codes "insert" → lexeme line ≢ codes "select" → lexeme line ≢ codes "table"
-    → (command : Command) → Spells line command → ⊥
-unknown-word line no_insert no_select no_table command spells =
-    known-word command (lexeme line) (spelled-completes line command spells).0 no_insert no_select no_table
+pub neither-items : (line : List ℕ) → lexeme line ≢ codes "*" → BeginsWithNoList name_symbols (codes ",") line → BeginsWithNoItems line
+neither-items line star not = record {
+  none = λ of others other some reads begins. no-others line star not of others other some reads begins;
+}
+  where
+    no-others : (line : List ℕ) → lexeme line ≢ codes "*" → BeginsWithNoList name_symbols (codes ",") line → IsOfText line
+        → (others : Items) (other : List ℕ) → NameSomething others → Reads line (items_symbols others) other → lexeme other ≡ codes "from" → ⊥
+    no-others line star not of items.All other some reads begins = star reads.0
+    no-others line star not of (items.Named names) other some reads begins =
+        not.none of names other (spelled-comma name_symbols line names other some reads)
+        (not-word (lexeme other) (codes "from") (codes ".") refl begins) (not-word (lexeme other) (codes "from") (codes ",") refl begins)

@@ -1,42 +1,91 @@
 -- Parsing: what stands at the front of a line, and what it leaves.
-use Rattle.std.specs.Prelude.{◌≡◌, ◌<◌, ℕ, List, [], ◌∷◌, ◌++◌, length, map}
-use Rattle.plain_tables.specs.Spelling.{Symbol, Keyword, Name, Sign, Open, Close, separated, symbols_of, NamesSomething, IsMadeOf}
+use Rattle.std.specs.Prelude.{◌≡◌, ◌≢◌, ◌<◌, ℕ, List, [], ◌∷◌, ◌++◌, length}
+use Rattle.std.specs.Str.{IsUtf8}
+use lib.Chars.{codes}
+use Rattle.plain_tables.specs.Names.{IsName}
+use Rattle.plain_tables.specs.Spelling.{Symbol, Keyword, IsSymbol, symbols_of, items_symbols, where_symbols, NamesSomething}
+use Rattle.plain_tables.specs.Reading.{lexeme, after_lexeme}
+use Rattle.plain_tables.specs.declared.condition.Cond.{Cond}
+use Rattle.plain_tables.specs.declared.command.Items.{Items}
+use Rattle.plain_tables.specs.declared.command.Items.TheVariants as items
 use Rattle.plain_tables.specs.declared.command.Command.{Command}
 
--- The line begins with the symbols of this item and of no other of its sort, and the rest follows them.
+-- The line begins with these symbols, and the rest stands behind them.
+abbrev pub Reads : List ℕ → List Symbol → List ℕ → Type 0
+Reads line [] rest = line ≡ rest
+Reads line (symbol ∷ symbols) rest = IsSymbol (lexeme line) symbol × Reads (after_lexeme line) symbols rest
+
+-- The line is these symbols, and blanks.
+abbrev pub IsWhole : List ℕ → List Symbol → Type 0
+IsWhole line symbols = (rest : List ℕ) × Reads line symbols rest × (lexeme rest ≡ [])
+
+-- The line begins with the symbols of this item, and, but before a dot, of no other of its sort: a column's bare name
+-- with a dot behind it may be the name of a table.
 pub record BeginsWith {X : Type 0} (symbols : X → List Symbol) (line : List ℕ) (x : X) (rest : List ℕ) : Type 0 where
-  pub whole : (more : List Symbol) → IsMadeOf rest more → IsMadeOf line (symbols x ++ more)
-  pub only : (y : X) (more : List Symbol) → IsMadeOf line (symbols y ++ more) → (y ≡ x) × IsMadeOf rest more
+  pub found : Reads line (symbols x) rest
+  pub only : (y : X) (other : List ℕ) → Reads line (symbols y) other → lexeme other ≢ codes "." → (y ≡ x) × (other ≡ rest)
 
--- The line begins with no item of this sort.
+-- The line is the end of a text.
+abbrev pub IsOfText : List ℕ → Type 0
+IsOfText line = (front : List ℕ) × IsUtf8 (front ++ line)
+
+-- The line, which is of a text, begins with no item of this sort, but perhaps before a dot.
 pub record BeginsWithNone {X : Type 0} (symbols : X → List Symbol) (line : List ℕ) : Type 0 where
-  pub none : (y : X) (more : List Symbol) → IsMadeOf line (symbols y ++ more) → ⊥
+  pub none : IsOfText line → (y : X) (other : List ℕ) → Reads line (symbols y) other → lexeme other ≢ codes "." → ⊥
 
--- items with commas between them, a closing parenthesis, and more
-abbrev pub listed : {X : Type 0} → (X → List Symbol) → List X → List Symbol → List Symbol
-listed symbols xs more = separated (map symbols xs) ++ Sign Close ∷ more
+-- The line begins with these items, one or more, with this word or sign between two of them.
+abbrev pub ReadsList : {X : Type 0} → (X → List Symbol) → List ℕ → List ℕ → List X → List ℕ → Type 0
+ReadsList symbols between line [] rest = ⊥
+ReadsList symbols between line (x ∷ []) rest = Reads line (symbols x) rest
+ReadsList symbols between line (x ∷ y ∷ xs) rest =
+    (behind : List ℕ) × Reads line (symbols x) behind × (lexeme behind ≡ between)
+    × ReadsList symbols between (after_lexeme behind) (y ∷ xs) rest
 
--- The line begins with a list of these items, one or more, up to its closing parenthesis, and with no other list.
-pub record BeginsWithList {X : Type 0} (symbols : X → List Symbol) (line : List ℕ) (xs : List X) (rest : List ℕ) : Type 0 where
-  pub some : 0 < length xs
-  pub whole : (more : List Symbol) → IsMadeOf rest more → IsMadeOf line (listed symbols xs more)
-  pub only : (ys : List X) (more : List Symbol) → 0 < length ys → IsMadeOf line (listed symbols ys more) → (ys ≡ xs) × IsMadeOf rest more
+-- The line begins with this list, and, but before a dot or one more separator, with no other.
+pub record BeginsWithList {X : Type 0} (symbols : X → List Symbol) (between line : List ℕ) (xs : List X) (rest : List ℕ) : Type 0 where
+  pub found : ReadsList symbols between line xs rest
+  pub only : (ys : List X) (other : List ℕ) → ReadsList symbols between line ys other → lexeme other ≢ codes "."
+      → lexeme other ≢ between → (ys ≡ xs) × (other ≡ rest)
 
--- The line begins with no list of one item or more.
-pub record BeginsWithNoList {X : Type 0} (symbols : X → List Symbol) (line : List ℕ) : Type 0 where
-  pub none : (ys : List X) (more : List Symbol) → 0 < length ys → IsMadeOf line (listed symbols ys more) → ⊥
+-- The line, which is of a text, begins with no list of these items, but perhaps before a dot or one more separator.
+pub record BeginsWithNoList {X : Type 0} (symbols : X → List Symbol) (between line : List ℕ) : Type 0 where
+  pub none : IsOfText line → (ys : List X) (other : List ℕ) → ReadsList symbols between line ys other
+      → lexeme other ≢ codes "." → lexeme other ≢ between → ⊥
 
-abbrev pub name_symbols : List ℕ → List Symbol
-name_symbols name = Name name ∷ []
+-- all columns, or one or more that are named
+abbrev pub NameSomething : Items → Type 0
+NameSomething items.All = Unit {0}
+NameSomething (items.Named names) = 0 < length names
 
--- The line is this name and a list of these items, one or more, in parentheses.
+-- The line begins with these items of a select, and, before a `from`, with no others.
+pub record BeginsWithItems (line : List ℕ) (items : Items) (rest : List ℕ) : Type 0 where
+  pub some : NameSomething items
+  pub found : Reads line (items_symbols items) rest
+  pub only : (others : Items) (other : List ℕ) → NameSomething others → Reads line (items_symbols others) other
+      → lexeme other ≡ codes "from" → (others ≡ items) × (other ≡ rest)
+
+-- The line, which is of a text, begins with no items of a select before a `from`.
+pub record BeginsWithNoItems (line : List ℕ) : Type 0 where
+  pub none : IsOfText line → (others : Items) (other : List ℕ) → NameSomething others → Reads line (items_symbols others) other
+      → lexeme other ≡ codes "from" → ⊥
+
+-- The line is a name and a list of these items in parentheses.
 pub record IsNameAndList {X : Type 0} (symbols : X → List Symbol) (line name : List ℕ) (xs : List X) : Type 0 where
-  pub some : 0 < length xs
-  pub made : IsMadeOf line (Name name ∷ Sign Open ∷ listed symbols xs [])
+  pub is : IsName name
+  pub first : lexeme line ≡ name
+  pub opens : lexeme (after_lexeme line) ≡ codes "("
+  pub rest : List ℕ
+  pub listed : ReadsList symbols (codes ",") (after_lexeme (after_lexeme line)) xs rest
+  pub closes : lexeme rest ≡ codes ")"
+  pub ends : lexeme (after_lexeme rest) ≡ []
+
+-- The line is a `where` and these conditions, or nothing where there are none.
+abbrev pub IsWhere : List ℕ → List Cond → Type 0
+IsWhere line conditions = IsWhole line (where_symbols conditions)
 
 -- The line is what follows this first word in a spelling of the command.
 pub record Completes (word line : List ℕ) (command : Command) : Type 0 where
   pub some : NamesSomething command
   pub symbols : List Symbol
   pub first : symbols_of command ≡ Keyword word ∷ symbols
-  pub made : IsMadeOf line symbols
+  pub made : IsWhole line symbols

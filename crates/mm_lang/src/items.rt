@@ -1,15 +1,19 @@
-//! The items of a list: values and columns.
+//! The items of a list: values, columns, names of columns, settings and conditions.
 
-ghost use Rattle.std.specs.Prelude.{List, ◌≤◌, length, IfOk, IsErrOf};
-ghost use Rattle.plain_tables.specs.Spelling.{Symbol, value_symbols, column_symbols};
-ghost use Rattle.plain_tables.specs.Reading.{lexeme, after_lexeme};
+ghost use Rattle.std.specs.Prelude.{◌≡◌, ◌≢◌, ◌<◌, ◌++◌, List, length, codes, IfOk, IsErrOf, OnOk, refl};
+ghost use Rattle.std.specs.Str.{IsUtf8};
+ghost use Rattle.std.specs.String.{string_bytes};
+ghost use Rattle.plain_tables.specs.Spelling.{Symbol, Kind, Literal, IsSymbol, column_symbols, value_symbols, name_symbols, setting_symbols, condition_symbols, spaced, operator_text, kind_text, symbol_text};
+ghost use Rattle.plain_tables.specs.declared.value.Value.{Value};
 ghost use Rattle.mm_lang.specs.Parsing.{BeginsWith, BeginsWithNone, BeginsWithList, BeginsWithNoList};
+ghost use Rattle.mm_lang.specs.Printing.{IsFree, joined, name_symbols-free, condition_symbols-free};
 
 use crate::ParseRefusal;
 use crate::lexemes::split_lexeme;
-use crate::numbers::integer;
-use crate::symbols::{expect, name};
-use plain_tables::{ColKind, Column, Value};
+use crate::numbers::{integer, push_integer};
+use crate::symbols::{after, expect, kind, name, operator};
+use crate::texts::{push_text, text};
+use plain_tables::{ColKind, ColName, Column, Cond, NoMemory, Op, Setting, Value};
 use std::alloc::Global;
 
 /// What a line can have a list of.
@@ -20,55 +24,203 @@ pub trait Item: Drop {
     /// The item at the front, and what stands behind it.
     fn read(alloc: Global, line: &[u8]) -> Result<(Self, &[u8]), ParseRefusal>
         ensures item { IfOk result (λ r. BeginsWith symbols line.now r.0 r.1.now) }
-        ensures shorter { IfOk result (λ r. length r.1.now ≤ length line.now) }
         ensures syntax { IsErrOf result ParseRefusal.Syntax → BeginsWithNone symbols line.now };
+
+    /// Writes the item.
+    fn push_to(&self, line: &mut String) -> Result<(), NoMemory>
+        ensures { OnOk result (string_bytes line.new ≡ string_bytes line.old ++ spaced (symbols self.now)) };
+
+    ghost free: { (x : Self) → IsFree (symbols x) };
+}
+
+// The value that these characters spell.
+fn value(alloc: Global, characters: &[u8]) -> Result<Value, ParseRefusal>
+    ensures value { IfOk result (λ v. IsSymbol characters.now (Literal v)) }
+    ensures syntax { IsErrOf result ParseRefusal.Syntax → IsUtf8 characters.now → (v : Value) → IsSymbol characters.now (Literal v) → ⊥ }
+{
+    match integer(characters) {
+        Some(number) => Ok(Value::Int(number)),
+        None => Ok(Value::Text(text(alloc, characters)?)),
+    }
 }
 
 impl Item for Value {
     ghost symbols = { value_symbols };
 
-    fn read(_: Global, line: &[u8]) -> Result<(Value, &[u8]), ParseRefusal> {
+    ghost free = { λ v. (refl, refl) };
+
+    fn read(alloc: Global, line: &[u8]) -> Result<(Value, &[u8]), ParseRefusal> {
         let (characters, rest) = split_lexeme(line);
-        match integer(characters) {
-            Some(number) => Ok((Value::Int(number), rest)),
-            None => Err(ParseRefusal::Syntax),
+        Ok((value(alloc, characters)?, rest))
+    }
+
+    fn push_to(&self, line: &mut String) -> Result<(), NoMemory> {
+        match self {
+            Value::Int(number) => push_integer(line, *number),
+            Value::Text(text) => push_text(line, text.as_str()),
         }
     }
+}
+
+// Writes the kind of a column.
+fn push_kind(line: &mut String, kind: &ColKind) -> Result<(), NoMemory>
+    ensures { OnOk result (string_bytes line.new ≡ string_bytes line.old ++ kind_text kind.now) }
+{
+    match kind {
+        ColKind::Int => line.push_str("int")?,
+        ColKind::Text => line.push_str("text")?,
+        ColKind::Ref(table) => {
+            line.push_str("ref ")?;
+            line.push_str(table.as_str())?;
+        }
+    }
+    Ok(())
 }
 
 impl Item for Column {
     ghost symbols = { column_symbols };
 
+    ghost free = { λ c. (refl, refl) };
+
     fn read(alloc: Global, line: &[u8]) -> Result<(Column, &[u8]), ParseRefusal> {
         let (name, line) = name(alloc, line)?;
-        let line = expect(line, b"int")?;
-        Ok((
-            Column {
-                name,
-                kind: ColKind::Int,
-            },
-            line,
-        ))
+        let (kind, line) = kind(line)?;
+        Ok((Column { name, kind }, line))
+    }
+
+    fn push_to(&self, line: &mut String) -> Result<(), NoMemory> {
+        line.push_str(self.name.as_str())?;
+        line.push_str(" ")?;
+        push_kind(line, &self.kind)
     }
 }
 
-/// The items of a list, one or more, and what stands behind its closing parenthesis.
-pub fn list<T: Item>(alloc: Global, line: &[u8]) -> Result<(Vec<T>, &[u8]), ParseRefusal>
-    ensures items { IfOk result (λ r. BeginsWithList T.symbols line.now r.0.items r.1.now) }
-    ensures syntax { IsErrOf result ParseRefusal.Syntax → BeginsWithNoList T.symbols line.now }
+impl Item for ColName {
+    ghost symbols = { name_symbols };
+
+    ghost free = { name_symbols-free };
+
+    fn read(alloc: Global, line: &[u8]) -> Result<(ColName, &[u8]), ParseRefusal> {
+        let (first, rest) = name(alloc, line)?;
+        match after(rest, b".") {
+            None => Ok((
+                ColName {
+                    table: None,
+                    column: first,
+                },
+                rest,
+            )),
+            Some(behind) => {
+                let (column, rest) = name(alloc, behind)?;
+                Ok((
+                    ColName {
+                        table: Some(first),
+                        column,
+                    },
+                    rest,
+                ))
+            }
+        }
+    }
+
+    fn push_to(&self, line: &mut String) -> Result<(), NoMemory> {
+        if let Some(table) = &self.table {
+            line.push_str(table.as_str())?;
+            line.push_str(".")?;
+        }
+        line.push_str(self.column.as_str())?;
+        Ok(())
+    }
+}
+
+impl Item for Setting {
+    ghost symbols = { setting_symbols };
+
+    ghost free = { λ s. (refl, refl) };
+
+    fn read(alloc: Global, line: &[u8]) -> Result<(Setting, &[u8]), ParseRefusal> {
+        let (column, line) = name(alloc, line)?;
+        let line = expect(line, b"=")?;
+        let (value, line) = Value::read(alloc, line)?;
+        Ok((Setting { column, value }, line))
+    }
+
+    fn push_to(&self, line: &mut String) -> Result<(), NoMemory> {
+        line.push_str(self.column.as_str())?;
+        line.push_str(" = ")?;
+        self.value.push_to(line)
+    }
+}
+
+// The characters of an operator.
+fn operator_str(op: Op) -> &'static str
+    ensures { result.now ≡ operator_text op }
+{
+    match op {
+        Op::Eq => "=",
+        Op::Ne => "<>",
+        Op::Lt => "<",
+        Op::Le => "<=",
+        Op::Gt => ">",
+        Op::Ge => ">=",
+    }
+}
+
+impl Item for Cond {
+    ghost symbols = { condition_symbols };
+
+    ghost free = { condition_symbols-free };
+
+    fn read(alloc: Global, line: &[u8]) -> Result<(Cond, &[u8]), ParseRefusal> {
+        let (column, line) = ColName::read(alloc, line)?;
+        let (op, line) = operator(line)?;
+        let (value, line) = Value::read(alloc, line)?;
+        Ok((Cond { column, op, value }, line))
+    }
+
+    fn push_to(&self, line: &mut String) -> Result<(), NoMemory> {
+        self.column.push_to(line)?;
+        line.push_str(" ")?;
+        line.push_str(operator_str(self.op))?;
+        line.push_str(" ")?;
+        self.value.push_to(line)
+    }
+}
+
+/// The items of a list, one or more, with this keyword or sign between two of them, and what stands behind the last.
+pub fn list<'a, T: Item>(
+    alloc: Global,
+    line: &'a [u8],
+    between: &[u8],
+) -> Result<(Vec<T>, &'a [u8]), ParseRefusal>
+    requires some { 0 < length between.now }
+    requires no_dot { between.now ≢ codes "." }
+    ensures items { IfOk result (λ r. BeginsWithList T.symbols between.now line.now r.0.items r.1.now) }
+    ensures syntax { IsErrOf result ParseRefusal.Syntax → BeginsWithNoList T.symbols between.now line.now }
 {
     let mut items = Vec::new(alloc);
     let mut rest = line;
     loop {
         let (item, behind) = T::read(alloc, rest)?;
         items.push(item)?;
-        let (sign, behind) = split_lexeme(behind);
-        if sign == b",".as_slice() {
-            rest = behind;
-        } else if sign == b")".as_slice() {
-            return Ok((items, behind));
-        } else {
-            return Err(ParseRefusal::Syntax);
+        match after(behind, between) {
+            Some(next) => rest = next,
+            None => return Ok((items, behind)),
         }
     }
+}
+
+/// Writes items with a text between two of them.
+pub fn push_list<T: Item>(line: &mut String, items: &[T], between: &str) -> Result<(), NoMemory>
+    ensures { OnOk result (string_bytes line.new ≡ string_bytes line.old ++ joined T.symbols between.now items.now) }
+{
+    let Some((first, others)) = items.split_first() else {
+        return Ok(());
+    };
+    first.push_to(line)?;
+    for item in others {
+        line.push_str(between)?;
+        item.push_to(line)?;
+    }
+    Ok(())
 }

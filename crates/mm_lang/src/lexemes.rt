@@ -4,7 +4,7 @@ ghost use Rattle.std.specs.Prelude.{◌≡◌, ◌≤◌, length};
 ghost use Rattle.std.specs.List.{prefix_len};
 ghost use Rattle.plain_tables.specs.Names.{is_letter, is_word_character};
 ghost use Rattle.plain_tables.specs.Spelling.{is_blank};
-ghost use Rattle.plain_tables.specs.Reading.{behind_blanks, lexeme, after_lexeme, lexeme_length};
+ghost use Rattle.plain_tables.specs.Reading.{lexeme, after_lexeme, lexeme_length, length_behind, text_length, operator_length, is_operator};
 
 /// Whether a character is `a` to `z`, `A` to `Z` or `_`.
 pub fn is_letter_byte(c: u8) -> bool
@@ -38,6 +38,57 @@ fn blanks_length(text: &[u8]) -> usize
         .count()
 }
 
+// How many characters of a text stand behind its first quote mark, up to the mark that closes it. Two marks are one
+// that is in the text.
+fn quoted_length(characters: &[u8]) -> usize
+    ensures value { result ≡ text_length characters.now }
+    ensures within { result ≤ length characters.now }
+{
+    let mut at = 0;
+    while at < characters.len() {
+        if characters[at] != b'\'' {
+            at += 1;
+        } else if at + 1 < characters.len() && characters[at + 1] == b'\'' {
+            at += 2;
+        } else {
+            return at + 1;
+        }
+    }
+    at
+}
+
+// Whether two characters are one operator.
+fn is_long_operator(c: u8, d: u8) -> bool
+    ensures { result ≡ is_operator c d }
+{
+    matches!((c, d), (b'<', b'=' | b'>') | (b'>', b'='))
+}
+
+// How many characters of an operator stand behind its first.
+fn operator_rest(c: u8, behind: &[u8]) -> usize
+    ensures value { result ≡ operator_length c behind.now }
+    ensures within { result ≤ length behind.now }
+{
+    match behind.split_first() {
+        Some((d, _)) if is_long_operator(c, *d) => 1,
+        _ => 0,
+    }
+}
+
+// How many characters of a symbol stand behind its first.
+fn symbol_rest(c: u8, behind: &[u8]) -> usize
+    ensures value { result ≡ length_behind c behind.now }
+    ensures within { result ≤ length behind.now }
+{
+    if c == b'-' || is_word_byte(c) {
+        run_length(behind)
+    } else if c == b'\'' {
+        quoted_length(behind)
+    } else {
+        operator_rest(c, behind)
+    }
+}
+
 // How many characters the first symbol has, of a text with no blank at its front.
 fn first_length(text: &[u8]) -> usize
     ensures value { result ≡ lexeme_length text.now }
@@ -45,8 +96,7 @@ fn first_length(text: &[u8]) -> usize
 {
     match text.split_first() {
         None => 0,
-        Some((c, behind)) if *c == b'-' || is_word_byte(*c) => 1 + run_length(behind),
-        Some(_) => 1,
+        Some((c, behind)) => 1 + symbol_rest(*c, behind),
     }
 }
 

@@ -1,18 +1,22 @@
 //! The command language: what a command line asks for.
 //!
 //! A line is symbols with blanks between them. The module `lexemes` finds the characters of a line's first symbol,
-//! `symbols`, `numbers` and `items` read what they stand for, and `parser` has a function for each production of the grammar.
-//! The text is walked once, and no memory is taken but for what the command holds.
+//! `symbols`, `numbers`, `texts` and `items` read what they stand for, and `parser` has a function for each production of
+//! the grammar. No memory is taken but for what the command holds. The module `printer` writes a command in its one
+//! canonical spelling, which `items`, `numbers` and `texts` have the parts of.
 #![tactic(auto)]
 
 mod items;
 mod lexemes;
 mod numbers;
 mod parser;
+mod printer;
 mod refusal;
 mod symbols;
+mod texts;
 
 pub use parser::parse;
+pub use printer::print;
 pub use refusal::ParseRefusal;
 
 #[cfg(test)]

@@ -1,8 +1,13 @@
 //! Integers and their digits.
 
-ghost use Rattle.std.specs.Prelude.{ℕ, ℤ, ◌^◌, ◌<◌, MatchOption, SomeIff};
+ghost use Rattle.std.specs.Prelude.{◌≡◌, ◌++◌, ℕ, ℤ, ◌^◌, ◌<◌, MatchOption, OnOk, SomeIff};
+ghost use Rattle.std.specs.Fmt.{signed_decimal};
 ghost use Rattle.std.specs.Str.Parse.{IsNumeral, digits_value};
+ghost use Rattle.std.specs.String.{string_bytes};
 ghost use Rattle.plain_tables.specs.Spelling.{IsInteger};
+
+use itoa::Buffer;
+use plain_tables::NoMemory;
 
 // The number that digits write, where it is below 2 to the 64th. Zeros may stand in front.
 fn magnitude(digits: &[u8]) -> Option<u64>
@@ -29,4 +34,13 @@ pub fn integer(characters: &[u8]) -> Option<i64>
         Some((b'-', digits)) => 0_i64.checked_sub_unsigned(magnitude(digits)?),
         _ => 0_i64.checked_add_unsigned(magnitude(characters)?),
     }
+}
+
+/// Writes an integer, with no zeros in front.
+pub fn push_integer(line: &mut String, number: i64) -> Result<(), NoMemory>
+    ensures { OnOk result (string_bytes line.new ≡ string_bytes line.old ++ signed_decimal number) }
+{
+    let mut buffer = Buffer::new();
+    line.push_str(buffer.format(number))?;
+    Ok(())
 }

@@ -1,15 +1,17 @@
 //! A function for each production of the grammar.
 
-ghost use Rattle.std.specs.Prelude.{◌≡◌, ℕ, List, codes, IfOk, OnErr, IsErrOf};
-ghost use Rattle.plain_tables.specs.Spelling.{Spells, AreBlanks};
+ghost use Rattle.std.specs.Prelude.{◌≡◌, ◌≢◌, ℕ, List, [], codes, IfOk, IsErrOf, MatchResult};
+ghost use Rattle.plain_tables.specs.Spelling.{Spells};
+ghost use Rattle.plain_tables.specs.Reading.{lexeme};
 ghost use Rattle.plain_tables.specs.declared.command.Command.{Command};
-ghost use Rattle.mm_lang.specs.Parsing.{Completes, IsNameAndList};
+ghost use Rattle.plain_tables.specs.declared.condition.Cond.{Cond};
+ghost use Rattle.mm_lang.specs.Parsing.{Completes, IsOfText, IsNameAndList, IsWhere, BeginsWithItems, BeginsWithNoItems};
 
 use crate::ParseRefusal;
 use crate::items::{Item, list};
 use crate::lexemes::split_lexeme;
-use crate::symbols::{expect, name};
-use plain_tables::{Command, Schema, Sequence, Text};
+use crate::symbols::{after, expect, name};
+use plain_tables::{Command, Cond, Items, Schema, Sequence, Text};
 use std::alloc::Global;
 
 /// The command that a line spells.
@@ -19,11 +21,19 @@ pub fn parse(alloc: Global, line: &str) -> Result<Command, ParseRefusal>
     ensures command { IfOk result (λ c. Spells line.now c) }
     ensures syntax { IsErrOf result ParseRefusal.Syntax → (c : Command) → Spells line.now c → ⊥ }
 {
-    let (word, rest) = split_lexeme(line.as_bytes());
+    let bytes = line.as_bytes();
+    if bytes.contains(&b'\n') {
+        return Err(ParseRefusal::Syntax);
+    }
+    let (word, rest) = split_lexeme(bytes);
     if word == b"insert".as_slice() {
         insert(alloc, rest)
     } else if word == b"select".as_slice() {
         select(alloc, rest)
+    } else if word == b"update".as_slice() {
+        update(alloc, rest)
+    } else if word == b"delete".as_slice() {
+        delete(alloc, rest)
     } else if word == b"table".as_slice() {
         table(alloc, rest)
     } else {
@@ -34,7 +44,7 @@ pub fn parse(alloc: Global, line: &str) -> Result<Command, ParseRefusal>
 // NAME ( COLUMN {, COLUMN} )
 fn table(alloc: Global, line: &[u8]) -> Result<Command, ParseRefusal>
     ensures command { IfOk result (λ c. Completes (codes "table") line.now c) }
-    ensures syntax { IsErrOf result ParseRefusal.Syntax → (c : Command) → Completes (codes "table") line.now c → ⊥ }
+    ensures syntax { IsErrOf result ParseRefusal.Syntax → IsOfText line.now → (c : Command) → Completes (codes "table") line.now c → ⊥ }
 {
     let (name, columns) = name_and_list(alloc, line)?;
     Ok(Command::Table {
@@ -48,7 +58,7 @@ fn table(alloc: Global, line: &[u8]) -> Result<Command, ParseRefusal>
 // NAME ( VALUE {, VALUE} )
 fn insert(alloc: Global, line: &[u8]) -> Result<Command, ParseRefusal>
     ensures command { IfOk result (λ c. Completes (codes "insert") line.now c) }
-    ensures syntax { IsErrOf result ParseRefusal.Syntax → (c : Command) → Completes (codes "insert") line.now c → ⊥ }
+    ensures syntax { IsErrOf result ParseRefusal.Syntax → IsOfText line.now → (c : Command) → Completes (codes "insert") line.now c → ⊥ }
 {
     let (table, values) = name_and_list(alloc, line)?;
     Ok(Command::Insert {
@@ -57,34 +67,95 @@ fn insert(alloc: Global, line: &[u8]) -> Result<Command, ParseRefusal>
     })
 }
 
-// * from NAME
+// NAME set NAME = VALUE {, NAME = VALUE} [where ..]
+fn update(alloc: Global, line: &[u8]) -> Result<Command, ParseRefusal>
+    ensures command { IfOk result (λ c. Completes (codes "update") line.now c) }
+    ensures syntax { IsErrOf result ParseRefusal.Syntax → IsOfText line.now → (c : Command) → Completes (codes "update") line.now c → ⊥ }
+{
+    let (table, behind_name) = name(alloc, line)?;
+    let front = expect(behind_name, b"set")?;
+    let (settings, rest) = list(alloc, front, b",")?;
+    let conditions = conditions(alloc, rest)?;
+    Ok(Command::Update {
+        table,
+        settings: Sequence::from_vec(settings),
+        conditions: Sequence::from_vec(conditions),
+    })
+}
+
+// NAME [where ..]
+fn delete(alloc: Global, line: &[u8]) -> Result<Command, ParseRefusal>
+    ensures command { IfOk result (λ c. Completes (codes "delete") line.now c) }
+    ensures syntax { IsErrOf result ParseRefusal.Syntax → IsOfText line.now → (c : Command) → Completes (codes "delete") line.now c → ⊥ }
+{
+    let (table, rest) = name(alloc, line)?;
+    let conditions = conditions(alloc, rest)?;
+    Ok(Command::Delete {
+        table,
+        conditions: Sequence::from_vec(conditions),
+    })
+}
+
+// ITEMS from NAME [where ..]
 fn select(alloc: Global, line: &[u8]) -> Result<Command, ParseRefusal>
     ensures command { IfOk result (λ c. Completes (codes "select") line.now c) }
-    ensures syntax { IsErrOf result ParseRefusal.Syntax → (c : Command) → Completes (codes "select") line.now c → ⊥ }
+    ensures syntax { IsErrOf result ParseRefusal.Syntax → IsOfText line.now → (c : Command) → Completes (codes "select") line.now c → ⊥ }
 {
-    let behind_star = expect(line, b"*")?;
-    let behind_from = expect(behind_star, b"from")?;
-    let (table, rest) = name(alloc, behind_from)?;
+    let (items, behind_items) = items(alloc, line)?;
+    let front = expect(behind_items, b"from")?;
+    let (table, rest) = name(alloc, front)?;
+    let conditions = conditions(alloc, rest)?;
+    Ok(Command::Select {
+        items,
+        table,
+        conditions: Sequence::from_vec(conditions),
+    })
+}
+
+// * or NAME {, NAME}
+fn items(alloc: Global, line: &[u8]) -> Result<(Items, &[u8]), ParseRefusal>
+    ensures items { IfOk result (λ r. BeginsWithItems line.now r.0 r.1.now) }
+    ensures syntax { IsErrOf result ParseRefusal.Syntax → BeginsWithNoItems line.now }
+{
+    match after(line, b"*") {
+        Some(rest) => Ok((Items::All, rest)),
+        None => {
+            let (names, rest) = list(alloc, line, b",")?;
+            Ok((Items::Named(Sequence::from_vec(names)), rest))
+        }
+    }
+}
+
+// where CONDITION {and CONDITION}, or nothing, and the end of the line
+fn conditions(alloc: Global, line: &[u8]) -> Result<Vec<Cond>, ParseRefusal>
+    ensures conditions { IfOk result (λ v. IsWhere line.now v.items) }
+    ensures syntax { IsErrOf result ParseRefusal.Syntax → IsOfText line.now → (cs : List Cond) → IsWhere line.now cs → ⊥ }
+{
+    let Some(front) = after(line, b"where") else {
+        end(line)?;
+        return Ok(Vec::new(alloc));
+    };
+    let (conditions, rest) = list(alloc, front, b"and")?;
     end(rest)?;
-    Ok(Command::Select { table })
+    Ok(conditions)
 }
 
 // NAME ( ITEM {, ITEM} )
 fn name_and_list<T: Item>(alloc: Global, line: &[u8]) -> Result<(Text, Vec<T>), ParseRefusal>
     ensures both { IfOk result (λ r. IsNameAndList T.symbols line.now r.0 r.1.items) }
-    ensures syntax { IsErrOf result ParseRefusal.Syntax → (name : List ℕ) (xs : List T) → IsNameAndList T.symbols line.now name xs → ⊥ }
+    ensures syntax { IsErrOf result ParseRefusal.Syntax → IsOfText line.now → (name : List ℕ) (xs : List T) → IsNameAndList T.symbols line.now name xs → ⊥ }
 {
     let (name, behind_name) = name(alloc, line)?;
     let front = expect(behind_name, b"(")?;
-    let (items, rest) = list(alloc, front)?;
+    let (items, behind_items) = list(alloc, front, b",")?;
+    let rest = expect(behind_items, b")")?;
     end(rest)?;
     Ok((name, items))
 }
 
 // Refuses a line that isn't blanks alone.
 fn end(line: &[u8]) -> Result<(), ParseRefusal>
-    ensures blank { IfOk result (λ _. AreBlanks line.now) }
-    ensures more { OnErr result (AreBlanks line.now → ⊥) }
+    ensures { MatchResult result (λ _. lexeme line.now ≡ []) (λ _. lexeme line.now ≢ []) }
 {
     let (characters, _) = split_lexeme(line);
     if characters.is_empty() {

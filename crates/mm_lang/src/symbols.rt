@@ -1,15 +1,17 @@
-//! Symbols of one lexeme: keywords, signs and names.
+//! Symbols of one lexeme: keywords, signs, names, operators and kinds of columns.
 
-ghost use Rattle.std.specs.Prelude.{◌≡◌, ◌≢◌, ◌<◌, ◌≤◌, length, IfOk, OnErr, IsErrOf, IsTrue};
+ghost use Rattle.std.specs.Prelude.{◌≡◌, ◌≢◌, IfOk, IsErrOf, IsTrue, MatchOption, MatchResult};
 ghost use Rattle.std.specs.List.{list_any, list_all};
 ghost use Rattle.std.specs.Str.{bytes_eq};
-ghost use Rattle.plain_tables.specs.Names.{is_name, is_word, is_word_character, is_reserved};
+ghost use Rattle.plain_tables.specs.Names.{IsName, is_name, is_word, is_word_character, is_reserved};
+ghost use Rattle.plain_tables.specs.Spelling.{IsSymbol, Kind, operator_text};
 ghost use Rattle.plain_tables.specs.Reading.{lexeme, after_lexeme};
-ghost use Rattle.mm_lang.specs.Parsing.{BeginsWith, BeginsWithNone, name_symbols};
+ghost use Rattle.plain_tables.specs.declared.condition.Op.{Op};
+ghost use Rattle.plain_tables.specs.declared.schema.ColKind.{ColKind};
 
 use crate::ParseRefusal;
 use crate::lexemes::{is_letter_byte, is_word_byte, split_lexeme};
-use plain_tables::Text;
+use plain_tables::{ColKind, Op, Text};
 use std::alloc::Global;
 
 // The words that name no table and no column.
@@ -77,24 +79,32 @@ fn is_whole_name(characters: &[u8]) -> bool
     is_whole_word(characters) && characters.len() <= 32 && !is_reserved_word(characters)
 }
 
-/// What stands behind this keyword or sign. The error is `Syntax`, where the line begins with something else.
-pub fn expect<'a>(line: &'a [u8], symbol: &[u8]) -> Result<&'a [u8], ParseRefusal>
-    ensures found { IfOk result (λ rest. (lexeme line.now ≡ symbol.now) × (rest.now ≡ after_lexeme line.now)) }
-    ensures other { OnErr result (lexeme line.now ≢ symbol.now) }
+/// What stands behind this keyword or sign, if the line begins with it.
+pub fn after<'a>(line: &'a [u8], symbol: &[u8]) -> Option<&'a [u8]>
+    ensures { MatchOption result (lexeme line.now ≢ symbol.now) (λ rest. (lexeme line.now ≡ symbol.now) × (rest.now ≡ after_lexeme line.now)) }
 {
     let (characters, rest) = split_lexeme(line);
     if characters == symbol {
-        Ok(rest)
+        Some(rest)
     } else {
-        Err(ParseRefusal::Syntax)
+        None
+    }
+}
+
+/// What stands behind this keyword or sign. The error is `Syntax`, where the line begins with something else.
+pub fn expect<'a>(line: &'a [u8], symbol: &[u8]) -> Result<&'a [u8], ParseRefusal>
+    ensures { MatchResult result (λ rest. (lexeme line.now ≡ symbol.now) × (rest.now ≡ after_lexeme line.now)) (λ _. lexeme line.now ≢ symbol.now) }
+{
+    match after(line, symbol) {
+        Some(rest) => Ok(rest),
+        None => Err(ParseRefusal::Syntax),
     }
 }
 
 /// The name at the front, and what stands behind it.
 pub fn name(alloc: Global, line: &[u8]) -> Result<(Text, &[u8]), ParseRefusal>
-    ensures name { IfOk result (λ r. BeginsWith name_symbols line.now r.0 r.1.now) }
-    ensures shorter { IfOk result (λ r. length r.1.now ≤ length line.now) }
-    ensures syntax { IsErrOf result ParseRefusal.Syntax → BeginsWithNone name_symbols line.now }
+    ensures name { IfOk result (λ r. IsName (lexeme line.now) × (r.0 ≡ lexeme line.now) × (r.1.now ≡ after_lexeme line.now)) }
+    ensures syntax { IsErrOf result ParseRefusal.Syntax → IsName (lexeme line.now) → ⊥ }
 {
     let (characters, rest) = split_lexeme(line);
     if !is_whole_name(characters) {
@@ -102,4 +112,50 @@ pub fn name(alloc: Global, line: &[u8]) -> Result<(Text, &[u8]), ParseRefusal>
     }
     let text = str::from_utf8(characters).unwrap();
     Ok((Text::from_str(alloc, text)?, rest))
+}
+
+// The operator that these characters are.
+fn operator_of(characters: &[u8]) -> Option<Op>
+    ensures { MatchOption result ((op : Op) → characters.now ≢ operator_text op) (λ op. characters.now ≡ operator_text op) }
+{
+    if characters == b"=".as_slice() {
+        Some(Op::Eq)
+    } else if characters == b"<>".as_slice() {
+        Some(Op::Ne)
+    } else if characters == b"<".as_slice() {
+        Some(Op::Lt)
+    } else if characters == b"<=".as_slice() {
+        Some(Op::Le)
+    } else if characters == b">".as_slice() {
+        Some(Op::Gt)
+    } else if characters == b">=".as_slice() {
+        Some(Op::Ge)
+    } else {
+        None
+    }
+}
+
+/// The operator at the front, and what stands behind it.
+pub fn operator(line: &[u8]) -> Result<(Op, &[u8]), ParseRefusal>
+    ensures { MatchResult result (λ r. (lexeme line.now ≡ operator_text r.0) × (r.1.now ≡ after_lexeme line.now)) (λ _. (op : Op) → lexeme line.now ≢ operator_text op) }
+{
+    let (characters, rest) = split_lexeme(line);
+    match operator_of(characters) {
+        Some(op) => Ok((op, rest)),
+        None => Err(ParseRefusal::Syntax),
+    }
+}
+
+/// The kind of a column at the front, and what stands behind it.
+pub fn kind(line: &[u8]) -> Result<(ColKind, &[u8]), ParseRefusal>
+    ensures { MatchResult result (λ r. IsSymbol (lexeme line.now) (Kind r.0) × (r.1.now ≡ after_lexeme line.now)) (λ _. (k : ColKind) → IsSymbol (lexeme line.now) (Kind k) → ⊥) }
+{
+    let (characters, rest) = split_lexeme(line);
+    if characters == b"int".as_slice() {
+        Ok((ColKind::Int, rest))
+    } else if characters == b"text".as_slice() {
+        Ok((ColKind::Text, rest))
+    } else {
+        Err(ParseRefusal::Syntax)
+    }
 }

@@ -5,15 +5,16 @@ use Rattle.std.proofs.lemmas.List.{set-get_or}
 use Rattle.std.proofs.lemmas.List.Folds.{find_at}
 use Rattle.std.specs.List.{find}
 use Rattle.plain_tables.specs.Tables.{Table, Row}
-use Rattle.plain_tables.specs.Databases.{Database, is_named, table_named}
-use Rattle.plain_tables.specs.Effects.{Effect, Check, checked, on_table, insert_checks, table_checks, new_table, grown_by, full_names, effect_of, Done, Changed, Rows}
+use Rattle.plain_tables.specs.Databases.{Database, is_named, table_named, with_table}
+use Rattle.plain_tables.specs.Effects.{Effect, Outcome, Check, checked, on_table, insert_checks, table_checks, new_table, grown_by, effect_of, Done, Changed}
+use Rattle.plain_tables.specs.AnswerText.{answer_text}
 use Rattle.plain_tables.specs.Runs.{refused}
 use Rattle.plain_tables.specs.declared.command.Limits.{Limits}
 use Rattle.plain_tables.specs.declared.command.Command.TheVariants as command
 use Rattle.plain_tables.specs.declared.schema.Schema.{Schema}
 use Rattle.plain_tables.specs.declared.refusal.Refusal.{Refusal}
 use Rattle.plain_tables.specs.declared.refusal.Refusal.TheVariants.{NoSuchTable}
-use Rattle.mm_session.specs.Answered.{first_refusal, IsRefusedBy, DoesNothing}
+use Rattle.mm_session.specs.Answered.{first_refusal, IsRefusedBy, IsChangedTo, DoesAll, DoesNothing}
 use Rattle.mm_session.proofs.TableLemmas.{position_or_len-position, is_some-find-position}
 
 -- ---- checks
@@ -57,46 +58,60 @@ on_table-nowhere tables name effect h = rw h refl
 
 -- ---- the commands
 
-module _ (limits : Limits) (tables : Database) (name : List ℕ) (row : Row) (i : ℕ) (t u : Table)
-    (place : position (is_named name) tables ≡ Some i) (there : slice_get tables i ≡ Some t) where
-  insert_done : first_refusal (insert_checks limits t row) ≡ None → u ≡ grown_by row t
-      → effect_of limits tables (command.Insert name row) ≡ record { database = set tables i u; outcome = Changed 1 }
-  insert_done passes grown =
-      on_table-there tables name t _ (table_named-at tables name i t place there)
-      ∙ checked-None tables (insert_checks limits t row) _ passes
-      ∙ rw (position_or_len-position (is_named name) tables i place, grown) refl
+pub nowhere : (tables : Database) (name : List ℕ) (effect : Table → Effect) → position (is_named name) tables ≡ None
+    → on_table name tables effect ≡ refused tables NoSuchTable
+nowhere tables name effect none = on_table-nowhere tables name effect (table_named-nowhere tables name none)
 
-  insert_refused : (r : Refusal) → first_refusal (insert_checks limits t row) ≡ Some r → effect_of limits tables (command.Insert name row) ≡ refused tables r
-  insert_refused r stops =
-      on_table-there tables name t _ (table_named-at tables name i t place there)
-      ∙ checked-Some tables (insert_checks limits t row) _ r stops
+module _ (tables : Database) (name : List ℕ) (i : ℕ) (t : Table) (place : position (is_named name) tables ≡ Some i) (there : slice_get tables i ≡ Some t)
+    (checks : Table → List Check) where
+  passed : (body : Table → Effect) → first_refusal (checks t) ≡ None → on_table name tables (λ u. checked tables (checks u) (body u)) ≡ body t
+  passed body passes =
+      on_table-there tables name t (λ u. checked tables (checks u) (body u)) (table_named-at tables name i t place there)
+      ∙ checked-None tables (checks t) (body t) passes
 
-  -- the table's answer is the command's
-  pub insert_ok : (result : Result (Unit {0}) Refusal) → OnOk result ((first_refusal (insert_checks limits t row) ≡ None) × (u ≡ grown_by row t))
-      → OnOk result (effect_of limits tables (command.Insert name row) ≡ record { database = set tables i u; outcome = Changed 1 })
-  insert_ok (Ok x) h = insert_done h.0 h.1
-  insert_ok (Err r) h = tt
+  stopped : (body : Table → Effect) (r : Refusal) → first_refusal (checks t) ≡ Some r → on_table name tables (λ u. checked tables (checks u) (body u)) ≡ refused tables r
+  stopped body r stops =
+      on_table-there tables name t (λ u. checked tables (checks u) (body u)) (table_named-at tables name i t place there)
+      ∙ checked-Some tables (checks t) (body t) r stops
 
-  pub insert_err : (result : Result (Unit {0}) Refusal) → IfErr result (λ r. IsRefusedBy (insert_checks limits t row) r × (u ≡ t))
-      → IfErr result (DoesNothing (effect_of limits tables (command.Insert name row)) tables (set tables i u))
-  insert_err (Ok x) h = tt
-  insert_err (Err r) h = (
+  -- the table's change is the command's
+  pub changes : (change : Table → Table) (count : Table → ℕ) (u : Table) (before after : List ℕ) (result : Result (Unit {0}) Refusal)
+      → OnOk result (IsChangedTo (checks t) (change t) (count t) u before after)
+      → OnOk result (DoesAll (on_table name tables (λ v. checked tables (checks v) (record { database = with_table name (change v) tables; outcome = Changed (count v) })))
+      (set tables i u) before after)
+  changes change count u before after (Ok x) h =
+      rw (passed (λ v. record { database = with_table name (change v) tables; outcome = Changed (count v) }) h.0)
+      (rw (position_or_len-position (is_named name) tables i place, h.1) refl, h.2)
+  changes change count u before after (Err r) h = tt
+
+  pub keeps : (body : Table → Effect) (u : Table) (result : Result (Unit {0}) Refusal) → IfErr result (λ r. IsRefusedBy (checks t) r × (u ≡ t))
+      → IfErr result (DoesNothing (on_table name tables (λ v. checked tables (checks v) (body v))) tables (set tables i u))
+  keeps body u (Ok x) h = tt
+  keeps body u (Err r) h = (
     ap (set tables i) (h.1 ∙ sym (get_or_from_slice_get tables i t t there)) ∙ set-get_or tables i t,
-    elim h.0 [ inl no_memory ↦ inl no_memory | inr stops ↦ inr (insert_refused r stops) ],
+    elim h.0 [ inl no_memory ↦ inl no_memory | inr stops ↦ inr (stopped body r stops) ],
   )
 
-pub insert_nowhere : (limits : Limits) (tables : Database) (name : List ℕ) (row : Row) → position (is_named name) tables ≡ None
-    → effect_of limits tables (command.Insert name row) ≡ refused tables NoSuchTable
-insert_nowhere limits tables name row nowhere = on_table-nowhere tables name _ (table_named-nowhere tables name nowhere)
+  -- a command that only answers
+  pub shows : (shown : Table → Outcome) (before after : List ℕ) (result : Result (Unit {0}) Refusal)
+      → OnOk result ((first_refusal (checks t) ≡ None) × (after ≡ before ++ answer_text (shown t)))
+      → OnOk result (DoesAll (on_table name tables (λ v. checked tables (checks v) (record { database = tables; outcome = shown v }))) tables before after)
+  shows shown before after (Ok x) h = rw (passed (λ v. record { database = tables; outcome = shown v }) h.0) (refl, h.1)
+  shows shown before after (Err r) h = tt
 
-pub select_done : (limits : Limits) (tables : Database) (name : List ℕ) (i : ℕ) (t : Table)
-    → position (is_named name) tables ≡ Some i → slice_get tables i ≡ Some t
-    → effect_of limits tables (command.Select name) ≡ record { database = tables; outcome = Rows (full_names t) t.rows }
-select_done limits tables name i t place there = on_table-there tables name t _ (table_named-at tables name i t place there)
+  pub shows_none : (body : Table → Effect) (result : Result (Unit {0}) Refusal) → IfErr result (IsRefusedBy (checks t))
+      → IfErr result (DoesNothing (on_table name tables (λ v. checked tables (checks v) (body v))) tables tables)
+  shows_none body (Ok x) h = tt
+  shows_none body (Err r) h = (refl, elim h [ inl no_memory ↦ inl no_memory | inr stops ↦ inr (stopped body r stops) ])
 
-pub select_nowhere : (limits : Limits) (tables : Database) (name : List ℕ) → position (is_named name) tables ≡ None
-    → effect_of limits tables (command.Select name) ≡ refused tables NoSuchTable
-select_nowhere limits tables name nowhere = on_table-nowhere tables name _ (table_named-nowhere tables name nowhere)
+-- a row put in
+pub insert_ok : (limits : Limits) (tables : Database) (name : List ℕ) (row : Row) (i : ℕ) (t u : Table) → position (is_named name) tables ≡ Some i → slice_get tables i ≡ Some t
+    → (result : Result (Unit {0}) Refusal) → OnOk result ((first_refusal (insert_checks limits t row) ≡ None) × (u ≡ grown_by row t))
+    → OnOk result (effect_of limits tables (command.Insert name row) ≡ record { database = set tables i u; outcome = Changed 1 })
+insert_ok limits tables name row i t u place there (Ok x) h =
+    passed tables name i t place there (λ v. insert_checks limits v row) (λ v. record { database = with_table name (grown_by row v) tables; outcome = Changed 1 }) h.0
+    ∙ rw (position_or_len-position (is_named name) tables i place, h.1) refl
+insert_ok limits tables name row i t u place there (Err r) h = tt
 
 pub table_done : (limits : Limits) (tables : Database) (name : List ℕ) (schema : Schema) → first_refusal (table_checks name schema tables) ≡ None
     → effect_of limits tables (command.Table name schema) ≡ record { database = tables ++ new_table name schema ∷ []; outcome = Done }

@@ -1,7 +1,12 @@
 pub mod AnswerLemmas
+pub mod CheckLemmas
+pub mod ColumnLemmas
+pub mod CommandLemmas
 pub mod EffectLemmas
 pub mod KeptLemmas
+pub mod ResolvedLemmas
 pub mod ResultLemmas
+pub mod RowLemmas
 pub mod RowPlaces
 pub mod RunLemmas
 pub mod TableLemmas

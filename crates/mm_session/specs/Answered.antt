@@ -1,7 +1,8 @@
 -- What a command did, or why it did nothing.
 use Rattle.std.specs.Prelude.{◌≡◌, ℕ, List, [], ◌∷◌, ◌++◌, Option, Some, None, if◌then◌else◌, ◌⊎◌}
+use Rattle.plain_tables.specs.Tables.{Table}
 use Rattle.plain_tables.specs.Databases.{Database}
-use Rattle.plain_tables.specs.Effects.{Check, Effect, effect_of}
+use Rattle.plain_tables.specs.Effects.{Check, Effect, Changed, effect_of}
 use Rattle.plain_tables.specs.Spelling.{Spells}
 use Rattle.plain_tables.specs.declared.command.Command.{Command}
 use Rattle.plain_tables.specs.declared.command.Limits.{Limits}
@@ -18,6 +19,11 @@ first_refusal (check ∷ checks) = if check.refuses then Some check.refusal else
 -- refused for want of memory, or by the first check that refuses
 abbrev pub IsRefusedBy : List Check → Refusal → Type 0
 IsRefusedBy checks refusal = (refusal ≡ NoMemory) ⊎ (first_refusal checks ≡ Some refusal)
+
+-- No check refused, the table became that one, and so many changed rows were answered.
+abbrev pub IsChangedTo : List Check → Table → ℕ → Table → List ℕ → List ℕ → Type 0
+IsChangedTo checks changed count new before after =
+    (first_refusal checks ≡ None) × (new ≡ changed) × (after ≡ before ++ answer_text (Changed count))
 
 -- The effect came about, and its answer was added.
 abbrev pub DoesAll : Effect → Database → List ℕ → List ℕ → Type 0

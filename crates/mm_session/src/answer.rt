@@ -1,11 +1,13 @@
 //! The bytes of one answer, made whole before the first of them is written.
 
 ghost use Rattle.std.specs.Prelude.{◌≡◌, ◌++◌, ◌≤◌, [], length, IfOk, OnOk};
-ghost use Rattle.std.specs.Fmt.{decimal, signed_decimal};
+ghost use Rattle.std.specs.Fmt.{decimal};
 
 use itoa::Buffer;
 use plain_tables::NoMemory;
 use std::alloc::Global;
+use std::io;
+use std::io::Write;
 use std::marker::Model;
 
 /// The bytes of an answer. Short ones need no memory.
@@ -68,10 +70,27 @@ impl Answer {
         self.push(buffer.format(n).as_bytes())
     }
 
-    pub fn push_integer(&mut self, z: i64) -> Result<(), NoMemory>
-        ensures { OnOk result (self.new ≡ self.old ++ signed_decimal z) }
+    /// The same bytes in memory of their own.
+    pub fn try_clone(&self) -> Result<Answer, NoMemory>
+        ensures { IfOk result (λ copy. copy ≡ self.now) }
     {
-        let mut buffer = Buffer::new();
-        self.push(buffer.format(z).as_bytes())
+        let mut copy = Answer::new(*self.bytes.allocator())?;
+        copy.push(self.bytes.as_slice())?;
+        Ok(copy)
+    }
+}
+
+impl Write for Answer {
+    ghost use Rattle.std.specs.Prelude.{Some};
+
+    ghost contents = { λ a. Some a };
+
+    fn write(&mut self, buf: &[u8]) -> io::Result<usize> {
+        self.bytes.extend_from_slice(buf)?;
+        Ok(buf.len())
+    }
+
+    fn flush(&mut self) -> io::Result<()> {
+        Ok(())
     }
 }

@@ -2,17 +2,25 @@
 #![tactic(auto)]
 
 mod answer;
+mod checks;
+mod columns;
+mod conditions;
+mod delete;
 mod fault;
 mod kept;
 mod lines;
+mod projection;
 mod records;
 mod respond;
 mod respond_kept;
+mod select;
 mod session;
+mod settings;
 mod table;
 mod tables;
 #[cfg(test)]
 mod tests;
+mod update;
 mod whole_run;
 mod writing;
 

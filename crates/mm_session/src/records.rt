@@ -1,73 +1,27 @@
 //! The lines of an answer.
 
-ghost use Rattle.std.specs.Prelude.{◌≡◌, ◌++◌, ◌∷◌, OnOk, map};
-ghost use Rattle.std.specs.List.{flat_map};
-ghost use Rattle.plain_tables.specs.AnswerText.{value_text, row_text, fields_text, record_text, refusal_text, record_part};
+ghost use Rattle.std.specs.Prelude.{◌≡◌, ◌++◌, OnOk, codes, decimal};
+ghost use Rattle.plain_tables.specs.AnswerText.{answer_text, text_line, refusal_text, record_part};
+ghost use Rattle.plain_tables.specs.Effects.{Changed};
 
 use crate::answer::Answer;
-use plain_tables::{Column, NoMemory, Refusal, Sequence, Text, Value};
+use plain_tables::{NoMemory, Refusal};
 
-fn push_value(answer: &mut Answer, value: &Value) -> Result<(), NoMemory>
-    ensures { OnOk result (answer.new ≡ answer.old ++ value_text value.now) }
+/// The line that says how many rows follow.
+pub fn push_count(answer: &mut Answer, count: usize) -> Result<(), NoMemory>
+    ensures { OnOk result (answer.new ≡ answer.old ++ text_line (codes "rows " ++ decimal count)) }
 {
-    match value {
-        Value::Int(z) => answer.push_integer(*z),
-        Value::Text(text) => answer.push(text.as_bytes()),
-    }
-}
-
-/// A row as a record.
-pub fn push_row(answer: &mut Answer, row: &[Value]) -> Result<(), NoMemory>
-    ensures { OnOk result (answer.new ≡ answer.old ++ row_text row.now) }
-{
-    if let Some((first, others)) = row.split_first() {
-        push_value(answer, first)?;
-        for value in others {
-            answer.push(b",")?;
-            push_value(answer, value)?;
-        }
-    }
+    answer.push(b"rows ")?;
+    answer.push_number(count as u64)?;
     answer.push(b"\n")
 }
 
-/// The rows in their order, each as a record.
-pub fn push_rows(answer: &mut Answer, rows: &[Sequence<Value>]) -> Result<(), NoMemory>
-    ensures { OnOk result (answer.new ≡ answer.old ++ flat_map row_text rows.now) }
+/// The line that says how many rows a command changed.
+pub fn push_changed(answer: &mut Answer, count: usize) -> Result<(), NoMemory>
+    ensures { OnOk result (answer.new ≡ answer.old ++ answer_text (Changed count)) }
 {
-    for row in rows {
-        push_row(answer, row.as_slice())?;
-    }
-    Ok(())
-}
-
-fn push_full_name(answer: &mut Answer, table: &Text, column: &Column) -> Result<(), NoMemory>
-    ensures { OnOk result (answer.new ≡ answer.old ++ (table.now ++ 46 ∷ column.now.name)) }
-{
-    answer.push(table.as_bytes())?;
-    answer.push(b".")?;
-    answer.push(column.name.as_bytes())
-}
-
-/// The names of the columns, each behind its table's.
-fn push_names(answer: &mut Answer, table: &Text, columns: &[Column]) -> Result<(), NoMemory>
-    ensures { OnOk result (answer.new ≡ answer.old ++ fields_text (map (λ c. table.now ++ 46 ∷ c.name) columns.now)) }
-{
-    let Some((first, others)) = columns.split_first() else {
-        return Ok(());
-    };
-    push_full_name(answer, table, first)?;
-    for column in others {
-        answer.push(b",")?;
-        push_full_name(answer, table, column)?;
-    }
-    Ok(())
-}
-
-/// The names of the columns as a record, each behind its table's.
-pub fn push_header(answer: &mut Answer, table: &Text, columns: &[Column]) -> Result<(), NoMemory>
-    ensures { OnOk result (answer.new ≡ answer.old ++ record_text (map (λ c. table.now ++ 46 ∷ c.name) columns.now)) }
-{
-    push_names(answer, table, columns)?;
+    answer.push(b"ok ")?;
+    answer.push_number(count as u64)?;
     answer.push(b"\n")
 }
 

@@ -1,19 +1,23 @@
 //! The tables of a session, and what its commands do to them.
 
-ghost use Rattle.std.specs.Prelude.{◌≡◌, ◌++◌, ◌∷◌, [], None, map, position, OnOk, IfErr, OnErr, slice_set, slice_get, Some, is_some, codes, decimal, ◌||◌, nat_lt, nat_le, length};
+ghost use Rattle.std.specs.Prelude.{◌≡◌, ◌++◌, ◌∷◌, [], None, map, position, OnOk, IfErr, OnErr, slice_set, slice_get, Some, is_some, codes, decimal, ◌||◌, nat_lt, nat_le, ◌<◌, length};
 ghost use Rattle.std.specs.List.{list_any};
 ghost use Rattle.std.specs.Str.{bytes_eq};
 ghost use Rattle.plain_tables.specs.Databases.{is_named, table_named};
-ghost use Rattle.plain_tables.specs.Effects.{column_names, repeats, table_checks, new_table, full_names, effect_of, Rows, Done};
-ghost use Rattle.plain_tables.specs.AnswerText.{answer_text, text_line};
+ghost use Rattle.plain_tables.specs.Effects.{column_names, repeats, table_checks, effect_of, Done};
+ghost use Rattle.plain_tables.specs.AnswerText.{answer_text};
 ghost use Rattle.plain_tables.specs.declared.command.Limits.{Limits};
 ghost use Rattle.mm_session.specs.Answered.{first_refusal, DoesAll, DoesNothing};
+ghost use Rattle.mm_session.specs.Resolved.{NamesItem};
+ghost use Rattle.plain_tables.specs.Spelling.{NamesSomething};
 ghost use Rattle.plain_tables.specs.declared.command.Command.TheVariants as command;
 
 use crate::answer::Answer;
-use crate::records::{push_header, push_rows};
+use crate::delete::delete;
+use crate::select::select;
 use crate::table::{Row, StoredTable};
-use plain_tables::{Column, Command, Limits, NoMemory, Refusal, Schema, Text};
+use crate::update::update;
+use plain_tables::{Column, Command, Cond, Items, Limits, Refusal, Schema, Setting, Text};
 use std::alloc::Global;
 use std::marker::Model;
 
@@ -46,7 +50,7 @@ fn is_among(name: &Text, columns: &[Column]) -> bool
 
 /// Whether two columns have one name.
 fn repeats_name(columns: &[Column]) -> bool
-    ensures { result ≡ repeats (column_names columns.now) }
+    ensures { result ≡ repeats bytes_eq (column_names columns.now) }
 {
     let mut rest = columns;
     while let Some((first, others)) = rest.split_first() {
@@ -113,6 +117,7 @@ impl Tables {
 
     /// Adds a new table behind the others.
     fn create(&mut self, name: Text, schema: Schema) -> Result<(), Refusal>
+        requires { 0 < length schema.columns }
         ensures ok { (limits : Limits) → OnOk result (effect_of limits self.old (command.Table name schema) ≡ record { database = self.new; outcome = Done }) }
         ensures err { (limits : Limits) → IfErr result (DoesNothing (effect_of limits self.old (command.Table name schema)) self.old self.new) }
     {
@@ -141,17 +146,55 @@ impl Tables {
         self.tables[place].insert(limits, row)
     }
 
-    /// Adds the rows of the table of that name to the answer, in key order.
-    fn select(&self, name: &Text, answer: &mut Answer) -> Result<(), Refusal>
-        ensures ok { (limits : Limits) → OnOk result (DoesAll (effect_of limits self.now (command.Select name.now)) self.now answer.old answer.new) }
-        ensures err { (limits : Limits) → IfErr result (DoesNothing (effect_of limits self.now (command.Select name.now)) self.now self.now) }
+    /// Sets values in the rows of that table that meet the conditions.
+    fn update(
+        &mut self,
+        name: &Text,
+        settings: &[Setting],
+        conditions: &[Cond],
+        answer: &mut Answer,
+    ) -> Result<(), Refusal>
+        ensures ok { (limits : Limits) → OnOk result (DoesAll (effect_of limits self.old (command.Update name.now settings.now conditions.now)) self.new answer.old answer.new) }
+        ensures err { (limits : Limits) → IfErr result (DoesNothing (effect_of limits self.old (command.Update name.now settings.now conditions.now)) self.old self.new) }
     {
         let Some(place) = self.place_of(name) else {
             return Err(Refusal::NoSuchTable);
         };
-        let table = &self.tables[place];
-        push_table(answer, table)?;
-        Ok(())
+        update(&mut self.tables[place], settings, conditions, answer)
+    }
+
+    /// Drops the rows of that table that meet the conditions.
+    fn delete(
+        &mut self,
+        name: &Text,
+        conditions: &[Cond],
+        answer: &mut Answer,
+    ) -> Result<(), Refusal>
+        ensures ok { (limits : Limits) → OnOk result (DoesAll (effect_of limits self.old (command.Delete name.now conditions.now)) self.new answer.old answer.new) }
+        ensures err { (limits : Limits) → IfErr result (DoesNothing (effect_of limits self.old (command.Delete name.now conditions.now)) self.old self.new) }
+    {
+        let Some(place) = self.place_of(name) else {
+            return Err(Refusal::NoSuchTable);
+        };
+        delete(&mut self.tables[place], conditions, answer)
+    }
+
+    /// Adds the rows of that table that meet the conditions to the answer.
+    fn select(
+        &self,
+        items: &Items,
+        name: &Text,
+        conditions: &[Cond],
+        answer: &mut Answer,
+    ) -> Result<(), Refusal>
+        requires { NamesItem items.now }
+        ensures ok { (limits : Limits) → OnOk result (DoesAll (effect_of limits self.now (command.Select items.now name.now conditions.now)) self.now answer.old answer.new) }
+        ensures err { (limits : Limits) → IfErr result (DoesNothing (effect_of limits self.now (command.Select items.now name.now conditions.now)) self.now self.now) }
+    {
+        let Some(place) = self.place_of(name) else {
+            return Err(Refusal::NoSuchTable);
+        };
+        select(&self.tables[place], items, conditions, answer)
     }
 }
 
@@ -165,6 +208,7 @@ impl Tables {
         command: Command,
         answer: &mut Answer,
     ) -> Result<(), Refusal>
+        requires { NamesSomething command }
         ensures ok { OnOk result (DoesAll (effect_of limits self.old command) self.new answer.old answer.new) }
         ensures err { IfErr result (DoesNothing (effect_of limits self.old command) self.old self.new) }
     {
@@ -177,25 +221,19 @@ impl Tables {
                 answer.push(OK_ONE)?;
                 self.insert(limits, &table, values)
             }
-            Command::Select { table } => self.select(&table, answer),
+            Command::Update {
+                table,
+                settings,
+                conditions,
+            } => self.update(&table, settings.as_slice(), conditions.as_slice(), answer),
+            Command::Delete { table, conditions } => {
+                self.delete(&table, conditions.as_slice(), answer)
+            }
+            Command::Select {
+                items,
+                table,
+                conditions,
+            } => self.select(&items, &table, conditions.as_slice(), answer),
         }
     }
-}
-
-/// The line that says how many rows follow.
-fn push_count(answer: &mut Answer, count: usize) -> Result<(), NoMemory>
-    ensures { OnOk result (answer.new ≡ answer.old ++ text_line (codes "rows " ++ decimal count)) }
-{
-    answer.push(b"rows ")?;
-    answer.push_number(count as u64)?;
-    answer.push(b"\n")
-}
-
-/// The answer that shows all rows of a table.
-fn push_table(answer: &mut Answer, table: &StoredTable) -> Result<(), NoMemory>
-    ensures { OnOk result (answer.new ≡ answer.old ++ answer_text (Rows (full_names table.now) table.now.rows)) }
-{
-    push_count(answer, table.rows().len())?;
-    push_header(answer, table.name(), table.columns())?;
-    push_rows(answer, table.rows())
 }

@@ -1,5 +1,7 @@
 //! Worked streams, writers and readers that fail, and want of memory.
 
+mod commands;
+
 use crate::{RunFault, Session, SessionFault, run};
 use plain_tables::{Limits, NoMemory};
 use plan_chooser::Policy;

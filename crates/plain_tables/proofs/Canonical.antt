@@ -1,20 +1,20 @@
 -- Canonical: the canonical spelling of a command spells it.
-use Rattle.std.proofs.Common.{◌≡◌, ℕ, suc, List, [], ◌∷◌, ◌++◌, map, inl, inr, refl, sym, ap, arith, append-nil, subst}
+use Rattle.std.proofs.Common.{◌≡◌, ℕ, suc, List, [], ◌∷◌, ◌++◌, false, inl, inr, refl, sym, ap, arith, append-nil, subst}
 use Rattle.std.specs.Prelude.{ℤ, pos, negsuc, neg_ℤ, FitsSigned}
 use Rattle.std.specs.Int.{w64}
 use Rattle.std.specs.List.{AllByRecursion}
 use Rattle.std.specs.Fmt.{decimal, signed_decimal}
 use Rattle.std.specs.Str.Parse.{IsNumeral, digits_value}
 use Rattle.std.proofs.lemmas.Fmt.{decimal_is_IsNumeral}
-use Rattle.plain_tables.specs.Spelling.{Mark, Open, Close, Comma, Symbol, Keyword, Name, Kind, Literal, Sign, separated, column_symbols, value_symbols, symbols_of, AreBlanks, IsInteger, IsSymbol, EndsBefore, IsMadeOf, NamesSomething, IsSpellableColumn, IsSpellableValue, IsSpellable, symbol_text, gap, spaced, canonical_spelling, CanonicalSpells}
-use Rattle.plain_tables.specs.declared.value.Value.{Value}
+use Rattle.plain_tables.specs.Spelling.{Mark, Open, Close, Comma, Dot, Star, Operator, Symbol, Keyword, Name, Kind, Literal, Sign, symbols_of, AreBlanks, IsInteger, IsSymbol, goes_on_with, EndsBefore, IsMadeOf, NamesSomething, IsSpellable, symbol_text, gap, spaced, canonical_spelling, CanonicalSpells}
 use Rattle.plain_tables.specs.declared.value.Value.TheVariants as value
-use Rattle.plain_tables.specs.declared.schema.ColKind.{ColKind}
 use Rattle.plain_tables.specs.declared.schema.ColKind.TheVariants as kind
-use Rattle.plain_tables.specs.declared.schema.Column.{Column}
+use Rattle.plain_tables.specs.declared.condition.Op.TheVariants as op
+use Rattle.plain_tables.specs.declared.command.Items.TheVariants as items
 use Rattle.plain_tables.specs.declared.command.Command.{Command}
-use Rattle.plain_tables.specs.declared.command.Command.TheVariants.{Table, Insert, Select}
-use Rattle.plain_tables.proofs.WellFormed.{all-append, made-no_line_feed}
+use Rattle.plain_tables.specs.declared.command.Command.TheVariants.{Table, Insert, Update, Delete, Select}
+use Rattle.plain_tables.proofs.Separated.{all-each}
+use Rattle.plain_tables.proofs.WellFormed.{IsSpellableSymbol, command-spellable, made-no_line_feed}
 
 -- ---- the text of a symbol is its characters
 
@@ -29,42 +29,24 @@ integer-text (negsuc n) fits =
     let digits : IsNumeral 10 (decimal (suc n)) × (digits_value 10 (decimal (suc n)) ≡ suc n) = decimal_is_IsNumeral (suc n) (omega (arith, fits)) in
     (fits, (decimal (suc n), digits.0, inr (refl, ap (λ m. neg_ℤ (pos m)) (sym digits.1))))
 
-kind-text : (k : ColKind) → k ≡ kind.Int → HasText (Kind k)
-kind-text k e = subst (λ kind. HasText (Kind kind)) (sym e) refl
-
-column-text : (column : Column) → IsSpellableColumn column → AllByRecursion HasText (column_symbols column)
-column-text column spellable = ((refl, spellable.0), (kind-text column.kind spellable.1, tt))
-
-value-text : (v : Value) → IsSpellableValue v → AllByRecursion HasText (value_symbols v)
-value-text (value.Int z) fits = (integer-text z fits, tt)
-value-text (value.Text text) none = elim none [ ]
-
-separated-text : {X : Type 0} (symbols : X → List Symbol) (P : X → Type 0) → ((x : X) → P x → AllByRecursion HasText (symbols x))
-    → (xs : List X) → AllByRecursion P xs → AllByRecursion HasText (separated (map symbols xs))
-separated-text symbols P each [] all = tt
-separated-text symbols P each (x ∷ []) all = each x all.0
-separated-text symbols P each (x ∷ y ∷ xs) all =
-    all-append HasText (symbols x) (Sign Comma ∷ separated (map symbols (y ∷ xs))) (each x all.0)
-    (refl, separated-text symbols P each (y ∷ xs) all.1)
-
-listed-text : {X : Type 0} (symbols : X → List Symbol) (P : X → Type 0) → ((x : X) → P x → AllByRecursion HasText (symbols x))
-    → (xs : List X) → AllByRecursion P xs → AllByRecursion HasText (separated (map symbols xs) ++ Sign Close ∷ [])
-listed-text symbols P each xs all =
-    all-append HasText (separated (map symbols xs)) (Sign Close ∷ []) (separated-text symbols P each xs all) (refl, tt)
-
-command-text : (command : Command) → IsSpellable command → AllByRecursion HasText (symbols_of command)
-command-text (Table name schema) spellable =
-    (refl, ((refl, spellable.0), (refl, listed-text column_symbols IsSpellableColumn column-text schema.columns spellable.2)))
-command-text (Insert table values) spellable =
-    (refl, ((refl, spellable.0), (refl, listed-text value_symbols IsSpellableValue value-text values spellable.2)))
-command-text (Select table) spellable = (refl, (refl, (refl, ((refl, spellable), tt))))
+symbol-text : (symbol : Symbol) → IsSpellableSymbol symbol → HasText symbol
+symbol-text (Keyword word) can = refl
+symbol-text (Name name) can = (refl, can)
+symbol-text (Kind kind.Int) can = refl
+symbol-text (Kind kind.Text) can = refl
+symbol-text (Kind (kind.Ref t)) can = elim can [ ]
+symbol-text (Literal (value.Int z)) can = integer-text z can
+symbol-text (Literal (value.Text text)) can = refl
+symbol-text (Sign mark) can = refl
 
 -- ---- the gaps
 
 gap-blank : (symbol next : Symbol) → AreBlanks (gap symbol next)
 gap-blank (Sign Open) next = tt
+gap-blank (Sign Dot) next = tt
 gap-blank symbol (Sign Close) = tt
 gap-blank symbol (Sign Comma) = tt
+gap-blank symbol (Sign Dot) = tt
 gap-blank symbol next = (refl, tt)
 
 -- what the spelling of symbols goes on with behind the first
@@ -78,25 +60,50 @@ unfolding tail_of
 spaced-first symbol [] = sym (append-nil (symbol_text symbol))
 spaced-first symbol (next ∷ symbols) = refl
 
-sign-ends : (mark : Mark) (rest : List ℕ) → EndsBefore (Sign mark) rest
-sign-ends mark [] = tt
-sign-ends mark (c ∷ rest) = refl
+-- A sign that goes on with nothing ends before anything.
+ends-never : (mark : Mark) → ((c : ℕ) → goes_on_with (Sign mark) c ≡ false) → (rest : List ℕ) → EndsBefore (Sign mark) rest
+ends-never mark never [] = tt
+ends-never mark never (c ∷ rest) = never c
 
 -- A symbol ends before the gap that follows it, and before a sign.
 gap-ends : (symbol next : Symbol) (rest : List ℕ) → EndsBefore symbol (gap symbol next ++ (symbol_text next ++ rest))
-gap-ends (Sign mark) next rest = sign-ends mark (gap (Sign mark) next ++ (symbol_text next ++ rest))
 gap-ends (Keyword word) (Sign Close) rest = refl
 gap-ends (Keyword word) (Sign Comma) rest = refl
+gap-ends (Keyword word) (Sign Dot) rest = refl
 gap-ends (Keyword word) next rest = refl
 gap-ends (Name name) (Sign Close) rest = refl
 gap-ends (Name name) (Sign Comma) rest = refl
+gap-ends (Name name) (Sign Dot) rest = refl
 gap-ends (Name name) next rest = refl
 gap-ends (Kind k) (Sign Close) rest = refl
 gap-ends (Kind k) (Sign Comma) rest = refl
+gap-ends (Kind k) (Sign Dot) rest = refl
 gap-ends (Kind k) next rest = refl
-gap-ends (Literal v) (Sign Close) rest = refl
-gap-ends (Literal v) (Sign Comma) rest = refl
-gap-ends (Literal v) next rest = refl
+gap-ends (Literal (value.Int z)) (Sign Close) rest = refl
+gap-ends (Literal (value.Int z)) (Sign Comma) rest = refl
+gap-ends (Literal (value.Int z)) (Sign Dot) rest = refl
+gap-ends (Literal (value.Int z)) next rest = refl
+gap-ends (Literal (value.Text text)) (Sign Close) rest = refl
+gap-ends (Literal (value.Text text)) (Sign Comma) rest = refl
+gap-ends (Literal (value.Text text)) (Sign Dot) rest = refl
+gap-ends (Literal (value.Text text)) next rest = refl
+gap-ends (Sign (Operator op.Lt)) (Sign Close) rest = refl
+gap-ends (Sign (Operator op.Lt)) (Sign Comma) rest = refl
+gap-ends (Sign (Operator op.Lt)) (Sign Dot) rest = refl
+gap-ends (Sign (Operator op.Lt)) next rest = refl
+gap-ends (Sign (Operator op.Gt)) (Sign Close) rest = refl
+gap-ends (Sign (Operator op.Gt)) (Sign Comma) rest = refl
+gap-ends (Sign (Operator op.Gt)) (Sign Dot) rest = refl
+gap-ends (Sign (Operator op.Gt)) next rest = refl
+gap-ends (Sign Open) next rest = ends-never Open (λ c. refl) (gap (Sign Open) next ++ (symbol_text next ++ rest))
+gap-ends (Sign Close) next rest = ends-never Close (λ c. refl) (gap (Sign Close) next ++ (symbol_text next ++ rest))
+gap-ends (Sign Comma) next rest = ends-never Comma (λ c. refl) (gap (Sign Comma) next ++ (symbol_text next ++ rest))
+gap-ends (Sign Dot) next rest = ends-never Dot (λ c. refl) (gap (Sign Dot) next ++ (symbol_text next ++ rest))
+gap-ends (Sign Star) next rest = ends-never Star (λ c. refl) (gap (Sign Star) next ++ (symbol_text next ++ rest))
+gap-ends (Sign (Operator op.Eq)) next rest = ends-never (Operator op.Eq) (λ c. refl) (gap (Sign (Operator op.Eq)) next ++ (symbol_text next ++ rest))
+gap-ends (Sign (Operator op.Ne)) next rest = ends-never (Operator op.Ne) (λ c. refl) (gap (Sign (Operator op.Ne)) next ++ (symbol_text next ++ rest))
+gap-ends (Sign (Operator op.Le)) next rest = ends-never (Operator op.Le) (λ c. refl) (gap (Sign (Operator op.Le)) next ++ (symbol_text next ++ rest))
+gap-ends (Sign (Operator op.Ge)) next rest = ends-never (Operator op.Ge) (λ c. refl) (gap (Sign (Operator op.Ge)) next ++ (symbol_text next ++ rest))
 
 -- ---- the whole line
 
@@ -119,13 +126,17 @@ spaced-made blanks (symbol ∷ next ∷ symbols) are all =
     )
 
 names-something : (command : Command) → IsSpellable command → NamesSomething command
-names-something (Table name schema) spellable = spellable.1
-names-something (Insert table values) spellable = spellable.1
-names-something (Select table) spellable = tt
+names-something (Table name schema) can = can.1
+names-something (Insert table values) can = can.1
+names-something (Update table settings conditions) can = can.1
+names-something (Delete table conditions) can = tt
+names-something (Select items.All table conditions) can = tt
+names-something (Select (items.Named names) table conditions) can = can.0.0
 
 -- Law: the canonical spelling of a command that can be spelled spells it.
 pub canonical-spells : CanonicalSpells
-canonical-spells command spellable =
-    let made : IsMadeOf (canonical_spelling command) (symbols_of command) =
-    spaced-made [] (symbols_of command) tt (command-text command spellable) in
-    (made-no_line_feed command (canonical_spelling command) made, names-something command spellable, made)
+canonical-spells command can =
+    let all : AllByRecursion HasText (symbols_of command) =
+    all-each IsSpellableSymbol HasText symbol-text (symbols_of command) (command-spellable command can) in
+    let made : IsMadeOf (canonical_spelling command) (symbols_of command) = spaced-made [] (symbols_of command) tt all in
+    (made-no_line_feed command (canonical_spelling command) can made, names-something command can, made)

@@ -1,31 +1,37 @@
 -- Each command that can be spelled keeps a database well-formed.
-use Rattle.std.proofs.Common.{◌≡◌, ◌≢◌, ℕ, ◌<◌, ◌≤◌, false, nat_lt, nat_le, length, arith, List, [], ◌∷◌, ◌++◌, refl, sym, ap, ◌∙◌, subst, Some, get_or}
+use Rattle.std.proofs.Common.{◌≡◌, ◌≢◌, ℕ, ◌<◌, ◌≤◌, Bool, false, not, cond, nat_lt, nat_le, length, take, map, arith, List, [], ◌∷◌, ◌++◌, refl, sym, ap, ◌∙◌, subst, Some, get_or}
 use Rattle.std.specs.List.{All, AllPairs, AllByRecursion, list_any, position_or_len, slice_get}
 use Rattle.std.specs.Option.{is_some}
 use Rattle.std.specs.Str.{bytes_eq}
 use Rattle.std.specs.declared.cmp.Ordering.TheVariants.{Less}
-use Rattle.std.proofs.lemmas.Bool.{or_parts, ltb-false, leb-false, eqb-true, not-false, both_ways}
+use Rattle.std.proofs.lemmas.Bool.{or_parts, ltb-false, leb-false, eqb-true, not-false, both_ways, cond_both}
 use Rattle.std.proofs.lemmas.Slice.Eq.{bytes_eq-Decides}
-use Rattle.std.proofs.lemmas.List.{length-set, length_push}
-use Rattle.std.proofs.lemmas.List.Elements.{All-nil, All-cons, All-push, All-set, All-weaker, All-from_recursion}
+use Rattle.std.proofs.lemmas.List.{length-map, length-set, length_push}
+use Rattle.std.proofs.lemmas.List.Elements.{All-nil, All-cons, All-push, All-set, All-map, All-filter, All-weaker, All-from_recursion}
 use Rattle.std.proofs.lemmas.List.Folds.{find_at}
-use Rattle.std.proofs.lemmas.List.Kept.{AllPairs-cons}
+use Rattle.std.proofs.lemmas.List.Kept.{AllPairs-cons, AllPairs-filter}
 use Rattle.std.proofs.lemmas.List.Quantifiers.{all_pairs_push}
 use Rattle.std.proofs.lemmas.Option.{slice_get_within, get_or_from_slice_get}
 use Rattle.plain_tables.specs.Names.{IsName}
 use Rattle.plain_tables.specs.Tables.{Table, Row, key_cmp}
-use Rattle.plain_tables.specs.Databases.{Database, IsWellFormed, IsWellFormedTable, is_named, table_named, with_table, FitsColumns}
-use Rattle.plain_tables.specs.Effects.{repeats, column_names, table_checks, insert_checks, new_table, grown_by, effect_of}
-use Rattle.plain_tables.specs.Spelling.{IsSpellable, IsSpellableColumn, IsSpellableValue}
+use Rattle.plain_tables.specs.Databases.{Database, IsWellFormed, IsWellFormedTable, is_named, table_named, with_table, FitsColumns, IsDeclarable}
+use Rattle.plain_tables.specs.Queries.{JoinedColumn, joined_columns, meets_all}
+use Rattle.plain_tables.specs.Effects.{repeats, column_names, table_checks, insert_checks, update_checks, delete_checks, select_checks, has_mistaken_condition, mistakes, setting_name, set_in, new_table, grown_by, updated, without, effect_of}
+use Rattle.plain_tables.specs.Spelling.{IsSpellable, IsSpellableKind, IsSpellableColumn}
 use Rattle.plain_tables.specs.declared.schema.Schema.{Schema}
 use Rattle.plain_tables.specs.declared.schema.Column.{Column}
+use Rattle.plain_tables.specs.declared.schema.ColKind.{ColKind}
 use Rattle.plain_tables.specs.declared.schema.ColKind.TheVariants as kind
+use Rattle.plain_tables.specs.declared.condition.Cond.{Cond}
+use Rattle.plain_tables.specs.declared.command.Setting.{Setting}
 use Rattle.plain_tables.specs.declared.command.Limits.{Limits}
 use Rattle.plain_tables.specs.declared.command.Command.{Command}
 use Rattle.plain_tables.specs.declared.command.Command.TheVariants as command
 use Rattle.plain_tables.proofs.EffectLemmas.{checked_satisfies, on_table_satisfies}
 use Rattle.plain_tables.proofs.ListLemmas.{AllPairs-nil, AllPairs-set_alike, fails_where_not_found}
-use Rattle.plain_tables.proofs.RowLemmas.{with_row-rises, length-with_row, All-with_row, fits_columns}
+use Rattle.plain_tables.proofs.QueryLemmas.{without_and_met}
+use Rattle.plain_tables.proofs.RowLemmas.{with_row-rises, length-with_row, All-with_row, fits_columns, map_rises}
+use Rattle.plain_tables.proofs.UpdateLemmas.{IsApt, settings_apt, set_in_fits, set_in_key}
 
 -- ---- names
 
@@ -40,10 +46,10 @@ name_differs name (c ∷ columns) h =
     All-cons (λ d. name ≢ d.name) c columns (differs name c.name parts.0) (name_differs name columns parts.1)
 
 -- where no name is repeated, names differ
-columns_differ : (columns : List Column) → repeats (column_names columns) ≡ false → AllPairs (λ c d. c.name ≢ d.name) columns
+columns_differ : (columns : List Column) → repeats bytes_eq (column_names columns) ≡ false → AllPairs (λ c d. c.name ≢ d.name) columns
 columns_differ [] h = AllPairs-nil (λ c d. c.name ≢ d.name)
 columns_differ (c ∷ columns) h =
-    let parts = or_parts (list_any (bytes_eq c.name) (column_names columns)) (repeats (column_names columns)) h in
+    let parts = or_parts (list_any (bytes_eq c.name) (column_names columns)) (repeats bytes_eq (column_names columns)) h in
     AllPairs-cons (λ d e. d.name ≢ e.name) c columns (name_differs c.name columns parts.0) (columns_differ columns parts.1)
 
 -- ---- no tables
@@ -57,8 +63,13 @@ no_tables_are_well_formed limits = record {
 
 -- ---- a new table
 
+declarable : (k : ColKind) → IsSpellableKind k → IsDeclarable k
+declarable kind.Int h = tt
+declarable kind.Text h = tt
+declarable (kind.Ref table) h = h
+
 new_table_well_formed : (limits : Limits) (name : List ℕ) (schema : Schema) → IsName name → 0 < length schema.columns
-    → AllByRecursion IsSpellableColumn schema.columns → repeats (column_names schema.columns) ≡ false → length schema.columns ≤ 16
+    → AllByRecursion IsSpellableColumn schema.columns → repeats bytes_eq (column_names schema.columns) ≡ false → length schema.columns ≤ 16
     → IsWellFormedTable limits (new_table name schema)
 new_table_well_formed limits name schema named some columns apart few =
     let all = All-from_recursion IsSpellableColumn schema.columns columns in
@@ -68,7 +79,7 @@ new_table_well_formed limits name schema named some columns apart few =
       columns_apart = columns_differ schema.columns apart;
       some_column = some;
       few_columns = few;
-      kinds = All-weaker IsSpellableColumn (λ c. c.kind ≡ kind.Int) (λ c s. s.1) schema.columns all;
+      kinds = All-weaker IsSpellableColumn (λ c. IsDeclarable c.kind) (λ c s. declarable c.kind s.1) schema.columns all;
       no_index = refl;
       rows_fit = All-nil (FitsColumns schema.columns);
       rows_rise = AllPairs-nil (λ r s. key_cmp r s ≡ Less);
@@ -100,9 +111,9 @@ table_keeps limits tables name schema spelled well =
 
 -- ---- a row more
 
-grown_well_formed : (limits : Limits) (table : Table) (row : Row) → IsWellFormedTable limits table → AllByRecursion IsSpellableValue row
-    → length row ≡ length table.columns → length table.rows < limits.rows → IsWellFormedTable limits (grown_by row table)
-grown_well_formed limits table row well values same room =
+grown_well_formed : (limits : Limits) (table : Table) (row : Row) → IsWellFormedTable limits table → FitsColumns table.columns row
+    → length table.rows < limits.rows → IsWellFormedTable limits (grown_by row table)
+grown_well_formed limits table row well fits room =
     record {
       named = well.named;
       columns_named = well.columns_named;
@@ -111,8 +122,7 @@ grown_well_formed limits table row well values same room =
       few_columns = well.few_columns;
       kinds = well.kinds;
       no_index = well.no_index;
-      rows_fit =
-          All-with_row (FitsColumns table.columns) row table.rows (fits_columns table.columns row well.kinds values same) well.rows_fit;
+      rows_fit = All-with_row (FitsColumns table.columns) row table.rows fits well.rows_fit;
       rows_rise = with_row-rises row table.rows well.rows_rise;
       few_rows = let more = length-with_row row table.rows in omega arith;
     }
@@ -148,9 +158,82 @@ insert_keeps limits tables name row spelled well =
     (λ passed.
     let table_well : IsWellFormedTable limits table = found_well_formed limits tables name table well there in
     with_table_well_formed limits tables name table (grown_by row table) well there refl
-    (grown_well_formed limits table row table_well spelled.2
-    (eqb-true (length row) (length table.columns) (not-false _ passed.0))
-    (leb-false limits.rows (length table.rows) passed.1.1.0))))
+    (grown_well_formed limits table row table_well
+    (fits_columns table.columns row (eqb-true (length row) (length table.columns) (not-false _ passed.0)) passed.1.0 passed.1.1.0 spelled.2)
+    (leb-false limits.rows (length table.rows) passed.1.1.1.1.0))))
+
+-- ---- other values in rows
+
+-- rows that are changed one by one, none of them in its key
+changed_well_formed : (limits : Limits) (table : Table) (f : Row → Row) → IsWellFormedTable limits table
+    → ((row : Row) → FitsColumns table.columns row → FitsColumns table.columns (f row)) → ((row : Row) → take 1 (f row) ≡ take 1 row)
+    → IsWellFormedTable limits (record table { rows = map f table.rows })
+changed_well_formed limits table f well fits key =
+    record {
+      named = well.named;
+      columns_named = well.columns_named;
+      columns_apart = well.columns_apart;
+      some_column = well.some_column;
+      few_columns = well.few_columns;
+      kinds = well.kinds;
+      no_index = well.no_index;
+      rows_fit =
+          All-map (FitsColumns table.columns) f table.rows
+          (All-weaker (FitsColumns table.columns) (λ r. FitsColumns table.columns (f r)) fits table.rows well.rows_fit);
+      rows_rise = map_rises f table.rows key well.rows_rise;
+      few_rows = rw length-map well.few_rows;
+    }
+
+updated_well_formed : (limits : Limits) (table : Table) (settings : List Setting) (conditions : List Cond) → IsWellFormedTable limits table
+    → AllByRecursion (IsApt table) settings → IsWellFormedTable limits (updated settings conditions table)
+updated_well_formed limits table settings conditions well apt =
+    let columns : List JoinedColumn = joined_columns (table ∷ []) in
+    changed_well_formed limits table (λ row. cond (meets_all columns conditions row) (set_in columns settings row) row) well
+    (λ row fits. cond_both (meets_all columns conditions row) (set_in columns settings row) row (FitsColumns table.columns)
+    (λ t. set_in_fits table settings row apt fits) (λ f. fits))
+    (λ row. cond_both (meets_all columns conditions row) (set_in columns settings row) row (λ r. take 1 r ≡ take 1 row)
+    (λ t. set_in_key table settings row apt) (λ f. refl))
+
+update_keeps : (limits : Limits) (tables : Database) (name : List ℕ) (settings : List Setting) (conditions : List Cond)
+    → IsSpellable (command.Update name settings conditions)
+    → IsWellFormed limits tables → IsWellFormed limits (effect_of limits tables (command.Update name settings conditions)).database
+update_keeps limits tables name settings conditions spelled well =
+    on_table_satisfies (λ e. IsWellFormed limits e.database) name tables _ (λ r. well)
+    (λ table there. checked_satisfies (λ e. IsWellFormed limits e.database) tables (update_checks table settings conditions) _ (λ r. well)
+    (λ passed.
+    let columns : List JoinedColumn = joined_columns (table ∷ []) in
+    let right = or_parts (list_any (λ s. mistakes columns (setting_name s) s.value) settings) (has_mistaken_condition columns conditions) passed.1.1.0 in
+    with_table_well_formed limits tables name table (updated settings conditions table) well there refl
+    (updated_well_formed limits table settings conditions (found_well_formed limits tables name table well there)
+    (settings_apt table settings right.0 passed.1.1.1.0 passed.1.1.1.1.0 spelled.2))))
+
+-- ---- rows taken out
+
+without_well_formed : (limits : Limits) (table : Table) (conditions : List Cond) → IsWellFormedTable limits table
+    → IsWellFormedTable limits (without conditions table)
+without_well_formed limits table conditions well =
+    let stays : Row → Bool = λ row. not (meets_all (joined_columns (table ∷ [])) conditions row) in
+    record {
+      named = well.named;
+      columns_named = well.columns_named;
+      columns_apart = well.columns_apart;
+      some_column = well.some_column;
+      few_columns = well.few_columns;
+      kinds = well.kinds;
+      no_index = well.no_index;
+      rows_fit = All-filter stays (FitsColumns table.columns) table.rows well.rows_fit;
+      rows_rise = AllPairs-filter (λ r s. key_cmp r s ≡ Less) stays table.rows well.rows_rise;
+      few_rows = let both = without_and_met conditions table in let few = well.few_rows in omega arith;
+    }
+
+delete_keeps : (limits : Limits) (tables : Database) (name : List ℕ) (conditions : List Cond)
+    → IsWellFormed limits tables → IsWellFormed limits (effect_of limits tables (command.Delete name conditions)).database
+delete_keeps limits tables name conditions well =
+    on_table_satisfies (λ e. IsWellFormed limits e.database) name tables _ (λ r. well)
+    (λ table there. checked_satisfies (λ e. IsWellFormed limits e.database) tables (delete_checks table conditions) _ (λ r. well)
+    (λ passed.
+    with_table_well_formed limits tables name table (without conditions table) well there refl
+    (without_well_formed limits table conditions (found_well_formed limits tables name table well there))))
 
 -- ---- every command
 
@@ -158,5 +241,10 @@ pub effect_keeps : (limits : Limits) (tables : Database) (c : Command) → IsSpe
     → IsWellFormed limits (effect_of limits tables c).database
 effect_keeps limits tables (command.Table name schema) spelled well = table_keeps limits tables name schema spelled well
 effect_keeps limits tables (command.Insert name row) spelled well = insert_keeps limits tables name row spelled well
-effect_keeps limits tables (command.Select name) spelled well =
-    on_table_satisfies (λ e. IsWellFormed limits e.database) name tables _ (λ r. well) (λ table there. well)
+effect_keeps limits tables (command.Update name settings conditions) spelled well =
+    update_keeps limits tables name settings conditions spelled well
+effect_keeps limits tables (command.Delete name conditions) spelled well = delete_keeps limits tables name conditions well
+effect_keeps limits tables (command.Select items name conditions) spelled well =
+    on_table_satisfies (λ e. IsWellFormed limits e.database) name tables _ (λ r. well)
+    (λ table there. checked_satisfies (λ e. IsWellFormed limits e.database) tables (select_checks (table ∷ []) items conditions) _ (λ r. well)
+    (λ passed. well))

@@ -1,12 +1,11 @@
 -- What holds of the effect of a command: of each refusal, and of what is done where no check refuses.
-use Rattle.std.proofs.Common.{◌≡◌, ℕ, List, [], ◌∷◌, ◌++◌, false, arith, refl, ap, Option, Some, None, get_or}
+use Rattle.std.proofs.Common.{◌≡◌, ℕ, List, [], ◌∷◌, ◌++◌, false, arith, refl, ap, Some, get_or}
 use Rattle.std.specs.List.{AllByRecursion}
-use Rattle.std.specs.Option.{option_map_or}
 use Rattle.std.proofs.lemmas.Bool.{cond_both}
 use lib.Chars.{codes}
 use Rattle.plain_tables.specs.Tables.{Table}
 use Rattle.plain_tables.specs.Databases.{Database, table_named}
-use Rattle.plain_tables.specs.Effects.{Effect, Check, checked, on_table, table_checks, insert_checks, effect_of}
+use Rattle.plain_tables.specs.Effects.{Effect, Check, checked, on_table, table_checks, insert_checks, update_checks, delete_checks, select_checks, effect_of}
 use Rattle.plain_tables.specs.AnswerText.{answer_text}
 use Rattle.plain_tables.specs.Runs.{IsEffect, too_long, not_utf8, not_a_command, command as spelled_command, Answers, silent, effect, no_memory, refused}
 use Rattle.plain_tables.specs.declared.refusal.Refusal.{Refusal}
@@ -14,6 +13,7 @@ use Rattle.plain_tables.specs.declared.refusal.Refusal.TheVariants.{LineTooLong,
 use Rattle.plain_tables.specs.declared.command.Limits.{Limits}
 use Rattle.plain_tables.specs.declared.command.Command.{Command}
 use Rattle.plain_tables.specs.declared.command.Command.TheVariants as command
+use Rattle.plain_tables.proofs.ListLemmas.{option_map_or_satisfies}
 
 -- ---- checks
 
@@ -25,16 +25,12 @@ checked_satisfies P tables (c ∷ checks) done old new =
     cond_both c.refuses (refused tables c.refusal) (checked tables checks done) P
     (λ t. old c.refusal) (λ f. checked_satisfies P tables checks done old (λ rest. new (f, rest)))
 
-on_option_satisfies : (P : Effect → Type 0) (done : Table → Effect) (otherwise : Effect) (found : Option Table)
-    → P otherwise → ((table : Table) → found ≡ Some table → P (done table)) → P (option_map_or done found otherwise)
-on_option_satisfies P done otherwise None old new = old
-on_option_satisfies P done otherwise (Some table) old new = new table refl
-
 -- What holds of each refusal, and of the effect where the table is there, holds of a command on a table.
 pub on_table_satisfies : (P : Effect → Type 0) (name : List ℕ) (tables : Database) (done : Table → Effect)
     → ((r : Refusal) → P (refused tables r)) → ((table : Table) → table_named name tables ≡ Some table → P (done table))
     → P (on_table name tables done)
-on_table_satisfies P name tables done old new = on_option_satisfies P done _ (table_named name tables) (old NoSuchTable) new
+on_table_satisfies P name tables done old new =
+    option_map_or_satisfies P done (table_named name tables) (refused tables NoSuchTable) (old NoSuchTable) new
 
 -- ---- errors
 
@@ -57,8 +53,18 @@ command_keeps limits tables (command.Insert name row) =
     on_table_satisfies (KeepsOnError tables) name tables _ (refusal_keeps tables)
     (λ table there. checked_satisfies (KeepsOnError tables) tables (insert_checks limits table row) _ (refusal_keeps tables)
     (λ passed. record { kept = λ words same. absurd (ok_is_no_error _ words same) }))
-command_keeps limits tables (command.Select name) =
-    on_table_satisfies (KeepsOnError tables) name tables _ (refusal_keeps tables) (λ table there. record { kept = λ words same. refl })
+command_keeps limits tables (command.Update name settings conditions) =
+    on_table_satisfies (KeepsOnError tables) name tables _ (refusal_keeps tables)
+    (λ table there. checked_satisfies (KeepsOnError tables) tables (update_checks table settings conditions) _ (refusal_keeps tables)
+    (λ passed. record { kept = λ words same. absurd (ok_is_no_error _ words same) }))
+command_keeps limits tables (command.Delete name conditions) =
+    on_table_satisfies (KeepsOnError tables) name tables _ (refusal_keeps tables)
+    (λ table there. checked_satisfies (KeepsOnError tables) tables (delete_checks table conditions) _ (refusal_keeps tables)
+    (λ passed. record { kept = λ words same. absurd (ok_is_no_error _ words same) }))
+command_keeps limits tables (command.Select items name conditions) =
+    on_table_satisfies (KeepsOnError tables) name tables _ (refusal_keeps tables)
+    (λ table there. checked_satisfies (KeepsOnError tables) tables (select_checks (table ∷ []) items conditions) _ (refusal_keeps tables)
+    (λ passed. record { kept = λ words same. refl }))
 
 line_keeps : (limits : Limits) (tables : Database) (line : List ℕ) (e : Effect) → IsEffect limits tables line e → KeepsOnError tables e
 line_keeps limits tables line e (too_long h) = refusal_keeps tables LineTooLong

@@ -4,38 +4,37 @@ use Rattle.std.specs.Str.{bytes_eq}
 use Rattle.std.proofs.lemmas.Slice.Eq.{bytes_eq-Decides}
 use lib.Chars.{codes}
 use Rattle.plain_tables.specs.Names.{is_word}
-use Rattle.plain_tables.specs.Spelling.{Symbol, Keyword, Name, Sign, Open, Close, Star, separated, symbols_of, column_symbols, value_symbols, IsMadeOf, Spells}
+use Rattle.plain_tables.specs.Spelling.{Symbol, Keyword, Name, Sign, Open, Close, separated, symbols_of, column_symbols, value_symbols, setting_symbols, items_symbols, where_symbols, IsMadeOf, Spells}
 use Rattle.plain_tables.specs.Reading.{lexeme, after_lexeme}
 use Rattle.plain_tables.specs.declared.command.Command.{Command}
-use Rattle.plain_tables.specs.declared.command.Command.TheVariants.{Table, Insert, Select}
+use Rattle.plain_tables.specs.declared.command.Command.TheVariants.{Table, Insert, Update, Delete, Select}
 use Rattle.plain_tables.proofs.Lexemes.{lexeme-of_made}
 
-different : (word other : List ℕ) → bytes_eq word other ≡ false → word ≢ other
+-- Words that a comparison tells apart are different.
+pub different : (word other : List ℕ) → bytes_eq word other ≡ false → word ≢ other
 different word other test e = let same : bytes_eq word other ≡ true = (bytes_eq-Decides word other).1 e in cc
-
-pub table-no_insert : codes "table" ≢ codes "insert"
-table-no_insert = different (codes "table") (codes "insert") refl
-
-pub table-no_select : codes "table" ≢ codes "select"
-table-no_select = different (codes "table") (codes "select") refl
-
-pub insert-no_select : codes "insert" ≢ codes "select"
-insert-no_select = different (codes "insert") (codes "select") refl
 
 abbrev pub first_word : Command → List ℕ
 first_word (Table name schema) = codes "table"
 first_word (Insert table values) = codes "insert"
-first_word (Select table) = codes "select"
+first_word (Update table settings conditions) = codes "update"
+first_word (Delete table conditions) = codes "delete"
+first_word (Select items table conditions) = codes "select"
 
 abbrev pub behind_word : Command → List Symbol
 behind_word (Table name schema) = Name name ∷ Sign Open ∷ separated (map column_symbols schema.columns) ++ Sign Close ∷ []
 behind_word (Insert table values) = Name table ∷ Sign Open ∷ separated (map value_symbols values) ++ Sign Close ∷ []
-behind_word (Select table) = Sign Star ∷ Keyword (codes "from") ∷ Name table ∷ []
+behind_word (Update table settings conditions) =
+    Name table ∷ Keyword (codes "set") ∷ separated (map setting_symbols settings) ++ where_symbols conditions
+behind_word (Delete table conditions) = Name table ∷ where_symbols conditions
+behind_word (Select items table conditions) = items_symbols items ++ Keyword (codes "from") ∷ Name table ∷ where_symbols conditions
 
 pub split-word : (command : Command) → (symbols_of command ≡ Keyword (first_word command) ∷ behind_word command) × IsTrue (is_word (first_word command))
 split-word (Table name schema) = (refl, refl)
 split-word (Insert table values) = (refl, refl)
-split-word (Select table) = (refl, refl)
+split-word (Update table settings conditions) = (refl, refl)
+split-word (Delete table conditions) = (refl, refl)
+split-word (Select items table conditions) = (refl, refl)
 
 -- A line that spells a command begins with the command's first word, and what follows makes up the rest of it.
 pub spells-word : (line : List ℕ) (command : Command) → Spells line command

@@ -1,7 +1,7 @@
 -- Lexemes: a line is made of a symbol and others where its lexeme is that symbol and the rest is made of the others.
-use Rattle.std.proofs.Common.{◌≡◌, ℕ, suc, ◌+◌, ◌<◌, List, [], ◌∷◌, ◌++◌, length, take, drop, Bool, true, false, cond, ◌⊎◌, inl, inr, IsTrue, IsFalse, refl, sym, ◌∙◌, ap, arith, append-nil, subst, ◌≤◌, length-append}
-use Rattle.std.specs.List.{prefix_len, AllByRecursion, list_all}
-use Rattle.std.specs.Prelude.{ℤ}
+use Rattle.std.proofs.Common.{◌≡◌, ℕ, suc, ◌+◌, ◌<◌, List, [], ◌∷◌, ◌++◌, length, take, drop, Bool, true, false, cond, ◌⊎◌, inl, inr, IsTrue, IsFalse, refl, sym, ◌∙◌, ap, arith, append-nil, append_assoc, subst, ◌≤◌, length-append}
+use Rattle.std.specs.List.{prefix_len, AllByRecursion, list_all, flat_map}
+use Rattle.std.specs.Prelude.{ℤ, ◌==◌, ◌||◌}
 use Rattle.std.specs.Char.{digit_value}
 use Rattle.std.specs.Str.Parse.{IsNumeral, AllDigits}
 use Rattle.std.specs.Int.{IsInRange}
@@ -9,13 +9,15 @@ use Rattle.std.proofs.lemmas.Str.Parse.{digit_from_value}
 use lib.Chars.{codes}
 use Rattle.std.proofs.Math.Seq.{take-append_seam, drop-append_seam}
 use Rattle.std.proofs.lemmas.List.{take-append-drop}
-use Rattle.std.proofs.lemmas.Bool.{and_parts}
+use Rattle.std.proofs.lemmas.Bool.{and_parts, or_parts}
 use Rattle.std.proofs.lemmas.Bool.Decides.{nat_tests}
 use Rattle.plain_tables.specs.Names.{is_word, is_word_character, is_letter}
-use Rattle.plain_tables.specs.Spelling.{Mark, Open, Close, Comma, Star, mark_text, Symbol, Keyword, Name, Kind, Literal, Sign, IsInteger, AreBlanks, is_blank, IsSymbol, EndsBefore, IsMadeOf, goes_on_with}
+use Rattle.plain_tables.specs.Spelling.{Mark, Open, Close, Comma, Dot, Star, Operator, mark_text, doubled, text_literal, Symbol, Keyword, Name, Kind, Literal, Sign, IsInteger, AreBlanks, is_blank, IsSymbol, EndsBefore, IsMadeOf, goes_on_with}
 use Rattle.plain_tables.specs.declared.value.Value.TheVariants as value
 use Rattle.plain_tables.specs.declared.schema.ColKind.TheVariants as kind
-use Rattle.plain_tables.specs.Reading.{behind_blanks, begins_run, lexeme_length, lexeme, after_lexeme}
+use Rattle.plain_tables.specs.declared.condition.Op.TheVariants as op
+use Rattle.plain_tables.specs.Reading.{behind_blanks, begins_run, is_operator, operator_length, length_behind, lexeme_length, lexeme, after_lexeme}
+use Rattle.plain_tables.proofs.Texts.{NoMarkFirst, text_length-literal, behind_text-free}
 
 -- ---- a front of a list of which each element passes a test, before one that doesn't
 
@@ -70,11 +72,6 @@ abbrev pub IsRun : List ℕ → Type 0
 IsRun [] = ⊥
 IsRun (c ∷ cs) = (is_blank c ≡ false) × (begins_run c ≡ true) × AllPass is_word_character cs
 
--- a character that is a symbol alone
-abbrev pub IsAlone : List ℕ → Type 0
-IsAlone [] = ⊥
-IsAlone (c ∷ cs) = (is_blank c ≡ false) × (begins_run c ≡ false) × (cs ≡ [])
-
 all-pass : (p : ℕ → Bool) (cs : List ℕ) → list_all p cs ≡ true → AllPass p cs
 all-pass p [] h = tt
 all-pass p (c ∷ cs) h =
@@ -112,49 +109,67 @@ IsWellFormed (Kind kind) = Unit {0}
 IsWellFormed (Literal value) = Unit {0}
 IsWellFormed (Sign mark) = Unit {0}
 
-mark-alone : (mark : Mark) → IsAlone (mark_text mark)
-mark-alone Open = (refl, refl, refl)
-mark-alone Close = (refl, refl, refl)
-mark-alone Comma = (refl, refl, refl)
-mark-alone Star = (refl, refl, refl)
+-- a word or a number
+abbrev pub IsWordOrNumber : Symbol → Type 0
+IsWordOrNumber (Keyword word) = Unit {0}
+IsWordOrNumber (Name name) = Unit {0}
+IsWordOrNumber (Kind kind) = Unit {0}
+IsWordOrNumber (Literal (value.Int z)) = Unit {0}
+IsWordOrNumber (Literal (value.Text text)) = ⊥
+IsWordOrNumber (Sign mark) = ⊥
 
-abbrev pub IsNoSign : Symbol → Type 0
-IsNoSign (Keyword word) = Unit {0}
-IsNoSign (Name name) = Unit {0}
-IsNoSign (Kind kind) = Unit {0}
-IsNoSign (Literal value) = Unit {0}
-IsNoSign (Sign mark) = ⊥
-
-pub symbol-run : (characters : List ℕ) (symbol : Symbol) → IsNoSign symbol → IsWellFormed symbol → IsSymbol characters symbol → IsRun characters
+pub symbol-run : (characters : List ℕ) (symbol : Symbol) → IsWordOrNumber symbol → IsWellFormed symbol → IsSymbol characters symbol
+    → IsRun characters
 symbol-run characters (Keyword word) plain well is = rw is (word-run word well)
 symbol-run characters (Name name) plain well is =
     let word : is_word name ≡ true = (and_parts (is_word name) _ is.1).0 in
     rw is.0 (word-run name word)
 symbol-run characters (Kind kind.Int) plain well is = rw is (word-run (codes "int") refl)
-symbol-run characters (Kind kind.Text) plain well is = elim is [ ]
+symbol-run characters (Kind kind.Text) plain well is = rw is (word-run (codes "text") refl)
 symbol-run characters (Kind (kind.Ref table)) plain well is = elim is [ ]
 symbol-run characters (Literal (value.Int z)) plain well is = integer-run characters z is
-symbol-run characters (Literal (value.Text text)) plain well is = elim is [ ]
+symbol-run characters (Literal (value.Text text)) plain well is = elim plain [ ]
 symbol-run characters (Sign mark) plain well is = elim plain [ ]
 
--- The characters are a run, and the symbol goes on as a run does, or they are a sign.
+-- The characters are a run, and the symbol goes on as a run does.
+abbrev HasRun : List ℕ → Symbol → Type 0
+HasRun characters symbol = IsRun characters × ((c : ℕ) → goes_on_with symbol c ≡ is_word_character c)
+
+-- The characters are a text's literal, and the symbol goes on with a quote mark.
+abbrev HasText : List ℕ → Symbol → Type 0
+HasText characters symbol = (text : List ℕ) × (characters ≡ text_literal text) × ((c : ℕ) → goes_on_with symbol c ≡ (c == 39))
+
+-- The characters are a sign's, alone or an operator, and the symbol goes on as the sign does.
+abbrev HasSign : List ℕ → Symbol → Type 0
+HasSign characters symbol = (mark : Mark) × (characters ≡ mark_text mark) × ((c : ℕ) → goes_on_with symbol c ≡ goes_on_with (Sign mark) c)
+
 abbrev HasShape : List ℕ → Symbol → Type 0
-HasShape characters symbol = (IsRun characters × ((c : ℕ) → goes_on_with symbol c ≡ is_word_character c))
-    ⊎ (IsAlone characters × ((c : ℕ) → goes_on_with symbol c ≡ false))
+HasShape characters symbol = HasRun characters symbol ⊎ (HasText characters symbol ⊎ HasSign characters symbol)
 
 symbol-shape : (characters : List ℕ) (symbol : Symbol) → IsWellFormed symbol → IsSymbol characters symbol → HasShape characters symbol
 symbol-shape characters (Keyword word) well is = inl (symbol-run characters (Keyword word) tt well is, λ c. refl)
 symbol-shape characters (Name name) well is = inl (symbol-run characters (Name name) tt well is, λ c. refl)
 symbol-shape characters (Kind k) well is = inl (symbol-run characters (Kind k) tt well is, λ c. refl)
-symbol-shape characters (Literal v) well is = inl (symbol-run characters (Literal v) tt well is, λ c. refl)
-symbol-shape characters (Sign mark) well is = inr (rw is (mark-alone mark), λ c. refl)
+symbol-shape characters (Literal (value.Int z)) well is = inl (symbol-run characters (Literal (value.Int z)) tt well is, λ c. refl)
+symbol-shape characters (Literal (value.Text text)) well is = inr (inl (text, is, λ c. refl))
+symbol-shape characters (Sign mark) well is = inr (inr (mark, is, λ c. refl))
 
--- ---- the two directions
+-- ---- from the symbol to its length
+
+-- A symbol ends where another does that goes on alike.
+ends-alike : (symbol other : Symbol) (rest : List ℕ) → ((c : ℕ) → goes_on_with symbol c ≡ goes_on_with other c)
+    → EndsBefore other rest → EndsBefore symbol rest
+ends-alike symbol other [] same ends = tt
+ends-alike symbol other (c ∷ cs) same ends = same c ∙ ends
 
 stops-word : (symbol : Symbol) (rest : List ℕ) → ((c : ℕ) → goes_on_with symbol c ≡ is_word_character c)
     → EndsBefore symbol rest → StopsBefore is_word_character rest
 stops-word symbol [] same ends = tt
 stops-word symbol (c ∷ cs) same ends = sym (same c) ∙ ends
+
+stops-mark : (symbol : Symbol) (rest : List ℕ) → ((c : ℕ) → goes_on_with symbol c ≡ (c == 39)) → EndsBefore symbol rest → NoMarkFirst rest
+stops-mark symbol [] same ends = tt
+stops-mark symbol (c ∷ cs) same ends = sym (same c) ∙ ends
 
 run-length : (characters rest : List ℕ) → IsRun characters → StopsBefore is_word_character rest
     → lexeme_length (characters ++ rest) ≡ length characters
@@ -162,17 +177,61 @@ run-length [] rest run stops = elim run [ ]
 run-length (c ∷ cs) rest run stops =
     rw (run.1, prefix_len-front is_word_character cs rest run.2 stops) (one_more (length cs))
 
-alone-length : (characters rest : List ℕ) → IsAlone characters → lexeme_length (characters ++ rest) ≡ length characters
-alone-length [] rest alone = elim alone [ ]
-alone-length (c ∷ cs) rest alone = rw (alone.1, alone.2) refl
+-- how long a text's literal is, at the front of a text that goes on with no quote mark
+pub text-length : (text rest : List ℕ) → NoMarkFirst rest → lexeme_length (text_literal text ++ rest) ≡ length (text_literal text)
+text-length text rest free =
+    let inner : List ℕ = flat_map doubled text in
+    rw (append_assoc inner (39 ∷ []) rest, text_length-literal text rest free, length-append inner (39 ∷ [])) (one_more (length inner + 1))
+
+sign-length : (mark : Mark) (rest : List ℕ) → EndsBefore (Sign mark) rest → lexeme_length (mark_text mark ++ rest) ≡ length (mark_text mark)
+sign-length (Operator op.Ne) rest ends = refl
+sign-length (Operator op.Le) rest ends = refl
+sign-length (Operator op.Ge) rest ends = refl
+sign-length (Operator op.Lt) (c ∷ cs) ends = rw ends refl
+sign-length (Operator op.Gt) (c ∷ cs) ends = rw ends refl
+sign-length (Operator op.Eq) (c ∷ cs) ends = refl
+sign-length (Operator op.Eq) [] ends = refl
+sign-length (Operator op.Lt) [] ends = refl
+sign-length (Operator op.Gt) [] ends = refl
+sign-length Open [] ends = refl
+sign-length Open (c ∷ cs) ends = refl
+sign-length Close [] ends = refl
+sign-length Close (c ∷ cs) ends = refl
+sign-length Comma [] ends = refl
+sign-length Comma (c ∷ cs) ends = refl
+sign-length Dot [] ends = refl
+sign-length Dot (c ∷ cs) ends = refl
+sign-length Star [] ends = refl
+sign-length Star (c ∷ cs) ends = refl
+
+shape-length : (characters rest : List ℕ) (symbol : Symbol) → HasShape characters symbol → EndsBefore symbol rest
+    → lexeme_length (characters ++ rest) ≡ length characters
+shape-length characters rest symbol (inl (run, same)) ends = run-length characters rest run (stops-word symbol rest same ends)
+shape-length characters rest symbol (inr (inl (text, e, same))) ends = rw e (text-length text rest (stops-mark symbol rest same ends))
+shape-length characters rest symbol (inr (inr (mark, e, same))) ends =
+    rw e (sign-length mark rest (ends-alike (Sign mark) symbol rest (λ c. sym (same c)) ends))
 
 run-no_blank : (characters rest : List ℕ) → IsRun characters → StopsBefore is_blank (characters ++ rest)
 run-no_blank [] rest run = elim run [ ]
 run-no_blank (c ∷ cs) rest run = run.0
 
-alone-no_blank : (characters rest : List ℕ) → IsAlone characters → StopsBefore is_blank (characters ++ rest)
-alone-no_blank [] rest alone = elim alone [ ]
-alone-no_blank (c ∷ cs) rest alone = alone.0
+sign-no_blank : (mark : Mark) (rest : List ℕ) → StopsBefore is_blank (mark_text mark ++ rest)
+sign-no_blank Open rest = refl
+sign-no_blank Close rest = refl
+sign-no_blank Comma rest = refl
+sign-no_blank Dot rest = refl
+sign-no_blank Star rest = refl
+sign-no_blank (Operator op.Eq) rest = refl
+sign-no_blank (Operator op.Ne) rest = refl
+sign-no_blank (Operator op.Lt) rest = refl
+sign-no_blank (Operator op.Le) rest = refl
+sign-no_blank (Operator op.Gt) rest = refl
+sign-no_blank (Operator op.Ge) rest = refl
+
+shape-no_blank : (characters rest : List ℕ) (symbol : Symbol) → HasShape characters symbol → StopsBefore is_blank (characters ++ rest)
+shape-no_blank characters rest symbol (inl (run, same)) = run-no_blank characters rest run
+shape-no_blank characters rest symbol (inr (inl (text, e, same))) = rw e refl
+shape-no_blank characters rest symbol (inr (inr (mark, e, same))) = rw e (sign-no_blank mark rest)
 
 behind_blanks-front : (blanks text : List ℕ) → AreBlanks blanks → StopsBefore is_blank text → behind_blanks (blanks ++ text) ≡ text
 behind_blanks-front blanks text are stops = rw (prefix_len-front is_blank blanks text are stops, drop-append_seam) refl
@@ -189,10 +248,8 @@ symbol-front : (line blanks characters rest : List ℕ) (symbol : Symbol) → Is
     → IsSymbol characters symbol → EndsBefore symbol rest → line ≡ blanks ++ (characters ++ rest)
     → (lexeme line ≡ characters) × (after_lexeme line ≡ rest)
 symbol-front line blanks characters rest symbol well are is ends e =
-    rw e (elim (symbol-shape characters symbol well is) [
-      | inl (run, same) ↦ lexeme-front blanks characters rest are (run-no_blank characters rest run) (run-length characters rest run (stops-word symbol rest same ends))
-      | inr (alone, same) ↦ lexeme-front blanks characters rest are (alone-no_blank characters rest alone) (alone-length characters rest alone)
-    ])
+    let shape : HasShape characters symbol = symbol-shape characters symbol well is in
+    rw e (lexeme-front blanks characters rest are (shape-no_blank characters rest symbol shape) (shape-length characters rest symbol shape ends))
 
 -- Law: the first symbol is the lexeme, and the others stand behind it.
 pub lexeme-of_made : (line : List ℕ) (symbol : Symbol) (symbols : List Symbol) → IsWellFormed symbol
@@ -201,28 +258,78 @@ lexeme-of_made line symbol symbols well (blanks, characters, rest, are, is, ends
     let front : (lexeme line ≡ characters) × (after_lexeme line ≡ rest) = symbol-front line blanks characters rest symbol well are is ends e in
     rw (front.0, front.1) (is, others)
 
+-- ---- from the length to the symbol
+
+-- The first character of a lexeme is the text's first, and the others stand behind it.
+lexeme-first : (c x : ℕ) (cs xs : List ℕ) → take (lexeme_length (c ∷ cs)) (c ∷ cs) ≡ x ∷ xs → (c ≡ x) × (take (length_behind c cs) cs ≡ xs)
+lexeme-first c x cs xs e = let both : c ∷ take (length_behind c cs) cs ≡ x ∷ xs = rw one_more at e in (cc, cc)
+
 -- what stands behind a run is no letter and no digit
 run-ends : (text : List ℕ) → IsRun (take (lexeme_length text) text) → StopsBefore is_word_character (drop (lexeme_length text) text)
 run-ends [] run = tt
 run-ends (c ∷ cs) run =
-    let shape : IsRun (c ∷ take (cond (begins_run c) (prefix_len is_word_character cs) 0) cs) = rw one_more at run in
+    let shape : IsRun (c ∷ take (length_behind c cs) cs) = rw one_more at run in
     rw (one_more, shape.1) (rest-stops is_word_character cs)
+
+-- what stands behind a text is no quote mark
+text-ends : (text characters : List ℕ) → take (lexeme_length text) text ≡ text_literal characters → NoMarkFirst (drop (lexeme_length text) text)
+text-ends [] characters e = tt
+text-ends (c ∷ cs) characters e =
+    let first : c ≡ 39 = (lexeme-first c 39 cs _ e).0 in
+    rw (one_more, first) (behind_text-free cs)
+
+ends-never : (symbol : Symbol) (rest : List ℕ) → ((c : ℕ) → goes_on_with symbol c ≡ false) → EndsBefore symbol rest
+ends-never symbol [] same = tt
+ends-never symbol (c ∷ cs) same = same c
+
+operator-ends-at : (symbol : Symbol) (first : ℕ) → ((c : ℕ) → is_operator first c ≡ false → goes_on_with symbol c ≡ false)
+    → (c : ℕ) (cs : List ℕ) (b : Bool) → is_operator first c ≡ b → take (cond b 1 0) (c ∷ cs) ≡ []
+    → EndsBefore symbol (drop (cond b 1 0) (c ∷ cs))
+operator-ends-at symbol first same c cs true is e = cc
+operator-ends-at symbol first same c cs false is e = same c is
+
+-- An operator of one character ends before what makes no longer one of it.
+operator-ends : (symbol : Symbol) (first : ℕ) → ((c : ℕ) → is_operator first c ≡ false → goes_on_with symbol c ≡ false)
+    → (cs : List ℕ) → take (operator_length first cs) cs ≡ [] → EndsBefore symbol (drop (operator_length first cs) cs)
+operator-ends symbol first same [] e = tt
+operator-ends symbol first same (c ∷ cs) e = operator-ends-at symbol first same c cs (is_operator first c) refl e
+
+sign-ends : (text : List ℕ) (mark : Mark) → take (lexeme_length text) text ≡ mark_text mark → EndsBefore (Sign mark) (drop (lexeme_length text) text)
+sign-ends text Open e = ends-never (Sign Open) _ (λ c. refl)
+sign-ends text Close e = ends-never (Sign Close) _ (λ c. refl)
+sign-ends text Comma e = ends-never (Sign Comma) _ (λ c. refl)
+sign-ends text Dot e = ends-never (Sign Dot) _ (λ c. refl)
+sign-ends text Star e = ends-never (Sign Star) _ (λ c. refl)
+sign-ends text (Operator op.Eq) e = ends-never (Sign (Operator op.Eq)) _ (λ c. refl)
+sign-ends text (Operator op.Ne) e = ends-never (Sign (Operator op.Ne)) _ (λ c. refl)
+sign-ends text (Operator op.Le) e = ends-never (Sign (Operator op.Le)) _ (λ c. refl)
+sign-ends text (Operator op.Ge) e = ends-never (Sign (Operator op.Ge)) _ (λ c. refl)
+sign-ends [] (Operator op.Lt) e = tt
+sign-ends (c ∷ cs) (Operator op.Lt) e =
+    let parts : (c ≡ 60) × (take (length_behind c cs) cs ≡ []) = lexeme-first c 60 cs [] e in
+    rw (one_more, parts.0) (operator-ends (Sign (Operator op.Lt)) 60 (λ d no. (or_parts ((d == 61) || (d == 62)) false no).0) cs (rw parts.0 at parts.1))
+sign-ends [] (Operator op.Gt) e = tt
+sign-ends (c ∷ cs) (Operator op.Gt) e =
+    let parts : (c ≡ 62) × (take (length_behind c cs) cs ≡ []) = lexeme-first c 62 cs [] e in
+    rw (one_more, parts.0) (operator-ends (Sign (Operator op.Gt)) 62 (λ d no. no) cs (rw parts.0 at parts.1))
 
 ends-word : (symbol : Symbol) (rest : List ℕ) → ((c : ℕ) → goes_on_with symbol c ≡ is_word_character c)
     → StopsBefore is_word_character rest → EndsBefore symbol rest
 ends-word symbol [] same stops = tt
 ends-word symbol (c ∷ cs) same stops = same c ∙ stops
 
-ends-alone : (symbol : Symbol) (rest : List ℕ) → ((c : ℕ) → goes_on_with symbol c ≡ false) → EndsBefore symbol rest
-ends-alone symbol [] same = tt
-ends-alone symbol (c ∷ cs) same = same c
+ends-mark : (symbol : Symbol) (rest : List ℕ) → ((c : ℕ) → goes_on_with symbol c ≡ (c == 39)) → NoMarkFirst rest → EndsBefore symbol rest
+ends-mark symbol [] same free = tt
+ends-mark symbol (c ∷ cs) same free = same c ∙ free
+
+shape-ends : (text : List ℕ) (symbol : Symbol) → HasShape (take (lexeme_length text) text) symbol → EndsBefore symbol (drop (lexeme_length text) text)
+shape-ends text symbol (inl (run, same)) = ends-word symbol _ same (run-ends text run)
+shape-ends text symbol (inr (inl (characters, e, same))) = ends-mark symbol _ same (text-ends text characters e)
+shape-ends text symbol (inr (inr (mark, e, same))) = ends-alike symbol (Sign mark) _ same (sign-ends text mark e)
 
 lexeme-ends : (line : List ℕ) (symbol : Symbol) → IsWellFormed symbol → IsSymbol (lexeme line) symbol → EndsBefore symbol (after_lexeme line)
 unfolding lexeme after_lexeme
-lexeme-ends line symbol well is = elim (symbol-shape (lexeme line) symbol well is) [
-  | inl (run, same) ↦ ends-word symbol (after_lexeme line) same (run-ends (behind_blanks line) run)
-  | inr (alone, same) ↦ ends-alone symbol (after_lexeme line) same
-]
+lexeme-ends line symbol well is = shape-ends (behind_blanks line) symbol (symbol-shape (lexeme line) symbol well is)
 
 line-parts : (line : List ℕ) → line ≡ take (prefix_len is_blank line) line ++ (lexeme line ++ after_lexeme line)
 unfolding lexeme after_lexeme
@@ -252,7 +359,7 @@ blanks-no_lexeme line are =
 no_length : (text : List ℕ) → take (lexeme_length text) text ≡ [] → text ≡ []
 no_length [] none = refl
 no_length (c ∷ cs) none =
-    let some : c ∷ take (cond (begins_run c) (prefix_len is_word_character cs) 0) cs ≡ [] = rw one_more at none in cc
+    let some : c ∷ take (length_behind c cs) cs ≡ [] = rw one_more at none in cc
 
 pub no_lexeme-blanks : (line : List ℕ) → lexeme line ≡ [] → AreBlanks line
 unfolding lexeme

@@ -1,11 +1,14 @@
--- Lists: pairs of elements, the first that passes a test, and filters.
-use Rattle.std.proofs.Common.{◌≡◌, ◌≢◌, ℕ, zero, suc, ◌+◌, ◌<◌, ◌≤◌, Bool, true, false, length, arith, List, [], ◌∷◌, ◌++◌, sym, ap, ◌∙◌, inl, inr, get_or, set}
-use Rattle.std.specs.List.{All, AllPairs, filter, find, list_any}
-use Rattle.std.specs.Option.{is_some}
-use Rattle.std.proofs.lemmas.Bool.{cases_Bool, cases_eq, or_parts}
+-- Lists: pairs of elements, the first that passes a test, and filters. What holds of what an option gives.
+use Rattle.std.proofs.Common.{◌≡◌, ◌≢◌, ℕ, zero, suc, ◌+◌, ◌<◌, ◌≤◌, Bool, true, false, length, arith, List, [], ◌∷◌, ◌++◌, sym, ap, ◌∙◌, inl, inr, get_or, set, map, Some, None, Option, refl}
+use Rattle.std.specs.Prelude.{nat_lt, not}
+use Rattle.std.specs.List.{All, AllPairs, AllZip, filter, find, position, position_or_len, slice_get, list_any, flat_map, filter_map, cons_option}
+use Rattle.std.specs.Option.{is_some, option_map, option_map_or}
+use Rattle.std.proofs.lemmas.Bool.{cases_Bool, cases_eq, or_parts, ltb-true}
 use Rattle.std.proofs.lemmas.List.{get_or-set_same, get_or-set_other, length-set}
-use Rattle.std.proofs.lemmas.List.Elements.{All-nil, All-cons, All-tail, All-head, All-append}
+use Rattle.std.proofs.lemmas.List.Elements.{All-nil, All-cons, All-tail, All-head, All-append, All-map, All-weaker}
+use Rattle.std.proofs.lemmas.List.Folds.{find_at}
 use Rattle.std.proofs.lemmas.List.Kept.{AllPairs-cons}
+use Rattle.std.proofs.lemmas.Option.{cond_some}
 
 -- ---- pairs
 
@@ -26,6 +29,15 @@ AllPairs-append R (x ∷ xs) ys a b c =
     AllPairs-cons R x (xs ++ ys)
     (All-append (R x) xs ys (AllPairs-head R x xs a) (All-head (λ z. All (R z) ys) x xs c))
     (AllPairs-append R xs ys (AllPairs-tail R x xs a) b (All-tail (λ z. All (R z) ys) x xs c))
+
+-- elements that stand so to each other as those that they are made of do
+pub AllPairs-map : {X Y : Type 0} (f : X → Y) (R : X → X → Type 0) (S : Y → Y → Type 0) → ((x y : X) → R x y → S (f x) (f y))
+    → (xs : List X) → AllPairs R xs → AllPairs S (map f xs)
+AllPairs-map f R S keeps [] h = AllPairs-nil S
+AllPairs-map f R S keeps (x ∷ xs) h =
+    AllPairs-cons S (f x) (map f xs)
+    (All-map (S (f x)) f xs (All-weaker (R x) (λ y. S (f x) (f y)) (keeps x) xs (AllPairs-head R x xs h)))
+    (AllPairs-map f R S keeps xs (AllPairs-tail R x xs h))
 
 -- an element in the place of one that f takes to the same
 alike_at : {X Y : Type 0} (f : X → Y) (xs : List X) (k : ℕ) (y : X) → k < length xs → ((d : X) → f y ≡ f (get_or xs k d))
@@ -60,6 +72,38 @@ fails_where_not_found p (x ∷ xs) h =
       | inr f ↦ All-cons (λ z. p z ≡ false) x xs f (fails_where_not_found p xs (rw f at h))
     ]
 
+-- the first place at which a test passes is that of the element found
+pub position_found : {X : Type 0} (p : X → Bool) (xs : List X) (place : ℕ) → position p xs ≡ Some place
+    → (place < length xs) × (find p xs ≡ slice_get xs place)
+position_found p xs place h =
+    let i : ℕ = position_or_len p xs in
+    let parts = cond_some (nat_lt i (length xs)) i place h in (
+      (let below = ltb-true i (length xs) parts.0 in rw (← parts.1) below),
+      find_at p xs ∙ ap (slice_get xs) parts.1,
+    )
+
+-- a test that all pass keeps all
+pub filter_every : {X : Type 0} (p : X → Bool) → ((x : X) → p x ≡ true) → (xs : List X) → filter p xs ≡ xs
+filter_every p passes [] = refl
+filter_every p passes (x ∷ xs) = rw (passes x) (ap (λ ys. x ∷ ys) (filter_every p passes xs))
+
+-- none passes of those that don't
+pub filter_others : {X : Type 0} (p : X → Bool) (xs : List X) → filter p (filter (λ x. not (p x)) xs) ≡ []
+filter_others p [] = refl
+filter_others p (x ∷ xs) =
+    elim (cases_Bool (p x)) [ inl t ↦ rw t (filter_others p xs) | inr f ↦ rw f (rw f (filter_others p xs)) ]
+
+-- the same test once more keeps the same
+pub filter_again : {X : Type 0} (p : X → Bool) (xs : List X) → filter p (filter p xs) ≡ filter p xs
+filter_again p [] = refl
+filter_again p (x ∷ xs) =
+    elim (cases_Bool (p x)) [ inl t ↦ rw t (rw t (ap (λ ys. x ∷ ys) (filter_again p xs))) | inr f ↦ rw f (filter_again p xs) ]
+
+-- a list beside what f makes of each of its elements
+pub AllZip-map : {X Y : Type 0} (R : X → Y → Type 0) (f : X → Y) → ((x : X) → R x (f x)) → (xs : List X) → AllZip R xs (map f xs)
+AllZip-map R f h [] = tt
+AllZip-map R f h (x ∷ xs) = (h x, AllZip-map R f h xs)
+
 -- two filters of which no element passes both
 pub length-filter_apart : {X : Type 0} (p q : X → Bool) → ((x : X) → p x ≡ true → q x ≡ false) → (xs : List X)
     → length (filter p xs) + length (filter q xs) ≤ length xs
@@ -70,3 +114,43 @@ length-filter_apart p q apart (x ∷ xs) =
       | inl t ↦ rw (t, apart x t) (omega arith)
       | inr f ↦ elim (cases_Bool (q x)) [ inl t ↦ rw (f, t) (omega arith) | inr g ↦ rw (f, g) (omega arith) ]
     ]
+
+-- all elements of lists joined end to end
+pub All-flat_map : {X Y : Type 0} (P : Y → Type 0) (f : X → List Y) (xs : List X) → All (λ x. All P (f x)) xs → All P (flat_map f xs)
+All-flat_map P f [] all = All-nil P
+All-flat_map P f (x ∷ xs) all =
+    All-append P (f x) (flat_map f xs) (All-head (λ z. All P (f z)) x xs all)
+    (All-flat_map P f xs (All-tail (λ z. All P (f z)) x xs all))
+
+-- one is found where some pass
+pub found_where_some : {X : Type 0} (p : X → Bool) (xs : List X) → 0 < length (filter p xs) → is_some (find p xs) ≡ true
+found_where_some p [] h = absurd (omega arith)
+found_where_some p (x ∷ xs) h =
+    elim (cases_Bool (p x)) [ inl t ↦ rw t refl | inr f ↦ rw f (found_where_some p xs (rw f at h)) ]
+
+-- ---- options
+
+-- one element more in both lists or in neither
+same_length-cons : {X Y : Type 0} (a : Option X) (b : Option Y) (xs : List X) (ys : List Y) → is_some a ≡ is_some b
+    → length xs ≡ length ys → length (cons_option a xs) ≡ length (cons_option b ys)
+same_length-cons None None xs ys same h = h
+same_length-cons None (Some b) xs ys same h = cc
+same_length-cons (Some a) None xs ys same h = cc
+same_length-cons (Some a) (Some b) xs ys same h = ap suc h
+
+-- lists of what two functions give, which give something of the same elements
+pub length-filter_map : {X Y Z : Type 0} (f : X → Option Y) (g : X → Option Z) → ((x : X) → is_some (f x) ≡ is_some (g x)) → (xs : List X)
+    → length (filter_map f xs) ≡ length (filter_map g xs)
+length-filter_map f g same [] = refl
+length-filter_map f g same (x ∷ xs) =
+    same_length-cons (f x) (g x) (filter_map f xs) (filter_map g xs) (same x) (length-filter_map f g same xs)
+
+pub is_some-option_map : {X Y : Type 0} (f : X → Y) (o : Option X) → is_some (option_map f o) ≡ is_some o
+is_some-option_map f None = refl
+is_some-option_map f (Some x) = refl
+
+-- What holds of each result of f, and of the other value, holds of what an option gives.
+pub option_map_or_satisfies : {X Y : Type 0} (P : Y → Type 0) (f : X → Y) (found : Option X) (otherwise : Y)
+    → P otherwise → ((x : X) → found ≡ Some x → P (f x)) → P (option_map_or f found otherwise)
+option_map_or_satisfies P f None otherwise old new = old
+option_map_or_satisfies P f (Some x) otherwise old new = new x refl

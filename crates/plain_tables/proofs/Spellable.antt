@@ -1,59 +1,111 @@
 -- Spellable: what a line spells can be spelled.
-use Rattle.std.proofs.Common.{ℕ, List, [], ◌∷◌, ◌++◌, map}
+use Rattle.std.proofs.Common.{◌≢◌, ℕ, List, [], ◌∷◌, ◌++◌, map, Option, Some, None, subst}
+use Rattle.std.specs.Prelude.{IfSome}
 use Rattle.std.specs.List.{AllByRecursion}
-use Rattle.plain_tables.specs.Spelling.{Close, Comma, Symbol, Sign, separated, column_symbols, value_symbols, symbols_of, IsSymbol, IsMadeOf, IsSpellableColumn, IsSpellableValue, SpelledIsSpellable}
+use lib.Chars.{codes}
+use Rattle.plain_tables.specs.Names.{IsName}
+use Rattle.plain_tables.specs.Spelling.{Close, Comma, Symbol, Keyword, Name, Kind, Sign, Operator, Literal, separated, column_symbols, value_symbols, name_symbols, setting_symbols, condition_symbols, where_symbols, symbols_of, IsSymbol, IsMadeOf, NamesSomething, IsSpellableKind, IsSpellableColumn, IsSpellableValue, IsSpellableName, IsSpellableSetting, IsSpellableCondition, IsSpellable, SpelledIsSpellable}
 use Rattle.plain_tables.specs.declared.value.Value.{Value}
 use Rattle.plain_tables.specs.declared.value.Value.TheVariants as value
+use Rattle.plain_tables.specs.declared.schema.ColKind.{ColKind}
+use Rattle.plain_tables.specs.declared.schema.ColKind.TheVariants as kind
 use Rattle.plain_tables.specs.declared.schema.Column.{Column}
-use Rattle.plain_tables.specs.declared.command.Command.TheVariants.{Table, Insert, Select}
-use Rattle.plain_tables.proofs.Uniqueness.{kind-only}
+use Rattle.plain_tables.specs.declared.condition.ColName.{ColName}
+use Rattle.plain_tables.specs.declared.condition.Cond.{Cond}
+use Rattle.plain_tables.specs.declared.command.Setting.{Setting}
+use Rattle.plain_tables.specs.declared.command.Items.TheVariants as items
+use Rattle.plain_tables.specs.declared.command.Command.{Command}
+use Rattle.plain_tables.specs.declared.command.Command.TheVariants.{Table, Insert, Update, Delete, Select}
+use Rattle.plain_tables.proofs.Separated.{all-left, all-right, separated-each}
+use Rattle.plain_tables.proofs.LineFeeds.{HasNoFeed, contains-no_feed, literal-feed}
 
--- some characters are this symbol
+-- some characters, with no line feed, are this symbol
 abbrev HasCharacters : Symbol → Type 0
-HasCharacters symbol = (characters : List ℕ) × IsSymbol characters symbol
+HasCharacters symbol = (characters : List ℕ) × IsSymbol characters symbol × HasNoFeed characters
 
-made-each : (symbols : List Symbol) (line : List ℕ) → IsMadeOf line symbols → AllByRecursion HasCharacters symbols
-made-each [] line made = tt
-made-each (symbol ∷ symbols) line (blanks, characters, rest, are, is, ends, others, e) = ((characters, is), made-each symbols rest others)
+abbrev HaveCharacters : List Symbol → Type 0
+HaveCharacters symbols = AllByRecursion HasCharacters symbols
 
-all-left : {X : Type 0} (P : X → Type 0) (xs ys : List X) → AllByRecursion P (xs ++ ys) → AllByRecursion P xs
-all-left P [] ys all = tt
-all-left P (x ∷ xs) ys all = (all.0, all-left P xs ys all.1)
+made-each : (symbols : List Symbol) (line : List ℕ) → HasNoFeed line → IsMadeOf line symbols → HaveCharacters symbols
+made-each [] line free made = tt
+made-each (symbol ∷ symbols) line free (blanks, characters, rest, are, is, ends, others, e) =
+    let behind : HasNoFeed (characters ++ rest) = all-right (λ c. c ≢ 10) blanks (characters ++ rest) (rw e at free) in
+    ((characters, is, all-left (λ c. c ≢ 10) characters rest behind), made-each symbols rest (all-right (λ c. c ≢ 10) characters rest behind) others)
 
-all-right : {X : Type 0} (P : X → Type 0) (xs ys : List X) → AllByRecursion P (xs ++ ys) → AllByRecursion P ys
-all-right P [] ys all = all
-all-right P (x ∷ xs) ys all = all-right P xs ys all.1
+-- ---- items
 
-separated-each : {X : Type 0} (symbols : X → List Symbol) (P : X → Type 0) → ((x : X) → AllByRecursion HasCharacters (symbols x) → P x)
-    → (xs : List X) → AllByRecursion HasCharacters (separated (map symbols xs)) → AllByRecursion P xs
-separated-each symbols P each [] all = tt
-separated-each symbols P each (x ∷ []) all = (each x all, tt)
-separated-each symbols P each (x ∷ y ∷ xs) all =
-    let others : List Symbol = Sign Comma ∷ separated (map symbols (y ∷ xs)) in (
-      each x (all-left HasCharacters (symbols x) others all),
-      separated-each symbols P each (y ∷ xs) (all-right HasCharacters (symbols x) others all).1,
-    )
+kind-each : (k : ColKind) → HasCharacters (Kind k) → IsSpellableKind k
+kind-each kind.Int has = tt
+kind-each kind.Text has = tt
+kind-each (kind.Ref t) has = has.1
 
-listed-each : {X : Type 0} (symbols : X → List Symbol) (P : X → Type 0) → ((x : X) → AllByRecursion HasCharacters (symbols x) → P x)
-    → (xs : List X) → AllByRecursion HasCharacters (separated (map symbols xs) ++ Sign Close ∷ []) → AllByRecursion P xs
-listed-each symbols P each xs all =
-    separated-each symbols P each xs (all-left HasCharacters (separated (map symbols xs)) (Sign Close ∷ []) all)
+column-each : (column : Column) → HaveCharacters (column_symbols column) → IsSpellableColumn column
+column-each column all = (all.0.1.1, kind-each column.kind all.1.0)
 
-column-each : (column : Column) → AllByRecursion HasCharacters (column_symbols column) → IsSpellableColumn column
-column-each column ((characters, name), ((characters', is), rest)) = (name.1, (kind-only characters' column.kind is).1)
+literal-each : (v : Value) → HasCharacters (Literal v) → IsSpellableValue v
+literal-each (value.Int z) has = has.1.0
+literal-each (value.Text text) has = literal-feed text (subst HasNoFeed has.1 has.2)
 
-value-each : (v : Value) → AllByRecursion HasCharacters (value_symbols v) → IsSpellableValue v
-value-each (value.Int z) ((characters, is), rest) = is.0
-value-each (value.Text text) ((characters, is), rest) = is
+value-each : (v : Value) → HaveCharacters (value_symbols v) → IsSpellableValue v
+value-each v all = literal-each v all.0
+
+setting-each : (setting : Setting) → HaveCharacters (setting_symbols setting) → IsSpellableSetting setting
+setting-each setting all = (all.0.1.1, literal-each setting.value all.1.1.0)
+
+name-at : (table : Option (List ℕ)) (column : List ℕ)
+    → HaveCharacters (name_symbols (record { table = table; column = column })) → IfSome table IsName × IsName column
+name-at None column all = (tt, all.0.1.1)
+name-at (Some t) column all = (all.0.1.1, all.1.1.0.1.1)
+
+name-each : (name : ColName) → HaveCharacters (name_symbols name) → IsSpellableName name
+name-each name all = name-at name.table name.column all
+
+condition-each : (condition : Cond) → HaveCharacters (condition_symbols condition) → IsSpellableCondition condition
+condition-each condition all = (
+  name-each condition.column (all-left HasCharacters (name_symbols condition.column) _ all),
+  literal-each condition.value (all-right HasCharacters (name_symbols condition.column) (Sign (Operator condition.op) ∷ Literal condition.value ∷ []) all).1.0,
+)
+
+-- ---- lists
+
+where-each : (conditions : List Cond) → HaveCharacters (where_symbols conditions) → AllByRecursion IsSpellableCondition conditions
+where-each [] all = tt
+where-each (condition ∷ conditions) all =
+    separated-each HasCharacters (Keyword (codes "and")) condition_symbols IsSpellableCondition condition-each (condition ∷ conditions) all.1
+
+-- a list with commas, and what stands behind it
+listed-each : {X : Type 0} (symbols : X → List Symbol) (P : X → Type 0) → ((x : X) → HaveCharacters (symbols x) → P x)
+    → (xs : List X) (more : List Symbol) → HaveCharacters (separated (map symbols xs) ++ more) → AllByRecursion P xs × HaveCharacters more
+listed-each symbols P each xs more all = (
+  separated-each HasCharacters (Sign Comma) symbols P each xs (all-left HasCharacters (separated (map symbols xs)) more all),
+  all-right HasCharacters (separated (map symbols xs)) more all,
+)
+
+from-each : (table : List ℕ) (conditions : List Cond) → HaveCharacters (Keyword (codes "from") ∷ Name table ∷ where_symbols conditions)
+    → IsName table × AllByRecursion IsSpellableCondition conditions
+from-each table conditions all = (all.1.0.1.1, where-each conditions all.1.1)
+
+-- Law: where the symbols of a command have characters, the command can be spelled.
+symbols-spellable : (c : Command) → NamesSomething c → HaveCharacters (symbols_of c) → IsSpellable c
+symbols-spellable (Table name schema) some all =
+    (all.1.0.1.1, some, (listed-each column_symbols IsSpellableColumn column-each schema.columns (Sign Close ∷ []) all.1.1.1).0)
+symbols-spellable (Insert table values) some all =
+    (all.1.0.1.1, some, (listed-each value_symbols IsSpellableValue value-each values (Sign Close ∷ []) all.1.1.1).0)
+symbols-spellable (Update table settings conditions) some all =
+    let parts : AllByRecursion IsSpellableSetting settings × HaveCharacters (where_symbols conditions) =
+    listed-each setting_symbols IsSpellableSetting setting-each settings (where_symbols conditions) all.1.1.1 in
+    (all.1.0.1.1, some, parts.0, where-each conditions parts.1)
+symbols-spellable (Delete table conditions) some all = (all.1.0.1.1, where-each conditions all.1.1)
+symbols-spellable (Select items.All table conditions) some all =
+    let parts : IsName table × AllByRecursion IsSpellableCondition conditions = from-each table conditions all.1.1 in
+    (tt, parts.0, parts.1)
+symbols-spellable (Select (items.Named names) table conditions) some all =
+    let list : AllByRecursion IsSpellableName names × HaveCharacters (Keyword (codes "from") ∷ Name table ∷ where_symbols conditions) =
+    listed-each name_symbols IsSpellableName name-each names (Keyword (codes "from") ∷ Name table ∷ where_symbols conditions) all.1 in
+    let parts : IsName table × AllByRecursion IsSpellableCondition conditions = from-each table conditions list.1 in
+    ((some, list.0), parts.0, parts.1)
 
 -- Law: what a line spells can be spelled.
 pub spelled-spellable : SpelledIsSpellable
-spelled-spellable line (Table name schema) spells =
-    let all : AllByRecursion HasCharacters (symbols_of (Table name schema)) = made-each (symbols_of (Table name schema)) line spells.2 in
-    (all.1.0.1.1, spells.1, listed-each column_symbols IsSpellableColumn column-each schema.columns all.1.1.1)
-spelled-spellable line (Insert table values) spells =
-    let all : AllByRecursion HasCharacters (symbols_of (Insert table values)) = made-each (symbols_of (Insert table values)) line spells.2 in
-    (all.1.0.1.1, spells.1, listed-each value_symbols IsSpellableValue value-each values all.1.1.1)
-spelled-spellable line (Select table) spells =
-    let all : AllByRecursion HasCharacters (symbols_of (Select table)) = made-each (symbols_of (Select table)) line spells.2 in
-    all.1.1.1.0.1.1
+spelled-spellable line c spells =
+    symbols-spellable c spells.1 (made-each (symbols_of c) line (contains-no_feed line spells.0) spells.2)

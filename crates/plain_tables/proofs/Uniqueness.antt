@@ -1,146 +1,220 @@
 -- Uniqueness: no line spells two commands.
-use Rattle.std.proofs.Common.{◌≡◌, ℕ, ◌<◌, List, [], ◌∷◌, ◌++◌, length, map, refl, sym, ◌∙◌, ap, arith, append_assoc, subst}
+use Rattle.std.proofs.Common.{◌≡◌, ℕ, ◌<◌, List, [], ◌∷◌, ◌++◌, length, Option, Some, None, true, false, refl, sym, ◌∙◌, ap, arith, append-nil, subst}
+use Rattle.std.specs.Str.{bytes_eq}
 use lib.Chars.{codes}
-use Rattle.plain_tables.specs.Spelling.{Mark, Close, Comma, Open, Star, mark_text, Symbol, Keyword, Name, Kind, Literal, Sign, separated, column_symbols, value_symbols, IsSymbol, IsMadeOf, Spells, SpellsAtMostOne}
+use Rattle.plain_tables.specs.Names.{is_word, IsName}
+use Rattle.plain_tables.specs.Spelling.{Close, Comma, Dot, Open, Star, Symbol, Keyword, Name, Sign, IsSymbol, column_symbols, value_symbols, name_symbols, setting_symbols, condition_symbols, where_symbols, items_symbols, IsMadeOf, NamesSomething, Spells, SpellsAtMostOne}
 use Rattle.plain_tables.specs.Reading.{lexeme, after_lexeme}
-use Rattle.plain_tables.specs.declared.schema.ColKind.{ColKind}
-use Rattle.plain_tables.specs.declared.schema.ColKind.TheVariants as kind
+use Rattle.plain_tables.specs.declared.condition.ColName.{ColName}
+use Rattle.plain_tables.specs.declared.condition.Cond.{Cond}
+use Rattle.plain_tables.specs.declared.command.Setting.{Setting}
+use Rattle.plain_tables.specs.declared.command.Items.{Items}
+use Rattle.plain_tables.specs.declared.command.Items.TheVariants as items
 use Rattle.plain_tables.specs.declared.command.Command.{Command}
-use Rattle.plain_tables.specs.declared.command.Command.TheVariants.{Table, Insert, Select}
+use Rattle.plain_tables.specs.declared.command.Command.TheVariants.{Table, Insert, Update, Delete, Select}
 use Rattle.plain_tables.proofs.Lexemes.{lexeme-of_made}
-use Rattle.plain_tables.proofs.Integers.{Literal-only}
-use Rattle.plain_tables.proofs.FirstWords.{first_word, spells-word, table-no_insert, table-no_select, insert-no_select}
+use Rattle.plain_tables.proofs.FirstWords.{first_word, different, spells-word}
+use Rattle.plain_tables.proofs.Lists.{NeverBegins, sign-lexeme, IsFixed, sign-fixed, fixed-no_fixed, fixed-no_end, HaveOneRest, IsOneItem, IsBetween, Ends, list_and, made-more, list-one}
+use Rattle.plain_tables.proofs.SingleItems.{whole_name, name-and, fixed-and, value-one, column-one, setting-one, name-one, condition-one}
 
--- ---- signs, and kinds of columns
+-- ---- what ends a list
 
-pub sign-lexeme : (line : List ℕ) (mark : Mark) (more : List Symbol) → IsMadeOf line (Sign mark ∷ more) → lexeme line ≡ mark_text mark
-sign-lexeme line mark more made = (lexeme-of_made line (Sign mark) more tt made).0
+word-fixed : (word : List ℕ) → is_word word ≡ true → IsFixed (Keyword word) word
+word-fixed word is = (is, λ characters same. same)
 
-pub comma-no_close : (characters : List ℕ) → characters ≡ codes "," → characters ≡ codes ")" → ⊥
-comma-no_close characters comma close = cc
+pub comma-between : IsBetween (Sign Comma)
+comma-between = record { well = tt; no_dot = fixed-no_fixed (Sign Dot) (Sign Comma) _ _ (sign-fixed Dot) (sign-fixed Comma) refl }
 
-pub kind-only : (characters : List ℕ) (k : ColKind) → IsSymbol characters (Kind k) → (characters ≡ codes "int") × (k ≡ kind.Int)
-kind-only characters kind.Int is = (is, refl)
-kind-only characters kind.Text is = elim is [ ]
-kind-only characters (kind.Ref t) is = elim is [ ]
+pub and-between : IsBetween (Keyword (codes "and"))
+and-between = record {
+  well = refl;
+  no_dot = fixed-no_fixed (Sign Dot) (Keyword (codes "and")) _ _ (sign-fixed Dot) (word-fixed (codes "and") refl) refl;
+}
 
--- ---- items, one after another
+-- a closing parenthesis, and the words from and where, end a list with commas
+close-ends : (more : List Symbol) → Ends (Sign Comma) (Sign Close ∷ more)
+close-ends more = record {
+  no_dot = fixed-no_fixed (Sign Dot) (Sign Close) _ _ (sign-fixed Dot) (sign-fixed Close) refl more;
+  no_more = fixed-no_fixed (Sign Comma) (Sign Close) _ _ (sign-fixed Comma) (sign-fixed Close) refl more;
+}
 
--- Two items at the front of a line are one, and one rest follows them.
-abbrev IsOneItem : {X : Type 0} → (X → List Symbol) → Type 0
-IsOneItem {X} symbols = (line : List ℕ) (x y : X) (m n : List Symbol) → IsMadeOf line (symbols x ++ m) → IsMadeOf line (symbols y ++ n)
-    → (x ≡ y) × (rest : List ℕ) × IsMadeOf rest m × IsMadeOf rest n
+word-ends : (word : List ℕ) → is_word word ≡ true → bytes_eq (codes ".") word ≡ false → bytes_eq (codes ",") word ≡ false
+    → (more : List Symbol) → Ends (Sign Comma) (Keyword word ∷ more)
+word-ends word is no_dot no_comma more = record {
+  no_dot = fixed-no_fixed (Sign Dot) (Keyword word) _ _ (sign-fixed Dot) (word-fixed word is) no_dot more;
+  no_more = fixed-no_fixed (Sign Comma) (Keyword word) _ _ (sign-fixed Comma) (word-fixed word is) no_comma more;
+}
 
-value-one : IsOneItem value_symbols
-value-one line v w m n made made' =
-    let first : IsSymbol (lexeme line) (Literal v) × IsMadeOf (after_lexeme line) m = lexeme-of_made line (Literal v) m tt made in
-    let second : IsSymbol (lexeme line) (Literal w) × IsMadeOf (after_lexeme line) n = lexeme-of_made line (Literal w) n tt made' in
-    (Literal-only (lexeme line) w v second.0 first.0, after_lexeme line, first.1, second.1)
+-- the end of the line ends any list
+end-ends : (between : Symbol) (text : List ℕ) → IsFixed between text → bytes_eq text [] ≡ false → Ends between []
+end-ends between text fixed some = record {
+  no_dot = fixed-no_end (Sign Dot) (codes ".") (sign-fixed Dot) refl;
+  no_more = fixed-no_end between text fixed some;
+}
 
-column-one : IsOneItem column_symbols
-column-one line c d m n made made' =
-    let name : IsSymbol (lexeme line) (Name c.name) × IsMadeOf (after_lexeme line) (Kind c.kind ∷ m) = lexeme-of_made line (Name c.name) (Kind c.kind ∷ m) tt made in
-    let name' : IsSymbol (lexeme line) (Name d.name) × IsMadeOf (after_lexeme line) (Kind d.kind ∷ n) = lexeme-of_made line (Name d.name) (Kind d.kind ∷ n) tt made' in
+where-ends : (conditions : List Cond) → Ends (Sign Comma) (where_symbols conditions)
+where-ends [] = end-ends (Sign Comma) (codes ",") (sign-fixed Comma) refl
+where-ends (condition ∷ conditions) = word-ends (codes "where") refl refl refl _
+
+-- ---- conditions
+
+where-no_end : (line : List ℕ) (more : List Symbol) → IsMadeOf line (Keyword (codes "where") ∷ more) → IsMadeOf line [] → ⊥
+where-no_end = fixed-no_end (Keyword (codes "where")) (codes "where") (word-fixed (codes "where") refl) refl
+
+-- the conditions at the end of a line
+ended : (line : List ℕ) (symbols : List Symbol) → IsMadeOf line symbols → IsMadeOf line (symbols ++ [])
+ended line symbols made = subst (λ ss. IsMadeOf line ss) (sym (append-nil symbols)) made
+
+where-one : (line : List ℕ) (cs ds : List Cond) → IsMadeOf line (where_symbols cs) → IsMadeOf line (where_symbols ds) → cs ≡ ds
+where-one line [] [] made made' = refl
+where-one line [] (d ∷ ds) made made' = absurd (where-no_end line _ made' made)
+where-one line (c ∷ cs) [] made made' = absurd (where-no_end line _ made made')
+where-one line (c ∷ cs) (d ∷ ds) made made' =
+    let and : Symbol = Keyword (codes "and") in
+    let more : List Symbol = list_and and condition_symbols (c ∷ cs) [] in
+    let ends : Ends and [] = end-ends and (codes "and") (word-fixed (codes "and") refl) refl in
     let behind : List ℕ = after_lexeme line in
-    let kinds : IsSymbol (lexeme behind) (Kind c.kind) × IsMadeOf (after_lexeme behind) m = lexeme-of_made behind (Kind c.kind) m tt name.1 in
-    let kinds' : IsSymbol (lexeme behind) (Kind d.kind) × IsMadeOf (after_lexeme behind) n = lexeme-of_made behind (Kind d.kind) n tt name'.1 in
-    let p : c.name ≡ d.name = sym name.0.0 ∙ name'.0.0 in
-    let q : c.kind ≡ d.kind = (kind-only (lexeme behind) c.kind kinds.0).1 ∙ sym (kind-only (lexeme behind) d.kind kinds'.0).1 in
-    (λ i. record { name = p i; kind = q i }, after_lexeme behind, kinds.1, kinds'.1)
+    (list-one and condition_symbols and-between condition-one behind (c ∷ cs) (d ∷ ds) [] [] (omega arith) (omega arith) ends ends
+    (ended behind _ (lexeme-of_made line (Keyword (codes "where")) _ refl made).1)
+    (ended behind _ (lexeme-of_made line (Keyword (codes "where")) _ refl made').1)).0
 
-pub separated-more : {X : Type 0} (symbols : X → List Symbol) (x y : X) (xs : List X) (more : List Symbol)
-    → separated (map symbols (x ∷ y ∷ xs)) ++ more ≡ symbols x ++ (Sign Comma ∷ (separated (map symbols (y ∷ xs)) ++ more))
-separated-more symbols x y xs more = append_assoc (symbols x) (Sign Comma ∷ separated (map symbols (y ∷ xs))) more
+-- ---- items of a select
 
-abbrev listed : {X : Type 0} → (X → List Symbol) → List X → List Symbol
-listed symbols xs = separated (map symbols xs) ++ Sign Close ∷ []
+-- no name is a star
+star-no_name : (name : List ℕ) (more : List Symbol) → NeverBegins (Sign Star) (Name name ∷ more)
+star-no_name name more line others made made' =
+    let star : lexeme line ≡ codes "*" = sign-lexeme line Star others made in
+    let is : IsSymbol (lexeme line) (Name name) = (lexeme-of_made line (Name name) more tt made').0 in
+    let word : IsName (codes "*") = subst IsName (sym is.0 ∙ star) is.1 in cc
 
-made-more : {X : Type 0} (symbols : X → List Symbol) (line : List ℕ) (x y : X) (xs : List X) → IsMadeOf line (listed symbols (x ∷ y ∷ xs))
-    → IsMadeOf line (symbols x ++ (Sign Comma ∷ listed symbols (y ∷ xs)))
-made-more symbols line x y xs made = subst (λ ss. IsMadeOf line ss) (separated-more symbols x y xs (Sign Close ∷ [])) made
+star-no_column : (table : Option (List ℕ)) (column : List ℕ) (more : List Symbol) → NeverBegins (Sign Star) (whole_name table column ++ more)
+star-no_column None column more = star-no_name column more
+star-no_column (Some t) column more = star-no_name t (Sign Dot ∷ Name column ∷ more)
 
-end-or_more : {X : Type 0} (symbols : X → List Symbol) (rest : List ℕ) (xs : List X) → IsMadeOf rest (Sign Close ∷ [])
-    → IsMadeOf rest (Sign Comma ∷ listed symbols xs) → ⊥
-end-or_more symbols rest xs end more =
-    comma-no_close (lexeme rest) (sign-lexeme rest Comma (listed symbols xs) more) (sign-lexeme rest Close [] end)
+star-no_names : (names : List ColName) (more : List Symbol) → 0 < length names
+    → NeverBegins (Sign Star) (list_and (Sign Comma) name_symbols names more)
+star-no_names [] more some line others made made' = omega arith
+star-no_names (x ∷ []) more some line others made made' = star-no_column x.table x.column more line others made made'
+star-no_names (x ∷ y ∷ xs) more some line others made made' =
+    star-no_column x.table x.column _ line others made (made-more (Sign Comma) name_symbols line x y xs more made')
 
-list-one : {X : Type 0} (symbols : X → List Symbol) → IsOneItem symbols → (line : List ℕ) (xs ys : List X) → 0 < length xs → 0 < length ys
-    → IsMadeOf line (listed symbols xs) → IsMadeOf line (listed symbols ys) → xs ≡ ys
-list-one symbols one line [] ys some some' made made' = absurd (omega arith)
-list-one symbols one line (x ∷ xs) [] some some' made made' = absurd (omega arith)
-list-one symbols one line (x ∷ []) (y ∷ []) some some' made made' =
-    ap (λ z. z ∷ []) (one line x y (Sign Close ∷ []) (Sign Close ∷ []) made made').0
-list-one symbols one line (x ∷ []) (y ∷ z ∷ ys) some some' made made' =
-    let both : (x ≡ y) × (rest : List ℕ) × IsMadeOf rest (Sign Close ∷ []) × IsMadeOf rest (Sign Comma ∷ listed symbols (z ∷ ys)) =
-    one line x y (Sign Close ∷ []) (Sign Comma ∷ listed symbols (z ∷ ys)) made (made-more symbols line y z ys made') in
-    absurd (end-or_more symbols both.1 (z ∷ ys) both.2 both.3)
-list-one symbols one line (x ∷ z ∷ xs) (y ∷ []) some some' made made' =
-    let both : (x ≡ y) × (rest : List ℕ) × IsMadeOf rest (Sign Comma ∷ listed symbols (z ∷ xs)) × IsMadeOf rest (Sign Close ∷ []) =
-    one line x y (Sign Comma ∷ listed symbols (z ∷ xs)) (Sign Close ∷ []) (made-more symbols line x z xs made) made' in
-    absurd (end-or_more symbols both.1 (z ∷ xs) both.3 both.2)
-list-one symbols one line (x ∷ z ∷ xs) (y ∷ w ∷ ys) some some' made made' =
-    let both : (x ≡ y) × (rest : List ℕ) × IsMadeOf rest (Sign Comma ∷ listed symbols (z ∷ xs)) × IsMadeOf rest (Sign Comma ∷ listed symbols (w ∷ ys)) =
-    one line x y (Sign Comma ∷ listed symbols (z ∷ xs)) (Sign Comma ∷ listed symbols (w ∷ ys))
-    (made-more symbols line x z xs made) (made-more symbols line y w ys made') in
-    let others : z ∷ xs ≡ w ∷ ys = list-one symbols one (after_lexeme both.1) (z ∷ xs) (w ∷ ys) (omega arith) (omega arith)
-    (lexeme-of_made both.1 (Sign Comma) (listed symbols (z ∷ xs)) tt both.2).1
-    (lexeme-of_made both.1 (Sign Comma) (listed symbols (w ∷ ys)) tt both.3).1 in
-    λ i. both.0 i ∷ others i
+abbrev HasItems : Items → Type 0
+HasItems items.All = Unit {0}
+HasItems (items.Named names) = 0 < length names
 
--- ---- a name and a list in parentheses, and a name alone
+select-items : (i : Items) (table : List ℕ) (conditions : List Cond) → NamesSomething (Select i table conditions) → HasItems i
+select-items items.All table conditions some = tt
+select-items (items.Named names) table conditions some = some
 
-name-and_list-one : {X : Type 0} (symbols : X → List Symbol) → IsOneItem symbols → (line name name' : List ℕ) (xs ys : List X)
-    → 0 < length xs → 0 < length ys → IsMadeOf line (Name name ∷ Sign Open ∷ listed symbols xs)
-    → IsMadeOf line (Name name' ∷ Sign Open ∷ listed symbols ys) → (name ≡ name') × (xs ≡ ys)
-name-and_list-one symbols one line name name' xs ys some some' made made' =
-    let first : IsSymbol (lexeme line) (Name name) × IsMadeOf (after_lexeme line) (Sign Open ∷ listed symbols xs) =
-    lexeme-of_made line (Name name) (Sign Open ∷ listed symbols xs) tt made in
-    let second : IsSymbol (lexeme line) (Name name') × IsMadeOf (after_lexeme line) (Sign Open ∷ listed symbols ys) =
-    lexeme-of_made line (Name name') (Sign Open ∷ listed symbols ys) tt made' in (
-      sym first.0.0 ∙ second.0.0,
-      list-one symbols one (after_lexeme (after_lexeme line)) xs ys some some'
-          (lexeme-of_made (after_lexeme line) (Sign Open) (listed symbols xs) tt first.1).1
-          (lexeme-of_made (after_lexeme line) (Sign Open) (listed symbols ys) tt second.1).1,
-    )
+items-one : (line : List ℕ) (i j : Items) (m n : List Symbol) → HasItems i → HasItems j → Ends (Sign Comma) m → Ends (Sign Comma) n
+    → IsMadeOf line (items_symbols i ++ m) → IsMadeOf line (items_symbols j ++ n) → (i ≡ j) × HaveOneRest m n
+items-one line items.All items.All m n has has' ends ends' made made' = (refl, fixed-and (Sign Star) tt line m n made made')
+items-one line items.All (items.Named names) m n has has' ends ends' made made' =
+    absurd (star-no_names names n has' line m made made')
+items-one line (items.Named names) items.All m n has has' ends ends' made made' =
+    absurd (star-no_names names m has line n made' made)
+items-one line (items.Named names) (items.Named others) m n has has' ends ends' made made' =
+    let both : (names ≡ others) × HaveOneRest m n =
+    list-one (Sign Comma) name_symbols comma-between name-one line names others m n has has' ends ends' made made' in
+    (ap items.Named both.0, both.1)
 
-from-name : (line name : List ℕ) → IsMadeOf line (Sign Star ∷ Keyword (codes "from") ∷ Name name ∷ [])
-    → lexeme (after_lexeme (after_lexeme line)) ≡ name
-from-name line name made =
-    let from : IsMadeOf (after_lexeme line) (Keyword (codes "from") ∷ Name name ∷ []) =
-    (lexeme-of_made line (Sign Star) (Keyword (codes "from") ∷ Name name ∷ []) tt made).1 in
-    let last : IsMadeOf (after_lexeme (after_lexeme line)) (Name name ∷ []) =
-    (lexeme-of_made (after_lexeme line) (Keyword (codes "from")) (Name name ∷ []) refl from).1 in
-    (lexeme-of_made (after_lexeme (after_lexeme line)) (Name name) [] tt last).0.0
+-- ---- what stands behind a first word
+
+-- a name and a list in parentheses
+in_parentheses-one : {X : Type 0} (symbols : X → List Symbol) → IsOneItem symbols → (line name name' : List ℕ) (xs ys : List X)
+    → 0 < length xs → 0 < length ys → IsMadeOf line (Name name ∷ Sign Open ∷ list_and (Sign Comma) symbols xs (Sign Close ∷ []))
+    → IsMadeOf line (Name name' ∷ Sign Open ∷ list_and (Sign Comma) symbols ys (Sign Close ∷ [])) → (name ≡ name') × (xs ≡ ys)
+in_parentheses-one symbols one line name name' xs ys some some' made made' =
+    let list : List Symbol = list_and (Sign Comma) symbols xs (Sign Close ∷ []) in
+    let list' : List Symbol = list_and (Sign Comma) symbols ys (Sign Close ∷ []) in
+    let names : (name ≡ name') × HaveOneRest (Sign Open ∷ list) (Sign Open ∷ list') =
+    name-and line name name' (Sign Open ∷ list) (Sign Open ∷ list') made made' in
+    let lists : HaveOneRest list list' = fixed-and (Sign Open) tt names.1.0 list list' names.1.1 names.1.2 in
+    let items : (xs ≡ ys) × HaveOneRest (Sign Close ∷ []) (Sign Close ∷ []) =
+    list-one (Sign Comma) symbols comma-between one lists.0 xs ys (Sign Close ∷ []) (Sign Close ∷ []) some some'
+    (close-ends []) (close-ends []) lists.1 lists.2 in
+    (names.0, items.0)
+
+-- a name and conditions
+name-where-one : (line name name' : List ℕ) (cs ds : List Cond) → IsMadeOf line (Name name ∷ where_symbols cs)
+    → IsMadeOf line (Name name' ∷ where_symbols ds) → (name ≡ name') × (cs ≡ ds)
+name-where-one line name name' cs ds made made' =
+    let names : (name ≡ name') × HaveOneRest (where_symbols cs) (where_symbols ds) =
+    name-and line name name' (where_symbols cs) (where_symbols ds) made made' in
+    (names.0, where-one names.1.0 cs ds names.1.1 names.1.2)
+
+-- the settings of an update
+abbrev set_symbols : List Setting → List Cond → List Symbol
+set_symbols settings conditions = Keyword (codes "set") ∷ list_and (Sign Comma) setting_symbols settings (where_symbols conditions)
+
+set-one : (line : List ℕ) (ss ts : List Setting) (cs ds : List Cond) → 0 < length ss → 0 < length ts
+    → IsMadeOf line (set_symbols ss cs) → IsMadeOf line (set_symbols ts ds) → (ss ≡ ts) × (cs ≡ ds)
+set-one line ss ts cs ds some some' made made' =
+    let list : List Symbol = list_and (Sign Comma) setting_symbols ss (where_symbols cs) in
+    let list' : List Symbol = list_and (Sign Comma) setting_symbols ts (where_symbols ds) in
+    let lists : HaveOneRest list list' = fixed-and (Keyword (codes "set")) refl line list list' made made' in
+    let items : (ss ≡ ts) × HaveOneRest (where_symbols cs) (where_symbols ds) =
+    list-one (Sign Comma) setting_symbols comma-between setting-one lists.0 ss ts (where_symbols cs) (where_symbols ds) some some'
+    (where-ends cs) (where-ends ds) lists.1 lists.2 in
+    (items.0, where-one items.1.0 cs ds items.1.1 items.1.2)
+
+update-one : (line name name' : List ℕ) (ss ts : List Setting) (cs ds : List Cond) → 0 < length ss → 0 < length ts
+    → IsMadeOf line (Name name ∷ set_symbols ss cs) → IsMadeOf line (Name name' ∷ set_symbols ts ds)
+    → (name ≡ name') × (ss ≡ ts) × (cs ≡ ds)
+update-one line name name' ss ts cs ds some some' made made' =
+    let names : (name ≡ name') × HaveOneRest (set_symbols ss cs) (set_symbols ts ds) =
+    name-and line name name' (set_symbols ss cs) (set_symbols ts ds) made made' in
+    let others : (ss ≡ ts) × (cs ≡ ds) = set-one names.1.0 ss ts cs ds some some' names.1.1 names.1.2 in
+    (names.0, others.0, others.1)
+
+-- the table of a select, and its conditions
+abbrev from_symbols : List ℕ → List Cond → List Symbol
+from_symbols table conditions = Keyword (codes "from") ∷ Name table ∷ where_symbols conditions
+
+select-one : (line : List ℕ) (i j : Items) (name name' : List ℕ) (cs ds : List Cond) → HasItems i → HasItems j
+    → IsMadeOf line (items_symbols i ++ from_symbols name cs) → IsMadeOf line (items_symbols j ++ from_symbols name' ds)
+    → (i ≡ j) × (name ≡ name') × (cs ≡ ds)
+select-one line i j name name' cs ds has has' made made' =
+    let items : (i ≡ j) × HaveOneRest (from_symbols name cs) (from_symbols name' ds) =
+    items-one line i j (from_symbols name cs) (from_symbols name' ds) has has' (word-ends (codes "from") refl refl refl _)
+    (word-ends (codes "from") refl refl refl _) made made' in
+    let tables : HaveOneRest (Name name ∷ where_symbols cs) (Name name' ∷ where_symbols ds) =
+    fixed-and (Keyword (codes "from")) refl items.1.0 (Name name ∷ where_symbols cs) (Name name' ∷ where_symbols ds) items.1.1 items.1.2 in
+    let others : (name ≡ name') × (cs ≡ ds) = name-where-one tables.0 name name' cs ds tables.1 tables.2 in
+    (items.0, others.0, others.1)
 
 -- ---- commands
 
-same-word : (line : List ℕ) (c d : Command) → Spells line c → Spells line d → first_word c ≡ first_word d
-same-word line c d spells spells' = sym (spells-word line c spells).0 ∙ (spells-word line d spells').0
+-- No line spells two commands with different first words.
+words-differ : (line : List ℕ) (c d : Command) → Spells line c → Spells line d → bytes_eq (first_word c) (first_word d) ≡ false → ⊥
+words-differ line c d spells spells' differ =
+    different (first_word c) (first_word d) differ (sym (spells-word line c spells).0 ∙ (spells-word line d spells').0)
 
 -- Law: no line spells two commands.
 pub spells-one : SpellsAtMostOne
 spells-one line (Table name schema) (Table name' schema') spells spells' =
     let both : (name ≡ name') × (schema.columns ≡ schema'.columns) =
-    name-and_list-one column_symbols column-one (after_lexeme line) name name' schema.columns schema'.columns spells.1 spells'.1
+    in_parentheses-one column_symbols column-one (after_lexeme line) name name' schema.columns schema'.columns spells.1 spells'.1
     (spells-word line (Table name schema) spells).1 (spells-word line (Table name' schema') spells').1 in
     λ i. Table (both.0 i) (record { columns = both.1 i })
 spells-one line (Insert table values) (Insert table' values') spells spells' =
     let both : (table ≡ table') × (values ≡ values') =
-    name-and_list-one value_symbols value-one (after_lexeme line) table table' values values' spells.1 spells'.1
+    in_parentheses-one value_symbols value-one (after_lexeme line) table table' values values' spells.1 spells'.1
     (spells-word line (Insert table values) spells).1 (spells-word line (Insert table' values') spells').1 in
     λ i. Insert (both.0 i) (both.1 i)
-spells-one line (Select table) (Select table') spells spells' =
-    ap Select (sym (from-name (after_lexeme line) table (spells-word line (Select table) spells).1)
-    ∙ from-name (after_lexeme line) table' (spells-word line (Select table') spells').1)
-spells-one line (Table name schema) (Insert table values) spells spells' =
-    absurd (table-no_insert (same-word line (Table name schema) (Insert table values) spells spells'))
-spells-one line (Table name schema) (Select table) spells spells' =
-    absurd (table-no_select (same-word line (Table name schema) (Select table) spells spells'))
-spells-one line (Insert table values) (Table name schema) spells spells' =
-    absurd (table-no_insert (sym (same-word line (Insert table values) (Table name schema) spells spells')))
-spells-one line (Insert table values) (Select table') spells spells' =
-    absurd (insert-no_select (same-word line (Insert table values) (Select table') spells spells'))
-spells-one line (Select table) (Table name schema) spells spells' =
-    absurd (table-no_select (sym (same-word line (Select table) (Table name schema) spells spells')))
-spells-one line (Select table) (Insert table' values) spells spells' =
-    absurd (insert-no_select (sym (same-word line (Select table) (Insert table' values) spells spells')))
+spells-one line (Update table ss cs) (Update table' ts ds) spells spells' =
+    let all : (table ≡ table') × (ss ≡ ts) × (cs ≡ ds) =
+    update-one (after_lexeme line) table table' ss ts cs ds spells.1 spells'.1
+    (spells-word line (Update table ss cs) spells).1 (spells-word line (Update table' ts ds) spells').1 in
+    λ i. Update (all.0 i) (all.1 i) (all.2 i)
+spells-one line (Delete table cs) (Delete table' ds) spells spells' =
+    let both : (table ≡ table') × (cs ≡ ds) =
+    name-where-one (after_lexeme line) table table' cs ds
+    (spells-word line (Delete table cs) spells).1 (spells-word line (Delete table' ds) spells').1 in
+    λ i. Delete (both.0 i) (both.1 i)
+spells-one line (Select i table cs) (Select j table' ds) spells spells' =
+    let all : (i ≡ j) × (table ≡ table') × (cs ≡ ds) =
+    select-one (after_lexeme line) i j table table' cs ds (select-items i table cs spells.1) (select-items j table' ds spells'.1)
+    (spells-word line (Select i table cs) spells).1 (spells-word line (Select j table' ds) spells').1 in
+    λ k. Select (all.0 k) (all.1 k) (all.2 k)
+spells-one line c d spells spells' = absurd (words-differ line c d spells spells' refl)

@@ -1,79 +1,121 @@
--- Well-formed: the symbols of every command are, and so no line feed stands in a line that they make.
-use Rattle.std.proofs.Common.{◌≡◌, ◌≢◌, ℕ, zero, suc, List, [], ◌∷◌, ◌++◌, map, Bool, true, false, refl, sym, ◌∙◌, ap, arith}
+-- Well-formed: the symbols of a command that can be spelled are, and so no line feed stands in a line that they make.
+use Rattle.std.proofs.Common.{◌≢◌, ℕ, List, [], ◌∷◌, ◌++◌, map, IsTrue, refl, Option, Some, None}
+use Rattle.std.specs.Prelude.{IfSome}
 use Rattle.std.specs.List.{AllByRecursion, Contains}
-use Rattle.plain_tables.specs.Spelling.{Mark, Open, Close, Comma, Star, mark_text, Symbol, Keyword, Name, Kind, Literal, Sign, separated, column_symbols, value_symbols, symbols_of, is_blank, IsSymbol, IsMadeOf}
-use Rattle.plain_tables.specs.Names.{is_word_character}
-use Rattle.plain_tables.specs.Reading.{begins_run}
+use lib.Chars.{codes}
+use Rattle.plain_tables.specs.Names.{is_word, IsName}
+use Rattle.plain_tables.specs.Spelling.{Comma, Symbol, Keyword, Name, Kind, Literal, Sign, Close, separated_by, column_symbols, value_symbols, name_symbols, setting_symbols, condition_symbols, where_symbols, items_symbols, symbols_of, is_blank, IsSymbol, IsMadeOf, IsSpellableKind, IsSpellableColumn, IsSpellableValue, IsSpellableName, IsSpellableSetting, IsSpellableCondition, AreSpellableItems, IsSpellable}
+use Rattle.plain_tables.specs.declared.value.Value.TheVariants as value
+use Rattle.plain_tables.specs.declared.condition.ColName.{ColName}
+use Rattle.plain_tables.specs.declared.condition.Cond.{Cond}
+use Rattle.plain_tables.specs.declared.command.Items.{Items}
+use Rattle.plain_tables.specs.declared.command.Items.TheVariants as items
 use Rattle.plain_tables.specs.declared.command.Command.{Command}
-use Rattle.plain_tables.specs.declared.command.Command.TheVariants.{Table, Insert, Select}
-use Rattle.plain_tables.proofs.Lexemes.{AllPass, IsRun, IsWellFormed, symbol-run}
+use Rattle.plain_tables.specs.declared.command.Command.TheVariants.{Table, Insert, Update, Delete, Select}
+use Rattle.plain_tables.proofs.Lexemes.{symbol-run}
+use Rattle.plain_tables.proofs.Separated.{all-append, separated-all}
+use Rattle.plain_tables.proofs.LineFeeds.{HasNoFeed, contains-feed, passing-no_feed, run-no_feed, mark-no_feed, literal-no_feed}
 
--- ---- symbols of commands
+-- ---- symbols that can be spelled
 
-pub all-append : {X : Type 0} (P : X → Type 0) (xs ys : List X) → AllByRecursion P xs → AllByRecursion P ys → AllByRecursion P (xs ++ ys)
-all-append P [] ys left right = right
-all-append P (x ∷ xs) ys left right = (left.0, all-append P xs ys left.1 right)
+-- A keyword is a word, a name is one, a kind is that of integers or of texts, an integer has 64 bits, and a text has no
+-- line feed.
+abbrev pub IsSpellableSymbol : Symbol → Type 0
+IsSpellableSymbol (Keyword word) = IsTrue (is_word word)
+IsSpellableSymbol (Name name) = IsName name
+IsSpellableSymbol (Kind kind) = IsSpellableKind kind
+IsSpellableSymbol (Literal v) = IsSpellableValue v
+IsSpellableSymbol (Sign mark) = Unit {0}
 
-abbrev pub AreWellFormed : List Symbol → Type 0
-AreWellFormed symbols = AllByRecursion IsWellFormed symbols
+abbrev pub AreSpellableSymbols : List Symbol → Type 0
+AreSpellableSymbols symbols = AllByRecursion IsSpellableSymbol symbols
 
-pub separated-well : {X : Type 0} (symbols : X → List Symbol) → ((x : X) → AreWellFormed (symbols x)) → (xs : List X)
-    → AreWellFormed (separated (map symbols xs))
-separated-well symbols well [] = tt
-separated-well symbols well (x ∷ []) = well x
-separated-well symbols well (x ∷ y ∷ xs) =
-    all-append IsWellFormed (symbols x) (Sign Comma ∷ separated (map symbols (y ∷ xs))) (well x)
-    (tt, separated-well symbols well (y ∷ xs))
+name-at : (table : Option (List ℕ)) (column : List ℕ) → IfSome table IsName → IsName column
+    → AreSpellableSymbols (name_symbols (record { table = table; column = column }))
+name-at None column whole is = (is, tt)
+name-at (Some t) column whole is = (whole, (tt, (is, tt)))
 
-listed-well : {X : Type 0} (symbols : X → List Symbol) → ((x : X) → AreWellFormed (symbols x)) → (xs : List X)
-    → AreWellFormed (separated (map symbols xs) ++ Sign Close ∷ [])
-listed-well symbols well xs =
-    all-append IsWellFormed (separated (map symbols xs)) (Sign Close ∷ []) (separated-well symbols well xs) (tt, tt)
+pub name-spellable : (name : ColName) → IsSpellableName name → AreSpellableSymbols (name_symbols name)
+name-spellable name is = name-at name.table name.column is.0 is.1
 
-pub command-well : (command : Command) → AreWellFormed (symbols_of command)
-command-well (Table name schema) = (refl, (tt, (tt, listed-well column_symbols (λ column. (tt, (tt, tt))) schema.columns)))
-command-well (Insert table values) = (refl, (tt, (tt, listed-well value_symbols (λ v. (tt, tt)) values)))
-command-well (Select table) = (refl, (tt, (refl, (tt, tt))))
+pub condition-spellable : (condition : Cond) → IsSpellableCondition condition → AreSpellableSymbols (condition_symbols condition)
+condition-spellable condition is =
+    all-append IsSpellableSymbol (name_symbols condition.column) _ (name-spellable condition.column is.0) (tt, (is.1, tt))
+
+pub where-spellable : (conditions : List Cond) → AllByRecursion IsSpellableCondition conditions → AreSpellableSymbols (where_symbols conditions)
+where-spellable [] all = tt
+where-spellable (condition ∷ conditions) all =
+    (refl, separated-all IsSpellableSymbol (Keyword (codes "and")) refl condition_symbols IsSpellableCondition condition-spellable (condition ∷ conditions) all)
+
+-- a list with commas between its items
+abbrev listed-spellable : {X : Type 0} (symbols : X → List Symbol) (Q : X → Type 0) → ((x : X) → Q x → AreSpellableSymbols (symbols x))
+    → (xs : List X) → AllByRecursion Q xs → AreSpellableSymbols (separated_by (Sign Comma) (map symbols xs))
+listed-spellable symbols Q each xs all = separated-all IsSpellableSymbol (Sign Comma) tt symbols Q each xs all
+
+pub items-spellable : (items : Items) → AreSpellableItems items → AreSpellableSymbols (items_symbols items)
+items-spellable items.All are = (tt, tt)
+items-spellable (items.Named names) are = listed-spellable name_symbols IsSpellableName name-spellable names are.1
+
+-- Law: the symbols of a command that can be spelled can be.
+pub command-spellable : (command : Command) → IsSpellable command → AreSpellableSymbols (symbols_of command)
+command-spellable (Table name schema) is = (
+  refl,
+  (
+    is.0,
+    (
+      tt,
+      all-append IsSpellableSymbol _ (Sign Close ∷ [])
+          (listed-spellable column_symbols IsSpellableColumn (λ column has. (has.0, (has.1, tt))) schema.columns is.2) (tt, tt),
+    ),
+  ),
+)
+command-spellable (Insert table values) is = (
+  refl,
+  (
+    is.0,
+    (
+      tt,
+      all-append IsSpellableSymbol _ (Sign Close ∷ [])
+          (listed-spellable value_symbols IsSpellableValue (λ v has. (has, tt)) values is.2) (tt, tt),
+    ),
+  ),
+)
+command-spellable (Update table settings conditions) is = (
+  refl,
+  (
+    is.0,
+    (
+      refl,
+      all-append IsSpellableSymbol _ (where_symbols conditions)
+          (listed-spellable setting_symbols IsSpellableSetting (λ setting has. (has.0, (tt, (has.1, tt)))) settings is.2)
+          (where-spellable conditions is.3),
+    ),
+  ),
+)
+command-spellable (Delete table conditions) is = (refl, (is.0, where-spellable conditions is.1))
+command-spellable (Select items table conditions) is = (
+  refl,
+  all-append IsSpellableSymbol (items_symbols items) _
+      (items-spellable items is.0) (refl, (is.1, where-spellable conditions is.2)),
+)
 
 -- ---- line feeds
 
-abbrev HasNoFeed : List ℕ → Type 0
-HasNoFeed characters = AllByRecursion (λ c. c ≢ 10) characters
+pub symbol-no_feed : (characters : List ℕ) (symbol : Symbol) → IsSpellableSymbol symbol → IsSymbol characters symbol → HasNoFeed characters
+symbol-no_feed characters (Sign mark) can is = rw is (mark-no_feed mark)
+symbol-no_feed characters (Keyword word) can is = run-no_feed characters (symbol-run characters (Keyword word) tt can is)
+symbol-no_feed characters (Name name) can is = run-no_feed characters (symbol-run characters (Name name) tt tt is)
+symbol-no_feed characters (Kind k) can is = run-no_feed characters (symbol-run characters (Kind k) tt tt is)
+symbol-no_feed characters (Literal (value.Int z)) can is = run-no_feed characters (symbol-run characters (Literal (value.Int z)) tt tt is)
+symbol-no_feed characters (Literal (value.Text text)) can is = rw is (literal-no_feed text can)
 
-passing-no_feed : (p : ℕ → Bool) → p 10 ≡ false → (cs : List ℕ) → AllPass p cs → HasNoFeed cs
-passing-no_feed p not [] all = tt
-passing-no_feed p not (c ∷ cs) all =
-    ((λ e. let here : p 10 ≡ true = ap p (sym e) ∙ all.0 in cc), passing-no_feed p not cs all.1)
-
-run-no_feed : (characters : List ℕ) → IsRun characters → HasNoFeed characters
-run-no_feed [] run = elim run [ ]
-run-no_feed (c ∷ cs) run =
-    ((λ e. let here : begins_run 10 ≡ true = ap begins_run (sym e) ∙ run.1 in cc), passing-no_feed is_word_character refl cs run.2)
-
-mark-no_feed : (mark : Mark) → HasNoFeed (mark_text mark)
-mark-no_feed Open = ((λ e. omega arith), tt)
-mark-no_feed Close = ((λ e. omega arith), tt)
-mark-no_feed Comma = ((λ e. omega arith), tt)
-mark-no_feed Star = ((λ e. omega arith), tt)
-
-symbol-no_feed : (characters : List ℕ) (symbol : Symbol) → IsWellFormed symbol → IsSymbol characters symbol → HasNoFeed characters
-symbol-no_feed characters (Sign mark) well is = rw is (mark-no_feed mark)
-symbol-no_feed characters (Keyword word) well is = run-no_feed characters (symbol-run characters (Keyword word) tt well is)
-symbol-no_feed characters (Name name) well is = run-no_feed characters (symbol-run characters (Name name) tt well is)
-symbol-no_feed characters (Kind k) well is = run-no_feed characters (symbol-run characters (Kind k) tt well is)
-symbol-no_feed characters (Literal v) well is = run-no_feed characters (symbol-run characters (Literal v) tt well is)
-
-made-no_feed : (symbols : List Symbol) → AreWellFormed symbols → (line : List ℕ) → IsMadeOf line symbols → HasNoFeed line
-made-no_feed [] well line made = passing-no_feed is_blank refl line made
-made-no_feed (symbol ∷ symbols) well line (blanks, characters, rest, are, is, ends, others, e) =
+made-no_feed : (symbols : List Symbol) → AreSpellableSymbols symbols → (line : List ℕ) → IsMadeOf line symbols → HasNoFeed line
+made-no_feed [] can line made = passing-no_feed is_blank refl line made
+made-no_feed (symbol ∷ symbols) can line (blanks, characters, rest, are, is, ends, others, e) =
     rw e (all-append (λ c. c ≢ 10) blanks (characters ++ rest) (passing-no_feed is_blank refl blanks are)
-    (all-append (λ c. c ≢ 10) characters rest (symbol-no_feed characters symbol well.0 is) (made-no_feed symbols well.1 rest others)))
+    (all-append (λ c. c ≢ 10) characters rest (symbol-no_feed characters symbol can.0 is) (made-no_feed symbols can.1 rest others)))
 
-contains-feed : (line : List ℕ) → HasNoFeed line → Contains line 10 → ⊥
-contains-feed [] free (k, within, e) = omega arith
-contains-feed (c ∷ cs) free (zero, within, e) = free.0 e
-contains-feed (c ∷ cs) free (suc k, within, e) = contains-feed cs free.1 (k, omega arith, e)
-
--- Law: a line that a command's symbols make has no line feed.
-pub made-no_line_feed : (command : Command) (line : List ℕ) → IsMadeOf line (symbols_of command) → ¬ (Contains line 10)
-made-no_line_feed command line made = contains-feed line (made-no_feed (symbols_of command) (command-well command) line made)
+-- Law: a line that the symbols of a command make that can be spelled has no line feed.
+pub made-no_line_feed : (command : Command) (line : List ℕ) → IsSpellable command → IsMadeOf line (symbols_of command) → ¬ (Contains line 10)
+made-no_line_feed command line can made =
+    contains-feed line (made-no_feed (symbols_of command) (command-spellable command can) line made)

@@ -30,11 +30,18 @@ with_table name table tables = slice_set tables (position_or_len (is_named name)
 
 -- ---- well-formed databases
 
--- An integer column holds integers of 64 bits. No other columns can be declared.
+-- Columns can be declared of integers and of texts.
+abbrev pub IsDeclarable : ColKind → Type 0
+IsDeclarable kind.Int = Unit {0}
+IsDeclarable kind.Text = Unit {0}
+IsDeclarable (kind.Ref table) = ⊥
+
+-- An integer column holds integers of 64 bits, a text column texts of at most 1,024 bytes.
 abbrev pub IsOfKind : ColKind → Value → Type 0
 IsOfKind kind.Int (value.Int z) = FitsSigned w64 z
 IsOfKind kind.Int (value.Text text) = ⊥
-IsOfKind kind.Text v = ⊥
+IsOfKind kind.Text (value.Int z) = ⊥
+IsOfKind kind.Text (value.Text text) = length text ≤ 1024
 IsOfKind (kind.Ref table) v = ⊥
 
 -- a row has one value for each column, of its kind
@@ -50,14 +57,13 @@ pub record IsWellFormedTable (limits : Limits) (table : Table) : Type 0 where
   pub columns_apart : AllPairs (λ c d. c.name ≢ d.name) table.columns
   pub some_column : 0 < length table.columns
   pub few_columns : length table.columns ≤ 16
-  pub kinds : All (λ c. c.kind ≡ kind.Int) table.columns
+  pub kinds : All (λ c. IsDeclarable c.kind) table.columns
   pub no_index : table.indexes ≡ []
   pub rows_fit : All (FitsColumns table.columns) table.rows
   pub rows_rise : AreRising table.rows
   pub few_rows : length table.rows ≤ limits.rows
 
--- Names differ, and there are at most 64 tables, each of them well-formed. No columns but those of integers
--- can be declared, and no indexes.
+-- Names differ, and there are at most 64 tables, each of them well-formed. No indexes can be declared.
 pub record IsWellFormed (limits : Limits) (tables : Database) : Type 0 where
   pub each : All (IsWellFormedTable limits) tables
   pub apart : AllPairs (λ t u. t.name ≢ u.name) tables

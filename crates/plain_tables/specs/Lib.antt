@@ -4,9 +4,12 @@ pub mod Databases
 pub mod Division
 pub mod Effects
 pub mod Names
+pub mod Queries
+pub mod QueryLaws
 pub mod Reading
 pub mod Refusals
 pub mod Runs
+pub mod SequenceLends
 pub mod Spelling
 pub mod Tables
 pub mod Values

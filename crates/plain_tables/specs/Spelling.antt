@@ -2,9 +2,10 @@
 --
 -- A command is a list of symbols. A line spells it where the line is those symbols in their order, each as
 -- long as it can be, with blanks before, between and after them.
-use Rattle.std.specs.Prelude.{◌≡◌, length, ℕ, ℤ, pos, ◌<◌, List, [], ◌∷◌, ◌++◌, map, Bool, false, ◌||◌, ◌==◌, IsTrue, IsFalse, FitsSigned, neg_ℤ, ◌⊎◌}
+use Rattle.std.specs.Prelude.{◌≡◌, length, ℕ, ℤ, pos, ◌<◌, List, [], ◌∷◌, ◌++◌, map, Bool, false, ◌||◌, ◌==◌, IsTrue, IsFalse, if◌then◌else◌, FitsSigned, neg_ℤ, IfSome, ◌⊎◌}
 use Rattle.std.specs.Int.{w64}
-use Rattle.std.specs.List.{AllByRecursion, Contains}
+use Rattle.std.specs.List.{AllByRecursion, Contains, flat_map}
+use Rattle.std.specs.Option.{option_map_or}
 use Rattle.std.specs.Str.Parse.{IsNumeral, digits_value}
 use Rattle.std.specs.Fmt.{signed_decimal}
 use lib.Chars.{codes}
@@ -14,8 +15,15 @@ use Rattle.plain_tables.specs.declared.value.Value.TheVariants as value
 use Rattle.plain_tables.specs.declared.schema.ColKind.{ColKind}
 use Rattle.plain_tables.specs.declared.schema.ColKind.TheVariants as kind
 use Rattle.plain_tables.specs.declared.schema.Column.{Column}
+use Rattle.plain_tables.specs.declared.condition.Op.{Op}
+use Rattle.plain_tables.specs.declared.condition.Op.TheVariants as op
+use Rattle.plain_tables.specs.declared.condition.ColName.{ColName}
+use Rattle.plain_tables.specs.declared.condition.Cond.{Cond}
+use Rattle.plain_tables.specs.declared.command.Setting.{Setting}
+use Rattle.plain_tables.specs.declared.command.Items.{Items}
+use Rattle.plain_tables.specs.declared.command.Items.TheVariants as items
 use Rattle.plain_tables.specs.declared.command.Command.{Command}
-use Rattle.plain_tables.specs.declared.command.Command.TheVariants.{Table, Insert, Select}
+use Rattle.plain_tables.specs.declared.command.Command.TheVariants.{Table, Insert, Update, Delete, Select}
 
 -- ---- the symbols of a command
 
@@ -23,7 +31,9 @@ pub data Mark : Type 0 where
   Open : Mark
   Close : Mark
   Comma : Mark
+  Dot : Mark
   Star : Mark
+  Operator : Op → Mark
 
 pub data Symbol : Type 0 where
   Keyword : List ℕ → Symbol
@@ -32,11 +42,14 @@ pub data Symbol : Type 0 where
   Literal : Value → Symbol
   Sign : Mark → Symbol
 
--- lists of symbols, with a comma between two of them
+-- lists of symbols, with a symbol between two of them
+abbrev pub separated_by : Symbol → List (List Symbol) → List Symbol
+separated_by between [] = []
+separated_by between (part ∷ []) = part
+separated_by between (part ∷ next ∷ parts) = part ++ between ∷ separated_by between (next ∷ parts)
+
 abbrev pub separated : List (List Symbol) → List Symbol
-separated [] = []
-separated (part ∷ []) = part
-separated (part ∷ next ∷ parts) = part ++ Sign Comma ∷ separated (next ∷ parts)
+separated parts = separated_by (Sign Comma) parts
 
 abbrev pub column_symbols : Column → List Symbol
 column_symbols column = Name column.name ∷ Kind column.kind ∷ []
@@ -44,15 +57,41 @@ column_symbols column = Name column.name ∷ Kind column.kind ∷ []
 abbrev pub value_symbols : Value → List Symbol
 value_symbols v = Literal v ∷ []
 
+-- a column, which may stand behind its table's name and a dot
+abbrev pub name_symbols : ColName → List Symbol
+name_symbols name = option_map_or (λ table. Name table ∷ Sign Dot ∷ Name name.column ∷ []) name.table (Name name.column ∷ [])
+
+abbrev pub setting_symbols : Setting → List Symbol
+setting_symbols setting = Name setting.column ∷ Sign (Operator op.Eq) ∷ Literal setting.value ∷ []
+
+abbrev pub condition_symbols : Cond → List Symbol
+condition_symbols condition = name_symbols condition.column ++ Sign (Operator condition.op) ∷ Literal condition.value ∷ []
+
+-- where CONDITION {and CONDITION}, or nothing
+abbrev pub where_symbols : List Cond → List Symbol
+where_symbols [] = []
+where_symbols (condition ∷ conditions) =
+    Keyword (codes "where") ∷ separated_by (Keyword (codes "and")) (map condition_symbols (condition ∷ conditions))
+
+abbrev pub items_symbols : Items → List Symbol
+items_symbols items.All = Sign Star ∷ []
+items_symbols (items.Named names) = separated (map name_symbols names)
+
 -- table NAME ( NAME KIND {, NAME KIND} )
 -- insert NAME ( VALUE {, VALUE} )
--- select * from NAME
+-- update NAME set NAME = VALUE {, NAME = VALUE} [where ..]
+-- delete NAME [where ..]
+-- select ITEMS from NAME [where ..]
 abbrev pub symbols_of : Command → List Symbol
 symbols_of (Table name schema) =
     Keyword (codes "table") ∷ Name name ∷ Sign Open ∷ separated (map column_symbols schema.columns) ++ Sign Close ∷ []
 symbols_of (Insert table values) =
     Keyword (codes "insert") ∷ Name table ∷ Sign Open ∷ separated (map value_symbols values) ++ Sign Close ∷ []
-symbols_of (Select table) = Keyword (codes "select") ∷ Sign Star ∷ Keyword (codes "from") ∷ Name table ∷ []
+symbols_of (Update table settings conditions) =
+    Keyword (codes "update") ∷ Name table ∷ Keyword (codes "set") ∷ separated (map setting_symbols settings) ++ where_symbols conditions
+symbols_of (Delete table conditions) = Keyword (codes "delete") ∷ Name table ∷ where_symbols conditions
+symbols_of (Select items table conditions) =
+    Keyword (codes "select") ∷ items_symbols items ++ Keyword (codes "from") ∷ Name table ∷ where_symbols conditions
 
 -- ---- the characters of a symbol
 
@@ -64,29 +103,50 @@ IsInteger characters z =
     × (((characters ≡ digits) × (z ≡ pos (digits_value 10 digits)))
     ⊎ ((characters ≡ 45 ∷ digits) × (z ≡ neg_ℤ (pos (digits_value 10 digits))))))
 
+-- A text is spelled between quote marks. A quote mark in it is doubled: another stands before it.
+abbrev pub doubled : ℕ → List ℕ
+doubled c = if c == 39 then 39 ∷ c ∷ [] else c ∷ []
+
+abbrev pub text_literal : List ℕ → List ℕ
+text_literal text = 39 ∷ (flat_map doubled text ++ 39 ∷ [])
+
+abbrev pub operator_text : Op → List ℕ
+operator_text op.Eq = codes "="
+operator_text op.Ne = codes "<>"
+operator_text op.Lt = codes "<"
+operator_text op.Le = codes "<="
+operator_text op.Gt = codes ">"
+operator_text op.Ge = codes ">="
+
 abbrev pub mark_text : Mark → List ℕ
 mark_text Open = codes "("
 mark_text Close = codes ")"
 mark_text Comma = codes ","
+mark_text Dot = codes "."
 mark_text Star = codes "*"
+mark_text (Operator operator) = operator_text operator
 
--- These characters are this symbol. There are columns and values of integers alone.
+-- These characters are this symbol. There are columns of integers and of texts alone.
 abbrev pub IsSymbol : List ℕ → Symbol → Type 0
 IsSymbol characters (Keyword word) = characters ≡ word
 IsSymbol characters (Name name) = (characters ≡ name) × IsName name
 IsSymbol characters (Kind kind.Int) = characters ≡ codes "int"
-IsSymbol characters (Kind kind.Text) = ⊥
+IsSymbol characters (Kind kind.Text) = characters ≡ codes "text"
 IsSymbol characters (Kind (kind.Ref table)) = ⊥
 IsSymbol characters (Literal (value.Int z)) = IsInteger characters z
-IsSymbol characters (Literal (value.Text text)) = ⊥
+IsSymbol characters (Literal (value.Text text)) = characters ≡ text_literal text
 IsSymbol characters (Sign mark) = characters ≡ mark_text mark
 
--- Whether a symbol would go on with the character behind it: words and numbers do with a letter or a digit.
+-- Whether a symbol would go on with the character behind it: words and numbers do with a letter or a digit, a text
+-- with a quote mark, and < and > with what makes a longer operator of them.
 abbrev pub goes_on_with : Symbol → ℕ → Bool
 goes_on_with (Keyword word) c = is_word_character c
 goes_on_with (Name name) c = is_word_character c
 goes_on_with (Kind k) c = is_word_character c
-goes_on_with (Literal v) c = is_word_character c
+goes_on_with (Literal (value.Int z)) c = is_word_character c
+goes_on_with (Literal (value.Text text)) c = c == 39
+goes_on_with (Sign (Operator op.Lt)) c = (c == 61) || (c == 62)
+goes_on_with (Sign (Operator op.Gt)) c = c == 61
 goes_on_with (Sign mark) c = false
 
 -- A symbol ends before the rest of the line where it would not go on with it.
@@ -114,7 +174,10 @@ IsMadeOf line (symbol ∷ symbols) =
 abbrev pub NamesSomething : Command → Type 0
 NamesSomething (Table name schema) = 0 < length schema.columns
 NamesSomething (Insert table values) = 0 < length values
-NamesSomething (Select table) = Unit {0}
+NamesSomething (Update table settings conditions) = 0 < length settings
+NamesSomething (Delete table conditions) = Unit {0}
+NamesSomething (Select items.All table conditions) = Unit {0}
+NamesSomething (Select (items.Named names) table conditions) = 0 < length names
 
 -- A line, which has no line feed in it, spells a command.
 abbrev pub Spells : List ℕ → Command → Type 0
@@ -122,20 +185,43 @@ Spells line command = ¬ (Contains line 10) × NamesSomething command × IsMadeO
 
 -- ---- what can be spelled, and the one canonical spelling
 
+abbrev pub IsSpellableKind : ColKind → Type 0
+IsSpellableKind kind.Int = Unit {0}
+IsSpellableKind kind.Text = Unit {0}
+IsSpellableKind (kind.Ref table) = ⊥
+
 abbrev pub IsSpellableColumn : Column → Type 0
-IsSpellableColumn column = IsName column.name × (column.kind ≡ kind.Int)
+IsSpellableColumn column = IsName column.name × IsSpellableKind column.kind
 
 abbrev pub IsSpellableValue : Value → Type 0
 IsSpellableValue (value.Int z) = FitsSigned w64 z
-IsSpellableValue (value.Text text) = ⊥
+IsSpellableValue (value.Text text) = ¬ (Contains text 10)
 
--- A command can be spelled where its names are names, its lists aren't empty, its columns are of integers and
--- its values are integers of 64 bits.
+abbrev pub IsSpellableName : ColName → Type 0
+IsSpellableName name = IfSome name.table IsName × IsName name.column
+
+abbrev pub IsSpellableSetting : Setting → Type 0
+IsSpellableSetting setting = IsName setting.column × IsSpellableValue setting.value
+
+abbrev pub IsSpellableCondition : Cond → Type 0
+IsSpellableCondition condition = IsSpellableName condition.column × IsSpellableValue condition.value
+
+abbrev pub AreSpellableItems : Items → Type 0
+AreSpellableItems items.All = Unit {0}
+AreSpellableItems (items.Named names) = (0 < length names) × AllByRecursion IsSpellableName names
+
+-- A command can be spelled where its names are names, its lists but that of the conditions aren't empty, its columns
+-- are of integers or texts, its integers have 64 bits, and no text of it holds a line feed.
 abbrev pub IsSpellable : Command → Type 0
 IsSpellable (Table name schema) =
     IsName name × (0 < length schema.columns) × AllByRecursion IsSpellableColumn schema.columns
 IsSpellable (Insert table values) = IsName table × (0 < length values) × AllByRecursion IsSpellableValue values
-IsSpellable (Select table) = IsName table
+IsSpellable (Update table settings conditions) =
+    IsName table × (0 < length settings) × AllByRecursion IsSpellableSetting settings
+    × AllByRecursion IsSpellableCondition conditions
+IsSpellable (Delete table conditions) = IsName table × AllByRecursion IsSpellableCondition conditions
+IsSpellable (Select items table conditions) =
+    AreSpellableItems items × IsName table × AllByRecursion IsSpellableCondition conditions
 
 abbrev pub kind_text : ColKind → List ℕ
 kind_text kind.Int = codes "int"
@@ -148,14 +234,16 @@ symbol_text (Keyword word) = word
 symbol_text (Name name) = name
 symbol_text (Kind k) = kind_text k
 symbol_text (Literal (value.Int z)) = signed_decimal z
-symbol_text (Literal (value.Text text)) = text
+symbol_text (Literal (value.Text text)) = text_literal text
 symbol_text (Sign mark) = mark_text mark
 
--- no blank stands behind an opening parenthesis, before a closing one, or before a comma
+-- no blank stands behind an opening parenthesis, before a closing one, before a comma, or on either side of a dot
 abbrev pub gap : Symbol → Symbol → List ℕ
 gap (Sign Open) next = []
+gap (Sign Dot) next = []
 gap symbol (Sign Close) = []
 gap symbol (Sign Comma) = []
+gap symbol (Sign Dot) = []
 gap symbol next = 32 ∷ []
 
 -- the symbols, with one blank between two of them but where there is no gap

@@ -1,6 +1,6 @@
 //! What a command line asks for, and the limits under which it is done.
 
-use crate::{Schema, Sequence, Text, Value};
+use crate::{ColName, Cond, Schema, Sequence, Text, Value};
 
 /// A command of the language. Each has one variant.
 #[derive(Debug, Drop)]
@@ -15,10 +15,37 @@ pub enum Command {
         table: Text,
         values: Sequence<Value>,
     },
-    /// `select * from NAME`: all rows of a table.
-    Select {
+    /// `update NAME set .. where ..`: these values in each row that meets the conditions.
+    Update {
         table: Text,
+        settings: Sequence<Setting>,
+        conditions: Sequence<Cond>,
     },
+    /// `delete NAME where ..`: the table without the rows that meet the conditions.
+    Delete {
+        table: Text,
+        conditions: Sequence<Cond>,
+    },
+    /// `select .. from NAME where ..`: these columns of the rows that meet the conditions.
+    Select {
+        items: Items,
+        table: Text,
+        conditions: Sequence<Cond>,
+    },
+}
+
+/// What an update puts into a column.
+#[derive(Debug, Drop)]
+pub struct Setting {
+    pub column: Text,
+    pub value: Value,
+}
+
+/// The columns that a select shows: all of them, or those named, in that order.
+#[derive(Debug, Drop)]
+pub enum Items {
+    All,
+    Named(Sequence<ColName>),
 }
 
 /// How much a session takes: the rows that one table may have, and the bytes of a block.

@@ -5,6 +5,7 @@ pub mod command;
 pub mod condition;
 pub mod laws;
 pub mod no_memory;
+pub mod query_laws;
 pub mod refusal;
 pub mod schema;
 pub mod sequence;
@@ -12,7 +13,7 @@ pub mod spelling_laws;
 pub mod text;
 pub mod value;
 
-pub use command::{Command, Limits};
+pub use command::{Command, Items, Limits, Setting};
 pub use condition::{ColName, Cond, Op};
 pub use no_memory::NoMemory;
 pub use refusal::Refusal;

@@ -1,6 +1,7 @@
 //! A list of values, seen by contracts as just that list.
 
 ghost use Rattle.std.specs.Prelude.{◌≡◌, ◌↔◌, [], length, IsTrue};
+ghost use Rattle.std.specs.Borrow.{sem};
 
 use std::alloc::Global;
 use std::marker::Model;
@@ -20,6 +21,8 @@ impl<T> Model for Sequence<T> {
 }
 
 impl<T> Sequence<T> {
+    ghost use Rattle.plain_tables.specs.SequenceLends.{LendsItems};
+
     /// The empty list. It takes no memory.
     pub fn new(alloc: Global) -> Sequence<T>
         ensures { result ≡ [] }
@@ -60,5 +63,13 @@ impl<T> Sequence<T> {
         ensures { result.now ≡ self.now }
     {
         self.items.as_slice()
+    }
+
+    /// The items, to write to. They stay as many as they are.
+    pub fn as_mut_slice(&mut self) -> &mut [T]
+        ensures* writes_back { sem 𝓛 (LendsItems T.row self.entry result) }
+        ensures value { result.now ≡ self.old }
+    {
+        self.items.as_mut_slice()
     }
 }

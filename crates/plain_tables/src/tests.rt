@@ -73,11 +73,12 @@ fn want_of_memory_is_told(rt: HostRuntime) -> Result<(), Fail> {
 
 #[test]
 fn a_sequence_keeps_a_vec(rt: HostRuntime) -> Result<(), Fail> {
-    let numbers = Sequence::from_vec(vec![in rt.alloc(); 3, 1, 2]?);
+    let mut numbers = Sequence::from_vec(vec![in rt.alloc(); 3, 1, 2]?);
     assert!(rt; !numbers.is_empty());
     assert_eq!(rt; numbers.len(), 3);
     assert_eq!(rt; numbers.as_slice(), [3, 1, 2].as_slice());
-    assert_eq!(rt; numbers.into_vec().as_slice(), [3, 1, 2].as_slice());
+    numbers.as_mut_slice()[1] = 7;
+    assert_eq!(rt; numbers.into_vec().as_slice(), [3, 7, 2].as_slice());
     assert!(rt; Sequence::<u8>::new(rt.alloc()).is_empty());
     Ok(())
 }

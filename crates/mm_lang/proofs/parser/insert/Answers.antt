@@ -7,11 +7,11 @@ use Rattle.mm_lang.proofs.Productions.{insert-only, insert-completed}
 use Rattle.mm_lang.proofs.parser.insert.Goals as goal
 
 pub returns-in_err-table-clause-syntax : goal.returns-in_err-table-clause-syntax
-returns-in_err-table-clause-syntax c = λ syntax.
+returns-in_err-table-clause-syntax c = λ syntax of.
     let p = err_from_is_err_and c.from_residual.result c.from_residual.ensures.1 in
-    insert-only c.args.line.now (c.in_err-table.ensures.syntax (ap Err (same-error c.from_residual.result p.0 _ _ p.1 p.2 syntax)))
+    insert-only c.args.line.now (c.in_err-table.ensures.syntax (ap Err (same-error c.from_residual.result p.0 _ _ p.1 p.2 syntax)) of)
 
 pub returns-clause-command : goal.returns-clause-command
 returns-clause-command c =
     insert-completed c.args.line.now c.in_ok-table.table c.from_vec.result
-    (subst (λ values. IsNameAndList value_symbols c.args.line.now c.in_ok-table.table values) (sym c.from_vec.ensures) c.in_ok-table.ensures.both)
+    (subst (λ l. IsNameAndList value_symbols c.args.line.now c.in_ok-table.table l) (sym c.from_vec.ensures) c.in_ok-table.ensures.both)

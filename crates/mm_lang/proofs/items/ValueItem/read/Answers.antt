@@ -1,21 +1,17 @@
-use Rattle.std.proofs.Common.{subst, sym, arith}
-use Rattle.std.specs.Int.{w64}
-use Rattle.std.proofs.lemmas.Int.{to_z-of_z}
-use Rattle.plain_tables.specs.Spelling.{IsInteger}
-use Rattle.plain_tables.proofs.Lexemes.{length-lexeme}
-use Rattle.mm_lang.proofs.Fronts.{begins-integer, begins-no_value}
+use Rattle.std.proofs.Common.{ap, Err, subst}
+use Rattle.std.proofs.lemmas.Result.{err_from_is_err_and}
+use Rattle.plain_tables.specs.Spelling.{IsSymbol, Literal}
+use Rattle.mm_lang.proofs.Fronts.{same-error, begins-value, begins-no_value, no-literal}
 use Rattle.mm_lang.proofs.items.ValueItem.read.Goals as goal
 
-pub returns-in-Some-clause-item : goal.returns-in-Some-clause-item
-returns-in-Some-clause-item c =
-    rw (to_z-of_z w64 c.in-Some.number c.in-Some.ensures.0)
-    (begins-integer c.args.line.now c.split_lexeme.result.1.now c.in-Some.number
-    (subst (λ w. IsInteger w c.in-Some.number) c.split_lexeme.ensures.lexeme c.in-Some.ensures) c.split_lexeme.ensures.after)
-
-pub returns-in-Some-clause-shorter : goal.returns-in-Some-clause-shorter
-returns-in-Some-clause-shorter c = rw c.split_lexeme.ensures.after (omega (arith, length-lexeme c.args.line.now))
-
-pub returns-in-None-clause-syntax : goal.returns-in-None-clause-syntax
-returns-in-None-clause-syntax c = λ _.
+pub returns-in_err-value-clause-syntax : goal.returns-in_err-value-clause-syntax
+returns-in_err-value-clause-syntax c = λ syntax.
+    let p = err_from_is_err_and c.from_residual.result c.from_residual.ensures.1 in
     begins-no_value c.args.line.now
-    (λ z is. c.in-None.ensures z (subst (λ w. IsInteger w z) (sym c.split_lexeme.ensures.lexeme) is))
+    (no-literal c.args.line.now c.split_lexeme.result.0.now c.split_lexeme.ensures.lexeme
+    (c.in_err-value.ensures.syntax (ap Err (same-error c.from_residual.result p.0 _ _ p.1 p.2 syntax))))
+
+pub returns-clause-item : goal.returns-clause-item
+returns-clause-item c =
+    begins-value c.args.line.now c.split_lexeme.result.1.now c.in_ok-value.field-0
+    (subst (λ w. IsSymbol w (Literal c.in_ok-value.field-0)) c.split_lexeme.ensures.lexeme c.in_ok-value.ensures.value) c.split_lexeme.ensures.after

@@ -1,0 +1,160 @@
+-- Spelled: a line spells a command where its lexemes are the command's symbols.
+use Rattle.std.proofs.Common.{◌≡◌, ◌≢◌, ℕ, List, [], ◌∷◌, map, get_or, Bool, true, false, Option, Some, None, refl, sym, ◌∙◌, ap, subst}
+use Rattle.std.specs.Prelude.{◌==◌}
+use Rattle.std.specs.List.{AllByRecursion, Contains, list_any}
+use Rattle.std.specs.Str.{bytes_eq}
+use Rattle.std.proofs.lemmas.List.Folds.{list_any_at}
+use lib.Chars.{codes}
+use Rattle.plain_tables.specs.Spelling.{Symbol, Keyword, Literal, Sign, Close, Comma, Operator, separated_by, symbols_of, column_symbols, value_symbols, name_symbols, setting_symbols, condition_symbols, items_symbols, where_symbols, IsSymbol, IsMadeOf, Spells}
+use Rattle.plain_tables.specs.Reading.{lexeme, after_lexeme}
+use Rattle.plain_tables.specs.declared.condition.Cond.{Cond}
+use Rattle.plain_tables.specs.declared.command.Items.{Items}
+use Rattle.plain_tables.specs.declared.command.Items.TheVariants as items
+use Rattle.plain_tables.specs.declared.command.Command.{Command}
+use Rattle.plain_tables.specs.declared.command.Command.TheVariants.{Table, Insert, Update, Delete, Select}
+use Rattle.plain_tables.proofs.Lexemes.{IsWellFormed, lexeme-of_made, made-from_lexeme, blanks-no_lexeme, no_lexeme-blanks}
+use Rattle.plain_tables.proofs.Separated.{all-append}
+use Rattle.plain_tables.proofs.FirstWords.{first_word, behind_word, split-word}
+use Rattle.plain_tables.proofs.SingleItems.{whole_name}
+use Rattle.mm_lang.specs.Parsing.{Reads, IsWhole, Completes}
+use Rattle.mm_lang.proofs.Fronts.{same-bytes, other-bytes}
+
+-- ---- symbols whose keywords are words
+
+abbrev AreWellFormed : List Symbol → Type 0
+AreWellFormed symbols = AllByRecursion IsWellFormed symbols
+
+whole-well : (table : Option (List ℕ)) (column : List ℕ) → AreWellFormed (whole_name table column)
+whole-well None column = (tt, tt)
+whole-well (Some t) column = (tt, (tt, (tt, tt)))
+
+condition-well : (condition : Cond) → AreWellFormed (condition_symbols condition)
+condition-well condition =
+    all-append IsWellFormed (name_symbols condition.column) (Sign (Operator condition.op) ∷ Literal condition.value ∷ [])
+    (whole-well condition.column.table condition.column.column) (tt, (tt, tt))
+
+separated-well : {X : Type 0} (symbols : X → List Symbol) (between : Symbol) → IsWellFormed between → ((x : X) → AreWellFormed (symbols x))
+    → (xs : List X) → AreWellFormed (separated_by between (map symbols xs))
+separated-well symbols between well each [] = tt
+separated-well symbols between well each (x ∷ []) = each x
+separated-well symbols between well each (x ∷ y ∷ xs) =
+    all-append IsWellFormed (symbols x) (between ∷ separated_by between (map symbols (y ∷ xs))) (each x)
+    (well, separated-well symbols between well each (y ∷ xs))
+
+where-well : (conditions : List Cond) → AreWellFormed (where_symbols conditions)
+where-well [] = tt
+where-well (x ∷ xs) = (refl, separated-well condition_symbols (Keyword (codes "and")) refl condition-well (x ∷ xs))
+
+items-well : (items : Items) → AreWellFormed (items_symbols items)
+items-well items.All = (tt, tt)
+items-well (items.Named names) = separated-well name_symbols (Sign Comma) tt (λ name. whole-well name.table name.column) names
+
+command-well : (command : Command) → AreWellFormed (symbols_of command)
+command-well (Table name schema) = (
+  refl,
+  (
+    tt,
+    (
+      tt,
+      all-append IsWellFormed _ (Sign Close ∷ [])
+          (separated-well column_symbols (Sign Comma) tt (λ column. (tt, (tt, tt))) schema.columns) (tt, tt),
+    ),
+  ),
+)
+command-well (Insert table values) = (
+  refl,
+  (
+    tt,
+    (
+      tt,
+      all-append IsWellFormed _ (Sign Close ∷ [])
+          (separated-well value_symbols (Sign Comma) tt (λ v. (tt, tt)) values) (tt, tt),
+    ),
+  ),
+)
+command-well (Update table settings conditions) = (
+  refl,
+  (
+    tt,
+    (
+      refl,
+      all-append IsWellFormed _ (where_symbols conditions)
+          (separated-well setting_symbols (Sign Comma) tt (λ setting. (tt, (tt, (tt, tt)))) settings) (where-well conditions),
+    ),
+  ),
+)
+command-well (Delete table conditions) = (refl, (tt, where-well conditions))
+command-well (Select items table conditions) =
+    (refl, all-append IsWellFormed (items_symbols items) _ (items-well items) (refl, (tt, where-well conditions)))
+
+-- ---- the line by its lexemes
+
+whole-made : (symbols : List Symbol) → AreWellFormed symbols → (line : List ℕ) → IsWhole line symbols → IsMadeOf line symbols
+whole-made [] well line (rest, e, end) = no_lexeme-blanks line (ap lexeme e ∙ end)
+whole-made (symbol ∷ symbols) well line (rest, (is, reads), end) =
+    made-from_lexeme line symbol symbols well.0 is (whole-made symbols well.1 (after_lexeme line) (rest, reads, end))
+
+made-whole : (symbols : List Symbol) → AreWellFormed symbols → (line : List ℕ) → IsMadeOf line symbols → IsWhole line symbols
+made-whole [] well line made = (line, refl, blanks-no_lexeme line made)
+made-whole (symbol ∷ symbols) well line made =
+    let parts : IsSymbol (lexeme line) symbol × IsMadeOf (after_lexeme line) symbols = lexeme-of_made line symbol symbols well.0 made in
+    let behind : IsWhole (after_lexeme line) symbols = made-whole symbols well.1 (after_lexeme line) parts.1 in
+    (behind.0, (parts.0, behind.1), behind.2)
+
+-- ---- the whole line
+
+pub spelled : (line word rest : List ℕ) (command : Command) → ¬ (Contains line 10) → lexeme line ≡ word → rest ≡ after_lexeme line
+    → Completes word rest command → Spells line command
+spelled line word rest command free e f completes =
+    let reads : Reads (after_lexeme line) completes.symbols completes.made.0 =
+    subst (λ l. Reads l completes.symbols completes.made.0) f completes.made.1 in
+    let all : IsWhole line (Keyword word ∷ completes.symbols) = (completes.made.0, (e, reads), completes.made.2) in
+    let whole : IsWhole line (symbols_of command) = subst (λ ss. IsWhole line ss) (sym completes.first) all in
+    (free, completes.some, whole-made (symbols_of command) (command-well command) line whole)
+
+-- A line that spells a command begins with the command's first word, and what follows it completes the command.
+spelled-completes : (line : List ℕ) (command : Command) → Spells line command
+    → (lexeme line ≡ first_word command) × Completes (first_word command) (after_lexeme line) command
+spelled-completes line command spells =
+    let split : symbols_of command ≡ Keyword (first_word command) ∷ behind_word command = (split-word command).0 in
+    let whole : IsWhole line (Keyword (first_word command) ∷ behind_word command) =
+    subst (λ ss. IsWhole line ss) split (made-whole (symbols_of command) (command-well command) line spells.2) in (
+      whole.1.0,
+      record { some = spells.1; symbols = behind_word command; first = split; made = (whole.0, whole.1.1, whole.2) },
+    )
+
+pub not-spelled : (line word rest : List ℕ) → lexeme line ≡ word → rest ≡ after_lexeme line
+    → ((command : Command) → Completes word rest command → ⊥) → (command : Command) → Spells line command → ⊥
+not-spelled line word rest e f not command spells =
+    let parts : (lexeme line ≡ first_word command) × Completes (first_word command) (after_lexeme line) command = spelled-completes line command spells in
+    not command (subst (λ w. Completes w rest command) (sym parts.0 ∙ e) (subst (λ r. Completes (first_word command) r command) (sym f) parts.1))
+
+known-word : (command : Command) (word : List ℕ) → word ≡ first_word command → word ≢ codes "insert" → word ≢ codes "select"
+    → word ≢ codes "update" → word ≢ codes "delete" → word ≢ codes "table" → ⊥
+known-word (Table name schema) word e no_insert no_select no_update no_delete no_table = no_table e
+known-word (Insert table values) word e no_insert no_select no_update no_delete no_table = no_insert e
+known-word (Update table settings conditions) word e no_insert no_select no_update no_delete no_table = no_update e
+known-word (Delete table conditions) word e no_insert no_select no_update no_delete no_table = no_delete e
+known-word (Select items table conditions) word e no_insert no_select no_update no_delete no_table = no_select e
+
+pub unknown-word : (line : List ℕ) → lexeme line ≢ codes "insert" → lexeme line ≢ codes "select" → lexeme line ≢ codes "update"
+    → lexeme line ≢ codes "delete" → lexeme line ≢ codes "table" → (command : Command) → Spells line command → ⊥
+unknown-word line no_insert no_select no_update no_delete no_table command spells =
+    known-word command (lexeme line) (spelled-completes line command spells).0 no_insert no_select no_update no_delete no_table
+
+-- ---- the tests of the parser
+
+pub lexeme-is : (line bytes xs ys zs : List ℕ) (r : Bool) → bytes ≡ line → xs ≡ lexeme bytes → r ≡ true → r ≡ bytes_eq xs ys → ys ≡ zs
+    → lexeme line ≡ zs
+lexeme-is line bytes xs ys zs r e f h same g = ap lexeme (sym e) ∙ (sym f ∙ same-bytes xs ys zs r h same g)
+
+pub lexeme-is_not : (line bytes xs ys zs : List ℕ) (r : Bool) → bytes ≡ line → xs ≡ lexeme bytes → r ≡ false → r ≡ bytes_eq xs ys → ys ≡ zs
+    → lexeme line ≢ zs
+lexeme-is_not line bytes xs ys zs r e f h same g is = other-bytes xs ys zs r h same g (f ∙ (ap lexeme e ∙ is))
+
+pub no-feed : (line bytes : List ℕ) (r : Bool) → bytes ≡ line → r ≡ false → r ≡ list_any (λ y. y == 10) bytes → ¬ (Contains line 10)
+no-feed line bytes r e f g (k, inside, is) =
+    let test : (get_or line k 10 == 10) ≡ true = ap (λ y. y == 10) is in
+    let some : list_any (λ y. y == 10) line ≡ true = list_any_at (λ y. y == 10) line k 10 inside test in
+    let same : r ≡ list_any (λ y. y == 10) line = g ∙ ap (λ l. list_any (λ y. y == 10) l) e in
+    cc

@@ -1,0 +1,9 @@
+use Rattle.std.proofs.Common.{ap, ◌∙◌, ◌++◌}
+use Rattle.std.specs.String.{string_bytes}
+use Rattle.mm_lang.proofs.Spacing.{written-delete}
+use Rattle.mm_lang.proofs.printer.push_delete.Goals as goal
+
+pub returns : goal.returns
+returns c =
+    written-delete _ c.args.table.now _ _ _ c.args.conditions.now
+    c.in_ok-push_str.ensures.bytes (c.in_ok-push_str-2.ensures.bytes ∙ ap (λ n. string_bytes c.push_str.new.self ++ n) c.as_str.ensures) c.in_ok-push_where.ensures

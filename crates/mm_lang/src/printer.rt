@@ -1,0 +1,142 @@
+//! The canonical spelling of a command.
+
+ghost use Rattle.std.specs.Prelude.{◌≡◌, ◌++◌, ◌∷◌, [], map, codes, IfOk, OnOk};
+ghost use Rattle.std.specs.String.{string_bytes};
+ghost use Rattle.plain_tables.specs.Spelling.{Sign, Open, Close, separated, items_symbols, where_symbols, symbols_of, spaced, canonical_spelling};
+ghost use Rattle.plain_tables.specs.declared.command.Command.TheVariants as command;
+ghost use Rattle.mm_lang.specs.Printing.{behind};
+
+use crate::items::{Item, push_list};
+use plain_tables::{Command, Cond, Items, NoMemory, Setting, Text};
+use std::alloc::Global;
+
+/// The canonical spelling of a command.
+///
+/// For a command that can be spelled, the canonical spelling spells that command and no other, so `parse` gives the
+/// command again where no growth is refused.
+pub fn print(alloc: Global, command: &Command) -> Result<String, NoMemory>
+    ensures { IfOk result (λ text. string_bytes text ≡ canonical_spelling command.now) }
+{
+    let mut line = String::new(alloc);
+    push_command(&mut line, command)?;
+    Ok(line)
+}
+
+fn push_command(line: &mut String, command: &Command) -> Result<(), NoMemory>
+    ensures { OnOk result (string_bytes line.new ≡ string_bytes line.old ++ canonical_spelling command.now) }
+{
+    match command {
+        Command::Table { name, schema } => {
+            push_name_and_list(line, "table ", name, schema.columns.as_slice())
+        }
+        Command::Insert { table, values } => {
+            push_name_and_list(line, "insert ", table, values.as_slice())
+        }
+        Command::Update {
+            table,
+            settings,
+            conditions,
+        } => push_update(line, table, settings.as_slice(), conditions.as_slice()),
+        Command::Delete { table, conditions } => push_delete(line, table, conditions.as_slice()),
+        Command::Select {
+            items,
+            table,
+            conditions,
+        } => push_select(line, items, table, conditions.as_slice()),
+    }
+}
+
+// WORD NAME ( ITEM {, ITEM} )
+fn push_name_and_list<T: Item>(
+    line: &mut String,
+    word: &str,
+    name: &Text,
+    items: &[T],
+) -> Result<(), NoMemory>
+    ensures { OnOk result (string_bytes line.new ≡ string_bytes line.old ++ (word.now ++ (name.now ++ behind (Sign Open ∷ separated (map T.symbols items.now) ++ Sign Close ∷ [])))) }
+{
+    line.push_str(word)?;
+    line.push_str(name.as_str())?;
+    line.push_str(" (")?;
+    push_list(line, items, ", ")?;
+    line.push_str(")")?;
+    Ok(())
+}
+
+fn push_update(
+    line: &mut String,
+    table: &Text,
+    settings: &[Setting],
+    conditions: &[Cond],
+) -> Result<(), NoMemory>
+    ensures { OnOk result (string_bytes line.new ≡ string_bytes line.old ++ spaced (symbols_of (command.Update table.now settings.now conditions.now))) }
+{
+    line.push_str("update ")?;
+    line.push_str(table.as_str())?;
+    line.push_str(" set")?;
+    push_behind(line, settings)?;
+    push_where(line, conditions)?;
+    Ok(())
+}
+
+fn push_delete(line: &mut String, table: &Text, conditions: &[Cond]) -> Result<(), NoMemory>
+    ensures { OnOk result (string_bytes line.new ≡ string_bytes line.old ++ spaced (symbols_of (command.Delete table.now conditions.now))) }
+{
+    line.push_str("delete ")?;
+    line.push_str(table.as_str())?;
+    push_where(line, conditions)?;
+    Ok(())
+}
+
+fn push_select(
+    line: &mut String,
+    items: &Items,
+    table: &Text,
+    conditions: &[Cond],
+) -> Result<(), NoMemory>
+    ensures { OnOk result (string_bytes line.new ≡ string_bytes line.old ++ spaced (symbols_of (command.Select items.now table.now conditions.now))) }
+{
+    line.push_str("select")?;
+    push_items(line, items)?;
+    line.push_str(" from ")?;
+    line.push_str(table.as_str())?;
+    push_where(line, conditions)?;
+    Ok(())
+}
+
+// * or NAME {, NAME}
+fn push_items(line: &mut String, items: &Items) -> Result<(), NoMemory>
+    ensures { OnOk result (string_bytes line.new ≡ string_bytes line.old ++ behind (items_symbols items.now)) }
+{
+    match items {
+        Items::All => {
+            line.push_str(" *")?;
+            Ok(())
+        }
+        Items::Named(names) => push_behind(line, names.as_slice()),
+    }
+}
+
+// ITEM {, ITEM}, behind another symbol
+fn push_behind<T: Item>(line: &mut String, items: &[T]) -> Result<(), NoMemory>
+    ensures { OnOk result (string_bytes line.new ≡ string_bytes line.old ++ behind (separated (map T.symbols items.now))) }
+{
+    if items.is_empty() {
+        return Ok(());
+    }
+    line.push_str(" ")?;
+    push_list(line, items, ", ")?;
+    Ok(())
+}
+
+// where CONDITION {and CONDITION}, behind another symbol, or nothing
+fn push_where(line: &mut String, conditions: &[Cond]) -> Result<(), NoMemory>
+    ensures { OnOk result (string_bytes line.new ≡ string_bytes line.old ++ behind (where_symbols conditions.now)) }
+{
+    if conditions.is_empty() {
+        return Ok(());
+    }
+    line.push_str(" where ")?;
+    push_list(line, conditions, " and ")?;
+    Ok(())
+}

@@ -1,0 +1,13 @@
+use Rattle.std.proofs.Common.{◌≡◌, ◌∙◌, sym, ap, None, get_or, arith}
+use Rattle.plain_tables.specs.Queries.{place_meant}
+use Rattle.plain_tables.specs.Effects.{setting_name}
+use Rattle.plain_tables.specs.declared.command.Setting.{Setting}
+use Rattle.mm_session.specs.Resolved.{own_columns}
+use Rattle.mm_session.proofs.ResolvedLemmas.{missed_in}
+use Rattle.mm_session.proofs.settings.resolve_settings.Goals as goal
+
+pub returns-in_default : goal.returns-in_default
+returns-in_default c =
+    let columns = own_columns c.args.table.now in
+    let none = sym c.place_of_name.ensures ∙ c.in_default.is in
+    missed_in columns setting_name c.args.settings.now c.loop-setting.setting-index c.setting-item.result (omega arith) (ap (λ (s : Setting). place_meant columns (setting_name s)) (sym c.setting-item.is) ∙ none)

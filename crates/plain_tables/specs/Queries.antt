@@ -1,0 +1,110 @@
+-- Queries: rows of joined tables, asked by conditions and projected.
+--
+-- The tables of a command are joined in the order in which it names them. A row of joined tables is the values of a
+-- row of each, one after another.
+use Rattle.std.specs.Prelude.{ℕ, pos, List, [], ◌∷◌, ◌++◌, Bool, false, true, not, ◌&&◌, ◌==◌, map, length, Option, None, if◌then◌else◌, slice_index_or}
+use Rattle.std.specs.List.{filter, find, position, flat_map, filter_map, list_all}
+use Rattle.std.specs.Option.{option_map, option_map_or}
+use Rattle.std.specs.Str.{bytes_eq}
+use Rattle.std.specs.Ordering.{is_eq, is_lt, is_le, is_gt, is_ge}
+use Rattle.std.specs.declared.cmp.Ordering.{Ordering}
+use Rattle.plain_tables.specs.Values.{value_cmp}
+use Rattle.plain_tables.specs.Tables.{Table, Row}
+use Rattle.plain_tables.specs.declared.value.Value.{Value}
+use Rattle.plain_tables.specs.declared.value.Value.TheVariants as value
+use Rattle.plain_tables.specs.declared.schema.Column.{Column}
+use Rattle.plain_tables.specs.declared.condition.Op.{Op}
+use Rattle.plain_tables.specs.declared.condition.Op.TheVariants as op
+use Rattle.plain_tables.specs.declared.condition.ColName.{ColName}
+use Rattle.plain_tables.specs.declared.condition.Cond.{Cond}
+use Rattle.plain_tables.specs.declared.command.Items.{Items}
+use Rattle.plain_tables.specs.declared.command.Items.TheVariants as items
+
+-- ---- joined tables
+
+-- a column, and the name of its table
+pub record JoinedColumn : Type 0 where
+  pub table : List ℕ
+  pub column : Column
+
+-- the columns of joined tables: those of the first, then those of the second, and so on
+abbrev pub joined_columns : List Table → List JoinedColumn
+joined_columns tables = flat_map (λ t. map (λ c. record { table = t.name; column = c }) t.columns) tables
+
+-- Product: for each row of the first table, in order, each row of the product of the others.
+abbrev pub product : List Table → List Row
+product [] = [] ∷ []
+product (table ∷ tables) = flat_map (λ row. map (λ others. row ++ others) (product tables)) table.rows
+
+-- ---- the columns that a command names
+
+-- A name fits a column where it is the column's, and the name before it, if one is written, is the table's.
+abbrev pub fits : ColName → JoinedColumn → Bool
+fits name joined =
+    bytes_eq name.column joined.column.name && option_map_or (λ table. bytes_eq table joined.table) name.table true
+
+abbrev pub fits_one : List JoinedColumn → ColName → Bool
+fits_one columns name = length (filter (fits name) columns) == 1
+
+-- the column that a name means, where it fits just one
+abbrev pub column_meant : List JoinedColumn → ColName → Option JoinedColumn
+column_meant columns name = if fits_one columns name then find (fits name) columns else None
+
+-- and its place among the columns
+abbrev pub place_meant : List JoinedColumn → ColName → Option ℕ
+place_meant columns name = if fits_one columns name then position (fits name) columns else None
+
+abbrev pub places_meant : List JoinedColumn → List ColName → List ℕ
+places_meant columns names = filter_map (place_meant columns) names
+
+-- the value at a place, which is inside of the row
+abbrev pub value_at : Row → ℕ → Value
+value_at row place = slice_index_or row place (value.Int (pos 0))
+
+-- ---- conditions
+
+abbrev pub stands : Op → Ordering → Bool
+stands op.Eq o = is_eq o
+stands op.Ne o = not (is_eq o)
+stands op.Lt o = is_lt o
+stands op.Le o = is_le o
+stands op.Gt o = is_gt o
+stands op.Ge o = is_ge o
+
+-- Condition: the row's value in the column stands to the value of the condition as the operator says.
+abbrev pub meets : List JoinedColumn → Row → Cond → Bool
+meets columns row condition =
+    option_map_or (λ place. stands condition.op (value_cmp (value_at row place) condition.value))
+    (place_meant columns condition.column) false
+
+abbrev pub meets_all : List JoinedColumn → List Cond → Row → Bool
+meets_all columns conditions row = list_all (meets columns row) conditions
+
+-- Filter: the rows that meet every condition, in their order.
+abbrev pub filtered : List JoinedColumn → List Cond → List Row → List Row
+filtered columns conditions rows = filter (meets_all columns conditions) rows
+
+-- ---- items
+
+abbrev pub named_items : Items → List ColName
+named_items items.All = []
+named_items (items.Named names) = names
+
+-- Projection: all values of the row, or those in the columns named, in that order.
+abbrev pub projected : List JoinedColumn → Items → Row → Row
+projected columns items.All row = row
+projected columns (items.Named names) row = map (value_at row) (places_meant columns names)
+
+-- the name of a column behind its table's
+abbrev pub full_name : JoinedColumn → List ℕ
+full_name joined = joined.table ++ 46 ∷ joined.column.name
+
+-- the names above the values
+abbrev pub headings : List JoinedColumn → Items → List (List ℕ)
+headings columns items.All = map full_name columns
+headings columns (items.Named names) = filter_map (λ name. option_map full_name (column_meant columns name)) names
+
+-- Select: the projection of the filter of the product.
+abbrev pub selected : List Table → Items → List Cond → List Row
+selected tables items conditions =
+    let columns = joined_columns tables in map (projected columns items) (filtered columns conditions (product tables))
