@@ -1,0 +1,37 @@
+use Rattle.std.proofs.Common.{◌≡◌, ◌∙◌, ◌^◌, ◌≤◌, length, ap, subst, sym, arith, lit<}
+use Rattle.part_raw.specs.declared.tuple_ref.TupleRef.{TupleRef}
+use Rattle.ttree_node.specs.Tree.{Tree, Zipper, Label, whole, list, up, with_leaf}
+use Rattle.ttree_node.specs.Seen.{on_side}
+use Rattle.ttree_node.specs.Editor.{position, tree_at}
+use Rattle.ttree.specs.Shape.{IsTTree}
+use Rattle.ttree.specs.Mending.{CanRise}
+use Rattle.ttree.proofs.Growing.{grown_rises}
+use Rattle.ttree.proofs.Puts.{length_grown}
+use Rattle.ttree.proofs.Places.{whole-up}
+use Rattle.ttree.proofs.insert.grow.Goals as goal
+
+pub rebalance-requires : goal.rebalance-requires
+rebalance-requires g c =
+    let z : Zipper (Label TupleRef) = position c.args.editor.now in
+    let y : Zipper (Label TupleRef) = with_leaf c.args.r (on_side c.args.side z) in
+    let there : position c.up.new.self ≡ up y = c.up.ensures.moved ∙ ap (λ (w : Zipper (Label TupleRef)). up w) c.new_leaf.ensures.leaf in
+    let grown : tree_at c.up.new.self ≡ whole y = c.up.ensures.tree ∙ c.new_leaf.ensures.tree ∙ ap (λ (w : Zipper (Label TupleRef)). whole w) c.new_leaf.ensures.leaf in
+    let fit : IsTTree g.row.MIN g.row.MAX (whole z) = subst (λ (t : Tree (Label TupleRef)). IsTTree g.row.MIN g.row.MAX t) c.requires.tree c.requires.fit in
+    let n = length_grown c.args.side z c.args.r c.requires.side c.requires.node c.requires.open in
+    let old = ap (λ (t : Tree (Label TupleRef)). length (list t)) c.requires.tree in
+    let short : length (list (tree_at c.up.new.self)) ≤ 2 ^ 32 = omega (arith, ap (λ (t : Tree (Label TupleRef)). length (list t)) grown, n, old, c.requires.short) in (
+      lit< tt,
+      (
+        c.requires.some,
+        (
+          c.requires.ordered,
+          (
+            c.requires.two,
+            (
+              subst (λ (w : Zipper (Label TupleRef)). CanRise g.row.MIN g.row.MAX w) (sym there) (grown_rises g.row.MIN g.row.MAX c.args.side z c.args.r (omega (arith, c.requires.two)) c.requires.side c.requires.node c.requires.open c.requires.enough fit),
+              (grown ∙ sym (whole-up y) ∙ ap (λ (w : Zipper (Label TupleRef)). whole w) (sym there), short),
+            ),
+          ),
+        ),
+      ),
+    )

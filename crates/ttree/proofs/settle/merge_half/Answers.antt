@@ -1,0 +1,15 @@
+use Rattle.std.proofs.Common.{◌≡◌, ◌≤◌, ◌^◌, ◌+◌, ◌<◌, ◌∙◌, length, true, false, sym, ap, subst, arith, lit<, inl, inr}
+use Rattle.ttree_node.specs.Tree.{list, size, whole, is_leaf, is_node, is_root, has_left, has_right, items_of, with_tree, without_leaf, up}
+use Rattle.ttree_node.specs.Editor.{position, tree_at}
+use Rattle.ttree_node.specs.Seen.{child, opposite, child_on, merged}
+use Rattle.ttree.specs.Shape.{IsTTree}
+use Rattle.ttree.specs.Mending.{CanRise}
+use Rattle.ttree.specs.Removing.{HasLost, HasLostBelow}
+use Rattle.ttree.proofs.Replacing.{kept-internal}
+use Rattle.ttree.proofs.settle.merge_half.Goals as goal
+
+pub returns-else-not-has_left-clause-fit : goal.returns-else-not-has_left-clause-fit
+returns-else-not-has_left-clause-fit g c =
+    let z = position c.args.editor.now in
+    let fit : IsTTree g.row.MIN g.row.MAX (whole z) = kept-internal g.row.MIN g.row.MAX z c.requires.some c.requires.lost (sym c.has_left.ensures ∙ c.if-not-has_left.false) (sym c.has_right.ensures ∙ c.if-not-has_right.false) in
+    subst (λ t. IsTTree g.row.MIN g.row.MAX t) (sym c.requires.tree) fit

@@ -1,0 +1,43 @@
+use Rattle.std.proofs.Common.{◌+◌, ◌-◌, ◌/◌, arith}
+use Rattle.mm_index.proofs.Asked.{IsOnlyAsked-trans}
+use Rattle.ttree.proofs.Digits.{digits-half}
+use Rattle.ttree.proofs.Narrowing.{IsCut-low, IsCut-high}
+use Rattle.ttree.proofs.turn.search_between.Goals as goal
+
+pub loop-low-preserved-in-Less : goal.loop-low-preserved-in-Less
+loop-low-preserved-in-Less g c =
+    let low = c.loop-low.low in
+    let high = c.loop-low.high in
+    let middle = low + (high - low) / 2 in
+    let kept = c.loop-low.invariant in
+    let halved = digits-half (high - (middle + 1)) (high - low) (omega arith) (omega arith) in (
+      IsCut-low _ _ c.requires.in_order middle (omega (arith, kept.0.within)) (record { part = 0; slot = 0 }) low high kept.0 (omega arith) cc,
+      omega arith,
+      omega arith,
+      IsOnlyAsked-trans _ _ _ _ _ _ kept.3 c.ask.ensures.probe.only,
+      omega (arith, halved, kept.4, c.ask.ensures.probe.most),
+    )
+
+pub loop-low-preserved : goal.loop-low-preserved
+loop-low-preserved g c =
+    let low = c.loop-low.low in
+    let high = c.loop-low.high in
+    let middle = low + (high - low) / 2 in
+    let kept = c.loop-low.invariant in
+    let halved = digits-half (middle - low) (high - low) (omega arith) (omega arith) in (
+      IsCut-high _ _ c.requires.in_order middle (omega (arith, kept.0.within)) (record { part = 0; slot = 0 }) low high kept.0 (omega arith) cc,
+      omega arith,
+      omega arith,
+      IsOnlyAsked-trans _ _ _ _ _ _ kept.3 c.ask.ensures.probe.only,
+      omega (arith, halved, kept.4, c.ask.ensures.probe.most),
+    )
+
+pub returns-in-Equal-clause-probe : goal.returns-in-Equal-clause-probe
+returns-in-Equal-clause-probe g c =
+    let low = c.loop-low.low in
+    let high = c.loop-low.high in
+    let kept = c.loop-low.invariant in
+    let halved = digits-half 0 (high - low) (omega arith) (omega arith) in record {
+      only = IsOnlyAsked-trans _ _ _ _ _ _ kept.3 c.ask.ensures.probe.only;
+      most = omega (arith, halved, kept.4, c.ask.ensures.probe.most);
+    }

@@ -1,0 +1,6 @@
+pub mod Held
+pub mod Mending
+pub mod Removing
+pub mod Rising
+pub mod Searching
+pub mod Shape

@@ -1,0 +1,68 @@
+-- Where a search of a tree ends, and how often it asks.
+use Rattle.std.specs.Prelude.{◌≡◌, ℕ, ◌+◌, ◌<◌, ◌≤◌, List, ◌++◌, ◌∷◌, length, slice_index_or, All, false}
+use Rattle.std.specs.List.{AllWithin}
+use Rattle.std.specs.declared.cmp.Ordering.{Ordering}
+use Rattle.std.specs.declared.cmp.Ordering.TheVariants.{Less, Equal, Greater}
+use Rattle.ttree_node.specs.Tree.{Zipper, Label, items_of, has_left, has_right, list_until, list_from}
+use Rattle.mm_index.specs.Asking.{IsOnlyAsked}
+use Rattle.ttree.specs.Shape.{binary_digits}
+use Rattle.ttree.specs.declared.turn.Seek.{Seek}
+use Rattle.ttree.specs.declared.turn.Seek.TheVariants.{Any, First}
+use Rattle.ttree.specs.declared.turn.Turn.{Turn}
+use Rattle.ttree.specs.declared.turn.Turn.TheVariants.{Left, Right, Hit, Gap}
+
+-- how a search takes an answer: one for the first reference in the range goes on at those in it as at those above it
+abbrev pub taken : Seek → Ordering → Ordering
+taken Any o = o
+taken First Less = Less
+taken First Equal = Greater
+taken First Greater = Greater
+
+-- a probe that was only asked, at most n times
+pub record IsAskedAtMost (n : ℕ) {P R : Type 0} (can_place : P → R → Type 0) (place : P → R → Ordering) (asked : P → ℕ) (old new : P) : Type 0 where
+  pub only : IsOnlyAsked can_place place asked old new
+  pub most : asked new ≤ asked old + n
+
+-- how often it asks at a node: twice, and once for each binary digit of the number of items where it searches among them
+abbrev pub most_at : Turn → ℕ → ℕ
+most_at Left n = 2
+most_at Right n = 2
+most_at (Hit i) n = 2 + binary_digits n
+most_at (Gap i) n = 2 + binary_digits n
+
+module _ {I : Type 0} where
+  -- ---- in one node
+
+  -- item i is in the range
+  pub record IsHitIn (place : I → Ordering) (items : List I) (i : ℕ) : Type 0 where
+    pub index : i < length items
+    pub equal : (d : I) → place (slice_index_or items i d) ≡ Equal
+
+  -- what stands before low is below the range, and what stands from high on is above it
+  pub record IsCut (place : I → Ordering) (items : List I) (low high : ℕ) : Type 0 where
+    pub ordered : low ≤ high
+    pub within : high ≤ length items
+    pub below : AllWithin (λ r. place r ≡ Less) items 0 low
+    pub above : AllWithin (λ r. place r ≡ Greater) items high (length items)
+
+  -- where a search goes on from a node with these items
+  abbrev pub IsTurn : (I → Ordering) → List I → Turn → Type 0
+  IsTurn place items Left = All (λ r. place r ≡ Greater) items
+  IsTurn place items Right = All (λ r. place r ≡ Less) items
+  IsTurn place items (Hit i) = IsHitIn place items i
+  IsTurn place items (Gap i) = (0 < i) × (i < length items) × IsCut place items i i
+
+  -- ---- in a tree
+
+  -- the list with r before item i of the node at a place
+  abbrev pub filled : ℕ → I → Zipper (Label I) → List I
+  filled i r z = list_until i z ++ r ∷ list_from i z
+
+  -- nothing is in the range: the list up to item i of the node at the place stands below it, and the rest above it
+  pub record IsGap (place : I → Ordering) (z : Zipper (Label I)) (i : ℕ) : Type 0 where
+    pub index : i ≤ length (items_of z.here)
+    pub below : All (λ r. place r ≡ Less) (list_until i z)
+    pub above : All (λ r. place r ≡ Greater) (list_from i z)
+    -- no tree hangs where the gap is
+    pub left_open : i ≡ 0 → has_left z.here ≡ false
+    pub right_open : i ≡ length (items_of z.here) → has_right z.here ≡ false

@@ -1,0 +1,62 @@
+-- What a T-tree is beside its list: no node is empty, the children's heights differ by at most one, the stated heights are true, and the nodes are full enough.
+use Rattle.std.specs.Prelude.{◌≡◌, ℕ, zero, suc, ◌+◌, ◌<◌, ◌≤◌, max, length, true, false}
+use Rattle.std.specs.Int.Digits.{digits_of}
+use Rattle.ttree_node.specs.Tree.{Tree, empty, node, Label, height, is_node, items_of}
+
+module _ {I : Type 0} where
+  -- it holds at each node, with the node's left tree, its label and its right tree
+  abbrev pub EachNode : (Tree (Label I) → Label I → Tree (Label I) → Type 0) → Tree (Label I) → Type 0
+  EachNode P empty = Unit {0}
+  EachNode P (node l x r) = EachNode P l × P l x r × EachNode P r
+
+  -- ---- what holds at a node
+
+  abbrev pub IsNear : Tree (Label I) → Label I → Tree (Label I) → Type 0
+  IsNear l x r = (height l ≤ 1 + height r) × (height r ≤ 1 + height l)
+
+  abbrev pub HasTrueHeight : Tree (Label I) → Label I → Tree (Label I) → Type 0
+  HasTrueHeight l x r = x.height ≡ 1 + max (height l) (height r)
+
+  abbrev pub HasItems : ℕ → Tree (Label I) → Label I → Tree (Label I) → Type 0
+  HasItems most l x r = (0 < length x.items) × (length x.items ≤ most)
+
+  -- A node with two children is internal and holds at least `least` items. A node with one child is a half-leaf: it and the child together hold at least one more.
+  pub record IsOccupied (least : ℕ) (l : Tree (Label I)) (x : Label I) (r : Tree (Label I)) : Type 0 where
+    pub internal : is_node l ≡ true → is_node r ≡ true → least ≤ length x.items
+    pub left_half : is_node l ≡ true → is_node r ≡ false → least + 1 ≤ length x.items + length (items_of l)
+    pub right_half : is_node l ≡ false → is_node r ≡ true → least + 1 ≤ length x.items + length (items_of r)
+
+  -- ---- the whole tree
+
+  abbrev pub IsBalanced : Tree (Label I) → Type 0
+  IsBalanced t = EachNode IsNear t
+
+  abbrev pub HasTrueHeights : Tree (Label I) → Type 0
+  HasTrueHeights t = EachNode HasTrueHeight t
+
+  -- no node is empty, and none holds more than `most` items
+  abbrev pub HasItemsInEach : ℕ → Tree (Label I) → Type 0
+  HasItemsInEach most t = EachNode (HasItems most) t
+
+  abbrev pub IsOccupiedThroughout : ℕ → Tree (Label I) → Type 0
+  IsOccupiedThroughout least t = EachNode (IsOccupied least) t
+
+  -- a node of a T-tree of at least `least` and at most `most` items a node
+  pub record IsFit (least most : ℕ) (l : Tree (Label I)) (x : Label I) (r : Tree (Label I)) : Type 0 where
+    pub near : IsNear l x r
+    pub true_height : HasTrueHeight l x r
+    pub items : HasItems most l x r
+    pub occupied : IsOccupied least l x r
+
+  abbrev pub IsTTree : ℕ → ℕ → Tree (Label I) → Type 0
+  IsTTree least most t = EachNode (IsFit least most) t
+
+-- 1, 1, and then each is the sum of the two before it: a balanced tree of height h has at least fib (h + 2) - 1 nodes
+unfoldable pub fib : ℕ → ℕ
+fib zero = 0
+fib (suc zero) = 1
+fib (suc (suc n)) = fib (suc n) + fib n
+
+-- the number of binary digits
+unfoldable pub binary_digits : ℕ → ℕ
+binary_digits n = length (digits_of 2 n)

@@ -1,0 +1,57 @@
+//! How balance comes back after an edit: heights are set, and nodes rotated, from a place up to the root.
+ghost use Rattle.std.specs.Prelude.{◌≡◌, ◌≤◌, ◌^◌, length};
+ghost use Rattle.ttree_node.specs.Tree.{list, size, whole};
+ghost use Rattle.ttree_node.specs.Editor.{position, tree_at, spares_at};
+ghost use Rattle.ttree.specs.Shape.{IsTTree};
+ghost use Rattle.ttree.specs.Mending.{CanRise};
+ghost use Rattle.ttree.specs.Rising.{IsMendableHere, IsMendedTo};
+
+use crate::rotate::rotate;
+use crate::steps::restate;
+use ttree_node::Editor;
+use ttree_node::node::Side;
+
+/// Sets the node's height where its children's heights differ by at most one, else rotates it.
+fn mend<const MIN: usize, const MAX: usize>(editor: &mut Editor<'_, MAX>)
+    requires ordered { MIN ≤ MAX }
+    requires mendable { IsMendableHere MIN MAX (position editor.old).here }
+    requires tree { tree_at editor.old ≡ whole (position editor.old) }
+    requires short { length (list (tree_at editor.old)) ≤ 2 ^ 32 }
+    ensures same_reference { editor.new.links.ghost_name ≡ editor.old.links.ghost_name }
+    ensures above { (position editor.new).above ≡ (position editor.old).above }
+    ensures mended { IsMendedTo MIN MAX (position editor.old).here (position editor.new).here }
+    ensures tree { tree_at editor.new ≡ whole (position editor.new) }
+    ensures list { list (tree_at editor.new) ≡ list (tree_at editor.old) }
+    ensures nodes { size (tree_at editor.new) ≡ size (tree_at editor.old) }
+    ensures spares { spares_at editor.new ≡ spares_at editor.old }
+{
+    let (left, right) = editor.heights();
+    if left.saturating_sub(right) > 1 {
+        rotate::<MIN, MAX>(editor, Side::Left);
+    } else if right.saturating_sub(left) > 1 {
+        rotate::<MIN, MAX>(editor, Side::Right);
+    } else {
+        restate(editor);
+    }
+}
+
+/// Sets heights from the place up to the root, and rotates each node that isn't balanced.
+pub(crate) fn rebalance<const MIN: usize, const MAX: usize>(editor: &mut Editor<'_, MAX>)
+    requires some { 1 ≤ MIN }
+    requires ordered { MIN ≤ MAX }
+    requires two { 2 ≤ MAX }
+    requires can_rise { CanRise MIN MAX (position editor.old) }
+    requires tree { tree_at editor.old ≡ whole (position editor.old) }
+    requires short { length (list (tree_at editor.old)) ≤ 2 ^ 32 }
+    ensures same_reference { editor.new.links.ghost_name ≡ editor.old.links.ghost_name }
+    ensures fit { IsTTree MIN MAX (tree_at editor.new) }
+    ensures list { list (tree_at editor.new) ≡ list (tree_at editor.old) }
+    ensures nodes { size (tree_at editor.new) ≡ size (tree_at editor.old) }
+    ensures spares { spares_at editor.new ≡ spares_at editor.old }
+{
+    mend::<MIN, MAX>(editor);
+    while !editor.at_root() {
+        editor.up();
+        mend::<MIN, MAX>(editor);
+    }
+}

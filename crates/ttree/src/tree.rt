@@ -1,0 +1,220 @@
+//! The T-tree.
+ghost use Rattle.std.specs.Prelude.{◌≡◌, ◌≢◌, ◌++◌, ◌+◌, ◌*◌, ◌^◌, ◌<◌, ◌≤◌, length, IfSome, IfNone, IfOk, IfErr, OnOk, OnErr, All, Contains};
+ghost use Rattle.std.specs.declared.cmp.Ordering.{Ordering};
+ghost use Rattle.mm_index.specs.Asking.{IsOnlyAsked};
+ghost use Rattle.mm_index.specs.Order.{IsRising, insert_by, remove_by};
+ghost use Rattle.mm_index.specs.Range.{NeverFalls, in_range, from_range};
+
+use crate::insert::insert;
+use crate::removal::remove;
+use crate::search::locate;
+use crate::turn::Seek;
+use mm_index::{Probe, TupleOrder};
+use part_raw::TupleRef;
+use plain_tables::NoMemory;
+use std::alloc::Global;
+use std::marker::Model;
+use ttree_node::{Links, Look, Walk};
+
+/// References in order, in nodes of at most `MAX`. A node with two children holds at least `MIN`.
+#[derive(Drop)]
+pub struct TTree<const MIN: usize, const MAX: usize> {
+    pub(crate) links: Links<MAX>,
+    pub(crate) len: usize,
+}
+
+impl<const MIN: usize, const MAX: usize> Model for TTree<MIN, MAX> {
+    ghost use Rattle.ttree.specs.Held.{IsSound};
+    ghost use Rattle.ttree_node.specs.Seen.{tree_of};
+    ghost use Rattle.ttree_node.specs.declared.parts.Parts.{Parts};
+
+    ghost Value = { Parts MAX };
+
+    ghost view = { λ t. t.links };
+
+    ghost invariant = { λ t. IsSound MIN MAX (tree_of t.links) t.len };
+}
+
+impl<const MIN: usize, const MAX: usize> TTree<MIN, MAX> {
+    ghost use Rattle.ttree_node.specs.Tree.{empty, height, size, whole, items_of};
+    ghost use Rattle.ttree_node.specs.Look.{position};
+    ghost use Rattle.ttree.specs.Searching.{taken, IsAskedAtMost, IsHitIn, IsGap};
+    ghost use Rattle.ttree_node.specs.Seen.{tree_of, spares_of};
+    ghost use Rattle.ttree.specs.Held.{items_of_tree};
+    ghost use Rattle.ttree.specs.Shape.{IsBalanced, HasTrueHeights, HasItemsInEach, IsOccupiedThroughout, fib, binary_digits};
+
+    /// An empty tree, which has taken no memory.
+    pub fn new(alloc: Global) -> TTree<MIN, MAX>
+        requires some { 1 ≤ MIN }
+        requires ordered { MIN ≤ MAX }
+        requires two { 2 ≤ MAX }
+        ensures tree { tree_of result ≡ empty }
+        ensures room { spares_of result ≡ 0 }
+    {
+        TTree {
+            links: Links::new(alloc),
+            len: 0,
+        }
+    }
+
+    /// A reference in the range of the probe.
+    pub fn find<P: Probe>(&self, probe: &mut P) -> Option<TupleRef>
+        requires placed { All (P.can_place probe.old) (items_of_tree self.now) }
+        requires in_order { NeverFalls (P.place probe.old) (items_of_tree self.now) }
+        ensures held { IfSome result (Contains (items_of_tree self.now)) }
+        ensures found { IfSome result (λ r. P.place probe.old r ≡ Ordering.Equal) }
+        ensures none { IfNone result (All (λ r. P.place probe.old r ≢ Ordering.Equal) (items_of_tree self.now)) }
+        ensures probe { IsOnlyAsked P.can_place P.place P.asked probe.old probe.new }
+        // Each level asks at most twice, and the last one once more for each binary digit of the number of its items.
+        ensures most_asked { P.asked probe.new ≤ P.asked probe.old + (2 * height (tree_of self.now) + binary_digits MAX) }
+    {
+        let (look, found) = self.search(probe, Seek::Any);
+        match found {
+            Ok(index) => Some(look.items()[index]),
+            Err(_) => None,
+        }
+    }
+
+    /// Appends the references in the range of the probe, in order.
+    pub fn range<P: Probe>(&self, probe: &mut P, out: &mut Vec<TupleRef>) -> Result<(), NoMemory>
+        requires placed { All (P.can_place probe.old) (items_of_tree self.now) }
+        requires in_order { NeverFalls (P.place probe.old) (items_of_tree self.now) }
+        ensures ok { OnOk result (out.new.items ≡ out.old.items ++ in_range (P.place probe.old) (items_of_tree self.now)) }
+        ensures err { OnErr result (out.new.items ≡ out.old.items) }
+        ensures probe { IsOnlyAsked P.can_place P.place P.asked probe.old probe.new }
+        // Beyond the search it asks once for each reference that it appends, and once more.
+        ensures most_asked { OnOk result (P.asked probe.new ≤ P.asked probe.old + (2 * height (tree_of self.now) + binary_digits MAX) + length (in_range (P.place probe.old) (items_of_tree self.now)) + 1) }
+    {
+        let before = out.len();
+        for r in self.walk_from(probe) {
+            if !probe.place(r).is_eq() {
+                break;
+            }
+            if out.push(r).is_err() {
+                out.truncate(before);
+                return Err(NoMemory);
+            }
+        }
+        Ok(())
+    }
+
+    /// The references in order.
+    pub fn walk(&self) -> Walk<'_, MAX>
+        ensures { result ≡ items_of_tree self.now }
+    {
+        self.links.walk()
+    }
+
+    /// The references in order, from the first that does not stand below the probe's range.
+    pub fn walk_from<P: Probe>(&self, probe: &mut P) -> Walk<'_, MAX>
+        requires placed { All (P.can_place probe.old) (items_of_tree self.now) }
+        requires in_order { NeverFalls (P.place probe.old) (items_of_tree self.now) }
+        ensures rest { result ≡ from_range (P.place probe.old) (items_of_tree self.now) }
+        ensures probe { IsOnlyAsked P.can_place P.place P.asked probe.old probe.new }
+        ensures most_asked { P.asked probe.new ≤ P.asked probe.old + (2 * height (tree_of self.now) + binary_digits MAX) }
+    {
+        let (look, found) = self.search(probe, Seek::First);
+        match found {
+            // It goes on at what is in the range.
+            Ok(_) => unreachable!(),
+            Err(index) => look.walk_from(index),
+        }
+    }
+
+    // Searches from the root: the place where the search ends, and there the index of an item in the range, or of where it would be.
+    fn search<P: Probe>(&self, probe: &mut P, seek: Seek) -> (Look<'_, MAX>, Result<usize, usize>)
+        requires placed { All (P.can_place probe.old) (items_of_tree self.now) }
+        requires in_order { NeverFalls (P.place probe.old) (items_of_tree self.now) }
+        ensures whole { whole (position result.0) ≡ tree_of self.now }
+        ensures hit { IfOk result.1 (IsHitIn (λ r. taken seek (P.place probe.old r)) (items_of (position result.0).here)) }
+        ensures gap { IfErr result.1 (IsGap (λ r. taken seek (P.place probe.old r)) (position result.0)) }
+        ensures probe { IsAskedAtMost (2 * height (tree_of self.now) + binary_digits MAX) P.can_place P.place P.asked probe.old probe.new }
+    {
+        let mut look = self.links.look();
+        let found = locate(&mut look, probe, seek);
+        (look, found)
+    }
+
+    /// The height of the tree: 0 where it is empty, 1 for a leaf, and one more than the higher child's for another node.
+    pub fn height(&self) -> usize
+        ensures height { result ≡ height (tree_of self.now) }
+        // The children's heights differ by at most one at each node, and the stated heights are true.
+        ensures balanced { IsBalanced (tree_of self.now) }
+        ensures true_heights { HasTrueHeights (tree_of self.now) }
+        ensures no_empty_node { HasItemsInEach MAX (tree_of self.now) }
+        // A node with two children holds at least `MIN`, and one with a leaf alone at least one more together with it.
+        ensures occupied { IsOccupiedThroughout MIN (tree_of self.now) }
+        // So the height is at most logarithmic.
+        ensures bound { fib (height (tree_of self.now) + 2) ≤ 1 + length (items_of_tree self.now) }
+    {
+        let root = self.links.look();
+        if !root.has_node() {
+            return 0;
+        }
+        let (left, right) = root.heights();
+        1 + left.max(right) as usize
+    }
+
+    /// Makes sure of memory for `n` inserts, until `release_spares`.
+    pub fn reserve(&mut self, n: usize) -> Result<(), NoMemory>
+        requires { n ≤ 2 ^ 32 }
+        ensures tree { tree_of self.new ≡ tree_of self.old }
+        ensures items { items_of_tree self.new ≡ items_of_tree self.old }
+        ensures reserved { OnOk result (n ≤ spares_of self.new) }
+        ensures room { spares_of self.old ≤ spares_of self.new }
+    {
+        self.links.reserve(n)
+    }
+
+    /// Puts `r` at its place. Takes no memory.
+    pub fn insert<O: TupleOrder>(&mut self, order: &O, r: TupleRef)
+        // There is room for one more, and `r` is not held.
+        requires reserved { 0 < spares_of self.old }
+        requires short { length (items_of_tree self.old) < 2 ^ 32 }
+        requires absent { ¬ (Contains (items_of_tree self.old) r) }
+
+        // The list rises by the order, which covers it and `r`.
+        requires covered { All (O.covers order.now) (items_of_tree self.old) }
+        requires r_covered { O.covers order.now r }
+        requires rising { IsRising (O.cmp order.now) (items_of_tree self.old) }
+
+        ensures items { items_of_tree self.new ≡ insert_by (O.cmp order.now) r (items_of_tree self.old) }
+        ensures rising { IsRising (O.cmp order.now) (items_of_tree self.new) }
+        ensures room { spares_of self.old ≤ spares_of self.new + 1 }
+    {
+        insert::<O, MIN, MAX>(&mut self.links.edit(), order, r);
+        self.len += 1;
+    }
+
+    /// Takes `r` out. Each node that this frees is kept as a spare one. Takes no memory.
+    pub fn remove<O: TupleOrder>(&mut self, order: &O, r: TupleRef)
+        requires held { Contains (items_of_tree self.old) r }
+
+        // The list rises by the order, which covers it.
+        requires covered { All (O.covers order.now) (items_of_tree self.old) }
+        requires rising { IsRising (O.cmp order.now) (items_of_tree self.old) }
+
+        ensures items { items_of_tree self.new ≡ remove_by (O.cmp order.now) r (items_of_tree self.old) }
+        ensures rising { IsRising (O.cmp order.now) (items_of_tree self.new) }
+        ensures freed { spares_of self.new + size (tree_of self.new) ≡ spares_of self.old + size (tree_of self.old) }
+        ensures room { spares_of self.old ≤ spares_of self.new }
+    {
+        remove::<O, MIN, MAX>(&mut self.links.edit(), order, r);
+        self.len -= 1;
+    }
+
+    /// How many references there are.
+    pub fn len(&self) -> usize
+        ensures { result ≡ length (items_of_tree self.now) }
+    {
+        self.len
+    }
+
+    /// Gives back the memory that was reserved and not used. Takes no memory.
+    pub fn release_spares(&mut self)
+        ensures tree { tree_of self.new ≡ tree_of self.old }
+        ensures room { spares_of self.new ≡ 0 }
+    {
+        self.links.release_spares();
+    }
+}
