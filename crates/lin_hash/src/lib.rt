@@ -14,6 +14,3 @@ mod table;
 
 pub use chain::Chain;
 pub use index::LinHash;
-
-#[cfg(test)]
-mod tests;

@@ -22,6 +22,3 @@ pub use plain_bag::{Chain, PlainBag};
 pub use probe::Probe;
 pub use sorted_vec::{SortedVec, Walk};
 pub use tuple_order::TupleOrder;
-
-#[cfg(test)]
-mod tests;

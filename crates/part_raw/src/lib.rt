@@ -5,8 +5,6 @@ mod bitmap;
 mod partition;
 mod raw;
 mod store;
-#[cfg(test)]
-mod tests;
 pub mod tuple_ref;
 
 pub use store::Partitions;

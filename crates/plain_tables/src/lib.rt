@@ -21,6 +21,3 @@ pub use schema::{BaseKind, ColKind, Column, IndexKind, Schema};
 pub use sequence::Sequence;
 pub use text::Text;
 pub use value::Value;
-
-#[cfg(test)]
-mod tests;

@@ -22,6 +22,3 @@ pub use editor::Editor;
 pub use links::Links;
 pub use look::Look;
 pub use walk::Walk;
-
-#[cfg(test)]
-mod tests;

@@ -1,3 +1,0 @@
-//! Runs of the hash: its buckets, the plain bag beside it, and refused growths.
-
-mod runs;
