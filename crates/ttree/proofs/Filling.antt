@@ -1,5 +1,5 @@
 -- Items that go between a node and its only child, a leaf.
-use Rattle.std.proofs.Common.{◌≡◌, ℕ, ◌+◌, ◌-◌, ◌<◌, ◌≤◌, min, max, length, take, drop, Bool, true, false, refl, sym, List, ◌++◌, arith, length-append, length-take, length-drop}
+use Rattle.std.proofs.Common.{◌≡◌, ℕ, ◌+◌, ◌-◌, ◌<◌, ◌≤◌, min, max, length, take, drop, Bool, true, false, refl, sym, ap, List, ◌++◌, arith, length-append, length-take, length-drop}
 use Rattle.ttree_node.specs.Tree.{Tree, empty, node, Label, size, height, is_node, left_of, right_of, items_of, new_items, refilled_left, refilled_right}
 use Rattle.ttree_node.specs.Seen.{child, opposite, giver, taker, slid}
 use Rattle.ttree_node.specs.declared.node.Side.{Side}
@@ -158,23 +158,23 @@ module _ {I : Type 0} (least most : ℕ) where
       → (is_node (child (opposite side) (child side t)) ≡ false) × (0 < length (items_of (child side t))) × (length (items_of t) ≤ most)
   can-fill side t f e o = let h = half side t f e o in (leaf_has_none (opposite side) (child side t) (omega (arith, h.5)), h.3, h.2)
 
-  pub riser-filled : (side : Side) (t : Tree (Label I)) → least ≤ most → IsTTree least most t → is_node (child side t) ≡ true → is_node (child (opposite side) t) ≡ false → IsFilled least most t (filled most side Up t)
-  riser-filled side t ordered f e o =
+  pub riser-filled : (side : Side) (t : Tree (Label I)) → least ≤ most → IsTTree least most t → is_node (child side t) ≡ true → is_node (child (opposite side) t) ≡ false → length (items_of t) < least → IsFilled least most t (filled most side Up t)
+  riser-filled side t ordered f e o few =
       let h = half side t f e o in
       let s = slid-is side Up (fill_count most side Up t) t f e o (omega (arith, h.3)) (omega (arith, h.2)) in
-      record { fit = s.fit; left = s.left; right = s.right; same = s.same; enough = λ high. omega (arith, s.taken, h.0, ordered); nodes = s.nodes }
+      record { fit = s.fit; left = s.left; right = s.right; same = s.same; enough = λ high. omega (arith, s.taken, h.0, ordered); nodes = s.nodes; kept = λ many. absurd (omega (arith, few, many)) }
 
   -- where nothing is to be filled
   pub riser-full : (t : Tree (Label I)) → IsTTree least most t → least ≤ length (items_of t) → IsFilled least most t t
-  riser-full t f h = record { fit = f; left = refl; right = refl; same = refl; enough = λ high. h; nodes = refl }
+  riser-full t f h = record { fit = f; left = refl; right = refl; same = refl; enough = λ high. h; nodes = refl; kept = λ many. refl }
 
   pub riser-internal : (t : Tree (Label I)) → IsTTree least most t → is_node (left_of t) ≡ true → is_node (right_of t) ≡ true → IsFilled least most t t
   riser-internal empty f a b = cc
-  riser-internal (node l x r) f a b = record { fit = f; left = refl; right = refl; same = refl; enough = λ high. f.1.occupied.internal a b; nodes = refl }
+  riser-internal (node l x r) f a b = record { fit = f; left = refl; right = refl; same = refl; enough = λ high. f.1.occupied.internal a b; nodes = refl; kept = λ many. refl }
 
   pub riser-leaf : (t : Tree (Label I)) → IsTTree least most t → is_node (left_of t) ≡ false → is_node (right_of t) ≡ false → IsFilled least most t t
-  riser-leaf empty f a b = record { fit = f; left = refl; right = refl; same = refl; enough = λ high. absurd (omega (arith, high)); nodes = refl }
-  riser-leaf (node l x r) f a b = record { fit = f; left = refl; right = refl; same = refl; enough = λ high. absurd (omega (arith, high, no_node_low l a, no_node_low r b)); nodes = refl }
+  riser-leaf empty f a b = record { fit = f; left = refl; right = refl; same = refl; enough = λ high. absurd (omega (arith, high)); nodes = refl; kept = λ many. refl }
+  riser-leaf (node l x r) f a b = record { fit = f; left = refl; right = refl; same = refl; enough = λ high. absurd (omega (arith, high, no_node_low l a, no_node_low r b)); nodes = refl; kept = λ many. refl }
 
   -- the child on that side is a leaf, and higher than the other: there is no other
   leaf_inner : (side : Side) (t : Tree (Label I)) → height (child side t) ≡ 1 → height (child (opposite side) t) < height (child side t) → (is_node (child side t) ≡ true) × (is_node (child (opposite side) t) ≡ false)
@@ -184,14 +184,24 @@ module _ {I : Type 0} (least most : ℕ) where
       → (is_node (child (opposite side) (child side t)) ≡ false) × (0 < length (items_of t)) × (length (items_of (child side t)) ≤ most)
   can-fill-down side t f e low = let i = leaf_inner side t e low in let h = half side t f i.0 i.1 in (leaf_has_none (opposite side) (child side t) (omega (arith, e)), h.1, h.4)
 
-  pub inner-filled : (side : Side) (t : Tree (Label I)) → least ≤ most → IsTTree least most t → height (child side t) ≡ 1 → height (child (opposite side) t) < height (child side t) → IsInnerFilled side least most t (filled most side Down t)
-  inner-filled side t ordered f e low =
+  pub inner-filled : (side : Side) (t : Tree (Label I)) → least ≤ most → IsTTree least most t → height (child side t) ≡ 1 → height (child (opposite side) t) < height (child side t)
+      → length (items_of (child side t)) < least → IsInnerFilled side least most t (filled most side Down t)
+  inner-filled side t ordered f e low few =
       let i = leaf_inner side t e low in let h = half side t f i.0 i.1 in
       let s = slid-is side Down (fill_count most side Down t) t f i.0 i.1 (omega (arith, h.1)) (omega (arith, h.4)) in
-      record { fit = s.fit; left = s.left; right = s.right; same = s.same; enough = omega (arith, s.taken, h.0, ordered); nodes = s.nodes }
+      record {
+        fit = s.fit;
+        left = s.left;
+        right = s.right;
+        same = s.same;
+        enough = omega (arith, s.taken, h.0, ordered);
+        nodes = s.nodes;
+        kept = λ many. absurd (omega (arith, few, many));
+        leaf_filled = λ leaf less more. omega (arith, s.taken, h.4, more);
+      }
 
   pub inner-full : (side : Side) (t : Tree (Label I)) → IsTTree least most t → least ≤ length (items_of (child side t)) → IsInnerFilled side least most t t
-  inner-full side t f h = record { fit = f; left = refl; right = refl; same = refl; enough = h; nodes = refl }
+  inner-full side t f h = record { fit = f; left = refl; right = refl; same = refl; enough = h; nodes = refl; kept = λ many. refl; leaf_filled = λ leaf less more. absurd (omega (arith, less, h)) }
 
   -- the child is no leaf, and was filled from its own child
   pub inner-filled_below : (side : Side) (t u : Tree (Label I)) → IsTTree least most t → 1 < height (child side t) → height (child (opposite side) t) < height (child side t)
@@ -220,6 +230,8 @@ module _ {I : Type 0} (least most : ℕ) where
         same = omega (arith, k.same);
         enough = k.enough high;
         nodes = omega (arith, k.nodes);
+        kept = λ many. ap (λ w. node w x r) (k.kept many);
+        leaf_filled = λ leaf less more. absurd (omega (arith, high, leaf));
       }
   inner-filled_below Right empty u f high low k = absurd (omega (arith, high))
   inner-filled_below Right (node l x r) u f high low k =
@@ -244,4 +256,6 @@ module _ {I : Type 0} (least most : ℕ) where
         same = omega (arith, k.same);
         enough = k.enough high;
         nodes = omega (arith, k.nodes);
+        kept = λ many. ap (λ w. node l x w) (k.kept many);
+        leaf_filled = λ leaf less more. absurd (omega (arith, high, leaf));
       }

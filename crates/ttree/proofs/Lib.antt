@@ -7,6 +7,8 @@ pub mod Digits
 pub mod Ends
 pub mod Filling
 pub mod Fitness
+pub mod FullTurns
+pub mod Fullness
 pub mod HeightBound
 pub mod Heights
 pub mod Leaning

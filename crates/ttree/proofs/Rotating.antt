@@ -11,7 +11,7 @@ use Rattle.ttree.proofs.Leaning.{leaning_node, leans-with_child, height-with_chi
 use Rattle.ttree.proofs.Turning.{outer-mends, inner-mends}
 
 module _ {I : Type 0} where
-  same_on : (side : Side) (t u : Tree (Label I)) → height (left_of u) ≡ height (left_of t) → height (right_of u) ≡ height (right_of t) → height (child side u) ≡ height (child side t)
+  pub same_on : (side : Side) (t u : Tree (Label I)) → height (left_of u) ≡ height (left_of t) → height (right_of u) ≡ height (right_of t) → height (child side u) ≡ height (child side t)
   same_on Root t u l r = refl
   same_on Left t u l r = l
   same_on Right t u l r = r

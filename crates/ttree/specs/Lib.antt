@@ -1,3 +1,4 @@
+pub mod Fullness
 pub mod Held
 pub mod Mending
 pub mod Removing

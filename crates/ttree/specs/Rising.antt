@@ -45,6 +45,8 @@ module _ {I : Type 0} where
     pub same : height u ≡ height t
     pub enough : 1 < height t → least ≤ length (items_of u)
     pub nodes : size u ≡ size t
+    -- what holds that many already stays as it is
+    pub kept : least ≤ length (items_of t) → u ≡ t
 
   -- The child on that side is too high by one.
   pub record Leans (side : Side) (least most : ℕ) (t : Tree (Label I)) : Type 0 where
@@ -113,3 +115,6 @@ module _ {I : Type 0} where
     pub same : height u ≡ height t
     pub enough : least ≤ length (items_of (child side u))
     pub nodes : size u ≡ size t
+    pub kept : least ≤ length (items_of (child side t)) → u ≡ t
+    -- a leaf that holds fewer is full then, if there are enough items for that
+    pub leaf_filled : height (child side t) ≡ 1 → length (items_of (child side t)) < least → most < length (items_of t) + length (items_of (child side t)) → most ≤ length (items_of (child side u))

@@ -51,6 +51,17 @@ module _ {I : Type 0} where
   abbrev pub IsTTree : ℕ → ℕ → Tree (Label I) → Type 0
   IsTTree least most t = EachNode (IsFit least most) t
 
+  -- ---- where items only came in
+
+  -- A node that has a child holds as many items as a node may.
+  pub record IsFullParent (most : ℕ) (l : Tree (Label I)) (x : Label I) (r : Tree (Label I)) : Type 0 where
+    pub left : is_node l ≡ true → most ≤ length x.items
+    pub right : is_node r ≡ true → most ≤ length x.items
+
+  -- each node that has a child is full
+  abbrev pub ParentsAreFull : ℕ → Tree (Label I) → Type 0
+  ParentsAreFull most t = EachNode (IsFullParent most) t
+
 -- 1, 1, and then each is the sum of the two before it: a balanced tree of height h has at least fib (h + 2) - 1 nodes
 unfoldable pub fib : ℕ → ℕ
 fib zero = 0

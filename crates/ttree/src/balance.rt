@@ -2,9 +2,10 @@
 ghost use Rattle.std.specs.Prelude.{◌≡◌, ◌≤◌, ◌^◌, length};
 ghost use Rattle.ttree_node.specs.Tree.{list, size, whole};
 ghost use Rattle.ttree_node.specs.Editor.{position, tree_at, spares_at};
-ghost use Rattle.ttree.specs.Shape.{IsTTree};
+ghost use Rattle.ttree.specs.Shape.{IsTTree, ParentsAreFull};
 ghost use Rattle.ttree.specs.Mending.{CanRise};
 ghost use Rattle.ttree.specs.Rising.{IsMendableHere, IsMendedTo};
+ghost use Rattle.ttree.specs.Fullness.{IsGrown, IsGrowing, CanRiseFull};
 
 use crate::rotate::rotate;
 use crate::steps::restate;
@@ -20,6 +21,7 @@ fn mend<const MIN: usize, const MAX: usize>(editor: &mut Editor<'_, MAX>)
     ensures same_reference { editor.new.links.ghost_name ≡ editor.old.links.ghost_name }
     ensures above { (position editor.new).above ≡ (position editor.old).above }
     ensures mended { IsMendedTo MIN MAX (position editor.old).here (position editor.new).here }
+    ensures full { 2 ≤ MIN → IsGrowing MAX (position editor.old).here → IsGrown MAX (position editor.new).here }
     ensures tree { tree_at editor.new ≡ whole (position editor.new) }
     ensures list { list (tree_at editor.new) ≡ list (tree_at editor.old) }
     ensures nodes { size (tree_at editor.new) ≡ size (tree_at editor.old) }
@@ -45,6 +47,7 @@ pub(crate) fn rebalance<const MIN: usize, const MAX: usize>(editor: &mut Editor<
     requires short { length (list (tree_at editor.old)) ≤ 2 ^ 32 }
     ensures same_reference { editor.new.links.ghost_name ≡ editor.old.links.ghost_name }
     ensures fit { IsTTree MIN MAX (tree_at editor.new) }
+    ensures full { 2 ≤ MIN → CanRiseFull MIN MAX (position editor.old) → ParentsAreFull MAX (tree_at editor.new) }
     ensures list { list (tree_at editor.new) ≡ list (tree_at editor.old) }
     ensures nodes { size (tree_at editor.new) ≡ size (tree_at editor.old) }
     ensures spares { spares_at editor.new ≡ spares_at editor.old }

@@ -4,7 +4,7 @@ ghost use Rattle.mm_index.specs.Order.{IsRising, insert_by};
 ghost use Rattle.ttree_node.specs.Tree.{whole, list, items_of, is_node, is_root, has_left, has_right, with_leaf, list_before, list_above};
 ghost use Rattle.ttree_node.specs.Seen.{on_side, child_on, hangs_on_node};
 ghost use Rattle.ttree_node.specs.Editor.{position, tree_at, spares_at};
-ghost use Rattle.ttree.specs.Shape.{IsTTree};
+ghost use Rattle.ttree.specs.Shape.{IsTTree, ParentsAreFull};
 ghost use Rattle.ttree.specs.Searching.{filled};
 
 use crate::balance::rebalance;
@@ -34,6 +34,7 @@ pub(crate) fn insert<O: TupleOrder, const MIN: usize, const MAX: usize>(
     requires rising { IsRising (O.cmp order.now) (list (tree_at editor.old)) }
     ensures same_reference { editor.new.links.ghost_name ≡ editor.old.links.ghost_name }
     ensures fit { IsTTree MIN MAX (tree_at editor.new) }
+    ensures parents { 2 ≤ MIN → ParentsAreFull MAX (tree_at editor.old) → ParentsAreFull MAX (tree_at editor.new) }
     ensures list { list (tree_at editor.new) ≡ insert_by (O.cmp order.now) r (list (tree_at editor.old)) }
     ensures room { spares_at editor.old ≤ spares_at editor.new + 1 }
 {
@@ -66,6 +67,7 @@ fn put_at<const MIN: usize, const MAX: usize>(
     requires spare { 0 < spares_at editor.old }
     ensures same_reference { editor.new.links.ghost_name ≡ editor.old.links.ghost_name }
     ensures fit { IsTTree MIN MAX (tree_at editor.new) }
+    ensures parents { 2 ≤ MIN → ParentsAreFull MAX (tree_at editor.old) → ParentsAreFull MAX (tree_at editor.new) }
     ensures list { list (tree_at editor.new) ≡ filled index r (position editor.old) }
     ensures room { spares_at editor.old ≤ spares_at editor.new + 1 }
 {
@@ -90,13 +92,14 @@ fn fill<const MIN: usize, const MAX: usize>(editor: &mut Editor<'_, MAX>, index:
     requires fit { IsTTree MIN MAX (tree_at editor.old) }
     ensures same_reference { editor.new.links.ghost_name ≡ editor.old.links.ghost_name }
     ensures fit { IsTTree MIN MAX (tree_at editor.new) }
+    ensures parents { ParentsAreFull MAX (tree_at editor.old) → ParentsAreFull MAX (tree_at editor.new) }
     ensures list { list (tree_at editor.new) ≡ filled index r (position editor.old) }
     ensures spares { spares_at editor.new ≡ spares_at editor.old }
 {
     editor.put(index, r);
 }
 
-// Hangs a leaf with `r` on a side of the node that is open, and balances the tree. The node holds enough to have two children.
+// Hangs a leaf with `r` on a side of a full node that is open, and balances the tree.
 fn grow<const MIN: usize, const MAX: usize>(editor: &mut Editor<'_, MAX>, side: Side, r: TupleRef)
     requires some { 1 ≤ MIN }
     requires ordered { MIN ≤ MAX }
@@ -104,13 +107,14 @@ fn grow<const MIN: usize, const MAX: usize>(editor: &mut Editor<'_, MAX>, side: 
     requires node { is_node (position editor.old).here ≡ true }
     requires side { hangs_on_node side ≡ true }
     requires open { child_on side (position editor.old).here ≡ false }
-    requires enough { MIN ≤ length (items_of (position editor.old).here) }
+    requires full { MAX ≤ length (items_of (position editor.old).here) }
     requires tree { tree_at editor.old ≡ whole (position editor.old) }
     requires fit { IsTTree MIN MAX (tree_at editor.old) }
     requires short { length (list (tree_at editor.old)) < 2 ^ 32 }
     requires spare { 0 < spares_at editor.old }
     ensures same_reference { editor.new.links.ghost_name ≡ editor.old.links.ghost_name }
     ensures fit { IsTTree MIN MAX (tree_at editor.new) }
+    ensures parents { 2 ≤ MIN → ParentsAreFull MAX (tree_at editor.old) → ParentsAreFull MAX (tree_at editor.new) }
     ensures list { list (tree_at editor.new) ≡ list (whole (with_leaf r (on_side side (position editor.old)))) }
     ensures spares { spares_at editor.new + 1 ≡ spares_at editor.old }
 {
@@ -138,6 +142,7 @@ fn spill<const MIN: usize, const MAX: usize>(
     requires spare { 0 < spares_at editor.old }
     ensures same_reference { editor.new.links.ghost_name ≡ editor.old.links.ghost_name }
     ensures fit { IsTTree MIN MAX (tree_at editor.new) }
+    ensures parents { 2 ≤ MIN → ParentsAreFull MAX (tree_at editor.old) → ParentsAreFull MAX (tree_at editor.new) }
     ensures list { list (tree_at editor.new) ≡ filled index r (position editor.old) }
     ensures room { spares_at editor.old ≤ spares_at editor.new + 1 }
 {
@@ -159,6 +164,7 @@ fn put_before<const MIN: usize, const MAX: usize>(editor: &mut Editor<'_, MAX>, 
     requires spare { 0 < spares_at editor.old }
     ensures same_reference { editor.new.links.ghost_name ≡ editor.old.links.ghost_name }
     ensures fit { IsTTree MIN MAX (tree_at editor.new) }
+    ensures parents { 2 ≤ MIN → ParentsAreFull MAX (tree_at editor.old) → ParentsAreFull MAX (tree_at editor.new) }
     ensures list { list (tree_at editor.new) ≡ filled 0 item (position editor.old) }
     ensures room { spares_at editor.old ≤ spares_at editor.new + 1 }
 {

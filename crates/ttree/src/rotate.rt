@@ -5,6 +5,7 @@ ghost use Rattle.ttree_node.specs.Editor.{position, tree_at, spares_at};
 ghost use Rattle.ttree_node.specs.Seen.{child, opposite};
 ghost use Rattle.ttree.specs.Shape.{IsTTree};
 ghost use Rattle.ttree.specs.Rising.{IsFilled, IsInnerFilled, Leans, IsMendedTo, with_child, outer_turned, inner_raised, inner_turned, all_restated};
+ghost use Rattle.ttree.specs.Fullness.{IsGrown, IsGrowing};
 
 use crate::steps::{child_len, enter, fill, other_side, raise, restate, restate_child};
 use ttree_node::Editor;
@@ -198,6 +199,7 @@ pub(crate) fn rotate<const MIN: usize, const MAX: usize>(editor: &mut Editor<'_,
     ensures same_reference { editor.new.links.ghost_name ≡ editor.old.links.ghost_name }
     ensures above { (position editor.new).above ≡ (position editor.old).above }
     ensures mended { IsMendedTo MIN MAX (position editor.old).here (position editor.new).here }
+    ensures full { 2 ≤ MIN → IsGrowing MAX (position editor.old).here → IsGrown MAX (position editor.new).here }
     ensures tree { tree_at editor.new ≡ whole (position editor.new) }
     ensures list { list (tree_at editor.new) ≡ list (tree_at editor.old) }
     ensures spares { spares_at editor.new ≡ spares_at editor.old }

@@ -41,7 +41,7 @@ impl<const MIN: usize, const MAX: usize> TTree<MIN, MAX> {
     ghost use Rattle.ttree.specs.Searching.{taken, IsAskedAtMost, IsHitIn, IsGap};
     ghost use Rattle.ttree_node.specs.Seen.{tree_of, spares_of};
     ghost use Rattle.ttree.specs.Held.{items_of_tree};
-    ghost use Rattle.ttree.specs.Shape.{IsBalanced, HasTrueHeights, HasItemsInEach, IsOccupiedThroughout, fib, binary_digits};
+    ghost use Rattle.ttree.specs.Shape.{IsBalanced, HasTrueHeights, HasItemsInEach, IsOccupiedThroughout, ParentsAreFull, fib, binary_digits};
 
     /// An empty tree, which has taken no memory.
     pub fn new(alloc: Global) -> TTree<MIN, MAX>
@@ -181,6 +181,8 @@ impl<const MIN: usize, const MAX: usize> TTree<MIN, MAX> {
         ensures items { items_of_tree self.new ≡ insert_by (O.cmp order.now) r (items_of_tree self.old) }
         ensures rising { IsRising (O.cmp order.now) (items_of_tree self.new) }
         ensures room { spares_of self.old ≤ spares_of self.new + 1 }
+        // Where each node that has a child is full, it stays so: hence it is so after inserts alone into a new tree.
+        ensures full { 2 ≤ MIN → ParentsAreFull MAX (tree_of self.old) → ParentsAreFull MAX (tree_of self.new) }
     {
         insert::<O, MIN, MAX>(&mut self.links.edit(), order, r);
         self.len += 1;

@@ -2,6 +2,8 @@ use Rattle.std.proofs.Common.{◌≡◌, ◌<◌, ◌≤◌, ◌^◌, length, sy
 use Rattle.ttree_node.specs.Tree.{height, list, whole}
 use Rattle.ttree_node.specs.Editor.{position}
 use Rattle.ttree.specs.Rising.{IsMendedTo}
+use Rattle.ttree.specs.Fullness.{IsGrown}
+use Rattle.ttree.proofs.Fullness.{restated-grown}
 use Rattle.ttree.proofs.HeightBound.{mendable-low}
 use Rattle.ttree.proofs.Leaning.{leans-left, leans-right, mends-near, mendable_stated, size-mended, size_restated}
 use Rattle.ttree.proofs.balance.mend.Goals as goal
@@ -52,3 +54,8 @@ pub returns-else-saturating_sub-gt1-2-clause-nodes :
     goal.returns-else-saturating_sub-gt1-2-clause-nodes
 returns-else-saturating_sub-gt1-2-clause-nodes g c =
     size_restated (position c.args.editor.now) (position c.restate.new.editor) c.restate.ensures.height c.requires.tree c.restate.ensures.tree
+
+pub returns-else-saturating_sub-gt1-2-clause-full :
+    goal.returns-else-saturating_sub-gt1-2-clause-full
+returns-else-saturating_sub-gt1-2-clause-full g c = λ two k.
+    subst (λ z. IsGrown g.row.MAX z.here) (sym c.restate.ensures.height) (restated-grown g.row.MAX (position c.args.editor.now).here k.grown)

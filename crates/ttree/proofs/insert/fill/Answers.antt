@@ -3,7 +3,8 @@ use Rattle.std.specs.List.{insert}
 use Rattle.part_raw.specs.declared.tuple_ref.TupleRef.{TupleRef}
 use Rattle.ttree_node.specs.Tree.{Tree, Zipper, Label, whole, list, items_of}
 use Rattle.ttree_node.specs.Editor.{position}
-use Rattle.ttree.specs.Shape.{IsTTree}
+use Rattle.ttree.specs.Shape.{IsTTree, ParentsAreFull}
+use Rattle.ttree.proofs.Fullness.{full-with_items}
 use Rattle.ttree.proofs.Refits.{items_now}
 use Rattle.ttree.proofs.Replacing.{whole-new_items}
 use Rattle.ttree.proofs.Puts.{list_put, length_insert}
@@ -17,6 +18,15 @@ returns-clause-fit g c =
     let e = c.put.ensures.tree ∙ ap (λ (y : Zipper (Label TupleRef)). whole y) c.put.ensures.items in
     subst (λ (t : Tree (Label TupleRef)). IsTTree g.row.MIN g.row.MAX t) (sym e)
     (whole-new_items g.row.MIN g.row.MAX z.above z.here xs (subst (λ (t : Tree (Label TupleRef)). IsTTree g.row.MIN g.row.MAX t) c.requires.tree c.requires.fit) (omega (arith, n)) (omega (arith, n, c.requires.free)) (omega (arith, n)) (items_now z xs c.requires.node))
+
+pub returns-clause-parents : goal.returns-clause-parents
+returns-clause-parents g c = λ full.
+    let z : Zipper (Label TupleRef) = position c.args.editor.now in
+    let xs = insert (items_of z.here) c.args.index c.args.r in
+    let n = length_insert (items_of z.here) c.args.index c.args.r in
+    let e = c.put.ensures.tree ∙ ap (λ (y : Zipper (Label TupleRef)). whole y) c.put.ensures.items in
+    subst (λ (t : Tree (Label TupleRef)). ParentsAreFull g.row.MAX t) (sym e)
+    (full-with_items g.row.MAX z xs (omega (arith, n)) (subst (λ (t : Tree (Label TupleRef)). ParentsAreFull g.row.MAX t) c.requires.tree full))
 
 pub returns-clause-list : goal.returns-clause-list
 returns-clause-list g c =

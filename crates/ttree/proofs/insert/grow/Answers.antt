@@ -3,7 +3,9 @@ use Rattle.part_raw.specs.declared.tuple_ref.TupleRef.{TupleRef}
 use Rattle.ttree_node.specs.Tree.{Tree, Zipper, Label, whole, list, up, with_leaf}
 use Rattle.ttree_node.specs.Seen.{on_side}
 use Rattle.ttree_node.specs.Editor.{position, tree_at}
-use Rattle.ttree.specs.Shape.{IsTTree}
+use Rattle.ttree.specs.Shape.{IsTTree, ParentsAreFull}
+use Rattle.ttree.specs.Fullness.{CanRiseFull}
+use Rattle.ttree.proofs.Fullness.{grown_rises_full}
 use Rattle.ttree.specs.Mending.{CanRise}
 use Rattle.ttree.proofs.Growing.{grown_rises}
 use Rattle.ttree.proofs.Puts.{length_grown}
@@ -28,10 +30,20 @@ rebalance-requires g c =
           (
             c.requires.two,
             (
-              subst (λ (w : Zipper (Label TupleRef)). CanRise g.row.MIN g.row.MAX w) (sym there) (grown_rises g.row.MIN g.row.MAX c.args.side z c.args.r (omega (arith, c.requires.two)) c.requires.side c.requires.node c.requires.open c.requires.enough fit),
+              subst (λ (w : Zipper (Label TupleRef)). CanRise g.row.MIN g.row.MAX w) (sym there) (grown_rises g.row.MIN g.row.MAX c.args.side z c.args.r (omega (arith, c.requires.two)) c.requires.side c.requires.node c.requires.open (omega (arith, c.requires.ordered, c.requires.full)) fit),
               (grown ∙ sym (whole-up y) ∙ ap (λ (w : Zipper (Label TupleRef)). whole w) (sym there), short),
             ),
           ),
         ),
       ),
     )
+
+pub returns-clause-parents : goal.returns-clause-parents
+returns-clause-parents g c = λ two full.
+    let z : Zipper (Label TupleRef) = position c.args.editor.now in
+    let y : Zipper (Label TupleRef) = with_leaf c.args.r (on_side c.args.side z) in
+    let there : position c.up.new.self ≡ up y = c.up.ensures.moved ∙ ap (λ (w : Zipper (Label TupleRef)). up w) c.new_leaf.ensures.leaf in
+    let fit : IsTTree g.row.MIN g.row.MAX (whole z) = subst (λ (t : Tree (Label TupleRef)). IsTTree g.row.MIN g.row.MAX t) c.requires.tree c.requires.fit in
+    let parents : ParentsAreFull g.row.MAX (whole z) = subst (λ (t : Tree (Label TupleRef)). ParentsAreFull g.row.MAX t) c.requires.tree full in
+    c.rebalance.ensures.full two
+    (subst (λ (w : Zipper (Label TupleRef)). CanRiseFull g.row.MIN g.row.MAX w) (sym there) (grown_rises_full g.row.MAX g.row.MIN c.args.side z c.args.r c.requires.side c.requires.node c.requires.open c.requires.full fit parents))

@@ -6,9 +6,10 @@ use Rattle.mm_index.specs.Range.{NeverFalls}
 use Rattle.mm_index.proofs.Placed.{insert_by_split}
 use Rattle.ttree_node.specs.Tree.{Tree, Zipper, Label, whole, list, items_of, with_leaf, list_until, list_from}
 use Rattle.ttree_node.specs.Editor.{position, tree_at}
-use Rattle.ttree.specs.Shape.{HasItemsInEach}
+use Rattle.ttree.specs.Shape.{HasItemsInEach, ParentsAreFull}
 use Rattle.ttree.specs.Searching.{IsHitIn, IsGap}
 use Rattle.ttree.proofs.Ends.{items_in_each, held_here}
+use Rattle.ttree.proofs.Fullness.{full_first}
 use Rattle.ttree.proofs.Cuts.{list_cut}
 use Rattle.ttree.proofs.Puts.{list_first}
 use Rattle.ttree.proofs.Ordered.{NeverFalls-by_order, none_Equal, insert_by_first}
@@ -69,3 +70,9 @@ returns-clause-list g c =
     let gap : IsGap (λ q. cmp q c.args.r) w c.in-Err.index = rw (c.new.ensures.order, c.new.ensures.sought) at c.in-Err.ensures.gap in
     c.put_at.ensures.list ∙ sym (insert_by_split cmp c.args.r (list_until c.in-Err.index w) (list_from c.in-Err.index w) gap.below gap.above)
     ∙ ap (λ (xs : List TupleRef). insert_by cmp c.args.r xs) (sym (ap (λ (t : Tree (Label TupleRef)). list t) (sym same) ∙ list_cut c.in-Err.index w))
+
+pub returns-then-not-has_node-clause-parents : goal.returns-then-not-has_node-clause-parents
+returns-then-not-has_node-clause-parents g c = λ two full.
+    let z : Zipper (Label TupleRef) = position c.args.editor.now in
+    let tree : tree_at c.new_leaf.new.self ≡ whole (with_leaf c.args.r z) = c.new_leaf.ensures.tree ∙ ap (λ (y : Zipper (Label TupleRef)). whole y) c.new_leaf.ensures.leaf in
+    subst (λ (t : Tree (Label TupleRef)). ParentsAreFull g.row.MAX t) (sym tree) (full_first g.row.MAX z c.args.r c.requires.root)

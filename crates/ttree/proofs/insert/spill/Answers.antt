@@ -4,7 +4,8 @@ use Rattle.std.proofs.lemmas.List.{length-drop}
 use Rattle.part_raw.specs.declared.tuple_ref.TupleRef.{TupleRef}
 use Rattle.ttree_node.specs.Tree.{Tree, Zipper, Label, whole, list, items_of, is_node, with_items}
 use Rattle.ttree_node.specs.Editor.{position, tree_at}
-use Rattle.ttree.specs.Shape.{IsTTree}
+use Rattle.ttree.specs.Shape.{IsTTree, ParentsAreFull}
+use Rattle.ttree.proofs.Fullness.{full-with_items}
 use Rattle.ttree.specs.Searching.{filled}
 use Rattle.ttree.proofs.Descent.{few_here}
 use Rattle.ttree.proofs.Ends.{items_in_each}
@@ -65,6 +66,20 @@ put_before-requires g c =
         ),
       ),
     )
+
+pub returns-clause-parents : goal.returns-clause-parents
+returns-clause-parents g c = λ two full.
+    let z : Zipper (Label TupleRef) = position c.args.editor.now in
+    let xs = items_of z.here in
+    let some : 0 < length xs = omega (arith, c.requires.full, c.requires.two) in
+    let ys : List TupleRef = spilt z c.args.index c.args.r some in
+    let cut = c.cut-least.ensures.items in
+    let items : items_of (position c.cut-least.new.self).here ≡ remove xs 0 = ap (λ (y : Zipper (Label TupleRef)). items_of y.here) cut ∙ items_now z (remove xs 0) c.requires.node in
+    let there : position c.put.new.self ≡ with_items ys z = c.put.ensures.items ∙ (λ k. with_items (insert (items k) (c.args.index - 1) c.args.r) (cut k)) ∙ items_again z (remove xs 0) ys in
+    let tree : tree_at c.put.new.self ≡ whole (with_items ys z) = c.put.ensures.tree ∙ ap (λ (y : Zipper (Label TupleRef)). whole y) there in
+    let n = length_spilt z c.args.index c.args.r some in
+    let parents : ParentsAreFull g.row.MAX (whole z) = subst (λ (t : Tree (Label TupleRef)). ParentsAreFull g.row.MAX t) c.requires.tree full in
+    c.put_before.ensures.parents two (subst (λ (t : Tree (Label TupleRef)). ParentsAreFull g.row.MAX t) (sym tree) (full-with_items g.row.MAX z ys (omega (arith, n)) parents))
 
 pub returns-clause-list : goal.returns-clause-list
 returns-clause-list g c =

@@ -1,5 +1,5 @@
-use Rattle.std.proofs.Common.{◌≡◌, ◌<◌, sym, subst, ◌∙◌, ap, arith}
-use Rattle.ttree_node.specs.Tree.{height, with_tree}
+use Rattle.std.proofs.Common.{◌≡◌, ◌<◌, length, sym, subst, ◌∙◌, ap, arith}
+use Rattle.ttree_node.specs.Tree.{height, items_of, with_tree}
 use Rattle.ttree_node.specs.Editor.{position}
 use Rattle.ttree_node.specs.Seen.{child}
 use Rattle.ttree_node.specs.declared.node.Way.TheVariants.{Down}
@@ -26,4 +26,5 @@ returns-then-child_len-clause-filled g c =
     let same = c.child_len.ensures.same_place ∙ c.has_leaf.ensures.same_place in
     let none = c.has_leaf.ensures.leaf.0 c.if-not-has_leaf.false in
     let leaf : height (child side t) ≡ 1 = leaf-height (child side t) (high_node (child side t) (omega (arith, c.requires.high))) none.0 none.1 in
-    subst (λ z. IsInnerFilled side least most t z.here) (sym (c.fill.ensures.filled ∙ ap (with_tree (filled_by most side Down)) same)) (inner-filled least most side t c.requires.ordered c.requires.fit leaf c.requires.high)
+    let few : length (items_of (child side t)) < least = omega (arith, ap (λ z. length (items_of (child side z.here))) c.has_leaf.ensures.same_place) in
+    subst (λ z. IsInnerFilled side least most t z.here) (sym (c.fill.ensures.filled ∙ ap (with_tree (filled_by most side Down)) same)) (inner-filled least most side t c.requires.ordered c.requires.fit leaf c.requires.high few)

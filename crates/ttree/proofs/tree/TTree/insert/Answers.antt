@@ -6,7 +6,9 @@ use Rattle.mm_index.proofs.Listed.{length-insert_by}
 use Rattle.ttree_node.specs.Tree.{Tree, Label, list}
 use Rattle.ttree_node.specs.Editor.{tree_at}
 use Rattle.ttree_node.specs.declared.parts.Parts.{Parts}
+use Rattle.ttree_node.specs.Seen.{tree_of}
 use Rattle.ttree.specs.Held.{items_of_tree}
+use Rattle.ttree.specs.Shape.{ParentsAreFull}
 use Rattle.ttree.proofs.tree.TTree.insert.Goals as goal
 
 pub invariant_of-self : goal.invariant_of-self
@@ -41,3 +43,8 @@ returns-clause-rising g c =
     c.insert.ensures.list ∙ ap (λ (xs : List TupleRef). insert_by cmp c.args.r xs) old in
     subst (λ (xs : List TupleRef). IsRising cmp xs) (sym is)
     (IsRising-insert_by covers cmp strict c.args.r (items_of_tree c.args.self.now) c.requires.covered c.requires.r_covered c.requires.rising)
+
+pub returns-clause-full : goal.returns-clause-full
+returns-clause-full g c = λ two full.
+    let old : tree_at c.edit.result ≡ tree_of c.args.self.now = c.edit.ensures.tree ∙ ap (λ (p : Parts g.row.MAX). tree_of p) c.self.view_is in
+    c.insert.ensures.parents two (subst (λ (t : Tree (Label TupleRef)). ParentsAreFull g.row.MAX t) (sym old) full)
