@@ -1,9 +1,9 @@
 -- The greatest item of a tree, and a node that it goes to.
-use Rattle.std.proofs.Common.{◌≡◌, ℕ, ◌+◌, ◌-◌, ◌<◌, ◌≤◌, length, Bool, true, false, refl, sym, ap, ◌∙◌, subst, List, [], ◌∷◌, ◌++◌, arith, append_assoc, take, drop, get_or, suc}
+use Rattle.std.proofs.Common.{◌≡◌, ℕ, ◌+◌, ◌-◌, ◌<◌, ◌≤◌, length, true, false, refl, sym, ap, ◌∙◌, subst, List, [], ◌∷◌, ◌++◌, arith, append_assoc, take, drop, get_or, suc}
 use Rattle.std.specs.List.{remove, insert}
 use Rattle.std.proofs.lemmas.List.{append-nil, take-append-drop, drop_more, drop_all}
 use Rattle.std.proofs.lemmas.List.Edits.{length-insert, length-remove}
-use Rattle.ttree_node.specs.Tree.{Tree, empty, node, Frame, went_left, went_right, Label, Zipper, at, plug, whole, height, size, list, is_node, has_left, has_right, left_of, right_of, items_of, new_items, up, with_tree, with_items, down_left, down_right}
+use Rattle.ttree_node.specs.Tree.{Tree, empty, node, Frame, went_left, went_right, Label, Zipper, at, plug, whole, size, list, is_node, has_left, has_right, left_of, right_of, items_of, new_items, up, with_tree, with_items, down_left, down_right}
 use Rattle.ttree_node.specs.Laws.{list-plug}
 use Rattle.ttree.specs.Shape.{IsTTree}
 use Rattle.ttree.specs.Removing.{HasLost, rightmost_from, rightmost_at, rightmost, without_greatest_from, without_greatest, without_left_greatest}

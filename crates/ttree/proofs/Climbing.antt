@@ -1,10 +1,10 @@
 -- From a place that is mended to the one above it.
-use Rattle.std.proofs.Common.{◌≡◌, ℕ, ◌+◌, ◌<◌, ◌≤◌, ◌⊎◌, ◌∙◌, max, length, Bool, true, false, refl, List, [], ◌∷◌, arith, inl, inr, sym, ap, subst}
-use Rattle.ttree_node.specs.Tree.{Tree, empty, node, Frame, went_left, went_right, Label, Zipper, at, plug, joined, whole, height, is_node, is_root, has_left, has_right, left_of, right_of, items_of, new_height, up}
-use Rattle.ttree.specs.Shape.{IsTTree, IsFit, IsNear}
-use Rattle.ttree.specs.Mending.{IsMendable, StandsFor, IsMendableTree, CanRise, height_of, is_internal}
+use Rattle.std.proofs.Common.{◌≡◌, ℕ, ◌+◌, ◌≤◌, ◌⊎◌, ◌∙◌, length, true, false, List, [], ◌∷◌, arith, inl, inr, sym, ap, subst}
+use Rattle.ttree_node.specs.Tree.{Tree, empty, node, Frame, went_left, went_right, Label, Zipper, at, plug, whole, height, is_node, is_root, has_left, has_right, items_of, new_height, up}
+use Rattle.ttree.specs.Shape.{IsTTree}
+use Rattle.ttree.specs.Mending.{IsMendable, StandsFor, IsMendableTree, CanRise, height_of}
 use Rattle.ttree.specs.Rising.{IsMendableHere, IsMendedTo, StandsMended, HasRisen, IsNearTree}
-use Rattle.ttree.proofs.Fitness.{Fits, in_numbers, node_high, high_node, low_no_node, no_node_low}
+use Rattle.ttree.proofs.Fitness.{in_numbers, high_node, no_node_low}
 use Rattle.std.proofs.lemmas.Bool.{cases_lt}
 
 module _ {I : Type 0} (least most : ℕ) where

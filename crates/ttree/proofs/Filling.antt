@@ -1,15 +1,14 @@
 -- Items that go between a node and its only child, a leaf.
-use Rattle.std.proofs.Common.{◌≡◌, ℕ, ◌+◌, ◌-◌, ◌<◌, ◌≤◌, min, max, length, take, drop, Bool, true, false, refl, sym, ap, List, ◌++◌, arith, length-append, length-take, length-drop}
-use Rattle.ttree_node.specs.Tree.{Tree, empty, node, Label, size, height, is_node, left_of, right_of, items_of, new_items, refilled_left, refilled_right}
+use Rattle.std.proofs.Common.{◌≡◌, ℕ, ◌+◌, ◌-◌, ◌<◌, ◌≤◌, length, take, drop, true, false, refl, ap, List, ◌++◌, arith, length-append, length-take, length-drop}
+use Rattle.ttree_node.specs.Tree.{Tree, empty, node, Label, size, height, is_node, left_of, right_of, items_of}
 use Rattle.ttree_node.specs.Seen.{child, opposite, giver, taker, slid}
 use Rattle.ttree_node.specs.declared.node.Side.{Side}
 use Rattle.ttree_node.specs.declared.node.Side.TheVariants.{Root, Left, Right}
 use Rattle.ttree_node.specs.declared.node.Way.{Way}
 use Rattle.ttree_node.specs.declared.node.Way.TheVariants.{Up, Down}
-use Rattle.ttree.specs.Shape.{IsTTree, IsFit}
-use Rattle.ttree.specs.Mending.{is_internal}
-use Rattle.ttree.specs.Rising.{IsFilled, IsInnerFilled, filled, fill_count, with_child, Leans}
-use Rattle.ttree.proofs.Fitness.{Fits, high_node, node_high, low_no_node, no_node_low, in_numbers, from_numbers}
+use Rattle.ttree.specs.Shape.{IsTTree}
+use Rattle.ttree.specs.Rising.{IsFilled, IsInnerFilled, filled, fill_count, with_child}
+use Rattle.ttree.proofs.Fitness.{high_node, low_no_node, no_node_low, in_numbers, from_numbers}
 
 -- a T-tree of the same shape, after n items went that way
 record IsSlid {I : Type 0} (least most n : ℕ) (side : Side) (way : Way) (t u : Tree (Label I)) : Type 0 where

@@ -1,5 +1,5 @@
 -- What fits at a node, in numbers.
-use Rattle.std.proofs.Common.{◌≡◌, ℕ, ◌+◌, ◌<◌, ◌≤◌, max, length, Bool, true, false, refl, arith}
+use Rattle.std.proofs.Common.{◌≡◌, ℕ, ◌+◌, ◌<◌, ◌≤◌, max, length, true, false, refl, arith}
 use Rattle.ttree_node.specs.Tree.{Tree, empty, node, Label, height, is_node, items_of, stated}
 use Rattle.ttree.specs.Shape.{IsTTree, IsFit}
 

@@ -1,7 +1,7 @@
 -- A rotation keeps each node that has a child full.
-use Rattle.std.proofs.Common.{◌≡◌, ℕ, ◌+◌, ◌<◌, ◌≤◌, length, Bool, true, false, refl, sym, ap, subst, ◌∙◌, arith, inl, inr}
+use Rattle.std.proofs.Common.{◌≡◌, ℕ, ◌+◌, ◌<◌, ◌≤◌, length, true, false, refl, sym, ap, subst, ◌∙◌, arith, inl, inr}
 use Rattle.std.proofs.lemmas.Bool.{cases_lt}
-use Rattle.ttree_node.specs.Tree.{Tree, empty, node, Label, height, is_node, has_left, left_of, right_of, items_of, stated}
+use Rattle.ttree_node.specs.Tree.{Tree, empty, node, Label, height, is_node, left_of, right_of, items_of, stated}
 use Rattle.ttree_node.specs.Seen.{child, opposite}
 use Rattle.ttree_node.specs.declared.node.Side.{Side}
 use Rattle.ttree_node.specs.declared.node.Side.TheVariants.{Root, Left, Right}
@@ -11,7 +11,6 @@ use Rattle.ttree.specs.Fullness.{HasLeafOfOne, IsGrown, IsGrowing}
 use Rattle.ttree.proofs.Fitness.{high_node, node_high, low_no_node}
 use Rattle.ttree.proofs.Leaning.{leaning_node, children_stated}
 use Rattle.ttree.proofs.Rotating.{same_on}
-use Rattle.ttree.proofs.Places.{child-with_child}
 use Rattle.ttree.proofs.Fullness.{full_parent, low_full, full_here, full_child, full_above}
 
 module _ {I : Type 0} where

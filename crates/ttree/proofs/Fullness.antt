@@ -1,5 +1,5 @@
 -- Nodes that have a child stay full, while a leaf is made and balance comes back.
-use Rattle.std.proofs.Common.{◌≡◌, ℕ, ◌+◌, ◌<◌, ◌≤◌, max, length, Bool, true, false, refl, sym, ap, subst, ◌∙◌, List, [], ◌∷◌, arith, inl, inr}
+use Rattle.std.proofs.Common.{◌≡◌, ℕ, ◌+◌, ◌<◌, ◌≤◌, length, true, false, refl, sym, ap, subst, ◌∙◌, List, [], ◌∷◌, arith, inl, inr}
 use Rattle.std.proofs.lemmas.Bool.{cases_lt}
 use Rattle.ttree_node.specs.Tree.{Tree, empty, node, Frame, went_left, went_right, Label, Zipper, at, plug, whole, height, is_node, is_root, items_of, new_items, new_height, with_items, with_leaf, up}
 use Rattle.ttree_node.specs.Seen.{child, opposite, on_side, child_on, hangs_on_node}
@@ -7,10 +7,9 @@ use Rattle.ttree_node.specs.declared.node.Side.{Side}
 use Rattle.ttree_node.specs.declared.node.Side.TheVariants.{Root, Left, Right}
 use Rattle.ttree.specs.Shape.{IsTTree, IsFit, IsFullParent, ParentsAreFull}
 use Rattle.ttree.specs.Rising.{IsMendedTo, IsNearTree, restated}
-use Rattle.ttree.specs.Fullness.{HasLeafOfOne, IsGrown, IsGrowing, CanRiseFull, HasRisenFull}
-use Rattle.ttree.proofs.Fitness.{high_node, low_no_node}
+use Rattle.ttree.specs.Fullness.{HasLeafOfOne, IsGrown, CanRiseFull, HasRisenFull}
+use Rattle.ttree.proofs.Fitness.{high_node}
 use Rattle.ttree.proofs.Cuts.{each_here}
-use Rattle.ttree.proofs.Places.{whole-up}
 use Rattle.ttree.proofs.Growing.{leaf}
 
 module _ {I : Type 0} (most : ℕ) where

@@ -1,9 +1,9 @@
 -- A T-tree is not high: there is more than one item for each two steps of height.
-use Rattle.std.proofs.Common.{◌≡◌, ℕ, ◌+◌, ◌*◌, ◌^◌, ◌<◌, ◌≤◌, length, max, ◌++◌, refl, arith, length-append}
-use Rattle.ttree_node.specs.Tree.{Tree, empty, node, Label, height, list, Zipper, plug, whole}
+use Rattle.std.proofs.Common.{◌≡◌, ℕ, ◌+◌, ◌*◌, ◌^◌, ◌<◌, ◌≤◌, length, ◌++◌, arith, length-append}
+use Rattle.ttree_node.specs.Tree.{Tree, empty, node, Label, height, list, Zipper, whole}
 use Rattle.ttree.specs.Shape.{IsTTree}
 use Rattle.ttree.specs.Rising.{IsMendableHere}
-use Rattle.ttree.proofs.Fitness.{Fits, in_numbers}
+use Rattle.ttree.proofs.Fitness.{in_numbers}
 use Rattle.ttree.proofs.Places.{list_within}
 
 module _ {I : Type 0} (least most : ℕ) where

@@ -1,13 +1,13 @@
 -- A node that leans: its child on one side is too high by one.
-use Rattle.std.proofs.Common.{◌≡◌, ℕ, ◌+◌, ◌<◌, ◌≤◌, min, max, length, Bool, true, false, refl, sym, ap, ◌∙◌, arith}
-use Rattle.ttree_node.specs.Tree.{Tree, empty, node, Label, size, height, is_node, left_of, right_of, items_of, stated, new_height, Zipper, whole, plug, with_tree}
-use Rattle.ttree_node.specs.Seen.{child, opposite}
+use Rattle.std.proofs.Common.{◌≡◌, ℕ, ◌+◌, ◌<◌, ◌≤◌, min, max, true, refl, sym, ap, ◌∙◌, arith}
+use Rattle.ttree_node.specs.Tree.{Tree, empty, node, Label, size, height, is_node, left_of, right_of, stated, Zipper, whole, plug, with_tree}
+use Rattle.ttree_node.specs.Seen.{child}
 use Rattle.ttree_node.specs.declared.node.Side.{Side}
 use Rattle.ttree_node.specs.declared.node.Side.TheVariants.{Root, Left, Right}
 use Rattle.ttree.specs.Shape.{IsTTree}
 use Rattle.ttree.specs.Mending.{is_internal}
 use Rattle.ttree.specs.Rising.{Leans, IsMendableHere, IsMendedTo, IsNearTree, restated, with_child}
-use Rattle.ttree.proofs.Fitness.{Fits, high_node, node_high, low_no_node, no_node_low, from_numbers, stated-height}
+use Rattle.ttree.proofs.Fitness.{high_node, node_high, low_no_node, from_numbers, stated-height}
 use Rattle.ttree.proofs.Places.{size-plug}
 
 module _ {I : Type 0} (least most : ℕ) where

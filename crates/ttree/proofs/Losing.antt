@@ -1,12 +1,12 @@
 -- A node of a T-tree that lost an item.
-use Rattle.std.proofs.Common.{◌≡◌, ℕ, ◌+◌, ◌-◌, ◌<◌, ◌≤◌, max, length, Bool, true, false, refl, sym, ap, ◌∙◌, subst, List, [], ◌∷◌, ◌++◌, ◌⊎◌, arith, length-append, inl, inr}
-use Rattle.ttree_node.specs.Tree.{Tree, empty, node, Frame, went_left, went_right, Label, Zipper, at, plug, joined, whole, height, size, is_node, is_root, is_leaf, has_left, has_right, left_of, right_of, items_of, stated, new_items, up, without_leaf, with_tree, with_items, list}
-use Rattle.ttree.specs.Shape.{IsTTree, IsFit}
-use Rattle.ttree.specs.Mending.{CanRise, IsMendableTree, IsMendable, StandsFor, is_internal}
+use Rattle.std.proofs.Common.{◌≡◌, ℕ, ◌+◌, ◌<◌, ◌≤◌, length, true, false, refl, sym, ap, ◌∙◌, subst, List, [], ◌∷◌, ◌⊎◌, arith, inl, inr}
+use Rattle.ttree_node.specs.Tree.{Tree, empty, node, Frame, went_left, went_right, Label, Zipper, at, plug, whole, height, size, is_node, is_root, is_leaf, has_left, has_right, left_of, items_of, new_items, up, without_leaf, with_tree, with_items, list}
+use Rattle.ttree.specs.Shape.{IsTTree}
+use Rattle.ttree.specs.Mending.{CanRise, IsMendableTree}
 use Rattle.ttree.specs.Removing.{HasLost, HasLostBelow}
-use Rattle.ttree.proofs.Fitness.{Fits, high_node, node_high, low_no_node, no_node_low, in_numbers, from_numbers, some_items, stated-height}
+use Rattle.ttree.proofs.Fitness.{high_node, node_high, no_node_low, in_numbers, some_items}
 use Rattle.ttree.proofs.Climbing.{fit-part}
-use Rattle.ttree.proofs.Replacing.{fit-replaced, fit-new_items, kept-internal, size_merged}
+use Rattle.ttree.proofs.Replacing.{fit-new_items, kept-internal, size_merged}
 use Rattle.ttree_node.specs.Laws.{list-plug}
 use Rattle.ttree_node.specs.Seen.{child, merged}
 use Rattle.ttree_node.specs.declared.node.Side.{Side}

@@ -1,6 +1,6 @@
 -- Steps down to a child and back up.
-use Rattle.std.proofs.Common.{◌≡◌, ℕ, ◌+◌, ◌≤◌, ◌<◌, length, Bool, true, false, refl, sym, ◌∙◌, List, [], ◌∷◌, ◌++◌, ap, arith, length-append}
-use Rattle.ttree_node.specs.Tree.{Tree, empty, node, Frame, went_left, went_right, Label, Zipper, at, plug, joined, whole, list, size, height, is_node, has_left, has_right, is_root, up, items_of, new_items, new_height, with_height, with_items, with_tree}
+use Rattle.std.proofs.Common.{◌≡◌, ℕ, ◌≤◌, ◌<◌, length, true, false, refl, sym, ◌∙◌, List, [], ◌∷◌, ◌++◌, arith, length-append}
+use Rattle.ttree_node.specs.Tree.{Tree, empty, node, Frame, went_left, went_right, Label, Zipper, at, plug, whole, list, size, height, is_node, has_left, has_right, is_root, up, items_of, new_items, new_height, with_height, with_items, with_tree}
 use Rattle.ttree_node.specs.Laws.{list-plug}
 use Rattle.ttree_node.specs.Seen.{on_side, child}
 use Rattle.ttree_node.specs.declared.node.Side.{Side}

@@ -1,9 +1,8 @@
 -- A list that rises by a strict order, without a reference that it held.
-use Rattle.std.proofs.Common.{◌≡◌, ◌≢◌, ℕ, ◌+◌, ◌<◌, ◌≤◌, suc, List, [], ◌∷◌, ◌++◌, length, get_or, take, drop, true, refl, sym, ap, subst, ◌∙◌, arith, Ordering, append_assoc, length-append}
+use Rattle.std.proofs.Common.{◌≡◌, ℕ, ◌+◌, ◌<◌, suc, List, [], ◌∷◌, ◌++◌, length, get_or, take, drop, true, refl, sym, ap, subst, ◌∙◌, arith, Ordering, append_assoc, length-append}
 use Rattle.std.specs.List.{All, Contains, remove}
-use Rattle.std.specs.declared.cmp.Ordering.TheVariants.{Less, Equal, Greater}
+use Rattle.std.specs.declared.cmp.Ordering.TheVariants.{Less, Greater}
 use Rattle.std.proofs.lemmas.List.{get_or_append_left, get_or_at, get_or-append-add, drop_more}
-use Rattle.std.proofs.lemmas.List.Elements.{All-contains}
 use Rattle.mm_index.specs.Order.{IsStrictOver, IsRising, remove_by}
 use Rattle.mm_index.proofs.Placed.{remove_by_split, cmp_itself, cmp_from_Less}
 use Rattle.ttree_node.specs.Tree.{Tree, empty, node, Frame, Label, Zipper, at, plug, whole, list, is_node, is_root, items_of, right_of, new_items, with_items, list_until, list_from, list_before, list_above}

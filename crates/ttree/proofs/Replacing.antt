@@ -1,14 +1,14 @@
 -- Other trees in a place of a T-tree.
-use Rattle.std.proofs.Common.{◌≡◌, ℕ, ◌+◌, ◌-◌, ◌<◌, ◌≤◌, max, length, Bool, true, false, refl, sym, ap, ◌∙◌, subst, List, [], ◌∷◌, ◌++◌, arith, length-append, inl, inr}
-use Rattle.ttree_node.specs.Tree.{Tree, empty, node, Frame, went_left, went_right, Label, Zipper, at, plug, joined, whole, height, size, is_node, is_root, is_leaf, has_left, has_right, left_of, right_of, items_of, stated, new_items, up, without_leaf, with_tree}
+use Rattle.std.proofs.Common.{◌≡◌, ℕ, ◌+◌, ◌<◌, ◌≤◌, length, true, false, refl, sym, ◌∙◌, subst, List, [], ◌∷◌, ◌++◌, arith, length-append, inl}
+use Rattle.ttree_node.specs.Tree.{Tree, empty, node, Frame, went_left, went_right, Label, Zipper, plug, whole, height, size, is_node, is_leaf, has_left, has_right, left_of, right_of, items_of, stated, new_items, with_tree}
 use Rattle.ttree_node.specs.Seen.{child, opposite, child_on, merged}
 use Rattle.ttree_node.specs.declared.node.Side.{Side}
 use Rattle.ttree_node.specs.declared.node.Side.TheVariants.{Root, Left, Right}
-use Rattle.ttree.specs.Shape.{IsTTree, IsFit}
-use Rattle.ttree.specs.Mending.{CanRise, IsMendableTree, IsMendable, StandsFor, is_internal}
-use Rattle.ttree.specs.Removing.{HasLost, HasLostBelow}
+use Rattle.ttree.specs.Shape.{IsTTree}
+use Rattle.ttree.specs.Mending.{CanRise, IsMendableTree}
+use Rattle.ttree.specs.Removing.{HasLostBelow}
 use Rattle.ttree.specs.Rising.{IsNearTree}
-use Rattle.ttree.proofs.Fitness.{Fits, high_node, node_high, low_no_node, no_node_low, in_numbers, from_numbers, some_items, stated-height}
+use Rattle.ttree.proofs.Fitness.{low_no_node, no_node_low, in_numbers, from_numbers}
 use Rattle.ttree.proofs.Climbing.{fit-part}
 
 module _ {I : Type 0} (least most : ℕ) where

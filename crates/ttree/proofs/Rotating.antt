@@ -1,13 +1,12 @@
 -- A rotation with its slide.
-use Rattle.std.proofs.Common.{◌≡◌, ℕ, ◌+◌, ◌<◌, ◌≤◌, length, Bool, true, false, refl, sym, subst, arith}
-use Rattle.ttree_node.specs.Tree.{Tree, empty, node, Label, height, is_node, has_left, has_right, left_of, right_of, items_of, stated}
+use Rattle.std.proofs.Common.{◌≡◌, ℕ, ◌<◌, ◌≤◌, true, refl, sym, subst, arith}
+use Rattle.ttree_node.specs.Tree.{Tree, empty, node, Label, height, is_node, has_left, has_right, left_of, right_of, stated}
 use Rattle.ttree_node.specs.Seen.{child, opposite}
 use Rattle.ttree_node.specs.declared.node.Side.{Side}
 use Rattle.ttree_node.specs.declared.node.Side.TheVariants.{Root, Left, Right}
-use Rattle.ttree.specs.Shape.{IsTTree}
 use Rattle.ttree.specs.Rising.{Leans, IsFilled, IsInnerFilled, IsMendedTo, with_child, raised, inner_raised, outer_turned, inner_turned}
 use Rattle.ttree.proofs.Fitness.{high_node}
-use Rattle.ttree.proofs.Leaning.{leaning_node, leans-with_child, height-with_child, mends-with_child, children_fit, children_stated}
+use Rattle.ttree.proofs.Leaning.{leans-with_child, height-with_child, mends-with_child, children_stated}
 use Rattle.ttree.proofs.Turning.{outer-mends, inner-mends}
 
 module _ {I : Type 0} where

@@ -1,12 +1,12 @@
 -- A node whose child on one side is too high by one is mended by one turn, or by two.
-use Rattle.std.proofs.Common.{◌≡◌, ℕ, ◌+◌, ◌<◌, ◌≤◌, max, min, length, Bool, true, false, refl, sym, subst, arith}
-use Rattle.ttree_node.specs.Tree.{Tree, empty, node, Label, height, is_node, left_of, right_of, items_of, stated}
+use Rattle.std.proofs.Common.{◌≡◌, ℕ, ◌+◌, ◌<◌, ◌≤◌, max, min, length, refl, sym, subst, arith}
+use Rattle.ttree_node.specs.Tree.{Tree, empty, node, Label, height, items_of, stated}
 use Rattle.ttree_node.specs.Seen.{child, opposite}
 use Rattle.ttree_node.specs.declared.node.Side.{Side}
 use Rattle.ttree_node.specs.declared.node.Side.TheVariants.{Root, Left, Right}
-use Rattle.ttree.specs.Shape.{IsTTree, IsFit}
-use Rattle.ttree.specs.Rising.{Leans, IsMendedTo, IsNearTree, outer_turned, inner_turned}
-use Rattle.ttree.proofs.Fitness.{Fits, high_node, node_high, low_no_node, in_numbers, in_swapped, from_numbers, from_swapped, stated-height, some_items}
+use Rattle.ttree.specs.Shape.{IsTTree}
+use Rattle.ttree.specs.Rising.{Leans, IsMendedTo, outer_turned, inner_turned}
+use Rattle.ttree.proofs.Fitness.{Fits, high_node, low_no_node, in_numbers, in_swapped, from_numbers, from_swapped, stated-height, some_items}
 
 -- In all that follows p is the outer and q the inner child of the higher child, r the other child, and n the number of the node's items.
 

@@ -1,5 +1,5 @@
 -- A node that an edit below left out of balance, before its height is set and it is rotated.
-use Rattle.std.specs.Prelude.{◌≡◌, ℕ, ◌+◌, ◌<◌, ◌≤◌, max, length, true, false, Bool, ◌⊎◌}
+use Rattle.std.specs.Prelude.{◌≡◌, ℕ, ◌+◌, ◌<◌, ◌≤◌, max, length, true, false, ◌⊎◌}
 use Rattle.ttree_node.specs.Tree.{Tree, empty, node, Label, Zipper, plug, height, is_node, left_of, right_of, items_of}
 use Rattle.ttree.specs.Shape.{HasItems, IsNear, IsTTree}
 

@@ -1,5 +1,5 @@
-use Rattle.std.proofs.Common.{◌≡◌, ◌<◌, ◌≤◌, ◌^◌, length, sym, subst, arith, lit<}
-use Rattle.ttree_node.specs.Tree.{height, list, whole}
+use Rattle.std.proofs.Common.{◌<◌, ◌≤◌, ◌^◌, length, sym, subst, arith, lit<}
+use Rattle.ttree_node.specs.Tree.{height, list}
 use Rattle.ttree_node.specs.Editor.{position}
 use Rattle.ttree.specs.Rising.{IsMendedTo}
 use Rattle.ttree.specs.Fullness.{IsGrown}

@@ -4,7 +4,7 @@ use Rattle.ttree_node.specs.Editor.{position, tree_at}
 use Rattle.ttree.specs.Mending.{CanRise}
 use Rattle.ttree.specs.Rising.{HasRisen}
 use Rattle.ttree.specs.Shape.{ParentsAreFull}
-use Rattle.ttree.specs.Fullness.{CanRiseFull, HasRisenFull}
+use Rattle.ttree.specs.Fullness.{CanRiseFull}
 use Rattle.ttree.proofs.Fullness.{can-rise_full, has-risen_full}
 use Rattle.ttree.proofs.Climbing.{can-rise, has-risen, mendable_here}
 use Rattle.ttree.proofs.Places.{whole-up}

@@ -1,9 +1,9 @@
 use Rattle.std.proofs.Common.{◌≡◌, ◌∙◌, true, false, sym, ap, subst, lit<}
 use Rattle.std.specs.List.{insert}
-use Rattle.ttree_node.specs.Tree.{list, size, whole, has_left, has_right, items_of, down_left, with_items, with_tree}
-use Rattle.ttree_node.specs.Editor.{position, tree_at}
+use Rattle.ttree_node.specs.Tree.{list, size, whole, has_left, has_right, items_of, down_left}
+use Rattle.ttree_node.specs.Editor.{position}
 use Rattle.ttree_node.specs.declared.node.Side.TheVariants.{Left}
-use Rattle.ttree.specs.Removing.{HasLost, rightmost, without_left_greatest}
+use Rattle.ttree.specs.Removing.{HasLost, rightmost}
 use Rattle.ttree.proofs.Borrowing.{put_back, left_kept, lent, list-lent, size-lent, rightmost-open, whole-rightmost}
 use Rattle.ttree.proofs.Losing.{lost-left_fit}
 use Rattle.ttree.proofs.Places.{whole-on_side}

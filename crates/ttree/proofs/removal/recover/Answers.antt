@@ -1,5 +1,5 @@
 use Rattle.std.proofs.Common.{◌≡◌, ◌≤◌, ◌∙◌, length, true, sym, ap, subst, arith}
-use Rattle.ttree_node.specs.Tree.{whole, has_left, has_right, items_of}
+use Rattle.ttree_node.specs.Tree.{has_left, has_right, items_of}
 use Rattle.ttree_node.specs.Editor.{position}
 use Rattle.ttree.specs.Shape.{IsTTree}
 use Rattle.ttree.proofs.Losing.{lost-internal}

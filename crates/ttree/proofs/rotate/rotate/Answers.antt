@@ -1,5 +1,5 @@
-use Rattle.std.proofs.Common.{◌≡◌, ◌<◌, ◌≤◌, sym, subst, ◌∙◌, ap}
-use Rattle.ttree_node.specs.Tree.{height, stated}
+use Rattle.std.proofs.Common.{◌≡◌, ◌<◌, sym, subst, ◌∙◌}
+use Rattle.ttree_node.specs.Tree.{height}
 use Rattle.ttree_node.specs.Editor.{position}
 use Rattle.ttree_node.specs.Seen.{child, opposite}
 use Rattle.ttree.specs.Rising.{IsFilled, IsInnerFilled, IsMendedTo, with_child}

@@ -1,10 +1,7 @@
-use Rattle.std.proofs.Common.{◌≡◌, ◌≤◌, ◌^◌, ◌+◌, ◌<◌, ◌∙◌, length, true, false, sym, ap, subst, arith, lit<, inl, inr}
-use Rattle.ttree_node.specs.Tree.{list, size, whole, is_leaf, is_node, is_root, has_left, has_right, items_of, with_tree, without_leaf, up}
-use Rattle.ttree_node.specs.Editor.{position, tree_at}
-use Rattle.ttree_node.specs.Seen.{child, opposite, child_on, merged}
+use Rattle.std.proofs.Common.{◌∙◌, sym, subst}
+use Rattle.ttree_node.specs.Tree.{whole}
+use Rattle.ttree_node.specs.Editor.{position}
 use Rattle.ttree.specs.Shape.{IsTTree}
-use Rattle.ttree.specs.Mending.{CanRise}
-use Rattle.ttree.specs.Removing.{HasLost, HasLostBelow}
 use Rattle.ttree.proofs.Replacing.{kept-internal}
 use Rattle.ttree.proofs.settle.merge_half.Goals as goal
 

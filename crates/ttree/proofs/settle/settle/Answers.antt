@@ -1,12 +1,9 @@
-use Rattle.std.proofs.Common.{◌≡◌, ◌≤◌, ◌^◌, ◌+◌, ◌<◌, ◌∙◌, length, true, false, sym, ap, subst, arith, lit<, inl, inr}
+use Rattle.std.proofs.Common.{◌≡◌, ◌≤◌, ◌^◌, ◌<◌, ◌∙◌, length, false, sym, ap, subst, arith, lit<, inl, inr}
 use Rattle.std.proofs.lemmas.Bool.Decides.{nat_tests}
 use Rattle.std.specs.Prelude.{◌==◌}
-use Rattle.ttree_node.specs.Tree.{list, size, whole, is_leaf, is_node, is_root, has_left, has_right, items_of, with_tree, up}
+use Rattle.ttree_node.specs.Tree.{list, whole, has_left, has_right, items_of, up}
 use Rattle.ttree_node.specs.Editor.{position, tree_at}
-use Rattle.ttree_node.specs.Seen.{child, opposite, child_on, merged}
-use Rattle.ttree.specs.Shape.{IsTTree}
-use Rattle.ttree.specs.Mending.{CanRise}
-use Rattle.ttree.specs.Removing.{HasLost, HasLostBelow}
+use Rattle.ttree.specs.Removing.{HasLostBelow}
 use Rattle.ttree.proofs.Losing.{lost-below, lost-above}
 use Rattle.ttree.proofs.Places.{whole-up}
 use Rattle.ttree.proofs.settle.settle.Goals as goal
