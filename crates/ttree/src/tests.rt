@@ -1,3 +1,4 @@
 mod keys;
 mod removals;
 mod runs;
+mod toggles;
