@@ -1,5 +1,5 @@
 //! The T-tree as an ordered index.
-ghost use Rattle.std.specs.Prelude.{◌+◌, ◌*◌, Some};
+ghost use Rattle.std.specs.Prelude.{◌≡◌, ◌+◌, ◌*◌, Some};
 ghost use Rattle.ttree_node.specs.Tree.{height};
 ghost use Rattle.ttree_node.specs.Seen.{tree_of, spares_of};
 ghost use Rattle.ttree.specs.Held.{items_of_tree};
@@ -42,7 +42,10 @@ impl<const MIN: usize, const MAX: usize> OrderedIndex for TTree<MIN, MAX> {
         TTree::len(self)
     }
 
-    fn release_spares(&mut self) {
+    fn release_spares(&mut self)
+        ensures items { items_of_tree self.new ≡ items_of_tree self.old }
+        ensures room { spares_of self.new ≡ 0 }
+    {
         TTree::release_spares(self);
     }
 }

@@ -1,5 +1,5 @@
 //! The T-tree.
-ghost use Rattle.std.specs.Prelude.{◌≡◌, ◌≢◌, ◌++◌, ◌+◌, ◌*◌, ◌^◌, ◌<◌, ◌≤◌, length, IfSome, IfNone, IfOk, IfErr, OnOk, OnErr, All, Contains};
+ghost use Rattle.std.specs.Prelude.{◌≡◌, ◌≢◌, ◌++◌, ◌+◌, ◌*◌, ◌^◌, ◌<◌, ◌≤◌, max, length, IfSome, IfNone, IfOk, IfErr, OnOk, OnErr, All, Contains};
 ghost use Rattle.std.specs.declared.cmp.Ordering.{Ordering};
 ghost use Rattle.mm_index.specs.Asking.{IsOnlyAsked};
 ghost use Rattle.mm_index.specs.Order.{IsRising, insert_by, remove_by};
@@ -155,13 +155,15 @@ impl<const MIN: usize, const MAX: usize> TTree<MIN, MAX> {
         1 + left.max(right) as usize
     }
 
-    /// Makes sure of memory for `n` inserts, until `release_spares`.
+    /// Makes sure of memory for `n` inserts, until `release_spares`. After an `Err` nothing has changed.
     pub fn reserve(&mut self, n: usize) -> Result<(), NoMemory>
         requires { n ≤ 2 ^ 32 }
         ensures tree { tree_of self.new ≡ tree_of self.old }
         ensures items { items_of_tree self.new ≡ items_of_tree self.old }
         ensures reserved { OnOk result (n ≤ spares_of self.new) }
         ensures room { spares_of self.old ≤ spares_of self.new }
+        ensures no_more { OnOk result (spares_of self.new ≡ max (spares_of self.old) n) }
+        ensures err { OnErr result (spares_of self.new ≡ spares_of self.old) }
     {
         self.links.reserve(n)
     }
