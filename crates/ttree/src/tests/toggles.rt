@@ -140,7 +140,7 @@ fn first_wrong<const MIN: usize, const MAX: usize>(alloc: Global) -> Result<Opti
         let drawn = (seed >> 33) as u32;
         let key = drawn_key(&keys, drawn, step % 2_500 >= 1_250);
         toggle(&mut tree, &mut keys, key)?;
-        if step % 50 == 49 && !is_right(&tree, &keys) {
+        if step % 10 == 9 && !is_right(&tree, &keys) {
             return Ok(Some(step));
         }
     }
