@@ -10,7 +10,7 @@ use Rattle.plain_tables.specs.declared.value.Value.TheVariants.{Int, Text}
 abbrev pub calls_for_quotes : ℕ → Bool
 calls_for_quotes b = (b == 44) || (b == 34) || (b == 13) || (b == 10)
 
--- A field that holds such a byte is quoted.
+-- whether a field holds such a byte, and so must be quoted
 abbrev pub needs_quotes : List ℕ → Bool
 needs_quotes field = list_any calls_for_quotes field
 
@@ -22,6 +22,7 @@ doubled b = if b == 34 then 34 ∷ b ∷ [] else b ∷ []
 abbrev pub quoted : List ℕ → List ℕ
 quoted field = 34 ∷ (flat_map doubled field ++ 34 ∷ [])
 
+-- a field as it is written: quoted if it must be, or else as it is
 abbrev pub field_text : List ℕ → List ℕ
 field_text field = if needs_quotes field then quoted field else field
 
@@ -30,7 +31,7 @@ abbrev pub joined : List (List ℕ) → List ℕ
 joined [] = []
 joined (field ∷ fields) = field_text field ++ flat_map (λ f. 44 ∷ field_text f) fields
 
--- A record is its fields and a line feed. Where its one field is empty, a pair of quote marks shows it.
+-- A record is its fields and a line feed. If it is one field, and that is empty, a pair of quote marks shows it.
 abbrev pub record_text : List (List ℕ) → List ℕ
 record_text ([] ∷ []) = 34 ∷ 34 ∷ 10 ∷ []
 record_text fields = joined fields ++ 10 ∷ []

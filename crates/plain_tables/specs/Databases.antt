@@ -17,6 +17,7 @@ Database = List Table
 
 -- ---- tables by name
 
+-- whether a table has that name
 abbrev pub is_named : List ℕ → Table → Bool
 is_named name table = bytes_eq table.name name
 
@@ -24,19 +25,19 @@ is_named name table = bytes_eq table.name name
 abbrev pub table_named : List ℕ → Database → Option Table
 table_named name tables = find (is_named name) tables
 
--- the tables with this one in the place of the one of that name
+-- the tables with this one in the place of the one of that name, or as they are if there is none
 abbrev pub with_table : List ℕ → Table → Database → Database
 with_table name table tables = slice_set tables (position_or_len (is_named name) tables) table
 
 -- ---- well-formed databases
 
--- Columns can be declared of integers and of texts.
+-- Columns can be declared of integers and of texts, and not of references.
 abbrev pub IsDeclarable : ColKind → Type 0
 IsDeclarable kind.Int = Unit {0}
 IsDeclarable kind.Text = Unit {0}
 IsDeclarable (kind.Ref table) = ⊥
 
--- An integer column holds integers of 64 bits, a text column texts of at most 1,024 bytes.
+-- An integer column holds integers of 64 bits, a text column texts of at most 1,024 bytes, a reference column nothing.
 abbrev pub IsOfKind : ColKind → Value → Type 0
 IsOfKind kind.Int (value.Int z) = FitsSigned w64 z
 IsOfKind kind.Int (value.Text text) = ⊥
@@ -51,6 +52,8 @@ FitsColumns [] (v ∷ row) = ⊥
 FitsColumns (column ∷ columns) [] = ⊥
 FitsColumns (column ∷ columns) (v ∷ row) = IsOfKind column.kind v × FitsColumns columns row
 
+-- Its name and those of its columns are names. It has 1 to 16 columns, which differ in their names and can be declared, and
+-- no index. Its rows fit its columns, rise by their keys, and are no more than the limit.
 pub record IsWellFormedTable (limits : Limits) (table : Table) : Type 0 where
   pub named : IsName table.name
   pub columns_named : All (λ c. IsName c.name) table.columns
@@ -63,7 +66,7 @@ pub record IsWellFormedTable (limits : Limits) (table : Table) : Type 0 where
   pub rows_rise : AreRising table.rows
   pub few_rows : length table.rows ≤ limits.rows
 
--- Names differ, and there are at most 64 tables, each of them well-formed. No indexes can be declared.
+-- Each table is well-formed, they differ in their names, and there are at most 64.
 pub record IsWellFormed (limits : Limits) (tables : Database) : Type 0 where
   pub each : All (IsWellFormedTable limits) tables
   pub apart : AllPairs (λ t u. t.name ≢ u.name) tables

@@ -37,11 +37,13 @@ pub record Effect : Type 0 where
 
 -- ---- checks
 
+-- a check of a command: whether it refuses, and by which refusal
 pub record Check : Type 0 where
   pub refuses : Bool
   pub refusal : Refusal
 
--- Checks are made in their order. The first that refuses is the answer, and then nothing has changed.
+-- Checks are made in their order. The first that refuses is the answer, and then nothing has changed. If none refuses,
+-- the command has its effect.
 abbrev pub checked : Database → List Check → Effect → Effect
 checked tables [] effect = effect
 checked tables (check ∷ checks) effect =
@@ -55,30 +57,32 @@ on_table name tables effect =
 
 -- ---- what checks ask
 
--- whether something stands twice in a list
+-- whether a list has two elements that this test calls the same
 abbrev pub repeats : {X : Type 0} → (X → X → Bool) → List X → Bool
 repeats same [] = false
 repeats same (x ∷ xs) = list_any (same x) xs || repeats same xs
 
+-- the names of columns
 abbrev pub column_names : List Column → List (List ℕ)
 column_names columns = map (λ c. c.name) columns
 
--- whether a name fits no column, or several
+-- whether one of the names fits no column, or several
 abbrev pub misses : List JoinedColumn → List ColName → Bool
 misses columns names = list_any (λ name. not (fits_one columns name)) names
 
--- whether a column may hold the value by its kind
+-- whether a value is an integer and the kind that of integers, or a text and the kind that of texts
 abbrev pub is_of_kind : Value → ColKind → Bool
 is_of_kind (value.Int z) kind.Int = true
 is_of_kind (value.Text text) kind.Text = true
 is_of_kind v k = false
 
--- whether a value is none for the column that the name means
+-- whether a value is of another kind than the column that the name means; it isn't if the name means none
 abbrev pub mistakes : List JoinedColumn → ColName → Value → Bool
 mistakes columns name v =
     option_map_or (λ joined. not (is_of_kind v joined.column.kind)) (column_meant columns name) false
 
--- whether a row, which has a value for each column, has one that is of another kind
+-- Whether a row has a value of another kind than its column. The first value is the first column's, and so on; those
+-- behind the end of the shorter list aren't looked at.
 abbrev pub has_mistake : List Column → Row → Bool
 has_mistake [] row = false
 has_mistake columns [] = false
@@ -89,14 +93,17 @@ abbrev pub is_long : Value → Bool
 is_long (value.Int z) = false
 is_long (value.Text text) = nat_lt 1024 (length text)
 
+-- the columns that conditions name
 abbrev pub condition_names : List Cond → List ColName
 condition_names conditions = map (λ c. c.column) conditions
 
+-- whether a condition has a value of another kind than its column
 abbrev pub has_mistaken_condition : List JoinedColumn → List Cond → Bool
 has_mistaken_condition columns conditions = list_any (λ c. mistakes columns c.column c.value) conditions
 
 -- ---- table and insert
 
+-- a new name, no column named twice, at most 16 columns, and fewer than 64 tables so far
 abbrev pub table_checks : List ℕ → Schema → Database → List Check
 table_checks name schema tables =
     record { refuses = is_some (table_named name tables); refusal = TableExists }
@@ -104,10 +111,11 @@ table_checks name schema tables =
     ∷ record { refuses = nat_lt 16 (length schema.columns) || nat_le 64 (length tables); refusal = TooMany }
     ∷ []
 
--- a new table stands last, and has no rows
+-- a new table has these columns, no index and no rows
 abbrev pub new_table : List ℕ → Schema → Table
 new_table name schema = record { name = name; columns = schema.columns; indexes = []; rows = [] }
 
+-- one value for each column, of its kind, no text too long, a new key, and room under the limit
 abbrev pub insert_checks : Limits → Table → Row → List Check
 insert_checks limits table row =
     record { refuses = not (length row == length table.columns); refusal = WrongNumberOfValues }
@@ -127,13 +135,15 @@ grown_by row table = record table { rows = with_row row table.rows }
 abbrev pub setting_name : Setting → ColName
 setting_name setting = record { table = None; column = setting.column }
 
--- the row with the values of the settings in their columns
+-- The row with the values of the settings in their columns. A setting whose name means no column sets nothing.
 abbrev pub set_in : List JoinedColumn → List Setting → Row → Row
 set_in columns [] row = row
 set_in columns (setting ∷ settings) row =
     set_in columns settings
     (option_map_or (λ place. slice_set row place setting.value) (place_meant columns (setting_name setting)) row)
 
+-- Each name means a column, none is set twice, each value is of its column's kind, no text to be set is too long, the key
+-- isn't set, and there are at most 8 conditions.
 abbrev pub update_checks : Table → List Setting → List Cond → List Check
 update_checks table settings conditions =
     let columns = joined_columns (table ∷ []) in
@@ -153,6 +163,7 @@ updated settings conditions table =
 
 -- ---- delete
 
+-- each name means a column, each value is of its column's kind, and there are at most 8 conditions
 abbrev pub delete_checks : Table → List Cond → List Check
 delete_checks table conditions =
     let columns = joined_columns (table ∷ []) in
@@ -161,16 +172,19 @@ delete_checks table conditions =
     ∷ record { refuses = nat_lt 8 (length conditions); refusal = TooMany }
     ∷ []
 
--- the rows that meet the conditions, and the table without them
+-- the rows of the table that meet the conditions
 abbrev pub met : List Cond → Table → List Row
 met conditions table = filtered (joined_columns (table ∷ [])) conditions table.rows
 
+-- the table without these rows
 abbrev pub without : List Cond → Table → Table
 without conditions table =
     record table { rows = filter (λ row. not (meets_all (joined_columns (table ∷ [])) conditions row)) table.rows }
 
 -- ---- select
 
+-- Each name means a column, no column is shown twice, each value is of its column's kind, and there are at most 16 named
+-- items and at most 8 conditions.
 abbrev pub select_checks : List Table → Items → List Cond → List Check
 select_checks tables items conditions =
     let columns = joined_columns tables in
@@ -182,6 +196,8 @@ select_checks tables items conditions =
 
 -- ---- all commands
 
+-- A table that is declared stands last. Every other command is on the table that it names: an insert adds a row, an update
+-- and a delete answer how many rows met the conditions, and a select changes nothing.
 abbrev pub effect_of : Limits → Database → Command → Effect
 effect_of limits tables (command.Table name schema) =
     checked tables (table_checks name schema tables)

@@ -26,6 +26,7 @@ reserved_words =
     ∷ codes "ref" ∷ codes "select" ∷ codes "set" ∷ codes "table" ∷ codes "tables" ∷ codes "text" ∷ codes "tree"
     ∷ codes "update" ∷ codes "where" ∷ []
 
+-- whether a word is one of them
 abbrev pub is_reserved : List ℕ → Bool
 is_reserved word = list_any (bytes_eq word) reserved_words
 

@@ -31,7 +31,8 @@ pub record JoinedColumn : Type 0 where
 abbrev pub joined_columns : List Table → List JoinedColumn
 joined_columns tables = flat_map (λ t. map (λ c. record { table = t.name; column = c }) t.columns) tables
 
--- Product: for each row of the first table, in order, each row of the product of the others.
+-- Product: for each row of the first table, in order, each row of the product of the others behind it. The product of no
+-- tables is one row, of no values.
 abbrev pub product : List Table → List Row
 product [] = [] ∷ []
 product (table ∷ tables) = flat_map (λ row. map (λ others. row ++ others) (product tables)) table.rows
@@ -43,6 +44,7 @@ abbrev pub fits : ColName → JoinedColumn → Bool
 fits name joined =
     bytes_eq name.column joined.column.name && option_map_or (λ table. bytes_eq table joined.table) name.table true
 
+-- whether a name fits just one of the columns
 abbrev pub fits_one : List JoinedColumn → ColName → Bool
 fits_one columns name = length (filter (fits name) columns) == 1
 
@@ -50,19 +52,21 @@ fits_one columns name = length (filter (fits name) columns) == 1
 abbrev pub column_meant : List JoinedColumn → ColName → Option JoinedColumn
 column_meant columns name = if fits_one columns name then find (fits name) columns else None
 
--- and its place among the columns
+-- the place of that column among the columns, counted from 0
 abbrev pub place_meant : List JoinedColumn → ColName → Option ℕ
 place_meant columns name = if fits_one columns name then position (fits name) columns else None
 
+-- the places of the columns that the names mean; a name that means none is left out
 abbrev pub places_meant : List JoinedColumn → List ColName → List ℕ
 places_meant columns names = filter_map (place_meant columns) names
 
--- the value at a place, which is inside of the row
+-- the value at a place in the row; behind the row's end, where a row that fits its columns is never asked, it is 0
 abbrev pub value_at : Row → ℕ → Value
 value_at row place = slice_index_or row place (value.Int (pos 0))
 
 -- ---- conditions
 
+-- whether two values that compare so stand to each other as the operator says
 abbrev pub stands : Op → Ordering → Bool
 stands op.Eq o = is_eq o
 stands op.Ne o = not (is_eq o)
@@ -71,12 +75,14 @@ stands op.Le o = is_le o
 stands op.Gt o = is_gt o
 stands op.Ge o = is_ge o
 
--- Condition: the row's value in the column stands to the value of the condition as the operator says.
+-- Condition: the row's value in the column stands to the value of the condition as the operator says. If the name means no
+-- column, no row meets it.
 abbrev pub meets : List JoinedColumn → Row → Cond → Bool
 meets columns row condition =
     option_map_or (λ place. stands condition.op (value_cmp (value_at row place) condition.value))
     (place_meant columns condition.column) false
 
+-- whether a row meets every condition
 abbrev pub meets_all : List JoinedColumn → List Cond → Row → Bool
 meets_all columns conditions row = list_all (meets columns row) conditions
 
@@ -86,6 +92,7 @@ filtered columns conditions rows = filter (meets_all columns conditions) rows
 
 -- ---- items
 
+-- the columns that are named as items; where all are meant, none is named
 abbrev pub named_items : Items → List ColName
 named_items items.All = []
 named_items (items.Named names) = names
@@ -99,7 +106,7 @@ projected columns (items.Named names) row = map (value_at row) (places_meant col
 abbrev pub full_name : JoinedColumn → List ℕ
 full_name joined = joined.table ++ 46 ∷ joined.column.name
 
--- the names above the values
+-- the names above the values: the full names of all columns, or of the columns named, in that order
 abbrev pub headings : List JoinedColumn → Items → List (List ℕ)
 headings columns items.All = map full_name columns
 headings columns (items.Named names) = filter_map (λ name. option_map full_name (column_meant columns name)) names

@@ -12,14 +12,14 @@ behind_blanks line = drop (prefix_len is_blank line) line
 abbrev pub begins_run : ℕ → Bool
 begins_run c = is_word_character c || (c == 45)
 
--- How many characters a text has behind its first quote mark, up to the mark that closes it: two marks stand for one
--- in the text.
+-- How many characters a text has behind its first quote mark, with the mark that closes it. Two marks in a row stand for one
+-- in the text. A text that no mark closes goes on to the end of the line.
 abbrev pub text_length : List ℕ → ℕ
 text_length [] = 0
 text_length (c ∷ []) = 1
 text_length (c ∷ d ∷ cs) = if c == 39 then (if d == 39 then 2 + text_length cs else 1) else 1 + text_length (d ∷ cs)
 
--- whether two characters are one operator
+-- whether two characters are one operator: <=, <> or >=
 abbrev pub is_operator : ℕ → ℕ → Bool
 is_operator c d = (c == 60 && ((d == 61) || (d == 62))) || (c == 62 && (d == 61))
 

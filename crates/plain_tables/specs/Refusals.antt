@@ -5,6 +5,7 @@ use Rattle.std.specs.Prelude.{Option, Some, None}
 use Rattle.plain_tables.specs.declared.refusal.Refusal.{Refusal}
 use Rattle.plain_tables.specs.declared.refusal.Refusal.TheVariants.{LineTooLong, NotUtf8, BlockTooLong, BlockCutShort, NotACommand, NoSuchTable, TableExists, NoSuchColumn, ColumnNamedTwice, TableNamedTwice, WrongType, KeyCannotBeSet, TooMany, NoSuchIndex, IndexExists, TableIsReferenced, KeyExists, NoReferencedRow, TableFull, RowIsReferenced, WrongNumberOfValues, TextTooLong, BadHeader, BadRecord, DumpTooLong, NoMemory}
 
+-- the number of a refusal
 abbrev pub number_of : Refusal → ℕ
 number_of LineTooLong = 10
 number_of NotUtf8 = 11
@@ -33,6 +34,7 @@ number_of (BadRecord record') = 62
 number_of DumpTooLong = 64
 number_of NoMemory = 90
 
+-- its words
 abbrev pub text_of : Refusal → List ℕ
 text_of LineTooLong = codes "line too long"
 text_of NotUtf8 = codes "not UTF-8"
@@ -61,7 +63,7 @@ text_of (BadRecord record') = codes "bad record"
 text_of DumpTooLong = codes "dump too long"
 text_of NoMemory = codes "no memory"
 
--- the record at fault, counted from 1
+-- the number of the record at fault, counted from 1, if the refusal names one
 abbrev pub record_of : Refusal → Option ℕ
 record_of (KeyExists record') = record'
 record_of (NoReferencedRow record') = record'

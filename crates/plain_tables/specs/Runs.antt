@@ -13,7 +13,7 @@ use Rattle.plain_tables.specs.declared.refusal.Refusal.TheVariants.{LineTooLong,
 use Rattle.plain_tables.specs.declared.command.Limits.{Limits}
 use Rattle.plain_tables.specs.declared.command.Command.{Command}
 
--- a line without one carriage return at its end
+-- a line with a carriage return at its end without that one, and any other line as it is
 abbrev pub without_return : List ℕ → List ℕ
 without_return line = let last = length line - 1 in if slice_index line last == 13 then take last line else line
 
@@ -26,10 +26,12 @@ pub record IsReadable (line : List ℕ) : Type 0 where
   pub short : length line ≤ 8192
   pub utf8 : IsUtf8 line
 
+-- a refusal, which leaves the database as it was
 abbrev pub refused : Database → Refusal → Effect
 refused tables refusal = record { database = tables; outcome = Refused refusal }
 
--- What a line does that isn't silent.
+-- What a line does that has an answer. If it is too long or isn't UTF-8, it is refused whatever else it holds. Else, if it
+-- isn't silent, the command that it spells is done; or it is refused, if it spells none.
 pub data IsEffect (limits : Limits) (tables : Database) (line : List ℕ) : Effect → Type 0 where
   too_long : 8192 < length line → IsEffect limits tables line (refused tables LineTooLong)
   not_utf8 : length line ≤ 8192 → ¬ (IsUtf8 line) → IsEffect limits tables line (refused tables NotUtf8)
@@ -38,8 +40,9 @@ pub data IsEffect (limits : Limits) (tables : Database) (line : List ℕ) : Effe
   command : (c : Command) → IsReadable line → IsFalse (is_silent line) → Spells line c
       → IsEffect limits tables line (effect_of limits tables c)
 
--- The answer to a line, and the database after it. A silent line has no answer. Any other is answered by what it
--- does; or, if it isn't too long and is UTF-8, that no memory was found, and then nothing has changed.
+-- The answer to a line, and the database after it. A silent line that is not too long and is UTF-8 has no answer. Any other
+-- is answered by what it does; or, if it isn't too long and is UTF-8, that no memory was found, and then nothing has
+-- changed.
 pub data Answers (limits : Limits) (tables : Database) (line : List ℕ) : List ℕ → Database → Type 0 where
   silent : IsReadable line → IsTrue (is_silent line) → Answers limits tables line [] tables
   effect : (e : Effect) → IsEffect limits tables line e → Answers limits tables line (answer_text e.outcome) e.database

@@ -27,6 +27,7 @@ use Rattle.plain_tables.specs.declared.command.Command.TheVariants.{Table, Inser
 
 -- ---- the symbols of a command
 
+-- the signs; an operator is one of them
 pub data Mark : Type 0 where
   Open : Mark
   Close : Mark
@@ -35,6 +36,7 @@ pub data Mark : Type 0 where
   Star : Mark
   Operator : Op → Mark
 
+-- A symbol is a keyword, a name, the word for a kind of column, an integer or a text, or a sign.
 pub data Symbol : Type 0 where
   Keyword : List ℕ → Symbol
   Name : List ℕ → Symbol
@@ -48,22 +50,27 @@ separated_by between [] = []
 separated_by between (part ∷ []) = part
 separated_by between (part ∷ next ∷ parts) = part ++ between ∷ separated_by between (next ∷ parts)
 
+-- lists of symbols, with a comma between two of them
 abbrev pub separated : List (List Symbol) → List Symbol
 separated parts = separated_by (Sign Comma) parts
 
+-- NAME KIND
 abbrev pub column_symbols : Column → List Symbol
 column_symbols column = Name column.name ∷ Kind column.kind ∷ []
 
+-- VALUE
 abbrev pub value_symbols : Value → List Symbol
 value_symbols v = Literal v ∷ []
 
--- a column, which may stand behind its table's name and a dot
+-- NAME . NAME, a column behind its table's name, or the column's NAME alone
 abbrev pub name_symbols : ColName → List Symbol
 name_symbols name = option_map_or (λ table. Name table ∷ Sign Dot ∷ Name name.column ∷ []) name.table (Name name.column ∷ [])
 
+-- NAME = VALUE
 abbrev pub setting_symbols : Setting → List Symbol
 setting_symbols setting = Name setting.column ∷ Sign (Operator op.Eq) ∷ Literal setting.value ∷ []
 
+-- [NAME .] NAME OPERATOR VALUE
 abbrev pub condition_symbols : Cond → List Symbol
 condition_symbols condition = name_symbols condition.column ++ Sign (Operator condition.op) ∷ Literal condition.value ∷ []
 
@@ -73,6 +80,7 @@ where_symbols [] = []
 where_symbols (condition ∷ conditions) =
     Keyword (codes "where") ∷ separated_by (Keyword (codes "and")) (map condition_symbols (condition ∷ conditions))
 
+-- *, or the columns named with commas between them
 abbrev pub items_symbols : Items → List Symbol
 items_symbols items.All = Sign Star ∷ []
 items_symbols (items.Named names) = separated (map name_symbols names)
@@ -95,8 +103,8 @@ symbols_of (Select items table conditions) =
 
 -- ---- the characters of a symbol
 
--- An integer is spelled by one or more digits, with a minus directly before them where it is none or below,
--- and lies in the range of 64 bits. Zeros in front change nothing.
+-- An integer is spelled by one or more digits, and with a minus directly before them it is the negative of what they say.
+-- It lies in the range of 64 bits. Zeros in front change nothing.
 abbrev pub IsInteger : List ℕ → ℤ → Type 0
 IsInteger characters z =
     FitsSigned w64 z × ((digits : List ℕ) × IsNumeral 10 digits
@@ -107,9 +115,11 @@ IsInteger characters z =
 abbrev pub doubled : ℕ → List ℕ
 doubled c = if c == 39 then 39 ∷ c ∷ [] else c ∷ []
 
+-- a text between quote marks
 abbrev pub text_literal : List ℕ → List ℕ
 text_literal text = 39 ∷ (flat_map doubled text ++ 39 ∷ [])
 
+-- the characters of an operator
 abbrev pub operator_text : Op → List ℕ
 operator_text op.Eq = codes "="
 operator_text op.Ne = codes "<>"
@@ -118,6 +128,7 @@ operator_text op.Le = codes "<="
 operator_text op.Gt = codes ">"
 operator_text op.Ge = codes ">="
 
+-- the characters of a sign
 abbrev pub mark_text : Mark → List ℕ
 mark_text Open = codes "("
 mark_text Close = codes ")"
@@ -160,17 +171,19 @@ EndsBefore symbol (c ∷ rest) = IsFalse (goes_on_with symbol c)
 abbrev pub is_blank : ℕ → Bool
 is_blank c = (c == 32) || (c == 9)
 
+-- blanks alone, or nothing
 abbrev pub AreBlanks : List ℕ → Type 0
 AreBlanks characters = AllByRecursion (λ c. IsTrue (is_blank c)) characters
 
--- The line is these symbols in their order, with blanks before, between and after them.
+-- The line is these symbols in their order, with blanks or none before, between and after them, and each symbol ends before
+-- what follows it.
 abbrev pub IsMadeOf : List ℕ → List Symbol → Type 0
 IsMadeOf line [] = AreBlanks line
 IsMadeOf line (symbol ∷ symbols) =
     (blanks characters rest : List ℕ) × AreBlanks blanks × IsSymbol characters symbol × EndsBefore symbol rest
     × IsMadeOf rest symbols × (line ≡ blanks ++ (characters ++ rest))
 
--- A list that a command names has something in it.
+-- A command's list of columns, values, settings or named items has something in it. That of its conditions may be empty.
 abbrev pub NamesSomething : Command → Type 0
 NamesSomething (Table name schema) = 0 < length schema.columns
 NamesSomething (Insert table values) = 0 < length values
@@ -179,33 +192,41 @@ NamesSomething (Delete table conditions) = Unit {0}
 NamesSomething (Select items.All table conditions) = Unit {0}
 NamesSomething (Select (items.Named names) table conditions) = 0 < length names
 
--- A line, which has no line feed in it, spells a command.
+-- A line spells a command where it has no line feed in it and is made of the command's symbols, and no list of the command
+-- is empty that must not be.
 abbrev pub Spells : List ℕ → Command → Type 0
 Spells line command = ¬ (Contains line 10) × NamesSomething command × IsMadeOf line (symbols_of command)
 
 -- ---- what can be spelled, and the one canonical spelling
 
+-- the kinds that a command can spell: those of integers and of texts
 abbrev pub IsSpellableKind : ColKind → Type 0
 IsSpellableKind kind.Int = Unit {0}
 IsSpellableKind kind.Text = Unit {0}
 IsSpellableKind (kind.Ref table) = ⊥
 
+-- a name, and a kind that can be spelled
 abbrev pub IsSpellableColumn : Column → Type 0
 IsSpellableColumn column = IsName column.name × IsSpellableKind column.kind
 
+-- an integer of 64 bits, or a text with no line feed
 abbrev pub IsSpellableValue : Value → Type 0
 IsSpellableValue (value.Int z) = FitsSigned w64 z
 IsSpellableValue (value.Text text) = ¬ (Contains text 10)
 
+-- a column's name, and the table's before it, if one is given, are names
 abbrev pub IsSpellableName : ColName → Type 0
 IsSpellableName name = IfSome name.table IsName × IsName name.column
 
+-- a column that is a name, and a value that can be spelled
 abbrev pub IsSpellableSetting : Setting → Type 0
 IsSpellableSetting setting = IsName setting.column × IsSpellableValue setting.value
 
+-- a column and a value that can be spelled
 abbrev pub IsSpellableCondition : Cond → Type 0
 IsSpellableCondition condition = IsSpellableName condition.column × IsSpellableValue condition.value
 
+-- *, or at least one column, each of which can be spelled
 abbrev pub AreSpellableItems : Items → Type 0
 AreSpellableItems items.All = Unit {0}
 AreSpellableItems (items.Named names) = (0 < length names) × AllByRecursion IsSpellableName names
@@ -223,12 +244,13 @@ IsSpellable (Delete table conditions) = IsName table × AllByRecursion IsSpellab
 IsSpellable (Select items table conditions) =
     AreSpellableItems items × IsName table × AllByRecursion IsSpellableCondition conditions
 
+-- the words for a kind of column; those for references stand in no command that can be spelled
 abbrev pub kind_text : ColKind → List ℕ
 kind_text kind.Int = codes "int"
 kind_text kind.Text = codes "text"
 kind_text (kind.Ref table) = codes "ref " ++ table
 
--- Numbers have no zeros in front, and 0 has no sign.
+-- The characters of a symbol in the canonical spelling. Numbers have no zeros in front, and 0 has no sign.
 abbrev pub symbol_text : Symbol → List ℕ
 symbol_text (Keyword word) = word
 symbol_text (Name name) = name
@@ -237,7 +259,8 @@ symbol_text (Literal (value.Int z)) = signed_decimal z
 symbol_text (Literal (value.Text text)) = text_literal text
 symbol_text (Sign mark) = mark_text mark
 
--- no blank stands behind an opening parenthesis, before a closing one, before a comma, or on either side of a dot
+-- What stands between two symbols: no blank behind an opening parenthesis, before a closing one, before a comma, or on
+-- either side of a dot; else one blank.
 abbrev pub gap : Symbol → Symbol → List ℕ
 gap (Sign Open) next = []
 gap (Sign Dot) next = []
@@ -246,12 +269,13 @@ gap symbol (Sign Comma) = []
 gap symbol (Sign Dot) = []
 gap symbol next = 32 ∷ []
 
--- the symbols, with one blank between two of them but where there is no gap
+-- the symbols with the gap between each two of them
 abbrev pub spaced : List Symbol → List ℕ
 spaced [] = []
 spaced (symbol ∷ []) = symbol_text symbol
 spaced (symbol ∷ next ∷ symbols) = symbol_text symbol ++ (gap symbol next ++ spaced (next ∷ symbols))
 
+-- the spelling in which a command is printed
 abbrev pub canonical_spelling : Command → List ℕ
 canonical_spelling command = spaced (symbols_of command)
 

@@ -14,7 +14,7 @@ use Rattle.plain_tables.specs.declared.schema.IndexKind.{IndexKind}
 abbrev pub Row : Type 0
 Row = List Value
 
--- An index is declared on a column, by its number, and is of a kind.
+-- A table has a name, columns, declared indexes and rows. An index is the number of its column, and its kind.
 pub record Table : Type 0 where
   pub name : List ℕ
   pub columns : List Column
@@ -29,7 +29,7 @@ key_cmp r s = slice_cmp value_cmp (take 1 r) (take 1 s)
 abbrev pub AreRising : List Row → Type 0
 AreRising rows = AllPairs (λ r s. key_cmp r s ≡ Less) rows
 
--- whether a row with the key of this one is there
+-- whether a row with the key of this one is among the rows
 abbrev pub has_key_of : Row → List Row → Bool
 has_key_of row rows = list_any (λ r. is_eq (key_cmp r row)) rows
 
