@@ -1,7 +1,11 @@
 //! Worked streams, writers and readers that fail, and want of memory.
 
-mod commands;
+ghost use Rattle.std.specs.Prelude.{◌<◌};
 
+mod commands;
+mod rows;
+
+use self::rows::WORKED_ROWS;
 use crate::{RunFault, Session, SessionFault, run};
 use plain_tables::{Limits, NoMemory};
 use plan_chooser::Policy;
@@ -76,6 +80,32 @@ fn a_stream_is_answered_however_it_is_cut(rt: HostRuntime) -> Result<(), Fail> {
         }
         assert_eq!(rt; session.finish(&mut page), Ok(()));
         assert_eq!(rt; page.got.as_slice(), FIRST_ANSWERS, "in pieces of {size}");
+    }
+    Ok(())
+}
+
+/// The answers to a stream that comes in pieces of that many bytes.
+fn answers_in_pieces(alloc: Global, stream: &[u8], size: usize) -> Result<Vec<u8>, Fail>
+    requires { 0 < size }
+{
+    let mut session = Session::new(alloc, Policy::Auto)?;
+    let mut page = Page::new(alloc, 1000, true)?;
+    for piece in stream.chunks(size) {
+        session.feed(piece, &mut page)?;
+    }
+    session.finish(&mut page)?;
+    Ok(page.got)
+}
+
+#[test]
+fn worked_rows_are_answered_however_they_are_cut(rt: HostRuntime) -> Result<(), Fail> {
+    for (stream, answers) in WORKED_ROWS {
+        let bytewise = answers_in_pieces(rt.alloc(), stream, 1)?;
+        assert_eq!(rt; bytewise.as_slice(), answers, "byte by byte");
+        let small = answers_in_pieces(rt.alloc(), stream, 7)?;
+        assert_eq!(rt; small.as_slice(), answers, "in pieces of 7");
+        let large = answers_in_pieces(rt.alloc(), stream, 100)?;
+        assert_eq!(rt; large.as_slice(), answers, "in pieces of 100");
     }
     Ok(())
 }
