@@ -7,7 +7,7 @@ use Rattle.plain_tables.specs.Databases.{Database}
 use Rattle.plain_tables.specs.Effects.{Effect, Outcome, Changed, effect_of}
 use Rattle.plain_tables.specs.AnswerText.{answer_text, refusal_text}
 use Rattle.plain_tables.specs.Spelling.{Spells}
-use Rattle.plain_tables.specs.Runs.{refused, Answers, IsEffect, IsReadable, is_silent}
+use Rattle.plain_tables.specs.Runs.{refused, Answers, IsReadable, is_silent}
 use Rattle.plain_tables.specs.Runs as runs
 use Rattle.plain_tables.specs.declared.command.Command.{Command}
 use Rattle.plain_tables.specs.declared.command.Limits.{Limits}

@@ -1,23 +1,17 @@
 -- The checks of a command, once the names in it are resolved.
-use Rattle.std.proofs.Common.{◌≡◌, ℕ, Bool, true, false, cond, List, [], ◌∷◌, ◌++◌, length, map, refl, sym, ap, ◌∙◌, Some, None, Option, nat_lt, eqb, arith}
-use Rattle.std.specs.Prelude.{◌||◌, not, ◌==◌}
-use Rattle.std.specs.List.{list_any}
-use Rattle.std.specs.Str.{bytes_eq}
-use Rattle.std.proofs.lemmas.Bool.{eqb-true, or_from, or_left, or_right, cases_Bool, not-false}
+use Rattle.std.proofs.Common.{◌≡◌, ℕ, false, List, [], ◌∷◌, ◌++◌, map, refl, sym, ◌∙◌}
+use Rattle.std.proofs.lemmas.Bool.{or_from}
 use Rattle.std.proofs.lemmas.List.Folds.{list_any-append}
-use Rattle.plain_tables.specs.Tables.{Table, Row}
+use Rattle.plain_tables.specs.Tables.{Table}
 use Rattle.plain_tables.specs.Queries.{places_meant, named_items}
-use Rattle.plain_tables.specs.Effects.{Check, update_checks, delete_checks, select_checks, insert_checks, misses, mistakes, has_mistake, has_mistaken_condition, condition_names, setting_name, repeats, is_long}
+use Rattle.plain_tables.specs.Effects.{update_checks, delete_checks, select_checks, misses, condition_names, setting_name}
 use Rattle.plain_tables.specs.declared.condition.Cond.{Cond}
 use Rattle.plain_tables.specs.declared.command.Setting.{Setting}
 use Rattle.plain_tables.specs.declared.command.Items.{Items}
 use Rattle.plain_tables.specs.declared.command.Items.TheVariants as items
-use Rattle.plain_tables.specs.declared.refusal.Refusal.{Refusal}
-use Rattle.plain_tables.specs.declared.refusal.Refusal.TheVariants.{NoSuchColumn, ColumnNamedTwice, WrongType, TextTooLong, KeyCannotBeSet, TooMany, WrongNumberOfValues}
 use Rattle.mm_session.specs.declared.conditions.Test.{Test}
 use Rattle.mm_session.specs.declared.settings.Assignment.{Assignment}
 use Rattle.mm_session.specs.Answered.{first_refusal}
-use Rattle.mm_session.specs.Stored.{value_checks}
 use Rattle.mm_session.specs.Resolved.{own_columns, AreTestsOf, AreAssignmentsOf, AreShownBy, item_places, resolved_update, resolved_delete, resolved_select}
 use Rattle.mm_session.proofs.ResolvedLemmas.{none_missed, places_meant-are, test_places, length-tests, assignment_places, sets_key-is, tests_mistake, assignments_mistake}
 

@@ -1,14 +1,13 @@
 -- The columns of one table, and the places that names mean among columns.
-use Rattle.std.proofs.Common.{◌≡◌, ℕ, zero, suc, ◌+◌, ◌<◌, ◌≤◌, get_or, Bool, true, false, cond, eqb, ltb, List, [], ◌∷◌, length, map, drop, Some, None, Option, is_some, refl, sym, ap, ◌∙◌, position, slice_get, append-nil, arith, inl, inr}
+use Rattle.std.proofs.Common.{◌≡◌, ℕ, suc, ◌+◌, ◌<◌, ◌≤◌, get_or, Bool, true, false, cond, eqb, ltb, List, [], ◌∷◌, length, map, drop, Some, None, Option, is_some, refl, sym, ap, ◌∙◌, position, slice_get, append-nil, arith, inl, inr}
 use Rattle.std.specs.Prelude.{not, ◌||◌, option_map}
-use Rattle.std.specs.List.{filter, find, list_any, position_or_len}
+use Rattle.std.specs.List.{filter, list_any, position_or_len}
 use Rattle.std.specs.Option.{option_map_or}
 use Rattle.std.proofs.lemmas.Bool.{eqb-true, ne_eqb, lt-ltb, le-ltb, ltb-true, cases_Bool, cases_eq, cases_lt}
 use Rattle.std.proofs.lemmas.Bool.Decides.{nat_tests}
 use Rattle.std.proofs.lemmas.List.{length-map, drop_more, drop_all}
 use Rattle.std.proofs.lemmas.List.Folds.{find_at}
 use Rattle.std.proofs.lemmas.Option.{slice_get-map, slice_get_cases}
-use Rattle.std.proofs.lemmas.List.Quantifiers.{position-Some}
 use Rattle.plain_tables.specs.Tables.{Table, Row}
 use Rattle.plain_tables.specs.Queries.{JoinedColumn, fits, fits_one, place_meant, column_meant}
 use Rattle.plain_tables.specs.Effects.{mistakes, is_of_kind, has_mistake}

@@ -1,7 +1,7 @@
 -- What the places that names mean say of conditions, settings and items.
 use Rattle.std.proofs.Common.{◌≡◌, ℕ, zero, suc, ◌+◌, ◌<◌, Bool, true, false, List, [], ◌∷◌, ◌++◌, length, map, get_or, Some, None, Option, is_some, refl, sym, ap, ◌∙◌, slice_get, arith, inl, inr}
 use Rattle.std.specs.Prelude.{not, ◌||◌, ◌&&◌, ◌==◌, option_map, unwrap_or, pos, slice_set}
-use Rattle.std.specs.List.{All, list_any, list_all, filter_map, cons_option, range_with_len}
+use Rattle.std.specs.List.{All, list_any, filter_map, cons_option, range_with_len}
 use Rattle.std.specs.Option.{option_map_or}
 use Rattle.std.proofs.lemmas.Bool.{or_from}
 use Rattle.std.proofs.lemmas.List.{length-map}
@@ -10,8 +10,7 @@ use Rattle.std.proofs.lemmas.List.Folds.{list_any_at}
 use Rattle.std.proofs.lemmas.List.FromFn.{fill_by_all, length-range_with_len, get_or-range_with_len}
 use Rattle.std.proofs.lemmas.Option.{slice_get-map, slice_get-get_or, slice_get_cases, slice_get_read, unwrap_or-slice_get}
 use Rattle.plain_tables.specs.Tables.{Table, Row}
-use Rattle.plain_tables.specs.Values.{value_cmp}
-use Rattle.plain_tables.specs.Queries.{JoinedColumn, fits_one, place_meant, places_meant, column_meant, value_at, stands, meets, meets_all, full_name, headings, projected, named_items}
+use Rattle.plain_tables.specs.Queries.{JoinedColumn, fits_one, place_meant, places_meant, column_meant, value_at, meets, meets_all, full_name, headings, projected}
 use Rattle.plain_tables.specs.Effects.{misses, mistakes, condition_names, has_mistaken_condition, setting_name, set_in}
 use Rattle.plain_tables.specs.declared.value.Value.{Value}
 use Rattle.plain_tables.specs.declared.value.Value.TheVariants as value

@@ -1,19 +1,17 @@
 -- Rows at places: which are met, and what is put into them.
-use Rattle.std.proofs.Common.{◌≡◌, ℕ, suc, ◌+◌, ◌<◌, ◌≤◌, Bool, true, false, cond, List, [], ◌∷◌, ◌++◌, length, map, get_or, set, take, drop, eqb, Err, None, refl, sym, ap, ◌∙◌, append_assoc, arith, inl, inr, replicate}
+use Rattle.std.proofs.Common.{◌≡◌, ℕ, suc, ◌+◌, ◌<◌, Bool, true, false, cond, List, [], ◌∷◌, ◌++◌, length, map, get_or, set, take, drop, eqb, Err, None, refl, sym, ap, ◌∙◌, append_assoc, arith, inl, inr}
 use Rattle.std.specs.Prelude.{slice_set, if◌then◌else◌}
 use Rattle.std.specs.List.{All, filter, insert}
-use Rattle.std.proofs.lemmas.Bool.{cases_Bool, cases_eq, cases_lt, eqb-true}
-use Rattle.std.proofs.lemmas.List.{get_or_at, set_at, get_or-set_same, get_or-set_other, set_past, length-set, take-set-le, length_push, get_or_default}
-use Rattle.std.proofs.lemmas.List.Elements.{All-nil, All-cons, All-head, All-tail, All-append, All-take, All-drop, All-weaker, All-filter, All-from_get_or, All-get_or}
+use Rattle.std.proofs.lemmas.Bool.{cases_Bool, eqb-true}
+use Rattle.std.proofs.lemmas.List.{get_or_at, set_at, length_push}
+use Rattle.std.proofs.lemmas.List.Elements.{All-nil, All-cons, All-head, All-tail, All-append, All-take, All-drop, All-weaker, All-filter}
 use Rattle.std.proofs.lemmas.List.Kept.{AllPairs-filter}
 use Rattle.std.specs.declared.cmp.Ordering.TheVariants.{Less}
-use Rattle.std.specs.Cmp.Lexicographic.{slice_cmp}
-use Rattle.plain_tables.specs.Values.{value_cmp}
-use Rattle.plain_tables.specs.Tables.{Table, Row, key_cmp, AreRising}
+use Rattle.plain_tables.specs.Tables.{Table, Row, key_cmp}
 use Rattle.plain_tables.specs.declared.value.Value.{Value}
 use Rattle.plain_tables.specs.declared.schema.Column.{Column}
 use Rattle.mm_session.specs.Resolved.{places_from, put_in}
-use Rattle.mm_session.specs.Stored.{IsStored, KeepsShape, value_checks}
+use Rattle.mm_session.specs.Stored.{IsStored, value_checks}
 use Rattle.mm_session.specs.Answered.{first_refusal}
 use Rattle.mm_session.specs.Places.{IsPlaceOf}
 use Rattle.mm_session.proofs.RowPlaces.{rising_still}

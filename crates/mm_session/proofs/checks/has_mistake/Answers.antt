@@ -1,4 +1,4 @@
-use Rattle.std.proofs.Common.{◌≡◌, ◌∙◌, ◌+◌, drop, sym, ap, arith}
+use Rattle.std.proofs.Common.{◌∙◌, ◌+◌, drop, sym, ap, arith}
 use Rattle.std.specs.Prelude.{◌||◌}
 use Rattle.plain_tables.specs.Effects.{has_mistake}
 use Rattle.mm_session.proofs.ColumnLemmas.{mistake_step}

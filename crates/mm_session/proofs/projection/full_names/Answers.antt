@@ -1,4 +1,4 @@
-use Rattle.std.proofs.Common.{◌≡◌, ◌<◌, ◌∙◌, get_or, length, refl, arith, rules}
+use Rattle.std.proofs.Common.{◌≡◌, ◌<◌, get_or, length, refl, arith}
 use Rattle.std.proofs.lemmas.List.{map_push, map_more}
 use Rattle.mm_csv.specs.FullNames.{full_name_text}
 use Rattle.mm_session.specs.Resolved.{own_columns, heading_at}

@@ -1,4 +1,4 @@
-use Rattle.std.proofs.Common.{◌≡◌, ◌∙◌, sym, ap, None, get_or, arith}
+use Rattle.std.proofs.Common.{◌∙◌, sym, ap, arith}
 use Rattle.plain_tables.specs.Queries.{place_meant}
 use Rattle.mm_session.specs.Resolved.{own_columns}
 use Rattle.mm_session.proofs.ResolvedLemmas.{missed}

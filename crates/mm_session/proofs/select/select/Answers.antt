@@ -1,4 +1,4 @@
-use Rattle.std.proofs.Common.{◌≡◌, ◌∙◌, ◌<◌, refl, sym, ap, ◌++◌, None, Some, inr, length, rules}
+use Rattle.std.proofs.Common.{◌≡◌, ◌∙◌, sym, ap, ◌++◌, None, Some, inr, length, rules}
 use Rattle.std.specs.Prelude.{codes, decimal}
 use Rattle.plain_tables.specs.AnswerText.{text_line}
 use Rattle.std.proofs.lemmas.Option.{MatchOption-at_some}

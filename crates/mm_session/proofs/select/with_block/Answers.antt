@@ -1,4 +1,4 @@
-use Rattle.std.proofs.Common.{◌<◌, ◌≡◌, subst, length, get_or, arith, rules}
+use Rattle.std.proofs.Common.{◌≡◌, length, arith}
 use Rattle.std.specs.List.{All}
 use Rattle.plain_tables.specs.Tables.{Row}
 use Rattle.mm_session.proofs.select.with_block.Goals as goal

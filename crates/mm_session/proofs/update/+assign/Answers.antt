@@ -2,7 +2,6 @@ use Rattle.std.proofs.Common.{◌≡◌, ◌<◌, ◌++◌, ◌∷◌, [], lengt
 use Rattle.std.specs.List.{All}
 use Rattle.mm_session.specs.declared.settings.Assignment.{Assignment}
 use Rattle.std.proofs.lemmas.List.{nil_from_length}
-use Rattle.std.proofs.lemmas.Option.{MatchOption-at_none}
 use Rattle.mm_session.proofs.CommandLemmas.{All-front, assign_none, assign_more}
 use Rattle.mm_session.proofs.update.+assign.Goals as goal
 
