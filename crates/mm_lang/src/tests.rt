@@ -12,71 +12,45 @@ fn text_of(alloc: Global, text: &str) -> Result<Text, NoMemory> {
     Text::from_str(alloc, text)
 }
 
+// A line, an arrow, and the canonical spelling of its command.
+const SPELLINGS: &str = "\
+table t (id int) => table t (id int)\n\
+table t(id int,name text) => table t (id int, name text)\n\
+\x20\ttable\tT_1(id int\t,table_ text ,_ int)   => table T_1 (id int, table_ text, _ int)\n\
+insert t (2) => insert t (2)\n\
+insert t(1,-2,  3 ) => insert t (1, -2, 3)\n\
+insert t (-9223372036854775808) => insert t (-9223372036854775808)\n\
+insert t (9223372036854775807) => insert t (9223372036854775807)\n\
+insert t (007, -07, -0) => insert t (7, -7, 0)\n\
+insert t (000000000000000000000000000001) => insert t (1)\n\
+insert Insert (1) => insert Insert (1)\n\
+insert t ('', 'a b') => insert t ('', 'a b')\n\
+insert t('a''b','''' , '''''') => insert t ('a''b', '''', '''''')\n\
+insert t ('\t\r, (é) -- \"x\"',1) => insert t ('\t\r, (é) -- \"x\"', 1)\n\
+select * from t => select * from t\n\
+select*from t => select * from t\n\
+select *from tables_ => select * from tables_\n\
+select * from abcdefghijklmnopqrstuvwxyz_01234 => select * from abcdefghijklmnopqrstuvwxyz_01234\n\
+select  a,T.b from T where a>=-07 => select a, T.b from T where a >= -7\n\
+select T . b from T where T\t. b<>1 and a=2 and c<3 => select T.b from T where T.b <> 1 and a = 2 and c < 3\n\
+select * from t where x='a'and y<=2 => select * from t where x = 'a' and y <= 2\n\
+select * from t where x>'a' => select * from t where x > 'a'\n\
+update t set a=1 => update t set a = 1\n\
+update t set a = 'x',b=2 where t.a='y'and b>-1 => update t set a = 'x', b = 2 where t.a = 'y' and b > -1\n\
+delete t => delete t\n\
+delete t where id = 3 => delete t where id = 3";
+
+// The canonical spelling of the command that the line spells.
+fn spelled(alloc: Global, line: &str) -> Result<String, Fail> {
+    let command = parse(alloc, line)?;
+    Ok(print(alloc, &command)?)
+}
+
 #[test]
 fn parse_reads_each_command(rt: HostRuntime) -> Result<(), Fail> {
-    let lines = [
-        ("table t (id int)", "table t (id int)"),
-        ("table t(id int,name text)", "table t (id int, name text)"),
-        (
-            " \ttable\tT_1(id int\t,table_ text ,_ int)  ",
-            "table T_1 (id int, table_ text, _ int)",
-        ),
-        ("insert t (2)", "insert t (2)"),
-        ("insert t(1,-2,  3 )", "insert t (1, -2, 3)"),
-        (
-            "insert t (-9223372036854775808)",
-            "insert t (-9223372036854775808)",
-        ),
-        (
-            "insert t (9223372036854775807)",
-            "insert t (9223372036854775807)",
-        ),
-        ("insert t (007, -07, -0)", "insert t (7, -7, 0)"),
-        ("insert t (000000000000000000000000000001)", "insert t (1)"),
-        ("insert Insert (1)", "insert Insert (1)"),
-        ("insert t ('', 'a b')", "insert t ('', 'a b')"),
-        (
-            "insert t('a''b','''' , '''''')",
-            "insert t ('a''b', '''', '''''')",
-        ),
-        (
-            "insert t ('\t\r, (é) -- \"x\"',1)",
-            "insert t ('\t\r, (é) -- \"x\"', 1)",
-        ),
-        ("select * from t", "select * from t"),
-        ("select*from t", "select * from t"),
-        ("select *from tables_", "select * from tables_"),
-        (
-            "select * from abcdefghijklmnopqrstuvwxyz_01234",
-            "select * from abcdefghijklmnopqrstuvwxyz_01234",
-        ),
-        (
-            "select  a,T.b from T where a>=-07",
-            "select a, T.b from T where a >= -7",
-        ),
-        (
-            "select T . b from T where T\t. b<>1 and a=2 and c<3",
-            "select T.b from T where T.b <> 1 and a = 2 and c < 3",
-        ),
-        (
-            "select * from t where x='a'and y<=2",
-            "select * from t where x = 'a' and y <= 2",
-        ),
-        (
-            "select * from t where x>'a'",
-            "select * from t where x > 'a'",
-        ),
-        ("update t set a=1", "update t set a = 1"),
-        (
-            "update t set a = 'x',b=2 where t.a='y'and b>-1",
-            "update t set a = 'x', b = 2 where t.a = 'y' and b > -1",
-        ),
-        ("delete t", "delete t"),
-        ("delete t where id = 3", "delete t where id = 3"),
-    ];
-    for (line, want) in lines {
-        let command = parse(rt.alloc(), line)?;
-        let text = print(rt.alloc(), &command)?;
+    for row in SPELLINGS.split('\n') {
+        let (line, want) = row.split_once(" => ").unwrap_or((row, ""));
+        let text = spelled(rt.alloc(), line)?;
         assert_eq!(rt; text.as_str(), want, "at {line}");
     }
     Ok(())
@@ -124,106 +98,110 @@ fn parse_reads_the_parts_of_a_select(rt: HostRuntime) -> Result<(), Fail> {
     Ok(())
 }
 
+// Lines that spell no command.
+const MISSPELLINGS: &str = "\
+\n\
+\x20\t\n\
+#\n\
+Tables\n\
+tables\n\
+table\n\
+table t\n\
+table t ()\n\
+table t (id int\n\
+table t (id int,)\n\
+table t (id int) x\n\
+table t (id)\n\
+table t (id ref u)\n\
+table t (id 'int')\n\
+table t (int int)\n\
+table t (t.id int)\n\
+table int (a int)\n\
+table 1t (a int)\n\
+table t (a intb int)\n\
+tablet (a int)\n\
+Table t (a int)\n\
+insert t ()\n\
+insert t (1,)\n\
+insert t (,1)\n\
+insert t (1 2)\n\
+insert t (1)x\n\
+insert t (1))\n\
+insert t (1x)\n\
+insert t (1_)\n\
+insert t (- 1)\n\
+insert t (--1)\n\
+insert t (-)\n\
+insert t (+1)\n\
+insert t (1.0)\n\
+insert t (a)\n\
+insert t (9223372036854775808)\n\
+insert t (-9223372036854775809)\n\
+insert t (18446744073709551617)\n\
+insert t 1\n\
+insert (1)\n\
+insert t (1)\r\n\
+insert t ('a\n\
+insert t ('a)\n\
+insert t ('a'')\n\
+insert t (')\n\
+insert t (a')\n\
+insert t ('a''b''')c\n\
+insert t ('a' 'b')\n\
+insert t ('a'b)\n\
+insert t (é)\n\
+insert t (\"a\")\n\
+select * from\n\
+select from t\n\
+select * from t t\n\
+select * from where\n\
+select * from é\n\
+select * from abcdefghijklmnopqrstuvwxyz_012345\n\
+select *, a from t\n\
+select a, from t\n\
+select a b from t\n\
+select a. from t\n\
+select .a from t\n\
+select a.b.c from t\n\
+select 'a' from t\n\
+select * from emp where id < > 3\n\
+select * from emp where id > = 3\n\
+select * from emp where id =< 3\n\
+select * from emp where id <>= 3\n\
+select * from t where\n\
+select * from t where a = \n\
+select * from t where a = 1 and\n\
+select * from t where a = 1 b = 2\n\
+select * from t where a = 1, b = 2\n\
+select * from t where 1 = a\n\
+select * from t where a = b\n\
+select * from t where a\n\
+select * from t and a = 1\n\
+update t\n\
+update t set\n\
+update t set a\n\
+update t set a = \n\
+update t set a < 1\n\
+update t set t.a = 1\n\
+update t set a = 1,\n\
+update t set a = 1 and b = 2\n\
+update set a = 1\n\
+delete\n\
+delete from t\n\
+delete t t\n\
+delete where a = 1\n\
+drop table t";
+
+fn is_refused(alloc: Global, line: &str) -> bool {
+    matches!(parse(alloc, line), Err(ParseRefusal::Syntax))
+}
+
 #[test]
 fn parse_refuses_what_spells_nothing(rt: HostRuntime) {
-    let lines = [
-        "",
-        " \t",
-        "#",
-        "Tables",
-        "tables",
-        "table",
-        "table t",
-        "table t ()",
-        "table t (id int",
-        "table t (id int,)",
-        "table t (id int) x",
-        "table t (id)",
-        "table t (id ref u)",
-        "table t (id 'int')",
-        "table t (int int)",
-        "table t (t.id int)",
-        "table int (a int)",
-        "table 1t (a int)",
-        "table t (a intb int)",
-        "tablet (a int)",
-        "Table t (a int)",
-        "insert t ()",
-        "insert t (1,)",
-        "insert t (,1)",
-        "insert t (1 2)",
-        "insert t (1)x",
-        "insert t (1))",
-        "insert t (1x)",
-        "insert t (1_)",
-        "insert t (- 1)",
-        "insert t (--1)",
-        "insert t (-)",
-        "insert t (+1)",
-        "insert t (1.0)",
-        "insert t (a)",
-        "insert t (9223372036854775808)",
-        "insert t (-9223372036854775809)",
-        "insert t (18446744073709551617)",
-        "insert t 1",
-        "insert (1)",
-        "insert t (1)\r",
-        "insert t ('a",
-        "insert t ('a)",
-        "insert t ('a'')",
-        "insert t (')",
-        "insert t (a')",
-        "insert t ('a''b''')c",
-        "insert t ('a' 'b')",
-        "insert t ('a'b)",
-        "insert t ('a\nb')",
-        "insert t (é)",
-        "insert t (\"a\")",
-        "select * from",
-        "select from t",
-        "select * from t t",
-        "select * from where",
-        "select * from é",
-        "select * from abcdefghijklmnopqrstuvwxyz_012345",
-        "select *, a from t",
-        "select a, from t",
-        "select a b from t",
-        "select a. from t",
-        "select .a from t",
-        "select a.b.c from t",
-        "select 'a' from t",
-        "select * from emp where id < > 3",
-        "select * from emp where id > = 3",
-        "select * from emp where id =< 3",
-        "select * from emp where id <>= 3",
-        "select * from t where",
-        "select * from t where a = ",
-        "select * from t where a = 1 and",
-        "select * from t where a = 1 b = 2",
-        "select * from t where a = 1, b = 2",
-        "select * from t where 1 = a",
-        "select * from t where a = b",
-        "select * from t where a",
-        "select * from t and a = 1",
-        "update t",
-        "update t set",
-        "update t set a",
-        "update t set a = ",
-        "update t set a < 1",
-        "update t set t.a = 1",
-        "update t set a = 1,",
-        "update t set a = 1 and b = 2",
-        "update set a = 1",
-        "delete",
-        "delete from t",
-        "delete t t",
-        "delete where a = 1",
-        "drop table t",
-    ];
-    for line in lines {
-        let answer = parse(rt.alloc(), line);
-        assert!(rt; matches!(answer, Err(ParseRefusal::Syntax)), "at {line}");
+    for line in MISSPELLINGS.split('\n') {
+        assert!(rt; is_refused(rt.alloc(), line), "at {line}");
     }
+    assert!(rt; is_refused(rt.alloc(), "insert t ('a\nb')"));
 }
 
 // insert t (1, 'it''s')
