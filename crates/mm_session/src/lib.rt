@@ -18,8 +18,6 @@ mod session;
 mod settings;
 mod table;
 mod tables;
-#[cfg(test)]
-mod tests;
 mod update;
 mod whole_run;
 mod writing;

@@ -1,46 +1,43 @@
 //! Worked streams and their answers: those of `tests/rows`, word for word.
 
-/// Each stream, with the bytes that answer it.
-pub const WORKED_ROWS: [(&[u8], &[u8]); 6] = [
-    (QUOTING, QUOTING_ANSWERS),
-    (EMPTY_TEXT, EMPTY_TEXT_ANSWERS),
-    (
-        CR_LF_AND_TWO_BYTE_CHARACTERS,
-        CR_LF_AND_TWO_BYTE_CHARACTERS_ANSWERS,
-    ),
-    (INTEGER_RANGE_SELECTED, INTEGER_RANGE_SELECTED_ANSWERS),
-    (UPDATE_JUDGED_ON_OLD_ROWS, UPDATE_JUDGED_ON_OLD_ROWS_ANSWERS),
-    (REFUSALS, REFUSALS_ANSWERS),
-];
-
-/// A text with a comma and both quotes.
-const QUOTING: &[u8] = b"table q (id int, s text)\ninsert q (1, 'a,\"b''')\nselect * from q\n";
-
-const QUOTING_ANSWERS: &[u8] = b"ok\nok 1\nrows 1\nq.id,q.s\n1,\"a,\"\"b'\"\n";
-
-/// A row of one empty text.
-const EMPTY_TEXT: &[u8] = b"table w (s text)\ninsert w ('')\nselect * from w\n";
-
-const EMPTY_TEXT_ANSWERS: &[u8] = b"ok\nok 1\nrows 1\nw.s\n\"\"\n";
-
-/// Lines that end in a carriage return, and a character of two bytes.
-const CR_LF_AND_TWO_BYTE_CHARACTERS: &[u8] = b"\
+/// The rows, each a stream and, behind a line of dashes, its answers: a text with a comma and both quotes; a row of one
+/// empty text; lines that end in a carriage return, and a character of two bytes; the least and the greatest integer,
+/// and those beyond them; an update whose own values would meet its condition; a refusal of each kind, by names, values
+/// and counts.
+pub const WORKED_ROWS: &str = "\
+table q (id int, s text)\n\
+insert q (1, 'a,\"b''')\n\
+select * from q\n\
+----\n\
+ok\n\
+ok 1\n\
+rows 1\n\
+q.id,q.s\n\
+1,\"a,\"\"b'\"\n\
+====\n\
+table w (s text)\n\
+insert w ('')\n\
+select * from w\n\
+----\n\
+ok\n\
+ok 1\n\
+rows 1\n\
+w.s\n\
+\"\"\n\
+====\n\
 table q (id int, s text)\r\n\
 insert q (1, 'a,\"b''')\r\n\
-insert q (2, '\xc3\xa9')\r\n\
-select * from q\r\n";
-
-const CR_LF_AND_TWO_BYTE_CHARACTERS_ANSWERS: &[u8] = b"\
+insert q (2, 'é')\r\n\
+select * from q\r\n\
+----\n\
 ok\n\
 ok 1\n\
 ok 1\n\
 rows 2\n\
 q.id,q.s\n\
 1,\"a,\"\"b'\"\n\
-2,\xc3\xa9\n";
-
-/// The least and the greatest integer, and those beyond them.
-const INTEGER_RANGE_SELECTED: &[u8] = b"\
+2,é\n\
+====\n\
 table t (id int)\n\
 insert t (-9223372036854775808)\n\
 insert t (9223372036854775808)\n\
@@ -48,9 +45,8 @@ insert t (-9223372036854775809)\n\
 insert t (9223372036854775807)\n\
 insert t (007)\n\
 insert t (7)\n\
-select * from t where id < 0\n";
-
-const INTEGER_RANGE_SELECTED_ANSWERS: &[u8] = b"\
+select * from t where id < 0\n\
+----\n\
 ok\n\
 ok 1\n\
 error 20 not a command\n\
@@ -60,18 +56,15 @@ ok 1\n\
 error 41 key exists\n\
 rows 1\n\
 t.id\n\
--9223372036854775808\n";
-
-/// An update whose own values would meet its condition.
-const UPDATE_JUDGED_ON_OLD_ROWS: &[u8] = b"\
+-9223372036854775808\n\
+====\n\
 table h (id int, n int)\n\
 insert h (1, 1)\n\
 insert h (2, 2)\n\
 insert h (3, 9)\n\
 update h set n = 9 where n < 9\n\
-select * from h\n";
-
-const UPDATE_JUDGED_ON_OLD_ROWS_ANSWERS: &[u8] = b"\
+select * from h\n\
+----\n\
 ok\n\
 ok 1\n\
 ok 1\n\
@@ -81,10 +74,8 @@ rows 3\n\
 h.id,h.n\n\
 1,9\n\
 2,9\n\
-3,9\n";
-
-/// A refusal of each kind, by names, values and counts.
-const REFUSALS: &[u8] = b"\
+3,9\n\
+====\n\
 table dept (id int, name text)\n\
 table emp (id int, name text, dept int)\n\
 insert dept (10, 'toys')\n\
@@ -104,9 +95,8 @@ update emp set name = 'Z' where id = 77\n\
 select emp.id, id from emp\n\
 select * from emp where id = 1 and id = 1 and id = 1 and id = 1 and id = 1 and id = 1 and id = 1 and id = 1 and id = 1\n\
 select * from emp where id < > 3\n\
-Tables\n";
-
-const REFUSALS_ANSWERS: &[u8] = b"\
+Tables\n\
+----\n\
 ok\n\
 ok\n\
 ok 1\n\

@@ -1,0 +1,139 @@
+//! Worked streams, writers and readers that fail, and want of memory.
+
+use crate::feeding::{answers_in_pieces, check_under_refusal};
+use crate::pages::Page;
+use crate::rows::WORKED_ROWS;
+use mm_session::{RunFault, Session, SessionFault, run};
+use plain_tables::{Limits, NoMemory};
+use plan_chooser::Policy;
+use std::alloc::Global;
+use std::io;
+use std::io::Read;
+use std::process::Abort;
+use std::test::Fail;
+
+const FIRST_PATH: &str = "table t (id int)\ninsert t (2)\ninsert t (1)\nselect * from t\n";
+
+const FIRST_ANSWERS: &str = "ok\nok 1\nok 1\nrows 2\nt.id\n1\n2\n";
+
+/// Gives 20 bytes in one read, and fails from the second on.
+#[derive(Drop)]
+struct OneRead {
+    is_read: bool,
+}
+
+impl Read for OneRead {
+    fn read(&mut self, buf: &mut [u8]) -> io::Result<usize> {
+        if self.is_read {
+            return Err(io::Error::from(io::ErrorKind::Other));
+        }
+        self.is_read = true;
+        let mut front: &[u8] = &FIRST_PATH.as_bytes()[..20];
+        front.read(buf)
+    }
+}
+
+/// Checks the answers to a stream that comes in pieces of 1, of 7 and of 100 bytes.
+fn check_cuts(rt: &impl Abort, alloc: Global, stream: &str, answers: &str) -> Result<(), Fail> {
+    for size in [1, 7, 100] {
+        let session = Session::new(alloc, Policy::Auto)?;
+        let got = answers_in_pieces(alloc, session, stream, size)?;
+        assert_eq!(rt; got.as_slice(), answers.as_bytes(), "in pieces of {size}");
+    }
+    Ok(())
+}
+
+#[test]
+fn a_stream_is_answered_however_it_is_cut(rt: HostRuntime) -> Result<(), Fail> {
+    check_cuts(&rt, rt.alloc(), FIRST_PATH, FIRST_ANSWERS)
+}
+
+#[test]
+fn worked_rows_are_answered_however_they_are_cut(rt: HostRuntime) -> Result<(), Fail> {
+    for row in WORKED_ROWS.split("====\n") {
+        let Some((stream, answers)) = row.split_once("----\n") else {
+            return Err(Fail::from("a row with no answers"));
+        };
+        check_cuts(&rt, rt.alloc(), stream, answers)?;
+    }
+    Ok(())
+}
+
+/// What a run says of a reader, and the answers that it wrote.
+fn answers_of_run<R: Read>(
+    alloc: Global,
+    reader: &mut R,
+    flushes: bool,
+) -> Result<(Result<(), RunFault>, Vec<u8>), NoMemory> {
+    let mut page = Page::new(alloc, 256, flushes)?;
+    let said = run(alloc, reader, &mut page, Policy::Auto);
+    Ok((said, page.got))
+}
+
+#[test]
+fn a_run_answers_its_whole_reader(rt: HostRuntime) -> Result<(), Fail> {
+    let mut reader = FIRST_PATH.as_bytes();
+    let (said, got) = answers_of_run(rt.alloc(), &mut reader, true)?;
+    assert_eq!(rt; said, Ok(()));
+    assert_eq!(rt; got.as_slice(), FIRST_ANSWERS.as_bytes());
+    Ok(())
+}
+
+#[test]
+fn a_run_tells_its_faults(rt: HostRuntime) -> Result<(), Fail> {
+    let mut reader = OneRead { is_read: false };
+    let (said, got) = answers_of_run(rt.alloc(), &mut reader, true)?;
+    assert_eq!(rt; said, Err(RunFault::Read));
+    assert_eq!(rt; got.as_slice(), "ok\n".as_bytes());
+    let mut whole = FIRST_PATH.as_bytes();
+    let (jammed, _) = answers_of_run(rt.alloc(), &mut whole, false)?;
+    assert_eq!(rt; jammed, Err(RunFault::Write));
+    Ok(())
+}
+
+/// What a session says of a stream, on a page with room for five bytes, and then of that stream and of its end, on the
+/// page with room again; with what it wrote at first and in all.
+fn answers_on_a_short_page(
+    alloc: Global,
+) -> Result<([Result<(), SessionFault>; 3], usize, Vec<u8>), NoMemory> {
+    let mut session = Session::new(alloc, Policy::Auto)?;
+    let mut page = Page::new(alloc, 5, true)?;
+    let first = session.feed(FIRST_PATH.as_bytes(), &mut page);
+    let written = page.got.len();
+    page.room = 100;
+    let again = session.feed(FIRST_PATH.as_bytes(), &mut page);
+    let last = session.finish(&mut page);
+    Ok(([first, again, last], written, page.got))
+}
+
+#[test]
+fn a_writer_that_fails_ends_the_session(rt: HostRuntime) -> Result<(), Fail> {
+    let (said, written, got) = answers_on_a_short_page(rt.alloc())?;
+    let ended = Err(SessionFault::Ended);
+    assert_eq!(rt; said, [Err(SessionFault::Write), ended, ended]);
+    assert_eq!(rt; written, 5);
+    assert_eq!(rt; got.as_slice(), "ok\nok".as_bytes());
+    Ok(())
+}
+
+#[test]
+fn a_full_table_takes_no_row(rt: HostRuntime) -> Result<(), Fail> {
+    let limits = Limits { rows: 2, block: 6 };
+    let session = Session::with_limits(rt.alloc(), Policy::Auto, limits)?;
+    let stream = "table t (id int)\ninsert t (1)\ninsert t (2)\ninsert t (3)\ninsert t (1)\n";
+    let answers = "ok\nok 1\nok 1\nerror 43 table full\nerror 41 key exists\n";
+    let got = answers_in_pieces(rt.alloc(), session, stream, 1000)?;
+    assert_eq!(rt; got.as_slice(), answers.as_bytes());
+    Ok(())
+}
+
+#[test]
+fn session_under_refusal(rt: HostRuntime) {
+    check_under_refusal(
+        &rt,
+        rt.alloc(),
+        Limits::STANDARD,
+        "table t (id int)\ninsert t (2)\ninsert t (1)\ninsert t (2)\nselect * from t\n",
+        "ok\nok 1\nok 1\nerror 41 key exists\nrows 2\nt.id\n1\n2\n",
+    );
+}
