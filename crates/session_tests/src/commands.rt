@@ -1,24 +1,16 @@
 //! Commands on a table of three rows, with ample memory and with little.
 
-use crate::feeding::{answers_in_pieces, check_under_refusal};
-use mm_session::Session;
+use crate::feeding::{answers_under_limits, check_under_refusal};
 use plain_tables::Limits;
-use plan_chooser::Policy;
-use std::alloc::Global;
 use std::test::Fail;
 
 const SMALL: Limits = Limits { rows: 3, block: 0 };
 
-/// What a session under small limits answers.
-fn answers(alloc: Global, stream: &str) -> Result<Vec<u8>, Fail> {
-    let session = Session::with_limits(alloc, Policy::Auto, SMALL)?;
-    answers_in_pieces(alloc, session, stream, 1000)
-}
-
 #[test]
 fn commands_are_answered(rt: HostRuntime) -> Result<(), Fail> {
-    let got = answers(
+    let got = answers_under_limits(
         rt.alloc(),
+        SMALL,
         "table t (id int, s text, n int)\n\
          insert t (2, 'b,', 20)\n\
          insert t (1, 'a', 10)\n\
@@ -47,8 +39,9 @@ fn commands_are_answered(rt: HostRuntime) -> Result<(), Fail> {
 
 #[test]
 fn refusals_are_told(rt: HostRuntime) -> Result<(), Fail> {
-    let got = answers(
+    let got = answers_under_limits(
         rt.alloc(),
+        SMALL,
         "table t (id int, s text, n int)\n\
          insert t (2, 'b,', 20)\n\
          insert t (1, 'a', 10)\n\

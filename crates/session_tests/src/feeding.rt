@@ -27,6 +27,12 @@ pub fn answers_in_pieces(
     Ok(page.got)
 }
 
+/// The answers of a session under limits to a stream that comes in one piece.
+pub fn answers_under_limits(alloc: Global, limits: Limits, stream: &str) -> Result<Vec<u8>, Fail> {
+    let session = Session::with_limits(alloc, Policy::Auto, limits)?;
+    answers_in_pieces(alloc, session, stream, 1000)
+}
+
 /// Feeds a line until it is not answered by want of memory, which changes nothing.
 fn feed_line(session: &mut Session, page: &mut Page, line: &str) -> Result<(), SessionFault> {
     let before = page.got.len();

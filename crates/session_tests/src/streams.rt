@@ -1,6 +1,6 @@
 //! Worked streams, writers and readers that fail, and want of memory.
 
-use crate::feeding::{answers_in_pieces, check_under_refusal};
+use crate::feeding::{answers_in_pieces, answers_under_limits, check_under_refusal};
 use crate::pages::Page;
 use crate::rows::WORKED_ROWS;
 use mm_session::{RunFault, Session, SessionFault, run};
@@ -59,35 +59,31 @@ fn worked_rows_are_answered_however_they_are_cut(rt: HostRuntime) -> Result<(), 
     Ok(())
 }
 
-/// What a run says of a reader, and the answers that it wrote.
-fn answers_of_run<R: Read>(
-    alloc: Global,
-    reader: &mut R,
-    flushes: bool,
-) -> Result<(Result<(), RunFault>, Vec<u8>), NoMemory> {
-    let mut page = Page::new(alloc, 256, flushes)?;
-    let said = run(alloc, reader, &mut page, Policy::Auto);
-    Ok((said, page.got))
-}
-
 #[test]
 fn a_run_answers_its_whole_reader(rt: HostRuntime) -> Result<(), Fail> {
+    let mut page = Page::new(rt.alloc(), 256, true)?;
     let mut reader = FIRST_PATH.as_bytes();
-    let (said, got) = answers_of_run(rt.alloc(), &mut reader, true)?;
-    assert_eq!(rt; said, Ok(()));
-    assert_eq!(rt; got.as_slice(), FIRST_ANSWERS.as_bytes());
+    run(rt.alloc(), &mut reader, &mut page, Policy::Auto)?;
+    assert_eq!(rt; page.got.as_slice(), FIRST_ANSWERS.as_bytes());
     Ok(())
+}
+
+/// What runs say of a reader that fails and of a page that cannot be flushed, and the answers before the reader failed.
+fn faults_of_runs(alloc: Global) -> Result<([Result<(), RunFault>; 2], Vec<u8>), NoMemory> {
+    let mut page = Page::new(alloc, 256, true)?;
+    let mut reader = OneRead { is_read: false };
+    let read = run(alloc, &mut reader, &mut page, Policy::Auto);
+    let mut jammed = Page::new(alloc, 256, false)?;
+    let mut whole = FIRST_PATH.as_bytes();
+    let written = run(alloc, &mut whole, &mut jammed, Policy::Auto);
+    Ok(([read, written], page.got))
 }
 
 #[test]
 fn a_run_tells_its_faults(rt: HostRuntime) -> Result<(), Fail> {
-    let mut reader = OneRead { is_read: false };
-    let (said, got) = answers_of_run(rt.alloc(), &mut reader, true)?;
-    assert_eq!(rt; said, Err(RunFault::Read));
+    let (said, got) = faults_of_runs(rt.alloc())?;
+    assert_eq!(rt; said, [Err(RunFault::Read), Err(RunFault::Write)]);
     assert_eq!(rt; got.as_slice(), "ok\n".as_bytes());
-    let mut whole = FIRST_PATH.as_bytes();
-    let (jammed, _) = answers_of_run(rt.alloc(), &mut whole, false)?;
-    assert_eq!(rt; jammed, Err(RunFault::Write));
     Ok(())
 }
 
@@ -119,10 +115,9 @@ fn a_writer_that_fails_ends_the_session(rt: HostRuntime) -> Result<(), Fail> {
 #[test]
 fn a_full_table_takes_no_row(rt: HostRuntime) -> Result<(), Fail> {
     let limits = Limits { rows: 2, block: 6 };
-    let session = Session::with_limits(rt.alloc(), Policy::Auto, limits)?;
     let stream = "table t (id int)\ninsert t (1)\ninsert t (2)\ninsert t (3)\ninsert t (1)\n";
     let answers = "ok\nok 1\nok 1\nerror 43 table full\nerror 41 key exists\n";
-    let got = answers_in_pieces(rt.alloc(), session, stream, 1000)?;
+    let got = answers_under_limits(rt.alloc(), limits, stream)?;
     assert_eq!(rt; got.as_slice(), answers.as_bytes());
     Ok(())
 }
