@@ -1,10 +1,10 @@
 -- What the places that names mean say of conditions, settings and items.
-use Rattle.std.proofs.Common.{◌≡◌, ℕ, zero, suc, ◌+◌, ◌<◌, Bool, true, false, List, [], ◌∷◌, ◌++◌, length, map, get_or, Some, None, Option, is_some, refl, sym, ap, ◌∙◌, slice_get, arith, inl, inr}
+use Rattle.std.proofs.Common.{◌≡◌, ℕ, zero, suc, ◌+◌, ◌<◌, Bool, true, false, List, [], ◌∷◌, ◌++◌, length, map, take, get_or, Some, None, Option, is_some, refl, sym, ap, ◌∙◌, slice_get, arith, inl, inr}
 use Rattle.std.specs.Prelude.{not, ◌||◌, ◌&&◌, ◌==◌, option_map, unwrap_or, pos, slice_set}
 use Rattle.std.specs.List.{All, list_any, filter_map, cons_option, range_with_len}
 use Rattle.std.specs.Option.{option_map_or}
 use Rattle.std.proofs.lemmas.Bool.{or_from}
-use Rattle.std.proofs.lemmas.List.{length-map}
+use Rattle.std.proofs.lemmas.List.{length-map, map_push, map_more}
 use Rattle.std.proofs.lemmas.List.Elements.{All-nil, All-cons, All-from_get_or, All-same}
 use Rattle.std.proofs.lemmas.List.Folds.{list_any_at}
 use Rattle.std.proofs.lemmas.List.FromFn.{fill_by_all, length-range_with_len, get_or-range_with_len}
@@ -43,6 +43,12 @@ range_more n =
     let next : n + 1 ≡ suc n = omega arith in
     let last : 0 + n ≡ n = omega arith in
     ap (range_with_len 0) next ∙ range_suc 0 n ∙ ap (λ k. range_with_len 0 n ++ k ∷ []) last
+
+-- what was made of the elements so far, and of one more
+pub seen_more : {X Y Z : Type 0} (f : X → Z) (g : Y → Z) (xs : List X) (x : X) (ys : List Y) (i : ℕ) (d : Y) → i < length ys
+    → map f xs ≡ map g (take i ys) → f x ≡ g (get_or ys i d) → map f (xs ++ x ∷ []) ≡ map g (take (i + 1) ys)
+seen_more f g xs x ys i d l so_far here =
+    map_push f xs x ∙ ap (λ zs. zs ++ f x ∷ []) so_far ∙ ap (λ z. map g (take i ys) ++ z ∷ []) here ∙ sym (map_more g ys i d l)
 
 -- ---- names
 

@@ -1,9 +1,10 @@
 -- Rows at places: which are met, and what is put into them.
-use Rattle.std.proofs.Common.{◌≡◌, ℕ, suc, ◌+◌, ◌<◌, Bool, true, false, cond, List, [], ◌∷◌, ◌++◌, length, map, get_or, set, take, drop, eqb, Err, None, refl, sym, ap, ◌∙◌, append_assoc, arith, inl, inr}
+use Rattle.std.proofs.Common.{◌≡◌, ℕ, zero, suc, ◌+◌, ◌<◌, Bool, true, false, cond, List, [], ◌∷◌, ◌++◌, length, map, get_or, set, take, drop, replicate, add-one, eqb, Err, None, refl, sym, ap, ◌∙◌, append_assoc, arith, inl, inr}
 use Rattle.std.specs.Prelude.{slice_set, if◌then◌else◌}
 use Rattle.std.specs.List.{All, filter, insert}
 use Rattle.std.proofs.lemmas.Bool.{cases_Bool, eqb-true}
-use Rattle.std.proofs.lemmas.List.{get_or_at, set_at, length_push}
+use Rattle.std.proofs.lemmas.List.{get_or_at, set_at, length_push, length-set, length-drop, length-replicate}
+use Rattle.std.proofs.Math.Seq.{drop-cons}
 use Rattle.std.proofs.lemmas.List.Elements.{All-nil, All-cons, All-head, All-tail, All-append, All-take, All-drop, All-weaker, All-filter}
 use Rattle.std.proofs.lemmas.List.Kept.{AllPairs-filter}
 use Rattle.std.specs.declared.cmp.Ordering.TheVariants.{Less}
@@ -11,7 +12,7 @@ use Rattle.plain_tables.specs.Tables.{Table, Row, key_cmp}
 use Rattle.plain_tables.specs.declared.value.Value.{Value}
 use Rattle.plain_tables.specs.declared.schema.Column.{Column}
 use Rattle.mm_session.specs.Resolved.{places_from, put_in}
-use Rattle.mm_session.specs.Stored.{IsStored, value_checks}
+use Rattle.mm_session.specs.Stored.{IsStored, KeepsShape, value_checks}
 use Rattle.mm_session.specs.Answered.{first_refusal}
 use Rattle.mm_session.specs.Places.{IsPlaceOf}
 use Rattle.mm_session.proofs.RowPlaces.{rising_still}
@@ -47,6 +48,22 @@ module _ (p : Row → Bool) where
   pub met_within : (rows : List Row) → All (λ i. i < length rows) (places_from p 0 rows)
   met_within rows = All-weaker (λ i. i < 0 + length rows) (λ i. i < length rows) (λ i l. omega arith) (places_from p 0 rows) (places_below rows 0)
 
+  -- the places of the rows so far, with or without that of one more
+  pub places_with : (rows : List Row) (i : ℕ) (d : Row) (front whole : List ℕ) → i < length rows → p (get_or rows i d) ≡ true
+      → front ++ places_from p i (drop i rows) ≡ whole → (front ++ i ∷ []) ++ places_from p (i + 1) (drop (i + 1) rows) ≡ whole
+  places_with rows i d front whole l passes so_far =
+      let parts : drop i rows ≡ get_or rows i d ∷ drop (i + 1) rows = rw add-one (drop-cons rows i d l) in
+      append_assoc front (i ∷ []) (places_from p (i + 1) (drop (i + 1) rows))
+      ∙ ap (λ b. front ++ cond b (i ∷ places_from p (i + 1) (drop (i + 1) rows)) (places_from p (i + 1) (drop (i + 1) rows))) (sym passes)
+      ∙ ap (λ rs. front ++ places_from p i rs) (sym parts) ∙ so_far
+
+  pub places_without : (rows : List Row) (i : ℕ) (d : Row) (front whole : List ℕ) → i < length rows → p (get_or rows i d) ≡ false
+      → front ++ places_from p i (drop i rows) ≡ whole → front ++ places_from p (i + 1) (drop (i + 1) rows) ≡ whole
+  places_without rows i d front whole l fails so_far =
+      let parts : drop i rows ≡ get_or rows i d ∷ drop (i + 1) rows = rw add-one (drop-cons rows i d l) in
+      ap (λ b. front ++ cond b (i ∷ places_from p (i + 1) (drop (i + 1) rows)) (places_from p (i + 1) (drop (i + 1) rows))) (sym fails)
+      ∙ ap (λ rs. front ++ places_from p i rs) (sym parts) ∙ so_far
+
   length-met : (rows : List Row) (n : ℕ) → length (places_from p n rows) ≡ length (filter p rows)
   length-met [] n = refl
   length-met (row ∷ rows) n =
@@ -80,6 +97,61 @@ module _ (p : Row → Bool) where
     -- a value is put into the rows that were met
     pub put_in-met : (rows : List Row) → put_in (places_from p 0 rows) place v (map so_far rows) ≡ map (λ row. if p row then slice_set (so_far row) place v else so_far row) rows
     put_in-met rows = put_from [] rows 0 refl
+
+-- ---- a value put into one row, behind its key
+
+put_behind : (row : Row) (place : ℕ) (v : Value) → 0 < place → take 1 (set row place v) ≡ take 1 row
+put_behind [] place v l = refl
+put_behind (x ∷ row) zero v l = absurd (omega arith)
+put_behind (x ∷ row) (suc place) v l = refl
+
+alike_at : {X : Type 0} (f : Row → X) (rows : List Row) (n : ℕ) (row : Row) → f row ≡ f (get_or rows n [])
+    → (k : ℕ) (d : Row) → f (get_or (set rows n row) k d) ≡ f (get_or rows k d)
+alike_at f [] n row same k d = refl
+alike_at f (r ∷ rows) zero row same zero d = same
+alike_at f (r ∷ rows) zero row same (suc k) d = refl
+alike_at f (r ∷ rows) (suc n) row same zero d = refl
+alike_at f (r ∷ rows) (suc n) row same (suc k) d = alike_at f rows n row same k d
+
+pub KeepsShape-same : (rows : List Row) → KeepsShape rows rows
+KeepsShape-same rows = record { count = refl; keys = λ k d. refl; widths = λ k d. refl }
+
+pub KeepsShape-put : (old rows : List Row) (n place : ℕ) (v : Value) → 0 < place → KeepsShape old rows
+    → KeepsShape old (set rows n (set (get_or rows n []) place v))
+KeepsShape-put old rows n place v l shape = record {
+  count = length-set rows n (set (get_or rows n []) place v) ∙ shape.count;
+  keys = λ k d. alike_at (take 1) rows n (set (get_or rows n []) place v) (put_behind (get_or rows n []) place v l) k d ∙ shape.keys k d;
+  widths = λ k d. alike_at length rows n (set (get_or rows n []) place v) (length-set (get_or rows n []) place v) k d ∙ shape.widths k d;
+}
+
+-- the last of equal values
+last_same : (n : ℕ) (v x : Value) (xs : List Value) → replicate (suc n) v ≡ xs ++ x ∷ [] → (xs ≡ replicate n v) × (x ≡ v)
+last_same zero v x [] h = (refl, cc)
+last_same zero v x (y ∷ []) h = cc
+last_same zero v x (y ∷ z ∷ ys) h = cc
+last_same (suc n) v x [] h = cc
+last_same (suc n) v x (y ∷ ys) h =
+    let first : v ≡ y = cc in
+    let rest : replicate (suc n) v ≡ ys ++ x ∷ [] = cc in
+    let (others, last) = last_same n v x ys rest in
+    (ap (λ z. z ∷ ys) (sym first) ∙ ap (λ zs. v ∷ zs) others, last)
+
+-- the last of the values goes to the first of the rows that are left
+pub put_step : (met : List ℕ) (i place : ℕ) (v value : Value) (values rest : List Value) (rows whole : List Row) → i < length met
+    → values ≡ rest ++ value ∷ [] → (values ≡ replicate (length (drop i met)) v) × (put_in (drop i met) place v rows ≡ whole)
+    → (rest ≡ replicate (length (drop (i + 1) met)) v)
+    × (put_in (drop (i + 1) met) place v (set rows (get_or met i 0) (set (get_or rows (get_or met i 0) []) place value)) ≡ whole)
+put_step met i place v value values rest rows whole l last (all, so_far) =
+    let parts : drop i met ≡ get_or met i 0 ∷ drop (i + 1) met = rw add-one (drop-cons met i 0 l) in
+    let (others, same) = last_same (length (drop (i + 1) met)) v value rest (ap (λ ms. replicate (length ms) v) (sym parts) ∙ sym all ∙ last) in (
+      others,
+      ap (λ x. put_in (drop (i + 1) met) place v (set rows (get_or met i 0) (set (get_or rows (get_or met i 0) []) place x))) same
+          ∙ ap (λ ms. put_in ms place v rows) (sym parts) ∙ so_far,
+    )
+
+-- where a row is left, a value is left
+pub values_left : (met : List ℕ) (i : ℕ) (v : Value) (values : List Value) → i < length met → values ≡ replicate (length (drop i met)) v → 0 < length values
+values_left met i v values l all = omega (arith, ap length all, length-replicate (length (drop i met)) v, length-drop i met)
 
 -- ---- stored rows, after a filter or with one more
 

@@ -1,6 +1,6 @@
 //! A table: its columns, and its rows in key order.
 
-ghost use Rattle.std.specs.Prelude.{◌≡◌, ◌<◌, take, length, not, replicate, IfErr, OnOk, None};
+ghost use Rattle.std.specs.Prelude.{◌≡◌, ◌<◌, [], take, length, not, replicate, slice_index_or, slice_set, IfErr, OnOk, None};
 ghost use Rattle.std.specs.List.{All, filter};
 ghost use Rattle.plain_tables.specs.Tables.{key_cmp, AreRising};
 ghost use Rattle.plain_tables.specs.Databases.{is_named as is_named_so};
@@ -65,6 +65,15 @@ fn place_of(rows: &[Row], row: &Row) -> Result<usize, usize>
     rows.binary_search_by(|r| compare_keys(r, row))
 }
 
+/// Puts a value at that place of the row of that number.
+fn put_value(rows: &mut [Row], number: usize, place: usize, value: Value)
+    requires number { number < length rows.old }
+    requires place { All (λ row. place < length row) rows.old }
+    ensures { rows.new ≡ slice_set rows.old number (slice_set (slice_index_or rows.old number []) place value) }
+{
+    rows[number].as_mut_slice()[place] = value;
+}
+
 /// Puts one value after another at that place of the rows that were met.
 fn put_values(rows: &mut [Row], met: &[usize], place: usize, values: Vec<Value>)
     requires not_key { 0 < place }
@@ -76,7 +85,7 @@ fn put_values(rows: &mut [Row], met: &[usize], place: usize, values: Vec<Value>)
     let mut values = values;
     for &number in met {
         if let Some(value) = values.pop() {
-            rows[number].as_mut_slice()[place] = value;
+            put_value(rows, number, place, value);
         }
     }
 }

@@ -7,7 +7,7 @@ ghost use Rattle.mm_session.specs.Writing.{AppendsFront};
 use std::io::Write;
 
 /// A write answered an error or took no byte.
-#[derive(Clone, Copy, Debug, PartialEq, Eq)]
+#[derive(Clone, Copy)]
 pub struct WriteFault;
 
 /// Writes all the bytes, in as many writes as the writer takes.
