@@ -113,9 +113,6 @@ alike_at f (r ∷ rows) zero row same (suc k) d = refl
 alike_at f (r ∷ rows) (suc n) row same zero d = refl
 alike_at f (r ∷ rows) (suc n) row same (suc k) d = alike_at f rows n row same k d
 
-pub KeepsShape-same : (rows : List Row) → KeepsShape rows rows
-KeepsShape-same rows = record { count = refl; keys = λ k d. refl; widths = λ k d. refl }
-
 pub KeepsShape-put : (old rows : List Row) (n place : ℕ) (v : Value) → 0 < place → KeepsShape old rows
     → KeepsShape old (set rows n (set (get_or rows n []) place v))
 KeepsShape-put old rows n place v l shape = record {

@@ -27,7 +27,7 @@ pub fn answers_in_pieces(
     Ok(page.got)
 }
 
-/// The answers of a session under limits to a stream that comes in one piece.
+/// The answers of a session under limits to a stream that comes in pieces of 1,000 bytes.
 pub fn answers_under_limits(alloc: Global, limits: Limits, stream: &str) -> Result<Vec<u8>, Fail> {
     let session = Session::with_limits(alloc, Policy::Auto, limits)?;
     answers_in_pieces(alloc, session, stream, 1000)

@@ -1,9 +1,9 @@
 //! Worked streams and their answers: those of `tests/rows`, word for word.
 
-/// The rows, each a stream and, behind a line of dashes, its answers: a text with a comma and both quotes; a row of one
-/// empty text; lines that end in a carriage return, and a character of two bytes; the least and the greatest integer,
-/// and those beyond them; an update whose own values would meet its condition; a refusal of each kind, by names, values
-/// and counts.
+/// The rows, parted by `====`: each a stream and, behind `----`, its answers. They are a text with a comma and both
+/// quotes; a row of one empty text; lines that end in a carriage return, and a character of two bytes; the least and the
+/// greatest integer, and those beyond them; an update whose own values would meet its condition; a refusal of each kind,
+/// by names, values and counts.
 pub const WORKED_ROWS: &str = "\
 table q (id int, s text)\n\
 insert q (1, 'a,\"b''')\n\
