@@ -12,6 +12,3 @@ mod record_writer;
 pub use block::block_of;
 pub use full_name::FullName;
 pub use record_writer::RecordWriter;
-
-#[cfg(test)]
-mod tests;

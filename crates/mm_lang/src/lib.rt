@@ -18,6 +18,3 @@ mod texts;
 pub use parser::parse;
 pub use printer::print;
 pub use refusal::ParseRefusal;
-
-#[cfg(test)]
-mod tests;

@@ -1,0 +1,215 @@
+//! Worked lines, and calls that find memory and that don't.
+
+use mm_lang::{ParseRefusal, parse, print};
+use plain_tables::{ColKind, Column, Command, NoMemory, Schema, Sequence, Text};
+use std::alloc::Global;
+use std::test::Fail;
+
+// A line, an arrow, and the canonical spelling of its command.
+const SPELLINGS: &str = "\
+table t (id int) => table t (id int)\n\
+table t(id int,name text) => table t (id int, name text)\n\
+\x20\ttable\tT_1(id int\t,table_ text ,_ int)   => table T_1 (id int, table_ text, _ int)\n\
+insert t (2) => insert t (2)\n\
+insert t(1,-2,  3 ) => insert t (1, -2, 3)\n\
+insert t (-9223372036854775808) => insert t (-9223372036854775808)\n\
+insert t (9223372036854775807) => insert t (9223372036854775807)\n\
+insert t (007, -07, -0) => insert t (7, -7, 0)\n\
+insert t (000000000000000000000000000001) => insert t (1)\n\
+insert Insert (1) => insert Insert (1)\n\
+insert t ('', 'a b') => insert t ('', 'a b')\n\
+insert t('a''b','''' , '''''') => insert t ('a''b', '''', '''''')\n\
+insert t ('\t\r, (é) -- \"x\"',1) => insert t ('\t\r, (é) -- \"x\"', 1)\n\
+select * from t => select * from t\n\
+select*from t => select * from t\n\
+select *from tables_ => select * from tables_\n\
+select * from abcdefghijklmnopqrstuvwxyz_01234 => select * from abcdefghijklmnopqrstuvwxyz_01234\n\
+select  a,T.b from T where a>=-07 => select a, T.b from T where a >= -7\n\
+select T . b from T where T\t. b<>1 and a=2 and c<3 => select T.b from T where T.b <> 1 and a = 2 and c < 3\n\
+select * from t where x='a'and y<=2 => select * from t where x = 'a' and y <= 2\n\
+select * from t where x>'a' => select * from t where x > 'a'\n\
+update t set a=1 => update t set a = 1\n\
+update t set a=-1 where t.b>='' => update t set a = -1 where t.b >= ''\n\
+update t set a = 'x',b=2 where t.a='y'and b>-1 => update t set a = 'x', b = 2 where t.a = 'y' and b > -1\n\
+delete t => delete t\n\
+delete t where id = 3 => delete t where id = 3";
+
+// The canonical spelling of the command that the line spells.
+fn spelled(alloc: Global, line: &str) -> Result<String, ParseRefusal> {
+    let text = print(alloc, &parse(alloc, line)?);
+    Ok(text?)
+}
+
+// table t (b ref u), which no line spells yet
+fn printed_reference(alloc: Global) -> Result<String, NoMemory> {
+    let kind = ColKind::Ref(Text::from_str(alloc, "u")?);
+    let name = Text::from_str(alloc, "b")?;
+    let columns = vec![in alloc; Column { name, kind }]?;
+    let command = Command::Table {
+        name: Text::from_str(alloc, "t")?,
+        schema: Schema {
+            columns: Sequence::from_vec(columns),
+        },
+    };
+    print(alloc, &command)
+}
+
+#[test]
+fn commands_are_read_and_printed(rt: HostRuntime) -> Result<(), Fail> {
+    for row in SPELLINGS.split('\n') {
+        let (line, want) = row.split_once(" => ").unwrap_or((row, ""));
+        let text = spelled(rt.alloc(), line)?;
+        assert_eq!(rt; text.as_str(), want, "at {line}");
+    }
+    assert_eq!(rt;
+        printed_reference(rt.alloc())?.as_str(),
+        "table t (b ref u)"
+    );
+    Ok(())
+}
+
+// What a line is read as, part by part.
+fn parts(alloc: Global, line: &str) -> Result<String, NoMemory> {
+    let text = format!(in alloc; "{:?}", parse(alloc, line));
+    Ok(text?)
+}
+
+// A line, an arrow, and its command part by part.
+const PARTS: &str = "\
+table t (a int, b text) => Ok(Table { name: Text { text: \"t\" }, schema: Schema { columns: Sequence { items: [\
+Column { name: Text { text: \"a\" }, kind: Int }, Column { name: Text { text: \"b\" }, kind: Text }] } } })|\
+insert t (-1, 'it''s') => Ok(Insert { table: Text { text: \"t\" }, values: Sequence { items: [Int(-1), \
+Text(Text { text: \"it's\" })] } })|\
+update t set a = -1 where t.b >= '' => Ok(Update { table: Text { text: \"t\" }, settings: Sequence { items: [\
+Setting { column: Text { text: \"a\" }, value: Int(-1) }] }, conditions: Sequence { items: [\
+Cond { column: ColName { table: Some(Text { text: \"t\" }), column: Text { text: \"b\" } }, op: Ge, \
+value: Text(Text { text: \"\" }) }] } })|\
+delete t where a < 1 and b = 2 => Ok(Delete { table: Text { text: \"t\" }, conditions: Sequence { items: [\
+Cond { column: ColName { table: None, column: Text { text: \"a\" } }, op: Lt, value: Int(1) }, \
+Cond { column: ColName { table: None, column: Text { text: \"b\" } }, op: Eq, value: Int(2) }] } })|\
+select * from t where a > 1 => Ok(Select { items: All, table: Text { text: \"t\" }, conditions: Sequence { items: [\
+Cond { column: ColName { table: None, column: Text { text: \"a\" } }, op: Gt, value: Int(1) }] } })|\
+select a, T.b from T where T.c <= 'it''s' and d <> 5 => Ok(Select { items: Named(Sequence { items: [\
+ColName { table: None, column: Text { text: \"a\" } }, \
+ColName { table: Some(Text { text: \"T\" }), column: Text { text: \"b\" } }] }), \
+table: Text { text: \"T\" }, conditions: Sequence { items: [\
+Cond { column: ColName { table: Some(Text { text: \"T\" }), column: Text { text: \"c\" } }, op: Le, \
+value: Text(Text { text: \"it's\" }) }, \
+Cond { column: ColName { table: None, column: Text { text: \"d\" } }, op: Ne, value: Int(5) }] } })";
+
+// Lines that spell no command.
+const MISSPELLINGS: &str = "\
+|\
+\x20\t|\
+#|\
+Tables|\
+tables|\
+table|\
+table t|\
+table t ()|\
+table t (id int|\
+table t (id int,)|\
+table t (id int) x|\
+table t (id)|\
+table t (id ref u)|\
+table t (id 'int')|\
+table t (int int)|\
+table t (t.id int)|\
+table int (a int)|\
+table 1t (a int)|\
+table t (a intb int)|\
+tablet (a int)|\
+Table t (a int)|\
+insert t ()|\
+insert t (1,)|\
+insert t (,1)|\
+insert t (1 2)|\
+insert t (1)x|\
+insert t (1))|\
+insert t (1x)|\
+insert t (1_)|\
+insert t (- 1)|\
+insert t (--1)|\
+insert t (-)|\
+insert t (+1)|\
+insert t (1.0)|\
+insert t (a)|\
+insert t (9223372036854775808)|\
+insert t (-9223372036854775809)|\
+insert t (18446744073709551617)|\
+insert t 1|\
+insert (1)|\
+insert t (1)\r|\
+insert t ('a|\
+insert t ('a)|\
+insert t ('a'')|\
+insert t (')|\
+insert t (a')|\
+insert t ('a''b''')c|\
+insert t ('a' 'b')|\
+insert t ('a'b)|\
+insert t (é)|\
+insert t (\"a\")|\
+select * from|\
+select from t|\
+select * from t t|\
+select * from where|\
+select * from é|\
+select * from abcdefghijklmnopqrstuvwxyz_012345|\
+select *, a from t|\
+select a, from t|\
+select a b from t|\
+select a. from t|\
+select .a from t|\
+select a.b.c from t|\
+select 'a' from t|\
+select * from emp where id < > 3|\
+select * from emp where id > = 3|\
+select * from emp where id =< 3|\
+select * from emp where id <>= 3|\
+select * from t where|\
+select * from t where a = |\
+select * from t where a = 1 and|\
+select * from t where a = 1 b = 2|\
+select * from t where a = 1, b = 2|\
+select * from t where 1 = a|\
+select * from t where a = b|\
+select * from t where a|\
+select * from t and a = 1|\
+update t|\
+update t set|\
+update t set a|\
+update t set a = |\
+update t set a < 1|\
+update t set t.a = 1|\
+update t set a = 1,|\
+update t set a = 1 and b = 2|\
+update set a = 1|\
+delete|\
+delete from t|\
+delete t t|\
+delete where a = 1|\
+drop table t|\
+insert t ('a\nb')";
+
+#[test]
+fn parse_reads_the_parts_of_a_command(rt: HostRuntime) -> Result<(), Fail> {
+    for row in PARTS.split('|').chain(MISSPELLINGS.split('|')) {
+        let (line, want) = row.split_once(" => ").unwrap_or((row, "Err(Syntax)"));
+        let text = parts(rt.alloc(), line)?;
+        assert_eq!(rt; text.as_str(), want, "at {line}");
+    }
+    Ok(())
+}
+
+// A list that grows, and texts in settings and conditions.
+const LINE: &str =
+    "update t set a = 1, b = 2, c = 3, d = 4, e = 'it''s' where t.b = 'x' and c = 'y'";
+
+#[test]
+fn parse_and_print_under_refusal(rt: HostRuntime) {
+    match spelled(rt.alloc(), LINE) {
+        Ok(text) => assert_eq!(rt; text.as_str(), LINE),
+        Err(refusal) => assert_eq!(rt; refusal, ParseRefusal::NoMemory),
+    }
+}
