@@ -23,10 +23,21 @@ text_length-other : (c : ℕ) (cs : List ℕ) → c ≢ 39 → text_length (c �
 text_length-other c [] other = refl
 text_length-other c (d ∷ cs) other = rw (other-test c (c == 39) refl other) refl
 
+part-at : (cs : List ℕ) (i : ℕ) → i < length cs → drop i cs ≡ get_or cs i 0 ∷ drop (i + 1) cs
+part-at cs i inside = rw add-one (drop-cons cs i 0 inside)
+
 pub quoted-other : (cs : List ℕ) (i : ℕ) → i < length cs → get_or cs i 0 ≢ 39 → text_length (drop i cs) ≡ 1 + text_length (drop (i + 1) cs)
-quoted-other cs i inside other =
-    let parts : drop i cs ≡ get_or cs i 0 ∷ drop (i + 1) cs = rw add-one (drop-cons cs i 0 inside) in
-    ap text_length parts ∙ text_length-other (get_or cs i 0) (drop (i + 1) cs) other
+quoted-other cs i inside other = ap text_length (part-at cs i inside) ∙ text_length-other (get_or cs i 0) (drop (i + 1) cs) other
+
+two-marks : (c d : ℕ) (cs : List ℕ) → c ≡ 39 → d ≡ 39 → text_length (c ∷ d ∷ cs) ≡ 2 + text_length cs
+two-marks c d cs first second = rw (first, second) refl
+
+pub quoted-two : (cs : List ℕ) (i : ℕ) → i + 1 < length cs → get_or cs i 0 ≡ 39 → get_or cs (i + 1) 0 ≡ 39
+    → text_length (drop i cs) ≡ 2 + text_length (drop (i + 2) cs)
+quoted-two cs i inside first second =
+    let two : i + 1 + 1 ≡ i + 2 = omega arith in
+    let next : drop (i + 1) cs ≡ get_or cs (i + 1) 0 ∷ drop (i + 2) cs = rw (← two) (part-at cs (i + 1) inside) in
+    ap text_length (part-at cs i (omega arith) ∙ ap (λ l. get_or cs i 0 ∷ l) next) ∙ two-marks _ _ (drop (i + 2) cs) first second
 
 -- ---- texts without quote marks
 

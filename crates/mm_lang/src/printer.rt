@@ -75,8 +75,7 @@ fn push_update(
     line.push_str(table.as_str())?;
     line.push_str(" set")?;
     push_behind(line, settings)?;
-    push_where(line, conditions)?;
-    Ok(())
+    push_where(line, conditions)
 }
 
 fn push_delete(line: &mut String, table: &Text, conditions: &[Cond]) -> Result<(), NoMemory>
@@ -84,8 +83,7 @@ fn push_delete(line: &mut String, table: &Text, conditions: &[Cond]) -> Result<(
 {
     line.push_str("delete ")?;
     line.push_str(table.as_str())?;
-    push_where(line, conditions)?;
-    Ok(())
+    push_where(line, conditions)
 }
 
 fn push_select(
@@ -100,8 +98,7 @@ fn push_select(
     push_items(line, items)?;
     line.push_str(" from ")?;
     line.push_str(table.as_str())?;
-    push_where(line, conditions)?;
-    Ok(())
+    push_where(line, conditions)
 }
 
 // * or NAME {, NAME}
@@ -125,8 +122,7 @@ fn push_behind<T: Item>(line: &mut String, items: &[T]) -> Result<(), NoMemory>
         return Ok(());
     }
     line.push_str(" ")?;
-    push_list(line, items, ", ")?;
-    Ok(())
+    push_list(line, items, ", ")
 }
 
 // where CONDITION {and CONDITION}, behind another symbol, or nothing
@@ -137,6 +133,5 @@ fn push_where(line: &mut String, conditions: &[Cond]) -> Result<(), NoMemory>
         return Ok(());
     }
     line.push_str(" where ")?;
-    push_list(line, conditions, " and ")?;
-    Ok(())
+    push_list(line, conditions, " and ")
 }

@@ -118,20 +118,14 @@ pub fn name(alloc: Global, line: &[u8]) -> Result<(Text, &[u8]), ParseRefusal>
 fn operator_of(characters: &[u8]) -> Option<Op>
     ensures { MatchOption result ((op : Op) → characters.now ≢ operator_text op) (λ op. characters.now ≡ operator_text op) }
 {
-    if characters == b"=".as_slice() {
-        Some(Op::Eq)
-    } else if characters == b"<>".as_slice() {
-        Some(Op::Ne)
-    } else if characters == b"<".as_slice() {
-        Some(Op::Lt)
-    } else if characters == b"<=".as_slice() {
-        Some(Op::Le)
-    } else if characters == b">".as_slice() {
-        Some(Op::Gt)
-    } else if characters == b">=".as_slice() {
-        Some(Op::Ge)
-    } else {
-        None
+    match characters {
+        b"=" => Some(Op::Eq),
+        b"<>" => Some(Op::Ne),
+        b"<" => Some(Op::Lt),
+        b"<=" => Some(Op::Le),
+        b">" => Some(Op::Gt),
+        b">=" => Some(Op::Ge),
+        _ => None,
     }
 }
 
