@@ -3,7 +3,7 @@
 ghost use Rattle.std.specs.Prelude.{◌≡◌, ◌≢◌, ◌<◌, ◌++◌, List, length, codes, IfOk, IsErrOf, OnOk, refl};
 ghost use Rattle.std.specs.Str.{IsUtf8};
 ghost use Rattle.std.specs.String.{string_bytes};
-ghost use Rattle.plain_tables.specs.Spelling.{Symbol, Kind, Literal, IsSymbol, column_symbols, value_symbols, name_symbols, setting_symbols, condition_symbols, spaced, operator_text, kind_text, symbol_text};
+ghost use Rattle.plain_tables.specs.Spelling.{Symbol, Literal, IsSymbol, column_symbols, value_symbols, name_symbols, setting_symbols, condition_symbols, spaced, operator_text, kind_text};
 ghost use Rattle.plain_tables.specs.declared.value.Value.{Value};
 ghost use Rattle.mm_lang.specs.Parsing.{BeginsWith, BeginsWithNone, BeginsWithList, BeginsWithNoList};
 ghost use Rattle.mm_lang.specs.Printing.{IsFree, joined, name_symbols-free, condition_symbols-free};

@@ -1,6 +1,6 @@
 //! Integers and their digits.
 
-ghost use Rattle.std.specs.Prelude.{◌≡◌, ◌++◌, ℕ, ℤ, ◌^◌, ◌<◌, MatchOption, OnOk, SomeIff};
+ghost use Rattle.std.specs.Prelude.{◌≡◌, ◌++◌, ℤ, ◌^◌, ◌<◌, MatchOption, OnOk, SomeIff};
 ghost use Rattle.std.specs.Fmt.{signed_decimal};
 ghost use Rattle.std.specs.Str.Parse.{IsNumeral, digits_value};
 ghost use Rattle.std.specs.String.{string_bytes};

@@ -1,6 +1,6 @@
 //! The canonical spelling of a command.
 
-ghost use Rattle.std.specs.Prelude.{◌≡◌, ◌++◌, ◌∷◌, [], map, codes, IfOk, OnOk};
+ghost use Rattle.std.specs.Prelude.{◌≡◌, ◌++◌, ◌∷◌, [], map, IfOk, OnOk};
 ghost use Rattle.std.specs.String.{string_bytes};
 ghost use Rattle.plain_tables.specs.Spelling.{Sign, Open, Close, separated, items_symbols, where_symbols, symbols_of, spaced, canonical_spelling};
 ghost use Rattle.plain_tables.specs.declared.command.Command.TheVariants as command;

@@ -1,6 +1,6 @@
 //! Symbols of one lexeme: keywords, signs, names, operators and kinds of columns.
 
-ghost use Rattle.std.specs.Prelude.{◌≡◌, ◌≢◌, IfOk, IsErrOf, IsTrue, MatchOption, MatchResult};
+ghost use Rattle.std.specs.Prelude.{◌≡◌, ◌≢◌, IfOk, IsErrOf, MatchOption, MatchResult};
 ghost use Rattle.std.specs.List.{list_any, list_all};
 ghost use Rattle.std.specs.Str.{bytes_eq};
 ghost use Rattle.plain_tables.specs.Names.{IsName, is_name, is_word, is_word_character, is_reserved};
