@@ -1,4 +1,4 @@
 mod keys;
-mod removals;
 mod runs;
+mod shapes;
 mod toggles;

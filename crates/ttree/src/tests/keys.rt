@@ -154,13 +154,38 @@ pub fn cut<const MIN: usize, const MAX: usize>(tree: &mut TTree<MIN, MAX>, key: 
     }
 }
 
-pub fn cut_all<const MIN: usize, const MAX: usize>(tree: &mut TTree<MIN, MAX>, keys: &[u32])
+// Takes the key out where it is there, and else puts it in.
+fn flip<const MIN: usize, const MAX: usize>(
+    tree: &mut TTree<MIN, MAX>,
+    key: u32,
+) -> Result<(), NoMemory>
     requires rising { IsRising (λ a b. nat_cmp a.part b.part) (items_of_tree tree.old) }
     requires slots { All (λ r. r.slot ≡ 0) (items_of_tree tree.old) }
     ensures rising { IsRising (λ a b. nat_cmp a.part b.part) (items_of_tree tree.new) }
     ensures slots { All (λ r. r.slot ≡ 0) (items_of_tree tree.new) }
 {
-    for key in keys {
-        cut(tree, *key);
+    if find_key(tree, key).is_some() {
+        cut(tree, key);
+        Ok(())
+    } else {
+        add(tree, key)
     }
+}
+
+// Flips each key of the text.
+pub fn flip_all<const MIN: usize, const MAX: usize>(
+    tree: &mut TTree<MIN, MAX>,
+    keys: &str,
+) -> Result<(), NoMemory>
+    requires rising { IsRising (λ a b. nat_cmp a.part b.part) (items_of_tree tree.old) }
+    requires slots { All (λ r. r.slot ≡ 0) (items_of_tree tree.old) }
+    ensures rising { IsRising (λ a b. nat_cmp a.part b.part) (items_of_tree tree.new) }
+    ensures slots { All (λ r. r.slot ≡ 0) (items_of_tree tree.new) }
+{
+    for word in keys.split_whitespace() {
+        if let Ok(key) = word.parse::<u32>() {
+            flip(tree, key)?;
+        }
+    }
+    Ok(())
 }
