@@ -5,10 +5,10 @@ use Rattle.std.proofs.lemmas.List.{append-nil, take-append-drop, drop_more, drop
 use Rattle.std.proofs.lemmas.List.Edits.{length-insert, length-remove}
 use Rattle.ttree_node.specs.Tree.{Tree, empty, node, Frame, went_left, went_right, Label, Zipper, at, plug, whole, size, list, is_node, has_left, has_right, left_of, right_of, items_of, new_items, up, with_tree, with_items, down_left, down_right}
 use Rattle.ttree_node.specs.Laws.{list-plug}
-use Rattle.ttree.specs.Shape.{IsTTree}
+use Rattle.ttree.specs.Shape.{IsFit, IsTTree}
 use Rattle.ttree.specs.Removing.{HasLost, rightmost_from, rightmost_at, rightmost, without_greatest_from, without_greatest, without_left_greatest}
 use Rattle.ttree.proofs.Fitness.{node_high, some_items}
-use Rattle.ttree.proofs.Climbing.{fit-part}
+use Rattle.ttree.proofs.EachNode.{each_here}
 use Rattle.ttree.proofs.Losing.{lost, left_was}
 use Rattle.ttree.proofs.Places.{size-plug}
 use Rattle.ttree.proofs.Replacing.{whole-new_items}
@@ -157,11 +157,11 @@ module _ {I : Type 0} where
       let front : length (insert xs 0 g) ≡ length xs + 1 = length-insert xs 0 g (omega arith) in
       let c' : List (Frame (Label I)) = went_left (record { items = insert xs 0 g; height = w.height }) r ∷ c in
       let z : Zipper (Label I) = rightmost_from c' a y b in
-      let here = fit-part least most c (node (node a y b) w r) f in
+      let here = each_here (IsFit least most) c (node (node a y b) w r) f in
       let fit : IsTTree least most (plug c' (node a y b)) =
       whole-new_items least most c (node (node a y b) w r) (insert xs 0 g) f (omega (arith, front)) (omega (arith, front, few, ordered)) (omega (arith, front, one)) refl in
       let z_fit : IsTTree least most (whole z) = subst (λ t. IsTTree least most t) (sym (whole_rightmost_from c' a y b)) fit in
-      let some : 0 < length (items_of z.here) = some_items least most z.here (fit-part least most z.above z.here z_fit) (node_high z.here (node_from c' a y b)) in
+      let some : 0 < length (items_of z.here) = some_items least most z.here (each_here (IsFit least most) z.above z.here z_fit) (node_high z.here (node_from c' a y b)) in
       let n = length-remove (items_of z.here) (length (items_of z.here) - 1) (omega (arith, some)) in
       subst (λ v. HasLost least most v) (sym (rightmost_without c' a y b)) (lost least most z (remove (items_of z.here) (length (items_of z.here) - 1)) z_fit (sym n))
 

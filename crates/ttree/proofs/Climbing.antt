@@ -1,19 +1,14 @@
 -- From a place that is mended to the one above it.
 use Rattle.std.proofs.Common.{◌≡◌, ℕ, ◌+◌, ◌≤◌, ◌⊎◌, ◌∙◌, length, true, false, List, [], ◌∷◌, arith, inl, inr, sym, ap, subst}
 use Rattle.ttree_node.specs.Tree.{Tree, empty, node, Frame, went_left, went_right, Label, Zipper, at, plug, whole, height, is_node, is_root, has_left, has_right, items_of, new_height, up}
-use Rattle.ttree.specs.Shape.{IsTTree}
+use Rattle.ttree.specs.Shape.{IsFit, IsTTree}
 use Rattle.ttree.specs.Mending.{IsMendable, StandsFor, IsMendableTree, CanRise, height_of}
 use Rattle.ttree.specs.Rising.{IsMendableHere, IsMendedTo, StandsMended, HasRisen, IsNearTree}
+use Rattle.ttree.proofs.EachNode.{each_here}
 use Rattle.ttree.proofs.Fitness.{in_numbers, high_node, no_node_low}
 use Rattle.std.proofs.lemmas.Bool.{cases_lt}
 
 module _ {I : Type 0} (least most : ℕ) where
-  -- what fits as a whole fits in each part
-  pub fit-part : (c : List (Frame (Label I))) (t : Tree (Label I)) → IsTTree least most (plug c t) → IsTTree least most t
-  fit-part [] t f = f
-  fit-part (went_left x r ∷ c) t f = (fit-part c (node t x r) f).0
-  fit-part (went_right l x ∷ c) t f = (fit-part c (node l x t) f).2
-
   pub mendable_here : (was t : Tree (Label I)) → IsMendableTree least most was t → IsMendableHere least most t
   mendable_here was empty k = k
   mendable_here was (node l x r) k = k.0
@@ -119,8 +114,8 @@ module _ {I : Type 0} (least most : ℕ) where
 
   can_rise_at : (c : List (Frame (Label I))) (t : Tree (Label I)) → is_root c ≡ false → (was : Tree (Label I)) → IsTTree least most (plug c was) → StandsMended least most was t → CanRise least most (up (at c t))
   can_rise_at [] t e was f s = cc
-  can_rise_at (went_left x r ∷ c) t e was f s = record { was = node was x r; was_fit = f; here = joined_left was t x r (fit-part c (node was x r) f) s }
-  can_rise_at (went_right l x ∷ c) t e was f s = record { was = node l x was; was_fit = f; here = joined_right was t x l (fit-part c (node l x was) f) s }
+  can_rise_at (went_left x r ∷ c) t e was f s = record { was = node was x r; was_fit = f; here = joined_left was t x r (each_here (IsFit least most) c (node was x r) f) s }
+  can_rise_at (went_right l x ∷ c) t e was f s = record { was = node l x was; was_fit = f; here = joined_right was t x l (each_here (IsFit least most) c (node l x was) f) s }
 
   -- what has risen can rise on
   pub can-rise : (z : Zipper (Label I)) → is_root z.above ≡ false → HasRisen least most z → CanRise least most (up z)

@@ -7,7 +7,6 @@ use Rattle.mm_index.specs.Range.{NeverFalls}
 use Rattle.ttree_node.specs.Tree.{Tree, empty, node, Frame, went_left, went_right, Zipper, Label, plug, whole, list, items_of, left_of, right_of, list_until, list_from}
 use Rattle.ttree_node.specs.Laws.{before, after}
 use Rattle.ttree_node.proofs.Splits.{list-plug_split, list_until-from}
-use Rattle.ttree.specs.Shape.{EachNode}
 use Rattle.ttree.proofs.Narrowing.{Less-below, Greater-above}
 
 -- ---- a list inside another
@@ -77,9 +76,3 @@ module _ {I : Type 0} where
         let n : length (drop i xs) ≡ length xs - i = length-drop i xs in
         let is : get_or (list_from i z) 0 d ≡ get_or xs i d = get_or_append_left (drop i xs) (back z) d 0 (omega arith) ∙ get_or-drop i xs 0 d ∙ ap (λ k. get_or xs k d) (omega arith) in
         above_begin place (list_until i z) (list_from i z) (subst (λ (ws : List I). NeverFalls place ws) (list_cut i z) in_order) d (omega (arith, length-append (drop i xs) (back z))) (ap place is ∙ h)
-
-  -- ---- what holds at each node of the whole tree holds at each node of the tree at a place
-  pub each_here : (P : Tree (Label I) → Label I → Tree (Label I) → Type 0) (c : List (Frame (Label I))) (t : Tree (Label I)) → EachNode P (plug c t) → EachNode P t
-  each_here P [] t h = h
-  each_here P (went_left x r ∷ c) t h = (each_here P c (node t x r) h).0
-  each_here P (went_right l x ∷ c) t h = (each_here P c (node l x t) h).2

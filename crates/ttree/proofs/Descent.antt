@@ -9,7 +9,8 @@ use Rattle.ttree_node.specs.Tree.{Tree, empty, node, Frame, Zipper, Label, at, p
 use Rattle.ttree_node.specs.Laws.{before, after}
 use Rattle.ttree.specs.Shape.{HasItems, HasItemsInEach}
 use Rattle.ttree.specs.Searching.{IsCut, IsGap}
-use Rattle.ttree.proofs.Cuts.{below_cut, above_cut, each_here, All-inside, NeverFalls-inside, list_around, front, back}
+use Rattle.ttree.proofs.EachNode.{each_here}
+use Rattle.ttree.proofs.Cuts.{below_cut, above_cut, All-inside, NeverFalls-inside, list_around, front, back}
 
 module _ {I : Type 0} (place : I → Ordering) where
   -- what stands before the place's tree is below the range, and what stands after it is above

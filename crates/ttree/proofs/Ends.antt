@@ -7,16 +7,12 @@ use Rattle.std.proofs.lemmas.List.Elements.{All-append, All-weaker, Contains-app
 use Rattle.mm_index.specs.Range.{NeverFalls, from_range}
 use Rattle.mm_index.proofs.Ranged.{from_range_split}
 use Rattle.ttree_node.specs.Tree.{Tree, empty, node, Zipper, Label, whole, list, items_of, list_until, list_from}
-use Rattle.ttree.specs.Shape.{EachNode, IsFit, IsTTree, HasItems, HasItemsInEach}
+use Rattle.ttree.specs.Shape.{IsFit, IsTTree, HasItems, HasItemsInEach}
 use Rattle.ttree.specs.Searching.{taken, IsGap}
 use Rattle.ttree.specs.declared.turn.Seek.{Seek}
 use Rattle.ttree.specs.declared.turn.Seek.TheVariants.{Any, First}
+use Rattle.ttree.proofs.EachNode.{each_map}
 use Rattle.ttree.proofs.Cuts.{list_around, list_cut, front, back}
-
--- ---- a property of each node from another
-pub each_map : {I : Type 0} (P Q : Tree (Label I) → Label I → Tree (Label I) → Type 0) → ((l : Tree (Label I)) (x : Label I) (r : Tree (Label I)) → P l x r → Q l x r) → (t : Tree (Label I)) → EachNode P t → EachNode Q t
-each_map P Q f empty h = tt
-each_map P Q f (node l x r) h = (each_map P Q f l h.0, f l x r h.1, each_map P Q f r h.2)
 
 pub items_in_each : {I : Type 0} (least most : ℕ) (t : Tree (Label I)) → IsTTree least most t → HasItemsInEach most t
 items_in_each least most t h = each_map (IsFit least most) (HasItems most) (λ l x r k. k.items) t h

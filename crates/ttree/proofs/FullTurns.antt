@@ -5,13 +5,14 @@ use Rattle.ttree_node.specs.Tree.{Tree, empty, node, Label, height, is_node, lef
 use Rattle.ttree_node.specs.Seen.{child, opposite}
 use Rattle.ttree_node.specs.declared.node.Side.{Side}
 use Rattle.ttree_node.specs.declared.node.Side.TheVariants.{Root, Left, Right}
-use Rattle.ttree.specs.Shape.{ParentsAreFull}
+use Rattle.ttree.specs.Shape.{IsFullParent, ParentsAreFull}
 use Rattle.ttree.specs.Rising.{Leans, IsFilled, IsInnerFilled, with_child, outer_turned, inner_turned}
 use Rattle.ttree.specs.Fullness.{HasLeafOfOne, IsGrown, IsGrowing}
+use Rattle.ttree.proofs.EachNode.{each_child}
 use Rattle.ttree.proofs.Fitness.{high_node, node_high, low_no_node}
 use Rattle.ttree.proofs.Leaning.{leaning_node, children_stated}
 use Rattle.ttree.proofs.Rotating.{same_on}
-use Rattle.ttree.proofs.Fullness.{full_parent, low_full, full_here, full_child, full_above}
+use Rattle.ttree.proofs.Fullness.{full_parent, low_full, full_here, full_above}
 
 module _ {I : Type 0} where
   -- ---- a node with another child
@@ -112,7 +113,7 @@ module _ {I : Type 0} (most : ℕ) where
     outer-rotated_full side t u k rest f order g =
         let b : Tree (Label I) = child side t in
         let so = children_stated least most side b k.high_fit in let si = children_stated least most (opposite side) b k.high_fit in
-        let full = full_here most b (full_child most side t g.grown.parents) (omega (arith, k.high)) in
+        let full = full_here most b (each_child (IsFullParent most) side t g.grown.parents) (omega (arith, k.high)) in
         let same : u ≡ t = child_kept side t u rest (f.kept (omega (arith, full, ordered))) in
         subst (λ v. IsGrown most (outer_turned side v)) (sym same) (outer_grown side t g.grown.parents (omega (arith, k.high)) (omega (arith, so, si, order)))
 
@@ -122,16 +123,16 @@ module _ {I : Type 0} (most : ℕ) where
     inner-rotated_full side t u two k rest f order g =
         let b : Tree (Label I) = child side t in let b' : Tree (Label I) = child side u in
         let c : Tree (Label I) = child (opposite side) b in let c' : Tree (Label I) = child (opposite side) b' in
-        let bf : ParentsAreFull most b = full_child most side t g.grown.parents in
-        let cf : ParentsAreFull most c = full_child most (opposite side) b bf in
+        let bf : ParentsAreFull most b = each_child (IsFullParent most) side t g.grown.parents in
+        let cf : ParentsAreFull most c = each_child (IsFullParent most) (opposite side) b bf in
         let top : most ≤ length (items_of t) = full_above most side t g.grown.parents (leaning_node least most side t k) in
         let full : most ≤ length (items_of b) = full_here most b bf (omega (arith, k.high)) in
-        let rf : ParentsAreFull most (child (opposite side) t) = full_child most (opposite side) t g.grown.parents in
+        let rf : ParentsAreFull most (child (opposite side) t) = each_child (IsFullParent most) (opposite side) t g.grown.parents in
         elim (cases_lt 1 (height c)) [
           | inl high ↦
               let inner : most ≤ length (items_of c) = full_here most c cf high in
               let same : u ≡ t = child_kept side t u rest (f.kept (omega (arith, inner, ordered))) in
-              subst (λ v. IsGrown most (inner_turned side v)) (sym same) (inner_grown side t (high_node c (omega (arith, high))) rf (full_child most side b bf) cf top inner (λ h. full))
+              subst (λ v. IsGrown most (inner_turned side v)) (sym same) (inner_grown side t (high_node c (omega (arith, high))) rf (each_child (IsFullParent most) side b bf) cf top inner (λ h. full))
           | inr low ↦
               let leaf : height c ≡ 1 = omega (arith, low, order) in
               let one : length (items_of c) ≡ 1 = inner_of_one side b (g.leaning side (omega (arith, k.high))) leaf (omega (arith, leaf, order)) in

@@ -9,7 +9,7 @@ use Rattle.ttree.specs.Shape.{IsTTree, IsFit, IsFullParent, ParentsAreFull}
 use Rattle.ttree.specs.Rising.{IsMendedTo, IsNearTree, restated}
 use Rattle.ttree.specs.Fullness.{HasLeafOfOne, IsGrown, CanRiseFull, HasRisenFull}
 use Rattle.ttree.proofs.Fitness.{high_node}
-use Rattle.ttree.proofs.Cuts.{each_here}
+use Rattle.ttree.proofs.EachNode.{each_here}
 use Rattle.ttree.proofs.Growing.{leaf}
 
 module _ {I : Type 0} (most : ℕ) where
@@ -31,13 +31,6 @@ module _ {I : Type 0} (most : ℕ) where
   full_here (node empty x empty) f h = absurd (omega (arith, h))
   full_here (node (node a y b) x r) f h = f.1.left refl
   full_here (node empty x (node a y b)) f h = f.1.right refl
-
-  pub full_child : (side : Side) (t : Tree (Label I)) → ParentsAreFull most t → ParentsAreFull most (child side t)
-  full_child Root t f = tt
-  full_child Left empty f = tt
-  full_child Left (node l x r) f = f.0
-  full_child Right empty f = tt
-  full_child Right (node l x r) f = f.2
 
   pub full_above : (side : Side) (t : Tree (Label I)) → ParentsAreFull most t → is_node (child side t) ≡ true → most ≤ length (items_of t)
   full_above Root t f e = cc

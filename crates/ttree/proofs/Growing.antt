@@ -6,7 +6,7 @@ use Rattle.ttree_node.specs.declared.node.Side.{Side}
 use Rattle.ttree_node.specs.declared.node.Side.TheVariants.{Root, Left, Right}
 use Rattle.ttree.specs.Shape.{IsFit, IsTTree}
 use Rattle.ttree.specs.Mending.{CanRise}
-use Rattle.ttree.proofs.Cuts.{each_here}
+use Rattle.ttree.proofs.EachNode.{each_here}
 use Rattle.ttree.proofs.Fitness.{low_no_node}
 
 module _ {I : Type 0} where

@@ -4,7 +4,7 @@ use Rattle.std.proofs.lemmas.List.{length-append}
 use Rattle.std.proofs.lemmas.Bool.{cases_lt}
 use Rattle.ttree_node.specs.Tree.{Tree, empty, node, Label, list, size, height, stated, left_of, right_of, is_node}
 use Rattle.ttree.specs.Shape.{fib, IsNear, HasTrueHeight, IsOccupied, IsFit, IsTTree, IsBalanced, HasTrueHeights, HasItemsInEach, IsOccupiedThroughout}
-use Rattle.ttree.proofs.Ends.{each_map}
+use Rattle.ttree.proofs.EachNode.{each_map}
 use Rattle.ttree.proofs.Fitness.{stated-height}
 
 -- ---- the numbers of Fibonacci

@@ -105,13 +105,6 @@ module _ {I : Type 0} (least most : ℕ) where
   children_stated Right empty f = refl
   children_stated Right (node l x r) f = stated-height least most r f.2
 
-  pub children_fit : (side : Side) (t : Tree (Label I)) → IsTTree least most t → IsTTree least most (child side t)
-  children_fit Root t f = tt
-  children_fit Left empty f = tt
-  children_fit Left (node l x r) f = f.0
-  children_fit Right empty f = tt
-  children_fit Right (node l x r) f = f.2
-
   -- a place that was mended is in a tree of as many nodes
   pub size-mended : (z w : Zipper (Label I)) → w.above ≡ z.above → IsMendedTo least most z.here w.here → {t u : Tree (Label I)} → t ≡ whole z → u ≡ whole w → size u ≡ size t
   size-mended z w above m e f = ap (λ v. size v) f ∙ (λ i. size (plug (above i) w.here)) ∙ size-plug z.above w.here z.here m.nodes ∙ sym (ap (λ v. size v) e)

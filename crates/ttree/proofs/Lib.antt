@@ -4,6 +4,7 @@ pub mod Counting
 pub mod Cuts
 pub mod Descent
 pub mod Digits
+pub mod EachNode
 pub mod Ends
 pub mod Filling
 pub mod Fitness

@@ -1,11 +1,11 @@
 -- A node of a T-tree that lost an item.
 use Rattle.std.proofs.Common.{◌≡◌, ℕ, ◌+◌, ◌<◌, ◌≤◌, length, true, false, refl, sym, ap, ◌∙◌, subst, List, [], ◌∷◌, ◌⊎◌, arith, inl, inr}
 use Rattle.ttree_node.specs.Tree.{Tree, empty, node, Frame, went_left, went_right, Label, Zipper, at, plug, whole, height, size, is_node, is_root, is_leaf, has_left, has_right, left_of, items_of, new_items, up, without_leaf, with_tree, with_items, list}
-use Rattle.ttree.specs.Shape.{IsTTree}
+use Rattle.ttree.specs.Shape.{IsFit, IsTTree}
 use Rattle.ttree.specs.Mending.{CanRise, IsMendableTree}
 use Rattle.ttree.specs.Removing.{HasLost, HasLostBelow}
 use Rattle.ttree.proofs.Fitness.{high_node, node_high, no_node_low, in_numbers, some_items}
-use Rattle.ttree.proofs.Climbing.{fit-part}
+use Rattle.ttree.proofs.EachNode.{each_here}
 use Rattle.ttree.proofs.Replacing.{fit-new_items, kept-internal, size_merged}
 use Rattle.ttree_node.specs.Laws.{list-plug}
 use Rattle.ttree_node.specs.Seen.{child, merged}
@@ -41,7 +41,7 @@ module _ {I : Type 0} (least most : ℕ) where
       → (has_left was ≡ true → has_right was ≡ true → least ≤ length xs) → HasLostBelow least most (at c (new_items xs was))
   below_at c empty xs f one child internal = absurd (omega (arith, one))
   below_at c (node l w r) xs f one child internal =
-      let k = fit-part least most c (node l w r) f in let g = in_numbers least most l w r k.1 in
+      let k = each_here (IsFit least most) c (node l w r) f in let g = in_numbers least most l w r k.1 in
       record {
         was = node l w r;
         was_fit = f;
@@ -94,7 +94,7 @@ module _ {I : Type 0} (least most : ℕ) where
   leaf_above [] was xs e f one some a b = cc
   leaf_above c empty xs e f one some a b = absurd (omega (arith, one))
   leaf_above (went_left x r ∷ c) (node p w q) xs e f one some a b =
-      let k = fit-part least most c (node (node p w q) x r) f in let g = in_numbers least most (node p w q) x r k.1 in
+      let k = each_here (IsFit least most) c (node (node p w q) x r) f in let g = in_numbers least most (node p w q) x r k.1 in
       record {
         was = node (node p w q) x r;
         was_fit = f;
@@ -110,7 +110,7 @@ module _ {I : Type 0} (least most : ℕ) where
         right_half = λ h j. cc;
       }
   leaf_above (went_right l x ∷ c) (node p w q) xs e f one some a b =
-      let k = fit-part least most c (node l x (node p w q)) f in let g = in_numbers least most l x (node p w q) k.1 in
+      let k = each_here (IsFit least most) c (node l x (node p w q)) f in let g = in_numbers least most l x (node p w q) k.1 in
       record {
         was = node l x (node p w q);
         was_fit = f;
@@ -206,8 +206,8 @@ module _ {I : Type 0} (least most : ℕ) where
 
   dropped_at : (c : List (Frame (Label I))) (was : Tree (Label I)) → 1 ≤ least → IsTTree least most (plug c was) → height was ≡ 1 → is_node (up (at c empty)).here ≡ true → CanRise least most (up (at c empty))
   dropped_at [] was some f leaf e = cc
-  dropped_at (went_left x r ∷ c) was some f leaf e = record { was = node was x r; was_fit = f; here = dropped_left was x r some (fit-part least most c (node was x r) f) leaf }
-  dropped_at (went_right l x ∷ c) was some f leaf e = record { was = node l x was; was_fit = f; here = dropped_right was x l some (fit-part least most c (node l x was) f) leaf }
+  dropped_at (went_left x r ∷ c) was some f leaf e = record { was = node was x r; was_fit = f; here = dropped_left was x r some (each_here (IsFit least most) c (node was x r) f) leaf }
+  dropped_at (went_right l x ∷ c) was some f leaf e = record { was = node l x was; was_fit = f; here = dropped_right was x l some (each_here (IsFit least most) c (node l x was) f) leaf }
 
   same_height : (xs : List I) (t : Tree (Label I)) → height (new_items xs t) ≡ height t
   same_height xs empty = refl
@@ -276,4 +276,4 @@ module _ {I : Type 0} (least most : ℕ) where
   left_fits (node l x r) f = f.0
 
   pub lost-left_fit : (z : Zipper (Label I)) → HasLost least most z → IsTTree least most (left_of z.here)
-  lost-left_fit z k = subst (λ t. IsTTree least most (left_of t)) (sym k.same) (subst (λ t. IsTTree least most t) (sym (left_new_items (items_of z.here) k.was)) (left_fits k.was (fit-part least most z.above k.was k.was_fit)))
+  lost-left_fit z k = subst (λ t. IsTTree least most (left_of t)) (sym k.same) (subst (λ t. IsTTree least most t) (sym (left_new_items (items_of z.here) k.was)) (left_fits k.was (each_here (IsFit least most) z.above k.was k.was_fit)))

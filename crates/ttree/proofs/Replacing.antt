@@ -4,12 +4,12 @@ use Rattle.ttree_node.specs.Tree.{Tree, empty, node, Frame, went_left, went_righ
 use Rattle.ttree_node.specs.Seen.{child, opposite, child_on, merged}
 use Rattle.ttree_node.specs.declared.node.Side.{Side}
 use Rattle.ttree_node.specs.declared.node.Side.TheVariants.{Root, Left, Right}
-use Rattle.ttree.specs.Shape.{IsTTree}
+use Rattle.ttree.specs.Shape.{IsFit, IsTTree}
 use Rattle.ttree.specs.Mending.{CanRise, IsMendableTree}
 use Rattle.ttree.specs.Removing.{HasLostBelow}
 use Rattle.ttree.specs.Rising.{IsNearTree}
 use Rattle.ttree.proofs.Fitness.{low_no_node, no_node_low, in_numbers, from_numbers}
-use Rattle.ttree.proofs.Climbing.{fit-part}
+use Rattle.ttree.proofs.EachNode.{each_here}
 
 module _ {I : Type 0} (least most : ℕ) where
   in_left : (t u : Tree (Label I)) (x : Label I) (r : Tree (Label I)) → IsTTree least most (node t x r) → IsTTree least most u → height u ≡ height t → (height t ≡ 1 → length (items_of t) ≤ length (items_of u)) → IsTTree least most (node u x r)
@@ -50,9 +50,9 @@ module _ {I : Type 0} (least most : ℕ) where
   pub fit-replaced : (c : List (Frame (Label I))) (t u : Tree (Label I)) → IsTTree least most (plug c t) → IsTTree least most u → height u ≡ height t → (height t ≡ 1 → length (items_of t) ≤ length (items_of u)) → IsTTree least most (plug c u)
   fit-replaced [] t u f uf e more = uf
   fit-replaced (went_left x r ∷ c) t u f uf e more =
-      fit-replaced c (node t x r) (node u x r) f (in_left t u x r (fit-part least most c (node t x r) f) uf e more) (omega (arith, e)) (λ h. omega arith)
+      fit-replaced c (node t x r) (node u x r) f (in_left t u x r (each_here (IsFit least most) c (node t x r) f) uf e more) (omega (arith, e)) (λ h. omega arith)
   fit-replaced (went_right l x ∷ c) t u f uf e more =
-      fit-replaced c (node l x t) (node l x u) f (in_right t u x l (fit-part least most c (node l x t) f) uf e more) (omega (arith, e)) (λ h. omega arith)
+      fit-replaced c (node l x t) (node l x u) f (in_right t u x l (each_here (IsFit least most) c (node l x t) f) uf e more) (omega (arith, e)) (λ h. omega arith)
 
   -- a node with other items
   pub fit-new_items : (xs : List I) (t : Tree (Label I)) → IsTTree least most t → 0 < length xs → length xs ≤ most → (1 < height t → length (items_of t) ≤ length xs) → IsTTree least most (new_items xs t)
@@ -80,7 +80,7 @@ module _ {I : Type 0} (least most : ℕ) where
   -- a node with other items, in the whole tree
   pub whole-new_items : (c : List (Frame (Label I))) (t : Tree (Label I)) (xs : List I) → IsTTree least most (plug c t) → 0 < length xs → length xs ≤ most → length (items_of t) ≤ length xs → items_of (new_items xs t) ≡ xs → IsTTree least most (plug c (new_items xs t))
   whole-new_items c t xs f some room more is =
-      fit-replaced c t (new_items xs t) f (fit-new_items xs t (fit-part least most c t f) some room (λ h. more)) (height-new_items xs t) (λ h. subst (λ ys. length (items_of t) ≤ length ys) (sym is) more)
+      fit-replaced c t (new_items xs t) f (fit-new_items xs t (each_here (IsFit least most) c t f) some room (λ h. more)) (height-new_items xs t) (λ h. subst (λ ys. length (items_of t) ≤ length ys) (sym is) more)
 
   -- ---- nothing is merged or freed
 
