@@ -1,6 +1,6 @@
 -- From a place that is mended to the one above it.
 use Rattle.std.proofs.Common.{◌≡◌, ℕ, ◌+◌, ◌≤◌, ◌⊎◌, ◌∙◌, length, true, false, List, [], ◌∷◌, arith, inl, inr, sym, ap, subst}
-use Rattle.ttree_node.specs.Tree.{Tree, empty, node, Frame, went_left, went_right, Label, Zipper, at, plug, whole, height, is_node, is_root, has_left, has_right, items_of, new_height, up}
+use Rattle.ttree_node.specs.Tree.{Tree, empty, node, Frame, went_left, went_right, Label, Zipper, at, plug, whole, height, is_root, has_left, has_right, items_of, up}
 use Rattle.ttree.specs.Shape.{IsFit, IsTTree}
 use Rattle.ttree.specs.Mending.{IsMendable, StandsFor, IsMendableTree, CanRise, height_of}
 use Rattle.ttree.specs.Rising.{IsMendableHere, IsMendedTo, StandsMended, HasRisen, IsNearTree}
@@ -21,10 +21,6 @@ module _ {I : Type 0} (least most : ℕ) where
         | inl h ↦ inr (omega arith)
         | inr h ↦ elim (cases_lt (1 + height l) (height r)) [ inl k ↦ inr (omega arith) | inr k ↦ inl (h, k) ]
       ]
-
-  one_side : (l : Tree (Label I)) (x : Label I) (r : Tree (Label I)) (h : ℕ) → (is_node l ≡ false) ⊎ (is_node r ≡ false)
-      → (has_left (new_height h (node l x r)) ≡ false) ⊎ (has_right (new_height h (node l x r)) ≡ false)
-  one_side l x r h e = e
 
   pub mended : (was t u : Tree (Label I)) → IsMendableTree least most was t → IsMendedTo least most t u → StandsMended least most was u
   mended was empty u k m = absurd k

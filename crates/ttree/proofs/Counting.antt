@@ -10,7 +10,3 @@ module _ {P R : Type 0} (can_place : P → R → Type 0) (place : P → R → Or
     only = IsOnlyAsked-trans can_place place asked p q r h.only i.only;
     most = omega (arith, h.most, i.most);
   }
-
-  -- what is left to ask goes down by what was asked
-  pub asked_left : (k m n : ℕ) → IsAskedAtMost m can_place place asked q r → n + m ≤ k → asked q + k ≤ asked p → asked r + n ≤ asked p
-  asked_left k m n i l h = omega (arith, i.most)

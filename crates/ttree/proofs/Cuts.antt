@@ -1,10 +1,10 @@
 -- The list of a tree, cut at a place.
-use Rattle.std.proofs.Common.{◌≡◌, ℕ, ◌+◌, ◌-◌, ◌<◌, List, [], ◌∷◌, ◌++◌, length, get_or, take, drop, refl, sym, ap, subst, ◌∙◌, append_assoc, arith, Ordering}
+use Rattle.std.proofs.Common.{◌≡◌, ℕ, ◌+◌, ◌-◌, ◌<◌, List, ◌++◌, length, get_or, take, drop, refl, sym, ap, subst, ◌∙◌, append_assoc, arith, Ordering}
 use Rattle.std.specs.List.{All}
 use Rattle.std.specs.declared.cmp.Ordering.TheVariants.{Less, Greater}
 use Rattle.std.proofs.lemmas.List.{length-append, length-take-le, length-drop, get_or_append_left, get_or-append-add, get_or-take, get_or-drop, get_or_default}
 use Rattle.mm_index.specs.Range.{NeverFalls}
-use Rattle.ttree_node.specs.Tree.{Tree, empty, node, Frame, went_left, went_right, Zipper, Label, plug, whole, list, items_of, left_of, right_of, list_until, list_from}
+use Rattle.ttree_node.specs.Tree.{Tree, empty, node, Zipper, Label, whole, list, items_of, left_of, right_of, list_until, list_from}
 use Rattle.ttree_node.specs.Laws.{before, after}
 use Rattle.ttree_node.proofs.Splits.{list-plug_split, list_until-from}
 use Rattle.ttree.proofs.Narrowing.{Less-below, Greater-above}

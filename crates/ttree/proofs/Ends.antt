@@ -6,7 +6,7 @@ use Rattle.std.specs.Ordering.{ordering_index}
 use Rattle.std.proofs.lemmas.List.Elements.{All-append, All-weaker, Contains-append_left, Contains-append_right, Contains-get_or}
 use Rattle.mm_index.specs.Range.{NeverFalls, from_range}
 use Rattle.mm_index.proofs.Ranged.{from_range_split}
-use Rattle.ttree_node.specs.Tree.{Tree, empty, node, Zipper, Label, whole, list, items_of, list_until, list_from}
+use Rattle.ttree_node.specs.Tree.{Tree, Zipper, Label, whole, list, items_of, list_until, list_from}
 use Rattle.ttree.specs.Shape.{IsFit, IsTTree, HasItems, HasItemsInEach}
 use Rattle.ttree.specs.Searching.{taken, IsGap}
 use Rattle.ttree.specs.declared.turn.Seek.{Seek}
