@@ -3,6 +3,8 @@
 #![tactic(auto)]
 
 #[cfg(test)]
+mod exact_runs;
+#[cfg(test)]
 mod linear_hash;
 #[cfg(test)]
 mod linked_nodes;

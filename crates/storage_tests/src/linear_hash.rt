@@ -1,78 +1,13 @@
 //! Runs of the linear hash: its buckets and the references of a hash after inserts and removes, the plain bag beside
 //! it, and refused growths.
-ghost use Rattle.std.specs.Prelude.{◌^◌, ◌<◌, length, Contains, IfOk};
-ghost use Rattle.std.specs.Bool.{OnTrue};
 
+use crate::exact_runs::{add, fill, match_nine, numbered, slots, take, take_all};
 use lin_hash::LinHash;
 use mm_index::{ExactIndex, PlainBag};
 use part_raw::TupleRef;
 use plain_tables::NoMemory;
 use std::alloc::Global;
-use std::test::Fail;
-
-fn numbered(slot: u32) -> TupleRef {
-    TupleRef { part: 7, slot }
-}
-
-fn add<E: ExactIndex>(index: &mut E, hash: u64, r: TupleRef) -> Result<(), NoMemory> {
-    index.reserve(1)?;
-    if index.len() < 4_294_967_296 {
-        index.insert(hash, r);
-    }
-    Ok(())
-}
-
-// One reference for each hash from 0 to `last`.
-fn fill(index: &mut LinHash, last: u32) -> Result<(), NoMemory> {
-    for slot in 0..=last {
-        add(index, u64::from(slot), numbered(slot))?;
-    }
-    Ok(())
-}
-
-fn holds<E: ExactIndex>(
-    index: &E,
-    hash: u64,
-    r: TupleRef,
-    found: &mut Vec<TupleRef>,
-) -> Result<bool, NoMemory>
-    ensures { IfOk result (λ held. OnTrue held (Contains (E.entries index.now) (hash, r))) }
-{
-    found.clear();
-    index.matching(hash, found)?;
-    if found.as_slice().contains(&r) {
-        Ok(true)
-    } else {
-        Ok(false)
-    }
-}
-
-// Removes a pair where it is there, and says whether it was.
-fn take<E: ExactIndex>(
-    index: &mut E,
-    hash: u64,
-    r: TupleRef,
-    found: &mut Vec<TupleRef>,
-) -> Result<bool, NoMemory> {
-    let held = holds(index, hash, r, found)?;
-    if held {
-        index.remove(hash, r);
-    }
-    Ok(held)
-}
-
-// Removes the references of these hashes.
-fn take_all(
-    index: &mut LinHash,
-    hashes: &[u32],
-    found: &mut Vec<TupleRef>,
-) -> Result<bool, NoMemory> {
-    let mut all = true;
-    for slot in hashes {
-        all = take(index, u64::from(*slot), numbered(*slot), found)? && all;
-    }
-    Ok(all)
-}
+use std::process::Abort;
 
 fn count_of(index: &LinHash, hash: u64) -> u64 {
     let mut count = 0u64;
@@ -80,15 +15,6 @@ fn count_of(index: &LinHash, hash: u64) -> u64 {
         count = count.saturating_add(1);
     }
     count
-}
-
-// The slots of the references with a hash, in rising order.
-fn slots<E: ExactIndex>(alloc: Global, index: &E, hash: u64) -> Result<Vec<u32>, NoMemory> {
-    let mut found = Vec::new(alloc);
-    index.matching(hash, &mut found)?;
-    let mut slots: Vec<u32> = found.iter().map(|r| r.slot).collect(alloc)?;
-    slots.sort_unstable();
-    Ok(slots)
 }
 
 fn next_seed(seed: u64) -> u64 {
@@ -172,91 +98,84 @@ fn replay(alloc: Global, limit: u64) -> Result<bool, NoMemory> {
     Ok(right)
 }
 
+fn sizes_are(rt: &impl Abort, index: &LinHash, len: usize, buckets: usize) {
+    assert_eq!(rt; index.len(), len);
+    assert_eq!(rt; index.buckets(), buckets);
+}
+
+// The hash of the slot has one reference, the slot's.
+fn has_own(rt: &impl Abort, alloc: Global, index: &LinHash, slot: u32) {
+    let found = slots(alloc, index, u64::from(slot)).expect(rt, "memory");
+    assert_eq!(rt; found.as_slice(), [slot].as_slice());
+    assert_eq!(rt; count_of(index, u64::from(slot)), 1);
+}
+
+fn shrink(rt: &impl Abort, alloc: Global, index: &mut LinHash, hashes: &[u32]) {
+    let all = take_all(alloc, index, hashes).expect(rt, "memory");
+    assert!(rt; all);
+}
+
 #[test]
-fn hash_buckets(rt: HostRuntime) -> Result<(), Fail> {
-    let mut found = Vec::new(rt.alloc());
+fn hash_buckets(rt: HostRuntime) {
     let mut index = LinHash::new(rt.alloc());
-    assert_eq!(rt; index.buckets(), 4);
-    fill(&mut index, 7)?;
-    assert_eq!(rt; index.buckets(), 4);
-    add(&mut index, 8, numbered(8))?;
-    assert_eq!(rt; (index.len(), index.buckets()), (9, 5));
-    for slot in [8, 4, 0] {
-        assert_eq!(rt;
-            slots(rt.alloc(), &index, u64::from(slot))?.as_slice(),
-            [slot].as_slice()
-        );
-        assert_eq!(rt; count_of(&index, u64::from(slot)), 1);
-    }
-    assert!(rt; take_all(&mut index, &[8, 7, 6, 5, 4, 3], &mut found)?);
-    assert_eq!(rt; index.buckets(), 5);
-    assert!(rt; take_all(&mut index, &[2], &mut found)?);
-    assert_eq!(rt; (index.len(), index.buckets()), (2, 4));
-    Ok(())
+    sizes_are(&rt, &index, 0, 4);
+    fill(&mut index, 7).expect(&rt, "memory");
+    sizes_are(&rt, &index, 8, 4);
+    add(&mut index, 8, numbered(8)).expect(&rt, "memory");
+    sizes_are(&rt, &index, 9, 5);
+    has_own(&rt, rt.alloc(), &index, 8);
+    has_own(&rt, rt.alloc(), &index, 4);
+    has_own(&rt, rt.alloc(), &index, 0);
+    shrink(&rt, rt.alloc(), &mut index, &[8, 7, 6, 5, 4, 3]);
+    sizes_are(&rt, &index, 3, 5);
+    shrink(&rt, rt.alloc(), &mut index, &[2]);
+    sizes_are(&rt, &index, 2, 4);
+}
+
+fn agrees(rt: &impl Abort, alloc: Global, limit: u64) {
+    let right = replay(alloc, limit).expect(rt, "memory");
+    assert!(rt; right);
 }
 
 #[test]
-fn few_hashes_beside_the_plain_bag(rt: HostRuntime) -> Result<(), Fail> {
-    assert!(rt; replay(rt.alloc(), 5)?);
-    Ok(())
+fn few_hashes_beside_the_plain_bag(rt: HostRuntime) {
+    agrees(&rt, rt.alloc(), 5);
 }
 
 #[test]
-fn many_hashes_beside_the_plain_bag(rt: HostRuntime) -> Result<(), Fail> {
-    assert!(rt; replay(rt.alloc(), 1_000_000_007)?);
-    Ok(())
+fn many_hashes_beside_the_plain_bag(rt: HostRuntime) {
+    agrees(&rt, rt.alloc(), 1_000_000_007);
 }
 
 // After one `reserve` no insert takes memory, with removes between.
 #[test]
-fn inserts_after_one_reserve(rt: HostRuntime) -> Result<(), Fail> {
-    let mut found = Vec::new(rt.alloc());
+fn inserts_after_one_reserve(rt: HostRuntime) {
     let mut index = LinHash::new(rt.alloc());
-    index.reserve(1_000)?;
+    index.reserve(1_000).expect(&rt, "memory");
     index.release_spares();
-    assert_eq!(rt; index.buckets(), 4);
-    index.reserve(1_000)?;
-    fill(&mut index, 500)?;
-    assert!(rt; take_all(&mut index, &[1, 2, 3, 500], &mut found)?);
-    assert_eq!(rt; (index.len(), index.buckets()), (497, 251));
-    Ok(())
+    sizes_are(&rt, &index, 0, 4);
+    index.reserve(1_000).expect(&rt, "memory");
+    fill(&mut index, 500).expect(&rt, "memory");
+    shrink(&rt, rt.alloc(), &mut index, &[1, 2, 3, 500]);
+    sizes_are(&rt, &index, 497, 251);
 }
 
 // Passes with ample memory, and with any growth refused: after an `Err` the pairs are as before.
 #[test]
 fn reserve_under_refusal(rt: HostRuntime) {
     let mut index = LinHash::new(rt.alloc());
-    if fill(&mut index, 9).is_ok() {
-        let done = index.reserve(1_000).is_ok();
-        assert_eq!(rt; (index.len(), index.buckets()), (10, 5));
-        assert_eq!(rt; (count_of(&index, 1), count_of(&index, 9)), (1, 1));
-        if done {
-            index.release_spares();
-            assert_eq!(rt; (index.len(), count_of(&index, 9)), (10, 1));
-        }
-    } else {
-        assert!(rt; index.len() < 10);
-        assert_eq!(rt; count_of(&index, 9), 0);
+    if fill(&mut index, 9).is_err() {
+        assert!(rt; index.len() < 10 && count_of(&index, 9) == 0);
+        return;
     }
+    if index.reserve(1_000).is_ok() {
+        index.release_spares();
+    }
+    sizes_are(&rt, &index, 10, 5);
+    assert!(rt; count_of(&index, 1) == 1 && count_of(&index, 9) == 1);
 }
 
 #[test]
 fn matching_under_refusal(rt: HostRuntime) {
-    let mut index = LinHash::new(rt.alloc());
-    let mut out = Vec::new(rt.alloc());
-    if out.push(numbered(9)).is_err() {
-        return;
-    }
-    for _ in 0..9 {
-        if fill(&mut index, 1).is_err() {
-            return;
-        }
-    }
-    if index.matching(0, &mut out).is_ok() {
-        assert_eq!(rt; out.len(), 10);
-        assert!(rt; out.iter().skip(1).all(|r| *r == numbered(0)));
-    } else {
-        assert_eq!(rt; out.as_slice(), [numbered(9)].as_slice());
-    }
-    assert_eq!(rt; index.len(), 18);
+    let _ = match_nine(&rt, rt.alloc(), &mut LinHash::new(rt.alloc()));
 }

@@ -2,9 +2,9 @@
 
 use part_raw::{Partitions, TupleRef};
 use plain_tables::NoMemory;
+use std::alloc::Global;
 use std::cell::Cell;
 use std::process::Abort;
-use std::test::*;
 
 const MOST: u64 = 1 << 40;
 
@@ -20,108 +20,128 @@ impl Drop for Counted<'_> {
     }
 }
 
-/// `put` with a `reserve` before it where no slot is free.
-fn put_reserved<T: Drop>(
-    rt: &impl Abort,
-    store: &mut Partitions<T>,
-    tuple: T,
-) -> Result<TupleRef, NoMemory> {
+fn counts_are<T>(rt: &impl Abort, store: &Partitions<T>, len: u64, free: u64) {
+    assert_eq!(rt; store.len(), len);
+    assert_eq!(rt; store.free(), free);
+}
+
+fn reserve<T>(rt: &impl Abort, store: &mut Partitions<T>) -> Result<(), NoMemory> {
     assert!(rt; store.len() + store.free() < MOST);
-    store.reserve()?;
+    store.reserve()
+}
+
+/// `put` where a slot is free.
+fn put<T: Drop>(rt: &impl Abort, store: &mut Partitions<T>, tuple: T) -> TupleRef {
     assert!(rt; store.free() > 0);
-    Ok(store.put(tuple))
+    store.put(tuple)
 }
 
-#[test]
-fn partition_slots(rt: HostRuntime) -> Result<(), Fail> {
-    let mut store = Partitions::new(rt.alloc());
-    assert_eq!(rt; (store.len(), store.free()), (0, 0));
-    assert!(rt; store.len() + store.free() < MOST);
-    store.reserve()?;
-    assert_eq!(rt; store.free(), 256);
-    let mut refs = Vec::new(rt.alloc());
+fn put_reserved<T: Drop>(rt: &impl Abort, store: &mut Partitions<T>, tuple: T) -> TupleRef {
+    reserve(rt, store).expect(rt, "memory");
+    put(rt, store, tuple)
+}
+
+fn take<T>(rt: &impl Abort, store: &mut Partitions<T>, r: TupleRef) -> T {
+    assert!(rt; store.holds(r));
+    store.take(r)
+}
+
+fn holds_number(rt: &impl Abort, store: &Partitions<u64>, r: TupleRef, number: u64) {
+    assert!(rt; store.holds(r));
+    assert_eq!(rt; *store.get(r), number);
+}
+
+/// Puts 0, 3, 6 and so on into 256 free slots.
+fn fill(rt: &impl Abort, alloc: Global, store: &mut Partitions<u64>) -> Vec<TupleRef> {
+    let mut refs = Vec::new(alloc);
     for i in 0..256u64 {
-        assert!(rt; store.free() > 0);
-        let r = store.put(i * 3);
-        assert!(rt;
-            !refs.as_slice().contains(&r),
-            "a reference was given twice"
-        );
-        refs.push(r)?;
+        let r = put(rt, store, i * 3);
+        refs.push(r).expect(rt, "memory");
     }
-    assert_eq!(rt; store.free(), 0);
-    assert_eq!(rt; store.len(), 256);
-    for (i, r) in refs.iter().enumerate() {
-        assert!(rt; store.holds(*r));
-        assert_eq!(rt; *store.get(*r), i as u64 * 3);
+    refs
+}
+
+/// The tuples of these references are 0, 3, 6 and so on. So no reference stands there twice.
+fn hold_multiples(rt: &impl Abort, store: &Partitions<u64>, refs: &[TupleRef]) {
+    let mut number = 0u64;
+    for r in refs {
+        holds_number(rt, store, *r, number);
+        number = number.wrapping_add(3);
     }
-    assert!(rt; refs.len() > 0);
-    let first = refs[0];
-    assert!(rt; store.holds(first));
-    assert_eq!(rt; store.take(first), 0);
-    assert!(rt; !store.holds(first));
-    assert_eq!(rt; store.free(), 1);
-    Ok(())
 }
 
 #[test]
-fn writes_stay(rt: HostRuntime) -> Result<(), Fail> {
+fn partition_slots(rt: HostRuntime) {
     let mut store = Partitions::new(rt.alloc());
-    let one = put_reserved(&rt, &mut store, 1u8)?;
-    let two = put_reserved(&rt, &mut store, 2u8)?;
+    counts_are(&rt, &store, 0, 0);
+    reserve(&rt, &mut store).expect(&rt, "memory");
+    let refs = fill(&rt, rt.alloc(), &mut store);
+    counts_are(&rt, &store, 256, 0);
+    hold_multiples(&rt, &store, &refs);
+    assert_eq!(rt; refs.len(), 256);
+    assert_eq!(rt; take(&rt, &mut store, refs[0]), 0);
+    assert!(rt; !store.holds(refs[0]));
+    counts_are(&rt, &store, 255, 1);
+}
+
+#[test]
+fn writes_stay(rt: HostRuntime) {
+    let mut store = Partitions::new(rt.alloc());
+    let one = put_reserved(&rt, &mut store, 1u8);
+    let two = put_reserved(&rt, &mut store, 2u8);
     assert!(rt; store.holds(one));
     *store.get_mut(one) = 7;
-    assert!(rt; store.holds(one) && store.holds(two));
-    assert_eq!(rt; (*store.get(one), *store.get(two)), (7, 2));
-    let past = TupleRef { part: 0, slot: 256 };
-    let elsewhere = TupleRef { part: 1, slot: 0 };
-    assert!(rt; !store.holds(past) && !store.holds(elsewhere));
-    Ok(())
+    assert!(rt; !store.holds(TupleRef { part: 0, slot: 256 }));
+    assert!(rt; !store.holds(TupleRef { part: 1, slot: 0 }));
+    assert_eq!(rt; take(&rt, &mut store, one), 7);
+    assert_eq!(rt; take(&rt, &mut store, two), 2);
+}
+
+/// Takes the tuple of each third reference out and drops it.
+fn drop_thirds<T: Drop>(rt: &impl Abort, store: &mut Partitions<T>, refs: &[TupleRef]) {
+    for r in refs.iter().step_by(3) {
+        drop(take(rt, store, *r));
+    }
 }
 
 #[test]
-fn drops_each_tuple_once(rt: HostRuntime) -> Result<(), Fail> {
+fn drops_each_tuple_once(rt: HostRuntime) {
     let drops = Cell::new(0);
     let mut store = Partitions::new(rt.alloc());
     let mut refs = Vec::new(rt.alloc());
     for _ in 0..600 {
-        let r = put_reserved(&rt, &mut store, Counted { drops: &drops })?;
-        refs.push(r)?;
+        let r = put_reserved(&rt, &mut store, Counted { drops: &drops });
+        refs.push(r).expect(&rt, "memory");
     }
-    assert_eq!(rt; (store.len(), store.free()), (600, 168));
+    counts_are(&rt, &store, 600, 168);
     assert_eq!(rt; drops.get(), 0);
-    for r in refs.iter().step_by(3) {
-        assert!(rt; store.holds(*r));
-        drop(store.take(*r));
-    }
+    drop_thirds(&rt, &mut store, &refs);
     assert_eq!(rt; drops.get(), 200);
-    assert_eq!(rt; (store.len(), store.free()), (400, 368));
+    counts_are(&rt, &store, 400, 368);
     drop(store);
     assert_eq!(rt; drops.get(), 600);
-    Ok(())
+}
+
+/// Fills one partition more, where there is memory for it.
+fn grow(rt: &impl Abort, store: &mut Partitions<u64>) {
+    let (len, free) = (store.len(), store.free());
+    if reserve(rt, store).is_err() {
+        counts_are(rt, store, len, free);
+        return;
+    }
+    counts_are(rt, store, len, 256);
+    let mut last = put(rt, store, len);
+    for _ in 1..256 {
+        last = put(rt, store, len);
+    }
+    assert_eq!(rt; store.free(), 0);
+    holds_number(rt, store, last, len);
 }
 
 #[test]
-fn reserve_under_refusal(rt: HostRuntime) -> Result<(), Fail> {
+fn reserve_under_refusal(rt: HostRuntime) {
     let mut store = Partitions::new(rt.alloc());
     for _ in 0..3 {
-        let before = (store.len(), store.free());
-        assert!(rt; store.len() + store.free() < MOST);
-        if store.reserve().is_err() {
-            assert_eq!(rt; (store.len(), store.free()), before);
-            continue;
-        }
-        assert_eq!(rt; (store.len(), store.free()), (before.0, 256));
-        let mut last = None;
-        for _ in 0..256 {
-            assert!(rt; store.free() > 0);
-            last = Some(store.put(before.0));
-        }
-        assert_eq!(rt; store.free(), 0);
-        for r in last.iter() {
-            assert!(rt; store.holds(*r));
-            assert_eq!(rt; *store.get(*r), before.0);
-        }
+        grow(&rt, &mut store);
     }
-    Ok(())
 }
