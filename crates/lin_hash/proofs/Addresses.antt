@@ -1,9 +1,8 @@
 -- What a split changes in the buckets of the hashes.
-use Rattle.std.proofs.Common.{◌≡◌, ◌≢◌, ℕ, ◌+◌, ◌*◌, ◌%◌, ◌/◌, ◌<◌, ◌≤◌, ◌⊎◌, inl, inr, sym, ◌∙◌, arith, lit<}
+use Rattle.std.proofs.Common.{◌≡◌, ◌≢◌, ℕ, ◌+◌, ◌*◌, ◌%◌, ◌/◌, ◌<◌, ◌≤◌, ◌⊎◌, inl, inr, refl, sym, ◌∙◌, arith, lit<}
 use Rattle.std.proofs.Math.Arith.{mod-mul}
 use Rattle.std.proofs.Math.Nat.{mod-lt}
-use Rattle.std.proofs.lemmas.Bool.{cases_lt}
-use Rattle.std.proofs.lemmas.Grind.{common_steps}
+use Rattle.std.proofs.lemmas.Bool.{cases_lt, lt-ltb, le-ltb}
 use Rattle.lin_hash.specs.Address.{bucket_by}
 
 -- the long modulus leads to the same bucket as the short one, or to the bucket that was split off it
@@ -18,10 +17,10 @@ long_or_short h short pos =
 
 -- the two cases of an address
 pub bucket_by-below : (short mark h : ℕ) → h % short < mark → bucket_by short mark h ≡ h % (2 * short)
-bucket_by-below short mark h l = grind (arith, common_steps)
+bucket_by-below short mark h l = rw (lt-ltb (h % short) mark l) refl
 
 pub bucket_by-from : (short mark h : ℕ) → mark ≤ h % short → bucket_by short mark h ≡ h % short
-bucket_by-from short mark h l = grind (arith, common_steps)
+bucket_by-from short mark h l = rw (le-ltb (h % short) mark l) refl
 
 pub bucket_by-lt : (short mark h : ℕ) → 0 < short → mark ≤ short → bucket_by short mark h < short + mark
 bucket_by-lt short mark h pos within =

@@ -5,8 +5,8 @@ use Rattle.std.proofs.lemmas.List.{get_or-set_same, get_or-set_other, length-set
 use Rattle.std.proofs.lemmas.List.Elements.{All-head, All-tail, All-cons, All-same, All-append}
 use Rattle.std.proofs.Math.Seq.{get_or-append_seam}
 use Rattle.std.proofs.lemmas.List.Sums.{get_or-le-sum_by}
-use Rattle.std.proofs.lemmas.Bool.{cases_lt, cases_order}
-use Rattle.std.proofs.lemmas.Grind.{common_steps}
+use Rattle.std.proofs.lemmas.Bool.{cases_lt, cases_order, eq-eqb}
+use Rattle.std.proofs.lemmas.Bool.Decides.{eqb_tells}
 use Rattle.mm_index.specs.Bag.{IsSameBag}
 use Rattle.lin_hash.specs.Address.{bucket_by, IsPlaced}
 use Rattle.mm_index.proofs.Bags.{IsSameBag-sym}
@@ -18,10 +18,10 @@ abbrev miss : ℕ → ℕ → ℕ
 miss i m = cond (not (m == i)) 1 0
 
 miss-same : (i m : ℕ) → m ≡ i → miss i m ≡ 0
-miss-same i m e = grind (arith, common_steps)
+miss-same i m e = rw (eq-eqb m i e) refl
 
 same-from_miss : (i m : ℕ) → miss i m ≡ 0 → m ≡ i
-same-from_miss i m e = grind (arith, common_steps)
+same-from_miss i m e = elim (eqb_tells m i) [ inl same ↦ same.1 | inr other ↦ let one : miss i m ≡ 1 = rw other.0 refl in absurd (omega arith) ]
 
 -- what holds of all elements of a bag holds in each order of it
 module _ {A : Type 0} (n : A → ℕ) (i : ℕ) where

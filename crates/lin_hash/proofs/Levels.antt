@@ -1,12 +1,11 @@
 -- The buckets at a level and a mark, through an insert, a remove, a split and a fold.
 use Rattle.std.proofs.Common.{◌≡◌, ◌≢◌, ℕ, ◌+◌, ◌-◌, ◌*◌, ◌%◌, ◌^◌, ◌<◌, ◌≤◌, inl, inr, List, [], ◌∷◌, ◌++◌, length, get_or, set, refl, sym, ap, ◌∙◌, arith, subst, lit<, add-one, replicate, ◌==◌, false}
 use Rattle.std.specs.Prelude.{map}
-use Rattle.std.proofs.lemmas.Grind.{common_steps}
 use Rattle.std.specs.List.{All, Contains}
 use Rattle.std.proofs.lemmas.List.{length-set, length-append, get_or-replicate}
 use Rattle.std.proofs.lemmas.List.Elements.{All-contains}
 use Rattle.std.proofs.lemmas.Nat.{pow_pos}
-use Rattle.std.proofs.lemmas.Bool.{cases_lt}
+use Rattle.std.proofs.lemmas.Bool.{cases_lt, ne_eqb}
 use Rattle.std.proofs.Math.Nat.{pow-suc, pow-le-pow_right}
 use Rattle.mm_index.specs.Bag.{IsSameBag, with_hash}
 use Rattle.lin_hash.specs.Address.{bucket_of, bucket_by, IsPlaced, IsAddressed}
@@ -176,7 +175,7 @@ buckets_few level mark bs h =
 
 -- a hash's entries all stand in its bucket
 another_hash : (m hash : ℕ) → m ≢ hash → (m == hash) ≡ false
-another_hash m hash ne = grind (arith, common_steps)
+another_hash m hash ne = ne_eqb m hash ne
 
 pub with_hash-bucket : {A : Type 0} (level mark : ℕ) (bs : List (List (ℕ × A))) → IsAddressed level mark bs → (hash i : ℕ) → i ≡ bucket_of level mark hash → with_hash hash (get_or bs i []) ≡ with_hash hash (joined bs)
 with_hash-bucket level mark bs h hash i at =

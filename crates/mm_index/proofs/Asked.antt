@@ -1,13 +1,12 @@
 -- A probe that is asked again and again is only asked.
-use Rattle.std.proofs.Common.{◌≡◌, ℕ, ◌+◌, ◌≤◌, refl, ◌∙◌, arith, Ordering}
-use Rattle.std.proofs.lemmas.Grind.{common_steps}
+use Rattle.std.proofs.Common.{◌≡◌, ℕ, ◌+◌, ◌≤◌, true, false, cond, ltb, refl, ◌∙◌, arith, Ordering}
 use Rattle.mm_index.specs.Asking.{counted, IsOnlyAsked}
 
 counted-ge : (n : ℕ) → n ≤ counted n
-counted-ge n = grind (arith, common_steps)
+counted-ge n = elim (ltb n 18446744073709551615) as (λ b. n ≤ cond b (n + 1) n) [ true ↦ omega arith | false ↦ omega arith ]
 
 pub counted-le : (n : ℕ) → counted n ≤ n + 1
-counted-le n = grind (arith, common_steps)
+counted-le n = elim (ltb n 18446744073709551615) as (λ b. cond b (n + 1) n ≤ n + 1) [ true ↦ omega arith | false ↦ omega arith ]
 
 module _ {P R : Type 0} (can_place : P → R → Type 0) (place : P → R → Ordering) (asked : P → ℕ) where
   pub IsOnlyAsked-refl : (p : P) → IsOnlyAsked can_place place asked p p

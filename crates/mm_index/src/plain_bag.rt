@@ -67,8 +67,8 @@ impl ExactIndex for PlainBag {
 
     fn matching(&self, hash: u64, out: &mut Vec<TupleRef>) -> Result<(), NoMemory> {
         let before = out.len();
-        for (held, r) in &self.pairs {
-            if *held == hash && out.push(*r).is_err() {
+        for r in self.chain(hash) {
+            if out.push(r).is_err() {
                 out.truncate(before);
                 return Err(NoMemory);
             }

@@ -84,8 +84,9 @@ impl OrderedIndex for SortedVec {
     }
 
     fn find<P: Probe>(&self, probe: &mut P) -> Option<TupleRef> {
-        let first = first_not_below(self.refs.as_slice(), probe);
-        let r = *self.refs.get(first)?;
+        let refs = self.refs.as_slice();
+        let first = first_not_below(refs, probe);
+        let r = *refs.get(first)?;
         if probe.place(r).is_eq() {
             Some(r)
         } else {

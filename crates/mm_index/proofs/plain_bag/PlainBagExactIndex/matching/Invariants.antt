@@ -1,8 +1,9 @@
-use Rattle.std.proofs.Common.{◌≡◌, ◌++◌, length, take}
-use Rattle.mm_index.specs.Bag.{with_hash}
+use Rattle.std.proofs.Common.{◌≡◌, ◌++◌, length}
 use Rattle.mm_index.proofs.plain_bag.PlainBagExactIndex.matching.Given as goal
 
-abbrev pub invariant-loop-held : goal.invariant-loop-held
-invariant-loop-held l =
-    (l.before ≡ length l.fn.out.items)
-    × (l.out.items ≡ l.fn.out.items ++ with_hash l.hash (take l.held-index l.held-items))
+abbrev pub invariant-loop-r : goal.invariant-loop-r
+invariant-loop-r l = record {
+  before : l.before ≡ length l.fn.out.items;
+  added : l.out.items ≡ l.fn.out.items ++ l.yielded;
+  left : l.yielded ++ l.r-iterator ≡ l.initial.r-iterator;
+}
