@@ -1,5 +1,5 @@
-//! The tests of plain_tables and of the storage crates, by their public calls alone. They stand in a crate of
-//! their own, since a crate with tests is proved twice.
+//! The tests of the storage crates, by their public calls alone. They stand in a crate of their own, since a crate
+//! with tests is proved twice.
 #![tactic(auto)]
 
 #[cfg(test)]
@@ -12,5 +12,3 @@ mod linked_nodes;
 mod partitions;
 #[cfg(test)]
 mod plain_indexes;
-#[cfg(test)]
-mod texts_and_refusals;
