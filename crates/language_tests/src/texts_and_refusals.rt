@@ -1,7 +1,8 @@
-//! The numbers and words of refusals, the words of want of memory, and a text's copy.
+//! The numbers and words of refusals, and texts and sequences from what they are made of.
 
-use plain_tables::{NoMemory, Refusal, Text};
+use plain_tables::{NoMemory, Refusal, Sequence, Text};
 use std::alloc::{AllocError, Global};
+use std::test::Fail;
 
 /// A refusal of each kind, in the order of `TOLD`.
 const REFUSALS: [Refusal; 26] = [
@@ -80,9 +81,32 @@ fn refusals_have_their_numbers_and_words(rt: HostRuntime) {
 }
 
 #[test]
-fn a_text_is_copied(rt: HostRuntime) {
-    let copy = Text::from_str(rt.alloc(), "é_1").expect(&rt, "memory");
+fn a_text_is_copied(rt: HostRuntime) -> Result<(), Fail> {
+    let copy = Text::from_str(rt.alloc(), "é_1")?;
     assert_eq!(rt; copy.as_str(), "é_1");
+    assert_eq!(rt; copy.as_bytes(), [0xc3, 0xa9, b'_', b'1'].as_slice());
+    assert_eq!(rt; Text::from_string(copy.into_string()).as_str(), "é_1");
+    Ok(())
+}
+
+#[test]
+fn a_text_is_copied_under_refusal(rt: HostRuntime) {
+    match Text::from_str(rt.alloc(), "Ann") {
+        Ok(copy) => assert_eq!(rt; copy.as_str(), "Ann"),
+        Err(refused) => assert_eq!(rt; refused, NoMemory),
+    }
+}
+
+#[test]
+fn a_sequence_keeps_a_vec(rt: HostRuntime) -> Result<(), Fail> {
+    let mut numbers = Sequence::from_vec(vec![in rt.alloc(); 3, 1, 2]?);
+    assert!(rt; !numbers.is_empty());
+    assert_eq!(rt; numbers.len(), 3);
+    assert_eq!(rt; numbers.as_slice(), [3, 1, 2].as_slice());
+    numbers.as_mut_slice()[1] = 7;
+    assert_eq!(rt; numbers.into_vec().as_slice(), [3, 7, 2].as_slice());
+    assert!(rt; Sequence::<u8>::new(rt.alloc()).is_empty());
+    Ok(())
 }
 
 #[test]
