@@ -9,8 +9,8 @@ use crate::chain::Chain;
 use crate::spares::Spares;
 use crate::table::{FIRST_BUCKETS, Table};
 use mm_index::ExactIndex;
+use no_memory::NoMemory;
 use part_raw::TupleRef;
-use plain_tables::NoMemory;
 use std::alloc::Global;
 use std::marker::Model;
 

@@ -2,8 +2,8 @@
 ghost use Rattle.std.specs.Prelude.{◌≡◌, ◌+◌, ◌^◌, ◌<◌, ◌≤◌, OnOk, max};
 
 use crate::bucket::{Bucket, Node};
+use no_memory::NoMemory;
 use part_raw::TupleRef;
-use plain_tables::NoMemory;
 use std::alloc::Global;
 use std::marker::Model;
 

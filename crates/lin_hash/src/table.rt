@@ -5,8 +5,8 @@ ghost use Rattle.lin_hash.specs.Address.{bucket_of};
 ghost use Rattle.lin_hash.specs.Chain.{entry_of, lent_entries};
 
 use crate::bucket::{Bucket, Node};
+use no_memory::NoMemory;
 use part_raw::TupleRef;
-use plain_tables::NoMemory;
 use std::alloc::Global;
 use std::marker::Model;
 

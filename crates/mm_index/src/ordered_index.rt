@@ -8,8 +8,8 @@ ghost use Rattle.mm_index.specs.Range.{NeverFalls, in_range};
 
 use crate::probe::Probe;
 use crate::tuple_order::TupleOrder;
+use no_memory::NoMemory;
 use part_raw::TupleRef;
-use plain_tables::NoMemory;
 
 /// A list of references that rises by an order. The order is handed in with each call that needs
 /// it, and may change between calls as long as the list rises by the one that is handed in.

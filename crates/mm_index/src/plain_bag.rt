@@ -4,8 +4,8 @@ ghost use Rattle.std.specs.Iterator.{YieldsFirst, item_count};
 ghost use Rattle.mm_index.specs.Bag.{IsSameBag, with_hash};
 
 use crate::exact_index::ExactIndex;
+use no_memory::NoMemory;
 use part_raw::TupleRef;
-use plain_tables::NoMemory;
 use std::alloc::Global;
 use std::marker::Model;
 

@@ -8,8 +8,8 @@ use crate::ordered_index::OrderedIndex;
 use crate::probe::Probe;
 use crate::search::{first_not_below, first_not_equal, place_by_order};
 use crate::tuple_order::TupleOrder;
+use no_memory::NoMemory;
 use part_raw::TupleRef;
-use plain_tables::NoMemory;
 use std::alloc::Global;
 use std::marker::Model;
 

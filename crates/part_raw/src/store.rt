@@ -6,7 +6,7 @@ ghost use Rattle.part_raw.specs.Store.{store, tuple_at, IsHeld, free_reserved};
 
 use crate::TupleRef;
 use crate::partition::Partition;
-use plain_tables::NoMemory;
+use no_memory::NoMemory;
 use std::alloc::Global;
 use std::marker::Model;
 

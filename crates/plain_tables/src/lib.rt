@@ -4,7 +4,6 @@
 pub mod command;
 pub mod condition;
 pub mod laws;
-pub mod no_memory;
 pub mod query_laws;
 pub mod refusal;
 pub mod schema;

@@ -4,8 +4,8 @@ ghost use Rattle.std.specs.Prelude.{Contains, IfOk};
 ghost use Rattle.std.specs.Bool.{OnTrue};
 
 use mm_index::ExactIndex;
+use no_memory::NoMemory;
 use part_raw::TupleRef;
-use plain_tables::NoMemory;
 use std::alloc::Global;
 use std::process::Abort;
 

@@ -4,8 +4,8 @@
 use crate::exact_runs::{add, fill, match_nine, numbered, slots, take, take_all};
 use lin_hash::LinHash;
 use mm_index::{ExactIndex, PlainBag};
+use no_memory::NoMemory;
 use part_raw::TupleRef;
-use plain_tables::NoMemory;
 use std::alloc::Global;
 use std::process::Abort;
 

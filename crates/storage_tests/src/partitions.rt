@@ -1,7 +1,7 @@
 //! A store on worked rows: which calls succeed, how often a tuple is dropped, and what a refused growth leaves.
 
+use no_memory::NoMemory;
 use part_raw::{Partitions, TupleRef};
-use plain_tables::NoMemory;
 use std::alloc::Global;
 use std::cell::Cell;
 use std::process::Abort;

@@ -7,8 +7,8 @@ ghost use Rattle.ttree.specs.Shape.{binary_digits};
 
 use crate::tree::TTree;
 use mm_index::{OrderedIndex, Probe, TupleOrder};
+use no_memory::NoMemory;
 use part_raw::TupleRef;
-use plain_tables::NoMemory;
 
 /// Each call is the tree's own.
 impl<const MIN: usize, const MAX: usize> OrderedIndex for TTree<MIN, MAX> {

@@ -5,8 +5,8 @@ ghost use denote.RawPtr.{Ptr};
 use crate::node::{Node, Side};
 use crate::nodes::{Block, Nodes, Place};
 use arrayvec::ArrayVec;
+use no_memory::NoMemory;
 use part_raw::TupleRef;
-use plain_tables::NoMemory;
 use std::alloc::Global;
 
 // A node for more items than these has more bytes than any heap gives.

@@ -6,8 +6,8 @@ ghost use Rattle.std.specs.declared.cmp.Ordering.TheVariants.{Less, Equal, Great
 ghost use Rattle.mm_index.specs.Order.{IsRising};
 
 use mm_index::{OrderedIndex, Probe, TupleOrder};
+use no_memory::NoMemory;
 use part_raw::TupleRef;
-use plain_tables::NoMemory;
 use std::cmp::Ordering;
 
 pub fn keyed(key: u32) -> TupleRef

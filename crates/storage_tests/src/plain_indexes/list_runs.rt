@@ -5,7 +5,7 @@ ghost use Rattle.mm_index.specs.Order.{IsRising};
 
 use super::keys::{KeyRange, add, find_key, keyed, range_keys, take};
 use mm_index::{OrderedIndex, Probe, SortedVec, Walk};
-use plain_tables::NoMemory;
+use no_memory::NoMemory;
 
 fn add_all(index: &mut SortedVec, keys: &[u32]) -> Result<(), NoMemory>
     requires rising { IsRising (λ a b. nat_cmp a.part b.part) index.old.items }

@@ -9,8 +9,8 @@ ghost use Rattle.mm_index.specs.Order.{IsRising};
 ghost use Rattle.mm_index.specs.Range.{NeverFalls, from_range};
 
 use mm_index::{ExactIndex, OrderedIndex, PlainBag, Probe, SortedVec, TupleOrder};
+use no_memory::NoMemory;
 use part_raw::TupleRef;
-use plain_tables::NoMemory;
 use std::alloc::{AllocError, Global};
 
 // Two tuples come into a tree, or none.

@@ -8,8 +8,8 @@ ghost use Rattle.ttree.specs.Held.{items_of_tree};
 
 use crate::TTree;
 use mm_index::{Probe, TupleOrder};
+use no_memory::NoMemory;
 use part_raw::TupleRef;
-use plain_tables::NoMemory;
 use std::cmp::Ordering;
 
 pub fn keyed(key: u32) -> TupleRef

@@ -7,8 +7,8 @@ ghost use Rattle.ttree.specs.Held.{items_of_tree};
 use super::keys::{add, add_all, find_key, key_probe, keyed, range_keys};
 use crate::TTree;
 use mm_index::Probe;
+use no_memory::NoMemory;
 use part_raw::TupleRef;
-use plain_tables::NoMemory;
 use std::alloc::Global;
 use std::test::Fail;
 

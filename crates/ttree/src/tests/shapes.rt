@@ -3,7 +3,7 @@ ghost use Rattle.std.specs.Prelude.{◌≤◌};
 
 use super::keys::flip_all;
 use crate::TTree;
-use plain_tables::NoMemory;
+use no_memory::NoMemory;
 use std::alloc::Global;
 use std::test::Fail;
 

@@ -7,7 +7,7 @@ ghost use Rattle.ttree.specs.Held.{items_of_tree};
 
 use super::keys::{add, cut};
 use crate::TTree;
-use plain_tables::NoMemory;
+use no_memory::NoMemory;
 use std::alloc::Global;
 use std::test::Fail;
 use ttree_node::Look;
