@@ -4,7 +4,7 @@ use plain_tables::{NoMemory, Refusal, Sequence, Text};
 use std::alloc::{AllocError, Global};
 use std::test::Fail;
 
-/// A refusal of each kind, in the order of `TOLD`.
+// A refusal of each kind, in the order of `TOLD`.
 const REFUSALS: [Refusal; 26] = [
     Refusal::LineTooLong,
     Refusal::NotUtf8,
@@ -34,7 +34,7 @@ const REFUSALS: [Refusal; 26] = [
     Refusal::NoMemory,
 ];
 
-/// The numbers and words that the command language gives them, and the number of the record at fault where one is kept.
+// The numbers and words that the command language gives them, and the number of the record at fault where one is kept.
 const TOLD: &str = "10 line too long\n\
 11 not UTF-8\n\
 12 block too long\n\

@@ -87,7 +87,7 @@ pub fn write_names<W: Write + Drop>(writer: &mut Writer<W>, names: &[Text]) -> R
     end_record(writer)
 }
 
-/// A full name as a field. The bytes of `text` are not used.
+// A full name as a field. The bytes of `text` are not used.
 fn write_full_name<W: Write + Drop>(
     writer: &mut Writer<W>,
     text: &mut Vec<u8>,

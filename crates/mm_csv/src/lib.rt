@@ -1,6 +1,9 @@
 //! Rows as CSV: fields between commas, each record ended by a line feed, a field quoted only where it must be.
 //!
-//! `RecordWriter` writes one record at a time, from values that it borrows; `block_of` writes a header and all rows.
+//! `RecordWriter` writes one record at a time, from values that it borrows; `block_of` writes a header and all rows. The
+//! quoting is the library's, by its default settings; what is stated of it is joined to the definition of a record.
+//!
+//! It doesn't care which rows they are, nor where the bytes go. A writer that has failed fails from then on.
 #![tactic(auto)]
 
 mod block;

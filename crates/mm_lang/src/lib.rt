@@ -1,4 +1,6 @@
-//! The command language: what a command line asks for.
+//! The command language: from a line to the command that it spells, and from a command to its canonical spelling.
+//!
+//! It doesn't care which tables there are, nor what a command does to them: a name is a name here.
 //!
 //! A line is symbols with blanks between them. The module `lexemes` finds the characters of a line's first symbol,
 //! `symbols`, `numbers`, `texts` and `items` read what they stand for, and `parser` has a function for each production of

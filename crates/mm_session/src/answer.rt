@@ -28,6 +28,7 @@ impl Model for Answer {
 }
 
 impl Answer {
+    /// An empty answer, with the room that short answers need.
     pub fn new(alloc: Global) -> Result<Answer, NoMemory>
         ensures { IfOk result (λ answer. answer ≡ []) }
     {
@@ -35,12 +36,14 @@ impl Answer {
         Ok(Answer { bytes })
     }
 
+    /// The bytes so far.
     pub fn as_slice(&self) -> &[u8]
         ensures { result.now ≡ self.now }
     {
         self.bytes.as_slice()
     }
 
+    /// Lets the bytes go, and keeps their room.
     pub fn clear(&mut self)
         ensures { self.new ≡ [] }
     {
@@ -56,6 +59,7 @@ impl Answer {
         let _ = self.bytes.extend_from_slice(text);
     }
 
+    /// Puts bytes at the end.
     pub fn push(&mut self, bytes: &[u8]) -> Result<(), NoMemory>
         ensures { OnOk result (self.new ≡ self.old ++ bytes.now) }
     {
@@ -63,6 +67,7 @@ impl Answer {
         Ok(())
     }
 
+    /// Puts a number at the end, in decimal digits.
     pub fn push_number(&mut self, n: u64) -> Result<(), NoMemory>
         ensures { OnOk result (self.new ≡ self.old ++ decimal n) }
     {

@@ -10,7 +10,7 @@ use crate::conditions::Test;
 use crate::settings::Assignment;
 use plain_tables::{ColKind, Column, Setting, Text, Value};
 
-/// The bytes that a stored text may have.
+// The bytes that a stored text may have.
 const LONGEST_TEXT: usize = 1024;
 
 /// The conditions that a command may have.
@@ -28,7 +28,7 @@ fn is_of_kind(value: &Value, kind: &ColKind) -> bool
     )
 }
 
-/// Whether a value is none for the column at that place.
+// Whether a value is none for the column at that place.
 fn is_mistaken(columns: &[Column], place: usize, value: &Value) -> bool
     ensures { result ≡ is_mistaken_so columns.now place value.now }
 {
@@ -75,7 +75,7 @@ pub fn has_mistaken_setting(columns: &[Column], assignments: &[Assignment]) -> b
     false
 }
 
-/// Whether a value is a text past 1,024 bytes.
+// Whether a value is a text past 1,024 bytes.
 fn is_long(value: &Value) -> bool
     ensures { result ≡ is_long_so value.now }
 {
@@ -85,6 +85,7 @@ fn is_long(value: &Value) -> bool
     }
 }
 
+/// Whether a text of the row is longer than a stored text may be.
 pub fn has_long_text(row: &[Value]) -> bool
     ensures { result ≡ list_any is_long_so row.now }
 {
@@ -96,6 +97,7 @@ pub fn has_long_text(row: &[Value]) -> bool
     false
 }
 
+/// Whether a text that is set is longer than a stored text may be.
 pub fn sets_long_text(settings: &[Setting]) -> bool
     ensures { result ≡ list_any (λ s. is_long_so s.value) settings.now }
 {

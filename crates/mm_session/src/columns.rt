@@ -11,7 +11,7 @@ ghost use Rattle.mm_session.specs.Resolved.{own_columns};
 use crate::table::StoredTable;
 use plain_tables::{Column, Text};
 
-/// Whether a table goes by the name before a column's, if one is written.
+// Whether a table goes by the name before a column's, if one is written.
 fn is_own(own: &Text, table: &Option<Text>) -> bool
     ensures { result ≡ option_map_or (λ name. bytes_eq name own.now) table.now true }
 {
@@ -21,14 +21,14 @@ fn is_own(own: &Text, table: &Option<Text>) -> bool
     }
 }
 
-/// Whether a name fits a column of a table.
+// Whether a name fits a column of a table.
 fn fits(own: &Text, column: &Column, table: &Option<Text>, name: &Text) -> bool
     ensures { result ≡ fits_so (record { table = table.now; column = name.now }) (record { table = own.now; column = column.now }) }
 {
     name.as_bytes() == column.name.as_bytes() && is_own(own, table)
 }
 
-/// The place of the first column that a name fits.
+// The place of the first column that a name fits.
 fn first_fit(own: &Text, columns: &[Column], table: &Option<Text>, name: &Text) -> Option<usize>
     ensures { result ≡ position (λ column. fits_so (record { table = table.now; column = name.now }) (record { table = own.now; column = column })) columns.now }
 {
@@ -37,7 +37,7 @@ fn first_fit(own: &Text, columns: &[Column], table: &Option<Text>, name: &Text) 
         .position(|column| fits(own, column, table, name))
 }
 
-/// Whether a name fits one of the columns.
+// Whether a name fits one of the columns.
 fn fits_any(own: &Text, columns: &[Column], table: &Option<Text>, name: &Text) -> bool
     ensures { result ≡ list_any (λ column. fits_so (record { table = table.now; column = name.now }) (record { table = own.now; column = column })) columns.now }
 {

@@ -44,7 +44,7 @@ pub fn resolve_conditions<'a>(
     Ok(Some(tests))
 }
 
-/// Whether values stand so to one another.
+// Whether values stand so to one another.
 fn stands(op: Op, ordering: Ordering) -> bool
     ensures { result ≡ stands_so op ordering }
 {
@@ -67,6 +67,7 @@ fn passes(test: &Test, row: &[Value]) -> bool
     }
 }
 
+/// Whether a row passes each of the tests.
 pub fn passes_all(tests: &[Test], row: &[Value]) -> bool
     ensures { result ≡ passes_all_so tests.now row.now }
 {

@@ -12,7 +12,7 @@ use crate::records::push_changed;
 use crate::table::StoredTable;
 use plain_tables::{Cond, Refusal};
 
-/// Why a delete by columns that are there is refused.
+// Why a delete by columns that are there is refused.
 fn refusal_of_delete(table: &StoredTable, tests: &[Test]) -> Option<Refusal>
     ensures { result ≡ first_refusal (resolved_delete table.now.columns tests.now) }
 {

@@ -8,7 +8,7 @@ use plain_tables::NoMemory;
 use std::alloc::Global;
 use std::marker::Model;
 
-/// The greatest number of bytes that are kept: a line of 8,192 and a carriage return.
+// The greatest number of bytes that are kept: a line of 8,192 and a carriage return.
 const ROOM: usize = 8193;
 
 /// The bytes of a line that has not ended, or only that it is too long. It never grows.
@@ -31,6 +31,7 @@ impl Model for LineBuffer {
 }
 
 impl LineBuffer {
+    /// An empty buffer, with room for the longest line.
     pub fn new(alloc: Global) -> Result<LineBuffer, NoMemory>
         ensures { IfOk result (λ kept. kept ≡ PartOfLine []) }
     {

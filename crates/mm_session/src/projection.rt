@@ -13,7 +13,7 @@ use mm_csv::FullName;
 use plain_tables::{ColName, Items, NoMemory};
 use std::alloc::Global;
 
-/// The numbers below this one.
+// The numbers below this one.
 fn all_places(alloc: Global, count: usize) -> Result<Vec<usize>, NoMemory>
     ensures { IfOk result (λ places. places.items ≡ range_with_len 0 count) }
 {
@@ -24,7 +24,7 @@ fn all_places(alloc: Global, count: usize) -> Result<Vec<usize>, NoMemory>
     Ok(places)
 }
 
-/// The places of the columns named, unless one of the names means no column.
+// The places of the columns named, unless one of the names means no column.
 fn places_named(
     alloc: Global,
     table: &StoredTable,

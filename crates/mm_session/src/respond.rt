@@ -13,16 +13,17 @@ use mm_lang::{ParseRefusal, parse};
 use plain_tables::{Limits, Refusal};
 use std::alloc::Global;
 
-/// The greatest number of bytes that a line may have.
+// The greatest number of bytes that a line may have.
 const LONGEST_LINE: usize = 8192;
 
+/// The answer to a line that is too long, which takes no memory.
 pub const LINE_TOO_LONG: &[u8] = b"error 10 line too long\n";
 
 const NOT_UTF8: &[u8] = b"error 11 not UTF-8\n";
 
 const NO_MEMORY: &[u8] = b"error 90 no memory\n";
 
-/// Makes the refusal the answer, or want of memory if there is none for that.
+// Makes the refusal the answer, or want of memory if there is none for that.
 fn refuse(answer: &mut Answer, refusal: Refusal)
     ensures { (answer.new ≡ refusal_text refusal) ⊎ (answer.new ≡ refusal_text Refusal.NoMemory) }
 {
@@ -32,7 +33,7 @@ fn refuse(answer: &mut Answer, refusal: Refusal)
     }
 }
 
-/// Reads a line as a command, and does what it says.
+// Reads a line as a command, and does what it says.
 fn obey(
     alloc: Global,
     limits: Limits,

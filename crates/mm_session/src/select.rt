@@ -19,7 +19,7 @@ use crate::table::{Row, StoredTable};
 use mm_csv::RecordWriter;
 use plain_tables::{Cond, Items, NoMemory, Refusal};
 
-/// Whether two items are of one column.
+// Whether two items are of one column.
 fn repeats_item(items: &Items, places: &[usize]) -> bool
     ensures { result ≡ repeats (λ p q. p == q) (item_places items.now places.now) }
 {
@@ -29,7 +29,7 @@ fn repeats_item(items: &Items, places: &[usize]) -> bool
     }
 }
 
-/// Whether more items are named than a select may name.
+// Whether more items are named than a select may name.
 fn names_too_many(items: &Items) -> bool
     ensures { result ≡ nat_lt 16 (length (named_items items.now)) }
 {
@@ -39,7 +39,7 @@ fn names_too_many(items: &Items) -> bool
     }
 }
 
-/// Why a select of columns that are there is refused.
+// Why a select of columns that are there is refused.
 fn refusal_of_select(
     table: &StoredTable,
     items: &Items,
@@ -60,7 +60,7 @@ fn refusal_of_select(
     None
 }
 
-/// The values at these places of each of the rows that were met, as a record.
+// The values at these places of each of the rows that were met, as a record.
 fn push_records(
     records: &mut RecordWriter<Answer>,
     rows: &[Row],
@@ -78,7 +78,7 @@ fn push_records(
     Ok(())
 }
 
-/// The page with a block behind it: the names of the columns at these places, and the rows that were met.
+// The page with a block behind it: the names of the columns at these places, and the rows that were met.
 fn with_block(
     page: Answer,
     table: &StoredTable,

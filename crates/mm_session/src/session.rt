@@ -62,7 +62,7 @@ impl Session {
         })
     }
 
-    /// Answers the line of which the front is kept and `tail` is the end.
+    // Answers the line of which the front is kept and `tail` is the end.
     fn end_line<W: Write>(&mut self, tail: &[u8], w: &mut W) -> Result<(), SessionFault>
         requires going_on { self.old.ended ≡ false }
         requires unbroken { IsUnbroken tail.now }

@@ -40,14 +40,14 @@ impl Model for StoredTable {
     ghost invariant = { λ t. IsStored t.columns t.rows.items };
 }
 
-/// Compares two rows by their keys.
+// Compares two rows by their keys.
 fn compare_keys(row: &Row, other: &Row) -> Ordering
     ensures { result ≡ key_cmp row.now other.now }
 {
     key_of(row).cmp(key_of(other))
 }
 
-/// The key of a row, as a list of one value.
+// The key of a row, as a list of one value.
 fn key_of(row: &Row) -> &[Value]
     ensures { result.now ≡ take 1 row.now }
 {
@@ -57,7 +57,7 @@ fn key_of(row: &Row) -> &[Value]
     }
 }
 
-/// The place of the row with that key, or the place at which such a row belongs.
+// The place of the row with that key, or the place at which such a row belongs.
 fn place_of(rows: &[Row], row: &Row) -> Result<usize, usize>
     requires { AreRising rows.now }
     ensures { IsPlaceOf row.now rows.now result }
@@ -65,7 +65,7 @@ fn place_of(rows: &[Row], row: &Row) -> Result<usize, usize>
     rows.binary_search_by(|r| compare_keys(r, row))
 }
 
-/// Puts a value at that place of the row of that number.
+// Puts a value at that place of the row of that number.
 fn put_value(rows: &mut [Row], number: usize, place: usize, value: Value)
     requires number { number < length rows.old }
     requires place { All (λ row. place < length row) rows.old }
@@ -74,7 +74,7 @@ fn put_value(rows: &mut [Row], number: usize, place: usize, value: Value)
     rows[number].as_mut_slice()[place] = value;
 }
 
-/// Puts one value after another at that place of the rows that were met.
+// Puts one value after another at that place of the rows that were met.
 fn put_values(rows: &mut [Row], met: &[usize], place: usize, values: Vec<Value>)
     requires not_key { 0 < place }
     requires place { All (λ row. place < length row) rows.old }
@@ -103,24 +103,28 @@ impl StoredTable {
         }
     }
 
+    /// Whether this is its name.
     pub fn is_named(&self, name: &Text) -> bool
         ensures { result ≡ is_named_so name.now self.now }
     {
         self.name.as_bytes() == name.as_bytes()
     }
 
+    /// Its name.
     pub fn name(&self) -> &Text
         ensures { result.now ≡ self.now.name }
     {
         &self.name
     }
 
+    /// Its columns, in the order of their declaration.
     pub fn columns(&self) -> &[Column]
         ensures { result.now ≡ self.now.columns }
     {
         self.columns.as_slice()
     }
 
+    /// Its rows, in key order.
     pub fn rows(&self) -> &[Row]
         ensures rows { result.now ≡ self.now.rows }
         ensures stored { IsStored self.now.columns self.now.rows }
@@ -128,11 +132,12 @@ impl StoredTable {
         self.rows.as_slice()
     }
 
+    /// The allocator that its rows take memory from.
     pub fn allocator(&self) -> Global {
         *self.rows.allocator()
     }
 
-    /// Why a row is refused before its key is looked for.
+    // Why a row is refused before its key is looked for.
     fn refusal_of_values(&self, row: &Row) -> Option<Refusal>
         ensures { result ≡ first_refusal (value_checks self.now row.now) }
     {

@@ -36,7 +36,7 @@ impl Model for Tables {
     ghost view = { λ t. t.tables.items };
 }
 
-/// Whether a column has that name.
+// Whether a column has that name.
 fn is_among(name: &Text, columns: &[Column]) -> bool
     ensures { result ≡ list_any (bytes_eq name.now) (column_names columns.now) }
 {
@@ -48,7 +48,7 @@ fn is_among(name: &Text, columns: &[Column]) -> bool
     false
 }
 
-/// Whether two columns have one name.
+// Whether two columns have one name.
 fn repeats_name(columns: &[Column]) -> bool
     ensures { result ≡ repeats bytes_eq (column_names columns.now) }
 {
@@ -72,7 +72,7 @@ impl Tables {
         }
     }
 
-    /// The number of the table of that name.
+    // The number of the table of that name.
     fn place_of(&self, name: &Text) -> Option<usize>
         ensures { result ≡ position (is_named name.now) self.now }
     {
@@ -80,7 +80,7 @@ impl Tables {
     }
 }
 
-/// The answer `ok`, and the answer to one row put in.
+// The answer `ok`, and the answer to one row put in.
 const OK: &[u8] = b"ok\n";
 
 const OK_ONE: &[u8] = b"ok 1\n";
@@ -92,14 +92,14 @@ impl Tables {
         self.place_of(name).is_some()
     }
 
-    /// Whether there are too many columns, or no table more can be taken.
+    // Whether there are too many columns, or no table more can be taken.
     fn is_past_limits(&self, columns: &[Column]) -> bool
         ensures { result ≡ (nat_lt 16 (length columns.now) || nat_le 64 (length self.now)) }
     {
         columns.len() > 16 || self.tables.len() >= 64
     }
 
-    /// Why a new table with that name and those columns is refused, want of memory aside.
+    // Why a new table with that name and those columns is refused, want of memory aside.
     fn refusal_of_new(&self, name: &Text, schema: &Schema) -> Option<Refusal>
         ensures { result ≡ first_refusal (table_checks name.now schema.now self.now) }
     {
@@ -115,7 +115,7 @@ impl Tables {
         None
     }
 
-    /// Adds a new table behind the others.
+    // Adds a new table behind the others.
     fn create(&mut self, name: Text, schema: Schema) -> Result<(), Refusal>
         requires { 0 < length schema.columns }
         ensures ok { (limits : Limits) → OnOk result (effect_of limits self.old (command.Table name schema) ≡ record { database = self.new; outcome = Done }) }
@@ -135,7 +135,7 @@ impl Tables {
 impl Tables {
     ghost use Rattle.plain_tables.specs.Effects.{Changed};
 
-    /// Puts a row into the table of that name.
+    // Puts a row into the table of that name.
     fn insert(&mut self, limits: Limits, name: &Text, row: Row) -> Result<(), Refusal>
         ensures ok { OnOk result (effect_of limits self.old (command.Insert name.now row) ≡ record { database = self.new; outcome = Changed 1 }) }
         ensures err { IfErr result (DoesNothing (effect_of limits self.old (command.Insert name.now row)) self.old self.new) }
@@ -146,7 +146,7 @@ impl Tables {
         self.tables[place].insert(limits, row)
     }
 
-    /// Sets values in the rows of that table that meet the conditions.
+    // Sets values in the rows of that table that meet the conditions.
     fn update(
         &mut self,
         name: &Text,
@@ -163,7 +163,7 @@ impl Tables {
         update(&mut self.tables[place], settings, conditions, answer)
     }
 
-    /// Drops the rows of that table that meet the conditions.
+    // Drops the rows of that table that meet the conditions.
     fn delete(
         &mut self,
         name: &Text,
@@ -179,7 +179,7 @@ impl Tables {
         delete(&mut self.tables[place], conditions, answer)
     }
 
-    /// Adds the rows of that table that meet the conditions to the answer.
+    // Adds the rows of that table that meet the conditions to the answer.
     fn select(
         &self,
         items: &Items,

@@ -18,14 +18,14 @@ use crate::settings::{Assignment, copies_of, resolve_settings};
 use crate::table::StoredTable;
 use plain_tables::{Column, Cond, NoMemory, Refusal, Setting};
 
-/// Whether a setting or a condition has a value that is none for its column.
+// Whether a setting or a condition has a value that is none for its column.
 fn mistakes_a_value(columns: &[Column], assignments: &[Assignment], tests: &[Test]) -> bool
     ensures { result ≡ (has_mistaken_setting_so columns.now assignments.now || has_mistaken_test_so columns.now tests.now) }
 {
     has_mistaken_setting(columns, assignments) || has_mistaken_test(columns, tests)
 }
 
-/// Why an update of columns that are there is refused.
+// Why an update of columns that are there is refused.
 fn refusal_of_update(
     table: &StoredTable,
     settings: &[Setting],
@@ -52,9 +52,9 @@ fn refusal_of_update(
     None
 }
 
-/// Gives the rows that were met the values of the assignments.
-///
-/// Each copy is made before the first row changes, so that want of memory changes none.
+// Gives the rows that were met the values of the assignments.
+//
+// Each copy is made before the first row changes, so that want of memory changes none.
 fn assign(
     table: &mut StoredTable,
     met: &[usize],

@@ -11,13 +11,13 @@ use plan_chooser::Policy;
 use std::alloc::Global;
 use std::io::{Read, Write};
 
-/// The bytes that one read may take.
+// The bytes that one read may take.
 const PIECE: usize = 65_536;
 
-/// The greatest number of reads.
+// The greatest number of reads.
 const MOST_READS: u64 = 1 << 40;
 
-/// Feeds a piece, and flushes its answers.
+// Feeds a piece, and flushes its answers.
 fn feed_and_flush<W: Write>(session: &mut Session, piece: &[u8], w: &mut W) -> Result<(), RunFault>
     requires { session.old.ended ≡ false }
     ensures ok { OnOk result (Gains (W.contents w.old) (W.contents w.new) (Feeds session.old session.new piece.now)) }
@@ -33,7 +33,7 @@ fn feed_and_flush<W: Write>(session: &mut Session, piece: &[u8], w: &mut W) -> R
     }
 }
 
-/// Finishes a stream, and flushes its last answer.
+// Finishes a stream, and flushes its last answer.
 fn finish_and_flush<W: Write>(session: Session, w: &mut W) -> Result<(), RunFault>
     requires { session.ended ≡ false }
     ensures ok { OnOk result (Gains (W.contents w.old) (W.contents w.new) (Finishes session)) }

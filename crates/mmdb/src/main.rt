@@ -13,10 +13,10 @@ use plan_chooser::Policy;
 use std::io::BufWriter;
 use std::process::ExitCode;
 
-/// The bytes of answers that are kept back until a piece of the input is answered.
+// The bytes of answers that are kept back until a piece of the input is answered.
 const ROOM: usize = 65_536;
 
-/// Answers standard input on standard output.
+// Answers standard input on standard output.
 fn answer_input(rt: &HostRuntime) -> Result<(), RunFault> {
     let mut reader = rt.stdin();
     let Ok(mut writer) = BufWriter::with_capacity(rt.alloc(), ROOM, rt.stdout()) else {
@@ -25,7 +25,7 @@ fn answer_input(rt: &HostRuntime) -> Result<(), RunFault> {
     run(rt.alloc(), &mut reader, &mut writer, Policy::Auto)
 }
 
-/// Names the fault on standard error, and gives the status to end with.
+// Names the fault on standard error, and gives the status to end with.
 fn report(rt: &HostRuntime, fault: RunFault) -> ExitCode {
     let _ = eprintln!(rt; "mmdb: {fault}");
     ExitCode::from(match fault {
@@ -35,7 +35,7 @@ fn report(rt: &HostRuntime, fault: RunFault) -> ExitCode {
     })
 }
 
-/// Prints what the words asked for or what is wrong with them, and gives the status to end with.
+// Prints what the words asked for or what is wrong with them, and gives the status to end with.
 fn report_words(rt: &HostRuntime, error: &clap::Error) -> ExitCode {
     if error.kind() == ErrorKind::OutOfMemory {
         return report(rt, RunFault::NoMemory);

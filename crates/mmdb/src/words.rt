@@ -5,14 +5,14 @@ use clap::{Command, Error};
 use std::alloc::AllocError;
 use std::{env, io};
 
-/// The program as `clap` sees it: it takes no words but `--help`, `--version` and their short forms.
+// The program as `clap` sees it: it takes no words but `--help`, `--version` and their short forms.
 fn command<'a>(rt: &HostRuntime) -> Command<'a> {
     Command::new(rt.alloc(), "mmdb").version("0.1.0").about(
         "Answers the command lines of standard input on standard output",
     )
 }
 
-/// What is wrong with words that could not be had: one of them is not UTF-8, or there was no memory.
+// What is wrong with words that could not be had: one of them is not UTF-8, or there was no memory.
 fn fault_of(rt: &HostRuntime, error: &io::Error) -> Error {
     if error.kind() == io::ErrorKind::OutOfMemory {
         return Error::from(AllocError);

@@ -1,16 +1,28 @@
-//! The types and the definitions that every other crate of mmdb speaks of.
+//! The types and the definitions that the crates of the language and the tables speak of.
+//!
+//! The types are what a command line can say: values, columns, conditions, commands, refusals. The definitions, in
+//! `specs/`, are what it means: which line spells which command, what a command does to a database of plain tables, and
+//! which bytes answer a stream. Every promise above is stated by these words, and by no others. The laws of the
+//! definitions are contracts of functions that do nothing (`laws`, `query_laws`, `spelling_laws`).
+//!
+//! Nothing here cares how rows are kept, which index finds them, how a line is read, or how a stream is cut in pieces.
+//!
+//! - A text or a name is seen as its bytes (`Text`), a list as its items (`Sequence`); so a definition takes the very
+//!   command that a parser gives.
+//! - The order of values is total, and values that compare alike are one.
+//! - A refusal has one number, one text, and a record's number where it comes out of a block.
 #![tactic(auto)]
 
-pub mod command;
-pub mod condition;
+mod command;
+mod condition;
 pub mod laws;
 pub mod query_laws;
-pub mod refusal;
-pub mod schema;
-pub mod sequence;
+mod refusal;
+mod schema;
+mod sequence;
 pub mod spelling_laws;
-pub mod text;
-pub mod value;
+mod text;
+mod value;
 
 pub use command::{Command, Items, Limits, Setting};
 pub use condition::{ColName, Cond, Op};

@@ -54,12 +54,14 @@ impl Text {
         text
     }
 
+    /// The text as it is kept.
     pub fn as_str(&self) -> &str
         ensures { result.now ≡ self.now }
     {
         self.text.as_str()
     }
 
+    /// Its bytes, which are UTF-8.
     pub fn as_bytes(&self) -> &[u8]
         ensures { result.now ≡ self.now }
     {

@@ -1,4 +1,6 @@
-//! Which plans a session may choose from.
+//! How plans are chosen, as a word of the user's: the type of policies.
+//!
+//! No plan is chosen by it yet, as rows are found by one way alone; and none may ever change an answer.
 #![tactic(auto)]
 
 /// How plans are chosen. No policy changes an answer.

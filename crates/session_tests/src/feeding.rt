@@ -33,7 +33,7 @@ pub fn answers_under_limits(alloc: Global, limits: Limits, stream: &str) -> Resu
     answers_in_pieces(alloc, session, stream, 1000)
 }
 
-/// Feeds a line until it is not answered by want of memory, which changes nothing.
+// Feeds a line until it is not answered by want of memory, which changes nothing.
 fn feed_line(session: &mut Session, page: &mut Page, line: &str) -> Result<(), SessionFault> {
     let before = page.got.len();
     for _ in 0..2 {
@@ -46,8 +46,8 @@ fn feed_line(session: &mut Session, page: &mut Page, line: &str) -> Result<(), S
     Ok(())
 }
 
-/// The answers to lines that are each fed until they find their memory. They stop at a fault, and there are none where
-/// no memory was found to begin.
+// The answers to lines that are each fed until they find their memory. They stop at a fault, and there are none where
+// no memory was found to begin.
 fn answers_at_last(alloc: Global, limits: Limits, lines: &str) -> Option<Vec<u8>> {
     let mut page = Page::new(alloc, 1000, true).ok()?;
     let mut session = Session::with_limits(alloc, Policy::Auto, limits).ok()?;

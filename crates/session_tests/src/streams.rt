@@ -16,7 +16,7 @@ const FIRST_PATH: &str = "table t (id int)\ninsert t (2)\ninsert t (1)\nselect *
 
 const FIRST_ANSWERS: &str = "ok\nok 1\nok 1\nrows 2\nt.id\n1\n2\n";
 
-/// Gives 20 bytes in one read, and fails from the second on.
+// Gives 20 bytes in one read, and fails from the second on.
 #[derive(Drop)]
 struct OneRead {
     is_read: bool,
@@ -33,7 +33,7 @@ impl Read for OneRead {
     }
 }
 
-/// Checks the answers to a stream that comes in pieces of 1, of 7 and of 100 bytes.
+// Checks the answers to a stream that comes in pieces of 1, of 7 and of 100 bytes.
 fn check_cuts(rt: &impl Abort, alloc: Global, stream: &str, answers: &str) -> Result<(), Fail> {
     for size in [1, 7, 100] {
         let session = Session::new(alloc, Policy::Auto)?;
@@ -68,7 +68,7 @@ fn a_run_answers_its_whole_reader(rt: HostRuntime) -> Result<(), Fail> {
     Ok(())
 }
 
-/// What runs say of a reader that fails and of a page that cannot be flushed, and the answers before the reader failed.
+// What runs say of a reader that fails and of a page that cannot be flushed, and the answers before the reader failed.
 fn faults_of_runs(alloc: Global) -> Result<([Result<(), RunFault>; 2], Vec<u8>), NoMemory> {
     let mut page = Page::new(alloc, 256, true)?;
     let mut reader = OneRead { is_read: false };
@@ -87,8 +87,8 @@ fn a_run_tells_its_faults(rt: HostRuntime) -> Result<(), Fail> {
     Ok(())
 }
 
-/// What a session says of a stream, on a page with room for five bytes, and then of that stream and of its end, on the
-/// page with room again; with what it wrote at first and in all.
+// What a session says of a stream, on a page with room for five bytes, and then of that stream and of its end, on the
+// page with room again; with what it wrote at first and in all.
 fn answers_on_a_short_page(
     alloc: Global,
 ) -> Result<([Result<(), SessionFault>; 3], usize, Vec<u8>), NoMemory> {
