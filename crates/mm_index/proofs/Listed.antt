@@ -7,7 +7,7 @@ use Rattle.std.proofs.lemmas.List.{length-append, get_or_default}
 use Rattle.std.proofs.lemmas.List.Edits.{length-remove}
 use Rattle.std.proofs.lemmas.List.Elements.{All-filter, All-append, All-cons, All-head, All-tail, All-contains, All-contains_itself, Contains-get_or, filter_passes, Contains-append_left, Contains-append_right, Contains-append_cases}
 use Rattle.std.proofs.lemmas.Bool.{cases_order, true≢false}
-use Rattle.mm_index.specs.Order.{IsStrictOver, IsRising, insert_by, remove_by}
+use Rattle.mm_index.specs.Order.{IsStrictOver, IsRising, insert_placed, insert_by, remove_by}
 use Rattle.mm_index.specs.Range.{NeverFalls}
 use Rattle.mm_index.proofs.Placed.{cmp_itself, cmp_from_Less, remove_by_at}
 
@@ -36,27 +36,35 @@ pub Contains-cons : {A : Type 0} (y : A) (ys : List A) (x : A) → Contains ys x
 Contains-cons y ys x h = (suc h.0, omega (arith, h.1), h.2)
 
 -- a fact of each member is one of each after an insert
+pub All-insert_placed : {A : Type 0} (P : A → Type 0) (place : A → Ordering) (r : A) (xs : List A) → All P xs → P r → All P (insert_placed place r xs)
+unfolding insert_placed
+All-insert_placed P place r xs h k =
+    All-append P (filter (λ q. is_lt (place q)) xs) (r ∷ filter (λ q. is_gt (place q)) xs)
+    (All-filter (λ q. is_lt (place q)) P xs h) (All-cons P r (filter (λ q. is_gt (place q)) xs) k (All-filter (λ q. is_gt (place q)) P xs h))
+
 pub All-insert_by : {A : Type 0} (P : A → Type 0) (cmp : A → A → Ordering) (r : A) (xs : List A) → All P xs → P r → All P (insert_by cmp r xs)
 unfolding insert_by
-All-insert_by P cmp r xs h k =
-    All-append P (filter (λ q. is_lt (cmp q r)) xs) (r ∷ filter (λ q. is_gt (cmp q r)) xs)
-    (All-filter (λ q. is_lt (cmp q r)) P xs h) (All-cons P r (filter (λ q. is_gt (cmp q r)) xs) k (All-filter (λ q. is_gt (cmp q r)) P xs h))
+All-insert_by P cmp r xs h k = All-insert_placed P (λ q. cmp q r) r xs h k
 
 pub All-remove_by : {A : Type 0} (P : A → Type 0) (cmp : A → A → Ordering) (r : A) (xs : List A) → All P xs → All P (remove_by cmp r xs)
 unfolding remove_by
 All-remove_by P cmp r xs h = All-filter (λ q. not (is_eq (cmp q r))) P xs h
 
 -- r is there after an insert, and whatever is there besides was there
+pub Contains-insert_placed_itself : {A : Type 0} (place : A → Ordering) (r : A) (xs : List A) → Contains (insert_placed place r xs) r
+unfolding insert_placed
+Contains-insert_placed_itself place r xs =
+    Contains-append_right (filter (λ q. is_lt (place q)) xs) (r ∷ filter (λ q. is_gt (place q)) xs) r (0, omega arith, refl)
+
 pub Contains-insert_by_itself : {A : Type 0} (cmp : A → A → Ordering) (r : A) (xs : List A) → Contains (insert_by cmp r xs) r
 unfolding insert_by
-Contains-insert_by_itself cmp r xs =
-    Contains-append_right (filter (λ q. is_lt (cmp q r)) xs) (r ∷ filter (λ q. is_gt (cmp q r)) xs) r (0, omega arith, refl)
+Contains-insert_by_itself cmp r xs = Contains-insert_placed_itself (λ q. cmp q r) r xs
 
-pub Contains-insert_by_cases : {A : Type 0} (cmp : A → A → Ordering) (r : A) (xs : List A) (q : A) → Contains (insert_by cmp r xs) q → (q ≡ r) ⊎ Contains xs q
-unfolding insert_by
-Contains-insert_by_cases {A} cmp r xs q h =
-    let low : A → Bool = λ a. is_lt (cmp a r) in
-    let high : A → Bool = λ a. is_gt (cmp a r) in
+pub Contains-insert_placed_cases : {A : Type 0} (place : A → Ordering) (r : A) (xs : List A) (q : A) → Contains (insert_placed place r xs) q → (q ≡ r) ⊎ Contains xs q
+unfolding insert_placed
+Contains-insert_placed_cases {A} place r xs q h =
+    let low : A → Bool = λ a. is_lt (place a) in
+    let high : A → Bool = λ a. is_gt (place a) in
     elim (Contains-append_cases (filter low xs) (r ∷ filter high xs) q h) [
       | inl front ↦ inr (Contains-from_filter low xs q front).0
       | inr back ↦ elim (Contains-cons_cases r (filter high xs) q back) [
@@ -64,6 +72,10 @@ Contains-insert_by_cases {A} cmp r xs q h =
         | inr behind ↦ inr (Contains-from_filter high xs q behind).0
       ]
     ]
+
+pub Contains-insert_by_cases : {A : Type 0} (cmp : A → A → Ordering) (r : A) (xs : List A) (q : A) → Contains (insert_by cmp r xs) q → (q ≡ r) ⊎ Contains xs q
+unfolding insert_by
+Contains-insert_by_cases cmp r xs q h = Contains-insert_placed_cases (λ q. cmp q r) r xs q h
 
 -- a list rises by each order that agrees with one by which it rises, at its members
 pub IsRising-agree : {A : Type 0} (cmp other : A → A → Ordering) (xs : List A) → ((p q : A) → Contains xs p → Contains xs q → other p q ≡ cmp p q) → IsRising cmp xs → IsRising other xs
@@ -104,7 +116,7 @@ test_fails Greater e h = cc
 module _ {A : Type 0} (covers : A → Type 0) (cmp : A → A → Ordering) (order : IsStrictOver covers cmp) (r : A) (r_covered : covers r) (xs : List A) (covered : All covers xs) where
   -- what was there is there after an insert
   pub Contains-insert_by : (q : A) → Contains xs q → Contains (insert_by cmp r xs) q
-  unfolding insert_by
+  unfolding insert_by insert_placed
   Contains-insert_by q h =
       let low : A → Bool = λ a. is_lt (cmp a r) in
       let high : A → Bool = λ a. is_gt (cmp a r) in
@@ -136,7 +148,7 @@ module _ {A : Type 0} (covers : A → Type 0) (cmp : A → A → Ordering) (orde
 
   -- one more after an insert, and one fewer after a removal
   pub length-insert_by : (Contains xs r → ⊥) → length (insert_by cmp r xs) ≡ length xs + 1
-  unfolding insert_by
+  unfolding insert_by insert_placed
   length-insert_by absent =
       let low : A → Bool = λ a. is_lt (cmp a r) in
       let high : A → Bool = λ a. is_gt (cmp a r) in

@@ -1,5 +1,7 @@
 pub mod Asking
 pub mod Bag
+pub mod Chain
 pub mod Held
 pub mod Order
 pub mod Range
+pub mod Walk
