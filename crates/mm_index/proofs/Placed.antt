@@ -114,6 +114,32 @@ module _ {A : Type 0} (covers : A → Type 0) (cmp : A → A → Ordering) (orde
   unfolding remove_by
   IsRising-remove_by r xs rising = AllPairs-filter (λ a b. cmp a b ≡ Less) (λ q. not (is_eq (cmp q r))) xs rising
 
+  -- a member of a rising list, between what stands below it and what stands above it
+  module _ (r : A) (xs : List A) (covered : All covers xs) (r_covered : covers r) (rising : IsRising cmp xs) (held : Contains xs r) where
+    pub split_at_member : xs ≡ take held.0 xs ++ r ∷ drop (held.0 + 1) xs
+    split_at_member =
+        sym (take-append-drop held.0 xs)
+        ∙ ap (λ ys. take held.0 xs ++ ys) (drop_more xs held.0 r held.1 ∙ ap (λ x. x ∷ drop (held.0 + 1) xs) held.2)
+
+    here : (d : A) → get_or xs held.0 d ≡ r
+    here d = get_or_default xs held.0 d r held.1 ∙ held.2
+
+    below_member : All (λ q. cmp q r ≡ Less) (take held.0 xs)
+    below_member =
+        All-take_within (λ q. cmp q r ≡ Less) xs held.0
+        (λ k d l m. subst (λ a. cmp (get_or xs k d) a ≡ Less) (here d) (rising k held.0 d m held.1))
+
+    above_member : All (λ q. cmp q r ≡ Greater) (drop (held.0 + 1) xs)
+    above_member =
+        All-drop_within (λ q. cmp q r ≡ Greater) xs (held.0 + 1)
+        (λ k d l m. cmp_from_Less r (get_or xs k d) r_covered (covered k d m)
+        (subst (λ a. cmp a (get_or xs k d) ≡ Less) (here d) (rising held.0 k d (omega arith) m)))
+
+    pub remove_by_member : remove_by cmp r xs ≡ take held.0 xs ++ drop (held.0 + 1) xs
+    remove_by_member =
+        ap (remove_by cmp r) split_at_member
+        ∙ remove_by_split cmp r (take held.0 xs) (drop (held.0 + 1) xs) below_member above_member (cmp_itself r r_covered)
+
   module _ (r : A) (xs : List A) (i : ℕ) (covered : All covers xs) (r_covered : covers r) (below : AllWithin (λ q. cmp q r ≡ Less) xs 0 i) (not_below : AllWithin (λ q. cmp q r ≢ Less) xs i (length xs)) where
     -- i is the place of an element that is not there
     pub insert_by_at : (Contains xs r → ⊥) → insert_by cmp r xs ≡ insert xs i r
@@ -139,14 +165,4 @@ module _ {A : Type 0} (covers : A → Type 0) (cmp : A → A → Ordering) (orde
     pub remove_by_at : IsRising cmp xs → Contains xs r → (i < length xs) × (remove_by cmp r xs ≡ remove xs i)
     remove_by_at rising held =
         let here = at_place rising held in
-        let inside : i < length xs = here.0 in
-        let above : AllWithin (λ q. cmp q r ≡ Greater) xs (i + 1) (length xs) = λ k d l m.
-        let low : cmp r (get_or xs k d) ≡ Less = subst (λ a. cmp a (get_or xs k d) ≡ Less) (here.1 d) (rising i k d (omega arith) m) in
-        cmp_from_Less r (get_or xs k d) r_covered (covered k d m) low
-        in
-        let cut : xs ≡ take i xs ++ (r ∷ drop (i + 1) xs) =
-        sym (take-append-drop i xs) ∙ ap (λ ys. take i xs ++ ys) (drop_more xs i r inside ∙ ap (λ x. x ∷ drop (i + 1) xs) (here.1 r)) in
-        let closed : remove_by cmp r (take i xs ++ (r ∷ drop (i + 1) xs)) ≡ take i xs ++ drop (i + 1) xs =
-        remove_by_split cmp r (take i xs) (drop (i + 1) xs) (All-take_within (λ q. cmp q r ≡ Less) xs i below)
-        (All-drop_within (λ q. cmp q r ≡ Greater) xs (i + 1) above) (cmp_itself r r_covered) in
-        (inside, ap (remove_by cmp r) cut ∙ closed ∙ rw add-one refl)
+        (here.0, remove_by_member r xs covered r_covered rising (i, here.0, here.1 r) ∙ rw add-one refl)
