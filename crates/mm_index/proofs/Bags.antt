@@ -1,12 +1,13 @@
 -- Lists that are the same bag.
-use Rattle.std.proofs.Common.{◌≡◌, ℕ, zero, suc, ◌+◌, ◌<◌, Bool, true, false, cond, ◌==◌, ◌&&◌, List, [], ◌∷◌, ◌++◌, length, get_or, refl, sym, ap, ◌∙◌, arith, subst, ◌≤◌}
+use Rattle.std.proofs.Common.{◌≡◌, ℕ, ◌+◌, ◌<◌, Bool, true, false, not, cond, ◌==◌, ◌&&◌, List, [], ◌∷◌, ◌++◌, length, get_or, refl, sym, ap, ◌∙◌, arith, subst, ◌≤◌}
 use Rattle.std.specs.List.{filter, count_by, swap_remove, Contains}
 use Rattle.std.specs.Prelude.{map}
 use Rattle.std.proofs.lemmas.List.{get_or_default}
+use Rattle.std.proofs.lemmas.List.Filters.{sum_by-filter_both}
 use Rattle.std.proofs.lemmas.List.Sums.{sum_by-cons, sum_by-append, sum_by_push, sum_by-swap_remove, get_or-le-sum_by}
 use Rattle.std.specs.Bool.{Decides}
 use Rattle.std.proofs.lemmas.Bool.{eq-eqb, eqb-true}
-use Rattle.mm_index.proofs.Listed.{Contains-cons, Contains-filter, Contains-from_filter}
+use Rattle.mm_index.proofs.Members.{Contains-cons, Contains-filter, Contains-from_filter, Contains-map, Contains-from_map}
 use Rattle.mm_index.specs.Bag.{IsSameBag, with_hash}
 
 -- what one element adds to a count
@@ -43,6 +44,23 @@ IsSameBag-push xs x = record {
       let end : count_by test (xs ++ x ∷ []) ≡ count_by test xs + one test x = sum_by_push (one test) xs x in
       let front : count_by test (x ∷ xs) ≡ one test x + count_by test xs = sum_by-cons (one test) x xs in
       omega arith;
+}
+
+-- an element in the middle, or in front
+pub IsSameBag-middle : {A : Type 0} (bs cs : List A) (x : A) → IsSameBag (bs ++ x ∷ cs) (x ∷ bs ++ cs)
+IsSameBag-middle bs cs x = record {
+  count = λ test.
+      let parts : count_by test (bs ++ x ∷ cs) ≡ count_by test bs + count_by test (x ∷ cs) = sum_by-append (one test) bs (x ∷ cs) in
+      let back : count_by test (x ∷ cs) ≡ one test x + count_by test cs = sum_by-cons (one test) x cs in
+      let whole : count_by test (x ∷ bs ++ cs) ≡ one test x + count_by test (bs ++ cs) = sum_by-cons (one test) x (bs ++ cs) in
+      let joined : count_by test (bs ++ cs) ≡ count_by test bs + count_by test cs = sum_by-append (one test) bs cs in
+      omega arith;
+}
+
+-- what passes a test, and what fails it
+pub IsSameBag-filter_both : {A : Type 0} (p : A → Bool) (xs : List A) → IsSameBag (filter p xs ++ filter (λ x. not (p x)) xs) xs
+IsSameBag-filter_both p xs = record {
+  count = λ test. sum_by-append (one test) (filter p xs) (filter (λ x. not (p x)) xs) ∙ sum_by-filter_both p (λ x. not (p x)) (λ x. refl) (one test) xs;
 }
 
 -- two lists joined either way round
@@ -115,19 +133,6 @@ Contains-same_bag same decides xs ys x bag h =
     let here : 0 < count_by (same x) xs = count_by-of_member (same x) xs x h ((decides x x).1 refl) in
     let there = member-from_count_by (same x) ys (rw (bag.count (same x)) at here) in
     subst (Contains ys) (sym ((decides x there.0).0 there.2)) there.1
-
--- the members of a mapped list
-pub Contains-map : {A B : Type 0} (f : A → B) (xs : List A) (x : A) → Contains xs x → Contains (map f xs) (f x)
-Contains-map f [] x h = absurd (omega (arith, h.1))
-Contains-map f (y ∷ ys) x (zero, l, e) = (0, omega arith, ap f e)
-Contains-map f (y ∷ ys) x (suc k, l, e) = Contains-cons (f y) (map f ys) (f x) (Contains-map f ys x (k, omega arith, e))
-
-pub Contains-from_map : {A B : Type 0} (f : A → B) (xs : List A) (y : B) → Contains (map f xs) y → (x : A) × Contains xs x × (f x ≡ y)
-Contains-from_map f [] y h = absurd (omega (arith, h.1))
-Contains-from_map f (x ∷ xs) y (zero, l, e) = (x, (0, omega arith, refl), e)
-Contains-from_map f (x ∷ xs) y (suc k, l, e) =
-    let rest = Contains-from_map f xs y (k, omega arith, e) in
-    (rest.0, Contains-cons x xs rest.0 rest.1, rest.2)
 
 -- what is held under a hash
 pub Contains-with_hash : {A : Type 0} (hash : ℕ) (entries : List (ℕ × A)) (r : A) → Contains entries (hash, r) → Contains (with_hash hash entries) r

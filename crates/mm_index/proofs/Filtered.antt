@@ -14,6 +14,13 @@ filter_none p [] h = refl
 filter_none p (x ∷ xs) h =
     rw (All-head (λ y. p y ≡ false) x xs h) (filter_none p xs (All-tail (λ y. p y ≡ false) x xs h))
 
+-- two tests that agree at each element keep the same elements
+pub filter_agree_on : {A : Type 0} (p q : A → Bool) (xs : List A) → All (λ x. p x ≡ q x) xs → filter p xs ≡ filter q xs
+filter_agree_on p q [] h = refl
+filter_agree_on {A} p q (x ∷ xs) h =
+    let rest : filter p xs ≡ filter q xs = filter_agree_on p q xs (All-tail (λ y. p y ≡ q y) x xs h) in
+    rw (All-head (λ y. p y ≡ q y) x xs h, rest) refl
+
 -- what holds of the first i holds of `take i`, and what holds from i on of `drop i`
 pub All-take_within : {A : Type 0} (P : A → Type 0) (xs : List A) (i : ℕ) → AllWithin P xs 0 i → All P (take i xs)
 All-take_within P xs i h = λ k d l.

@@ -1,62 +1,48 @@
--- What an insert and a removal by a strict order do to a list's members and its length.
-use Rattle.std.proofs.Common.{◌≡◌, ◌≢◌, zero, suc, ◌+◌, ◌<◌, ◌≤◌, Bool, true, false, not, cond, List, [], ◌∷◌, ◌++◌, length, get_or, refl, sym, ap, ◌∙◌, ◌⊎◌, arith, subst, inl, inr, Ordering}
-use Rattle.std.specs.List.{filter, All, AllWithin, Contains}
+-- What an insert and a removal by a strict order do to a list's members, its bag and its length.
+use Rattle.std.proofs.Common.{◌≡◌, ◌≢◌, ◌+◌, ◌≤◌, Bool, true, not, List, ◌∷◌, length, get_or, take, drop, refl, sym, ap, ◌∙◌, ◌⊎◌, arith, subst, inl, inr, Ordering}
+use Rattle.std.specs.List.{filter, All, Contains}
 use Rattle.std.specs.declared.cmp.Ordering.TheVariants.{Less, Equal, Greater}
 use Rattle.std.specs.Ordering.{is_lt, is_gt, is_eq, ordering_index}
-use Rattle.std.proofs.lemmas.List.{length-append, get_or_default}
-use Rattle.std.proofs.lemmas.List.Edits.{length-remove}
-use Rattle.std.proofs.lemmas.List.Elements.{All-filter, All-append, All-cons, All-head, All-tail, All-contains, All-contains_itself, Contains-get_or, filter_passes, Contains-append_left, Contains-append_right, Contains-append_cases}
+use Rattle.std.proofs.lemmas.List.Elements.{All-filter, All-append, All-cons, All-contains, Contains-get_or, Contains-append_left, Contains-append_right, Contains-append_cases}
 use Rattle.std.proofs.lemmas.Bool.{cases_order, true≢false}
-use Rattle.mm_index.specs.Order.{IsStrictOver, IsRising, insert_by, remove_by}
+use Rattle.mm_index.specs.Bag.{IsSameBag}
+use Rattle.mm_index.specs.Order.{IsStrictOver, IsRising, insert_placed, insert_by, remove_by}
 use Rattle.mm_index.specs.Range.{NeverFalls}
-use Rattle.mm_index.proofs.Placed.{cmp_itself, cmp_from_Less, remove_by_at}
-
--- what a filter keeps, of the members
-pub Contains-filter : {A : Type 0} (p : A → Bool) (xs : List A) (x : A) → Contains xs x → p x ≡ true → Contains (filter p xs) x
-Contains-filter p [] x h e = absurd (omega (arith, h.1))
-Contains-filter p (y ∷ ys) x (zero, l, f) e = rw (ap p f ∙ e) (0, omega arith, f)
-Contains-filter p (y ∷ ys) x (suc k, l, f) e =
-    let rest : Contains (filter p ys) x = Contains-filter p ys x (k, omega arith, f) e in
-    elim (p y) as (λ b. Contains (cond b (y ∷ filter p ys) (filter p ys)) x) [
-      | true ↦ (suc rest.0, omega (arith, rest.1), rest.2)
-      | false ↦ rest
-    ]
-
-pub Contains-from_filter : {A : Type 0} (p : A → Bool) (xs : List A) (x : A) → Contains (filter p xs) x → Contains xs x × (p x ≡ true)
-Contains-from_filter p xs x h = (
-  All-contains (Contains xs) (filter p xs) x (All-filter p (Contains xs) xs (All-contains_itself xs)) h,
-  All-contains (λ y. p y ≡ true) (filter p xs) x (filter_passes p xs) h,
-)
-
-pub Contains-cons_cases : {A : Type 0} (y : A) (ys : List A) (x : A) → Contains (y ∷ ys) x → (x ≡ y) ⊎ Contains ys x
-Contains-cons_cases y ys x (zero, l, e) = inl (sym e)
-Contains-cons_cases y ys x (suc k, l, e) = inr (k, omega arith, e)
-
-pub Contains-cons : {A : Type 0} (y : A) (ys : List A) (x : A) → Contains ys x → Contains (y ∷ ys) x
-Contains-cons y ys x h = (suc h.0, omega (arith, h.1), h.2)
+use Rattle.mm_index.proofs.Bags.{IsSameBag-trans, IsSameBag-cons, IsSameBag-from_same, IsSameBag-middle, IsSameBag-filter_both, length-same_bag}
+use Rattle.mm_index.proofs.Filtered.{filter_agree_on}
+use Rattle.mm_index.proofs.Members.{Contains-cons, Contains-cons_cases, Contains-filter, Contains-from_filter}
+use Rattle.mm_index.proofs.Placed.{cmp_itself, split_at_member, remove_by_member}
 
 -- a fact of each member is one of each after an insert
+pub All-insert_placed : {A : Type 0} (P : A → Type 0) (place : A → Ordering) (r : A) (xs : List A) → All P xs → P r → All P (insert_placed place r xs)
+unfolding insert_placed
+All-insert_placed P place r xs h k =
+    All-append P (filter (λ q. is_lt (place q)) xs) (r ∷ filter (λ q. is_gt (place q)) xs)
+    (All-filter (λ q. is_lt (place q)) P xs h) (All-cons P r (filter (λ q. is_gt (place q)) xs) k (All-filter (λ q. is_gt (place q)) P xs h))
+
 pub All-insert_by : {A : Type 0} (P : A → Type 0) (cmp : A → A → Ordering) (r : A) (xs : List A) → All P xs → P r → All P (insert_by cmp r xs)
 unfolding insert_by
-All-insert_by P cmp r xs h k =
-    All-append P (filter (λ q. is_lt (cmp q r)) xs) (r ∷ filter (λ q. is_gt (cmp q r)) xs)
-    (All-filter (λ q. is_lt (cmp q r)) P xs h) (All-cons P r (filter (λ q. is_gt (cmp q r)) xs) k (All-filter (λ q. is_gt (cmp q r)) P xs h))
+All-insert_by P cmp r xs h k = All-insert_placed P (λ q. cmp q r) r xs h k
 
 pub All-remove_by : {A : Type 0} (P : A → Type 0) (cmp : A → A → Ordering) (r : A) (xs : List A) → All P xs → All P (remove_by cmp r xs)
 unfolding remove_by
 All-remove_by P cmp r xs h = All-filter (λ q. not (is_eq (cmp q r))) P xs h
 
 -- r is there after an insert, and whatever is there besides was there
+pub Contains-insert_placed_itself : {A : Type 0} (place : A → Ordering) (r : A) (xs : List A) → Contains (insert_placed place r xs) r
+unfolding insert_placed
+Contains-insert_placed_itself place r xs =
+    Contains-append_right (filter (λ q. is_lt (place q)) xs) (r ∷ filter (λ q. is_gt (place q)) xs) r (0, omega arith, refl)
+
 pub Contains-insert_by_itself : {A : Type 0} (cmp : A → A → Ordering) (r : A) (xs : List A) → Contains (insert_by cmp r xs) r
 unfolding insert_by
-Contains-insert_by_itself cmp r xs =
-    Contains-append_right (filter (λ q. is_lt (cmp q r)) xs) (r ∷ filter (λ q. is_gt (cmp q r)) xs) r (0, omega arith, refl)
+Contains-insert_by_itself cmp r xs = Contains-insert_placed_itself (λ q. cmp q r) r xs
 
-pub Contains-insert_by_cases : {A : Type 0} (cmp : A → A → Ordering) (r : A) (xs : List A) (q : A) → Contains (insert_by cmp r xs) q → (q ≡ r) ⊎ Contains xs q
-unfolding insert_by
-Contains-insert_by_cases {A} cmp r xs q h =
-    let low : A → Bool = λ a. is_lt (cmp a r) in
-    let high : A → Bool = λ a. is_gt (cmp a r) in
+pub Contains-insert_placed_cases : {A : Type 0} (place : A → Ordering) (r : A) (xs : List A) (q : A) → Contains (insert_placed place r xs) q → (q ≡ r) ⊎ Contains xs q
+unfolding insert_placed
+Contains-insert_placed_cases {A} place r xs q h =
+    let low : A → Bool = λ a. is_lt (place a) in
+    let high : A → Bool = λ a. is_gt (place a) in
     elim (Contains-append_cases (filter low xs) (r ∷ filter high xs) q h) [
       | inl front ↦ inr (Contains-from_filter low xs q front).0
       | inr back ↦ elim (Contains-cons_cases r (filter high xs) q back) [
@@ -64,6 +50,10 @@ Contains-insert_by_cases {A} cmp r xs q h =
         | inr behind ↦ inr (Contains-from_filter high xs q behind).0
       ]
     ]
+
+pub Contains-insert_by_cases : {A : Type 0} (cmp : A → A → Ordering) (r : A) (xs : List A) (q : A) → Contains (insert_by cmp r xs) q → (q ≡ r) ⊎ Contains xs q
+unfolding insert_by
+Contains-insert_by_cases cmp r xs q h = Contains-insert_placed_cases (λ q. cmp q r) r xs q h
 
 -- a list rises by each order that agrees with one by which it rises, at its members
 pub IsRising-agree : {A : Type 0} (cmp other : A → A → Ordering) (xs : List A) → ((p q : A) → Contains xs p → Contains xs q → other p q ≡ cmp p q) → IsRising cmp xs → IsRising other xs
@@ -79,22 +69,20 @@ NeverFalls-from_rising cmp place xs monotone rising = λ i j d l m.
       | inr (inr after) ↦ absurd (omega arith)
     ]
 
--- each element passes one of two tests
-length-filter_cover : {A : Type 0} (p q : A → Bool) (xs : List A) → All (λ x. q x ≡ not (p x)) xs → length (filter p xs) + length (filter q xs) ≡ length xs
-length-filter_cover p q [] h = refl
-length-filter_cover {A} p q (x ∷ xs) h =
-    let rest : length (filter p xs) + length (filter q xs) ≡ length xs =
-    length-filter_cover p q xs (All-tail (λ y. q y ≡ not (p y)) x xs h) in
-    rw (All-head (λ y. q y ≡ not (p y)) x xs h)
-    (elim (p x) as (λ b. length (cond b (x ∷ filter p xs) (filter p xs)) + length (cond (not b) (x ∷ filter q xs) (filter q xs)) ≡ suc (length xs)) [
-      | true ↦ omega (arith, rest)
-      | false ↦ omega (arith, rest)
-    ])
+not_lt-gt : (o : Ordering) → o ≢ Equal → is_gt o ≡ not (is_lt o)
+not_lt-gt Less h = refl
+not_lt-gt Equal h = absurd (h refl)
+not_lt-gt Greater h = refl
 
-gt_or_lt : (o : Ordering) → o ≢ Equal → is_gt o ≡ not (is_lt o)
-gt_or_lt Less h = refl
-gt_or_lt Equal h = absurd (h refl)
-gt_or_lt Greater h = refl
+-- where nothing stands at its place, r is one more
+pub IsSameBag-insert_placed : {A : Type 0} (place : A → Ordering) (r : A) (xs : List A) → All (λ q. place q ≢ Equal) xs → IsSameBag (insert_placed place r xs) (r ∷ xs)
+unfolding insert_placed
+IsSameBag-insert_placed {A} place r xs none =
+    let low : A → Bool = λ q. is_lt (place q) in
+    let high : A → Bool = λ q. is_gt (place q) in
+    let rest : filter high xs ≡ filter (λ q. not (low q)) xs = filter_agree_on high (λ q. not (low q)) xs (λ k d l. not_lt-gt (place (get_or xs k d)) (none k d l)) in
+    IsSameBag-trans (IsSameBag-middle (filter low xs) (filter high xs) r)
+    (IsSameBag-cons r (rw rest (IsSameBag-filter_both low xs)))
 
 test_fails : (o : Ordering) → o ≡ Equal → not (is_eq o) ≡ true → ⊥
 test_fails Less e h = cc
@@ -104,7 +92,7 @@ test_fails Greater e h = cc
 module _ {A : Type 0} (covers : A → Type 0) (cmp : A → A → Ordering) (order : IsStrictOver covers cmp) (r : A) (r_covered : covers r) (xs : List A) (covered : All covers xs) where
   -- what was there is there after an insert
   pub Contains-insert_by : (q : A) → Contains xs q → Contains (insert_by cmp r xs) q
-  unfolding insert_by
+  unfolding insert_by insert_placed
   Contains-insert_by q h =
       let low : A → Bool = λ a. is_lt (cmp a r) in
       let high : A → Bool = λ a. is_gt (cmp a r) in
@@ -135,34 +123,24 @@ module _ {A : Type 0} (covers : A → Type 0) (cmp : A → A → Ordering) (orde
       (both.0, λ e. test_fails (cmp q r) (ap (λ a. cmp a r) e ∙ cmp_itself covers cmp order r r_covered) both.1)
 
   -- one more after an insert, and one fewer after a removal
-  pub length-insert_by : (Contains xs r → ⊥) → length (insert_by cmp r xs) ≡ length xs + 1
+  none_equal : (Contains xs r → ⊥) → All (λ q. cmp q r ≢ Equal) xs
+  none_equal absent k d l e =
+      absent (subst (Contains xs) (order.strict (get_or xs k d) r (covered k d l) r_covered e) (Contains-get_or xs k d l))
+
+  pub IsSameBag-insert_by : (Contains xs r → ⊥) → IsSameBag (insert_by cmp r xs) (r ∷ xs)
   unfolding insert_by
-  length-insert_by absent =
-      let low : A → Bool = λ a. is_lt (cmp a r) in
-      let high : A → Bool = λ a. is_gt (cmp a r) in
-      let both : length (filter low xs) + length (filter high xs) ≡ length xs =
-      length-filter_cover low high xs
-      (λ k d l. gt_or_lt (cmp (get_or xs k d) r)
-      (λ e. absent (subst (Contains xs) (order.strict (get_or xs k d) r (covered k d l) r_covered e) (Contains-get_or xs k d l)))) in
-      let joined : length (filter low xs ++ r ∷ filter high xs) ≡ length (filter low xs) + length (r ∷ filter high xs) =
-      length-append (filter low xs) (r ∷ filter high xs) in
-      omega (arith, both, joined)
+  IsSameBag-insert_by absent = IsSameBag-insert_placed (λ q. cmp q r) r xs (none_equal absent)
+
+  pub IsSameBag-remove_by : IsRising cmp xs → Contains xs r → IsSameBag xs (r ∷ remove_by cmp r xs)
+  IsSameBag-remove_by rising held =
+      IsSameBag-trans (IsSameBag-from_same _ _ (split_at_member covers cmp order r xs covered r_covered rising held))
+      (IsSameBag-trans (IsSameBag-middle (take held.0 xs) (drop (held.0 + 1) xs) r)
+      (IsSameBag-cons r (IsSameBag-from_same _ _ (sym (remove_by_member covers cmp order r xs covered r_covered rising held)))))
+
+  pub length-insert_by : (Contains xs r → ⊥) → length (insert_by cmp r xs) ≡ length xs + 1
+  length-insert_by absent = length-same_bag (insert_by cmp r xs) (r ∷ xs) (IsSameBag-insert_by absent) ∙ omega arith
 
   pub length-remove_by : IsRising cmp xs → Contains xs r → length (remove_by cmp r xs) + 1 ≡ length xs
   length-remove_by rising held =
-      let k = held.0 in
-      let inside : k < length xs = held.1 in
-      let here : (d : A) → get_or xs k d ≡ r = λ d. get_or_default xs k d r inside ∙ held.2 in
-      let below : AllWithin (λ q. cmp q r ≡ Less) xs 0 k = λ j d z m.
-      subst (λ a. cmp (get_or xs j d) a ≡ Less) (here d) (rising j k d m inside) in
-      let not_below : AllWithin (λ q. cmp q r ≢ Less) xs k (length xs) = λ j d z m.
-      elim (cases_order k j) [
-        | inl same ↦ λ e. (let f : Equal ≡ Less = sym (rw (← same, here d) (cmp_itself covers cmp order r r_covered)) ∙ e in cc)
-        | inr (inl after) ↦ λ e.
-            (let f : Less ≡ Greater = sym e ∙ cmp_from_Less covers cmp order r (get_or xs j d) r_covered (covered j d m)
-            (subst (λ a. cmp a (get_or xs j d) ≡ Less) (here d) (rising k j d after m)) in cc)
-        | inr (inr before) ↦ absurd (omega arith)
-      ]
-      in
-      let at = remove_by_at covers cmp order r xs k covered r_covered below not_below rising held in
-      ap (λ ys. length ys + 1) at.1 ∙ length-remove xs k inside
+      let fewer : length xs ≡ length (r ∷ remove_by cmp r xs) = length-same_bag xs (r ∷ remove_by cmp r xs) (IsSameBag-remove_by rising held) in
+      omega arith

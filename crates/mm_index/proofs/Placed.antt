@@ -7,8 +7,8 @@ use Rattle.std.proofs.lemmas.List.{get_or_default, take-append-drop, drop_more}
 use Rattle.std.proofs.lemmas.List.Elements.{All-filter, All-cons, Contains-get_or, filter_passes, filter-append}
 use Rattle.std.proofs.lemmas.List.Kept.{AllPairs-cons, AllPairs-filter}
 use Rattle.std.proofs.lemmas.Bool.{cases_order}
-use Rattle.mm_index.specs.Order.{IsStrictOver, IsRising, insert_by, remove_by}
-use Rattle.mm_index.proofs.Filtered.{filter_first, filter_second, filter_all, All-take_within, All-drop_within}
+use Rattle.mm_index.specs.Order.{IsStrictOver, IsRising, insert_placed, insert_by, remove_by}
+use Rattle.mm_index.proofs.Filtered.{filter_first, filter_second, filter_all, filter_agree_on, All-take_within, All-drop_within}
 use Rattle.mm_index.proofs.Pairs.{AllPairs-append}
 
 own_turn : (o : Ordering) → o ≡ ordering_reverse o → o ≡ Equal
@@ -36,16 +36,36 @@ is_Greater Less e = cc
 is_Greater Equal e = cc
 is_Greater Greater e = refl
 
+-- r goes between what stands below its place and what stands above it
+pub insert_placed_split : {A : Type 0} (place : A → Ordering) (r : A) (bs cs : List A) → All (λ q. place q ≡ Less) bs → All (λ q. place q ≡ Greater) cs → insert_placed place r (bs ++ cs) ≡ bs ++ r ∷ cs
+unfolding insert_placed
+insert_placed_split place r bs cs below above =
+    let front : filter (λ q. is_lt (place q)) (bs ++ cs) ≡ bs =
+    filter_first (λ q. is_lt (place q)) bs cs (λ k d l. ap is_lt (below k d l)) (λ k d l. ap is_lt (above k d l)) in
+    let back : filter (λ q. is_gt (place q)) (bs ++ cs) ≡ cs =
+    filter_second (λ q. is_gt (place q)) bs cs (λ k d l. ap is_gt (below k d l)) (λ k d l. ap is_gt (above k d l)) in
+    cc
+
+pub insert_placed_at : {A : Type 0} (place : A → Ordering) (r : A) (xs : List A) (i : ℕ) → AllWithin (λ q. place q ≡ Less) xs 0 i → AllWithin (λ q. place q ≡ Greater) xs i (length xs) → insert_placed place r xs ≡ insert xs i r
+insert_placed_at place r xs i below above =
+    ap (insert_placed place r) (sym (take-append-drop i xs))
+    ∙ insert_placed_split place r (take i xs) (drop i xs) (All-take_within (λ q. place q ≡ Less) xs i below)
+    (All-drop_within (λ q. place q ≡ Greater) xs i above)
+
+-- a probe that places each member as the order stands it to r puts r at its place by the order
+pub insert_placed_by : {A : Type 0} (cmp : A → A → Ordering) (place : A → Ordering) (r : A) (xs : List A) → All (λ q. place q ≡ cmp q r) xs → insert_placed place r xs ≡ insert_by cmp r xs
+unfolding insert_placed insert_by
+insert_placed_by cmp place r xs agree =
+    let low : filter (λ q. is_lt (place q)) xs ≡ filter (λ q. is_lt (cmp q r)) xs =
+    filter_agree_on (λ q. is_lt (place q)) (λ q. is_lt (cmp q r)) xs (λ k d l. ap is_lt (agree k d l)) in
+    let high : filter (λ q. is_gt (place q)) xs ≡ filter (λ q. is_gt (cmp q r)) xs =
+    filter_agree_on (λ q. is_gt (place q)) (λ q. is_gt (cmp q r)) xs (λ k d l. ap is_gt (agree k d l)) in
+    rw (low, high) refl
+
 module _ {A : Type 0} (cmp : A → A → Ordering) (r : A) (bs cs : List A) (below : All (λ q. cmp q r ≡ Less) bs) (above : All (λ q. cmp q r ≡ Greater) cs) where
-  -- r goes between what stands below it and what stands above it
   pub insert_by_split : insert_by cmp r (bs ++ cs) ≡ bs ++ r ∷ cs
   unfolding insert_by
-  insert_by_split =
-      let front : filter (λ q. is_lt (cmp q r)) (bs ++ cs) ≡ bs =
-      filter_first (λ q. is_lt (cmp q r)) bs cs (λ k d l. ap is_lt (below k d l)) (λ k d l. ap is_lt (above k d l)) in
-      let back : filter (λ q. is_gt (cmp q r)) (bs ++ cs) ≡ cs =
-      filter_second (λ q. is_gt (cmp q r)) bs cs (λ k d l. ap is_gt (below k d l)) (λ k d l. ap is_gt (above k d l)) in
-      cc
+  insert_by_split = insert_placed_split (λ q. cmp q r) r bs cs below above
 
   -- and they close up where it is taken out
   pub remove_by_split : cmp r r ≡ Equal → remove_by cmp r (bs ++ r ∷ cs) ≡ bs ++ cs
@@ -71,7 +91,7 @@ module _ {A : Type 0} (covers : A → Type 0) (cmp : A → A → Ordering) (orde
 
   -- the list still rises
   pub IsRising-insert_by : (r : A) (xs : List A) → All covers xs → covers r → IsRising cmp xs → IsRising cmp (insert_by cmp r xs)
-  unfolding insert_by
+  unfolding insert_by insert_placed
   IsRising-insert_by r xs covered r_covered rising =
       let R : A → A → Type 0 = λ a b. cmp a b ≡ Less in
       let low : A → Bool = λ q. is_lt (cmp q r) in
@@ -94,17 +114,40 @@ module _ {A : Type 0} (covers : A → Type 0) (cmp : A → A → Ordering) (orde
   unfolding remove_by
   IsRising-remove_by r xs rising = AllPairs-filter (λ a b. cmp a b ≡ Less) (λ q. not (is_eq (cmp q r))) xs rising
 
+  -- a member of a rising list, between what stands below it and what stands above it
+  module _ (r : A) (xs : List A) (covered : All covers xs) (r_covered : covers r) (rising : IsRising cmp xs) (held : Contains xs r) where
+    pub split_at_member : xs ≡ take held.0 xs ++ r ∷ drop (held.0 + 1) xs
+    split_at_member =
+        sym (take-append-drop held.0 xs)
+        ∙ ap (λ ys. take held.0 xs ++ ys) (drop_more xs held.0 r held.1 ∙ ap (λ x. x ∷ drop (held.0 + 1) xs) held.2)
+
+    here : (d : A) → get_or xs held.0 d ≡ r
+    here d = get_or_default xs held.0 d r held.1 ∙ held.2
+
+    below_member : All (λ q. cmp q r ≡ Less) (take held.0 xs)
+    below_member =
+        All-take_within (λ q. cmp q r ≡ Less) xs held.0
+        (λ k d l m. subst (λ a. cmp (get_or xs k d) a ≡ Less) (here d) (rising k held.0 d m held.1))
+
+    above_member : All (λ q. cmp q r ≡ Greater) (drop (held.0 + 1) xs)
+    above_member =
+        All-drop_within (λ q. cmp q r ≡ Greater) xs (held.0 + 1)
+        (λ k d l m. cmp_from_Less r (get_or xs k d) r_covered (covered k d m)
+        (subst (λ a. cmp a (get_or xs k d) ≡ Less) (here d) (rising held.0 k d (omega arith) m)))
+
+    pub remove_by_member : remove_by cmp r xs ≡ take held.0 xs ++ drop (held.0 + 1) xs
+    remove_by_member =
+        ap (remove_by cmp r) split_at_member
+        ∙ remove_by_split cmp r (take held.0 xs) (drop (held.0 + 1) xs) below_member above_member (cmp_itself r r_covered)
+
   module _ (r : A) (xs : List A) (i : ℕ) (covered : All covers xs) (r_covered : covers r) (below : AllWithin (λ q. cmp q r ≡ Less) xs 0 i) (not_below : AllWithin (λ q. cmp q r ≢ Less) xs i (length xs)) where
     -- i is the place of an element that is not there
     pub insert_by_at : (Contains xs r → ⊥) → insert_by cmp r xs ≡ insert xs i r
+    unfolding insert_by
     insert_by_at absent =
-        let above : AllWithin (λ q. cmp q r ≡ Greater) xs i (length xs) = λ k d l m.
-        Greater-from_neither (cmp (get_or xs k d) r) (not_below k d l m)
-        (λ e. absent (subst (Contains xs) (order.strict (get_or xs k d) r (covered k d m) r_covered e) (Contains-get_or xs k d m)))
-        in
-        ap (insert_by cmp r) (sym (take-append-drop i xs))
-        ∙ insert_by_split cmp r (take i xs) (drop i xs) (All-take_within (λ q. cmp q r ≡ Less) xs i below)
-        (All-drop_within (λ q. cmp q r ≡ Greater) xs i above)
+        insert_placed_at (λ q. cmp q r) r xs i below
+        (λ k d l m. Greater-from_neither (cmp (get_or xs k d) r) (not_below k d l m)
+        (λ e. absent (subst (Contains xs) (order.strict (get_or xs k d) r (covered k d m) r_covered e) (Contains-get_or xs k d m))))
 
     -- i is the place of an element that is there
     at_place : IsRising cmp xs → Contains xs r → (i < length xs) × ((d : A) → get_or xs i d ≡ r)
@@ -122,14 +165,4 @@ module _ {A : Type 0} (covers : A → Type 0) (cmp : A → A → Ordering) (orde
     pub remove_by_at : IsRising cmp xs → Contains xs r → (i < length xs) × (remove_by cmp r xs ≡ remove xs i)
     remove_by_at rising held =
         let here = at_place rising held in
-        let inside : i < length xs = here.0 in
-        let above : AllWithin (λ q. cmp q r ≡ Greater) xs (i + 1) (length xs) = λ k d l m.
-        let low : cmp r (get_or xs k d) ≡ Less = subst (λ a. cmp a (get_or xs k d) ≡ Less) (here.1 d) (rising i k d (omega arith) m) in
-        cmp_from_Less r (get_or xs k d) r_covered (covered k d m) low
-        in
-        let cut : xs ≡ take i xs ++ (r ∷ drop (i + 1) xs) =
-        sym (take-append-drop i xs) ∙ ap (λ ys. take i xs ++ ys) (drop_more xs i r inside ∙ ap (λ x. x ∷ drop (i + 1) xs) (here.1 r)) in
-        let closed : remove_by cmp r (take i xs ++ (r ∷ drop (i + 1) xs)) ≡ take i xs ++ drop (i + 1) xs =
-        remove_by_split cmp r (take i xs) (drop (i + 1) xs) (All-take_within (λ q. cmp q r ≡ Less) xs i below)
-        (All-drop_within (λ q. cmp q r ≡ Greater) xs (i + 1) above) (cmp_itself r r_covered) in
-        (inside, ap (remove_by cmp r) cut ∙ closed ∙ rw add-one refl)
+        (here.0, remove_by_member r xs covered r_covered rising (i, here.0, here.1 r) ∙ rw add-one refl)

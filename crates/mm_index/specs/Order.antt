@@ -15,9 +15,13 @@ pub record IsStrictOver {A : Type 0} (covers : A → Type 0) (cmp : A → A → 
 abbrev pub IsRising : {A : Type 0} → (A → A → Ordering) → List A → Type 0
 IsRising cmp xs = AllPairs (λ a b. cmp a b ≡ Less) xs
 
--- r at its place: what stands below r, then r, then what stands above r
+-- r at a place: what stands below it, then r, then what stands above it
+unfoldable pub insert_placed : {A : Type 0} → (A → Ordering) → A → List A → List A
+insert_placed place r xs = filter (λ q. is_lt (place q)) xs ++ r ∷ filter (λ q. is_gt (place q)) xs
+
+-- r at its place by an order
 unfoldable pub insert_by : {A : Type 0} → (A → A → Ordering) → A → List A → List A
-insert_by cmp r xs = filter (λ q. is_lt (cmp q r)) xs ++ r ∷ filter (λ q. is_gt (cmp q r)) xs
+insert_by cmp r xs = insert_placed (λ q. cmp q r) r xs
 
 -- the list without r, which alone is Equal to r
 unfoldable pub remove_by : {A : Type 0} → (A → A → Ordering) → A → List A → List A

@@ -32,7 +32,7 @@ pub trait ExactIndex {
     fn remove(&mut self, hash: u64, r: TupleRef)
         requires { Contains (entries self.old) (hash, r) }
         ensures entries { IsSameBag (entries self.old) ((hash, r) ∷ entries self.new) }
-        ensures room { room self.old ≤ room self.new };
+        ensures room { room self.old + 1 ≤ room self.new };
 
     /// Appends the references with that hash, each as often as it is held, in any order.
     fn matching(&self, hash: u64, out: &mut Vec<TupleRef>) -> Result<(), NoMemory>

@@ -7,6 +7,7 @@
 #![tactic(auto)]
 
 pub mod exact_index;
+pub mod laws;
 pub mod order_probe;
 pub mod ordered_index;
 pub mod plain_bag;

@@ -29,7 +29,9 @@ impl<'a, O: TupleOrder> OrderProbe<'a, O> {
 }
 
 impl<'a, O: TupleOrder> Probe for OrderProbe<'a, O> {
-    ghost can_place = { λ p r. O.covers p.order.now r × O.covers p.order.now p.sought };
+    ghost is_sound = { λ p. O.is_sound p.order.now × O.covers p.order.now p.sought };
+
+    ghost can_place = { λ p r. O.covers p.order.now r };
 
     ghost place = { λ p r. O.cmp p.order.now r p.sought };
 

@@ -2,8 +2,8 @@
 ghost use Rattle.std.specs.Prelude.{◌≡◌, ◌≢◌, ℕ, ◌+◌, ◌^◌, ◌<◌, ◌≤◌, List, ◌++◌, length, Option, None, IfSome, IfNone, OnOk, OnErr, OnSome, All, Contains};
 ghost use Rattle.std.specs.declared.cmp.Ordering.{Ordering};
 ghost use Rattle.part_raw.specs.declared.tuple_ref.TupleRef.{TupleRef};
-ghost use Rattle.mm_index.specs.Asking.{IsOnlyAsked};
-ghost use Rattle.mm_index.specs.Order.{IsRising, insert_by, remove_by};
+ghost use Rattle.mm_index.specs.Asking.{IsOnlyAsked, counted};
+ghost use Rattle.mm_index.specs.Order.{IsRising, insert_by, insert_placed, remove_by};
 ghost use Rattle.mm_index.specs.Range.{NeverFalls, in_range};
 
 use crate::probe::Probe;
@@ -38,6 +38,7 @@ pub trait OrderedIndex {
         requires absent { ¬ (Contains (items self.old) r) }
 
         // The list rises by the order, which covers it and `r`.
+        requires sound { O.is_sound order.now }
         requires covered { All (O.covers order.now) (items self.old) }
         requires r_covered { O.covers order.now r }
         requires rising { IsRising (O.cmp order.now) (items self.old) }
@@ -51,6 +52,7 @@ pub trait OrderedIndex {
         requires held { Contains (items self.old) r }
 
         // The list rises by the order, which covers it.
+        requires sound { O.is_sound order.now }
         requires covered { All (O.covers order.now) (items self.old) }
         requires rising { IsRising (O.cmp order.now) (items self.old) }
 
@@ -60,21 +62,43 @@ pub trait OrderedIndex {
 
     /// A reference in the range of the probe.
     fn find<P: Probe>(&self, probe: &mut P) -> Option<TupleRef>
+        requires sound { P.is_sound probe.old }
         requires placed { All (P.can_place probe.old) (items self.now) }
         requires in_order { NeverFalls (P.place probe.old) (items self.now) }
         ensures held { IfSome result (Contains (items self.now)) }
         ensures found { IfSome result (λ r. P.place probe.old r ≡ Ordering.Equal) }
         ensures none { IfNone result (All (λ r. P.place probe.old r ≢ Ordering.Equal) (items self.now)) }
-        ensures probe { IsOnlyAsked P.can_place P.place P.asked probe.old probe.new }
+        ensures probe { IsOnlyAsked P.is_sound P.can_place P.place P.asked probe.old probe.new }
+        ensures asks { 0 < length (items self.now) → counted (P.asked probe.old) ≤ P.asked probe.new }
         ensures most_asked { IfSome (most_asked self.now) (λ n. P.asked probe.new ≤ P.asked probe.old + n) };
+
+    /// Puts `r` where the probe's range would stand and gives None, or gives a reference that stands in the range and
+    /// changes nothing. It searches once, and takes no memory.
+    fn insert_unless_found<P: Probe>(&mut self, probe: &mut P, r: TupleRef) -> Option<TupleRef>
+        requires reserved { 0 < room self.old }
+        requires short { length (items self.old) < 2 ^ 32 }
+        requires sound { P.is_sound probe.old }
+        requires placed { All (P.can_place probe.old) (items self.old) }
+        requires in_order { NeverFalls (P.place probe.old) (items self.old) }
+        ensures held { IfSome result (Contains (items self.old)) }
+        ensures found { IfSome result (λ q. P.place probe.old q ≡ Ordering.Equal) }
+        ensures kept { IfSome result (λ _. items self.new ≡ items self.old) }
+        ensures none { IfNone result (All (λ q. P.place probe.old q ≢ Ordering.Equal) (items self.old)) }
+        ensures inserted { IfNone result (items self.new ≡ insert_placed (P.place probe.old) r (items self.old)) }
+        ensures room { room self.old ≤ room self.new + 1 }
+        ensures kept_room { IfSome result (λ _. room self.new ≡ room self.old) }
+        ensures probe { IsOnlyAsked P.is_sound P.can_place P.place P.asked probe.old probe.new }
+        ensures asks { 0 < length (items self.old) → counted (P.asked probe.old) ≤ P.asked probe.new }
+        ensures most_asked { IfSome (most_asked self.old) (λ n. P.asked probe.new ≤ P.asked probe.old + n) };
 
     /// Appends the references in the range of the probe, in order.
     fn range<P: Probe>(&self, probe: &mut P, out: &mut Vec<TupleRef>) -> Result<(), NoMemory>
+        requires sound { P.is_sound probe.old }
         requires placed { All (P.can_place probe.old) (items self.now) }
         requires in_order { NeverFalls (P.place probe.old) (items self.now) }
         ensures ok { OnOk result (out.new.items ≡ out.old.items ++ in_range (P.place probe.old) (items self.now)) }
         ensures err { OnErr result (out.new.items ≡ out.old.items) }
-        ensures probe { IsOnlyAsked P.can_place P.place P.asked probe.old probe.new }
+        ensures probe { IsOnlyAsked P.is_sound P.can_place P.place P.asked probe.old probe.new }
 
         // Beyond the search it asks once for each reference that it appends, and once more.
         ensures most_asked { IfSome (most_asked self.now) (λ n. OnOk result (P.asked probe.new ≤ P.asked probe.old + n + length (in_range (P.place probe.old) (items self.now)) + 1)) };

@@ -25,6 +25,8 @@ impl Model for PlainBag {
 }
 
 impl PlainBag {
+    ghost use Rattle.mm_index.specs.Chain.{chain_rest};
+
     /// An empty index, which has taken no memory.
     pub fn new(alloc: Global) -> PlainBag
         ensures { result.entries ≡ [] }
@@ -36,7 +38,7 @@ impl PlainBag {
 
     /// The references with that hash, each as often as it is held, in any order.
     pub fn chain(&self, hash: u64) -> Chain<'_>
-        ensures { IsSameBag result (with_hash hash self.now.entries) }
+        ensures { IsSameBag (chain_rest result) (with_hash hash self.now.entries) }
     {
         Chain {
             hash,
@@ -96,39 +98,28 @@ fn place_of(pairs: &[(u64, TupleRef)], hash: u64, r: TupleRef) -> usize
 }
 
 /// The references with one hash that are left to visit.
-#[derive(Drop)]
+#[derive(Clone, Copy)]
 pub struct Chain<'a> {
     hash: u64,
     rest: &'a [(u64, TupleRef)],
 }
 
-impl<'a> Model for Chain<'a> {
-    ghost use Rattle.std.specs.Prelude.{List};
-    ghost use Rattle.part_raw.specs.declared.tuple_ref.TupleRef.{TupleRef};
-    ghost use Rattle.mm_index.specs.Bag.{with_hash};
-
-    ghost Value = { List TupleRef };
-
-    ghost view = { λ c. with_hash c.hash c.rest.now };
-}
-
 impl<'a> Iterator for Chain<'a> {
+    ghost use Rattle.mm_index.specs.Chain.{chain_rest};
+
     type Item = TupleRef;
 
-    ghost next_gives = { YieldsFirst (λ c. c) };
+    ghost next_gives = { YieldsFirst chain_rest };
 
-    ghost remaining = { item_count (λ c. c) };
+    ghost remaining = { item_count chain_rest };
 
     fn next(&mut self) -> Option<TupleRef> {
-        let mut rest = self.rest;
-        while let Some(((held, r), others)) = rest.split_first() {
-            rest = others;
+        while let Some(((held, r), rest)) = self.rest.split_first() {
+            self.rest = rest;
             if *held == self.hash {
-                self.rest = rest;
                 return Some(*r);
             }
         }
-        self.rest = rest;
         None
     }
 }

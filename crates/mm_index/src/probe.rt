@@ -9,6 +9,9 @@ use std::cmp::Ordering;
 
 /// A sought range of tuples. An index hands it the references that a search meets.
 pub trait Probe {
+    // whether the probe may be asked at all over what it now reads
+    ghost is_sound: { Self → Type 0 } = { λ _. Unit {0} };
+
     // the references that the probe may be asked about
     ghost can_place: { Self → TupleRef → Type 0 };
 
@@ -20,10 +23,12 @@ pub trait Probe {
 
     /// Where the tuple of `r` stands: `Less` below the range, `Equal` in it, `Greater` above it.
     fn place(&mut self, r: TupleRef) -> Ordering
-        requires { can_place self.old r }
+        requires sound { is_sound self.old }
+        requires may_ask { can_place self.old r }
         ensures value { result ≡ place self.old r }
 
         // Asking changes no answer, and is counted.
+        ensures sound { is_sound self.new }
         ensures answers { place self.new ≡ place self.old }
         ensures may_ask { (q : TupleRef) → can_place self.old q → can_place self.new q }
         ensures count { asked self.new ≡ counted (asked self.old) };

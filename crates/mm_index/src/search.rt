@@ -1,7 +1,7 @@
 //! The binary search of a sorted list.
-ghost use Rattle.std.specs.Prelude.{◌≡◌, ◌≢◌, ◌≤◌, length, All};
+ghost use Rattle.std.specs.Prelude.{◌≡◌, ◌≢◌, ◌<◌, ◌≤◌, length, IfOk, IfErr, All, Contains};
 ghost use Rattle.std.specs.List.{AllWithin};
-ghost use Rattle.mm_index.specs.Asking.{IsOnlyAsked};
+ghost use Rattle.mm_index.specs.Asking.{IsOnlyAsked, counted};
 ghost use Rattle.mm_index.specs.Order.{IsRising};
 ghost use Rattle.mm_index.specs.Range.{NeverFalls};
 
@@ -13,12 +13,14 @@ use std::cmp::Ordering;
 
 // The place of the first reference that does not stand below the range, or the length.
 pub(crate) fn first_not_below<P: Probe>(items: &[TupleRef], probe: &mut P) -> usize
+    requires sound { P.is_sound probe.old }
     requires placed { All (P.can_place probe.old) items.now }
     requires in_order { NeverFalls (P.place probe.old) items.now }
     ensures bound { result ≤ length items.now }
     ensures below { AllWithin (λ r. P.place probe.old r ≡ Ordering.Less) items.now 0 result }
     ensures not_below { AllWithin (λ r. P.place probe.old r ≢ Ordering.Less) items.now result (length items.now) }
-    ensures probe { IsOnlyAsked P.can_place P.place P.asked probe.old probe.new }
+    ensures probe { IsOnlyAsked P.is_sound P.can_place P.place P.asked probe.old probe.new }
+    ensures asks { 0 < length items.now → counted (P.asked probe.old) ≤ P.asked probe.new }
 {
     let mut low = 0;
     let mut high = items.len();
@@ -33,8 +35,29 @@ pub(crate) fn first_not_below<P: Probe>(items: &[TupleRef], probe: &mut P) -> us
     low
 }
 
+// The first reference in the range, or else the place of the first that stands above it, or the length.
+pub(crate) fn find_or_place<P: Probe>(items: &[TupleRef], probe: &mut P) -> Result<TupleRef, usize>
+    requires sound { P.is_sound probe.old }
+    requires placed { All (P.can_place probe.old) items.now }
+    requires in_order { NeverFalls (P.place probe.old) items.now }
+    ensures held { IfOk result (Contains items.now) }
+    ensures found { IfOk result (λ r. P.place probe.old r ≡ Ordering.Equal) }
+    ensures bound { IfErr result (λ n. n ≤ length items.now) }
+    ensures below { IfErr result (AllWithin (λ r. P.place probe.old r ≡ Ordering.Less) items.now 0) }
+    ensures above { IfErr result (λ n. AllWithin (λ r. P.place probe.old r ≡ Ordering.Greater) items.now n (length items.now)) }
+    ensures probe { IsOnlyAsked P.is_sound P.can_place P.place P.asked probe.old probe.new }
+    ensures asks { 0 < length items.now → counted (P.asked probe.old) ≤ P.asked probe.new }
+{
+    let first = first_not_below(items, probe);
+    match items.get(first) {
+        Some(r) if probe.place(*r).is_eq() => Ok(*r),
+        _ => Err(first),
+    }
+}
+
 // The place of the first reference that does not stand below `r`, or the length.
 pub(crate) fn place_by_order<O: TupleOrder>(items: &[TupleRef], order: &O, r: TupleRef) -> usize
+    requires sound { O.is_sound order.now }
     requires covered { All (O.covers order.now) items.now }
     requires r_covered { O.covers order.now r }
     requires rising { IsRising (O.cmp order.now) items.now }
@@ -48,6 +71,7 @@ pub(crate) fn place_by_order<O: TupleOrder>(items: &[TupleRef], order: &O, r: Tu
 // The place of the first reference from `first` on that stands above the range, or the length.
 pub(crate) fn first_not_equal<P: Probe>(items: &[TupleRef], first: usize, probe: &mut P) -> usize
     requires within { first ≤ length items.now }
+    requires sound { P.is_sound probe.old }
     requires placed { All (P.can_place probe.old) items.now }
     requires in_order { NeverFalls (P.place probe.old) items.now }
     requires not_below { AllWithin (λ r. P.place probe.old r ≢ Ordering.Less) items.now first (length items.now) }
@@ -55,7 +79,7 @@ pub(crate) fn first_not_equal<P: Probe>(items: &[TupleRef], first: usize, probe:
     ensures bound { result ≤ length items.now }
     ensures equal { AllWithin (λ r. P.place probe.old r ≡ Ordering.Equal) items.now first result }
     ensures above { AllWithin (λ r. P.place probe.old r ≡ Ordering.Greater) items.now result (length items.now) }
-    ensures probe { IsOnlyAsked P.can_place P.place P.asked probe.old probe.new }
+    ensures probe { IsOnlyAsked P.is_sound P.can_place P.place P.asked probe.old probe.new }
 {
     let mut end = first;
     while end < items.len() && probe.place(items[end]).is_eq() {

@@ -1,12 +1,12 @@
 //! The plain ordered index: a sorted vector.
-ghost use Rattle.std.specs.Prelude.{◌≡◌, [], All};
-ghost use Rattle.mm_index.specs.Asking.{IsOnlyAsked};
+ghost use Rattle.std.specs.Prelude.{◌≡◌, ◌+◌, ◌<◌, ◌≤◌, [], length, insert, All};
+ghost use Rattle.mm_index.specs.Asking.{IsOnlyAsked, counted};
 ghost use Rattle.mm_index.specs.Range.{NeverFalls, from_range};
 ghost use Rattle.std.specs.Iterator.{YieldsFirst, item_count};
 
 use crate::ordered_index::OrderedIndex;
 use crate::probe::Probe;
-use crate::search::{first_not_below, first_not_equal, place_by_order};
+use crate::search::{find_or_place, first_not_below, first_not_equal, place_by_order};
 use crate::tuple_order::TupleOrder;
 use no_memory::NoMemory;
 use part_raw::TupleRef;
@@ -29,6 +29,8 @@ impl Model for SortedVec {
 }
 
 impl SortedVec {
+    ghost use Rattle.mm_index.specs.Walk.{rest_of};
+
     /// An empty index, which has taken no memory.
     pub fn new(alloc: Global) -> SortedVec
         ensures { result.items ≡ [] }
@@ -40,7 +42,7 @@ impl SortedVec {
 
     /// The references in order.
     pub fn walk(&self) -> Walk<'_>
-        ensures { result ≡ self.now.items }
+        ensures { rest_of result ≡ self.now.items }
     {
         Walk {
             rest: self.refs.as_slice(),
@@ -49,16 +51,29 @@ impl SortedVec {
 
     /// The references in order, from the first that does not stand below the probe's range.
     pub fn walk_from<P: Probe>(&self, probe: &mut P) -> Walk<'_>
+        requires sound { P.is_sound probe.old }
         requires placed { All (P.can_place probe.old) self.now.items }
         requires in_order { NeverFalls (P.place probe.old) self.now.items }
-        ensures rest { result ≡ from_range (P.place probe.old) self.now.items }
-        ensures probe { IsOnlyAsked P.can_place P.place P.asked probe.old probe.new }
+        ensures rest { rest_of result ≡ from_range (P.place probe.old) self.now.items }
+        ensures probe { IsOnlyAsked P.is_sound P.can_place P.place P.asked probe.old probe.new }
+        ensures asks { 0 < length self.now.items → counted (P.asked probe.old) ≤ P.asked probe.new }
     {
         let refs = self.refs.as_slice();
         let first = first_not_below(refs, probe);
         Walk {
             rest: &refs[first..],
         }
+    }
+
+    // Puts `r` at a place of the list.
+    fn insert_at(&mut self, place: usize, r: TupleRef)
+        requires reserved { 0 < self.old.room }
+        requires within { place ≤ length self.old.items }
+        ensures items { self.new.items ≡ insert self.old.items place r }
+        ensures room { self.old.room ≤ self.new.room + 1 }
+    {
+        let inserted = self.refs.insert(place, r);
+        prove!(inserted.is_ok());
     }
 }
 
@@ -74,8 +89,7 @@ impl OrderedIndex for SortedVec {
 
     fn insert<O: TupleOrder>(&mut self, order: &O, r: TupleRef) {
         let place = place_by_order(self.refs.as_slice(), order, r);
-        let inserted = self.refs.insert(place, r);
-        prove!(inserted.is_ok());
+        self.insert_at(place, r);
     }
 
     fn remove<O: TupleOrder>(&mut self, order: &O, r: TupleRef) {
@@ -84,13 +98,16 @@ impl OrderedIndex for SortedVec {
     }
 
     fn find<P: Probe>(&self, probe: &mut P) -> Option<TupleRef> {
-        let refs = self.refs.as_slice();
-        let first = first_not_below(refs, probe);
-        let r = *refs.get(first)?;
-        if probe.place(r).is_eq() {
-            Some(r)
-        } else {
-            None
+        find_or_place(self.refs.as_slice(), probe).ok()
+    }
+
+    fn insert_unless_found<P: Probe>(&mut self, probe: &mut P, r: TupleRef) -> Option<TupleRef> {
+        match find_or_place(self.refs.as_slice(), probe) {
+            Ok(found) => Some(found),
+            Err(place) => {
+                self.insert_at(place, r);
+                None
+            }
         }
     }
 
@@ -112,26 +129,19 @@ impl OrderedIndex for SortedVec {
 }
 
 /// The references of an index that are left to visit, in order.
-#[derive(Drop)]
+#[derive(Clone, Copy)]
 pub struct Walk<'a> {
     rest: &'a [TupleRef],
 }
 
-impl<'a> Model for Walk<'a> {
-    ghost use Rattle.std.specs.Prelude.{List};
-    ghost use Rattle.part_raw.specs.declared.tuple_ref.TupleRef.{TupleRef};
-
-    ghost Value = { List TupleRef };
-
-    ghost view = { λ w. w.rest.now };
-}
-
 impl<'a> Iterator for Walk<'a> {
+    ghost use Rattle.mm_index.specs.Walk.{rest_of};
+
     type Item = TupleRef;
 
-    ghost next_gives = { YieldsFirst (λ w. w) };
+    ghost next_gives = { YieldsFirst rest_of };
 
-    ghost remaining = { item_count (λ w. w) };
+    ghost remaining = { item_count rest_of };
 
     fn next(&mut self) -> Option<TupleRef> {
         let (first, rest) = self.rest.split_first()?;

@@ -9,6 +9,9 @@ use std::cmp::Ordering;
 
 /// An order of tuples, asked through their references. No two tuples that it covers are equal.
 pub trait TupleOrder {
+    // whether the order is one over what it now reads: a premise of its law, and asked by each call
+    ghost is_sound: { Self → Type 0 };
+
     // the references that the order may be asked about
     ghost covers: { Self → TupleRef → Type 0 };
 
@@ -17,10 +20,11 @@ pub trait TupleOrder {
 
     /// How the tuple of `a` stands to that of `b`.
     fn cmp(&self, a: TupleRef, b: TupleRef) -> Ordering
+        requires sound { is_sound self.now }
         requires a_covered { covers self.now a }
         requires b_covered { covers self.now b }
         ensures { result ≡ cmp self.now a b };
 
-    // Over what it covers the order is total and strict.
-    ghost is_strict: { (order : Self) → IsStrictOver (covers order) (cmp order) };
+    // Over what it covers a sound order is total and strict.
+    ghost is_strict: { (order : Self) → is_sound order → IsStrictOver (covers order) (cmp order) };
 }

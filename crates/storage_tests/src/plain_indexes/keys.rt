@@ -5,6 +5,7 @@ ghost use Rattle.std.specs.Ordering.{nat_cmp};
 ghost use Rattle.std.specs.declared.cmp.Ordering.TheVariants.{Less, Equal, Greater};
 ghost use Rattle.mm_index.specs.Order.{IsRising};
 
+use super::table::list_unless_found;
 use mm_index::{OrderedIndex, Probe, TupleOrder};
 use no_memory::NoMemory;
 use part_raw::TupleRef;
@@ -26,11 +27,13 @@ impl TupleOrder for KeyOrder {
     ghost use Rattle.std.specs.Ordering.{nat_cmp};
     ghost use Rattle.std.specs.declared.cmp.Ordering.TheVariants.{Equal};
 
+    ghost is_sound = { λ _. Unit {0} };
+
     ghost covers = { λ _ r. r.slot ≡ 0 };
 
     ghost cmp = { λ _ a b. nat_cmp a.part b.part };
 
-    ghost is_strict = { λ _. record {
+    ghost is_strict = { λ _ _. record {
       antisymm = λ a b _ _. nat_cmp_total.antisymm a.part b.part;
       trans = λ a b c _ _ _ h k. nat_cmp_total.trans a.part b.part c.part h k;
       strict = λ a b p q e.
@@ -110,6 +113,27 @@ pub fn add<I: OrderedIndex>(index: &mut I, key: u32) -> Result<(), NoMemory>
         index.insert(&KeyOrder, keyed(key));
     }
     Ok(())
+}
+
+// Inserts the key, unless it is found by the same search.
+pub fn add_unless_found<I: OrderedIndex>(
+    index: &mut I,
+    key: u32,
+) -> Result<Option<TupleRef>, NoMemory>
+    requires rising { IsRising (λ a b. nat_cmp a.part b.part) (I.items index.old) }
+    requires slots { All (λ r. r.slot ≡ 0) (I.items index.old) }
+    ensures rising { IsRising (λ a b. nat_cmp a.part b.part) (I.items index.new) }
+    ensures slots { All (λ r. r.slot ≡ 0) (I.items index.new) }
+{
+    if index.len() >= 4_294_967_296 {
+        return Err(NoMemory);
+    }
+    let mut probe = KeyRange {
+        low: key,
+        high: key,
+        asked: 0,
+    };
+    list_unless_found(index, &KeyOrder, &mut probe, keyed(key))
 }
 
 // Removes the key, where it is there.

@@ -3,9 +3,10 @@ ghost use Rattle.std.specs.Prelude.{◌≡◌, All};
 ghost use Rattle.std.specs.Ordering.{nat_cmp};
 ghost use Rattle.mm_index.specs.Order.{IsRising};
 
-use super::keys::{KeyRange, add, find_key, keyed, range_keys, take};
+use super::keys::{KeyRange, add, add_unless_found, find_key, keyed, range_keys, take};
 use mm_index::{OrderedIndex, Probe, SortedVec, Walk};
 use no_memory::NoMemory;
+use std::process::Abort;
 
 fn add_all(index: &mut SortedVec, keys: &[u32]) -> Result<(), NoMemory>
     requires rising { IsRising (λ a b. nat_cmp a.part b.part) index.old.items }
@@ -32,7 +33,7 @@ fn take_all(index: &mut SortedVec, keys: &[u32])
 
 // Whether a walk gives just these keys.
 fn gives(walk: Walk<'_>, keys: &[u32]) -> bool {
-    walk.map(|r| r.part).eq(keys.iter().copied())
+    walk.eq(keys.iter().map(|key| keyed(*key)))
 }
 
 fn walk_from(index: &SortedVec, low: u32) -> Walk<'_>
@@ -80,6 +81,31 @@ fn searches_by_probe(rt: HostRuntime) {
     assert!(rt; gives(walk_from(&index, 31), &[]));
 }
 
+// A key comes to its place, and one that is there is found in its stead.
+fn comes_once<I: OrderedIndex>(rt: &impl Abort, index: &mut I, key: u32)
+    requires rising { IsRising (λ a b. nat_cmp a.part b.part) (I.items index.old) }
+    requires slots { All (λ r. r.slot ≡ 0) (I.items index.old) }
+    ensures rising { IsRising (λ a b. nat_cmp a.part b.part) (I.items index.new) }
+    ensures slots { All (λ r. r.slot ≡ 0) (I.items index.new) }
+{
+    let len = index.len();
+    assert_eq!(rt; add_unless_found(index, key).expect(rt, "memory"), None);
+    assert_eq!(rt;
+        add_unless_found(index, key).expect(rt, "memory"),
+        Some(keyed(key))
+    );
+    assert!(rt; index.len() > len);
+}
+
+#[test]
+fn inserts_unless_found(rt: HostRuntime) {
+    let mut index = SortedVec::new(rt.alloc());
+    comes_once(&rt, &mut index, 20);
+    comes_once(&rt, &mut index, 10);
+    comes_once(&rt, &mut index, 30);
+    assert!(rt; gives(index.walk(), &[10, 20, 30]));
+}
+
 #[test]
 fn a_range_is_appended(rt: HostRuntime) {
     let mut index = SortedVec::new(rt.alloc());
@@ -92,7 +118,7 @@ fn a_range_is_appended(rt: HostRuntime) {
     let mut out = Vec::new(rt.alloc());
     out.push(keyed(7)).expect(&rt, "memory");
     range_keys(&index, &mut probe, &mut out).expect(&rt, "memory");
-    assert!(rt; out.iter().map(|r| r.part).eq([7, 3, 5, 10]));
+    assert!(rt; out.iter().copied().eq([7, 3, 5, 10].into_iter().map(keyed)));
     assert!(rt; 0 < probe.asked() && probe.asked() < 10);
 }
 
@@ -128,8 +154,8 @@ fn range_under_refusal(rt: HostRuntime) {
     let len = if all { 4 } else { 1 };
     assert!(rt;
         out.iter()
-            .map(|r| r.part)
-            .eq([9, 1, 2, 3].into_iter().take(len))
+            .copied()
+            .eq([9, 1, 2, 3].into_iter().map(keyed).take(len))
     );
     assert_eq!(rt; index.len(), 3);
 }

@@ -1,11 +1,11 @@
 //! A table's calls of its indexes, by the contracts alone: each function is proved for every index.
-ghost use Rattle.std.specs.Prelude.{◌≡◌, ◌≢◌, ◌⊎◌, ◌↔◌, ◌+◌, ◌^◌, ◌<◌, ◌≤◌, ◌∷◌, ◌++◌, length, IsTrue, IfOk, None, OnOk, OnErr, All, Any, Contains};
+ghost use Rattle.std.specs.Prelude.{◌≡◌, ◌≢◌, ◌⊎◌, ◌↔◌, ◌+◌, ◌^◌, ◌<◌, ◌≤◌, ◌∷◌, ◌++◌, length, IsTrue, IfOk, IfSome, IfNone, None, OnOk, OnErr, All, Any, Contains};
 ghost use Rattle.std.specs.declared.cmp.Ordering.{Ordering};
 ghost use Rattle.std.specs.List.{last_or};
 ghost use Rattle.part_raw.specs.declared.tuple_ref.TupleRef.{TupleRef};
 ghost use Rattle.mm_index.specs.Asking.{IsOnlyAsked};
 ghost use Rattle.mm_index.specs.Bag.{IsSameBag, with_hash};
-ghost use Rattle.mm_index.specs.Order.{IsRising};
+ghost use Rattle.mm_index.specs.Order.{IsRising, insert_by};
 ghost use Rattle.mm_index.specs.Range.{NeverFalls, from_range};
 
 use mm_index::{ExactIndex, OrderedIndex, PlainBag, Probe, SortedVec, TupleOrder};
@@ -21,6 +21,7 @@ pub fn list_two<I: OrderedIndex, O: TupleOrder>(
     b: TupleRef,
 ) -> Result<(), NoMemory>
     requires short { length (I.items index.old) + 1 < 2 ^ 32 }
+    requires sound { O.is_sound order.now }
     requires rising { IsRising (O.cmp order.now) (I.items index.old) }
     requires covered { All (O.covers order.now) (I.items index.old) }
     requires a_covered { O.covers order.now a }
@@ -46,6 +47,8 @@ pub fn move_one<I: OrderedIndex, O: TupleOrder>(index: &mut I, before: &O, after
     requires reserved { 0 < I.room index.old }
     requires short { length (I.items index.old) < 2 ^ 32 }
     requires held { Contains (I.items index.old) r }
+    requires sound { O.is_sound before.now }
+    requires sound_after { O.is_sound after.now }
     requires rising { IsRising (O.cmp before.now) (I.items index.old) }
     requires covered { All (O.covers before.now) (I.items index.old) }
     requires covered_after { All (O.covers after.now) (I.items index.old) }
@@ -59,12 +62,40 @@ pub fn move_one<I: OrderedIndex, O: TupleOrder>(index: &mut I, before: &O, after
     index.insert(after, r);
 }
 
+// A tuple comes into a tree, unless one stands where it would: then that one is answered. The probe places tuples as
+// the order stands them to the one that comes.
+pub fn list_unless_found<I: OrderedIndex, O: TupleOrder, P: Probe>(
+    index: &mut I,
+    order: &O,
+    probe: &mut P,
+    r: TupleRef,
+) -> Result<Option<TupleRef>, NoMemory>
+    requires short { length (I.items index.old) < 2 ^ 32 }
+    requires sound { O.is_sound order.now }
+    requires rising { IsRising (O.cmp order.now) (I.items index.old) }
+    requires covered { All (O.covers order.now) (I.items index.old) }
+    requires r_covered { O.covers order.now r }
+    requires probe_sound { P.is_sound probe.old }
+    requires placed { All (P.can_place probe.old) (I.items index.old) }
+    requires goes_with { All (λ q. P.place probe.old q ≡ O.cmp order.now q r) (I.items index.old) }
+
+    // One that is found is `r` itself, and one that isn't comes to its place by the order.
+    ensures found { IfOk result (λ found. IfSome found (λ q. (q ≡ r) × (I.items index.new ≡ I.items index.old))) }
+    ensures listed { IfOk result (λ found. IfNone found (I.items index.new ≡ insert_by (O.cmp order.now) r (I.items index.old))) }
+    ensures err { OnErr result (I.items index.new ≡ I.items index.old) }
+    ensures rising { IsRising (O.cmp order.now) (I.items index.new) }
+{
+    index.reserve(1)?;
+    Ok(index.insert_unless_found(probe, r))
+}
+
 // Whether a tuple stands in a probe's range.
 pub fn has<I: OrderedIndex, P: Probe>(index: &I, probe: &mut P) -> bool
+    requires sound { P.is_sound probe.old }
     requires placed { All (P.can_place probe.old) (I.items index.now) }
     requires in_order { NeverFalls (P.place probe.old) (I.items index.now) }
     ensures value { IsTrue result ↔ Any (λ r. P.place probe.old r ≡ Ordering.Equal) (I.items index.now) }
-    ensures probe { IsOnlyAsked P.can_place P.place P.asked probe.old probe.new }
+    ensures probe { IsOnlyAsked P.is_sound P.can_place P.place P.asked probe.old probe.new }
 {
     index.find(probe).is_some()
 }
@@ -102,6 +133,7 @@ pub fn gathered(alloc: Global, index: &SortedVec) -> Result<Vec<TupleRef>, Alloc
 
 // How many references a walk from a probe gives, and how many of them stand in slot 0.
 pub fn counted_from<P: Probe>(index: &SortedVec, probe: &mut P) -> usize
+    requires sound { P.is_sound probe.old }
     requires placed { All (P.can_place probe.old) index.now.items }
     requires in_order { NeverFalls (P.place probe.old) index.now.items }
     ensures { result ≡ length (from_range (P.place probe.old) index.now.items) }
@@ -109,15 +141,11 @@ pub fn counted_from<P: Probe>(index: &SortedVec, probe: &mut P) -> usize
     index.walk_from(probe).count()
 }
 
-// Each reference of a chain is met once.
-pub fn slots(index: &PlainBag, hash: u64) -> u64
-    requires { length index.now.entries < 2 ^ 31 }
+// The references of a chain are those with its hash, and end.
+pub fn chained(alloc: Global, index: &PlainBag, hash: u64) -> Result<Vec<TupleRef>, AllocError>
+    ensures { IfOk result (λ v. IsSameBag v.items (with_hash hash index.now.entries)) }
 {
-    let mut sum = 0u64;
-    for r in index.chain(hash) {
-        sum = sum.saturating_add(u64::from(r.slot));
-    }
-    sum
+    index.chain(hash).collect(alloc)
 }
 
 // The last reference of a walk.

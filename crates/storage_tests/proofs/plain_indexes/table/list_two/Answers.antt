@@ -5,7 +5,7 @@ use Rattle.storage_tests.proofs.plain_indexes.table.list_two.Goals as goal
 
 pub insert-requires-2-clause-short : goal.insert-requires-2-clause-short
 insert-requires-2-clause-short g c =
-    let longer = length-insert_by _ _ (g.met.O.TupleOrder.is_strict c.args.order.now) c.args.a c.requires.a_covered
+    let longer = length-insert_by _ _ (g.met.O.TupleOrder.is_strict c.args.order.now c.requires.sound) c.args.a c.requires.a_covered
     (g.I.OrderedIndex.items c.args.index.now) c.requires.covered c.requires.a_absent in
     rw (c.insert.ensures.items, c.reserve.ensures.items) (omega (arith, longer, c.requires.short))
 
@@ -23,7 +23,7 @@ insert-requires-2-clause-covered g c =
 
 pub returns-clause-added : goal.returns-clause-added
 returns-clause-added g c = λ q.
-    let order = g.met.O.TupleOrder.is_strict c.args.order.now in
+    let order = g.met.O.TupleOrder.is_strict c.args.order.now c.requires.sound in
     let xs = g.I.OrderedIndex.items c.args.index.now in
     let one = g.I.OrderedIndex.items c.insert.new.self in
     let first : one ≡ insert_by (g.O.TupleOrder.cmp c.args.order.now) c.args.a xs = rw c.insert.ensures.items (rw c.reserve.ensures.items refl) in (
