@@ -7,7 +7,7 @@ use crate::nodes::Place;
 use part_raw::TupleRef;
 
 /// A place in the tree of a `Links`: a node, or nothing where the tree is empty.
-#[derive(Drop)]
+#[derive(Clone, Copy)]
 pub struct Look<'a, const MAX: usize> {
     pub(crate) links: &'a Links<MAX>,
     pub(crate) at: Option<Place>,
