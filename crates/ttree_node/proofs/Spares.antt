@@ -13,6 +13,7 @@ use Rattle.ttree_node.specs.declared.parts.Parts.{Parts}
 use Rattle.ttree_node.proofs.Cuts.{same_place_eq}
 use Rattle.ttree_node.proofs.Maps.{without_other, without_length}
 use Rattle.ttree_node.proofs.Shape.{differs, read_stands, still_stands, still_chained}
+use Rattle.ttree_node.specs.declared.parts.TheConstants.{MOST_ITEMS}
 
 pub some_place : {x : Place} {q : Ptr} → Some x ≡ there q → x.at ≡ q
 some_place {x} {q} e = let same : x ≡ record { at = q } = cc in ap (λ (y : Place). y.at) same
@@ -44,7 +45,7 @@ module _ {MAX : ℕ} where
     not_chained [] h = refl
     not_chained (p ∷ ps) h = omega (arith, here p _ h.0, not_chained ps h.1)
 
-  pub added : (p p' : Parts MAX) (t : Tree Spot) (ps : List Ptr) (q : Ptr) → Linked p t ps → node_at q p.nodes.held ≡ None → length p.nodes.held + 1 < 2 ^ 40 → MAX ≤ 72057594037927936
+  pub added : (p p' : Parts MAX) (t : Tree Spot) (ps : List Ptr) (q : Ptr) → Linked p t ps → node_at q p.nodes.held ≡ None → length p.nodes.held + 1 < 2 ^ 40 → MAX ≤ MOST_ITEMS
       → p'.nodes.held ≡ (q, blank p.free) ∷ p.nodes.held → p'.root ≡ p.root → p'.free ≡ there q → p'.spares ≡ p.spares + 1 → Linked p' t (q ∷ ps)
   added p p' t ps q k none small narrow held root free spares =
       let m = p.nodes.held in let n : List (Ptr × Node MAX) = (q, blank p.free) ∷ m in

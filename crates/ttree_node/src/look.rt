@@ -1,6 +1,6 @@
 //! A place in a tree that is only read.
 ghost use Rattle.std.specs.Prelude.{◌≡◌, true, false};
-ghost use Rattle.ttree_node.specs.Linked.{located, misplaced};
+ghost use Rattle.ttree_node.specs.Linked.{located, IsPlaceIn};
 
 use crate::links::Links;
 use crate::nodes::Place;
@@ -11,7 +11,7 @@ use part_raw::TupleRef;
 pub struct Look<'a, const MAX: usize> {
     pub(crate) links: &'a Links<MAX>,
     pub(crate) at: Option<Place>,
-    ghost placed: { misplaced (located links.now) at ≡ 0 },
+    ghost placed: { IsPlaceIn (located links.now) at },
 }
 
 impl<'a, const MAX: usize> Look<'a, MAX> {

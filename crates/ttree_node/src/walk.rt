@@ -57,7 +57,7 @@ impl<'a, const MAX: usize> Iterator for Walk<'a, MAX> {
     fn next(&mut self) -> Option<TupleRef> {
         let links = self.look.links;
         if links.items(self.look.at).len() <= self.index {
-            self.look.at = Some(links.next_filled(self.look.at)?);
+            self.look.at = Some(links.next_with_items(self.look.at)?);
             self.index = 0;
         }
         let item = links.items(self.look.at)[self.index];
