@@ -159,7 +159,7 @@ impl<const MAX: usize> Parts<MAX> {
             parent: None,
             items: ArrayVec::new(),
         };
-        let block = Block::of(Box::new(self.alloc, node)?);
+        let block = Block::new(self.alloc, node)?;
         let place = self.nodes.take_in(block);
         self.free = Some(place);
         self.spares += 1;
@@ -175,10 +175,8 @@ impl<const MAX: usize> Parts<MAX> {
         ensures spares { self.new.spares + 1 ≡ self.old.spares }
     {
         let place = self.free.unwrap();
-        let next = self.nodes.get(place).left;
-        let block = self.nodes.give_out(place, self.alloc);
-        drop(block.into_box());
-        self.free = next;
+        let node = self.nodes.give_out(place, self.alloc).into_value();
+        self.free = node.left;
         self.spares -= 1;
     }
 }
