@@ -11,8 +11,7 @@ use crate::balance::rebalance;
 use crate::search::locate_to_edit;
 use mm_index::{OrderProbe, TupleOrder};
 use part_raw::TupleRef;
-use ttree_node::Editor;
-use ttree_node::node::Side;
+use ttree_node::{Editor, Side};
 
 // Puts `r` at its place.
 pub(crate) fn insert<O: TupleOrder, const MIN: usize, const MAX: usize>(

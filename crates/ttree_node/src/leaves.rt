@@ -32,7 +32,7 @@ impl<const MAX: usize> Links<MAX> {
         Some(leaf)
     }
 
-    /// The place above, if the leaf was not the root.
+    // The place above, if the leaf was not the root.
     pub(crate) fn drop_leaf(&mut self, place: Option<Place>) -> Option<Place>
         requires placed { IsPlaceIn (located self.old) place }
         requires leaf { is_leaf (position_at self.old place).here }

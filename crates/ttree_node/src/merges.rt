@@ -8,7 +8,7 @@ use crate::parts::MOST_ITEMS;
 use arrayvec::ArrayVec;
 use part_raw::TupleRef;
 
-/// Both lists, one after the other.
+// Both lists, one after the other.
 pub(crate) fn joined<const MAX: usize>(
     first: &[TupleRef],
     second: &[TupleRef],
@@ -40,7 +40,7 @@ impl<const MAX: usize> Links<MAX> {
         node.items = items;
     }
 
-    /// The right child, a leaf, gives the node all its items and becomes a spare node.
+    // The right child, a leaf, gives the node all its items and becomes a spare node.
     pub(crate) fn merge_right(&mut self, place: Option<Place>) -> Option<Place>
         requires placed { IsPlaceIn (located self.old) place }
         requires leaf { is_leaf (right_of (position_at self.old place).here) }
@@ -56,7 +56,7 @@ impl<const MAX: usize> Links<MAX> {
         self.drop_leaf(self.right_of(place))
     }
 
-    /// The left child, a leaf, gives the node all its items and becomes a spare node.
+    // The left child, a leaf, gives the node all its items and becomes a spare node.
     pub(crate) fn merge_left(&mut self, place: Option<Place>) -> Option<Place>
         requires placed { IsPlaceIn (located self.old) place }
         requires leaf { is_leaf (left_of (position_at self.old place).here) }

@@ -8,7 +8,7 @@ use no_memory::NoMemory;
 use std::alloc::{Allocator, Global};
 use std::marker::{Model, PhantomData};
 
-/// Where a node lies. It owns nothing.
+// Where a node lies. It owns nothing.
 #[derive(Clone, Copy)]
 pub struct Place {
     at: *mut u8,
@@ -55,7 +55,7 @@ impl<T: Drop, A: Allocator> Block<T, A> {
     }
 }
 
-/// The owner of the nodes' memory. It takes no space: the places lie in the nodes.
+// The owner of the nodes' memory. It takes no space: the places lie in the nodes.
 pub struct Nodes<T> {
     mark: PhantomData<*mut T>,
     ghost held: { Seq (Ptr × T) },
@@ -80,7 +80,7 @@ impl<T> Nodes<T> {
         Nodes { mark: PhantomData }
     }
 
-    /// Ends a set from which each node was given out.
+    // Ends a set from which each node was given out.
     pub(crate) fn finish(self)
         requires { self.held ≡ [] }
     {

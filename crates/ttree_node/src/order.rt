@@ -11,7 +11,7 @@ impl<const MAX: usize> Links<MAX> {
     ghost use Rattle.ttree_node.specs.Linked.{located, IsPlaceIn, there};
     ghost use Rattle.ttree_node.specs.Seen.{position_at};
 
-    /// On which side of its parent the node hangs.
+    // On which side of its parent the node hangs.
     fn side_at(&self, place: Option<Place>) -> Side
         requires { IsPlaceIn (located self.now) place }
         ensures { result ≡ last_side (position_at self.now place).above }
@@ -22,7 +22,7 @@ impl<const MAX: usize> Links<MAX> {
         }
     }
 
-    /// The first node of the subtree.
+    // The first node of the subtree.
     pub(crate) fn first_below(&self, place: Option<Place>) -> Option<Place>
         requires { IsPlaceIn (located self.now) place }
         ensures placed { IsPlaceIn (located self.now) result }
@@ -36,7 +36,7 @@ impl<const MAX: usize> Links<MAX> {
         first
     }
 
-    /// The first node behind the subtree.
+    // The first node behind the subtree.
     fn first_above(&self, place: Option<Place>) -> Option<Place>
         requires { IsPlaceIn (located self.now) place }
         ensures placed { IfSome result (λ found. IsPlaceIn (located self.now) (there found.at)) }
@@ -53,7 +53,7 @@ impl<const MAX: usize> Links<MAX> {
         }
     }
 
-    /// The node behind this one.
+    // The node behind this one.
     fn next_node(&self, place: Option<Place>) -> Option<Place>
         requires { IsPlaceIn (located self.now) place }
         ensures placed { IfSome result (λ found. IsPlaceIn (located self.now) (there found.at)) }
@@ -67,7 +67,7 @@ impl<const MAX: usize> Links<MAX> {
         }
     }
 
-    /// The next node behind this one that has items.
+    // The next node behind this one that has items.
     pub(crate) fn next_with_items(&self, place: Option<Place>) -> Option<Place>
         requires { IsPlaceIn (located self.now) place }
         ensures placed { IfSome result (λ found. IsPlaceIn (located self.now) (there found.at)) }

@@ -12,7 +12,7 @@ use std::alloc::Global;
 // No heap has a block for a node of more items.
 pub(crate) const MOST_ITEMS: usize = 1 << 56;
 
-/// The fields of a `Links`, of which a step may leave some links wrong for a while.
+// The fields of a `Links`, of which a step may leave some links wrong for a while.
 pub struct Parts<const MAX: usize> {
     pub(crate) nodes: Nodes<Node<MAX>>,
     pub(crate) alloc: Global,
@@ -40,7 +40,7 @@ impl<const MAX: usize> Parts<MAX> {
         }
     }
 
-    /// Takes the first spare node as a leaf with one item that links its parent. No node links it yet.
+    // Takes the first spare node as a leaf with one item that links its parent. No node links it yet.
     pub(crate) fn take_spare(&mut self, parent: Option<Place>, side: Side, item: TupleRef) -> Place
         requires sound { Sound self.old }
         requires some { 0 < self.old.spares }
@@ -64,7 +64,7 @@ impl<const MAX: usize> Parts<MAX> {
         place
     }
 
-    /// Makes the node there the first spare node. Nodes that link it are left as they are.
+    // Makes the node there the first spare node. Nodes that link it are left as they are.
     pub(crate) fn retire(&mut self, place: Place)
         requires present { IsSome (node_at place.at self.old.nodes.held) }
         requires narrow { MAX ≤ MOST_ITEMS }
@@ -86,7 +86,7 @@ impl<const MAX: usize> Parts<MAX> {
         self.spares += 1;
     }
 
-    /// Makes `child` the child of `parent` on that side, or the root where there is no parent.
+    // Makes `child` the child of `parent` on that side, or the root where there is no parent.
     pub(crate) fn set_child(&mut self, parent: Option<Place>, side: Side, child: Option<Place>)
         requires { Present self.old.nodes.held parent }
         ensures held { self.new.nodes.held ≡ linked_down parent side child self.old.nodes.held }
@@ -106,7 +106,7 @@ impl<const MAX: usize> Parts<MAX> {
         }
     }
 
-    /// Sets all links of a node.
+    // Sets all links of a node.
     pub(crate) fn set_links(
         &mut self,
         place: Place,
@@ -126,7 +126,7 @@ impl<const MAX: usize> Parts<MAX> {
         node.right = right;
     }
 
-    /// Hangs `child`, if it is a node, on that side of `parent`. The parent's link is left as it is.
+    // Hangs `child`, if it is a node, on that side of `parent`. The parent's link is left as it is.
     pub(crate) fn set_parent(&mut self, child: Option<Place>, parent: Option<Place>, side: Side)
         requires { Present self.old.nodes.held child }
         ensures held { self.new.nodes.held ≡ linked_up child parent side self.old.nodes.held }
@@ -139,7 +139,7 @@ impl<const MAX: usize> Parts<MAX> {
         }
     }
 
-    /// Takes memory for one more spare node.
+    // Takes memory for one more spare node.
     pub(crate) fn add_spare(&mut self) -> Result<(), NoMemory>
         requires sound { Sound self.old }
         requires room { size (located self.old) + self.old.spares + 1 < node_limit }
@@ -166,7 +166,7 @@ impl<const MAX: usize> Parts<MAX> {
         Ok(())
     }
 
-    /// Gives one spare node back to the heap.
+    // Gives one spare node back to the heap.
     pub(crate) fn shed_spare(&mut self)
         requires sound { Sound self.old }
         requires some { 0 < self.old.spares }
