@@ -4,8 +4,7 @@ ghost use Rattle.std.specs.Prelude.{◌≡◌};
 use part_raw::TupleRef;
 use std::alloc::Global;
 use std::process::Abort;
-use ttree_node::node::{Side, Way};
-use ttree_node::{Editor, Links, Look, Walk};
+use ttree_node::{Editor, Links, Look, Side, Walk, Way};
 
 fn item(key: u32) -> TupleRef
     ensures { result.slot ≡ key }

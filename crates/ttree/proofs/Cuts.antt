@@ -4,8 +4,7 @@ use Rattle.std.specs.List.{All}
 use Rattle.std.specs.declared.cmp.Ordering.TheVariants.{Less, Greater}
 use Rattle.std.proofs.lemmas.List.{length-append, length-take-le, length-drop, get_or_append_left, get_or-append-add, get_or-take, get_or-drop, get_or_default}
 use Rattle.mm_index.specs.Range.{NeverFalls}
-use Rattle.ttree_node.specs.Tree.{Tree, empty, node, Zipper, Label, whole, list, items_of, left_of, right_of, list_until, list_from}
-use Rattle.ttree_node.specs.Laws.{before, after}
+use Rattle.ttree_node.specs.Tree.{Tree, empty, node, Zipper, Label, whole, list, items_of, left_of, right_of, list_until, list_from, list_before, list_after}
 use Rattle.ttree_node.proofs.Splits.{list-plug_split, list_until-from}
 use Rattle.ttree.proofs.Narrowing.{Less-below, Greater-above}
 
@@ -46,14 +45,14 @@ module _ {I : Type 0} where
 
   -- what stands before the node's items, and after them
   abbrev pub front : Zipper (Label I) → List I
-  front z = before z.above ++ list (left_of z.here)
+  front z = list_before z.above ++ list (left_of z.here)
 
   abbrev pub back : Zipper (Label I) → List I
-  back z = list (right_of z.here) ++ after z.above
+  back z = list (right_of z.here) ++ list_after z.above
 
   pub list_around : (z : Zipper (Label I)) → list (whole z) ≡ front z ++ (items_of z.here ++ back z)
   list_around z =
-      let b = before z.above in let a = after z.above in let l = list (left_of z.here) in let r = list (right_of z.here) in let xs = items_of z.here in
+      let b = list_before z.above in let a = list_after z.above in let l = list (left_of z.here) in let r = list (right_of z.here) in let xs = items_of z.here in
       list-plug_split z.above z.here ∙ ap (λ zs. b ++ (zs ++ a)) (list_parts z.here)
       ∙ ap (λ zs. b ++ zs) (append_assoc l (xs ++ r) a ∙ ap (λ zs. l ++ zs) (append_assoc xs r a)) ∙ sym (append_assoc b l (xs ++ (r ++ a)))
 
@@ -63,7 +62,7 @@ module _ {I : Type 0} where
   module _ (place : I → Ordering) (z : Zipper (Label I)) (in_order : NeverFalls place (list (whole z))) where
     pub below_cut : (i : ℕ) (d : I) → i < length (items_of z.here) → place (get_or (items_of z.here) i d) ≡ Less → All (λ r. place r ≡ Less) (list_until (i + 1) z)
     below_cut i d l h =
-        let b = before z.above in let t = list (left_of z.here) in let xs = items_of z.here in
+        let b = list_before z.above in let t = list (left_of z.here) in let xs = items_of z.here in
         let n : length (take (i + 1) xs) ≡ i + 1 = length-take-le (i + 1) xs (omega arith) in
         let is : get_or (list_until (i + 1) z) (length b + (length t + i)) d ≡ get_or xs i d =
         get_or-append-add b (t ++ take (i + 1) xs) (length t + i) d ∙ get_or-append-add t (take (i + 1) xs) i d ∙ get_or-take (i + 1) xs i d (omega arith) in

@@ -5,8 +5,7 @@ use Rattle.std.specs.declared.cmp.Ordering.TheVariants.{Less, Greater}
 use Rattle.std.proofs.lemmas.List.{append-nil, take_all, drop_all}
 use Rattle.std.proofs.lemmas.List.Elements.{All-nil}
 use Rattle.mm_index.specs.Range.{NeverFalls}
-use Rattle.ttree_node.specs.Tree.{Tree, empty, node, Frame, Zipper, Label, at, plug, whole, list, items_of, left_of, right_of, has_left, has_right, is_node, is_root, height, down_left, down_right, left_below, right_below, list_until, list_from}
-use Rattle.ttree_node.specs.Laws.{before, after}
+use Rattle.ttree_node.specs.Tree.{Tree, empty, node, Frame, Zipper, Label, at, plug, whole, list, items_of, left_of, right_of, has_left, has_right, is_node, is_root, height, down_left, down_right, left_below, right_below, list_until, list_from, list_before, list_after}
 use Rattle.ttree.specs.Shape.{HasItems, HasItemsInEach}
 use Rattle.ttree.specs.Searching.{IsCut, IsGap}
 use Rattle.ttree.proofs.EachNode.{each_here}
@@ -16,8 +15,8 @@ module _ {I : Type 0} (place : I → Ordering) where
   -- what stands before the place's tree is below the range, and what stands after it is above
   pub record IsBetween (tree : Tree (Label I)) (z : Zipper (Label I)) : Type 0 where
     pub same : whole z ≡ tree
-    pub below : All (λ r. place r ≡ Less) (before z.above)
-    pub above : All (λ r. place r ≡ Greater) (after z.above)
+    pub below : All (λ r. place r ≡ Less) (list_before z.above)
+    pub above : All (λ r. place r ≡ Greater) (list_after z.above)
 
   from_root : (c : List (Frame (Label I))) (t : Tree (Label I)) → is_root c ≡ true → IsBetween (plug c t) (at c t)
   from_root [] t h = record { same = refl; below = All-nil (λ r. place r ≡ Less); above = All-nil (λ r. place r ≡ Greater) }
@@ -34,7 +33,7 @@ module _ {I : Type 0} (place : I → Ordering) where
   right_at tree c empty b h a = cc
   right_at tree c (node l x r) b h a = record {
     same = b.same;
-    below = subst (λ (xs : List I). All (λ q. place q ≡ Less) (before c ++ (list l ++ xs))) (take_all (length x.items) x.items (omega arith)) a;
+    below = subst (λ (xs : List I). All (λ q. place q ≡ Less) (list_before c ++ (list l ++ xs))) (take_all (length x.items) x.items (omega arith)) a;
     above = b.above;
   }
 
@@ -73,7 +72,7 @@ module _ {I : Type 0} (place : I → Ordering) where
       pub end_left : All (λ r. place r ≡ Greater) (items_of z.here) → has_left z.here ≡ false → IsGap place z 0
       end_left h l = record {
         index = omega arith;
-        below = subst (λ (xs : List I). All (λ r. place r ≡ Less) xs) (sym (ap (λ xs. before z.above ++ (xs ++ [])) (no_left z.here l) ∙ append-nil (before z.above))) between.below;
+        below = subst (λ (xs : List I). All (λ r. place r ≡ Less) xs) (sym (ap (λ xs. list_before z.above ++ (xs ++ [])) (no_left z.here l) ∙ append-nil (list_before z.above))) between.below;
         above = all_above h;
         left_open = λ e. l;
         right_open = λ e. absurd (omega arith);
@@ -84,7 +83,7 @@ module _ {I : Type 0} (place : I → Ordering) where
         index = omega arith;
         below = all_below h;
         above = subst (λ (xs : List I). All (λ r. place r ≡ Greater) xs)
-            (sym (ap (λ xs. xs ++ (list (right_of z.here) ++ after z.above)) (drop_all (length (items_of z.here)) (items_of z.here) (omega arith)) ∙ ap (λ xs. xs ++ after z.above) (no_right z.here l))) between.above;
+            (sym (ap (λ xs. xs ++ (list (right_of z.here) ++ list_after z.above)) (drop_all (length (items_of z.here)) (items_of z.here) (omega arith)) ∙ ap (λ xs. xs ++ list_after z.above) (no_right z.here l))) between.above;
         left_open = λ e. absurd (omega arith);
         right_open = λ e. l;
       }
@@ -102,7 +101,7 @@ module _ {I : Type 0} (place : I → Ordering) where
   empty_at : (tree : Tree (Label I)) (c : List (Frame (Label I))) (t : Tree (Label I)) → is_node t ≡ false → IsBetween tree (at c t) → IsGap place (at c t) 0
   empty_at tree c empty h b = record {
     index = omega arith;
-    below = subst (λ (xs : List I). All (λ r. place r ≡ Less) xs) (sym (append-nil (before c))) b.below;
+    below = subst (λ (xs : List I). All (λ r. place r ≡ Less) xs) (sym (append-nil (list_before c))) b.below;
     above = b.above;
     left_open = λ e. refl;
     right_open = λ e. refl;

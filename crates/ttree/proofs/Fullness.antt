@@ -2,7 +2,7 @@
 use Rattle.std.proofs.Common.{◌≡◌, ℕ, ◌+◌, ◌<◌, ◌≤◌, length, true, false, refl, sym, ap, subst, ◌∙◌, List, [], ◌∷◌, arith, inl, inr}
 use Rattle.std.proofs.lemmas.Bool.{cases_lt}
 use Rattle.ttree_node.specs.Tree.{Tree, empty, node, Frame, went_left, went_right, Label, Zipper, at, plug, whole, height, is_node, is_root, items_of, new_items, new_height, with_items, with_leaf, up}
-use Rattle.ttree_node.specs.Seen.{child, opposite, on_side, child_on, hangs_on_node}
+use Rattle.ttree_node.specs.Seen.{child, opposite, on_side, hangs_on_node}
 use Rattle.ttree_node.specs.declared.node.Side.{Side}
 use Rattle.ttree_node.specs.declared.node.Side.TheVariants.{Root, Left, Right}
 use Rattle.ttree.specs.Shape.{IsTTree, IsFit, IsFullParent, ParentsAreFull}
@@ -136,7 +136,7 @@ module _ {I : Type 0} (most : ℕ) where
           higher = inl near;
         }
 
-    full_rises_at : (side : Side) (c : List (Frame (Label I))) (t : Tree (Label I)) (r : I) → hangs_on_node side ≡ true → is_node t ≡ true → child_on side t ≡ false → most ≤ length (items_of t)
+    full_rises_at : (side : Side) (c : List (Frame (Label I))) (t : Tree (Label I)) (r : I) → hangs_on_node side ≡ true → is_node t ≡ true → is_node (child side t) ≡ false → most ≤ length (items_of t)
         → IsTTree least most (plug c t) → ParentsAreFull most (plug c t) → CanRiseFull least most (up (with_leaf r (on_side side (at c t))))
     full_rises_at Root c t r s h o e fit f = cc
     full_rises_at Left c empty r s h o e fit f = cc
@@ -147,7 +147,7 @@ module _ {I : Type 0} (most : ℕ) where
     full_rises_at Right c (node u x (node a y b)) r s h o e fit f = cc
 
     -- a new leaf below a full node
-    pub grown_rises_full : (side : Side) (z : Zipper (Label I)) (r : I) → hangs_on_node side ≡ true → is_node z.here ≡ true → child_on side z.here ≡ false → most ≤ length (items_of z.here)
+    pub grown_rises_full : (side : Side) (z : Zipper (Label I)) (r : I) → hangs_on_node side ≡ true → is_node z.here ≡ true → is_node (child side z.here) ≡ false → most ≤ length (items_of z.here)
         → IsTTree least most (whole z) → ParentsAreFull most (whole z) → CanRiseFull least most (up (with_leaf r (on_side side z)))
     grown_rises_full side z r s h o e fit f = full_rises_at side z.above z.here r s h o e fit f
 

@@ -1,7 +1,7 @@
 -- A new leaf on a full node, from where the tree is to be balanced.
 use Rattle.std.proofs.Common.{◌≡◌, ℕ, ◌≤◌, List, [], ◌∷◌, length, refl, arith, true, false, inl, inr}
 use Rattle.ttree_node.specs.Tree.{Tree, empty, node, Frame, Zipper, Label, at, plug, whole, items_of, is_node, with_leaf, up}
-use Rattle.ttree_node.specs.Seen.{on_side, child_on, hangs_on_node}
+use Rattle.ttree_node.specs.Seen.{on_side, child, hangs_on_node}
 use Rattle.ttree_node.specs.declared.node.Side.{Side}
 use Rattle.ttree_node.specs.declared.node.Side.TheVariants.{Root, Left, Right}
 use Rattle.ttree.specs.Shape.{IsFit, IsTTree}
@@ -84,7 +84,7 @@ module _ {I : Type 0} where
           );
         }
 
-  rises_at : (least most : ℕ) (side : Side) (c : List (Frame (Label I))) (t : Tree (Label I)) (r : I) → 1 ≤ most → hangs_on_node side ≡ true → is_node t ≡ true → child_on side t ≡ false → least ≤ length (items_of t) → IsTTree least most (plug c t) → CanRise least most (up (with_leaf r (on_side side (at c t))))
+  rises_at : (least most : ℕ) (side : Side) (c : List (Frame (Label I))) (t : Tree (Label I)) (r : I) → 1 ≤ most → hangs_on_node side ≡ true → is_node t ≡ true → is_node (child side t) ≡ false → least ≤ length (items_of t) → IsTTree least most (plug c t) → CanRise least most (up (with_leaf r (on_side side (at c t))))
   rises_at least most Root c t r m s h o e f = cc
   rises_at least most Left c empty r m s h o e f = cc
   rises_at least most Left c (node empty x u) r m s h o e f = left_rises least most r m c x u e f
@@ -94,5 +94,5 @@ module _ {I : Type 0} where
   rises_at least most Right c (node u x (node a y b)) r m s h o e f = cc
 
   -- from the parent of a new leaf the tree can be balanced
-  pub grown_rises : (least most : ℕ) (side : Side) (z : Zipper (Label I)) (r : I) → 1 ≤ most → hangs_on_node side ≡ true → is_node z.here ≡ true → child_on side z.here ≡ false → least ≤ length (items_of z.here) → IsTTree least most (whole z) → CanRise least most (up (with_leaf r (on_side side z)))
+  pub grown_rises : (least most : ℕ) (side : Side) (z : Zipper (Label I)) (r : I) → 1 ≤ most → hangs_on_node side ≡ true → is_node z.here ≡ true → is_node (child side z.here) ≡ false → least ≤ length (items_of z.here) → IsTTree least most (whole z) → CanRise least most (up (with_leaf r (on_side side z)))
   grown_rises least most side z r m s h o e f = rises_at least most side z.above z.here r m s h o e f

@@ -2,8 +2,8 @@
 use Rattle.std.proofs.Common.{◌≡◌, ℕ, suc, ◌+◌, ◌-◌, ◌<◌, List, [], ◌∷◌, ◌++◌, length, get_or, take, drop, refl, sym, ap, ◌∙◌, append_assoc, arith, true, false}
 use Rattle.std.proofs.lemmas.List.{append-nil, take_all, drop_all, length-append, length-drop, take-append-drop, drop_more}
 use Rattle.std.specs.List.{insert, remove}
-use Rattle.ttree_node.specs.Tree.{Tree, empty, node, Frame, went_left, went_right, Zipper, Label, at, plug, whole, list, items_of, left_of, has_left, has_right, is_node, is_root, new_items, with_items, with_leaf, down_left, left_below, list_before, list_above, list_from, list_until}
-use Rattle.ttree_node.specs.Seen.{on_side, child_on, hangs_on_node}
+use Rattle.ttree_node.specs.Tree.{Tree, empty, node, Frame, went_left, went_right, Zipper, Label, at, plug, whole, list, items_of, left_of, has_left, has_right, is_node, is_root, new_items, with_items, with_leaf, down_left, left_below, list_before, list_after, list_from, list_until}
+use Rattle.ttree_node.specs.Seen.{on_side, child, hangs_on_node}
 use Rattle.ttree_node.specs.declared.node.Side.{Side}
 use Rattle.ttree_node.specs.declared.node.Side.TheVariants.{Root, Left, Right}
 use Rattle.ttree_node.proofs.Splits.{list-plug_split}
@@ -32,14 +32,14 @@ module _ {I : Type 0} where
   length_insert xs i r = omega (arith, length-append (take i xs) (r ∷ drop i xs), length-append (take i xs) (drop i xs), ap (λ (ys : List I). length ys) (take-append-drop i xs))
 
   -- ---- a leaf on a side of a node
-  leaf_list : (y : Zipper (Label I)) (r : I) → list (whole (with_leaf r y)) ≡ list_before y.above ++ r ∷ list_above y.above
+  leaf_list : (y : Zipper (Label I)) (r : I) → list (whole (with_leaf r y)) ≡ list_before y.above ++ r ∷ list_after y.above
   leaf_list y r = list-plug_split y.above (node empty (record { items = r ∷ []; height = 1 }) empty)
 
   left_at : (c : List (Frame (Label I))) (t : Tree (Label I)) (r : I) → is_node t ≡ true → has_left t ≡ false → list (whole (with_leaf r (left_below c t))) ≡ filled 0 r (at c t)
   left_at c empty r h o = cc
   left_at c (node (node a y b) x s) r h o = cc
   left_at c (node empty x s) r h o =
-      leaf_list (at (went_left x s ∷ c) empty) r ∙ ap (λ zs. zs ++ r ∷ (x.items ++ (list s ++ list_above c))) (sym (append-nil (list_before c)))
+      leaf_list (at (went_left x s ∷ c) empty) r ∙ ap (λ zs. zs ++ r ∷ (x.items ++ (list s ++ list_after c))) (sym (append-nil (list_before c)))
 
   pub list_grown_left : (z : Zipper (Label I)) (r : I) → is_node z.here ≡ true → has_left z.here ≡ false → list (whole (with_leaf r (on_side Left z))) ≡ filled 0 r z
   list_grown_left z r h o = left_at z.above z.here r h o
@@ -49,8 +49,8 @@ module _ {I : Type 0} where
   right_at c (node l x (node a y b)) r h o = cc
   right_at c (node l x empty) r h o =
       leaf_list (at (went_right l x ∷ c) empty) r
-      ∙ ap (λ zs. (list_before c ++ (list l ++ zs)) ++ r ∷ list_above c) (sym (take_all (length x.items) x.items (omega arith)))
-      ∙ ap (λ zs. (list_before c ++ (list l ++ take (length x.items) x.items)) ++ r ∷ (zs ++ list_above c)) (sym (drop_all (length x.items) x.items (omega arith)))
+      ∙ ap (λ zs. (list_before c ++ (list l ++ zs)) ++ r ∷ list_after c) (sym (take_all (length x.items) x.items (omega arith)))
+      ∙ ap (λ zs. (list_before c ++ (list l ++ take (length x.items) x.items)) ++ r ∷ (zs ++ list_after c)) (sym (drop_all (length x.items) x.items (omega arith)))
 
   pub list_grown_right : (z : Zipper (Label I)) (r : I) → is_node z.here ≡ true → has_right z.here ≡ false → list (whole (with_leaf r (on_side Right z))) ≡ filled (length (items_of z.here)) r z
   list_grown_right z r h o = right_at z.above z.here r h o
@@ -60,27 +60,27 @@ module _ {I : Type 0} where
   length_filled z i r =
       omega (arith, length-append (list_until i z) (r ∷ list_from i z), length-append (list_until i z) (list_from i z), ap (λ (ys : List I). length ys) (list_cut i z))
 
-  pub length_grown : (side : Side) (z : Zipper (Label I)) (r : I) → hangs_on_node side ≡ true → is_node z.here ≡ true → child_on side z.here ≡ false → length (list (whole (with_leaf r (on_side side z)))) ≡ length (list (whole z)) + 1
+  pub length_grown : (side : Side) (z : Zipper (Label I)) (r : I) → hangs_on_node side ≡ true → is_node z.here ≡ true → is_node (child side z.here) ≡ false → length (list (whole (with_leaf r (on_side side z)))) ≡ length (list (whole z)) + 1
   length_grown Root z r s h o = cc
   length_grown Left z r s h o = ap (λ (ys : List I). length ys) (list_grown_left z r h o) ∙ length_filled z 0 r
   length_grown Right z r s h o = ap (λ (ys : List I). length ys) (list_grown_right z r h o) ∙ length_filled z (length (items_of z.here)) r
 
   -- ---- the end of the left subtree
-  end_at : (c : List (Frame (Label I))) (t : Tree (Label I)) (r : I) → is_node t ≡ true → has_right t ≡ false → filled (length (items_of t)) r (at c t) ≡ (list_before c ++ list t) ++ r ∷ list_above c
+  end_at : (c : List (Frame (Label I))) (t : Tree (Label I)) (r : I) → is_node t ≡ true → has_right t ≡ false → filled (length (items_of t)) r (at c t) ≡ (list_before c ++ list t) ++ r ∷ list_after c
   end_at c empty r h o = cc
   end_at c (node l x (node a y b)) r h o = cc
   end_at c (node l x empty) r h o =
-      ap (λ zs. (list_before c ++ (list l ++ zs)) ++ r ∷ (drop (length x.items) x.items ++ list_above c)) (take_all (length x.items) x.items (omega arith))
-      ∙ ap (λ zs. (list_before c ++ (list l ++ x.items)) ++ r ∷ (zs ++ list_above c)) (drop_all (length x.items) x.items (omega arith))
-      ∙ ap (λ zs. (list_before c ++ (list l ++ zs)) ++ r ∷ list_above c) (sym (append-nil x.items))
+      ap (λ zs. (list_before c ++ (list l ++ zs)) ++ r ∷ (drop (length x.items) x.items ++ list_after c)) (take_all (length x.items) x.items (omega arith))
+      ∙ ap (λ zs. (list_before c ++ (list l ++ x.items)) ++ r ∷ (zs ++ list_after c)) (drop_all (length x.items) x.items (omega arith))
+      ∙ ap (λ zs. (list_before c ++ (list l ++ zs)) ++ r ∷ list_after c) (sym (append-nil x.items))
 
-  begin_at : (c : List (Frame (Label I))) (t : Tree (Label I)) (r : I) → is_node t ≡ true → filled 0 r (at c t) ≡ (list_before (left_below c t).above ++ list (left_below c t).here) ++ r ∷ list_above (left_below c t).above
+  begin_at : (c : List (Frame (Label I))) (t : Tree (Label I)) (r : I) → is_node t ≡ true → filled 0 r (at c t) ≡ (list_before (left_below c t).above ++ list (left_below c t).here) ++ r ∷ list_after (left_below c t).above
   begin_at c empty r h = cc
-  begin_at c (node l x s) r h = ap (λ zs. (list_before c ++ zs) ++ r ∷ (x.items ++ (list s ++ list_above c))) (append-nil (list l))
+  begin_at c (node l x s) r h = ap (λ zs. (list_before c ++ zs) ++ r ∷ (x.items ++ (list s ++ list_after c))) (append-nil (list l))
 
   -- what goes to the end of the left subtree goes before the node's items
   pub filled_left : (z w : Zipper (Label I)) (r : I) → is_node z.here ≡ true → is_node w.here ≡ true → has_right w.here ≡ false
-      → list_before w.above ++ list w.here ≡ list_before (down_left z).above ++ list (down_left z).here → list_above w.above ≡ list_above (down_left z).above
+      → list_before w.above ++ list w.here ≡ list_before (down_left z).above ++ list (down_left z).here → list_after w.above ≡ list_after (down_left z).above
       → filled (length (items_of w.here)) r w ≡ filled 0 r z
   filled_left z w r h k o e f =
       end_at w.above w.here r k o ∙ (λ i. e i ++ r ∷ f i) ∙ sym (begin_at z.above z.here r h)
@@ -93,8 +93,8 @@ module _ {I : Type 0} where
       → filled 0 least (at c (new_items (insert rest j r) t)) ≡ filled (suc j) r (at c t)
   spilt_at c empty j r least rest h e = cc
   spilt_at c (node l x s) j r least rest h e =
-      spilt_lists (list_before c) (list l) (take j rest) (drop j rest) (list s ++ list_above c) least r
-      ∙ ap (λ zs. (list_before c ++ (list l ++ take (suc j) zs)) ++ r ∷ (drop (suc j) zs ++ (list s ++ list_above c))) (sym e)
+      spilt_lists (list_before c) (list l) (take j rest) (drop j rest) (list s ++ list_after c) least r
+      ∙ ap (λ zs. (list_before c ++ (list l ++ take (suc j) zs)) ++ r ∷ (drop (suc j) zs ++ (list s ++ list_after c))) (sym e)
 
   module _ (z : Zipper (Label I)) (i : ℕ) (r : I) (some : 0 < length (items_of z.here)) where
     -- the items without the least one, and r before item i

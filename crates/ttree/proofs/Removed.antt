@@ -5,7 +5,7 @@ use Rattle.std.specs.declared.cmp.Ordering.TheVariants.{Less, Greater}
 use Rattle.std.proofs.lemmas.List.{get_or_append_left, get_or_at, get_or-append-add, drop_more}
 use Rattle.mm_index.specs.Order.{IsStrictOver, IsRising, remove_by}
 use Rattle.mm_index.proofs.Placed.{remove_by_split, cmp_itself, cmp_from_Less}
-use Rattle.ttree_node.specs.Tree.{Tree, empty, node, Frame, Label, Zipper, at, plug, whole, list, is_node, is_root, items_of, right_of, new_items, with_items, list_until, list_from, list_before, list_above}
+use Rattle.ttree_node.specs.Tree.{Tree, empty, node, Frame, Label, Zipper, at, plug, whole, list, is_node, is_root, items_of, right_of, new_items, with_items, list_until, list_from, list_before, list_after}
 use Rattle.ttree_node.proofs.Splits.{list-plug_split}
 use Rattle.ttree.proofs.Cuts.{list_cut}
 
@@ -39,14 +39,14 @@ module _ {A : Type 0} (covers : A → Type 0) (cmp : A → A → Ordering) (orde
 module _ {I : Type 0} where
   -- item i of the node, and what stands on either side of it
   pub list_item : (i : ℕ) (z : Zipper (Label I)) (d : I) → i < length (items_of z.here) → list (whole z) ≡ list_until i z ++ get_or (items_of z.here) i d ∷ list_from (i + 1) z
-  list_item i z d l = list_cut i z ∙ ap (λ ys. list_until i z ++ (ys ++ (list (right_of z.here) ++ list_above z.above))) (drop_more (items_of z.here) i d l)
+  list_item i z d l = list_cut i z ∙ ap (λ ys. list_until i z ++ (ys ++ (list (right_of z.here) ++ list_after z.above))) (drop_more (items_of z.here) i d l)
 
   without_at : (i : ℕ) (c : List (Frame (Label I))) (t : Tree (Label I)) → i < length (items_of t) → list (plug c (new_items (remove (items_of t) i) t)) ≡ list_until i (at c t) ++ list_from (i + 1) (at c t)
   without_at i c empty l = absurd (omega (arith, l))
   without_at i c (node a x b) l =
       let rest : drop (suc i) x.items ≡ drop (i + 1) x.items = let e : suc i ≡ i + 1 = omega arith in ap (λ k. drop k x.items) e in
       list-plug_split c (node a (record { items = remove x.items i; height = x.height }) b)
-      ∙ ap (λ ys. list_before c ++ ((list a ++ ((take i x.items ++ ys) ++ list b)) ++ list_above c)) rest
+      ∙ ap (λ ys. list_before c ++ ((list a ++ ((take i x.items ++ ys) ++ list b)) ++ list_after c)) rest
       ∙ simp append_assoc
 
   -- the list without it

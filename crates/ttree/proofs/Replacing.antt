@@ -1,7 +1,7 @@
 -- Other trees in a place of a T-tree.
 use Rattle.std.proofs.Common.{◌≡◌, ℕ, ◌+◌, ◌<◌, ◌≤◌, length, true, false, refl, sym, ◌∙◌, subst, List, [], ◌∷◌, ◌++◌, arith, length-append, inl}
 use Rattle.ttree_node.specs.Tree.{Tree, empty, node, Frame, went_left, went_right, Label, Zipper, plug, whole, height, size, is_node, is_leaf, has_left, has_right, left_of, right_of, items_of, stated, new_items, with_tree}
-use Rattle.ttree_node.specs.Seen.{child, opposite, child_on, merged}
+use Rattle.ttree_node.specs.Seen.{child, opposite, merged}
 use Rattle.ttree_node.specs.declared.node.Side.{Side}
 use Rattle.ttree_node.specs.declared.node.Side.TheVariants.{Root, Left, Right}
 use Rattle.ttree.specs.Shape.{IsFit, IsTTree}
@@ -201,8 +201,3 @@ module _ {I : Type 0} where
   size_merged Right (node l x (node (node a z b) y d)) (_, h, _) = cc
   size_merged Right (node l x (node empty y (node a z b))) (_, _, h) = cc
   size_merged Right (node l x (node empty y empty)) leaf = omega arith
-
-  pub no_other : (side : Side) (t : Tree (Label I)) → is_node (child side t) ≡ true → is_node (child (opposite side) t) ≡ false → child_on (opposite side) t ≡ false
-  no_other Root t e o = cc
-  no_other Left t e o = o
-  no_other Right t e o = o

@@ -9,8 +9,7 @@ ghost use Rattle.ttree.specs.Fullness.{IsGrown, IsGrowing, CanRiseFull};
 
 use crate::rotate::rotate;
 use crate::steps::restate;
-use ttree_node::Editor;
-use ttree_node::node::Side;
+use ttree_node::{Editor, Side};
 
 /// Sets the node's height where its children's heights differ by at most one, else rotates it.
 fn mend<const MIN: usize, const MAX: usize>(editor: &mut Editor<'_, MAX>)

@@ -1,8 +1,8 @@
 //! The steps of an insert.
 ghost use Rattle.std.specs.Prelude.{◌≡◌, ◌+◌, ◌++◌, ◌^◌, ◌<◌, ◌≤◌, true, false, length, All, Contains};
 ghost use Rattle.mm_index.specs.Order.{IsRising, insert_by};
-ghost use Rattle.ttree_node.specs.Tree.{whole, list, items_of, is_node, is_root, has_left, has_right, with_leaf, list_before, list_above};
-ghost use Rattle.ttree_node.specs.Seen.{on_side, child_on, hangs_on_node};
+ghost use Rattle.ttree_node.specs.Tree.{whole, list, items_of, is_node, is_root, has_left, has_right, with_leaf, list_before, list_after};
+ghost use Rattle.ttree_node.specs.Seen.{on_side, child, hangs_on_node};
 ghost use Rattle.ttree_node.specs.Editor.{position, tree_at, spares_at};
 ghost use Rattle.ttree.specs.Shape.{IsTTree, ParentsAreFull};
 ghost use Rattle.ttree.specs.Searching.{filled};
@@ -11,8 +11,7 @@ use crate::balance::rebalance;
 use crate::search::locate_to_edit;
 use mm_index::{OrderProbe, TupleOrder};
 use part_raw::TupleRef;
-use ttree_node::Editor;
-use ttree_node::node::Side;
+use ttree_node::{Editor, Side};
 
 // Puts `r` at its place.
 pub(crate) fn insert<O: TupleOrder, const MIN: usize, const MAX: usize>(
@@ -106,7 +105,7 @@ fn grow<const MIN: usize, const MAX: usize>(editor: &mut Editor<'_, MAX>, side: 
     requires two { 2 ≤ MAX }
     requires node { is_node (position editor.old).here ≡ true }
     requires side { hangs_on_node side ≡ true }
-    requires open { child_on side (position editor.old).here ≡ false }
+    requires open { is_node (child side (position editor.old).here) ≡ false }
     requires full { MAX ≤ length (items_of (position editor.old).here) }
     requires tree { tree_at editor.old ≡ whole (position editor.old) }
     requires fit { IsTTree MIN MAX (tree_at editor.old) }
@@ -190,7 +189,7 @@ pub(crate) fn to_rightmost<const MAX: usize>(editor: &mut Editor<'_, MAX>)
     ensures whole { whole (position editor.new) ≡ whole (position editor.old) }
     // What stands before and in this tree does so before and in the node, and nothing of it stands behind.
     ensures ahead { list_before (position editor.new).above ++ list (position editor.new).here ≡ list_before (position editor.old).above ++ list (position editor.old).here }
-    ensures behind { list_above (position editor.new).above ≡ list_above (position editor.old).above }
+    ensures behind { list_after (position editor.new).above ≡ list_after (position editor.old).above }
     ensures tree { tree_at editor.new ≡ tree_at editor.old }
     ensures spares { spares_at editor.new ≡ spares_at editor.old }
 {

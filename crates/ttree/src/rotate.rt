@@ -8,8 +8,7 @@ ghost use Rattle.ttree.specs.Rising.{IsFilled, IsInnerFilled, Leans, IsMendedTo,
 ghost use Rattle.ttree.specs.Fullness.{IsGrown, IsGrowing};
 
 use crate::steps::{child_len, enter, fill, other_side, raise, restate, restate_child};
-use ttree_node::Editor;
-use ttree_node::node::{Side, Way};
+use ttree_node::{Editor, Side, Way};
 
 /// Fills the node that is to rise from its only child, where it holds fewer than `MIN`.
 fn fill_riser<const MIN: usize, const MAX: usize>(editor: &mut Editor<'_, MAX>)

@@ -8,8 +8,7 @@ ghost use Rattle.ttree.specs.Removing.{HasLost, HasLostBelow};
 
 use crate::balance::rebalance;
 use crate::steps::child_len;
-use ttree_node::Editor;
-use ttree_node::node::Side;
+use ttree_node::{Editor, Side};
 
 /// Where the half-leaf and its leaf on that side hold `MAX` or fewer together, the half-leaf takes all
 /// items and the leaf is freed.

@@ -5,8 +5,7 @@ ghost use Rattle.ttree_node.specs.Editor.{position, tree_at, spares_at};
 ghost use Rattle.ttree_node.specs.Seen.{child, opposite, on_side, giver, taker};
 ghost use Rattle.ttree.specs.Rising.{raised, restated, restated_child, filled};
 
-use ttree_node::Editor;
-use ttree_node::node::{Side, Way};
+use ttree_node::{Editor, Side, Way};
 
 /// The other side of a node.
 pub(crate) fn other_side(side: Side) -> Side

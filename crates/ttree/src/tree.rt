@@ -38,6 +38,7 @@ impl<const MIN: usize, const MAX: usize> Model for TTree<MIN, MAX> {
 impl<const MIN: usize, const MAX: usize> TTree<MIN, MAX> {
     ghost use Rattle.ttree_node.specs.Tree.{empty, height, size, whole, items_of};
     ghost use Rattle.ttree_node.specs.Look.{position};
+    ghost use Rattle.ttree_node.specs.Walk.{rest_of};
     ghost use Rattle.ttree.specs.Searching.{taken, IsAskedAtMost, IsHitIn, IsGap};
     ghost use Rattle.ttree_node.specs.Seen.{tree_of, spares_of};
     ghost use Rattle.ttree.specs.Held.{items_of_tree};
@@ -100,7 +101,7 @@ impl<const MIN: usize, const MAX: usize> TTree<MIN, MAX> {
 
     /// The references in order.
     pub fn walk(&self) -> Walk<'_, MAX>
-        ensures { result ≡ items_of_tree self.now }
+        ensures { rest_of result ≡ items_of_tree self.now }
     {
         self.links.walk()
     }
@@ -109,7 +110,7 @@ impl<const MIN: usize, const MAX: usize> TTree<MIN, MAX> {
     pub fn walk_from<P: Probe>(&self, probe: &mut P) -> Walk<'_, MAX>
         requires placed { All (P.can_place probe.old) (items_of_tree self.now) }
         requires in_order { NeverFalls (P.place probe.old) (items_of_tree self.now) }
-        ensures rest { result ≡ from_range (P.place probe.old) (items_of_tree self.now) }
+        ensures rest { rest_of result ≡ from_range (P.place probe.old) (items_of_tree self.now) }
         ensures probe { IsOnlyAsked P.can_place P.place P.asked probe.old probe.new }
         ensures most_asked { P.asked probe.new ≤ P.asked probe.old + (2 * height (tree_of self.now) + binary_digits MAX) }
     {

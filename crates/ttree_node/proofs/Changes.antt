@@ -1,11 +1,11 @@
 -- What the tree is after an edit of a few nodes.
-use Rattle.std.proofs.Common.{◌≡◌, ℕ, ◌+◌, ◌<◌, ◌^◌, List, [], ◌∷◌, length, refl, sym, ap, ◌∙◌, subst, arith}
+use Rattle.std.proofs.Common.{◌≡◌, ℕ, ◌+◌, ◌<◌, List, [], ◌∷◌, length, refl, sym, ap, ◌∙◌, subst, arith}
 use Rattle.std.specs.Prelude.{None}
 use denote.RawPtr.{Ptr}
 use Rattle.part_raw.specs.declared.tuple_ref.TupleRef.{TupleRef}
 use Rattle.ttree_node.specs.Held.{node_at, set_node}
 use Rattle.ttree_node.specs.Tree.{Tree, node, Frame, went_left, went_right, Label, plug}
-use Rattle.ttree_node.specs.Linked.{Spot, spot, there, root_of, parent_of, side_of, occurs, occurs_above, occurs_in, node_for, Stands, Chained, Linked}
+use Rattle.ttree_node.specs.Linked.{Spot, spot, there, root_of, parent_of, side_of, occurs, occurs_above, occurs_in, node_for, Stands, Chained, Linked, node_limit}
 use Rattle.ttree_node.specs.declared.node.Node.{Node}
 use Rattle.ttree_node.specs.declared.node.Side.TheVariants.{Root}
 use Rattle.ttree_node.specs.declared.parts.Parts.{Parts}
@@ -41,6 +41,6 @@ module _ {MAX : ℕ} where
         spares = spares ∙ k.spares;
         alone = λ o. omega (arith, k.alone o, occurs_plug o c t, occurs_plug o c u);
         total = omega (arith, k.total, size_plug c t, size_plug c u, set_length q w m) ∙ sym (ap length held);
-        small = subst (λ h. length h < 2 ^ 40) (sym held) (omega (arith, k.small, set_length q w m));
+        small = subst (λ h. length h < node_limit) (sym held) (omega (arith, k.small, set_length q w m));
         narrow = λ some. k.narrow (omega (arith, some, ap length held, set_length q w m));
       }

@@ -1,6 +1,6 @@
 -- What a node and its child are where items go from one to the other.
 use Rattle.std.proofs.Common.{◌≡◌, ◌++◌, true, false, List, refl}
-use Rattle.ttree_node.specs.Tree.{Tree, empty, node, Frame, Label, at, is_node, right_of, left_of, has_left, has_right, down_left, down_right, items_of, with_items, without_leaf, with_tree, merged_left, merged_right, up, is_root, refilled_left, refilled_right}
+use Rattle.ttree_node.specs.Tree.{Tree, empty, node, Frame, Label, at, is_node, right_of, left_of, has_left, has_right, down_left, down_right, items_of, with_items, without_leaf, with_tree, merged_left, merged_right, up, is_root, dealt_left, dealt_right}
 
 module _ {X : Type 0} where
   -- what has a child is a node
@@ -49,13 +49,13 @@ module _ {I : Type 0} (c : List (Frame (Label I))) where
   has_right_kept xs empty h = h
   has_right_kept xs (node l x r) h = h
 
-  pub is_refilled_right : (xs ys : List I) (t : Tree (Label I)) → has_right t ≡ true → up (with_items ys (down_right (with_items xs (at c t)))) ≡ with_tree (refilled_right xs ys) (at c t)
-  is_refilled_right xs ys empty h = cc
-  is_refilled_right xs ys (node l x r) h = refl
+  pub is_dealt_right : (xs ys : List I) (t : Tree (Label I)) → has_right t ≡ true → up (with_items ys (down_right (with_items xs (at c t)))) ≡ with_tree (dealt_right xs ys) (at c t)
+  is_dealt_right xs ys empty h = cc
+  is_dealt_right xs ys (node l x r) h = refl
 
-  pub is_refilled_left : (xs ys : List I) (t : Tree (Label I)) → has_left t ≡ true → up (with_items ys (down_left (with_items xs (at c t)))) ≡ with_tree (refilled_left xs ys) (at c t)
-  is_refilled_left xs ys empty h = cc
-  is_refilled_left xs ys (node l x r) h = refl
+  pub is_dealt_left : (xs ys : List I) (t : Tree (Label I)) → has_left t ≡ true → up (with_items ys (down_left (with_items xs (at c t)))) ≡ with_tree (dealt_left xs ys) (at c t)
+  is_dealt_left xs ys empty h = cc
+  is_dealt_left xs ys (node l x r) h = refl
 
   pub below_right : (xs ys : List I) (t : Tree (Label I)) → has_right t ≡ true → is_root (with_items ys (down_right (with_items xs (at c t)))).above ≡ false
   below_right xs ys empty h = cc

@@ -1,11 +1,11 @@
 -- A leaf comes and goes.
-use Rattle.std.proofs.Common.{◌≡◌, ℕ, ◌+◌, ◌<◌, ◌≤◌, ◌^◌, List, ◌∷◌, length, sym, ap, ◌∙◌, subst, arith}
+use Rattle.std.proofs.Common.{◌≡◌, ℕ, ◌+◌, ◌<◌, ◌≤◌, List, ◌∷◌, length, sym, ap, ◌∙◌, subst, arith}
 use Rattle.std.specs.Prelude.{Some, None}
 use denote.RawPtr.{Ptr}
 use Rattle.part_raw.specs.declared.tuple_ref.TupleRef.{TupleRef}
 use Rattle.ttree_node.specs.Held.{node_at, set_node}
 use Rattle.ttree_node.specs.Tree.{Tree, empty, node, Frame, Label, plug}
-use Rattle.ttree_node.specs.Linked.{Spot, spot, there, parent_of, side_of, head_of, one_if, occurs_above, occurs_in, node_for, Stands, Around, Chained, linked_down, rooted, Linked}
+use Rattle.ttree_node.specs.Linked.{Spot, spot, there, parent_of, side_of, head_of, one_if, occurs_above, occurs_in, node_for, Stands, Around, Chained, linked_down, rooted, Linked, node_limit}
 use Rattle.ttree_node.specs.declared.node.Node.{Node}
 use Rattle.ttree_node.specs.declared.node.Side.TheVariants.{Root}
 use Rattle.ttree_node.specs.declared.parts.Parts.{Parts}
@@ -39,7 +39,7 @@ module _ {MAX : ℕ} where
         spares = omega (arith, spares, k.spares);
         alone = λ o. omega (arith, apart o, occurs_plug o c (leaf q x));
         total = omega (arith, k.total, size_plug c empty, size_plug c (leaf q x), same) ∙ sym (ap length held);
-        small = subst (λ h. length h < 2 ^ 40) (sym held) (omega (arith, k.small, same));
+        small = subst (λ h. length h < node_limit) (sym held) (omega (arith, k.small, same));
         narrow = λ some. k.narrow (omega (arith, some, ap length held, same));
       }
 
@@ -64,6 +64,6 @@ module _ {MAX : ℕ} where
         spares = omega (arith, spares, k.spares);
         alone = λ o. omega (arith, apart o, occurs_plug o c empty);
         total = omega (arith, k.total, size_plug c empty, size_plug c (leaf q x), same) ∙ sym (ap length held);
-        small = subst (λ h. length h < 2 ^ 40) (sym held) (omega (arith, k.small, same));
+        small = subst (λ h. length h < node_limit) (sym held) (omega (arith, k.small, same));
         narrow = λ some. k.narrow (omega (arith, some, ap length held, same));
       }

@@ -5,8 +5,8 @@ use denote.RawPtr.{Ptr}
 use Rattle.part_raw.specs.declared.tuple_ref.TupleRef.{TupleRef}
 use Rattle.ttree_node.specs.Held.{same_place, node_at, set_node}
 use Rattle.ttree_node.specs.Tree.{Tree, empty, node, Frame, went_left, went_right, Label, at, size, plug, relabel, relabel_zipper, is_node, has_left, has_right, down_left, down_right, up, with_leaf, without_leaf}
-use Rattle.ttree_node.specs.Linked.{Spot, spot, there, parent_of, side_of, head_of, node_for, Present, linked_down, rooted, located, Linked, Sound, misplaced}
-use Rattle.ttree_node.specs.Seen.{tree_of, position_at, on_side, child_on, hangs_on_node}
+use Rattle.ttree_node.specs.Linked.{Spot, spot, there, parent_of, side_of, head_of, node_for, Present, linked_down, rooted, located, Linked, Sound, IsPlaceIn, is_place_in}
+use Rattle.ttree_node.specs.Seen.{tree_of, position_at, on_side, child, hangs_on_node}
 use Rattle.ttree_node.specs.declared.nodes.Place.{Place}
 use Rattle.ttree_node.specs.declared.node.Node.{Node}
 use Rattle.ttree_node.specs.declared.node.Side.{Side}
@@ -20,9 +20,9 @@ use Rattle.ttree_node.proofs.Spares.{blank, located_is, some_place, First, first
 use Rattle.ttree_node.proofs.Standing.{label, placed_root, position_of, standing, node_seen}
 use Rattle.ttree_node.proofs.Visit.{Visit}
 
-empty_size : (t : Tree Spot) → size t ≡ 0 → t ≡ empty
-empty_size empty h = refl
-empty_size (node l x r) h = absurd (omega (arith, h))
+no_place : (t : Tree Spot) → IsPlaceIn t None → t ≡ empty
+no_place empty h = refl
+no_place (node l x r) h = cc
 
 no_entries : {X : Type 0} (m : List X) → length m ≡ 0 → m ≡ []
 no_entries [] h = refl
@@ -49,9 +49,9 @@ module _ {MAX : ℕ} where
     pub side_is : side ≡ side_of above
     pub position : relabel_zipper label (at above empty) ≡ on_side side (position_at p place)
 
-  pub opened : (p : Parts MAX) → Sound p → (place : Option Place) → misplaced (located p) place ≡ 0 → (side : Side) → is_node (position_at p place).here ≡ hangs_on_node side → child_on side (position_at p place).here ≡ false → Open p place side
+  pub opened : (p : Parts MAX) → Sound p → (place : Option Place) → IsPlaceIn (located p) place → (side : Side) → is_node (position_at p place).here ≡ hangs_on_node side → is_node (child side (position_at p place).here) ≡ false → Open p place side
   opened p s None h Root fits free =
-      let none : s.0 ≡ empty = empty_size s.0 ((λ i. size (sym (located_is p s.0 s.1 s.2) i)) ∙ h) in
+      let none : s.0 ≡ empty = no_place s.0 ((λ i. is_place_in (sym (located_is p s.0 s.1 s.2) i) None) ∙ h) in
       record { above = []; spares = s.1; linked = subst (λ t. Linked p t s.1) none s.2; parent_is = refl; side_is = refl; position = refl }
   opened p s None h Left fits free = cc
   opened p s None h Right fits free = cc
@@ -94,7 +94,7 @@ module _ {MAX : ℕ} where
       (root ∙ (λ i. rooted (o.parent_is i) (Some q) p.root)) (next (plug o.above empty) f.rest k) spares in
       record {
         sound = (plug o.above (leaf q.at x), f.rest, done);
-        placed = (λ i. misplaced (located_is p' (plug o.above (leaf q.at x)) f.rest done i) (Some q)) ∙ placed_root o.above (leaf q.at x) refl;
+        placed = (λ i. is_place_in (located_is p' (plug o.above (leaf q.at x)) f.rest done i) (Some q)) ∙ placed_root o.above (leaf q.at x) refl;
         position = position_of p' o.above (leaf q.at x) f.rest done refl ∙ (λ i. with_leaf item (o.position i));
       }
 
@@ -108,11 +108,11 @@ module _ {MAX : ℕ} where
       subst (λ o. Present p.nodes.held o) (sym (ap (λ (m : Node MAX). m.parent) v.node_is)) (top_present p.nodes.held (there v.at) z.above (unplug p.nodes.held z.above (node z.l (spot v.at z.x) z.r) z.linked.stands).0)
 
   at_parent : (p' : Parts MAX) (c : List (Frame Spot)) (ps : List Ptr) → Linked p' (plug c empty) ps → Now p' (parent_of c) (up (relabel_zipper label (at c empty)))
-  at_parent p' [] ps k = record { sound = (empty, ps, k); placed = λ i. size (located_is p' empty ps k i); position = refl }
+  at_parent p' [] ps k = record { sound = (empty, ps, k); placed = λ i. is_place_in (located_is p' empty ps k i) None; position = refl }
   at_parent p' (went_left x r ∷ c) ps k = let t : Tree Spot = node empty x r in
-      record { sound = (plug c t, ps, k); placed = (λ i. misplaced (located_is p' (plug c t) ps k i) (there x.place)) ∙ placed_root c t refl; position = position_of p' c t ps k refl }
+      record { sound = (plug c t, ps, k); placed = (λ i. is_place_in (located_is p' (plug c t) ps k i) (there x.place)) ∙ placed_root c t refl; position = position_of p' c t ps k refl }
   at_parent p' (went_right l x ∷ c) ps k = let t : Tree Spot = node l x empty in
-      record { sound = (plug c t, ps, k); placed = (λ i. misplaced (located_is p' (plug c t) ps k i) (there x.place)) ∙ placed_root c t refl; position = position_of p' c t ps k refl }
+      record { sound = (plug c t, ps, k); placed = (λ i. is_place_in (located_is p' (plug c t) ps k i) (there x.place)) ∙ placed_root c t refl; position = position_of p' c t ps k refl }
 
   pub leaf_gone : (p p' : Parts MAX) (place : Option Place) (n : Node MAX) (v : Visit p place n) (q : Place) → place ≡ Some q
       → has_left (position_at p place).here ≡ false → has_right (position_at p place).here ≡ false
@@ -128,7 +128,7 @@ module _ {MAX : ℕ} where
       let now = at_parent p' z.above (q.at ∷ z.spares) done in
       record {
         sound = now.sound;
-        placed = (λ i. misplaced (located p') (up_is i)) ∙ now.placed;
+        placed = (λ i. is_place_in (located p') (up_is i)) ∙ now.placed;
         position = (λ i. position_at p' (up_is i)) ∙ now.position ∙ (λ i. without_leaf (sym v.position i));
       }
 

@@ -5,7 +5,7 @@ use denote.RawPtr.{Ptr}
 use Rattle.part_raw.specs.declared.tuple_ref.TupleRef.{TupleRef}
 use Rattle.ttree_node.specs.Held.{set_node}
 use Rattle.ttree_node.specs.Tree.{Tree, node, Zipper, Label, at, plug, whole, relabel_zipper, with_items, with_height}
-use Rattle.ttree_node.specs.Linked.{spot, there, root_of, parent_of, side_of, node_for, located, Sound, misplaced}
+use Rattle.ttree_node.specs.Linked.{spot, there, root_of, parent_of, side_of, node_for, located, Sound, IsPlaceIn, is_place_in}
 use Rattle.ttree_node.specs.Seen.{tree_of, position_at}
 use Rattle.ttree_node.specs.declared.nodes.Place.{Place}
 use Rattle.ttree_node.specs.declared.node.Node.{Node}
@@ -19,7 +19,7 @@ module _ {MAX : ℕ} where
   -- the parts are sound, and the place is where it is said to be
   pub record Now (p : Parts MAX) (place : Option Place) (z : Zipper (Label TupleRef)) : Type 0 where
     pub sound : Sound p
-    pub placed : misplaced (located p) place ≡ 0
+    pub placed : IsPlaceIn (located p) place
     pub position : position_at p place ≡ z
 
   pub now_whole : (p : Parts MAX) (place : Option Place) (z : Zipper (Label TupleRef)) → Now p place z → tree_of p ≡ whole (position_at p place)
@@ -36,7 +36,7 @@ module _ {MAX : ℕ} where
         let k = relabelled p p' v.standing.above v.standing.l v.at v.standing.x y v.standing.r v.standing.spares v.standing.linked held root free spares in
         record {
           sound = (plug v.standing.above t, v.standing.spares, k);
-          placed = (λ i. misplaced (located_is p' (plug v.standing.above t) v.standing.spares k i) (v.place_is i)) ∙ placed_root v.standing.above t refl;
+          placed = (λ i. is_place_in (located_is p' (plug v.standing.above t) v.standing.spares k i) (v.place_is i)) ∙ placed_root v.standing.above t refl;
           position = (λ i. position_at p' (v.place_is i)) ∙ position_of p' v.standing.above t v.standing.spares k refl;
         }
 

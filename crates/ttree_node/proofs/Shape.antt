@@ -1,11 +1,12 @@
 -- What it means that nodes stand for a tree: the tree is read back, cut at any node and put together again.
 use Rattle.std.proofs.Common.{◌≡◌, ℕ, zero, suc, ◌+◌, ◌<◌, ◌≤◌, true, false, cond, List, [], ◌∷◌, length, refl, sym, ◌∙◌, arith, inl, inr, ◌⊎◌}
 use Rattle.std.specs.Prelude.{Option, None}
+use Rattle.std.proofs.lemmas.Bool.{ltb-true}
 use denote.RawPtr.{Ptr}
 use Rattle.part_raw.specs.declared.tuple_ref.TupleRef.{TupleRef}
 use Rattle.ttree_node.specs.Held.{same_place, node_at}
 use Rattle.ttree_node.specs.Tree.{Tree, empty, node, Frame, went_left, went_right, Label, at, size, plug, relabel}
-use Rattle.ttree_node.specs.Linked.{Spot, spot, there, root_of, parent_of, side_of, one_if, occurs, occurs_above, occurs_in, Stands, Around, Chained, grown, read, climbed, read_above, seen_from, zipper_at, misplaced}
+use Rattle.ttree_node.specs.Linked.{Spot, spot, there, root_of, parent_of, side_of, one_if, occurs, occurs_above, occurs_in, Stands, Around, Chained, grown, read, climbed, read_above, seen_from, zipper_at, IsPlaceIn}
 use Rattle.ttree_node.specs.declared.nodes.Place.{Place}
 use Rattle.ttree_node.specs.declared.node.Node.{Node}
 use Rattle.ttree_node.specs.declared.node.Side.{Side}
@@ -61,8 +62,8 @@ cut_from p (node l x r) c h = (elim (same_place p x.place) as (λ s. same_place 
   ])
 ]) refl
 
-pub cut_tree : (p : Ptr) (t : Tree Spot) → misplaced t (there p) ≡ 0 → CutTree p t
-cut_tree p t h = cut_from p t [] (omega (arith, h))
+pub cut_tree : (p : Ptr) (t : Tree Spot) → IsPlaceIn t (there p) → CutTree p t
+cut_tree p t h = cut_from p t [] (ltb-true 0 (occurs p t) h)
 
 module _ {MAX : ℕ} where
   module _ (m : List (Ptr × Node MAX)) where

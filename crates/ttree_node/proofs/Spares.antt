@@ -1,10 +1,10 @@
 -- The spare nodes: one more, and one fewer.
-use Rattle.std.proofs.Common.{◌≡◌, ℕ, ◌+◌, ◌<◌, ◌≤◌, ◌^◌, true, false, cond, List, [], ◌∷◌, length, refl, sym, ap, ◌∙◌, subst, arith}
+use Rattle.std.proofs.Common.{◌≡◌, ℕ, ◌+◌, ◌<◌, ◌≤◌, true, false, cond, List, [], ◌∷◌, length, refl, sym, ap, ◌∙◌, subst, arith}
 use Rattle.std.specs.Prelude.{Option, Some, None, IsSome}
 use denote.RawPtr.{Ptr}
 use Rattle.ttree_node.specs.Held.{same_place, node_at, without}
 use Rattle.ttree_node.specs.Tree.{Tree, empty, node}
-use Rattle.ttree_node.specs.Linked.{Spot, there, head_of, one_if, occurs, occurs_in, node_for, Stands, Chained, read, located, Linked}
+use Rattle.ttree_node.specs.Linked.{Spot, there, head_of, one_if, occurs, occurs_in, node_for, Stands, Chained, read, located, Linked, node_limit}
 use Rattle.ttree_node.specs.declared.nodes.Place.{Place}
 use Rattle.ttree_node.specs.declared.node.Node.{Node}
 use Rattle.ttree_node.specs.declared.node.Side.{Side}
@@ -13,6 +13,7 @@ use Rattle.ttree_node.specs.declared.parts.Parts.{Parts}
 use Rattle.ttree_node.proofs.Cuts.{same_place_eq}
 use Rattle.ttree_node.proofs.Maps.{without_other, without_length}
 use Rattle.ttree_node.proofs.Shape.{differs, read_stands, still_stands, still_chained}
+use Rattle.ttree_node.specs.declared.parts.TheConstants.{MOST_ITEMS}
 
 pub some_place : {x : Place} {q : Ptr} → Some x ≡ there q → x.at ≡ q
 some_place {x} {q} e = let same : x ≡ record { at = q } = cc in ap (λ (y : Place). y.at) same
@@ -44,7 +45,7 @@ module _ {MAX : ℕ} where
     not_chained [] h = refl
     not_chained (p ∷ ps) h = omega (arith, here p _ h.0, not_chained ps h.1)
 
-  pub added : (p p' : Parts MAX) (t : Tree Spot) (ps : List Ptr) (q : Ptr) → Linked p t ps → node_at q p.nodes.held ≡ None → length p.nodes.held + 1 < 2 ^ 40 → MAX ≤ 72057594037927936
+  pub added : (p p' : Parts MAX) (t : Tree Spot) (ps : List Ptr) (q : Ptr) → Linked p t ps → node_at q p.nodes.held ≡ None → length p.nodes.held + 1 < node_limit → MAX ≤ MOST_ITEMS
       → p'.nodes.held ≡ (q, blank p.free) ∷ p.nodes.held → p'.root ≡ p.root → p'.free ≡ there q → p'.spares ≡ p.spares + 1 → Linked p' t (q ∷ ps)
   added p p' t ps q k none small narrow held root free spares =
       let m = p.nodes.held in let n : List (Ptr × Node MAX) = (q, blank p.free) ∷ m in
@@ -66,7 +67,7 @@ module _ {MAX : ℕ} where
           | false ↦ λ is. omega (arith, k.alone r)
         ]) refl;
         total = omega (arith, k.total) ∙ sym (ap length held);
-        small = subst (λ h. length h < 2 ^ 40) (sym held) (omega (arith, small));
+        small = subst (λ h. length h < node_limit) (sym held) (omega (arith, small));
         narrow = λ _. narrow;
       }
 
@@ -84,7 +85,7 @@ module _ {MAX : ℕ} where
         spares = omega (arith, spares, k.spares);
         alone = λ r. omega (arith, k.alone r);
         total = omega (arith, k.total, fewer) ∙ sym (ap length held);
-        small = subst (λ h. length h < 2 ^ 40) (sym held) (omega (arith, k.small, fewer));
+        small = subst (λ h. length h < node_limit) (sym held) (omega (arith, k.small, fewer));
         narrow = λ _. k.narrow (omega (arith, fewer));
       }
 

@@ -2,11 +2,12 @@
 use Rattle.std.proofs.Common.{◌≡◌, ℕ, true, List, [], ◌∷◌, refl, sym, ap, ◌∙◌, subst, arith}
 use Rattle.std.specs.Prelude.{Option, Some, None}
 use Rattle.std.specs.Option.{is_some}
+use Rattle.std.proofs.lemmas.Bool.{lt-ltb}
 use denote.RawPtr.{Ptr}
 use Rattle.part_raw.specs.declared.tuple_ref.TupleRef.{TupleRef}
 use Rattle.ttree_node.specs.Held.{node_at}
 use Rattle.ttree_node.specs.Tree.{Tree, empty, node, Frame, went_left, went_right, Zipper, Label, at, size, plug, whole, joined, relabel, relabel_frame, relabel_frames, relabel_zipper, is_node, left_of, right_of, has_left, has_right, is_root, down_left, down_right, up, items_of, stated}
-use Rattle.ttree_node.specs.Linked.{Spot, spot, there, root_of, parent_of, side_of, node_for, zipper_at, located, Linked, Sound, misplaced}
+use Rattle.ttree_node.specs.Linked.{Spot, spot, there, root_of, parent_of, side_of, node_for, zipper_at, occurs, located, Linked, Sound, IsPlaceIn, is_place_in}
 use Rattle.ttree_node.specs.Seen.{tree_of, position_at}
 use Rattle.ttree_node.specs.declared.nodes.Place.{Place}
 use Rattle.ttree_node.specs.declared.node.Node.{Node}
@@ -26,15 +27,15 @@ relabel_plug f [] t = refl
 relabel_plug f (went_left x r ∷ c) t = relabel_plug f c (node t x r)
 relabel_plug f (went_right l x ∷ c) t = relabel_plug f c (node l x t)
 
-pub placed_root : (c : List (Frame Spot)) (t : Tree Spot) → is_node t ≡ true → misplaced (plug c t) (root_of t) ≡ 0
+pub placed_root : (c : List (Frame Spot)) (t : Tree Spot) → is_node t ≡ true → IsPlaceIn (plug c t) (root_of t)
 placed_root c empty h = cc
-placed_root c (node l x r) h = omega (arith, occurs_plug x.place c (node l x r), one_same x.place)
+placed_root c (node l x r) h = lt-ltb 0 (occurs x.place (plug c (node l x r))) (omega (arith, occurs_plug x.place c (node l x r), one_same x.place))
 
-no_tree : (t : Tree Spot) → size t ≡ 0 → empty ≡ relabel label t
+no_tree : (t : Tree Spot) → IsPlaceIn t None → empty ≡ relabel label t
 no_tree empty h = refl
-no_tree (node l x r) h = absurd (omega (arith, h))
+no_tree (node l x r) h = cc
 
-at_top : (t : Tree Spot) → misplaced t (root_of t) ≡ 0
+at_top : (t : Tree Spot) → IsPlaceIn t (root_of t)
 at_top empty = refl
 at_top (node l x r) = placed_root [] (node l x r) refl
 
@@ -63,9 +64,9 @@ module _ {MAX : ℕ} where
     pub node : node_at q p.nodes.held ≡ Some (node_for x (parent_of above) (side_of above) (root_of l) (root_of r))
     pub position : position_at p (there q) ≡ relabel_zipper label (at above (Rattle.ttree_node.specs.Tree.node l (spot q x) r))
 
-  pub standing : (p : Parts MAX) → Sound p → (q : Ptr) → misplaced (located p) (there q) ≡ 0 → Standing p q
+  pub standing : (p : Parts MAX) → Sound p → (q : Ptr) → IsPlaceIn (located p) (there q) → Standing p q
   standing p s q h =
-      let c : CutTree q s.0 = cut_tree q s.0 (subst (λ t. misplaced t (there q) ≡ 0) (located_is p s.0 s.1 s.2) h) in
+      let c : CutTree q s.0 = cut_tree q s.0 (subst (λ t. IsPlaceIn t (there q)) (located_is p s.0 s.1 s.2) h) in
       let k : Linked p (plug c.above (node c.below_left (spot q c.label) c.below_right)) s.1 = subst (λ t. Linked p t s.1) c.is s.2 in
       record {
         above = c.above;
@@ -78,10 +79,10 @@ module _ {MAX : ℕ} where
         position = position_of p c.above (node c.below_left (spot q c.label) c.below_right) s.1 k refl;
       }
 
-  pub root_placed : (p : Parts MAX) → Sound p → misplaced (located p) p.root ≡ 0
+  pub root_placed : (p : Parts MAX) → Sound p → IsPlaceIn (located p) p.root
   root_placed p s =
       let e = located_is p s.0 s.1 s.2 in
-      (λ i. misplaced (e i) (s.2.root i)) ∙ at_top s.0
+      (λ i. is_place_in (e i) (s.2.root i)) ∙ at_top s.0
 
   pub root_position : (p : Parts MAX) → Sound p → position_at p p.root ≡ at [] (tree_of p)
   root_position p s =
@@ -95,23 +96,23 @@ module _ {MAX : ℕ} where
     found : (n : Node MAX) → node_at q p.nodes.held ≡ Some n → n ≡ node_for s.x (parent_of s.above) (side_of s.above) (root_of s.l) (root_of s.r)
     found n e = some_node (sym e ∙ s.node)
 
-    in_tree : (c : List (Frame Spot)) (t : Tree Spot) → plug c t ≡ plug s.above here → is_node t ≡ true → misplaced (located p) (root_of t) ≡ 0
-    in_tree c t e h = (λ i. misplaced ((located_is p (plug s.above here) s.spares s.linked ∙ sym e) i) (root_of t)) ∙ placed_root c t h
+    in_tree : (c : List (Frame Spot)) (t : Tree Spot) → plug c t ≡ plug s.above here → is_node t ≡ true → IsPlaceIn (located p) (root_of t)
+    in_tree c t e h = (λ i. is_place_in ((located_is p (plug s.above here) s.spares s.linked ∙ sym e) i) (root_of t)) ∙ placed_root c t h
 
     -- a step to the root of t, which stands below c
-    pub step_placed : (c : List (Frame Spot)) (t : Tree Spot) → plug c t ≡ plug s.above here → is_node t ≡ true → (to : Option Place) → to ≡ root_of t → misplaced (located p) to ≡ 0
-    step_placed c t e h to same = (λ i. misplaced (located p) (same i)) ∙ in_tree c t e h
+    pub step_placed : (c : List (Frame Spot)) (t : Tree Spot) → plug c t ≡ plug s.above here → is_node t ≡ true → (to : Option Place) → to ≡ root_of t → IsPlaceIn (located p) to
+    step_placed c t e h to same = (λ i. is_place_in (located p) (same i)) ∙ in_tree c t e h
 
     pub step_moved : (c : List (Frame Spot)) (t : Tree Spot) → plug c t ≡ plug s.above here → is_node t ≡ true → (to : Option Place) → to ≡ root_of t → position_at p to ≡ relabel_zipper label (at c t)
     step_moved c t e h to same = (λ i. position_at p (same i)) ∙ position_of p c t s.spares (subst (λ u. Linked p u s.spares) (sym e) s.linked) h
 
   -- the place and the steps above it are the whole tree
-  pub whole_is : (p : Parts MAX) → Sound p → (place : Option Place) → misplaced (located p) place ≡ 0 → whole (position_at p place) ≡ tree_of p
+  pub whole_is : (p : Parts MAX) → Sound p → (place : Option Place) → IsPlaceIn (located p) place → whole (position_at p place) ≡ tree_of p
   whole_is p s None h = no_tree (located p) h
   whole_is p s (Some q) h =
       let z = standing p s q.at h in let here : Tree Spot = node z.l (spot q.at z.x) z.r in
       (λ i. whole (z.position i)) ∙ sym (relabel_plug label z.above here) ∙ (λ i. relabel label (sym (located_is p (plug z.above here) z.spares z.linked) i))
 
-  pub node_seen : (p : Parts MAX) → Sound p → (place : Option Place) → misplaced (located p) place ≡ 0 → is_some place ≡ is_node (position_at p place).here
+  pub node_seen : (p : Parts MAX) → Sound p → (place : Option Place) → IsPlaceIn (located p) place → is_some place ≡ is_node (position_at p place).here
   node_seen p s None h = refl
   node_seen p s (Some q) h = let z = standing p s q.at h in λ i. is_node (sym z.position i).here

@@ -5,7 +5,7 @@ use denote.RawPtr.{Ptr}
 use Rattle.part_raw.specs.declared.tuple_ref.TupleRef.{TupleRef}
 use Rattle.ttree_node.specs.Held.{same_place, node_at, set_node, update}
 use Rattle.ttree_node.specs.Tree.{Tree, empty, node, Frame, Label, at, plug, relabel, relabel_zipper, is_node, has_left, has_right, with_tree, rotated_left, rotated_right}
-use Rattle.ttree_node.specs.Linked.{one_if, with_parent, Spot, spot, there, root_of, parent_of, side_of, node_for, label_of, Present, linked_down, linked_up, rooted, Linked, misplaced}
+use Rattle.ttree_node.specs.Linked.{one_if, with_parent, Spot, spot, there, root_of, parent_of, side_of, node_for, label_of, Present, linked_down, linked_up, rooted, Linked, is_place_in}
 use Rattle.ttree_node.specs.Seen.{position_at}
 use Rattle.ttree_node.specs.declared.nodes.Place.{Place}
 use Rattle.ttree_node.specs.declared.node.Node.{Node}
@@ -107,7 +107,7 @@ module _ {MAX : ℕ} where
           let to : n.right ≡ there k.b = ap (λ (w : Node MAX). w.right) k.node_is in
           record {
             sound = (plug k.c t, k.ps, done);
-            placed = (λ i. misplaced (located_is p' (plug k.c t) k.ps done i) (to i)) ∙ placed_root k.c t refl;
+            placed = (λ i. is_place_in (located_is p' (plug k.c t) k.ps done i) (to i)) ∙ placed_root k.c t refl;
             position = (λ i. position_at p' (to i)) ∙ position_of p' k.c t k.ps done refl ∙ (λ i. with_tree rotated_left (sym k.position i));
           }
 
@@ -184,6 +184,6 @@ module _ {MAX : ℕ} where
           let to : n.left ≡ there k.b = ap (λ (w : Node MAX). w.left) k.node_is in
           record {
             sound = (plug k.c t, k.ps, done);
-            placed = (λ i. misplaced (located_is p' (plug k.c t) k.ps done i) (to i)) ∙ placed_root k.c t refl;
+            placed = (λ i. is_place_in (located_is p' (plug k.c t) k.ps done i) (to i)) ∙ placed_root k.c t refl;
             position = (λ i. position_at p' (to i)) ∙ position_of p' k.c t k.ps done refl ∙ (λ i. with_tree rotated_right (sym k.position i));
           }

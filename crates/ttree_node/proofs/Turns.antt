@@ -1,11 +1,11 @@
 -- A node and its child turn about each other.
-use Rattle.std.proofs.Common.{◌≡◌, ℕ, ◌+◌, ◌<◌, ◌≤◌, ◌^◌, List, length, sym, ap, ◌∙◌, subst, arith}
+use Rattle.std.proofs.Common.{◌≡◌, ℕ, ◌+◌, ◌<◌, ◌≤◌, List, length, sym, ap, ◌∙◌, subst, arith}
 use Rattle.std.specs.Prelude.{Some, None}
 use denote.RawPtr.{Ptr}
 use Rattle.part_raw.specs.declared.tuple_ref.TupleRef.{TupleRef}
 use Rattle.ttree_node.specs.Held.{node_at, set_node}
 use Rattle.ttree_node.specs.Tree.{Tree, node, Frame, Label, plug}
-use Rattle.ttree_node.specs.Linked.{Spot, spot, there, root_of, parent_of, side_of, one_if, occurs, occurs_above, occurs_in, node_for, Stands, Around, Chained, linked_down, linked_up, rooted, Linked}
+use Rattle.ttree_node.specs.Linked.{Spot, spot, there, root_of, parent_of, side_of, one_if, occurs, occurs_above, occurs_in, node_for, Stands, Around, Chained, linked_down, linked_up, rooted, Linked, node_limit}
 use Rattle.ttree_node.specs.declared.node.Node.{Node}
 use Rattle.ttree_node.specs.declared.node.Side.TheVariants.{Root, Left, Right}
 use Rattle.ttree_node.specs.declared.parts.Parts.{Parts}
@@ -46,7 +46,7 @@ module _ {MAX : ℕ} where
         spares = spares ∙ k.spares;
         alone = λ o. omega (arith, apart o, occurs_plug o c new);
         total = omega (arith, k.total, size_plug c old, size_plug c new, same) ∙ sym (ap length held);
-        small = subst (λ h. length h < 2 ^ 40) (sym held) (omega (arith, k.small, same));
+        small = subst (λ h. length h < node_limit) (sym held) (omega (arith, k.small, same));
         narrow = λ some. k.narrow (omega (arith, some, ap length held, same));
       }
 
@@ -81,6 +81,6 @@ module _ {MAX : ℕ} where
         spares = spares ∙ k.spares;
         alone = λ o. omega (arith, apart o, occurs_plug o c new);
         total = omega (arith, k.total, size_plug c old, size_plug c new, same) ∙ sym (ap length held);
-        small = subst (λ h. length h < 2 ^ 40) (sym held) (omega (arith, k.small, same));
+        small = subst (λ h. length h < node_limit) (sym held) (omega (arith, k.small, same));
         narrow = λ some. k.narrow (omega (arith, some, ap length held, same));
       }

@@ -5,7 +5,7 @@ use Rattle.std.specs.Option.{is_some}
 use denote.RawPtr.{Ptr}
 use Rattle.ttree_node.specs.Held.{node_at}
 use Rattle.ttree_node.specs.Tree.{Tree, empty, node, Frame, went_left, went_right, Zipper, Label, at, plug, joined, relabel, relabel_frame, relabel_frames, relabel_zipper, is_node, left_of, right_of, has_left, has_right, is_root, down_left, down_right, up, items_of, stated}
-use Rattle.ttree_node.specs.Linked.{Spot, spot, there, root_of, parent_of, side_of, node_for, located, Sound, misplaced}
+use Rattle.ttree_node.specs.Linked.{Spot, spot, there, root_of, parent_of, side_of, node_for, located, Sound, IsPlaceIn, is_place_in}
 use Rattle.ttree_node.specs.Seen.{position_at}
 use Rattle.ttree_node.specs.declared.nodes.Place.{Place}
 use Rattle.ttree_node.specs.declared.node.Node.{Node}
@@ -13,6 +13,7 @@ use Rattle.ttree_node.specs.declared.parts.Parts.{Parts}
 use Rattle.ttree_node.proofs.Standing.{label, is_node_relabel, Standing, standing, step_placed, step_moved}
 use Rattle.ttree_node.proofs.Spares.{some_node}
 use Rattle.ttree_node.proofs.Shape.{size_plug}
+use Rattle.ttree_node.specs.declared.parts.TheConstants.{MOST_ITEMS}
 
 some_root : (t : Tree Spot) → is_some (root_of t) ≡ is_node (relabel label t)
 some_root empty = refl
@@ -26,9 +27,9 @@ module _ {MAX : ℕ} where
     pub node_is : n ≡ node_for standing.x (parent_of standing.above) (side_of standing.above) (root_of standing.l) (root_of standing.r)
     pub position : position_at p place ≡ relabel_zipper label (Rattle.ttree_node.specs.Tree.at standing.above (node standing.l (spot at standing.x) standing.r))
 
-  module _ (p inside : Parts MAX) (view : inside ≡ p) (s : Sound inside) (place : Option Place) (found : Place) (is : place ≡ Some found) (placed : misplaced (located p) place ≡ 0) where
+  module _ (p inside : Parts MAX) (view : inside ≡ p) (s : Sound inside) (place : Option Place) (found : Place) (is : place ≡ Some found) (placed : IsPlaceIn (located p) place) where
     stands : Standing p found.at
-    stands = standing p (subst Sound view s) found.at ((λ i. misplaced (located p) (sym is i)) ∙ placed)
+    stands = standing p (subst Sound view s) found.at ((λ i. is_place_in (located p) (sym is i)) ∙ placed)
 
     pub present : IsSome (node_at found.at inside.nodes.held)
     present = subst (λ o. IsSome o) (sym ((λ i. node_at found.at (view i).nodes.held) ∙ stands.node)) refl
@@ -60,7 +61,7 @@ module _ {MAX : ℕ} where
     pub root_seen : not (is_some n.parent) ≡ is_root (position_at p place).above
     root_seen = (λ i. not (is_some (v.node_is i).parent)) ∙ sym (root_seen_at s.above) ∙ (λ i. is_root (sym v.position i).above)
 
-    pub narrow_here : MAX ≤ 72057594037927936
+    pub narrow_here : MAX ≤ MOST_ITEMS
     narrow_here = s.linked.narrow (omega (arith, s.linked.total, size_plug s.above (node s.l (spot v.at s.x) s.r)))
 
     pub items_seen : n.items.items ≡ items_of (position_at p place).here
@@ -69,14 +70,14 @@ module _ {MAX : ℕ} where
     pub height_seen : n.height ≡ stated (position_at p place).here
     height_seen = (λ i. (v.node_is i).height) ∙ (λ i. stated (sym v.position i).here)
 
-    pub left_placed : has_left (position_at p place).here ≡ true → misplaced (located p) n.left ≡ 0
+    pub left_placed : has_left (position_at p place).here ≡ true → IsPlaceIn (located p) n.left
     left_placed h = step_placed p v.at s (went_left (spot v.at s.x) s.r ∷ s.above) s.l refl (sym (is_node_relabel label s.l) ∙ (λ i. has_left (sym v.position i).here) ∙ h) n.left (ap (λ (m : Node MAX). m.left) v.node_is)
 
     pub left_moved : has_left (position_at p place).here ≡ true → position_at p n.left ≡ down_left (position_at p place)
     left_moved h = step_moved p v.at s (went_left (spot v.at s.x) s.r ∷ s.above) s.l refl (sym (is_node_relabel label s.l) ∙ (λ i. has_left (sym v.position i).here) ∙ h) n.left (ap (λ (m : Node MAX). m.left) v.node_is)
         ∙ (λ i. down_left (sym v.position i))
 
-    pub right_placed : has_right (position_at p place).here ≡ true → misplaced (located p) n.right ≡ 0
+    pub right_placed : has_right (position_at p place).here ≡ true → IsPlaceIn (located p) n.right
     right_placed h = step_placed p v.at s (went_right s.l (spot v.at s.x) ∷ s.above) s.r refl (sym (is_node_relabel label s.r) ∙ (λ i. has_right (sym v.position i).here) ∙ h) n.right (ap (λ (m : Node MAX). m.right) v.node_is)
 
     pub right_moved : has_right (position_at p place).here ≡ true → position_at p n.right ≡ down_right (position_at p place)
@@ -100,7 +101,7 @@ module _ {MAX : ℕ} where
     raised : is_root (position_at p place).above ≡ false → Higher n.parent
     raised h = higher s.above refl ((λ i. is_root (sym v.position i).above) ∙ h) n.parent (ap (λ (m : Node MAX). m.parent) v.node_is)
 
-    pub parent_placed : is_root (position_at p place).above ≡ false → misplaced (located p) n.parent ≡ 0
+    pub parent_placed : is_root (position_at p place).above ≡ false → IsPlaceIn (located p) n.parent
     parent_placed h = let k = raised h in step_placed p v.at s k.above k.tree k.same k.is n.parent k.root
 
     pub parent_moved : is_root (position_at p place).above ≡ false → position_at p n.parent ≡ up (position_at p place)

@@ -2,7 +2,7 @@
 use Rattle.std.specs.Prelude.{◌≡◌, ℕ, ◌-◌, true, false, length, take, drop, List, [], ◌∷◌, ◌++◌, refl}
 use Rattle.std.proofs.lemmas.List.{take-append-drop}
 use Rattle.std.proofs.Common.{append_assoc, sym, ap, ◌∙◌}
-use Rattle.ttree_node.specs.Tree.{Tree, empty, node, Frame, went_left, went_right, Zipper, Label, plug, whole, list, list_above, list_before, rotated_left, rotated_right, with_tree, is_leaf, left_of, right_of, merged_left, merged_right, has_left, has_right, is_node, refilled_left, refilled_right, items_of}
+use Rattle.ttree_node.specs.Tree.{Tree, empty, node, Frame, went_left, went_right, Zipper, Label, plug, whole, list, rotated_left, rotated_right, with_tree, is_leaf, left_of, right_of, merged_left, merged_right, has_left, has_right, is_node, dealt_left, dealt_right, items_of}
 use Rattle.ttree_node.specs.declared.node.Way.{Way}
 use Rattle.ttree_node.specs.declared.node.Way.TheVariants.{Up, Down}
 use Rattle.ttree_node.specs.declared.node.Side.{Side}
@@ -10,13 +10,6 @@ use Rattle.ttree_node.specs.declared.node.Side.TheVariants.{Root, Left, Right}
 use Rattle.ttree_node.specs.Seen.{child, opposite, merged, slid}
 
 module _ {I : Type 0} where
-  -- the whole list is that of the subtree, between what is to its left and what is to its right
-  abbrev pub before : List (Frame (Label I)) → List I
-  before c = list_before c
-
-  abbrev pub after : List (Frame (Label I)) → List I
-  after c = list_above c
-
   -- a rotation keeps the list
   pub list-rotated_left : (t : Tree (Label I)) → list (rotated_left t) ≡ list t
   list-rotated_left empty = refl
@@ -71,32 +64,32 @@ module _ {I : Type 0} where
   list-before xs ys us vs zs e = sym (append_assoc us vs zs) ∙ ap (λ ws. ws ++ zs) e ∙ append_assoc xs ys zs
 
   -- items that go between a node and a child with nothing between them keep the list
-  pub list-refilled_right : (us vs : List I) (t : Tree (Label I)) → has_right t ≡ true → has_left (right_of t) ≡ false
-      → us ++ vs ≡ items_of t ++ items_of (right_of t) → list (refilled_right us vs t) ≡ list t
-  list-refilled_right us vs empty h o e = cc
-  list-refilled_right us vs (node l x empty) h o e = cc
-  list-refilled_right us vs (node l x (node (node a b c) y r)) h o e = cc
-  list-refilled_right us vs (node l x (node empty y r)) h o e = ap (λ zs. list l ++ zs) (list-before x.items y.items us vs (list r) e)
+  pub list-dealt_right : (us vs : List I) (t : Tree (Label I)) → has_right t ≡ true → has_left (right_of t) ≡ false
+      → us ++ vs ≡ items_of t ++ items_of (right_of t) → list (dealt_right us vs t) ≡ list t
+  list-dealt_right us vs empty h o e = cc
+  list-dealt_right us vs (node l x empty) h o e = cc
+  list-dealt_right us vs (node l x (node (node a b c) y r)) h o e = cc
+  list-dealt_right us vs (node l x (node empty y r)) h o e = ap (λ zs. list l ++ zs) (list-before x.items y.items us vs (list r) e)
 
-  pub list-refilled_left : (us vs : List I) (t : Tree (Label I)) → has_left t ≡ true → has_right (left_of t) ≡ false
-      → vs ++ us ≡ items_of (left_of t) ++ items_of t → list (refilled_left us vs t) ≡ list t
-  list-refilled_left us vs empty h o e = cc
-  list-refilled_left us vs (node empty x r) h o e = cc
-  list-refilled_left us vs (node (node l y (node a b c)) x r) h o e = cc
-  list-refilled_left us vs (node (node l y empty) x r) h o e =
+  pub list-dealt_left : (us vs : List I) (t : Tree (Label I)) → has_left t ≡ true → has_right (left_of t) ≡ false
+      → vs ++ us ≡ items_of (left_of t) ++ items_of t → list (dealt_left us vs t) ≡ list t
+  list-dealt_left us vs empty h o e = cc
+  list-dealt_left us vs (node empty x r) h o e = cc
+  list-dealt_left us vs (node (node l y (node a b c)) x r) h o e = cc
+  list-dealt_left us vs (node (node l y empty) x r) h o e =
       append_assoc (list l) (vs ++ []) (us ++ list r) ∙ ap (λ zs. list l ++ zs) (append_assoc vs [] (us ++ list r) ∙ list-before y.items x.items vs us (list r) e ∙ sym (append_assoc y.items [] (x.items ++ list r)))
       ∙ sym (append_assoc (list l) (y.items ++ []) (x.items ++ list r))
 
   list-slid : (side : Side) (way : Way) (n : ℕ) (t : Tree (Label I)) → is_node (child side t) ≡ true → is_node (child (opposite side) (child side t)) ≡ false → list (slid side way n t) ≡ list t
   list-slid Root way n t h o = cc
   list-slid Right Up n t h o = let xs = items_of t in let ys = items_of (right_of t) in
-      list-refilled_right (xs ++ take n ys) (drop n ys) t h o (append_assoc xs (take n ys) (drop n ys) ∙ ap (λ zs. xs ++ zs) (take-append-drop n ys))
+      list-dealt_right (xs ++ take n ys) (drop n ys) t h o (append_assoc xs (take n ys) (drop n ys) ∙ ap (λ zs. xs ++ zs) (take-append-drop n ys))
   list-slid Right Down n t h o = let xs = items_of t in let ys = items_of (right_of t) in let k = length xs - n in
-      list-refilled_right (take k xs) (drop k xs ++ ys) t h o (sym (append_assoc (take k xs) (drop k xs) ys) ∙ ap (λ zs. zs ++ ys) (take-append-drop k xs))
+      list-dealt_right (take k xs) (drop k xs ++ ys) t h o (sym (append_assoc (take k xs) (drop k xs) ys) ∙ ap (λ zs. zs ++ ys) (take-append-drop k xs))
   list-slid Left Up n t h o = let xs = items_of t in let ys = items_of (left_of t) in let k = length ys - n in
-      list-refilled_left (drop k ys ++ xs) (take k ys) t h o (sym (append_assoc (take k ys) (drop k ys) xs) ∙ ap (λ zs. zs ++ xs) (take-append-drop k ys))
+      list-dealt_left (drop k ys ++ xs) (take k ys) t h o (sym (append_assoc (take k ys) (drop k ys) xs) ∙ ap (λ zs. zs ++ xs) (take-append-drop k ys))
   list-slid Left Down n t h o = let xs = items_of t in let ys = items_of (left_of t) in
-      list-refilled_left (drop n xs) (ys ++ take n xs) t h o (append_assoc ys (take n xs) (drop n xs) ∙ ap (λ zs. ys ++ zs) (take-append-drop n xs))
+      list-dealt_left (drop n xs) (ys ++ take n xs) t h o (append_assoc ys (take n xs) (drop n xs) ∙ ap (λ zs. ys ++ zs) (take-append-drop n xs))
 
   pub list-whole-slid : (side : Side) (way : Way) (n : ℕ) (z : Zipper (Label I)) → is_node (child side z.here) ≡ true → is_node (child (opposite side) (child side z.here)) ≡ false → list (whole (with_tree (slid side way n) z)) ≡ list (whole z)
   list-whole-slid side way n z h o = list-plug z.above (slid side way n z.here) z.here (list-slid side way n z.here h o)

@@ -7,3 +7,4 @@ pub mod Look
 pub mod Order
 pub mod Seen
 pub mod Tree
+pub mod Walk

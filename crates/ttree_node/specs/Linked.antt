@@ -1,14 +1,15 @@
 -- How a set of nodes stands for a tree.
-use Rattle.std.specs.Prelude.{◌≡◌, ℕ, zero, suc, ◌+◌, ◌-◌, ◌<◌, ◌≤◌, ◌^◌, IsSome, cond, Option, Some, None, List, [], ◌∷◌, length}
+use Rattle.std.specs.Prelude.{◌≡◌, ℕ, zero, suc, ◌+◌, ◌<◌, ◌≤◌, ◌^◌, IsSome, Bool, true, not, nat_lt, cond, Option, Some, None, List, [], ◌∷◌, length}
 use denote.RawPtr.{Ptr}
 use Rattle.part_raw.specs.declared.tuple_ref.TupleRef.{TupleRef}
 use Rattle.ttree_node.specs.Held.{same_place, node_at, update}
-use Rattle.ttree_node.specs.Tree.{Tree, empty, node, Frame, went_left, went_right, Zipper, Label, at, size}
+use Rattle.ttree_node.specs.Tree.{Tree, empty, node, Frame, went_left, went_right, Zipper, Label, at, size, is_node}
 use Rattle.ttree_node.specs.declared.nodes.Place.{Place}
 use Rattle.ttree_node.specs.declared.node.Node.{Node}
 use Rattle.ttree_node.specs.declared.node.Side.{Side}
 use Rattle.ttree_node.specs.declared.node.Side.TheVariants.{Root, Left, Right}
 use Rattle.ttree_node.specs.declared.parts.Parts.{Parts}
+use Rattle.ttree_node.specs.declared.parts.TheConstants.{MOST_ITEMS}
 
 -- what is known of a node: where it lies, and its items and stated height
 pub record Spot : Type 0 where
@@ -46,6 +47,10 @@ abbrev pub rooted : Option Place → Option Place → Option Place → Option Pl
 rooted None q old = q
 rooted (Some p) q old = old
 
+-- a set has fewer nodes than these: more than any memory has, and few enough to be counted
+abbrev pub node_limit : ℕ
+node_limit = 2 ^ 40
+
 -- how often a place occurs
 module _ (q : Ptr) where
   abbrev pub one_if : Ptr → ℕ
@@ -70,15 +75,15 @@ module _ {MAX : ℕ} where
   node_for x parent side l r = record { height = x.height; side = side; left = l; right = r; parent = parent; items = record { items = x.items } }
 
   -- the node with another child on that side
-  abbrev pub with_child : Side → Option Place → Node MAX → Node MAX
-  with_child Root q n = n
-  with_child Left q n = record n { left = q }
-  with_child Right q n = record n { right = q }
+  abbrev pub with_link : Side → Option Place → Node MAX → Node MAX
+  with_link Root q n = n
+  with_link Left q n = record n { left = q }
+  with_link Right q n = record n { right = q }
 
   -- the set where the node at the place, if there is one, has another child on that side
   abbrev pub linked_down : Option Place → Side → Option Place → List (Ptr × Node MAX) → List (Ptr × Node MAX)
   linked_down None s q m = m
-  linked_down (Some p) s q m = update p.at (with_child s q) m
+  linked_down (Some p) s q m = update p.at (with_link s q) m
 
   -- the node under another parent, on that side of it
   abbrev pub with_parent : Option Place → Side → Node MAX → Node MAX
@@ -158,14 +163,17 @@ module _ {MAX : ℕ} where
     pub spares : p.spares ≡ length ps
     pub alone : (q : Ptr) → occurs q t + occurs_in q ps ≤ 1
     pub total : size t + length ps ≡ length p.nodes.held
-    pub small : length p.nodes.held < 2 ^ 40
+    pub small : length p.nodes.held < node_limit
     -- no heap holds a node for more items
-    pub narrow : 0 < length p.nodes.held → MAX ≤ 72057594037927936
+    pub narrow : 0 < length p.nodes.held → MAX ≤ MOST_ITEMS
 
   abbrev pub Sound : Parts MAX → Type 0
   Sound p = (t : Tree Spot) × (ps : List Ptr) × Linked p t ps
 
--- 0 where a node of the tree lies at the place, and for no place where the tree is empty
-abbrev pub misplaced : Tree Spot → Option Place → ℕ
-misplaced t None = size t
-misplaced t (Some p) = 1 - occurs p.at t
+-- a node of the tree lies at the place, or there is neither a place nor a node
+abbrev pub is_place_in : Tree Spot → Option Place → Bool
+is_place_in t None = not (is_node t)
+is_place_in t (Some p) = nat_lt 0 (occurs p.at t)
+
+abbrev pub IsPlaceIn : Tree Spot → Option Place → Type 0
+IsPlaceIn t place = is_place_in t place ≡ true

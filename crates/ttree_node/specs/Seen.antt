@@ -1,7 +1,7 @@
 -- What a caller sees of linked nodes: a tree of item lists with stated heights, the number of spare nodes, and a place in the tree. No pointer occurs here.
 use Rattle.std.specs.Prelude.{ℕ, Option, Bool, true, false}
 use Rattle.part_raw.specs.declared.tuple_ref.TupleRef.{TupleRef}
-use Rattle.ttree_node.specs.Tree.{Tree, empty, Zipper, Label, relabel, relabel_zipper, down_left, down_right, is_node, has_left, has_right, left_of, right_of, merged_left, merged_right, items_of, up_from_left, up_from_right, down_to_left, down_to_right}
+use Rattle.ttree_node.specs.Tree.{Tree, empty, Zipper, Label, relabel, relabel_zipper, down_left, down_right, left_of, right_of, merged_left, merged_right, items_of, up_from_left, up_from_right, down_to_left, down_to_right}
 use Rattle.ttree_node.specs.declared.node.Side.{Side}
 use Rattle.ttree_node.specs.declared.node.Side.TheVariants.{Root, Left, Right}
 use Rattle.ttree_node.specs.declared.node.Way.{Way}
@@ -33,12 +33,6 @@ abbrev pub hangs_on_node : Side → Bool
 hangs_on_node Root = false
 hangs_on_node Left = true
 hangs_on_node Right = true
-
--- whether a child hangs on that side of the node, or for the root whether there is one
-abbrev pub child_on : {X : Type 0} → Side → Tree X → Bool
-child_on Root t = is_node t
-child_on Left t = has_left t
-child_on Right t = has_right t
 
 -- the child on that side of the node
 abbrev pub child : {X : Type 0} → Side → Tree X → Tree X

@@ -163,7 +163,7 @@ module _ {I : Type 0} where
   abbrev pub with_height : ℕ → Zipper (Label I) → Zipper (Label I)
   with_height h z = at z.above (new_height h z.here)
 
-  -- one more than the higher stated height of the children, at most the greatest u32
+  -- one more than the higher stated height of the children, at most the greatest `u32`
   abbrev pub height_over : Tree (Label I) → ℕ
   height_over t = min (1 + max (stated (left_of t)) (stated (right_of t))) 4294967295
 
@@ -210,38 +210,38 @@ module _ {I : Type 0} where
   merged_left (node (node l y m) x r) = node empty (record { items = y.items ++ x.items; height = x.height }) r
 
   -- the node with other items, and its right child, or its left one, too
-  abbrev pub refilled_right : List I → List I → Tree (Label I) → Tree (Label I)
-  refilled_right xs ys empty = empty
-  refilled_right xs ys (node l x r) = node l (record { items = xs; height = x.height }) (new_items ys r)
+  abbrev pub dealt_right : List I → List I → Tree (Label I) → Tree (Label I)
+  dealt_right xs ys empty = empty
+  dealt_right xs ys (node l x r) = node l (record { items = xs; height = x.height }) (new_items ys r)
 
-  abbrev pub refilled_left : List I → List I → Tree (Label I) → Tree (Label I)
-  refilled_left xs ys empty = empty
-  refilled_left xs ys (node l x r) = node (new_items ys l) (record { items = xs; height = x.height }) r
+  abbrev pub dealt_left : List I → List I → Tree (Label I) → Tree (Label I)
+  dealt_left xs ys empty = empty
+  dealt_left xs ys (node l x r) = node (new_items ys l) (record { items = xs; height = x.height }) r
 
   -- so many items go up from the child to the node, or down from the node to the child, nearest first
   abbrev pub up_from_right : ℕ → List I → List I → Tree (Label I) → Tree (Label I)
-  up_from_right n xs ys t = refilled_right (xs ++ take n ys) (drop n ys) t
+  up_from_right n xs ys t = dealt_right (xs ++ take n ys) (drop n ys) t
 
   abbrev pub up_from_left : ℕ → List I → List I → Tree (Label I) → Tree (Label I)
-  up_from_left n xs ys t = refilled_left (drop (length ys - n) ys ++ xs) (take (length ys - n) ys) t
+  up_from_left n xs ys t = dealt_left (drop (length ys - n) ys ++ xs) (take (length ys - n) ys) t
 
   abbrev pub down_to_right : ℕ → List I → List I → Tree (Label I) → Tree (Label I)
-  down_to_right n xs ys t = refilled_right (take (length xs - n) xs) (drop (length xs - n) xs ++ ys) t
+  down_to_right n xs ys t = dealt_right (take (length xs - n) xs) (drop (length xs - n) xs ++ ys) t
 
   abbrev pub down_to_left : ℕ → List I → List I → Tree (Label I) → Tree (Label I)
-  down_to_left n xs ys t = refilled_left (drop n xs) (ys ++ take n xs) t
+  down_to_left n xs ys t = dealt_left (drop n xs) (ys ++ take n xs) t
 
 -- ---- the list from a place on, and up to it
 module _ {I : Type 0} where
   -- what stands behind on the way up: for each step to the left the items of the node that it left and the list of its right tree, and for a step to the right nothing
-  abbrev pub list_above : List (Frame (Label I)) → List I
-  list_above [] = []
-  list_above (went_left x r ∷ c) = x.items ++ (list r ++ list_above c)
-  list_above (went_right l x ∷ c) = list_above c
+  abbrev pub list_after : List (Frame (Label I)) → List I
+  list_after [] = []
+  list_after (went_left x r ∷ c) = x.items ++ (list r ++ list_after c)
+  list_after (went_right l x ∷ c) = list_after c
 
   -- what stands behind the items of the node: the list of its right tree, and what stands behind on the way up
   abbrev pub list_behind : Zipper (Label I) → List I
-  list_behind z = list (right_of z.here) ++ list_above z.above
+  list_behind z = list (right_of z.here) ++ list_after z.above
 
   -- the list from item i of the node on
   abbrev pub list_from : ℕ → Zipper (Label I) → List I

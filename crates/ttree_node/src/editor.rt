@@ -1,6 +1,6 @@
 //! A place in a tree that is changed there.
 ghost use Rattle.std.specs.Prelude.{◌≡◌, ◌+◌, ◌<◌, ◌≤◌, true, false, [], length, insert, remove, slice_index_or};
-ghost use Rattle.ttree_node.specs.Linked.{located, misplaced};
+ghost use Rattle.ttree_node.specs.Linked.{located, IsPlaceIn};
 
 use crate::links::Links;
 use crate::node::{Side, Way};
@@ -12,12 +12,12 @@ use part_raw::TupleRef;
 pub struct Editor<'a, const MAX: usize> {
     pub(crate) links: &'a mut Links<MAX>,
     pub(crate) at: Option<Place>,
-    ghost placed: { misplaced (located links.now) at ≡ 0 },
+    ghost placed: { IsPlaceIn (located links.now) at },
 }
 
 impl<'a, const MAX: usize> Editor<'a, MAX> {
     ghost use Rattle.ttree_node.specs.Tree.{whole, list, is_node, is_leaf, is_root, has_left, has_right, left_of, right_of, down_left, down_right, up, to_root, items_of, stated, with_items, with_height, height_over, with_leaf, without_leaf, with_tree, rotated_left, rotated_right};
-    ghost use Rattle.ttree_node.specs.Seen.{on_side, child, child_on, opposite, hangs_on_node, merged, giver, taker, slid};
+    ghost use Rattle.ttree_node.specs.Seen.{on_side, child, opposite, hangs_on_node, merged, giver, taker, slid};
     ghost use Rattle.ttree_node.specs.Editor.{position, tree_at, spares_at};
 
     /// Whether a node is there.
@@ -34,18 +34,21 @@ impl<'a, const MAX: usize> Editor<'a, MAX> {
         self.links.spares()
     }
 
+    /// Whether this is the root, or the tree is empty.
     pub fn at_root(&self) -> bool
         ensures { result ≡ is_root (position self.now).above }
     {
         self.links.is_root(self.at)
     }
 
+    /// Whether the node has a left child.
     pub fn has_left(&self) -> bool
         ensures { result ≡ has_left (position self.now).here }
     {
         self.links.has_left(self.at)
     }
 
+    /// Whether the node has a right child.
     pub fn has_right(&self) -> bool
         ensures { result ≡ has_right (position self.now).here }
     {
@@ -67,6 +70,7 @@ impl<'a, const MAX: usize> Editor<'a, MAX> {
         self.links.heights(self.at)
     }
 
+    /// Goes to the root.
     pub fn to_root(&mut self)
         ensures same_reference { self.new.links.ghost_name ≡ self.old.links.ghost_name }
         ensures moved { position self.new ≡ to_root (position self.old) }
@@ -76,6 +80,7 @@ impl<'a, const MAX: usize> Editor<'a, MAX> {
         self.at = self.links.root();
     }
 
+    /// Goes to the left child.
     pub fn down_left(&mut self)
         requires { has_left (position self.old).here ≡ true }
         ensures same_reference { self.new.links.ghost_name ≡ self.old.links.ghost_name }
@@ -86,6 +91,7 @@ impl<'a, const MAX: usize> Editor<'a, MAX> {
         self.at = self.links.left_of(self.at);
     }
 
+    /// Goes to the right child.
     pub fn down_right(&mut self)
         requires { has_right (position self.old).here ≡ true }
         ensures same_reference { self.new.links.ghost_name ≡ self.old.links.ghost_name }
@@ -96,6 +102,7 @@ impl<'a, const MAX: usize> Editor<'a, MAX> {
         self.at = self.links.right_of(self.at);
     }
 
+    /// Goes to the parent.
     pub fn up(&mut self)
         requires { is_root (position self.old).above ≡ false }
         ensures same_reference { self.new.links.ghost_name ≡ self.old.links.ghost_name }
@@ -142,10 +149,10 @@ impl<'a, const MAX: usize> Editor<'a, MAX> {
         self.links.reheight(self.at);
     }
 
-    /// Makes a spare node a leaf of height 1 with one item, on that side of the node, or as the root where the tree is empty. The path is then the leaf's.
+    /// Makes a spare node a leaf of height 1 with one item, on that side of the node, or as the root where the tree is empty. The editor then stands at the leaf.
     pub fn new_leaf(&mut self, side: Side, item: TupleRef)
         requires fits { is_node (position self.old).here ≡ hangs_on_node side }
-        requires open { child_on side (position self.old).here ≡ false }
+        requires open { is_node (child side (position self.old).here) ≡ false }
         requires spare { 0 < spares_at self.old }
         requires room { 0 < MAX }
         ensures same_reference { self.new.links.ghost_name ≡ self.old.links.ghost_name }
@@ -156,7 +163,7 @@ impl<'a, const MAX: usize> Editor<'a, MAX> {
         self.at = self.links.new_leaf(self.at, side, item);
     }
 
-    /// Makes an empty leaf a spare node. The path is then its parent's.
+    /// Makes an empty leaf a spare node. The editor then stands at its parent, or nowhere if it was the root.
     pub fn drop_leaf(&mut self)
         requires leaf { is_leaf (position self.old).here }
         requires no_items { length (items_of (position self.old).here) ≡ 0 }
@@ -186,7 +193,7 @@ impl<'a, const MAX: usize> Editor<'a, MAX> {
     /// Gives the node all items of its one child, a leaf, which becomes a spare node.
     pub fn merge(&mut self, side: Side)
         requires leaf { is_leaf (child side (position self.old).here) }
-        requires other { child_on (opposite side) (position self.old).here ≡ false }
+        requires other { is_node (child (opposite side) (position self.old).here) ≡ false }
         requires room { length (items_of (position self.old).here) + length (items_of (child side (position self.old).here)) ≤ MAX }
         ensures same_reference { self.new.links.ghost_name ≡ self.old.links.ghost_name }
         ensures merged { position self.new ≡ with_tree (merged side) (position self.old) }

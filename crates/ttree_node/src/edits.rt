@@ -7,15 +7,15 @@ use part_raw::TupleRef;
 
 impl<const MAX: usize> Links<MAX> {
     ghost use Rattle.ttree_node.specs.Tree.{whole, is_node, items_of, with_items, with_height, height_over};
-    ghost use Rattle.ttree_node.specs.Linked.{located, misplaced};
+    ghost use Rattle.ttree_node.specs.Linked.{located, IsPlaceIn};
     ghost use Rattle.ttree_node.specs.Seen.{tree_of, position_at, spares_of};
 
     pub(crate) fn put(&mut self, place: Option<Place>, index: usize, item: TupleRef)
-        requires placed { misplaced (located self.old) place ≡ 0 }
+        requires placed { IsPlaceIn (located self.old) place }
         requires node { is_node (position_at self.old place).here ≡ true }
         requires index { index ≤ length (items_of (position_at self.old place).here) }
         requires room { length (items_of (position_at self.old place).here) < MAX }
-        ensures placed { misplaced (located self.new) place ≡ 0 }
+        ensures placed { IsPlaceIn (located self.new) place }
         ensures tree { tree_of self.new ≡ whole (position_at self.new place) }
         ensures items { position_at self.new place ≡ with_items (insert (items_of (position_at self.old place).here) index item) (position_at self.old place) }
         ensures spares { spares_of self.new ≡ spares_of self.old }
@@ -25,9 +25,9 @@ impl<const MAX: usize> Links<MAX> {
     }
 
     pub(crate) fn cut(&mut self, place: Option<Place>, index: usize) -> TupleRef
-        requires placed { misplaced (located self.old) place ≡ 0 }
+        requires placed { IsPlaceIn (located self.old) place }
         requires index { index < length (items_of (position_at self.old place).here) }
-        ensures placed { misplaced (located self.new) place ≡ 0 }
+        ensures placed { IsPlaceIn (located self.new) place }
         ensures tree { tree_of self.new ≡ whole (position_at self.new place) }
         ensures item { result ≡ slice_index_or (items_of (position_at self.old place).here) index result }
         ensures items { position_at self.new place ≡ with_items (remove (items_of (position_at self.old place).here) index) (position_at self.old place) }
@@ -38,9 +38,9 @@ impl<const MAX: usize> Links<MAX> {
     }
 
     pub(crate) fn reheight(&mut self, place: Option<Place>)
-        requires placed { misplaced (located self.old) place ≡ 0 }
+        requires placed { IsPlaceIn (located self.old) place }
         requires node { is_node (position_at self.old place).here ≡ true }
-        ensures placed { misplaced (located self.new) place ≡ 0 }
+        ensures placed { IsPlaceIn (located self.new) place }
         ensures tree { tree_of self.new ≡ whole (position_at self.new place) }
         ensures height { position_at self.new place ≡ with_height (height_over (position_at self.old place).here) (position_at self.old place) }
         ensures spares { spares_of self.new ≡ spares_of self.old }

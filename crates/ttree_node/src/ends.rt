@@ -7,7 +7,7 @@ impl<const MAX: usize> Links<MAX> {
     ghost use Rattle.ttree_node.specs.Tree.{empty};
     ghost use Rattle.ttree_node.specs.Seen.{tree_of};
 
-    /// Makes each node a spare one, the leaves first.
+    // Makes each node a spare one, the leaves first.
     pub(crate) fn clear(&mut self)
         ensures tree { tree_of self.new ≡ empty }
     {

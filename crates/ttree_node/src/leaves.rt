@@ -8,8 +8,8 @@ use part_raw::TupleRef;
 
 impl<const MAX: usize> Links<MAX> {
     ghost use Rattle.ttree_node.specs.Tree.{whole, is_node, is_leaf, with_leaf, without_leaf};
-    ghost use Rattle.ttree_node.specs.Linked.{located, misplaced};
-    ghost use Rattle.ttree_node.specs.Seen.{tree_of, position_at, spares_of, on_side, child_on, hangs_on_node};
+    ghost use Rattle.ttree_node.specs.Linked.{located, IsPlaceIn};
+    ghost use Rattle.ttree_node.specs.Seen.{tree_of, position_at, spares_of, on_side, child, hangs_on_node};
 
     pub(crate) fn new_leaf(
         &mut self,
@@ -17,26 +17,26 @@ impl<const MAX: usize> Links<MAX> {
         side: Side,
         item: TupleRef,
     ) -> Option<Place>
-        requires placed { misplaced (located self.old) place ≡ 0 }
+        requires placed { IsPlaceIn (located self.old) place }
         requires fits { is_node (position_at self.old place).here ≡ hangs_on_node side }
-        requires open { child_on side (position_at self.old place).here ≡ false }
+        requires open { is_node (child side (position_at self.old place).here) ≡ false }
         requires spare { 0 < spares_of self.old }
         requires room { 0 < MAX }
-        ensures placed { misplaced (located self.new) result ≡ 0 }
+        ensures placed { IsPlaceIn (located self.new) result }
         ensures tree { tree_of self.new ≡ whole (position_at self.new result) }
         ensures leaf { position_at self.new result ≡ with_leaf item (on_side side (position_at self.old place)) }
         ensures spares { spares_of self.new + 1 ≡ spares_of self.old }
     {
-        let leaf = self.parts.fill_spare(place, side, item);
+        let leaf = self.parts.take_spare(place, side, item);
         self.parts.set_child(place, side, Some(leaf));
         Some(leaf)
     }
 
-    /// The place above, if the leaf was not the root.
+    // The place above, if the leaf was not the root.
     pub(crate) fn drop_leaf(&mut self, place: Option<Place>) -> Option<Place>
-        requires placed { misplaced (located self.old) place ≡ 0 }
+        requires placed { IsPlaceIn (located self.old) place }
         requires leaf { is_leaf (position_at self.old place).here }
-        ensures placed { misplaced (located self.new) result ≡ 0 }
+        ensures placed { IsPlaceIn (located self.new) result }
         ensures tree { tree_of self.new ≡ whole (position_at self.new result) }
         ensures gone { position_at self.new result ≡ without_leaf (position_at self.old place) }
         ensures spares { spares_of self.new ≡ spares_of self.old + 1 }

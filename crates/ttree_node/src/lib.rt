@@ -1,24 +1,51 @@
-//! Linked nodes for a T-tree: all nodes of a tree, with raw left, right and parent links, seen as a tree of item lists.
+//! The linked nodes of a T-tree.
+//!
+//! A [`Links`] owns the nodes of one tree, and spare ones for it to grow by. Each node holds up to `MAX` references, and links its children,
+//! its parent or the next spare node:
+//!
+//! ```text
+//!         root                  free
+//!           |                     |
+//!           v                     v
+//!        [40 45]                 [ ] --left--> [ ] --left--> [ ]
+//!         //  \\
+//!        //    \\      //  \\  a link down, and the child's link up to its parent
+//!     [20]     [80]
+//! ```
+//!
+//! Contracts see a tree of lists of references, with a stated height at each node, and the number of spare nodes. One stands at a place in
+//! the tree with a [`Look`], which reads, or with an [`Editor`], which also changes. A [`Walk`] gives all references in list order.
+//!
+//! This crate doesn't care in which order the references are, how full a node is, whether the stated heights are true or the tree is
+//! balanced: that is its user's to keep. It relies on this, and each call keeps it:
+//!
+//! - A child links the node that links it as its parent, and keeps on which side it hangs. The root links no parent.
+//! - No node is linked from two places, so the nodes that the root leads to are a tree.
+//! - The spare nodes are a chain by their left links, hold nothing, and are counted.
+//! - The nodes of the tree and the spare ones are all that the set of nodes owns. So no node is lost, and each is freed once.
+//!
+//! Only the module `nodes` follows a pointer.
 #![tactic(auto)]
 
-pub mod begin;
-pub mod editor;
-pub mod edits;
-pub mod ends;
-pub mod leaves;
-pub mod links;
-pub mod look;
-pub mod merges;
-pub mod moves;
-pub mod node;
-pub mod nodes;
-pub mod order;
-pub mod parts;
-pub mod rotations;
-pub mod slides;
-pub mod walk;
+mod begin;
+mod editor;
+mod edits;
+mod ends;
+mod leaves;
+mod links;
+mod look;
+mod merges;
+mod moves;
+mod node;
+mod nodes;
+mod order;
+mod parts;
+mod rotations;
+mod slides;
+mod walk;
 
 pub use editor::Editor;
 pub use links::Links;
 pub use look::Look;
+pub use node::{Side, Way};
 pub use walk::Walk;

@@ -43,6 +43,7 @@ impl<const MAX: usize> Drop for Links<MAX> {
 impl<const MAX: usize> Links<MAX> {
     ghost use Rattle.ttree_node.specs.Tree.{empty, size};
     ghost use Rattle.ttree_node.specs.Seen.{tree_of, spares_of};
+    ghost use Rattle.ttree_node.specs.Linked.{node_limit};
 
     /// An empty tree with no spare nodes. It takes no memory.
     pub fn new(alloc: Global) -> Links<MAX>
@@ -63,7 +64,7 @@ impl<const MAX: usize> Links<MAX> {
 
     /// Sees to `n` spare nodes. Nothing else takes memory.
     pub fn reserve(&mut self, n: usize) -> Result<(), NoMemory>
-        requires { n + size (tree_of self.old) < 2 ^ 40 }
+        requires { n + size (tree_of self.old) < node_limit }
         ensures tree { tree_of self.new ≡ tree_of self.old }
         ensures ok { OnOk result (spares_of self.new ≡ max (spares_of self.old) n) }
         ensures err { OnErr result (spares_of self.new ≡ spares_of self.old) }
@@ -97,7 +98,7 @@ impl<const MAX: usize> Links<MAX> {
     }
 
     fn add_spare(&mut self) -> Result<(), NoMemory>
-        requires { size (tree_of self.old) + spares_of self.old + 1 < 2 ^ 40 }
+        requires { size (tree_of self.old) + spares_of self.old + 1 < node_limit }
         ensures tree { tree_of self.new ≡ tree_of self.old }
         ensures ok { OnOk result (spares_of self.new ≡ spares_of self.old + 1) }
         ensures err { OnErr result (spares_of self.new ≡ spares_of self.old) }

@@ -1,17 +1,17 @@
 //! A place in a tree that is only read.
 ghost use Rattle.std.specs.Prelude.{◌≡◌, true, false};
-ghost use Rattle.ttree_node.specs.Linked.{located, misplaced};
+ghost use Rattle.ttree_node.specs.Linked.{located, IsPlaceIn};
 
 use crate::links::Links;
 use crate::nodes::Place;
 use part_raw::TupleRef;
 
 /// A place in the tree of a `Links`: a node, or nothing where the tree is empty.
-#[derive(Drop)]
+#[derive(Clone, Copy)]
 pub struct Look<'a, const MAX: usize> {
     pub(crate) links: &'a Links<MAX>,
     pub(crate) at: Option<Place>,
-    ghost placed: { misplaced (located links.now) at ≡ 0 },
+    ghost placed: { IsPlaceIn (located links.now) at },
 }
 
 impl<'a, const MAX: usize> Look<'a, MAX> {
@@ -25,18 +25,21 @@ impl<'a, const MAX: usize> Look<'a, MAX> {
         self.links.is_node(self.at)
     }
 
+    /// Whether this is the root, or the tree is empty.
     pub fn at_root(&self) -> bool
         ensures { result ≡ is_root (position self.now).above }
     {
         self.links.is_root(self.at)
     }
 
+    /// Whether the node has a left child.
     pub fn has_left(&self) -> bool
         ensures { result ≡ has_left (position self.now).here }
     {
         self.links.has_left(self.at)
     }
 
+    /// Whether the node has a right child.
     pub fn has_right(&self) -> bool
         ensures { result ≡ has_right (position self.now).here }
     {
@@ -58,6 +61,7 @@ impl<'a, const MAX: usize> Look<'a, MAX> {
         self.links.heights(self.at)
     }
 
+    /// Goes to the root.
     pub fn to_root(&mut self)
         ensures links { self.new.links ≡ self.old.links }
         ensures moved { position self.new ≡ to_root (position self.old) }
@@ -65,6 +69,7 @@ impl<'a, const MAX: usize> Look<'a, MAX> {
         self.at = self.links.root();
     }
 
+    /// Goes to the left child.
     pub fn down_left(&mut self)
         requires { has_left (position self.old).here ≡ true }
         ensures links { self.new.links ≡ self.old.links }
@@ -73,6 +78,7 @@ impl<'a, const MAX: usize> Look<'a, MAX> {
         self.at = self.links.left_of(self.at);
     }
 
+    /// Goes to the right child.
     pub fn down_right(&mut self)
         requires { has_right (position self.old).here ≡ true }
         ensures links { self.new.links ≡ self.old.links }
@@ -81,6 +87,7 @@ impl<'a, const MAX: usize> Look<'a, MAX> {
         self.at = self.links.right_of(self.at);
     }
 
+    /// Goes to the parent.
     pub fn up(&mut self)
         requires { is_root (position self.old).above ≡ false }
         ensures links { self.new.links ≡ self.old.links }

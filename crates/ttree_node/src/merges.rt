@@ -4,15 +4,16 @@ ghost use Rattle.std.specs.Prelude.{◌≡◌, ◌+◌, ◌≤◌, ◌++◌, tru
 use crate::links::Links;
 use crate::node::Side;
 use crate::nodes::Place;
+use crate::parts::MOST_ITEMS;
 use arrayvec::ArrayVec;
 use part_raw::TupleRef;
 
-/// Both lists, one after the other.
+// Both lists, one after the other.
 pub(crate) fn joined<const MAX: usize>(
     first: &[TupleRef],
     second: &[TupleRef],
 ) -> ArrayVec<TupleRef, MAX>
-    requires narrow { MAX ≤ 72057594037927936 }
+    requires narrow { MAX ≤ MOST_ITEMS }
     requires room { length first.now + length second.now ≤ MAX }
     ensures { result.items ≡ first.now ++ second.now }
 {
@@ -24,13 +25,13 @@ pub(crate) fn joined<const MAX: usize>(
 
 impl<const MAX: usize> Links<MAX> {
     ghost use Rattle.ttree_node.specs.Tree.{whole, is_node, is_leaf, has_left, has_right, left_of, right_of, items_of, with_items, with_tree, merged_left, merged_right};
-    ghost use Rattle.ttree_node.specs.Linked.{located, misplaced};
-    ghost use Rattle.ttree_node.specs.Seen.{tree_of, position_at, spares_of, child, child_on, opposite, merged};
+    ghost use Rattle.ttree_node.specs.Linked.{located, IsPlaceIn};
+    ghost use Rattle.ttree_node.specs.Seen.{tree_of, position_at, spares_of, child, opposite, merged};
 
     pub(crate) fn set_items(&mut self, place: Option<Place>, items: ArrayVec<TupleRef, MAX>)
-        requires placed { misplaced (located self.old) place ≡ 0 }
+        requires placed { IsPlaceIn (located self.old) place }
         requires node { is_node (position_at self.old place).here ≡ true }
-        ensures placed { misplaced (located self.new) place ≡ 0 }
+        ensures placed { IsPlaceIn (located self.new) place }
         ensures tree { tree_of self.new ≡ whole (position_at self.new place) }
         ensures items { position_at self.new place ≡ with_items items.entry.items (position_at self.old place) }
         ensures spares { spares_of self.new ≡ spares_of self.old }
@@ -39,13 +40,13 @@ impl<const MAX: usize> Links<MAX> {
         node.items = items;
     }
 
-    /// The right child, a leaf, gives the node all its items and becomes a spare node.
+    // The right child, a leaf, gives the node all its items and becomes a spare node.
     pub(crate) fn merge_right(&mut self, place: Option<Place>) -> Option<Place>
-        requires placed { misplaced (located self.old) place ≡ 0 }
+        requires placed { IsPlaceIn (located self.old) place }
         requires leaf { is_leaf (right_of (position_at self.old place).here) }
         requires other { has_left (position_at self.old place).here ≡ false }
         requires room { length (items_of (position_at self.old place).here) + length (items_of (right_of (position_at self.old place).here)) ≤ MAX }
-        ensures placed { misplaced (located self.new) result ≡ 0 }
+        ensures placed { IsPlaceIn (located self.new) result }
         ensures tree { tree_of self.new ≡ whole (position_at self.new result) }
         ensures merged { position_at self.new result ≡ with_tree merged_right (position_at self.old place) }
         ensures spares { spares_of self.new ≡ spares_of self.old + 1 }
@@ -55,13 +56,13 @@ impl<const MAX: usize> Links<MAX> {
         self.drop_leaf(self.right_of(place))
     }
 
-    /// The left child, a leaf, gives the node all its items and becomes a spare node.
+    // The left child, a leaf, gives the node all its items and becomes a spare node.
     pub(crate) fn merge_left(&mut self, place: Option<Place>) -> Option<Place>
-        requires placed { misplaced (located self.old) place ≡ 0 }
+        requires placed { IsPlaceIn (located self.old) place }
         requires leaf { is_leaf (left_of (position_at self.old place).here) }
         requires other { has_right (position_at self.old place).here ≡ false }
         requires room { length (items_of (position_at self.old place).here) + length (items_of (left_of (position_at self.old place).here)) ≤ MAX }
-        ensures placed { misplaced (located self.new) result ≡ 0 }
+        ensures placed { IsPlaceIn (located self.new) result }
         ensures tree { tree_of self.new ≡ whole (position_at self.new result) }
         ensures merged { position_at self.new result ≡ with_tree merged_left (position_at self.old place) }
         ensures spares { spares_of self.new ≡ spares_of self.old + 1 }
@@ -72,11 +73,11 @@ impl<const MAX: usize> Links<MAX> {
     }
 
     pub(crate) fn merge(&mut self, place: Option<Place>, side: Side) -> Option<Place>
-        requires placed { misplaced (located self.old) place ≡ 0 }
+        requires placed { IsPlaceIn (located self.old) place }
         requires leaf { is_leaf (child side (position_at self.old place).here) }
-        requires other { child_on (opposite side) (position_at self.old place).here ≡ false }
+        requires other { is_node (child (opposite side) (position_at self.old place).here) ≡ false }
         requires room { length (items_of (position_at self.old place).here) + length (items_of (child side (position_at self.old place).here)) ≤ MAX }
-        ensures placed { misplaced (located self.new) result ≡ 0 }
+        ensures placed { IsPlaceIn (located self.new) result }
         ensures tree { tree_of self.new ≡ whole (position_at self.new result) }
         ensures merged { position_at self.new result ≡ with_tree (merged side) (position_at self.old place) }
         ensures spares { spares_of self.new ≡ spares_of self.old + 1 }

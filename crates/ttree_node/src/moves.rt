@@ -3,26 +3,27 @@ ghost use Rattle.std.specs.Prelude.{◌≡◌, ◌≤◌, true, false, length, [
 
 use crate::links::Links;
 use crate::nodes::Place;
+use crate::parts::MOST_ITEMS;
 use part_raw::TupleRef;
 
 impl<const MAX: usize> Links<MAX> {
     ghost use Rattle.ttree_node.specs.Tree.{at, whole, is_root, has_left, has_right, left_of, right_of, down_left, down_right, up, items_of, stated, is_node};
-    ghost use Rattle.ttree_node.specs.Linked.{located, misplaced};
+    ghost use Rattle.ttree_node.specs.Linked.{located, IsPlaceIn};
     ghost use Rattle.ttree_node.specs.Seen.{tree_of, position_at};
     ghost use Rattle.std.specs.Prelude.{Option};
     ghost use Rattle.std.specs.Option.{is_some};
     ghost use Rattle.ttree_node.specs.declared.nodes.Place.{Place};
 
     pub(crate) fn root(&self) -> Option<Place>
-        ensures placed { misplaced (located self.now) result ≡ 0 }
+        ensures placed { IsPlaceIn (located self.now) result }
         ensures moved { position_at self.now result ≡ at [] (tree_of self.now) }
-        ensures whole { (place : Option Place) → misplaced (located self.now) place ≡ 0 → whole (position_at self.now place) ≡ tree_of self.now }
+        ensures whole { (place : Option Place) → IsPlaceIn (located self.now) place → whole (position_at self.now place) ≡ tree_of self.now }
     {
         self.parts.root
     }
 
     pub(crate) fn is_node(&self, place: Option<Place>) -> bool
-        requires { misplaced (located self.now) place ≡ 0 }
+        requires { IsPlaceIn (located self.now) place }
         ensures node { result ≡ is_node (position_at self.now place).here }
         ensures some { result ≡ is_some place }
     {
@@ -31,34 +32,34 @@ impl<const MAX: usize> Links<MAX> {
     }
 
     pub(crate) fn left_of(&self, place: Option<Place>) -> Option<Place>
-        requires placed { misplaced (located self.now) place ≡ 0 }
+        requires placed { IsPlaceIn (located self.now) place }
         requires child { has_left (position_at self.now place).here ≡ true }
-        ensures placed { misplaced (located self.now) result ≡ 0 }
+        ensures placed { IsPlaceIn (located self.now) result }
         ensures moved { position_at self.now result ≡ down_left (position_at self.now place) }
     {
         self.parts.nodes.get(place.unwrap()).left
     }
 
     pub(crate) fn right_of(&self, place: Option<Place>) -> Option<Place>
-        requires placed { misplaced (located self.now) place ≡ 0 }
+        requires placed { IsPlaceIn (located self.now) place }
         requires child { has_right (position_at self.now place).here ≡ true }
-        ensures placed { misplaced (located self.now) result ≡ 0 }
+        ensures placed { IsPlaceIn (located self.now) result }
         ensures moved { position_at self.now result ≡ down_right (position_at self.now place) }
     {
         self.parts.nodes.get(place.unwrap()).right
     }
 
     pub(crate) fn parent_of(&self, place: Option<Place>) -> Option<Place>
-        requires placed { misplaced (located self.now) place ≡ 0 }
+        requires placed { IsPlaceIn (located self.now) place }
         requires below { is_root (position_at self.now place).above ≡ false }
-        ensures placed { misplaced (located self.now) result ≡ 0 }
+        ensures placed { IsPlaceIn (located self.now) result }
         ensures moved { position_at self.now result ≡ up (position_at self.now place) }
     {
         self.parts.nodes.get(place.unwrap()).parent
     }
 
     pub(crate) fn is_root(&self, place: Option<Place>) -> bool
-        requires { misplaced (located self.now) place ≡ 0 }
+        requires { IsPlaceIn (located self.now) place }
         ensures { result ≡ is_root (position_at self.now place).above }
     {
         match place {
@@ -68,7 +69,7 @@ impl<const MAX: usize> Links<MAX> {
     }
 
     pub(crate) fn has_left(&self, place: Option<Place>) -> bool
-        requires { misplaced (located self.now) place ≡ 0 }
+        requires { IsPlaceIn (located self.now) place }
         ensures { result ≡ has_left (position_at self.now place).here }
     {
         match place {
@@ -78,7 +79,7 @@ impl<const MAX: usize> Links<MAX> {
     }
 
     pub(crate) fn has_right(&self, place: Option<Place>) -> bool
-        requires { misplaced (located self.now) place ≡ 0 }
+        requires { IsPlaceIn (located self.now) place }
         ensures { result ≡ has_right (position_at self.now place).here }
     {
         match place {
@@ -88,10 +89,10 @@ impl<const MAX: usize> Links<MAX> {
     }
 
     pub(crate) fn items(&self, place: Option<Place>) -> &[TupleRef]
-        requires { misplaced (located self.now) place ≡ 0 }
+        requires { IsPlaceIn (located self.now) place }
         ensures items { result.now ≡ items_of (position_at self.now place).here }
         ensures some { is_some place ≡ is_node (position_at self.now place).here }
-        ensures narrow { is_node (position_at self.now place).here ≡ true → MAX ≤ 72057594037927936 }
+        ensures narrow { is_node (position_at self.now place).here ≡ true → MAX ≤ MOST_ITEMS }
         ensures fits { length result.now ≤ MAX }
     {
         match place {
@@ -101,7 +102,7 @@ impl<const MAX: usize> Links<MAX> {
     }
 
     pub(crate) fn height_at(&self, place: Option<Place>) -> u32
-        requires { misplaced (located self.now) place ≡ 0 }
+        requires { IsPlaceIn (located self.now) place }
         ensures { result ≡ stated (position_at self.now place).here }
     {
         match place {
@@ -111,7 +112,7 @@ impl<const MAX: usize> Links<MAX> {
     }
 
     pub(crate) fn heights(&self, place: Option<Place>) -> (u32, u32)
-        requires { misplaced (located self.now) place ≡ 0 }
+        requires { IsPlaceIn (located self.now) place }
         ensures left { result.0 ≡ stated (left_of (position_at self.now place).here) }
         ensures right { result.1 ≡ stated (right_of (position_at self.now place).here) }
     {

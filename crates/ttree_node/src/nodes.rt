@@ -1,19 +1,21 @@
 //! The one module that reads and writes through a pointer: a set of nodes on the heap, which is seen as a finite map from places to nodes.
-ghost use Rattle.std.specs.Prelude.{◌≡◌, List as Seq, [], ◌∷◌, ◌++◌};
+ghost use Rattle.std.specs.Prelude.{◌≡◌, List as Seq, [], ◌∷◌, ◌++◌, IfOk};
 ghost use Rattle.std_alloc.specs.Box.Ownership.{box_owns};
 ghost use denote.RawPtr.{Ptr};
 ghost use Rattle.ttree_node.specs.Held.{node_at, without, held_owns, held_lent};
 
+use no_memory::NoMemory;
 use std::alloc::{Allocator, Global};
 use std::marker::{Model, PhantomData};
 
-/// Where a node lies. It owns nothing.
+// Where a node lies. It owns nothing.
 #[derive(Clone, Copy)]
 pub struct Place {
     at: *mut u8,
 }
 
-/// A box as its pointer.
+// The memory of one value, which lies there: a box as its pointer. It can't be dropped, and only this module takes it apart. So whoever has
+// one puts it into a set, or gives the memory back by `into_value`.
 pub(crate) struct Block<T, A: Allocator> {
     at: *mut T,
     alloc: A,
@@ -25,14 +27,27 @@ impl<T, A: Allocator> Model for Block<T, A> {
 }
 
 impl<T: Drop, A: Allocator> Block<T, A> {
-    pub(crate) fn of(value: Box<T, A>) -> Block<T, A>
+    pub(crate) fn new(alloc: A, value: T) -> Result<Block<T, A>, NoMemory>
+        ensures { IfOk result (λ block. block.value ≡ value) }
+    {
+        Ok(Block::of(Box::new(alloc, value)?))
+    }
+
+    // Gives the memory back, and the value that lay there.
+    pub(crate) fn into_value(self) -> T
+        ensures { result ≡ self.value }
+    {
+        Box::into_inner(self.into_box())
+    }
+
+    fn of(value: Box<T, A>) -> Block<T, A>
         ensures { result.value ≡ value.value }
     {
         let (at, alloc) = Box::into_raw_with_allocator(value);
         Block { at, alloc }
     }
 
-    pub(crate) fn into_box(self) -> Box<T, A>
+    fn into_box(self) -> Box<T, A>
         ensures { result.value ≡ self.value }
     {
         let Block { at, alloc } = self;
@@ -40,7 +55,7 @@ impl<T: Drop, A: Allocator> Block<T, A> {
     }
 }
 
-/// The owner of the nodes' memory. It takes no space: the places lie in the nodes.
+// The owner of the nodes' memory. It takes no space: the places lie in the nodes.
 pub struct Nodes<T> {
     mark: PhantomData<*mut T>,
     ghost held: { Seq (Ptr × T) },
@@ -65,7 +80,7 @@ impl<T> Nodes<T> {
         Nodes { mark: PhantomData }
     }
 
-    /// Ends a set from which each node was given out.
+    // Ends a set from which each node was given out.
     pub(crate) fn finish(self)
         requires { self.held ≡ [] }
     {

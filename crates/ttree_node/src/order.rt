@@ -6,14 +6,14 @@ use crate::node::Side;
 use crate::nodes::Place;
 
 impl<const MAX: usize> Links<MAX> {
-    ghost use Rattle.ttree_node.specs.Tree.{list_above, list_behind, list_from, items_of};
-    ghost use Rattle.ttree_node.specs.Order.{list_onward, last_side, nodes_above, nodes_behind, nodes_onward, nodes_from};
-    ghost use Rattle.ttree_node.specs.Linked.{located, misplaced, there};
+    ghost use Rattle.ttree_node.specs.Tree.{list_after, list_behind, list_from, items_of};
+    ghost use Rattle.ttree_node.specs.Order.{list_onward, last_side, nodes_after, nodes_behind, nodes_onward, nodes_from};
+    ghost use Rattle.ttree_node.specs.Linked.{located, IsPlaceIn, there};
     ghost use Rattle.ttree_node.specs.Seen.{position_at};
 
-    /// On which side of its parent the node hangs.
+    // On which side of its parent the node hangs.
     fn side_at(&self, place: Option<Place>) -> Side
-        requires { misplaced (located self.now) place ≡ 0 }
+        requires { IsPlaceIn (located self.now) place }
         ensures { result ≡ last_side (position_at self.now place).above }
     {
         match place {
@@ -22,10 +22,10 @@ impl<const MAX: usize> Links<MAX> {
         }
     }
 
-    /// The first node of the subtree.
+    // The first node of the subtree.
     pub(crate) fn first_below(&self, place: Option<Place>) -> Option<Place>
-        requires { misplaced (located self.now) place ≡ 0 }
-        ensures placed { misplaced (located self.now) result ≡ 0 }
+        requires { IsPlaceIn (located self.now) place }
+        ensures placed { IsPlaceIn (located self.now) result }
         ensures list { list_from 0 (position_at self.now result) ≡ list_onward (position_at self.now place) }
         ensures count { nodes_from (position_at self.now result) ≡ nodes_onward (position_at self.now place) }
     {
@@ -36,12 +36,12 @@ impl<const MAX: usize> Links<MAX> {
         first
     }
 
-    /// The first node behind the subtree.
+    // The first node behind the subtree.
     fn first_above(&self, place: Option<Place>) -> Option<Place>
-        requires { misplaced (located self.now) place ≡ 0 }
-        ensures placed { IfSome result (λ found. misplaced (located self.now) (there found.at) ≡ 0) }
-        ensures list { list_from 0 (position_at self.now result) ≡ list_above (position_at self.now place).above }
-        ensures count { nodes_from (position_at self.now result) ≡ nodes_above (position_at self.now place).above }
+        requires { IsPlaceIn (located self.now) place }
+        ensures placed { IfSome result (λ found. IsPlaceIn (located self.now) (there found.at)) }
+        ensures list { list_from 0 (position_at self.now result) ≡ list_after (position_at self.now place).above }
+        ensures count { nodes_from (position_at self.now result) ≡ nodes_after (position_at self.now place).above }
     {
         let mut below = place;
         loop {
@@ -53,10 +53,10 @@ impl<const MAX: usize> Links<MAX> {
         }
     }
 
-    /// The node behind this one.
+    // The node behind this one.
     fn next_node(&self, place: Option<Place>) -> Option<Place>
-        requires { misplaced (located self.now) place ≡ 0 }
-        ensures placed { IfSome result (λ found. misplaced (located self.now) (there found.at) ≡ 0) }
+        requires { IsPlaceIn (located self.now) place }
+        ensures placed { IfSome result (λ found. IsPlaceIn (located self.now) (there found.at)) }
         ensures list { list_from 0 (position_at self.now result) ≡ list_behind (position_at self.now place) }
         ensures count { nodes_from (position_at self.now result) ≡ nodes_behind (position_at self.now place) }
     {
@@ -67,11 +67,11 @@ impl<const MAX: usize> Links<MAX> {
         }
     }
 
-    /// The next node behind this one that has items.
-    pub(crate) fn next_filled(&self, place: Option<Place>) -> Option<Place>
-        requires { misplaced (located self.now) place ≡ 0 }
-        ensures placed { IfSome result (λ found. misplaced (located self.now) (there found.at) ≡ 0) }
-        ensures filled { IfSome result (λ found. 0 < length (items_of (position_at self.now (there found.at)).here)) }
+    // The next node behind this one that has items.
+    pub(crate) fn next_with_items(&self, place: Option<Place>) -> Option<Place>
+        requires { IsPlaceIn (located self.now) place }
+        ensures placed { IfSome result (λ found. IsPlaceIn (located self.now) (there found.at)) }
+        ensures occupied { IfSome result (λ found. 0 < length (items_of (position_at self.now (there found.at)).here)) }
         ensures list { list_from 0 (position_at self.now result) ≡ list_behind (position_at self.now place) }
     {
         let mut next = self.next_node(place);

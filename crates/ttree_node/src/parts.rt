@@ -9,10 +9,10 @@ use no_memory::NoMemory;
 use part_raw::TupleRef;
 use std::alloc::Global;
 
-// A node for more items than these has more bytes than any heap gives.
-const MOST_ITEMS: usize = 0x100_0000_0000_0000;
+// No heap has a block for a node of more items.
+pub(crate) const MOST_ITEMS: usize = 1 << 56;
 
-/// The fields of a `Links`, of which a step may leave some links wrong for a while.
+// The fields of a `Links`, of which a step may leave some links wrong for a while.
 pub struct Parts<const MAX: usize> {
     pub(crate) nodes: Nodes<Node<MAX>>,
     pub(crate) alloc: Global,
@@ -26,7 +26,7 @@ impl<const MAX: usize> Parts<MAX> {
     ghost use Rattle.ttree_node.specs.Tree.{Tree, size};
     ghost use Rattle.ttree_node.specs.declared.node.Side.TheVariants.{Root};
     ghost use Rattle.ttree_node.specs.declared.node.Node.{Node};
-    ghost use Rattle.ttree_node.specs.Linked.{Spot, Linked, Sound, located, Present, linked_down, linked_up, rooted, node_for, label_of, head_of};
+    ghost use Rattle.ttree_node.specs.Linked.{Spot, Linked, Sound, located, node_limit, Present, linked_down, linked_up, rooted, node_for, label_of, head_of};
 
     pub(crate) fn new(alloc: Global) -> Parts<MAX>
         ensures { (result.nodes.held ≡ []) × (result.root ≡ None) × (result.free ≡ None) × (result.spares ≡ 0) }
@@ -40,8 +40,8 @@ impl<const MAX: usize> Parts<MAX> {
         }
     }
 
-    /// Takes the first spare node as a leaf with one item that links its parent. No node links it yet.
-    pub(crate) fn fill_spare(&mut self, parent: Option<Place>, side: Side, item: TupleRef) -> Place
+    // Takes the first spare node as a leaf with one item that links its parent. No node links it yet.
+    pub(crate) fn take_spare(&mut self, parent: Option<Place>, side: Side, item: TupleRef) -> Place
         requires sound { Sound self.old }
         requires some { 0 < self.old.spares }
         requires room { 0 < MAX }
@@ -64,11 +64,11 @@ impl<const MAX: usize> Parts<MAX> {
         place
     }
 
-    /// Makes the node there the first spare node. Nodes that link it are left as they are.
+    // Makes the node there the first spare node. Nodes that link it are left as they are.
     pub(crate) fn retire(&mut self, place: Place)
         requires present { IsSome (node_at place.at self.old.nodes.held) }
-        requires narrow { MAX ≤ 72057594037927936 }
-        requires few { self.old.spares < 2 ^ 40 }
+        requires narrow { MAX ≤ MOST_ITEMS }
+        requires few { self.old.spares < node_limit }
         ensures held { self.new.nodes.held ≡ set_node place.at (node_for (record { items = []; height = 0 }) None Root self.old.free None) self.old.nodes.held }
         ensures root { self.new.root ≡ self.old.root }
         ensures free { self.new.free ≡ Some place }
@@ -86,7 +86,7 @@ impl<const MAX: usize> Parts<MAX> {
         self.spares += 1;
     }
 
-    /// Makes `child` the child of `parent` on that side, or the root where there is no parent.
+    // Makes `child` the child of `parent` on that side, or the root where there is no parent.
     pub(crate) fn set_child(&mut self, parent: Option<Place>, side: Side, child: Option<Place>)
         requires { Present self.old.nodes.held parent }
         ensures held { self.new.nodes.held ≡ linked_down parent side child self.old.nodes.held }
@@ -106,7 +106,7 @@ impl<const MAX: usize> Parts<MAX> {
         }
     }
 
-    /// Sets all links of a node.
+    // Sets all links of a node.
     pub(crate) fn set_links(
         &mut self,
         place: Place,
@@ -126,7 +126,7 @@ impl<const MAX: usize> Parts<MAX> {
         node.right = right;
     }
 
-    /// Hangs `child`, if it is a node, on that side of `parent`. The parent's link is left as it is.
+    // Hangs `child`, if it is a node, on that side of `parent`. The parent's link is left as it is.
     pub(crate) fn set_parent(&mut self, child: Option<Place>, parent: Option<Place>, side: Side)
         requires { Present self.old.nodes.held child }
         ensures held { self.new.nodes.held ≡ linked_up child parent side self.old.nodes.held }
@@ -139,10 +139,10 @@ impl<const MAX: usize> Parts<MAX> {
         }
     }
 
-    /// Takes memory for one more spare node.
+    // Takes memory for one more spare node.
     pub(crate) fn add_spare(&mut self) -> Result<(), NoMemory>
         requires sound { Sound self.old }
-        requires room { size (located self.old) + self.old.spares + 1 < 2 ^ 40 }
+        requires room { size (located self.old) + self.old.spares + 1 < node_limit }
         ensures sound { Sound self.new }
         ensures tree { located self.new ≡ located self.old }
         ensures ok { OnOk result (self.new.spares ≡ self.old.spares + 1) }
@@ -159,14 +159,14 @@ impl<const MAX: usize> Parts<MAX> {
             parent: None,
             items: ArrayVec::new(),
         };
-        let block = Block::of(Box::new(self.alloc, node)?);
+        let block = Block::new(self.alloc, node)?;
         let place = self.nodes.take_in(block);
         self.free = Some(place);
         self.spares += 1;
         Ok(())
     }
 
-    /// Gives one spare node back to the heap.
+    // Gives one spare node back to the heap.
     pub(crate) fn shed_spare(&mut self)
         requires sound { Sound self.old }
         requires some { 0 < self.old.spares }
@@ -175,10 +175,8 @@ impl<const MAX: usize> Parts<MAX> {
         ensures spares { self.new.spares + 1 ≡ self.old.spares }
     {
         let place = self.free.unwrap();
-        let next = self.nodes.get(place).left;
-        let block = self.nodes.give_out(place, self.alloc);
-        drop(block.into_box());
-        self.free = next;
+        let node = self.nodes.give_out(place, self.alloc).into_value();
+        self.free = node.left;
         self.spares -= 1;
     }
 }

@@ -7,13 +7,13 @@ use crate::nodes::Place;
 
 impl<const MAX: usize> Links<MAX> {
     ghost use Rattle.ttree_node.specs.Tree.{whole, has_left, has_right, with_tree, rotated_left, rotated_right};
-    ghost use Rattle.ttree_node.specs.Linked.{located, misplaced};
+    ghost use Rattle.ttree_node.specs.Linked.{located, IsPlaceIn};
     ghost use Rattle.ttree_node.specs.Seen.{tree_of, position_at, spares_of};
 
     pub(crate) fn rotate_left(&mut self, place: Option<Place>) -> Option<Place>
-        requires placed { misplaced (located self.old) place ≡ 0 }
+        requires placed { IsPlaceIn (located self.old) place }
         requires child { has_right (position_at self.old place).here ≡ true }
-        ensures placed { misplaced (located self.new) result ≡ 0 }
+        ensures placed { IsPlaceIn (located self.new) result }
         ensures tree { tree_of self.new ≡ whole (position_at self.new result) }
         ensures turned { position_at self.new result ≡ with_tree rotated_left (position_at self.old place) }
         ensures spares { spares_of self.new ≡ spares_of self.old }
@@ -33,9 +33,9 @@ impl<const MAX: usize> Links<MAX> {
     }
 
     pub(crate) fn rotate_right(&mut self, place: Option<Place>) -> Option<Place>
-        requires placed { misplaced (located self.old) place ≡ 0 }
+        requires placed { IsPlaceIn (located self.old) place }
         requires child { has_left (position_at self.old place).here ≡ true }
-        ensures placed { misplaced (located self.new) result ≡ 0 }
+        ensures placed { IsPlaceIn (located self.new) result }
         ensures tree { tree_of self.new ≡ whole (position_at self.new result) }
         ensures turned { position_at self.new result ≡ with_tree rotated_right (position_at self.old place) }
         ensures spares { spares_of self.new ≡ spares_of self.old }

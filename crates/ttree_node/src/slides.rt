@@ -9,21 +9,21 @@ use arrayvec::ArrayVec;
 use part_raw::TupleRef;
 
 impl<const MAX: usize> Links<MAX> {
-    ghost use Rattle.ttree_node.specs.Tree.{whole, is_node, has_left, has_right, left_of, right_of, items_of, with_tree, refilled_left, refilled_right, up_from_left, up_from_right, down_to_left, down_to_right};
-    ghost use Rattle.ttree_node.specs.Linked.{located, misplaced};
+    ghost use Rattle.ttree_node.specs.Tree.{whole, is_node, has_left, has_right, left_of, right_of, items_of, with_tree, dealt_left, dealt_right, up_from_left, up_from_right, down_to_left, down_to_right};
+    ghost use Rattle.ttree_node.specs.Linked.{located, IsPlaceIn};
     ghost use Rattle.ttree_node.specs.Seen.{tree_of, position_at, spares_of, child, giver, taker, slid};
 
-    fn refill_right(
+    fn deal_right(
         &mut self,
         place: Option<Place>,
         upper: ArrayVec<TupleRef, MAX>,
         lower: ArrayVec<TupleRef, MAX>,
     ) -> Option<Place>
-        requires placed { misplaced (located self.old) place ≡ 0 }
+        requires placed { IsPlaceIn (located self.old) place }
         requires child { has_right (position_at self.old place).here ≡ true }
-        ensures placed { misplaced (located self.new) result ≡ 0 }
+        ensures placed { IsPlaceIn (located self.new) result }
         ensures tree { tree_of self.new ≡ whole (position_at self.new result) }
-        ensures refilled { position_at self.new result ≡ with_tree (refilled_right upper.entry.items lower.entry.items) (position_at self.old place) }
+        ensures dealt { position_at self.new result ≡ with_tree (dealt_right upper.entry.items lower.entry.items) (position_at self.old place) }
         ensures spares { spares_of self.new ≡ spares_of self.old }
     {
         self.set_items(place, upper);
@@ -32,17 +32,17 @@ impl<const MAX: usize> Links<MAX> {
         self.parent_of(below)
     }
 
-    fn refill_left(
+    fn deal_left(
         &mut self,
         place: Option<Place>,
         upper: ArrayVec<TupleRef, MAX>,
         lower: ArrayVec<TupleRef, MAX>,
     ) -> Option<Place>
-        requires placed { misplaced (located self.old) place ≡ 0 }
+        requires placed { IsPlaceIn (located self.old) place }
         requires child { has_left (position_at self.old place).here ≡ true }
-        ensures placed { misplaced (located self.new) result ≡ 0 }
+        ensures placed { IsPlaceIn (located self.new) result }
         ensures tree { tree_of self.new ≡ whole (position_at self.new result) }
-        ensures refilled { position_at self.new result ≡ with_tree (refilled_left upper.entry.items lower.entry.items) (position_at self.old place) }
+        ensures dealt { position_at self.new result ≡ with_tree (dealt_left upper.entry.items lower.entry.items) (position_at self.old place) }
         ensures spares { spares_of self.new ≡ spares_of self.old }
     {
         self.set_items(place, upper);
@@ -52,11 +52,11 @@ impl<const MAX: usize> Links<MAX> {
     }
 
     fn up_from_right(&mut self, place: Option<Place>, count: usize) -> Option<Place>
-        requires placed { misplaced (located self.old) place ≡ 0 }
+        requires placed { IsPlaceIn (located self.old) place }
         requires child { has_right (position_at self.old place).here ≡ true }
         requires items { count ≤ length (items_of (right_of (position_at self.old place).here)) }
         requires room { length (items_of (position_at self.old place).here) + count ≤ MAX }
-        ensures placed { misplaced (located self.new) result ≡ 0 }
+        ensures placed { IsPlaceIn (located self.new) result }
         ensures tree { tree_of self.new ≡ whole (position_at self.new result) }
         ensures slid { position_at self.new result ≡ with_tree (up_from_right count (items_of (position_at self.old place).here) (items_of (right_of (position_at self.old place).here))) (position_at self.old place) }
         ensures spares { spares_of self.new ≡ spares_of self.old }
@@ -65,15 +65,15 @@ impl<const MAX: usize> Links<MAX> {
         let below = self.items(self.right_of(place));
         let upper = joined(own, &below[..count]);
         let lower = joined(&below[count..], &[]);
-        self.refill_right(place, upper, lower)
+        self.deal_right(place, upper, lower)
     }
 
     fn up_from_left(&mut self, place: Option<Place>, count: usize) -> Option<Place>
-        requires placed { misplaced (located self.old) place ≡ 0 }
+        requires placed { IsPlaceIn (located self.old) place }
         requires child { has_left (position_at self.old place).here ≡ true }
         requires items { count ≤ length (items_of (left_of (position_at self.old place).here)) }
         requires room { length (items_of (position_at self.old place).here) + count ≤ MAX }
-        ensures placed { misplaced (located self.new) result ≡ 0 }
+        ensures placed { IsPlaceIn (located self.new) result }
         ensures tree { tree_of self.new ≡ whole (position_at self.new result) }
         ensures slid { position_at self.new result ≡ with_tree (up_from_left count (items_of (position_at self.old place).here) (items_of (left_of (position_at self.old place).here))) (position_at self.old place) }
         ensures spares { spares_of self.new ≡ spares_of self.old }
@@ -83,15 +83,15 @@ impl<const MAX: usize> Links<MAX> {
         let stay = below.len() - count;
         let upper = joined(&below[stay..], own);
         let lower = joined(&below[..stay], &[]);
-        self.refill_left(place, upper, lower)
+        self.deal_left(place, upper, lower)
     }
 
     fn down_to_right(&mut self, place: Option<Place>, count: usize) -> Option<Place>
-        requires placed { misplaced (located self.old) place ≡ 0 }
+        requires placed { IsPlaceIn (located self.old) place }
         requires child { has_right (position_at self.old place).here ≡ true }
         requires items { count ≤ length (items_of (position_at self.old place).here) }
         requires room { length (items_of (right_of (position_at self.old place).here)) + count ≤ MAX }
-        ensures placed { misplaced (located self.new) result ≡ 0 }
+        ensures placed { IsPlaceIn (located self.new) result }
         ensures tree { tree_of self.new ≡ whole (position_at self.new result) }
         ensures slid { position_at self.new result ≡ with_tree (down_to_right count (items_of (position_at self.old place).here) (items_of (right_of (position_at self.old place).here))) (position_at self.old place) }
         ensures spares { spares_of self.new ≡ spares_of self.old }
@@ -101,15 +101,15 @@ impl<const MAX: usize> Links<MAX> {
         let stay = own.len() - count;
         let upper = joined(&own[..stay], &[]);
         let lower = joined(&own[stay..], below);
-        self.refill_right(place, upper, lower)
+        self.deal_right(place, upper, lower)
     }
 
     fn down_to_left(&mut self, place: Option<Place>, count: usize) -> Option<Place>
-        requires placed { misplaced (located self.old) place ≡ 0 }
+        requires placed { IsPlaceIn (located self.old) place }
         requires child { has_left (position_at self.old place).here ≡ true }
         requires items { count ≤ length (items_of (position_at self.old place).here) }
         requires room { length (items_of (left_of (position_at self.old place).here)) + count ≤ MAX }
-        ensures placed { misplaced (located self.new) result ≡ 0 }
+        ensures placed { IsPlaceIn (located self.new) result }
         ensures tree { tree_of self.new ≡ whole (position_at self.new result) }
         ensures slid { position_at self.new result ≡ with_tree (down_to_left count (items_of (position_at self.old place).here) (items_of (left_of (position_at self.old place).here))) (position_at self.old place) }
         ensures spares { spares_of self.new ≡ spares_of self.old }
@@ -118,7 +118,7 @@ impl<const MAX: usize> Links<MAX> {
         let below = self.items(self.left_of(place));
         let upper = joined(&own[count..], &[]);
         let lower = joined(below, &own[..count]);
-        self.refill_left(place, upper, lower)
+        self.deal_left(place, upper, lower)
     }
 
     pub(crate) fn slide(
@@ -128,11 +128,11 @@ impl<const MAX: usize> Links<MAX> {
         way: Way,
         count: usize,
     ) -> Option<Place>
-        requires placed { misplaced (located self.old) place ≡ 0 }
+        requires placed { IsPlaceIn (located self.old) place }
         requires child { is_node (child side (position_at self.old place).here) ≡ true }
         requires items { count ≤ length (items_of (giver way side (position_at self.old place).here)) }
         requires room { length (items_of (taker way side (position_at self.old place).here)) + count ≤ MAX }
-        ensures placed { misplaced (located self.new) result ≡ 0 }
+        ensures placed { IsPlaceIn (located self.new) result }
         ensures tree { tree_of self.new ≡ whole (position_at self.new result) }
         ensures slid { position_at self.new result ≡ with_tree (slid side way count) (position_at self.old place) }
         ensures spares { spares_of self.new ≡ spares_of self.old }

@@ -5,33 +5,22 @@ ghost use Rattle.std.specs.Iterator.{YieldsFirst, item_count};
 use crate::links::Links;
 use crate::look::Look;
 use part_raw::TupleRef;
-use std::marker::Model;
 
 /// The items of a tree that are left to visit, in list order. It goes from node to node by their links, and takes no memory.
-#[derive(Drop)]
+#[derive(Clone, Copy)]
 pub struct Walk<'a, const MAX: usize> {
     look: Look<'a, MAX>,
     index: usize,
 }
 
-impl<'a, const MAX: usize> Model for Walk<'a, MAX> {
-    ghost use Rattle.std.specs.Prelude.{List};
-    ghost use Rattle.part_raw.specs.declared.tuple_ref.TupleRef.{TupleRef};
-    ghost use Rattle.ttree_node.specs.Tree.{list_from};
-    ghost use Rattle.ttree_node.specs.Look.{position};
-
-    ghost Value = { List TupleRef };
-
-    ghost view = { λ w. list_from w.index (position w.look) };
-}
-
 impl<const MAX: usize> Links<MAX> {
     ghost use Rattle.ttree_node.specs.Tree.{list};
     ghost use Rattle.ttree_node.specs.Seen.{tree_of};
+    ghost use Rattle.ttree_node.specs.Walk.{rest_of};
 
     /// All items in list order.
     pub fn walk(&self) -> Walk<'_, MAX>
-        ensures { result ≡ list (tree_of self.now) }
+        ensures { rest_of result ≡ list (tree_of self.now) }
     {
         let at = self.first_below(self.root());
         Walk {
@@ -44,28 +33,31 @@ impl<const MAX: usize> Links<MAX> {
 impl<'a, const MAX: usize> Look<'a, MAX> {
     ghost use Rattle.ttree_node.specs.Tree.{items_of, list, list_from, list_until, whole};
     ghost use Rattle.ttree_node.specs.Look.{position};
+    ghost use Rattle.ttree_node.specs.Walk.{rest_of};
 
     /// The items in list order, from item `index` of this node on.
     pub fn walk_from(self, index: usize) -> Walk<'a, MAX>
         requires { index ≤ length (items_of (position self).here) }
-        ensures from { result ≡ list_from index (position self.entry) }
-        ensures parts { list_until index (position self.entry) ++ result ≡ list (whole (position self.entry)) }
+        ensures from { rest_of result ≡ list_from index (position self.entry) }
+        ensures parts { list_until index (position self.entry) ++ rest_of result ≡ list (whole (position self.entry)) }
     {
         Walk { look: self, index }
     }
 }
 
 impl<'a, const MAX: usize> Iterator for Walk<'a, MAX> {
+    ghost use Rattle.ttree_node.specs.Walk.{rest_of};
+
     type Item = TupleRef;
 
-    ghost next_gives = { YieldsFirst (λ w. w) };
+    ghost next_gives = { YieldsFirst rest_of };
 
-    ghost remaining = { item_count (λ w. w) };
+    ghost remaining = { item_count rest_of };
 
     fn next(&mut self) -> Option<TupleRef> {
         let links = self.look.links;
         if links.items(self.look.at).len() <= self.index {
-            self.look.at = Some(links.next_filled(self.look.at)?);
+            self.look.at = Some(links.next_with_items(self.look.at)?);
             self.index = 0;
         }
         let item = links.items(self.look.at)[self.index];

@@ -1,5 +1,5 @@
 use Rattle.std.proofs.Common.{◌≡◌, ◌++◌, true}
-use Rattle.ttree_node.specs.Tree.{whole, list, height, is_node, list_before, list_above}
+use Rattle.ttree_node.specs.Tree.{whole, list, height, is_node, list_before, list_after}
 use Rattle.ttree_node.specs.Editor.{position, tree_at, spares_at}
 use Rattle.ttree.proofs.insert.to_rightmost.Given as goal
 
@@ -9,7 +9,7 @@ invariant-loop-editor g l = record {
   node : is_node (position l.editor).here ≡ true;
   whole : whole (position l.editor) ≡ whole (position l.fn.editor);
   ahead : list_before (position l.editor).above ++ list (position l.editor).here ≡ list_before (position l.fn.editor).above ++ list (position l.fn.editor).here;
-  behind : list_above (position l.editor).above ≡ list_above (position l.fn.editor).above;
+  behind : list_after (position l.editor).above ≡ list_after (position l.fn.editor).above;
   tree : tree_at l.editor ≡ tree_at l.fn.editor;
   spares : spares_at l.editor ≡ spares_at l.fn.editor;
 }

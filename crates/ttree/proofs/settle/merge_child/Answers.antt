@@ -1,11 +1,11 @@
 use Rattle.std.proofs.Common.{◌≡◌, ◌≤◌, ◌^◌, ◌+◌, ◌∙◌, length, false, sym, ap, subst, arith, lit<}
-use Rattle.ttree_node.specs.Tree.{list, size, whole, is_leaf, items_of, with_tree}
+use Rattle.ttree_node.specs.Tree.{list, size, whole, is_node, is_leaf, items_of, with_tree}
 use Rattle.ttree_node.specs.Editor.{position, tree_at}
-use Rattle.ttree_node.specs.Seen.{child, opposite, child_on, merged}
+use Rattle.ttree_node.specs.Seen.{child, opposite, merged}
 use Rattle.ttree.specs.Shape.{IsTTree}
 use Rattle.ttree.specs.Mending.{CanRise}
 use Rattle.ttree.proofs.Losing.{size-merged}
-use Rattle.ttree.proofs.Replacing.{leaf_below, no_other, merged-rises, kept-half}
+use Rattle.ttree.proofs.Replacing.{leaf_below, merged-rises, kept-half}
 use Rattle.ttree.proofs.settle.merge_child.Goals as goal
 
 pub merge-requires : goal.merge-requires
@@ -15,7 +15,7 @@ merge-requires g c =
       (
         subst (λ w. is_leaf (child side w.here)) (sym same) (leaf_below g.row.MIN g.row.MAX side z.here c.requires.lost.near c.requires.child c.requires.other),
         (
-          subst (λ w. child_on (opposite side) w.here ≡ false) (sym same) (no_other side z.here c.requires.child c.requires.other),
+          subst (λ w. is_node (child (opposite side) w.here) ≡ false) (sym same) c.requires.other,
           subst (λ w. length (items_of w.here) + length (items_of (child side w.here)) ≤ g.row.MAX) (sym same) (omega (arith, c.requires.lost.room, ap length c.items.ensures)),
         ),
       ),

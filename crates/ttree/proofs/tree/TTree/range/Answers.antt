@@ -4,6 +4,7 @@ use Rattle.std.specs.Result.{is_ok}
 use Rattle.std.proofs.lemmas.List.{length_push}
 use Rattle.std.proofs.lemmas.List.Elements.{All-push}
 use Rattle.part_raw.specs.declared.tuple_ref.TupleRef.{TupleRef}
+use Rattle.ttree_node.specs.Walk.{rest_of}
 use Rattle.mm_index.proofs.Asked.{IsOnlyAsked-trans, IsOnlyAsked-once, counted-le}
 use Rattle.ttree.specs.Held.{items_of_tree}
 use Rattle.ttree.proofs.Ranges.{All-left, in_range_before, in_range_all, not_Equal, is_Equal}
@@ -17,7 +18,7 @@ place-requires g c =
     let place : TupleRef → Ordering = g.P.Probe.place c.args.probe.now in
     let split = c.loop-r.invariant.left ∙ ap (λ (xs : List TupleRef). c.loop-r.yielded ++ xs) c.in-Some.ensures.steps in
     c.loop-r.invariant.only.may_ask c.in-Some.r
-    (All-left place (items_of_tree c.args.self.now) c.loop-r.yielded (c.in-Some.r ∷ c.next.new.self) split (g.P.Probe.can_place c.args.probe.now) c.requires.placed none (omega arith))
+    (All-left place (items_of_tree c.args.self.now) c.loop-r.yielded (c.in-Some.r ∷ rest_of c.next.new.self) split (g.P.Probe.can_place c.args.probe.now) c.requires.placed none (omega arith))
 
 pub returns-in-None-clause-ok : goal.returns-in-None-clause-ok
 returns-in-None-clause-ok g c =
@@ -41,7 +42,7 @@ loop-r-preserved g c =
     is_Equal _ (rw (← kept.only.answers, ← c.place.ensures.value, ← c.is_eq.ensures) c.if-not-is_eq.false) in record {
       before = kept.before;
       added = rw (c.push.ensures.items, pushed, kept.added) (append_assoc c.args.out.now.items y (r ∷ []));
-      left = kept.left ∙ ap (λ (xs : List TupleRef). y ++ xs) c.in-Some.ensures.steps ∙ sym (append_assoc y (r ∷ []) c.next.new.self);
+      left = kept.left ∙ ap (λ (xs : List TupleRef). y ++ xs) c.in-Some.ensures.steps ∙ sym (append_assoc y (r ∷ []) (rest_of c.next.new.self));
       equal = All-push (λ q. g.P.Probe.place c.args.probe.now q ≡ Equal) y r kept.equal equal;
       only = IsOnlyAsked-trans _ _ _ _ _ _ kept.only (IsOnlyAsked-once _ _ _ _ _ c.place.ensures.answers c.place.ensures.may_ask c.place.ensures.count);
       most = omega (arith, kept.most, c.place.ensures.count, counted-le (g.P.Probe.asked c.loop-r.probe), length_push y r);
@@ -55,7 +56,7 @@ returns-then-not-is_eq-clause-ok g c =
     let split = kept.left ∙ ap (λ (xs : List TupleRef). c.loop-r.yielded ++ xs) c.in-Some.ensures.steps in
     let other : place r ≢ Equal = not_Equal _ (rw (← kept.only.answers, ← c.place.ensures.value, ← c.is_eq.ensures) c.if-not-is_eq.true) in
     kept.added
-    ∙ ap (λ (xs : List TupleRef). c.args.out.now.items ++ xs) (sym (in_range_before place (items_of_tree c.args.self.now) c.loop-r.yielded (r ∷ c.next.new.self) split c.requires.in_order kept.equal none (omega arith) other))
+    ∙ ap (λ (xs : List TupleRef). c.args.out.now.items ++ xs) (sym (in_range_before place (items_of_tree c.args.self.now) c.loop-r.yielded (r ∷ rest_of c.next.new.self) split c.requires.in_order kept.equal none (omega arith) other))
 
 pub returns-then-not-is_eq-clause-most_asked : goal.returns-then-not-is_eq-clause-most_asked
 returns-then-not-is_eq-clause-most_asked g c =
@@ -64,5 +65,5 @@ returns-then-not-is_eq-clause-most_asked g c =
     let place : TupleRef → Ordering = g.P.Probe.place c.args.probe.now in
     let split = kept.left ∙ ap (λ (xs : List TupleRef). c.loop-r.yielded ++ xs) c.in-Some.ensures.steps in
     let other : place r ≢ Equal = not_Equal _ (rw (← kept.only.answers, ← c.place.ensures.value, ← c.is_eq.ensures) c.if-not-is_eq.true) in
-    let found = in_range_before place (items_of_tree c.args.self.now) c.loop-r.yielded (r ∷ c.next.new.self) split c.requires.in_order kept.equal none (omega arith) other in
+    let found = in_range_before place (items_of_tree c.args.self.now) c.loop-r.yielded (r ∷ rest_of c.next.new.self) split c.requires.in_order kept.equal none (omega arith) other in
     omega (arith, kept.most, c.place.ensures.count, counted-le (g.P.Probe.asked c.loop-r.probe), ap (λ (xs : List TupleRef). length xs) found)

@@ -1,8 +1,8 @@
 use Rattle.std.proofs.Common.{◌∙◌, ◌<◌, length, sym, subst, lit<}
 use Rattle.part_raw.specs.declared.tuple_ref.TupleRef.{TupleRef}
-use Rattle.ttree_node.specs.Tree.{Zipper, Label, list_above, list_from}
+use Rattle.ttree_node.specs.Tree.{Zipper, Label, list_after, list_from}
 use Rattle.ttree_node.specs.Seen.{position_at}
-use Rattle.ttree_node.specs.Order.{nodes_above, nodes_from}
+use Rattle.ttree_node.specs.Order.{nodes_after, nodes_from}
 use Rattle.ttree_node.proofs.Successors.{top_list, top_count, up_left_list, up_left_count, up_right_list, up_right_count, up_shorter, below_left, below_right}
 use Rattle.ttree_node.proofs.links.Links.first_above.Goals as goal
 
@@ -36,6 +36,6 @@ loop-below-preserved g c =
     let z = position_at c.args.self.now c.loop-below.below in let side = sym c.side_at.ensures ∙ c.in-Right.is in
     record {
       placed = c.parent_of-below.ensures.placed;
-      list = (λ i. list_above (c.parent_of-below.ensures.moved i).above) ∙ up_right_list z side ∙ c.loop-below.invariant.list;
-      count = (λ i. nodes_above (c.parent_of-below.ensures.moved i).above) ∙ up_right_count z side ∙ c.loop-below.invariant.count;
+      list = (λ i. list_after (c.parent_of-below.ensures.moved i).above) ∙ up_right_list z side ∙ c.loop-below.invariant.list;
+      count = (λ i. nodes_after (c.parent_of-below.ensures.moved i).above) ∙ up_right_count z side ∙ c.loop-below.invariant.count;
     }

@@ -1,15 +1,15 @@
 use Rattle.std.proofs.Common.{◌≡◌, length}
-use Rattle.ttree_node.specs.Tree.{list_above}
-use Rattle.ttree_node.specs.Linked.{located, misplaced}
+use Rattle.ttree_node.specs.Tree.{list_after}
+use Rattle.ttree_node.specs.Linked.{located, IsPlaceIn}
 use Rattle.ttree_node.specs.Seen.{position_at}
-use Rattle.ttree_node.specs.Order.{nodes_above}
+use Rattle.ttree_node.specs.Order.{nodes_after}
 use Rattle.ttree_node.proofs.links.Links.first_above.Given as goal
 
 abbrev pub invariant-loop-below : goal.invariant-loop-below
 invariant-loop-below g l = record {
-  placed : misplaced (located l.self) l.below ≡ 0;
-  list : list_above (position_at l.self l.below).above ≡ list_above (position_at l.fn.self l.fn.place).above;
-  count : nodes_above (position_at l.self l.below).above ≡ nodes_above (position_at l.fn.self l.fn.place).above;
+  placed : IsPlaceIn (located l.self) l.below;
+  list : list_after (position_at l.self l.below).above ≡ list_after (position_at l.fn.self l.fn.place).above;
+  count : nodes_after (position_at l.self l.below).above ≡ nodes_after (position_at l.fn.self l.fn.place).above;
 }
 
 abbrev pub decreases-loop-below : goal.decreases-loop-below

@@ -4,11 +4,12 @@ use Rattle.ttree_node.specs.Seen.{position_at}
 use Rattle.ttree_node.proofs.Handover.{has_left_node, left_here, left_kept, has_left_kept, is_merged_left}
 use Rattle.ttree_node.proofs.Sizes.{node_fits}
 use Rattle.ttree_node.proofs.links.Links.merge_left.Goals as goal
+use Rattle.ttree_node.specs.declared.parts.TheConstants.{MOST_ITEMS}
 
 pub joined-items-requires : goal.joined-items-requires
 joined-items-requires g c =
     let z = position_at c.args.self.now c.args.place in
-    let narrow : _ ≤ 72057594037927936 = c.items-2.ensures.narrow (has_left_node z.here c.requires.leaf.0) in
+    let narrow : _ ≤ MOST_ITEMS = c.items-2.ensures.narrow (has_left_node z.here c.requires.leaf.0) in
     let below : c.items.result.now ≡ items_of (left_of z.here) = c.items.ensures.items ∙ (λ i. items_of (c.left_of.ensures.moved i).here) ∙ (λ i. items_of (left_here z.above z.here i)) in
     let own : length c.items-2.result.now ≡ length (items_of z.here) = λ i. length (c.items-2.ensures.items i) in
     let lower : length c.items.result.now ≡ length (items_of (left_of z.here)) = λ i. length (below i) in

@@ -4,11 +4,12 @@ use Rattle.ttree_node.specs.Seen.{position_at}
 use Rattle.ttree_node.proofs.Handover.{has_right_node, right_here, right_kept, has_right_kept, is_merged_right}
 use Rattle.ttree_node.proofs.Sizes.{node_fits}
 use Rattle.ttree_node.proofs.links.Links.merge_right.Goals as goal
+use Rattle.ttree_node.specs.declared.parts.TheConstants.{MOST_ITEMS}
 
 pub joined-items-requires : goal.joined-items-requires
 joined-items-requires g c =
     let z = position_at c.args.self.now c.args.place in
-    let narrow : _ ≤ 72057594037927936 = c.items.ensures.narrow (has_right_node z.here c.requires.leaf.0) in
+    let narrow : _ ≤ MOST_ITEMS = c.items.ensures.narrow (has_right_node z.here c.requires.leaf.0) in
     let below : c.items-2.result.now ≡ items_of (right_of z.here) = c.items-2.ensures.items ∙ (λ i. items_of (c.right_of.ensures.moved i).here) ∙ (λ i. items_of (right_here z.above z.here i)) in
     (node_fits g.row.MAX narrow, (narrow, subst (λ n. n ≤ g.row.MAX) (λ i. length (sym c.items.ensures.items i) + length (sym below i)) c.requires.room))
 

@@ -1,6 +1,6 @@
-use Rattle.std.proofs.Common.{[], ◌^◌, ◌<◌, subst, lit<, arith, length, sym, ap}
+use Rattle.std.proofs.Common.{[], ◌<◌, subst, lit<, arith, length, sym, ap}
 use Rattle.ttree_node.specs.Tree.{empty, relabel}
-use Rattle.ttree_node.specs.Linked.{Spot, Linked}
+use Rattle.ttree_node.specs.Linked.{Spot, Linked, node_limit}
 use Rattle.ttree_node.proofs.Spares.{located_is}
 use Rattle.ttree_node.proofs.links.Links.new.Given.{Over}
 use Rattle.ttree_node.proofs.links.Links.new.Goals as goal
@@ -16,7 +16,7 @@ linked g c =
       spares = e.3;
       alone = λ q. omega arith;
       total = sym (ap length e.0);
-      small = subst (λ m. length m < 2 ^ 40) (sym e.0) (lit< tt);
+      small = subst (λ m. length m < node_limit) (sym e.0) (lit< tt);
       narrow = λ some. absurd (omega (arith, some, ap length e.0));
     }
 

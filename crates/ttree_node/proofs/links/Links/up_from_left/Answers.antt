@@ -1,6 +1,6 @@
 use Rattle.std.proofs.Common.{◌≡◌, ◌∙◌, ◌-◌, ◌++◌, take, drop, length, lit<, arith}
 use Rattle.std.proofs.lemmas.List.{append-nil, take_rest, length-take}
-use Rattle.ttree_node.specs.Tree.{left_of, items_of, with_tree, refilled_left}
+use Rattle.ttree_node.specs.Tree.{left_of, items_of, with_tree, dealt_left}
 use Rattle.ttree_node.specs.Seen.{position_at}
 use Rattle.ttree_node.proofs.Handover.{has_left_node, left_here}
 use Rattle.ttree_node.proofs.Sizes.{node_fits}
@@ -20,8 +20,8 @@ joined-lower-requires g c =
     let narrow = c.items-own.ensures.narrow (has_left_node (position_at c.args.self.now c.args.place).here c.requires.child) in
     (node_fits g.row.MAX narrow, (narrow, omega (arith, c.items-below.ensures.fits, length-take (length low - n) low)))
 
-pub refill_left-requires : goal.refill_left-requires
-refill_left-requires g c = (lit< tt, (node_fits g.row.MAX (c.items-own.ensures.narrow (has_left_node (position_at c.args.self.now c.args.place).here c.requires.child)), (c.requires.placed, c.requires.child)))
+pub deal_left-requires : goal.deal_left-requires
+deal_left-requires g c = (lit< tt, (node_fits g.row.MAX (c.items-own.ensures.narrow (has_left_node (position_at c.args.self.now c.args.place).here c.requires.child)), (c.requires.placed, c.requires.child)))
 
 pub returns-clause-slid : goal.returns-clause-slid
 returns-clause-slid g c =
@@ -29,4 +29,4 @@ returns-clause-slid g c =
     let own = c.items-own.ensures.items in let low : c.items-below.result.now ≡ items_of (left_of z.here) = c.items-below.ensures.items ∙ (λ i. items_of (c.left_of.ensures.moved i).here) ∙ (λ i. items_of (left_here z.above z.here i)) in
     let upper = c.joined-upper.ensures ∙ (λ i. take_rest c.items-below.result.now (length c.items-below.result.now - n) i ++ c.items-own.result.now) ∙ (λ i. drop (length (low i) - n) (low i) ++ own i) in
     let lower = c.joined-lower.ensures ∙ append-nil _ ∙ (λ i. take (length (low i) - n) (low i)) in
-    c.refill_left.ensures.refilled ∙ (λ i. with_tree (refilled_left (upper i) (lower i)) z)
+    c.deal_left.ensures.dealt ∙ (λ i. with_tree (dealt_left (upper i) (lower i)) z)

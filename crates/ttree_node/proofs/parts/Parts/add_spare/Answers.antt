@@ -1,8 +1,8 @@
-use Rattle.std.proofs.Common.{◌<◌, ◌^◌, length, ◌∷◌, ◌+◌, ◌∙◌, sym, refl, arith, ap}
+use Rattle.std.proofs.Common.{◌<◌, length, ◌∷◌, ◌+◌, ◌∙◌, sym, refl, arith, ap}
 use Rattle.ttree_node.proofs.Sizes.{node_fits}
 use Rattle.ttree_node.proofs.Spares.{blank, located_is, added}
 use Rattle.ttree_node.specs.Tree.{size}
-use Rattle.ttree_node.specs.Linked.{Linked, there}
+use Rattle.ttree_node.specs.Linked.{Linked, there, node_limit}
 use Rattle.ttree_node.proofs.parts.Parts.add_spare.Given.{Over}
 use Rattle.ttree_node.proofs.parts.Parts.add_spare.Goals as goal
 
@@ -13,9 +13,9 @@ linked : (g : Over) (c : goal.After-self-2-1 g)
     → Linked (record c.args.self.now { nodes = c.take_in-place.new.self; free = there c.take_in-place.result.at; spares = c.args.self.now.spares + 1 }) c.requires.sound.0 (c.take_in-place.result.at ∷ c.requires.sound.1)
 linked g c =
     let s = c.requires.sound in let p = c.args.self.now in
-    let more : length p.nodes.held + 1 < 2 ^ 40 = omega (arith, c.requires.room, ap size (located_is p s.0 s.1 s.2), s.2.spares, s.2.total) in
+    let more : length p.nodes.held + 1 < node_limit = omega (arith, c.requires.room, ap size (located_is p s.0 s.1 s.2), s.2.spares, s.2.total) in
     added p _ s.0 s.1 c.take_in-place.result.at s.2 c.take_in-place.ensures.fresh more c.if-this-gt-MOST_ITEMS.false
-    (c.take_in-place.ensures.held ∙ (λ i. (c.take_in-place.result.at, (c.of-block.ensures ∙ c.in_ok-new.ensures.ok) i) ∷ p.nodes.held)
+    (c.take_in-place.ensures.held ∙ (λ i. (c.take_in-place.result.at, c.in_ok-block.ensures i) ∷ p.nodes.held)
     ∙ (λ i. (c.take_in-place.result.at, record (blank p.free) { items = record { items = c.new.ensures i } }) ∷ p.nodes.held)) refl refl refl
 
 pub returns-clause-sound : goal.returns-clause-sound

@@ -1,8 +1,8 @@
 use Rattle.std.proofs.Common.{◌∙◌, lit<}
 use Rattle.ttree_node.specs.Tree.{has_right, is_root, down_right, up, with_items}
 use Rattle.ttree_node.specs.Seen.{position_at}
-use Rattle.ttree_node.proofs.Handover.{has_right_kept, below_right, is_refilled_right}
-use Rattle.ttree_node.proofs.links.Links.refill_right.Goals as goal
+use Rattle.ttree_node.proofs.Handover.{has_right_kept, below_right, is_dealt_right}
+use Rattle.ttree_node.proofs.links.Links.deal_right.Goals as goal
 
 pub right_of-below-requires : goal.right_of-below-requires
 right_of-below-requires g c =
@@ -20,8 +20,8 @@ parent_of-requires g c =
       ),
     )
 
-pub returns-clause-refilled : goal.returns-clause-refilled
-returns-clause-refilled g c =
+pub returns-clause-dealt : goal.returns-clause-dealt
+returns-clause-dealt g c =
     let z = position_at c.args.self.now c.args.place in let lower = c.args.lower.items in
     c.parent_of.ensures.moved ∙ (λ i. up (c.set_items-2.ensures.items i)) ∙ (λ i. up (with_items lower (c.right_of-below.ensures.moved i)))
-    ∙ (λ i. up (with_items lower (down_right (c.set_items.ensures.items i)))) ∙ is_refilled_right z.above c.args.upper.items lower z.here c.requires.child
+    ∙ (λ i. up (with_items lower (down_right (c.set_items.ensures.items i)))) ∙ is_dealt_right z.above c.args.upper.items lower z.here c.requires.child
