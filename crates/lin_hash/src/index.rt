@@ -1,7 +1,7 @@
 //! The index: a table of buckets, and the nodes that are kept for the next inserts.
 ghost use Rattle.std.specs.Prelude.{◌≡◌, ◌+◌, ◌*◌, ◌^◌, ◌<◌, ◌≤◌, [], ◌∷◌, length, Contains, OnOk};
 ghost use Rattle.mm_index.specs.Bag.{IsSameBag, with_hash};
-ghost use Rattle.lin_hash.specs.Held.{table_entries, table_room, table_buckets};
+ghost use Rattle.lin_hash.specs.Held.{table_entries, table_heads, table_buckets};
 ghost use Rattle.lin_hash.specs.Chain.{entry_of};
 
 use crate::bucket::Node;
@@ -25,14 +25,14 @@ pub struct LinHash {
 }
 
 impl Model for LinHash {
-    ghost use Rattle.std.specs.Prelude.{min};
-    ghost use Rattle.lin_hash.specs.Held.{HeldBuckets, table_entries, table_room, table_buckets};
+    ghost use Rattle.std.specs.Prelude.{◌-◌, ◌*◌, length, min};
+    ghost use Rattle.lin_hash.specs.Held.{HeldBuckets, table_entries, table_heads, table_buckets};
 
     ghost Value = { HeldBuckets };
 
     ghost view = { λ h. record {
       entries = table_entries h.table;
-      room = min h.spares (table_room h.table);
+      room = min h.spares (2 * table_heads h.table - length (table_entries h.table));
       buckets = table_buckets h.table;
     } };
 
@@ -85,12 +85,12 @@ impl ExactIndex for LinHash {
 
     fn reserve(&mut self, n: usize) -> Result<(), NoMemory>
         requires { n ≤ 2 ^ 32 }
-        ensures entries { IsSameBag self.new.entries self.old.entries }
+        ensures entries { self.new.entries ≡ self.old.entries }
         ensures reserved { OnOk result (n ≤ self.new.room) }
         ensures room { self.old.room ≤ self.new.room }
         ensures buckets { self.new.buckets ≡ self.old.buckets }
     {
-        reserve_buckets(&mut self.table, self.alloc, n)?;
+        reserve_heads(&mut self.table, self.alloc, self.len + n)?;
         self.spares.reserve(self.alloc, n)
     }
 
@@ -114,7 +114,7 @@ impl ExactIndex for LinHash {
     fn remove(&mut self, hash: u64, r: TupleRef)
         requires { Contains self.old.entries (hash, r) }
         ensures entries { IsSameBag self.old.entries ((hash, r) ∷ self.new.entries) }
-        ensures room { self.old.room ≤ self.new.room }
+        ensures room { self.old.room + 1 ≤ self.new.room }
 
         // The buckets shrink by one exactly where there are more than four, and then fewer entries than half
         // of them.
@@ -143,7 +143,7 @@ impl ExactIndex for LinHash {
     }
 
     fn release_spares(&mut self)
-        ensures entries { IsSameBag self.new.entries self.old.entries }
+        ensures entries { self.new.entries ≡ self.old.entries }
         ensures room { self.new.room ≡ 0 }
         ensures buckets { self.new.buckets ≡ self.old.buckets }
     {
@@ -154,19 +154,19 @@ impl ExactIndex for LinHash {
     }
 }
 
-// Makes sure of the buckets of n inserts, the first four among them.
-fn reserve_buckets(table: &mut Option<Table>, alloc: Global, n: usize) -> Result<(), NoMemory>
-    requires { n ≤ 2 ^ 32 }
+// Makes sure of the heads of the buckets of so many entries, and of the first four.
+fn reserve_heads(table: &mut Option<Table>, alloc: Global, entries: usize) -> Result<(), NoMemory>
+    requires { entries ≤ 2 ^ 33 }
     ensures entries { table_entries table.new ≡ table_entries table.old }
-    ensures reserved { OnOk result (n ≤ table_room table.new) }
-    ensures room { table_room table.old ≤ table_room table.new }
+    ensures reserved { OnOk result (entries ≤ 2 * table_heads table.new) }
+    ensures heads { table_heads table.old ≤ table_heads table.new }
     ensures buckets { table_buckets table.new ≡ table_buckets table.old }
 {
     match table {
-        Some(table) => table.reserve(n),
+        Some(table) => table.reserve(entries),
         None => {
             let mut first = Table::new(alloc)?;
-            first.reserve(n)?;
+            first.reserve(entries)?;
             *table = Some(first);
             Ok(())
         }
@@ -175,11 +175,11 @@ fn reserve_buckets(table: &mut Option<Table>, alloc: Global, n: usize) -> Result
 
 // Puts a node into the table, which then has `len` entries.
 fn insert_node(table: &mut Option<Table>, node: Box<Node>, len: usize)
-    requires room { 0 < table_room table.old }
+    requires room { length (table_entries table.old) < 2 * table_heads table.old }
     requires counted { len ≡ length (table_entries table.old) + 1 }
     requires short { len ≤ 2 ^ 32 }
     ensures entries { IsSameBag (table_entries table.new) (entry_of node.value ∷ table_entries table.old) }
-    ensures room { table_room table.old ≤ table_room table.new + 1 }
+    ensures heads { table_heads table.old ≤ table_heads table.new }
     ensures split { 2 * table_buckets table.old < len → table_buckets table.new ≡ table_buckets table.old + 1 }
     ensures unsplit { len ≤ 2 * table_buckets table.old → table_buckets table.new ≡ table_buckets table.old }
 {
@@ -195,7 +195,7 @@ fn remove_node(table: &mut Option<Table>, hash: u64, r: TupleRef, len: usize) ->
     requires counted { length (table_entries table.old) ≡ len + 1 }
     requires short { len < 2 ^ 32 }
     ensures entries { IsSameBag (table_entries table.old) ((hash, r) ∷ table_entries table.new) }
-    ensures room { table_room table.old ≤ table_room table.new }
+    ensures heads { table_heads table.old ≤ table_heads table.new }
     ensures folded { 2 * len < table_buckets table.old → 4 < table_buckets table.old → table_buckets table.new + 1 ≡ table_buckets table.old }
     ensures unfolded { table_buckets table.old ≤ 2 * len → table_buckets table.new ≡ table_buckets table.old }
     ensures first { table_buckets table.old ≤ 4 → table_buckets table.new ≡ table_buckets table.old }

@@ -13,6 +13,12 @@ use std::marker::Model;
 // How many buckets there are at first.
 pub const FIRST_BUCKETS: usize = 4;
 
+// More entries to a bucket than these, and an insert splits one.
+const MOST_ENTRIES_A_BUCKET: usize = 2;
+
+// More buckets to an entry than these, and a remove folds one.
+const MOST_BUCKETS_AN_ENTRY: usize = 2;
+
 /// At least four buckets. `level` is how often their number doubled, and `mark` is the bucket to be
 /// split next.
 #[derive(Drop)]
@@ -23,16 +29,16 @@ pub struct Table {
 }
 
 impl Model for Table {
-    ghost use Rattle.std.specs.Prelude.{◌-◌, vec_len, vec_capacity};
+    ghost use Rattle.std.specs.Prelude.{vec_len, vec_capacity};
     ghost use Rattle.std.specs.List.{flat_map};
-    ghost use Rattle.lin_hash.specs.Held.{HeldBuckets};
+    ghost use Rattle.lin_hash.specs.Held.{HeldTable};
     ghost use Rattle.lin_hash.specs.Address.{IsAddressed};
 
-    ghost Value = { HeldBuckets };
+    ghost Value = { HeldTable };
 
     ghost view = { λ t. record {
       entries = flat_map (λ b. b) t.buckets.items;
-      room = vec_capacity t.buckets - vec_len t.buckets;
+      heads = vec_capacity t.buckets;
       buckets = vec_len t.buckets;
     } };
 
@@ -65,21 +71,24 @@ impl Table {
         self.buckets.len()
     }
 
-    // Makes sure of memory for n splits.
-    pub fn reserve(&mut self, n: usize) -> Result<(), NoMemory>
-        requires { n ≤ 2 ^ 32 }
+    // Makes sure of a head for every two of so many entries.
+    pub fn reserve(&mut self, entries: usize) -> Result<(), NoMemory>
+        requires { entries ≤ 2 ^ 33 }
         ensures entries { self.new.entries ≡ self.old.entries }
-        ensures reserved { OnOk result (n ≤ self.new.room) }
-        ensures room { self.old.room ≤ self.new.room }
+        ensures reserved { OnOk result (entries ≤ 2 * self.new.heads) }
+        ensures heads { self.old.heads ≤ self.new.heads }
         ensures buckets { self.new.buckets ≡ self.old.buckets }
     {
-        self.buckets.reserve(n)?;
+        let heads = entries.div_ceil(MOST_ENTRIES_A_BUCKET);
+        self.buckets
+            .reserve(heads.saturating_sub(self.buckets.len()))?;
         Ok(())
     }
 
-    // Gives back the memory that was reserved for splits.
+    // Gives back the spare heads.
     pub fn release_spares(&mut self)
         ensures entries { self.new.entries ≡ self.old.entries }
+        ensures heads { self.new.buckets ≤ self.new.heads }
         ensures buckets { self.new.buckets ≡ self.old.buckets }
     {
         self.buckets.shrink_to_fit();
@@ -88,16 +97,16 @@ impl Table {
     // Puts a node in, and splits a bucket where there are then more entries than twice the buckets: `len` of
     // them.
     pub fn insert(&mut self, node: Box<Node>, len: usize)
-        requires room { 0 < self.old.room }
+        requires room { length self.old.entries < 2 * self.old.heads }
         requires counted { len ≡ length self.old.entries + 1 }
         requires short { len ≤ 2 ^ 32 }
         ensures entries { IsSameBag self.new.entries (entry_of node.value ∷ self.old.entries) }
-        ensures room { self.old.room ≤ self.new.room + 1 }
+        ensures heads { self.old.heads ≤ self.new.heads }
         ensures split { 2 * self.old.buckets < len → self.new.buckets ≡ self.old.buckets + 1 }
         ensures unsplit { len ≤ 2 * self.old.buckets → self.new.buckets ≡ self.old.buckets }
     {
         self.add(node);
-        if len > 2 * self.buckets() {
+        if len > MOST_ENTRIES_A_BUCKET * self.buckets() {
             self.split();
         }
     }
@@ -109,14 +118,14 @@ impl Table {
         requires counted { length self.old.entries ≡ len + 1 }
         requires short { len < 2 ^ 32 }
         ensures entries { IsSameBag self.old.entries ((hash, r) ∷ self.new.entries) }
-        ensures room { self.old.room ≤ self.new.room }
+        ensures heads { self.old.heads ≤ self.new.heads }
         ensures folded { 2 * len < self.old.buckets → 4 < self.old.buckets → self.new.buckets + 1 ≡ self.old.buckets }
         ensures unfolded { self.old.buckets ≤ 2 * len → self.new.buckets ≡ self.old.buckets }
         ensures first { self.old.buckets ≤ 4 → self.new.buckets ≡ self.old.buckets }
     {
         let node = self.take(hash, r);
         let buckets = self.buckets();
-        if 2 * len < buckets && buckets > FIRST_BUCKETS {
+        if len * MOST_BUCKETS_AN_ENTRY < buckets && buckets > FIRST_BUCKETS {
             self.fold();
         }
         node
@@ -133,7 +142,7 @@ impl Table {
     // Puts a node into the bucket of its hash.
     fn add(&mut self, node: Box<Node>)
         ensures entries { IsSameBag self.new.entries (entry_of node.value ∷ self.old.entries) }
-        ensures room { self.new.room ≡ self.old.room }
+        ensures heads { self.new.heads ≡ self.old.heads }
         ensures buckets { self.new.buckets ≡ self.old.buckets }
     {
         let place = address(node.hash, self.level, self.mark);
@@ -144,7 +153,7 @@ impl Table {
     fn take(&mut self, hash: u64, r: TupleRef) -> Box<Node>
         requires { Contains self.old.entries (hash, r) }
         ensures entries { IsSameBag self.old.entries ((hash, r) ∷ self.new.entries) }
-        ensures room { self.new.room ≡ self.old.room }
+        ensures heads { self.new.heads ≡ self.old.heads }
         ensures buckets { self.new.buckets ≡ self.old.buckets }
     {
         let place = address(hash, self.level, self.mark);
@@ -153,10 +162,10 @@ impl Table {
 
     // Shares the bucket at the mark out between itself and a new last bucket.
     fn split(&mut self)
-        requires room { 0 < self.old.room }
+        requires room { self.old.buckets < self.old.heads }
         requires few { self.old.buckets < 2 ^ 32 }
         ensures entries { IsSameBag self.new.entries self.old.entries }
-        ensures room { self.old.room ≤ self.new.room + 1 }
+        ensures heads { self.old.heads ≤ self.new.heads }
         ensures buckets { self.new.buckets ≡ self.old.buckets + 1 }
     {
         let short = buckets_at(self.level);
@@ -174,7 +183,7 @@ impl Table {
     fn fold(&mut self)
         requires { 4 < self.old.buckets }
         ensures entries { IsSameBag self.new.entries self.old.entries }
-        ensures room { self.old.room ≤ self.new.room }
+        ensures heads { self.old.heads ≤ self.new.heads }
         ensures buckets { self.new.buckets + 1 ≡ self.old.buckets }
     {
         if self.mark == 0 {
