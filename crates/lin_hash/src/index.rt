@@ -2,7 +2,8 @@
 ghost use Rattle.std.specs.Prelude.{◌≡◌, ◌+◌, ◌*◌, ◌^◌, ◌<◌, ◌≤◌, [], ◌∷◌, length, Contains, OnOk};
 ghost use Rattle.mm_index.specs.Bag.{IsSameBag, with_hash};
 ghost use Rattle.lin_hash.specs.Held.{table_entries, table_heads, table_buckets};
-ghost use Rattle.lin_hash.specs.Chain.{entry_of};
+ghost use Rattle.lin_hash.specs.Chain.{IsAlone, entry_of};
+ghost use Rattle.lin_hash.specs.Rest.{chain_rest};
 
 use crate::bucket::Node;
 use crate::chain::Chain;
@@ -69,7 +70,7 @@ impl LinHash {
 
     /// The references with that hash, each as often as it is held, in any order.
     pub fn chain(&self, hash: u64) -> Chain<'_>
-        ensures { IsSameBag result (with_hash hash self.now.entries) }
+        ensures { IsSameBag (chain_rest result) (with_hash hash self.now.entries) }
     {
         match &self.table {
             Some(table) => Chain::from_node(hash, table.first(hash)),
@@ -175,6 +176,7 @@ fn reserve_heads(table: &mut Option<Table>, alloc: Global, entries: usize) -> Re
 
 // Puts a node into the table, which then has `len` entries.
 fn insert_node(table: &mut Option<Table>, node: Box<Node>, len: usize)
+    requires alone { IsAlone node.value }
     requires room { length (table_entries table.old) < 2 * table_heads table.old }
     requires counted { len ≡ length (table_entries table.old) + 1 }
     requires short { len ≤ 2 ^ 32 }
@@ -199,6 +201,7 @@ fn remove_node(table: &mut Option<Table>, hash: u64, r: TupleRef, len: usize) ->
     ensures folded { 2 * len < table_buckets table.old → 4 < table_buckets table.old → table_buckets table.new + 1 ≡ table_buckets table.old }
     ensures unfolded { table_buckets table.old ≤ 2 * len → table_buckets table.new ≡ table_buckets table.old }
     ensures first { table_buckets table.old ≤ 4 → table_buckets table.new ≡ table_buckets table.old }
+    ensures alone { IsAlone result.value }
 {
     match table {
         Some(table) => table.remove(hash, r, len),

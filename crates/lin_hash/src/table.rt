@@ -2,9 +2,9 @@
 ghost use Rattle.std.specs.Prelude.{◌≡◌, ◌+◌, ◌*◌, ◌^◌, ◌<◌, ◌≤◌, [], ◌∷◌, ◌++◌, length, vec_len, vec_capacity, IfOk, OnOk, Contains};
 ghost use Rattle.mm_index.specs.Bag.{IsSameBag, with_hash};
 ghost use Rattle.lin_hash.specs.Address.{bucket_of};
-ghost use Rattle.lin_hash.specs.Chain.{entry_of, lent_entries};
+ghost use Rattle.lin_hash.specs.Chain.{IsAlone, entry_of, lent_entries};
 
-use crate::bucket::{Bucket, Node};
+use crate::bucket::{Bucket, Node, remainder};
 use no_memory::NoMemory;
 use part_raw::TupleRef;
 use std::alloc::Global;
@@ -97,6 +97,7 @@ impl Table {
     // Puts a node in, and splits a bucket where there are then more entries than twice the buckets: `len` of
     // them.
     pub fn insert(&mut self, node: Box<Node>, len: usize)
+        requires alone { IsAlone node.value }
         requires room { length self.old.entries < 2 * self.old.heads }
         requires counted { len ≡ length self.old.entries + 1 }
         requires short { len ≤ 2 ^ 32 }
@@ -122,6 +123,7 @@ impl Table {
         ensures folded { 2 * len < self.old.buckets → 4 < self.old.buckets → self.new.buckets + 1 ≡ self.old.buckets }
         ensures unfolded { self.old.buckets ≤ 2 * len → self.new.buckets ≡ self.old.buckets }
         ensures first { self.old.buckets ≤ 4 → self.new.buckets ≡ self.old.buckets }
+        ensures alone { IsAlone result.value }
     {
         let node = self.take(hash, r);
         let buckets = self.buckets();
@@ -141,6 +143,7 @@ impl Table {
 
     // Puts a node into the bucket of its hash.
     fn add(&mut self, node: Box<Node>)
+        requires { IsAlone node.value }
         ensures entries { IsSameBag self.new.entries (entry_of node.value ∷ self.old.entries) }
         ensures heads { self.new.heads ≡ self.old.heads }
         ensures buckets { self.new.buckets ≡ self.old.buckets }
@@ -155,6 +158,7 @@ impl Table {
         ensures entries { IsSameBag self.old.entries ((hash, r) ∷ self.new.entries) }
         ensures heads { self.new.heads ≡ self.old.heads }
         ensures buckets { self.new.buckets ≡ self.old.buckets }
+        ensures alone { IsAlone result.value }
     {
         let place = address(hash, self.level, self.mark);
         self.buckets[place].take(hash, r)
@@ -222,9 +226,9 @@ fn address(hash: u64, level: u32, mark: usize) -> usize
     ensures { result ≡ bucket_of level mark hash }
 {
     let short = buckets_at(level);
-    let bucket = hash as usize % short;
+    let bucket = remainder(hash, short);
     if bucket < mark {
-        hash as usize % (2 * short)
+        remainder(hash, 2 * short)
     } else {
         bucket
     }

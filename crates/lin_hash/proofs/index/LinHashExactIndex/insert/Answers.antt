@@ -23,7 +23,7 @@ invariant_of-self c =
           let reserved = c.requires.reserved in
           omega (arith, counted, room, heads, reserved);
       short = omega (arith, counted, old, c.requires.short);
-      few = omega (arith, few, c.take-node.ensures);
+      few = omega (arith, few, c.take-node.ensures.count);
     }
 
 pub returns-clause-split : goal.returns-clause-split
@@ -47,4 +47,4 @@ returns-clause-room c =
     let n = length-same_bag _ _ c.insert_node.ensures.entries in
     let room = ap (λ h. h.room) c.self.view_is in
     let heads = c.insert_node.ensures.heads in
-    omega (arith, n, room, heads, c.take-node.ensures)
+    omega (arith, n, room, heads, c.take-node.ensures.count)
