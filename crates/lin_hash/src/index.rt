@@ -1,4 +1,8 @@
 //! The index: a table of buckets, and the nodes that are kept for the next inserts.
+//!
+//! It counts the entries, so that the table knows when to split and when to fold, and sees to it that an insert finds its
+//! memory there: the room is the lesser of the spare nodes and of the entries that come to two a head, less those held.
+//! Where an entry stands is the table's matter. A new index has no table, and takes one with its first `reserve`.
 ghost use Rattle.std.specs.Prelude.{◌≡◌, ◌+◌, ◌*◌, ◌^◌, ◌<◌, ◌≤◌, [], ◌∷◌, length, Contains, OnOk};
 ghost use Rattle.mm_index.specs.Bag.{IsSameBag, with_hash};
 ghost use Rattle.lin_hash.specs.Held.{table_entries, table_heads, table_buckets};
@@ -15,8 +19,8 @@ use part_raw::TupleRef;
 use std::alloc::Global;
 use std::marker::Model;
 
-/// A modified linear hash. There are always at least four buckets and at most twice as many entries
-/// as buckets; a look-up visits the nodes of one bucket.
+/// A modified linear hash: a bag of references under hashes. A look-up visits the nodes of one bucket, of which there are
+/// at least half as many as entries.
 #[derive(Drop)]
 pub struct LinHash {
     alloc: Global,
@@ -68,7 +72,7 @@ impl LinHash {
         }
     }
 
-    /// The references with that hash, each as often as it is held, in any order.
+    /// The references with that hash, each as often as it is held, in any order. It borrows the index and takes no memory.
     pub fn chain(&self, hash: u64) -> Chain<'_>
         ensures { IsSameBag (chain_rest result) (with_hash hash self.now.entries) }
     {
@@ -84,6 +88,8 @@ impl ExactIndex for LinHash {
 
     ghost room = { λ h. h.room };
 
+    /// Makes sure of memory for `n` inserts, until `release_spares`: for the nodes of all of them, and for as many heads of
+    /// buckets as the entries and `n` more ask for. After an error what was gained is kept.
     fn reserve(&mut self, n: usize) -> Result<(), NoMemory>
         requires { n ≤ 2 ^ 32 }
         ensures entries { self.new.entries ≡ self.old.entries }
@@ -95,6 +101,7 @@ impl ExactIndex for LinHash {
         self.spares.reserve(self.alloc, n)
     }
 
+    /// Puts one pair in, and splits one bucket at most. Takes no memory.
     fn insert(&mut self, hash: u64, r: TupleRef)
         requires reserved { 0 < self.old.room }
         requires short { length self.old.entries < 2 ^ 32 }
@@ -112,6 +119,8 @@ impl ExactIndex for LinHash {
         insert_node(&mut self.table, node, self.len);
     }
 
+    /// Takes one such pair out, and folds one bucket at most. Takes no memory and gives none back: the node is a spare one
+    /// then, so that what was taken out can be put in again.
     fn remove(&mut self, hash: u64, r: TupleRef)
         requires { Contains self.old.entries (hash, r) }
         ensures entries { IsSameBag self.old.entries ((hash, r) ∷ self.new.entries) }
@@ -128,6 +137,7 @@ impl ExactIndex for LinHash {
         self.spares.put(node);
     }
 
+    /// Appends what `chain` gives. After an error `out` is as before.
     fn matching(&self, hash: u64, out: &mut Vec<TupleRef>) -> Result<(), NoMemory> {
         let before = out.len();
         for r in self.chain(hash) {
@@ -139,10 +149,12 @@ impl ExactIndex for LinHash {
         Ok(())
     }
 
+    /// How many pairs there are. It was counted before.
     fn len(&self) -> usize {
         self.len
     }
 
+    /// Frees the spare nodes and the spare heads.
     fn release_spares(&mut self)
         ensures entries { self.new.entries ≡ self.old.entries }
         ensures room { self.new.room ≡ 0 }

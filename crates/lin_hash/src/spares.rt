@@ -1,4 +1,6 @@
 //! Nodes that were allocated ahead, so that an insert takes no memory.
+//!
+//! They hang on one another like those of a bucket, and are counted. Their entries say nothing.
 ghost use Rattle.std.specs.Prelude.{◌≡◌, ◌+◌, ◌^◌, ◌<◌, ◌≤◌, OnOk, max};
 ghost use Rattle.lin_hash.specs.Chain.{IsAlone};
 

@@ -1,4 +1,15 @@
 //! The buckets, each entry in that of its hash, and the split and the fold that add and remove one.
+//!
+//! A level doubles the buckets one by one. At the level L there are `short = 4 * 2^L` buckets before its first split, and
+//! the mark says how many of these were split already, each into itself and a bucket at the end:
+//!
+//!     bucket   0 ..  mark - 1 | mark ..  short - 1 | short .. short + mark - 1
+//!              split: h mod   | not yet: h mod     | split off: h mod
+//!              2 * short      | short              | 2 * short
+//!
+//! So a hash h belongs to `h mod short`, or where that bucket was split to `h mod (2 * short)`, which is the same bucket or
+//! the one split off it. A split moves the mark on, and after the last bucket of a level the next level begins with the
+//! mark at 0; a fold goes the same way back. Who counts the entries is not the table's matter: it is told.
 ghost use Rattle.std.specs.Prelude.{◌≡◌, ◌+◌, ◌*◌, ◌^◌, ◌<◌, ◌≤◌, [], ◌∷◌, ◌++◌, length, vec_len, vec_capacity, IfOk, OnOk, Contains};
 ghost use Rattle.mm_index.specs.Bag.{IsSameBag, with_hash};
 ghost use Rattle.lin_hash.specs.Address.{bucket_of};
@@ -19,8 +30,7 @@ const MOST_ENTRIES_A_BUCKET: usize = 2;
 // More buckets to an entry than these, and a remove folds one.
 const MOST_BUCKETS_AN_ENTRY: usize = 2;
 
-/// At least four buckets. `level` is how often their number doubled, and `mark` is the bucket to be
-/// split next.
+/// At least four buckets. `level` is how often their number doubled, and `mark` is the bucket to be split next.
 #[derive(Drop)]
 pub struct Table {
     level: u32,
@@ -63,6 +73,7 @@ impl Table {
         })
     }
 
+    // How many there are.
     pub fn buckets(&self) -> usize
         ensures value { result ≡ self.now.buckets }
         ensures first { 4 ≤ result }
@@ -220,7 +231,7 @@ fn buckets_at(level: u32) -> usize
     FIRST_BUCKETS << level
 }
 
-// The bucket of a hash.
+// The bucket of a hash: by the short modulus, or by the long one where that leads to a bucket that was split.
 fn address(hash: u64, level: u32, mark: usize) -> usize
     requires { level ≤ 30 }
     ensures { result ≡ bucket_of level mark hash }
