@@ -4,7 +4,8 @@ use Rattle.std.specs.Prelude.{map}
 use Rattle.std.specs.List.{All, Contains}
 use Rattle.std.proofs.lemmas.List.{length-set, length-append, get_or-replicate}
 use Rattle.std.proofs.lemmas.List.Elements.{All-contains}
-use Rattle.std.proofs.lemmas.Nat.{pow_pos}
+use Rattle.std.specs.Int.{IsPowerOfTwo}
+use Rattle.std.proofs.lemmas.Nat.{pow_pos, pow-add}
 use Rattle.std.proofs.lemmas.Bool.{cases_lt, ne_eqb}
 use Rattle.std.proofs.Math.Nat.{pow-suc, pow-le-pow_right}
 use Rattle.mm_index.specs.Bag.{IsSameBag, with_hash}
@@ -15,6 +16,13 @@ use Rattle.lin_hash.proofs.Joined.{joined, Contains-joined, filter-joined}
 
 pub double : (level : ℕ) → 4 * 2 ^ (level + 1) ≡ 2 * (4 * 2 ^ level)
 double level = let e : 2 ^ (level + 1) ≡ 2 ^ level * 2 = ap (λ n. 2 ^ n) (add-one level) ∙ pow-suc 2 level in omega arith
+
+-- the moduli are powers of two
+pub short_power : (level : ℕ) → IsPowerOfTwo (4 * 2 ^ level)
+short_power level = (level + 2, let p = pow-add 2 level 2 in omega arith)
+
+pub long_power : (level : ℕ) → IsPowerOfTwo (2 * (4 * 2 ^ level))
+long_power level = (level + 3, let p = pow-add 2 level 3 in omega arith)
 
 positive : (level : ℕ) → 0 < 4 * 2 ^ level
 positive level = let p = pow_pos level in omega arith

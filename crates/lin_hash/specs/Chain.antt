@@ -1,5 +1,5 @@
 -- The entries of a chain of nodes.
-use Rattle.std.specs.Prelude.{ℕ, List, [], ◌∷◌, Option, Some, None}
+use Rattle.std.specs.Prelude.{◌≡◌, ℕ, List, [], ◌∷◌, Option, Some, None}
 use Rattle.part_raw.specs.declared.tuple_ref.TupleRef.{TupleRef}
 use Rattle.lin_hash.specs.declared.bucket.Node.{Node, Node', Held-Node-next, None', Some', out-Node}
 use Rattle.std.specs.Global.{Box}
@@ -8,6 +8,10 @@ use Rattle.std.specs.Borrow.{Bor}
 -- a node's own entry
 abbrev pub entry_of : Node → ℕ × TupleRef
 entry_of n = ((out-Node n).hash, (out-Node n).reference)
+
+-- no node stands behind it
+abbrev pub IsAlone : Node → Type 0
+IsAlone n = (out-Node n).next ≡ None
 
 -- the entries of a node and of those behind it, in their order
 abbrev mutual

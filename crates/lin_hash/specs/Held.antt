@@ -1,4 +1,4 @@
--- What the index is seen as.
+-- What the index and its table are seen as.
 use Rattle.std.specs.Prelude.{ℕ, List, [], Option, Some, None}
 use Rattle.part_raw.specs.declared.tuple_ref.TupleRef.{TupleRef}
 
@@ -8,15 +8,21 @@ pub record HeldBuckets : Type 0 where
   pub room : ℕ
   pub buckets : ℕ
 
--- a table that may not be there yet: it is empty then, with four buckets and no room
-abbrev pub table_entries : Option HeldBuckets → List (ℕ × TupleRef)
+-- pairs of a hash and a reference, how many heads of buckets there are, in use and spare, and how many are in use
+pub record HeldTable : Type 0 where
+  pub entries : List (ℕ × TupleRef)
+  pub heads : ℕ
+  pub buckets : ℕ
+
+-- a table that may not be there yet: it is empty then, with four buckets to come and no head
+abbrev pub table_entries : Option HeldTable → List (ℕ × TupleRef)
 table_entries None = []
 table_entries (Some t) = t.entries
 
-abbrev pub table_room : Option HeldBuckets → ℕ
-table_room None = 0
-table_room (Some t) = t.room
+abbrev pub table_heads : Option HeldTable → ℕ
+table_heads None = 0
+table_heads (Some t) = t.heads
 
-abbrev pub table_buckets : Option HeldBuckets → ℕ
+abbrev pub table_buckets : Option HeldTable → ℕ
 table_buckets None = 4
 table_buckets (Some t) = t.buckets

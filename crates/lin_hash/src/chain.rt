@@ -1,36 +1,27 @@
-//! The references with one hash.
+//! The references with one hash, as a look-up gives them.
+//!
+//! A walk along the chain of one bucket, which passes over the entries of other hashes. In what order it comes upon the
+//! references matters to nobody.
+ghost use Rattle.std.specs.Prelude.{◌≡◌};
 ghost use Rattle.std.specs.Iterator.{YieldsFirst, item_count};
+ghost use Rattle.mm_index.specs.Bag.{with_hash};
+ghost use Rattle.lin_hash.specs.Chain.{lent_entries};
+ghost use Rattle.lin_hash.specs.Rest.{chain_rest};
 
 use crate::bucket::Node;
 use part_raw::TupleRef;
-use std::marker::Model;
 
-/// The references with one hash that are left to visit.
-#[derive(Drop)]
+/// The references with one hash that are left to visit. A copy goes on from the same place.
+#[derive(Clone, Copy)]
 pub struct Chain<'a> {
     hash: u64,
     rest: Option<&'a Node>,
 }
 
-impl<'a> Model for Chain<'a> {
-    ghost use Rattle.std.specs.Prelude.{List};
-    ghost use Rattle.part_raw.specs.declared.tuple_ref.TupleRef.{TupleRef};
-    ghost use Rattle.mm_index.specs.Bag.{with_hash};
-    ghost use Rattle.lin_hash.specs.Chain.{lent_entries};
-
-    ghost Value = { List TupleRef };
-
-    ghost view = { λ c. with_hash c.hash (lent_entries c.rest) };
-}
-
 impl<'a> Chain<'a> {
-    ghost use Rattle.std.specs.Prelude.{◌≡◌};
-    ghost use Rattle.mm_index.specs.Bag.{with_hash};
-    ghost use Rattle.lin_hash.specs.Chain.{lent_entries};
-
     // Those with that hash from a node on.
     pub(crate) fn from_node(hash: u64, rest: Option<&'a Node>) -> Chain<'a>
-        ensures { result ≡ with_hash hash (lent_entries rest.entry) }
+        ensures { chain_rest result ≡ with_hash hash (lent_entries rest.entry) }
     {
         Chain { hash, rest }
     }
@@ -39,9 +30,9 @@ impl<'a> Chain<'a> {
 impl<'a> Iterator for Chain<'a> {
     type Item = TupleRef;
 
-    ghost next_gives = { YieldsFirst (λ c. c) };
+    ghost next_gives = { YieldsFirst chain_rest };
 
-    ghost remaining = { item_count (λ c. c) };
+    ghost remaining = { item_count chain_rest };
 
     fn next(&mut self) -> Option<TupleRef> {
         let mut rest = self.rest;

@@ -1,8 +1,13 @@
 //! The index: a table of buckets, and the nodes that are kept for the next inserts.
+//!
+//! It counts the entries, so that the table knows when to split and when to fold, and sees to it that an insert finds its
+//! memory there: the room is the lesser of the spare nodes and of the entries that come to two a head, less those held.
+//! Where an entry stands is the table's matter. A new index has no table, and takes one with its first `reserve`.
 ghost use Rattle.std.specs.Prelude.{◌≡◌, ◌+◌, ◌*◌, ◌^◌, ◌<◌, ◌≤◌, [], ◌∷◌, length, Contains, OnOk};
 ghost use Rattle.mm_index.specs.Bag.{IsSameBag, with_hash};
-ghost use Rattle.lin_hash.specs.Held.{table_entries, table_room, table_buckets};
-ghost use Rattle.lin_hash.specs.Chain.{entry_of};
+ghost use Rattle.lin_hash.specs.Held.{table_entries, table_heads, table_buckets};
+ghost use Rattle.lin_hash.specs.Chain.{IsAlone, entry_of};
+ghost use Rattle.lin_hash.specs.Rest.{chain_rest};
 
 use crate::bucket::Node;
 use crate::chain::Chain;
@@ -14,8 +19,8 @@ use part_raw::TupleRef;
 use std::alloc::Global;
 use std::marker::Model;
 
-/// A modified linear hash. There are always at least four buckets and at most twice as many entries
-/// as buckets; a look-up visits the nodes of one bucket.
+/// A modified linear hash: a bag of references under hashes. A look-up visits the nodes of one bucket, of which there are
+/// at least half as many as entries.
 #[derive(Drop)]
 pub struct LinHash {
     alloc: Global,
@@ -25,14 +30,14 @@ pub struct LinHash {
 }
 
 impl Model for LinHash {
-    ghost use Rattle.std.specs.Prelude.{min};
-    ghost use Rattle.lin_hash.specs.Held.{HeldBuckets, table_entries, table_room, table_buckets};
+    ghost use Rattle.std.specs.Prelude.{◌-◌, ◌*◌, length, min};
+    ghost use Rattle.lin_hash.specs.Held.{HeldBuckets, table_entries, table_heads, table_buckets};
 
     ghost Value = { HeldBuckets };
 
     ghost view = { λ h. record {
       entries = table_entries h.table;
-      room = min h.spares (table_room h.table);
+      room = min h.spares (2 * table_heads h.table - length (table_entries h.table));
       buckets = table_buckets h.table;
     } };
 
@@ -67,9 +72,9 @@ impl LinHash {
         }
     }
 
-    /// The references with that hash, each as often as it is held, in any order.
+    /// The references with that hash, each as often as it is held, in any order. It borrows the index and takes no memory.
     pub fn chain(&self, hash: u64) -> Chain<'_>
-        ensures { IsSameBag result (with_hash hash self.now.entries) }
+        ensures { IsSameBag (chain_rest result) (with_hash hash self.now.entries) }
     {
         match &self.table {
             Some(table) => Chain::from_node(hash, table.first(hash)),
@@ -83,17 +88,20 @@ impl ExactIndex for LinHash {
 
     ghost room = { λ h. h.room };
 
+    /// Makes sure of memory for `n` inserts, until `release_spares`: for the nodes of all of them, and for as many heads of
+    /// buckets as the entries and `n` more ask for. After an error what was gained is kept.
     fn reserve(&mut self, n: usize) -> Result<(), NoMemory>
         requires { n ≤ 2 ^ 32 }
-        ensures entries { IsSameBag self.new.entries self.old.entries }
+        ensures entries { self.new.entries ≡ self.old.entries }
         ensures reserved { OnOk result (n ≤ self.new.room) }
         ensures room { self.old.room ≤ self.new.room }
         ensures buckets { self.new.buckets ≡ self.old.buckets }
     {
-        reserve_buckets(&mut self.table, self.alloc, n)?;
+        reserve_heads(&mut self.table, self.alloc, self.len + n)?;
         self.spares.reserve(self.alloc, n)
     }
 
+    /// Puts one pair in, and splits one bucket at most. Takes no memory.
     fn insert(&mut self, hash: u64, r: TupleRef)
         requires reserved { 0 < self.old.room }
         requires short { length self.old.entries < 2 ^ 32 }
@@ -111,10 +119,12 @@ impl ExactIndex for LinHash {
         insert_node(&mut self.table, node, self.len);
     }
 
+    /// Takes one such pair out, and folds one bucket at most. Takes no memory and gives none back: the node is a spare one
+    /// then, so that what was taken out can be put in again.
     fn remove(&mut self, hash: u64, r: TupleRef)
         requires { Contains self.old.entries (hash, r) }
         ensures entries { IsSameBag self.old.entries ((hash, r) ∷ self.new.entries) }
-        ensures room { self.old.room ≤ self.new.room }
+        ensures room { self.old.room + 1 ≤ self.new.room }
 
         // The buckets shrink by one exactly where there are more than four, and then fewer entries than half
         // of them.
@@ -127,6 +137,7 @@ impl ExactIndex for LinHash {
         self.spares.put(node);
     }
 
+    /// Appends what `chain` gives. After an error `out` is as before.
     fn matching(&self, hash: u64, out: &mut Vec<TupleRef>) -> Result<(), NoMemory> {
         let before = out.len();
         for r in self.chain(hash) {
@@ -138,12 +149,14 @@ impl ExactIndex for LinHash {
         Ok(())
     }
 
+    /// How many pairs there are. It was counted before.
     fn len(&self) -> usize {
         self.len
     }
 
+    /// Frees the spare nodes and the spare heads.
     fn release_spares(&mut self)
-        ensures entries { IsSameBag self.new.entries self.old.entries }
+        ensures entries { self.new.entries ≡ self.old.entries }
         ensures room { self.new.room ≡ 0 }
         ensures buckets { self.new.buckets ≡ self.old.buckets }
     {
@@ -154,19 +167,19 @@ impl ExactIndex for LinHash {
     }
 }
 
-// Makes sure of the buckets of n inserts, the first four among them.
-fn reserve_buckets(table: &mut Option<Table>, alloc: Global, n: usize) -> Result<(), NoMemory>
-    requires { n ≤ 2 ^ 32 }
+// Makes sure of the heads of the buckets of so many entries, and of the first four.
+fn reserve_heads(table: &mut Option<Table>, alloc: Global, entries: usize) -> Result<(), NoMemory>
+    requires { entries ≤ 2 ^ 33 }
     ensures entries { table_entries table.new ≡ table_entries table.old }
-    ensures reserved { OnOk result (n ≤ table_room table.new) }
-    ensures room { table_room table.old ≤ table_room table.new }
+    ensures reserved { OnOk result (entries ≤ 2 * table_heads table.new) }
+    ensures heads { table_heads table.old ≤ table_heads table.new }
     ensures buckets { table_buckets table.new ≡ table_buckets table.old }
 {
     match table {
-        Some(table) => table.reserve(n),
+        Some(table) => table.reserve(entries),
         None => {
             let mut first = Table::new(alloc)?;
-            first.reserve(n)?;
+            first.reserve(entries)?;
             *table = Some(first);
             Ok(())
         }
@@ -175,11 +188,12 @@ fn reserve_buckets(table: &mut Option<Table>, alloc: Global, n: usize) -> Result
 
 // Puts a node into the table, which then has `len` entries.
 fn insert_node(table: &mut Option<Table>, node: Box<Node>, len: usize)
-    requires room { 0 < table_room table.old }
+    requires alone { IsAlone node.value }
+    requires room { length (table_entries table.old) < 2 * table_heads table.old }
     requires counted { len ≡ length (table_entries table.old) + 1 }
     requires short { len ≤ 2 ^ 32 }
     ensures entries { IsSameBag (table_entries table.new) (entry_of node.value ∷ table_entries table.old) }
-    ensures room { table_room table.old ≤ table_room table.new + 1 }
+    ensures heads { table_heads table.old ≤ table_heads table.new }
     ensures split { 2 * table_buckets table.old < len → table_buckets table.new ≡ table_buckets table.old + 1 }
     ensures unsplit { len ≤ 2 * table_buckets table.old → table_buckets table.new ≡ table_buckets table.old }
 {
@@ -195,10 +209,11 @@ fn remove_node(table: &mut Option<Table>, hash: u64, r: TupleRef, len: usize) ->
     requires counted { length (table_entries table.old) ≡ len + 1 }
     requires short { len < 2 ^ 32 }
     ensures entries { IsSameBag (table_entries table.old) ((hash, r) ∷ table_entries table.new) }
-    ensures room { table_room table.old ≤ table_room table.new }
+    ensures heads { table_heads table.old ≤ table_heads table.new }
     ensures folded { 2 * len < table_buckets table.old → 4 < table_buckets table.old → table_buckets table.new + 1 ≡ table_buckets table.old }
     ensures unfolded { table_buckets table.old ≤ 2 * len → table_buckets table.new ≡ table_buckets table.old }
     ensures first { table_buckets table.old ≤ 4 → table_buckets table.new ≡ table_buckets table.old }
+    ensures alone { IsAlone result.value }
 {
     match table {
         Some(table) => table.remove(hash, r, len),

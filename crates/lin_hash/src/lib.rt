@@ -1,9 +1,16 @@
 //! Modified linear hashing: a hash index whose buckets grow and shrink one at a time.
 //!
-//! The index holds references to tuples under the hashes of their keys, and no keys. It is linear
-//! hashing after Litwin (VLDB 1980) in the form for main memory of Lehman and Carey (VLDB 1986):
-//! a bucket is a chain of nodes with one entry each, and there are at most twice as many entries as
-//! buckets.
+//! The index holds references to tuples under the hashes of their keys, and no keys. It is linear hashing after Litwin
+//! (VLDB 1980) in the form for main memory of Lehman and Carey (VLDB 1986): a bucket is a chain of nodes with one entry
+//! each, and the table has a bucket more or less by how many entries there are.
+//!
+//! It does not care which key a hash is of, whether two keys share one, nor what a reference leads to: who looks up
+//! compares the keys. It computes no hash, and promises nothing of a chain's length or order.
+//!
+//! What always holds:
+//! - each entry stands in the bucket of its hash, by the level and the mark (`table`);
+//! - there are at least four buckets, and at most twice as many entries as buckets (`index`);
+//! - each node stands in one bucket or among the spares, until it is freed (`bucket`).
 #![tactic(auto)]
 
 mod bucket;

@@ -1,9 +1,11 @@
 //! Nodes that were allocated ahead, so that an insert takes no memory.
+//!
+//! They hang on one another like those of a bucket, and are counted. Their entries say nothing.
 ghost use Rattle.std.specs.Prelude.{◌≡◌, ◌+◌, ◌^◌, ◌<◌, ◌≤◌, OnOk, max};
+ghost use Rattle.lin_hash.specs.Chain.{IsAlone};
 
 use crate::bucket::{Bucket, Node};
 use no_memory::NoMemory;
-use part_raw::TupleRef;
 use std::alloc::Global;
 use std::marker::Model;
 
@@ -41,14 +43,7 @@ impl Spares {
         ensures most { self.new ≤ max self.old n }
     {
         while self.count < n {
-            let node = Box::new(
-                alloc,
-                Node {
-                    hash: 0,
-                    reference: TupleRef::default(),
-                    next: None,
-                },
-            )?;
+            let node = Node::new(alloc)?;
             self.nodes.push(node);
             self.count += 1;
         }
@@ -56,7 +51,8 @@ impl Spares {
     }
 
     pub fn put(&mut self, node: Box<Node>)
-        requires { self.old + 1 < 2 ^ 64 }
+        requires alone { IsAlone node.value }
+        requires few { self.old + 1 < 2 ^ 64 }
         ensures { self.new ≡ self.old + 1 }
     {
         self.nodes.push(node);
@@ -65,7 +61,8 @@ impl Spares {
 
     pub fn take(&mut self) -> Box<Node>
         requires { 0 < self.old }
-        ensures { self.new + 1 ≡ self.old }
+        ensures count { self.new + 1 ≡ self.old }
+        ensures alone { IsAlone result.value }
     {
         self.count -= 1;
         let node = self.nodes.pop();

@@ -1,10 +1,21 @@
 //! The buckets, each entry in that of its hash, and the split and the fold that add and remove one.
+//!
+//! A level doubles the buckets one by one. At the level L there are `short = 4 * 2^L` buckets before its first split, and
+//! the mark says how many of these were split already, each into itself and a bucket at the end:
+//!
+//!     bucket   0 ..  mark - 1 | mark ..  short - 1 | short .. short + mark - 1
+//!              split: h mod   | not yet: h mod     | split off: h mod
+//!              2 * short      | short              | 2 * short
+//!
+//! So a hash h belongs to `h mod short`, or where that bucket was split to `h mod (2 * short)`, which is the same bucket or
+//! the one split off it. A split moves the mark on, and after the last bucket of a level the next level begins with the
+//! mark at 0; a fold goes the same way back. Who counts the entries is not the table's matter: it is told.
 ghost use Rattle.std.specs.Prelude.{◌≡◌, ◌+◌, ◌*◌, ◌^◌, ◌<◌, ◌≤◌, [], ◌∷◌, ◌++◌, length, vec_len, vec_capacity, IfOk, OnOk, Contains};
 ghost use Rattle.mm_index.specs.Bag.{IsSameBag, with_hash};
 ghost use Rattle.lin_hash.specs.Address.{bucket_of};
-ghost use Rattle.lin_hash.specs.Chain.{entry_of, lent_entries};
+ghost use Rattle.lin_hash.specs.Chain.{IsAlone, entry_of, lent_entries};
 
-use crate::bucket::{Bucket, Node};
+use crate::bucket::{Bucket, Node, remainder};
 use no_memory::NoMemory;
 use part_raw::TupleRef;
 use std::alloc::Global;
@@ -13,8 +24,13 @@ use std::marker::Model;
 // How many buckets there are at first.
 pub const FIRST_BUCKETS: usize = 4;
 
-/// At least four buckets. `level` is how often their number doubled, and `mark` is the bucket to be
-/// split next.
+// More entries to a bucket than these, and an insert splits one.
+const MOST_ENTRIES_A_BUCKET: usize = 2;
+
+// More buckets to an entry than these, and a remove folds one.
+const MOST_BUCKETS_AN_ENTRY: usize = 2;
+
+/// At least four buckets. `level` is how often their number doubled, and `mark` is the bucket to be split next.
 #[derive(Drop)]
 pub struct Table {
     level: u32,
@@ -23,16 +39,16 @@ pub struct Table {
 }
 
 impl Model for Table {
-    ghost use Rattle.std.specs.Prelude.{◌-◌, vec_len, vec_capacity};
+    ghost use Rattle.std.specs.Prelude.{vec_len, vec_capacity};
     ghost use Rattle.std.specs.List.{flat_map};
-    ghost use Rattle.lin_hash.specs.Held.{HeldBuckets};
+    ghost use Rattle.lin_hash.specs.Held.{HeldTable};
     ghost use Rattle.lin_hash.specs.Address.{IsAddressed};
 
-    ghost Value = { HeldBuckets };
+    ghost Value = { HeldTable };
 
     ghost view = { λ t. record {
       entries = flat_map (λ b. b) t.buckets.items;
-      room = vec_capacity t.buckets - vec_len t.buckets;
+      heads = vec_capacity t.buckets;
       buckets = vec_len t.buckets;
     } };
 
@@ -57,6 +73,7 @@ impl Table {
         })
     }
 
+    // How many there are.
     pub fn buckets(&self) -> usize
         ensures value { result ≡ self.now.buckets }
         ensures first { 4 ≤ result }
@@ -65,21 +82,24 @@ impl Table {
         self.buckets.len()
     }
 
-    // Makes sure of memory for n splits.
-    pub fn reserve(&mut self, n: usize) -> Result<(), NoMemory>
-        requires { n ≤ 2 ^ 32 }
+    // Makes sure of a head for every two of so many entries.
+    pub fn reserve(&mut self, entries: usize) -> Result<(), NoMemory>
+        requires { entries ≤ 2 ^ 33 }
         ensures entries { self.new.entries ≡ self.old.entries }
-        ensures reserved { OnOk result (n ≤ self.new.room) }
-        ensures room { self.old.room ≤ self.new.room }
+        ensures reserved { OnOk result (entries ≤ 2 * self.new.heads) }
+        ensures heads { self.old.heads ≤ self.new.heads }
         ensures buckets { self.new.buckets ≡ self.old.buckets }
     {
-        self.buckets.reserve(n)?;
+        let heads = entries.div_ceil(MOST_ENTRIES_A_BUCKET);
+        self.buckets
+            .reserve(heads.saturating_sub(self.buckets.len()))?;
         Ok(())
     }
 
-    // Gives back the memory that was reserved for splits.
+    // Gives back the spare heads.
     pub fn release_spares(&mut self)
         ensures entries { self.new.entries ≡ self.old.entries }
+        ensures heads { self.new.buckets ≤ self.new.heads }
         ensures buckets { self.new.buckets ≡ self.old.buckets }
     {
         self.buckets.shrink_to_fit();
@@ -88,16 +108,17 @@ impl Table {
     // Puts a node in, and splits a bucket where there are then more entries than twice the buckets: `len` of
     // them.
     pub fn insert(&mut self, node: Box<Node>, len: usize)
-        requires room { 0 < self.old.room }
+        requires alone { IsAlone node.value }
+        requires room { length self.old.entries < 2 * self.old.heads }
         requires counted { len ≡ length self.old.entries + 1 }
         requires short { len ≤ 2 ^ 32 }
         ensures entries { IsSameBag self.new.entries (entry_of node.value ∷ self.old.entries) }
-        ensures room { self.old.room ≤ self.new.room + 1 }
+        ensures heads { self.old.heads ≤ self.new.heads }
         ensures split { 2 * self.old.buckets < len → self.new.buckets ≡ self.old.buckets + 1 }
         ensures unsplit { len ≤ 2 * self.old.buckets → self.new.buckets ≡ self.old.buckets }
     {
         self.add(node);
-        if len > 2 * self.buckets() {
+        if len > MOST_ENTRIES_A_BUCKET * self.buckets() {
             self.split();
         }
     }
@@ -109,14 +130,15 @@ impl Table {
         requires counted { length self.old.entries ≡ len + 1 }
         requires short { len < 2 ^ 32 }
         ensures entries { IsSameBag self.old.entries ((hash, r) ∷ self.new.entries) }
-        ensures room { self.old.room ≤ self.new.room }
+        ensures heads { self.old.heads ≤ self.new.heads }
         ensures folded { 2 * len < self.old.buckets → 4 < self.old.buckets → self.new.buckets + 1 ≡ self.old.buckets }
         ensures unfolded { self.old.buckets ≤ 2 * len → self.new.buckets ≡ self.old.buckets }
         ensures first { self.old.buckets ≤ 4 → self.new.buckets ≡ self.old.buckets }
+        ensures alone { IsAlone result.value }
     {
         let node = self.take(hash, r);
         let buckets = self.buckets();
-        if 2 * len < buckets && buckets > FIRST_BUCKETS {
+        if len * MOST_BUCKETS_AN_ENTRY < buckets && buckets > FIRST_BUCKETS {
             self.fold();
         }
         node
@@ -132,8 +154,9 @@ impl Table {
 
     // Puts a node into the bucket of its hash.
     fn add(&mut self, node: Box<Node>)
+        requires { IsAlone node.value }
         ensures entries { IsSameBag self.new.entries (entry_of node.value ∷ self.old.entries) }
-        ensures room { self.new.room ≡ self.old.room }
+        ensures heads { self.new.heads ≡ self.old.heads }
         ensures buckets { self.new.buckets ≡ self.old.buckets }
     {
         let place = address(node.hash, self.level, self.mark);
@@ -144,8 +167,9 @@ impl Table {
     fn take(&mut self, hash: u64, r: TupleRef) -> Box<Node>
         requires { Contains self.old.entries (hash, r) }
         ensures entries { IsSameBag self.old.entries ((hash, r) ∷ self.new.entries) }
-        ensures room { self.new.room ≡ self.old.room }
+        ensures heads { self.new.heads ≡ self.old.heads }
         ensures buckets { self.new.buckets ≡ self.old.buckets }
+        ensures alone { IsAlone result.value }
     {
         let place = address(hash, self.level, self.mark);
         self.buckets[place].take(hash, r)
@@ -153,10 +177,10 @@ impl Table {
 
     // Shares the bucket at the mark out between itself and a new last bucket.
     fn split(&mut self)
-        requires room { 0 < self.old.room }
+        requires room { self.old.buckets < self.old.heads }
         requires few { self.old.buckets < 2 ^ 32 }
         ensures entries { IsSameBag self.new.entries self.old.entries }
-        ensures room { self.old.room ≤ self.new.room + 1 }
+        ensures heads { self.old.heads ≤ self.new.heads }
         ensures buckets { self.new.buckets ≡ self.old.buckets + 1 }
     {
         let short = buckets_at(self.level);
@@ -174,7 +198,7 @@ impl Table {
     fn fold(&mut self)
         requires { 4 < self.old.buckets }
         ensures entries { IsSameBag self.new.entries self.old.entries }
-        ensures room { self.old.room ≤ self.new.room }
+        ensures heads { self.old.heads ≤ self.new.heads }
         ensures buckets { self.new.buckets + 1 ≡ self.old.buckets }
     {
         if self.mark == 0 {
@@ -207,15 +231,15 @@ fn buckets_at(level: u32) -> usize
     FIRST_BUCKETS << level
 }
 
-// The bucket of a hash.
+// The bucket of a hash: by the short modulus, or by the long one where that leads to a bucket that was split.
 fn address(hash: u64, level: u32, mark: usize) -> usize
     requires { level ≤ 30 }
     ensures { result ≡ bucket_of level mark hash }
 {
     let short = buckets_at(level);
-    let bucket = hash as usize % short;
+    let bucket = remainder(hash, short);
     if bucket < mark {
-        hash as usize % (2 * short)
+        remainder(hash, 2 * short)
     } else {
         bucket
     }

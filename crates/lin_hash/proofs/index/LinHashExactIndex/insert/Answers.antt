@@ -17,8 +17,13 @@ invariant_of-self c =
         | inl many ↦ let split = c.insert_node.ensures.split many in omega arith
         | inr few ↦ let unsplit = c.insert_node.ensures.unsplit few in omega arith
       ];
+      housed =
+          let room = ap (λ h. h.room) c.self.view_is in
+          let heads = c.insert_node.ensures.heads in
+          let reserved = c.requires.reserved in
+          omega (arith, counted, room, heads, reserved);
       short = omega (arith, counted, old, c.requires.short);
-      few = omega (arith, few, c.take-node.ensures);
+      few = omega (arith, few, c.take-node.ensures.count);
     }
 
 pub returns-clause-split : goal.returns-clause-split
@@ -36,3 +41,10 @@ returns-clause-unsplit c = λ h.
     let counted = c.self.invariant.counted in
     let unsplit = c.insert_node.ensures.unsplit (omega arith) in
     omega arith
+
+pub returns-clause-room : goal.returns-clause-room
+returns-clause-room c =
+    let n = length-same_bag _ _ c.insert_node.ensures.entries in
+    let room = ap (λ h. h.room) c.self.view_is in
+    let heads = c.insert_node.ensures.heads in
+    omega (arith, n, room, heads, c.take-node.ensures.count)

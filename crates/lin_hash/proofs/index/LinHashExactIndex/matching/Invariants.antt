@@ -1,9 +1,10 @@
 use Rattle.std.proofs.Common.{◌≡◌, ◌++◌, length}
+use Rattle.lin_hash.specs.Rest.{chain_rest}
 use Rattle.lin_hash.proofs.index.LinHashExactIndex.matching.Given as goal
 
 abbrev pub invariant-loop-r : goal.invariant-loop-r
 invariant-loop-r l = record {
   before : l.before ≡ length l.fn.out.items;
   added : l.out.items ≡ l.fn.out.items ++ l.yielded;
-  left : l.yielded ++ l.r-iterator ≡ l.initial.r-iterator;
+  left : l.yielded ++ chain_rest l.r-iterator ≡ chain_rest l.initial.r-iterator;
 }

@@ -20,6 +20,10 @@ invariant_of-self c =
         ]
         | inr many ↦ let same = c.remove_node-node.ensures.unfolded many in omega arith
       ];
+      housed =
+          let housed = c.self.invariant.housed in
+          let heads = c.remove_node-node.ensures.heads in
+          omega (arith, housed, heads);
       short = omega (arith, short);
       few = omega (arith, n, counted, few, c.put.ensures);
     }
@@ -39,3 +43,12 @@ returns-clause-unfolded c = λ h.
     let counted = c.self.invariant.counted in
     let unfolded = c.remove_node-node.ensures.unfolded (omega arith) in
     omega arith
+
+pub returns-clause-room : goal.returns-clause-room
+returns-clause-room c =
+    let n = length-same_bag _ _ c.remove_node-node.ensures.entries in
+    let room = ap (λ h. h.room) c.self.view_is in
+    let counted = c.self.invariant.counted in
+    let housed = c.self.invariant.housed in
+    let heads = c.remove_node-node.ensures.heads in
+    omega (arith, n, room, counted, housed, heads, c.put.ensures)

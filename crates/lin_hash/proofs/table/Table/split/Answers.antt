@@ -1,9 +1,12 @@
 use Rattle.std.proofs.Common.{◌<◌, ◌^◌, [], ◌++◌, ◌∙◌, ap, subst, arith, length}
 use Rattle.std.proofs.lemmas.List.{get_or_default}
 use Rattle.mm_index.specs.Bag.{IsSameBag}
-use Rattle.lin_hash.proofs.Levels.{mark-inside, IsAddressed-split, IsAddressed-split_up}
+use Rattle.lin_hash.proofs.Levels.{long_power, mark-inside, IsAddressed-split, IsAddressed-split_up}
 use Rattle.lin_hash.proofs.Joined.{joined-split}
 use Rattle.lin_hash.proofs.table.Table.split.Goals as goal
+
+pub split-moved-requires : goal.split-moved-requires
+split-moved-requires c = rw c.buckets_at-short.ensures (long_power c.self.inside.level)
 
 pub invariant_of-self : goal.invariant_of-self
 invariant_of-self c =

@@ -24,7 +24,7 @@ invariant_of-self c =
     let l = bucket_of-inside c.self.inside.level c.self.inside.mark c.self.inside.buckets.items c.self.invariant c.args.hash c.address-place.result c.address-place.ensures in
     let was = c.index_mut.ensures.value ∙ get_or_default c.self.inside.buckets.items c.address-place.result c.index_mut.result.now [] l in
     IsAddressed-taken c.self.inside.level c.self.inside.mark c.self.inside.buckets.items c.self.invariant (c.args.hash, c.args.r) c.address-place.result c.take.new.self c.address-place.ensures
-    (subst (λ b. IsSameBag b ((c.args.hash, c.args.r) ∷ c.take.new.self)) was c.take.ensures)
+    (subst (λ b. IsSameBag b ((c.args.hash, c.args.r) ∷ c.take.new.self)) was c.take.ensures.entries)
 
 pub returns-clause-entries : goal.returns-clause-entries
 returns-clause-entries c =
@@ -32,4 +32,4 @@ returns-clause-entries c =
     let was = c.index_mut.ensures.value ∙ get_or_default c.self.inside.buckets.items c.address-place.result c.index_mut.result.now [] l in
     rw (← ap (λ t. t.entries) c.self.view_is)
     (joined-taken c.self.inside.buckets.items c.address-place.result l (c.args.hash, c.args.r) c.take.new.self
-    (subst (λ b. IsSameBag b ((c.args.hash, c.args.r) ∷ c.take.new.self)) was c.take.ensures))
+    (subst (λ b. IsSameBag b ((c.args.hash, c.args.r) ∷ c.take.new.self)) was c.take.ensures.entries))
