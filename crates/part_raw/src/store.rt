@@ -74,9 +74,10 @@ impl<T> Partitions<T> {
         self.parts.len() as u64 * 256 - self.free
     }
 
-    /// Makes sure of one free slot. A store with none gets a partition of 256.
+    /// Makes sure of one free slot. A store with none gets a partition of 256, so such a store has to hold fewer tuples than
+    /// references can name.
     pub fn reserve(&mut self) -> Result<(), NoMemory>
-        requires { map.len self.old.tuples + self.old.free < 2 ^ 40 }
+        requires { self.old.free ≡ 0 → map.len self.old.tuples < 2 ^ 40 }
         ensures ok { OnOk result (self.new ≡ store self.old.tuples (free_reserved self.old.free)) }
         ensures err { OnErr result (self.new ≡ self.old) }
         ensures had_room { 0 < self.old.free → IsOk result }

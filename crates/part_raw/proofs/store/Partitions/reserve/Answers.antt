@@ -12,7 +12,7 @@ invariant_of-self-2 g c =
     let room = rw (← c.self.view_is) at c.requires in
     rw (c.push_reserved.ensures.items, c.reserve.ensures.items)
     (IsStore-push c.self.inside.parts.items _ c.self.inside.first_open _ was c.in_ok-partition.ensures refl
-    (omega (arith, c.len-part.ensures, c.reserve.ensures.len, c.self.inside.parts.ok)) (omega (arith, room, none)))
+    (omega (arith, c.len-part.ensures, c.reserve.ensures.len, c.self.inside.parts.ok)) (omega (arith, room none)))
 
 pub returns-clause-ok : goal.returns-clause-ok
 returns-clause-ok g c =
