@@ -98,3 +98,13 @@ fn records_past_the_writers_room_are_whole(rt: HostRuntime) -> Result<(), Fail> 
     assert_eq!(rt; bytes.as_slice(), expected.as_slice());
     Ok(())
 }
+
+#[test]
+fn nulls_are_empty_fields(rt: HostRuntime) -> Result<(), Fail> {
+    let mut records = RecordWriter::new(Vec::new(rt.alloc()));
+    records.push_record(&[Value::Int(1), Value::Null])?;
+    records.push_record(&[Value::Null])?;
+    let bytes = records.finish()?;
+    assert_eq!(rt; bytes.as_slice(), b"1,\n\"\"\n".as_slice());
+    Ok(())
+}

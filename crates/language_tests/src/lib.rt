@@ -5,6 +5,8 @@
 #[cfg(test)]
 mod blocks;
 #[cfg(test)]
+mod hashes;
+#[cfg(test)]
 mod parser_and_printer;
 #[cfg(test)]
 mod texts_and_refusals;

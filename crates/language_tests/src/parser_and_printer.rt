@@ -134,6 +134,7 @@ insert t (-)|\
 insert t (+1)|\
 insert t (1.0)|\
 insert t (a)|\
+insert t (null)|\
 insert t (9223372036854775808)|\
 insert t (-9223372036854775809)|\
 insert t (18446744073709551617)|\

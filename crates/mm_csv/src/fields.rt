@@ -29,6 +29,7 @@ fn write_value<W: Write + Drop>(writer: &mut Writer<W>, value: &Value) -> Result
     ensures { OnOk result (AddsField W.contents writer.old writer.new (value_field value.now)) }
 {
     match value {
+        Value::Null => write_field(writer, b""),
         Value::Int(z) => write_field(writer, Buffer::new().format(*z).as_bytes()),
         Value::Text(text) => write_field(writer, text.as_bytes()),
     }

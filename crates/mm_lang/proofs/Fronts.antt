@@ -275,6 +275,7 @@ begins-no_compared line mid column named not = record {
 
 -- Where the characters of the first symbol spell no value, if they are UTF-8, it is none.
 value-utf8 : (line : List ℕ) (v : Value) → IsOfText line → IsSymbol (lexeme line) (Literal v) → IsUtf8 (lexeme line)
+value-utf8 line value.Null of is = elim is [ ]
 value-utf8 line (value.Int z) of is = IsUtf8-from_ascii (lexeme line) (run-is_ascii (lexeme line) (integer-run (lexeme line) z is))
 value-utf8 line (value.Text text) of is = literal-utf8 line text of is
 

@@ -56,9 +56,11 @@ impl Item for Value {
 
     fn push_to(&self, line: &mut String) -> Result<(), NoMemory> {
         match self {
-            Value::Int(number) => push_integer(line, *number),
-            Value::Text(text) => push_text(line, text.as_str()),
+            Value::Null => line.push_str("null")?,
+            Value::Int(number) => push_integer(line, *number)?,
+            Value::Text(text) => push_text(line, text.as_str())?,
         }
+        Ok(())
     }
 }
 
@@ -72,6 +74,11 @@ fn push_kind(line: &mut String, kind: &ColKind) -> Result<(), NoMemory>
         ColKind::Ref(table) => {
             line.push_str("ref ")?;
             line.push_str(table.as_str())?;
+        }
+        ColKind::RefOrNull(table) => {
+            line.push_str("ref ")?;
+            line.push_str(table.as_str())?;
+            line.push_str(" null")?;
         }
     }
     Ok(())

@@ -7,7 +7,6 @@ use Rattle.plain_tables.specs.Queries.{JoinedColumn, joined_columns, place_meant
 use Rattle.std.specs.Str.{bytes_eq}
 use Rattle.plain_tables.specs.Effects.{Check, is_of_kind, is_long, repeats, setting_name}
 use Rattle.plain_tables.specs.declared.refusal.Refusal.TheVariants.{ColumnNamedTwice, WrongType, TextTooLong, KeyCannotBeSet, TooMany}
-use Rattle.plain_tables.specs.Values.{value_cmp}
 use Rattle.plain_tables.specs.declared.value.Value.{Value}
 use Rattle.plain_tables.specs.declared.schema.Column.{Column}
 use Rattle.plain_tables.specs.declared.condition.Op.{Op}
@@ -35,7 +34,7 @@ abbrev pub AreTestsOf : List JoinedColumn → List Cond → List Test → Type 0
 AreTestsOf columns conditions tests = map test_seen tests ≡ map (condition_meant columns) conditions
 
 abbrev pub passes : Row → Test → Bool
-passes row test = option_map_or (λ v. stands test.op (value_cmp v test.value.now)) (slice_get row test.place) false
+passes row test = option_map_or (λ v. stands test.op v test.value.now) (slice_get row test.place) false
 
 abbrev pub passes_all : List Test → Row → Bool
 passes_all tests row = list_all (passes row) tests

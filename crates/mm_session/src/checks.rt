@@ -80,7 +80,7 @@ fn is_long(value: &Value) -> bool
     ensures { result ≡ is_long_so value.now }
 {
     match value {
-        Value::Int(_) => false,
+        Value::Null | Value::Int(_) => false,
         Value::Text(text) => text.as_bytes().len() > LONGEST_TEXT,
     }
 }

@@ -2,7 +2,7 @@
 
 ghost use Rattle.std.specs.Prelude.{◌≡◌, true, length, IfOk, MatchOption};
 ghost use Rattle.std.specs.List.{filter};
-ghost use Rattle.plain_tables.specs.Queries.{stands as stands_so};
+ghost use Rattle.plain_tables.specs.Queries.{are_ordered as are_ordered_so, stands_to_null as stands_to_null_so, stands as stands_so};
 ghost use Rattle.plain_tables.specs.Effects.{misses, condition_names};
 ghost use Rattle.mm_session.specs.Resolved.{own_columns, AreTestsOf, places_from};
 ghost use Rattle.mm_session.specs.Resolved.{passes as passes_so, passes_all as passes_all_so};
@@ -44,9 +44,9 @@ pub fn resolve_conditions<'a>(
     Ok(Some(tests))
 }
 
-// Whether values stand so to one another.
-fn stands(op: Op, ordering: Ordering) -> bool
-    ensures { result ≡ stands_so op ordering }
+// Whether values that compare so are ordered as the operator says.
+fn are_ordered(op: Op, ordering: Ordering) -> bool
+    ensures { result ≡ are_ordered_so op ordering }
 {
     match op {
         Op::Eq => ordering.is_eq(),
@@ -58,11 +58,33 @@ fn stands(op: Op, ordering: Ordering) -> bool
     }
 }
 
+// Whether a value stands to null as the operator says.
+fn stands_to_null(op: Op, value: &Value) -> bool
+    ensures { result ≡ stands_to_null_so op value.now }
+{
+    match op {
+        Op::Eq => matches!(value, Value::Null),
+        Op::Ne => !matches!(value, Value::Null),
+        Op::Lt | Op::Le | Op::Gt | Op::Ge => false,
+    }
+}
+
+// Whether a value stands so to the value of a condition.
+fn stands(op: Op, value: &Value, asked: &Value) -> bool
+    ensures { result ≡ stands_so op value.now asked.now }
+{
+    match (value, asked) {
+        (_, Value::Null) => stands_to_null(op, value),
+        (Value::Null, _) => false,
+        _ => are_ordered(op, value.cmp(asked)),
+    }
+}
+
 fn passes(test: &Test, row: &[Value]) -> bool
     ensures { result ≡ passes_so row.now test.now }
 {
     match row.get(test.place) {
-        Some(value) => stands(test.op, value.cmp(test.value)),
+        Some(value) => stands(test.op, value, test.value),
         None => false,
     }
 }

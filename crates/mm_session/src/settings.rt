@@ -39,6 +39,7 @@ fn copy_of(alloc: Global, value: &Value) -> Result<Value, NoMemory>
     ensures { IfOk result (λ copy. copy ≡ value.now) }
 {
     match value {
+        Value::Null => Ok(Value::Null),
         Value::Int(z) => Ok(Value::Int(*z)),
         Value::Text(text) => Ok(Value::Text(Text::from_str(alloc, text.as_str())?)),
     }

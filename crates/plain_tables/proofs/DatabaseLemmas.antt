@@ -67,6 +67,7 @@ declarable : (k : ColKind) → IsSpellableKind k → IsDeclarable k
 declarable kind.Int h = tt
 declarable kind.Text h = tt
 declarable (kind.Ref table) h = h
+declarable (kind.RefOrNull table) h = h
 
 new_table_well_formed : (limits : Limits) (name : List ℕ) (schema : Schema) → IsName name → 0 < length schema.columns
     → AllByRecursion IsSpellableColumn schema.columns → repeats bytes_eq (column_names schema.columns) ≡ false → length schema.columns ≤ 16

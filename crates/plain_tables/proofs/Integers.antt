@@ -5,7 +5,7 @@ use Rattle.std.specs.Char.{digit_value}
 use Rattle.std.specs.Str.Parse.{IsNumeral, digits_value}
 use Rattle.plain_tables.specs.Spelling.{IsInteger, IsSymbol, Literal}
 use Rattle.plain_tables.specs.declared.value.Value.{Value}
-use Rattle.plain_tables.specs.declared.value.Value.TheVariants.{Int, Text}
+use Rattle.plain_tables.specs.declared.value.Value.TheVariants.{Null, Int, Text}
 use Rattle.plain_tables.proofs.Texts.{text_literal-one}
 
 -- no digit is a minus
@@ -35,6 +35,8 @@ integer-no_text c characters z e is = elim (integer-first c characters z is) [
 ]
 
 pub Literal-only : (characters : List ℕ) (v w : Value) → IsSymbol characters (Literal v) → IsSymbol characters (Literal w) → w ≡ v
+Literal-only characters Null w is is' = elim is [ ]
+Literal-only characters v Null is is' = elim is' [ ]
 Literal-only characters (Int y) (Int z) is is' = ap Int (IsInteger-only characters y z is is')
 Literal-only characters (Int y) (Text t) is is' = absurd (integer-no_text 39 _ y refl (rw is' at is))
 Literal-only characters (Text s) (Int z) is is' = absurd (integer-no_text 39 _ z refl (rw is at is'))

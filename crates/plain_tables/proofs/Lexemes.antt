@@ -114,6 +114,7 @@ abbrev pub IsWordOrNumber : Symbol → Type 0
 IsWordOrNumber (Keyword word) = Unit {0}
 IsWordOrNumber (Name name) = Unit {0}
 IsWordOrNumber (Kind kind) = Unit {0}
+IsWordOrNumber (Literal value.Null) = Unit {0}
 IsWordOrNumber (Literal (value.Int z)) = Unit {0}
 IsWordOrNumber (Literal (value.Text text)) = ⊥
 IsWordOrNumber (Sign mark) = ⊥
@@ -127,6 +128,8 @@ symbol-run characters (Name name) plain well is =
 symbol-run characters (Kind kind.Int) plain well is = rw is (word-run (codes "int") refl)
 symbol-run characters (Kind kind.Text) plain well is = rw is (word-run (codes "text") refl)
 symbol-run characters (Kind (kind.Ref table)) plain well is = elim is [ ]
+symbol-run characters (Kind (kind.RefOrNull table)) plain well is = elim is [ ]
+symbol-run characters (Literal value.Null) plain well is = elim is [ ]
 symbol-run characters (Literal (value.Int z)) plain well is = integer-run characters z is
 symbol-run characters (Literal (value.Text text)) plain well is = elim plain [ ]
 symbol-run characters (Sign mark) plain well is = elim plain [ ]
@@ -150,6 +153,7 @@ symbol-shape : (characters : List ℕ) (symbol : Symbol) → IsWellFormed symbol
 symbol-shape characters (Keyword word) well is = inl (symbol-run characters (Keyword word) tt well is, λ c. refl)
 symbol-shape characters (Name name) well is = inl (symbol-run characters (Name name) tt well is, λ c. refl)
 symbol-shape characters (Kind k) well is = inl (symbol-run characters (Kind k) tt well is, λ c. refl)
+symbol-shape characters (Literal value.Null) well is = elim is [ ]
 symbol-shape characters (Literal (value.Int z)) well is = inl (symbol-run characters (Literal (value.Int z)) tt well is, λ c. refl)
 symbol-shape characters (Literal (value.Text text)) well is = inr (inl (text, is, λ c. refl))
 symbol-shape characters (Sign mark) well is = inr (inr (mark, is, λ c. refl))

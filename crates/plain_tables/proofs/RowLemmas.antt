@@ -81,17 +81,14 @@ All-with_row P row rows h all =
 
 -- ---- the values of a row
 
-fits_kind : (k : ColKind) (v : Value) → is_of_kind v k ≡ true → is_long v ≡ false → IsSpellableValue v → IsOfKind k v
-fits_kind kind.Int (value.Int z) same short h = h
-fits_kind kind.Int (value.Text text) same short h = cc
-fits_kind kind.Text (value.Int z) same short h = cc
-fits_kind kind.Text (value.Text text) same short h = ltb-false 1024 (length text) short
-fits_kind (kind.Ref table) (value.Int z) same short h = cc
-fits_kind (kind.Ref table) (value.Text text) same short h = cc
+fits_kind : (v : Value) (k : ColKind) → is_of_kind v k ≡ true → is_long v ≡ false → IsSpellableValue v → IsOfKind k v
+fits_kind (value.Int z) kind.Int same short h = h
+fits_kind (value.Text text) kind.Text same short h = ltb-false 1024 (length text) short
+fits_kind v k same short h = absurd (cc)
 
 -- a value that isn't of another kind, and isn't long, is of its column's kind
 pub value_fits : (k : ColKind) (v : Value) → not (is_of_kind v k) ≡ false → is_long v ≡ false → IsSpellableValue v → IsOfKind k v
-value_fits k v same short h = fits_kind k v (not-false (is_of_kind v k) same) short h
+value_fits k v same short h = fits_kind v k (not-false (is_of_kind v k) same) short h
 
 -- as many values as columns, none of them of another kind or long
 pub fits_columns : (columns : List Column) (row : Row) → length row ≡ length columns → has_mistake columns row ≡ false

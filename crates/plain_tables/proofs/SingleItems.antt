@@ -23,6 +23,7 @@ pub kind-only : (characters : List ℕ) (k : ColKind) → IsSymbol characters (K
 kind-only characters kind.Int is = inl (is, refl)
 kind-only characters kind.Text is = inr (is, refl)
 kind-only characters (kind.Ref t) is = elim is [ ]
+kind-only characters (kind.RefOrNull t) is = elim is [ ]
 
 pub kind-one : (characters : List ℕ) (j k : ColKind) → IsSymbol characters (Kind j) → IsSymbol characters (Kind k) → j ≡ k
 kind-one characters kind.Int kind.Int is is' = refl
@@ -30,7 +31,9 @@ kind-one characters kind.Text kind.Text is is' = refl
 kind-one characters kind.Int kind.Text is is' = absurd (different (codes "int") (codes "text") refl (sym is ∙ is'))
 kind-one characters kind.Text kind.Int is is' = absurd (different (codes "text") (codes "int") refl (sym is ∙ is'))
 kind-one characters (kind.Ref t) k is is' = elim is [ ]
+kind-one characters (kind.RefOrNull t) k is is' = elim is [ ]
 kind-one characters j (kind.Ref t) is is' = elim is' [ ]
+kind-one characters j (kind.RefOrNull t) is is' = elim is' [ ]
 
 pub operator-one : (o p : Op) → operator_text o ≡ operator_text p → o ≡ p
 operator-one op.Eq op.Eq e = refl

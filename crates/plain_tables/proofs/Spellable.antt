@@ -38,11 +38,13 @@ kind-each : (k : ColKind) → HasCharacters (Kind k) → IsSpellableKind k
 kind-each kind.Int has = tt
 kind-each kind.Text has = tt
 kind-each (kind.Ref t) has = has.1
+kind-each (kind.RefOrNull t) has = has.1
 
 column-each : (column : Column) → HaveCharacters (column_symbols column) → IsSpellableColumn column
 column-each column all = (all.0.1.1, kind-each column.kind all.1.0)
 
 literal-each : (v : Value) → HasCharacters (Literal v) → IsSpellableValue v
+literal-each value.Null has = has.1
 literal-each (value.Int z) has = has.1.0
 literal-each (value.Text text) has = literal-feed text (subst HasNoFeed has.1 has.2)
 

@@ -1,13 +1,18 @@
 -- Values that compare alike are one.
-use Rattle.std.proofs.Common.{◌≡◌, ◌↔◌, ap, subst}
+use Rattle.std.proofs.Common.{◌≡◌, ◌↔◌, refl, ap, subst}
 use Rattle.std.specs.FinSet.{int_cmp-IsAntisymmetric, nat_cmp-IsAntisymmetric, slice_cmp-IsAntisymmetric}
 use Rattle.std.specs.declared.cmp.Ordering.TheVariants.{Equal}
 use Rattle.std.proofs.lemmas.Cmp.{tied_itself}
 use Rattle.plain_tables.specs.Values.{value_cmp, value_cmp_total}
 use Rattle.plain_tables.specs.declared.value.Value.{Value}
-use Rattle.plain_tables.specs.declared.value.Value.TheVariants.{Int, Text}
+use Rattle.plain_tables.specs.declared.value.Value.TheVariants.{Null, Int, Text}
 
 same_from_tied : (x y : Value) → value_cmp x y ≡ Equal → x ≡ y
+same_from_tied Null Null p = refl
+same_from_tied Null (Int b) p = cc
+same_from_tied Null (Text t) p = cc
+same_from_tied (Int a) Null p = cc
+same_from_tied (Text s) Null p = cc
 same_from_tied (Int a) (Int b) p = ap Int (int_cmp-IsAntisymmetric a b p)
 same_from_tied (Int a) (Text t) p = cc
 same_from_tied (Text s) (Int b) p = cc

@@ -18,8 +18,8 @@ use Rattle.plain_tables.proofs.LineFeeds.{HasNoFeed, contains-feed, passing-no_f
 
 -- ---- symbols that can be spelled
 
--- A keyword is a word, a name is one, a kind is that of integers or of texts, an integer has 64 bits, and a text has no
--- line feed.
+-- A keyword is a word, a name is one, a kind is that of integers or of texts, an integer has 64 bits, a text has no line
+-- feed, and no value is null.
 abbrev pub IsSpellableSymbol : Symbol → Type 0
 IsSpellableSymbol (Keyword word) = IsTrue (is_word word)
 IsSpellableSymbol (Name name) = IsName name
@@ -106,6 +106,7 @@ symbol-no_feed characters (Sign mark) can is = rw is (mark-no_feed mark)
 symbol-no_feed characters (Keyword word) can is = run-no_feed characters (symbol-run characters (Keyword word) tt can is)
 symbol-no_feed characters (Name name) can is = run-no_feed characters (symbol-run characters (Name name) tt tt is)
 symbol-no_feed characters (Kind k) can is = run-no_feed characters (symbol-run characters (Kind k) tt tt is)
+symbol-no_feed characters (Literal value.Null) can is = elim can [ ]
 symbol-no_feed characters (Literal (value.Int z)) can is = run-no_feed characters (symbol-run characters (Literal (value.Int z)) tt tt is)
 symbol-no_feed characters (Literal (value.Text text)) can is = rw is (literal-no_feed text can)
 

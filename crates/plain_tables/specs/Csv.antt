@@ -4,7 +4,7 @@ use Rattle.std.specs.List.{flat_map, list_any}
 use Rattle.std.specs.Fmt.{signed_decimal}
 use Rattle.plain_tables.specs.Tables.{Row}
 use Rattle.plain_tables.specs.declared.value.Value.{Value}
-use Rattle.plain_tables.specs.declared.value.Value.TheVariants.{Int, Text}
+use Rattle.plain_tables.specs.declared.value.Value.TheVariants.{Null, Int, Text}
 
 -- a comma, a quote mark, a carriage return or a line feed
 abbrev pub calls_for_quotes : ℕ → Bool
@@ -36,8 +36,9 @@ abbrev pub record_text : List (List ℕ) → List ℕ
 record_text ([] ∷ []) = 34 ∷ 34 ∷ 10 ∷ []
 record_text fields = joined fields ++ 10 ∷ []
 
--- an integer is written in decimal digits, a text as it is
+-- a null is written as nothing, an integer in decimal digits, a text as it is
 abbrev pub value_field : Value → List ℕ
+value_field Null = []
 value_field (Int z) = signed_decimal z
 value_field (Text text) = text
 

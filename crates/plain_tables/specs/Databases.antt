@@ -36,14 +36,14 @@ abbrev pub IsDeclarable : ColKind → Type 0
 IsDeclarable kind.Int = Unit {0}
 IsDeclarable kind.Text = Unit {0}
 IsDeclarable (kind.Ref table) = ⊥
+IsDeclarable (kind.RefOrNull table) = ⊥
 
--- An integer column holds integers of 64 bits, a text column texts of at most 1,024 bytes, a reference column nothing.
+-- An integer column holds integers of 64 bits, a text column texts of at most 1,024 bytes, a reference column nothing. No
+-- column holds a null.
 abbrev pub IsOfKind : ColKind → Value → Type 0
 IsOfKind kind.Int (value.Int z) = FitsSigned w64 z
-IsOfKind kind.Int (value.Text text) = ⊥
-IsOfKind kind.Text (value.Int z) = ⊥
 IsOfKind kind.Text (value.Text text) = length text ≤ 1024
-IsOfKind (kind.Ref table) v = ⊥
+IsOfKind k v = ⊥
 
 -- a row has one value for each column, of its kind
 abbrev pub FitsColumns : List Column → Row → Type 0

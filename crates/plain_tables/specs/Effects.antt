@@ -70,7 +70,7 @@ column_names columns = map (λ c. c.name) columns
 abbrev pub misses : List JoinedColumn → List ColName → Bool
 misses columns names = list_any (λ name. not (fits_one columns name)) names
 
--- whether a value is an integer and the kind that of integers, or a text and the kind that of texts
+-- whether a value is an integer and the kind that of integers, or a text and the kind that of texts; a null is of no kind
 abbrev pub is_of_kind : Value → ColKind → Bool
 is_of_kind (value.Int z) kind.Int = true
 is_of_kind (value.Text text) kind.Text = true
@@ -90,6 +90,7 @@ has_mistake (column ∷ columns) (v ∷ row) = not (is_of_kind v column.kind) ||
 
 -- whether a text is past 1,024 bytes
 abbrev pub is_long : Value → Bool
+is_long value.Null = false
 is_long (value.Int z) = false
 is_long (value.Text text) = nat_lt 1024 (length text)
 

@@ -3,6 +3,7 @@ pub mod Csv
 pub mod Databases
 pub mod Division
 pub mod Effects
+pub mod Hashes
 pub mod Names
 pub mod Queries
 pub mod QueryLaws

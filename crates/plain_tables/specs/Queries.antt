@@ -8,7 +8,7 @@ use Rattle.std.specs.Option.{option_map, option_map_or}
 use Rattle.std.specs.Str.{bytes_eq}
 use Rattle.std.specs.Ordering.{is_eq, is_lt, is_le, is_gt, is_ge}
 use Rattle.std.specs.declared.cmp.Ordering.{Ordering}
-use Rattle.plain_tables.specs.Values.{value_cmp}
+use Rattle.plain_tables.specs.Values.{is_null, value_cmp}
 use Rattle.plain_tables.specs.Tables.{Table, Row}
 use Rattle.plain_tables.specs.declared.value.Value.{Value}
 use Rattle.plain_tables.specs.declared.value.Value.TheVariants as value
@@ -66,20 +66,32 @@ value_at row place = slice_index_or row place (value.Int (pos 0))
 
 -- ---- conditions
 
--- whether two values that compare so stand to each other as the operator says
-abbrev pub stands : Op → Ordering → Bool
-stands op.Eq o = is_eq o
-stands op.Ne o = not (is_eq o)
-stands op.Lt o = is_lt o
-stands op.Le o = is_le o
-stands op.Gt o = is_gt o
-stands op.Ge o = is_ge o
+-- whether two values that compare so are ordered as the operator says
+abbrev pub are_ordered : Op → Ordering → Bool
+are_ordered op.Eq o = is_eq o
+are_ordered op.Ne o = not (is_eq o)
+are_ordered op.Lt o = is_lt o
+are_ordered op.Le o = is_le o
+are_ordered op.Gt o = is_gt o
+are_ordered op.Ge o = is_ge o
+
+-- Whether a value stands to null as the operator says: a null by =, any other value by <>, and none by another operator.
+abbrev pub stands_to_null : Op → Value → Bool
+stands_to_null op.Eq v = is_null v
+stands_to_null op.Ne v = not (is_null v)
+stands_to_null operator v = false
+
+-- Whether a value stands to the value of a condition as the operator says. A null stands to no value but null.
+abbrev pub stands : Op → Value → Value → Bool
+stands operator v value.Null = stands_to_null operator v
+stands operator value.Null w = false
+stands operator v w = are_ordered operator (value_cmp v w)
 
 -- Condition: the row's value in the column stands to the value of the condition as the operator says. If the name means no
 -- column, no row meets it.
 abbrev pub meets : List JoinedColumn → Row → Cond → Bool
 meets columns row condition =
-    option_map_or (λ place. stands condition.op (value_cmp (value_at row place) condition.value))
+    option_map_or (λ place. stands condition.op (value_at row place) condition.value)
     (place_meant columns condition.column) false
 
 -- whether a row meets every condition

@@ -36,7 +36,7 @@ pub data Mark : Type 0 where
   Star : Mark
   Operator : Op → Mark
 
--- A symbol is a keyword, a name, the word for a kind of column, an integer or a text, or a sign.
+-- A symbol is a keyword, a name, the word for a kind of column, a value, or a sign.
 pub data Symbol : Type 0 where
   Keyword : List ℕ → Symbol
   Name : List ℕ → Symbol
@@ -137,13 +137,15 @@ mark_text Dot = codes "."
 mark_text Star = codes "*"
 mark_text (Operator operator) = operator_text operator
 
--- These characters are this symbol. There are columns of integers and of texts alone.
+-- These characters are this symbol. There are columns of integers and of texts alone, and null is spelled by nothing.
 abbrev pub IsSymbol : List ℕ → Symbol → Type 0
 IsSymbol characters (Keyword word) = characters ≡ word
 IsSymbol characters (Name name) = (characters ≡ name) × IsName name
 IsSymbol characters (Kind kind.Int) = characters ≡ codes "int"
 IsSymbol characters (Kind kind.Text) = characters ≡ codes "text"
 IsSymbol characters (Kind (kind.Ref table)) = ⊥
+IsSymbol characters (Kind (kind.RefOrNull table)) = ⊥
+IsSymbol characters (Literal value.Null) = ⊥
 IsSymbol characters (Literal (value.Int z)) = IsInteger characters z
 IsSymbol characters (Literal (value.Text text)) = characters ≡ text_literal text
 IsSymbol characters (Sign mark) = characters ≡ mark_text mark
@@ -154,6 +156,7 @@ abbrev pub goes_on_with : Symbol → ℕ → Bool
 goes_on_with (Keyword word) c = is_word_character c
 goes_on_with (Name name) c = is_word_character c
 goes_on_with (Kind k) c = is_word_character c
+goes_on_with (Literal value.Null) c = is_word_character c
 goes_on_with (Literal (value.Int z)) c = is_word_character c
 goes_on_with (Literal (value.Text text)) c = c == 39
 goes_on_with (Sign (Operator op.Lt)) c = (c == 61) || (c == 62)
@@ -204,13 +207,15 @@ abbrev pub IsSpellableKind : ColKind → Type 0
 IsSpellableKind kind.Int = Unit {0}
 IsSpellableKind kind.Text = Unit {0}
 IsSpellableKind (kind.Ref table) = ⊥
+IsSpellableKind (kind.RefOrNull table) = ⊥
 
 -- a name, and a kind that can be spelled
 abbrev pub IsSpellableColumn : Column → Type 0
 IsSpellableColumn column = IsName column.name × IsSpellableKind column.kind
 
--- an integer of 64 bits, or a text with no line feed
+-- an integer of 64 bits, or a text with no line feed; not null
 abbrev pub IsSpellableValue : Value → Type 0
+IsSpellableValue value.Null = ⊥
 IsSpellableValue (value.Int z) = FitsSigned w64 z
 IsSpellableValue (value.Text text) = ¬ (Contains text 10)
 
@@ -232,7 +237,7 @@ AreSpellableItems items.All = Unit {0}
 AreSpellableItems (items.Named names) = (0 < length names) × AllByRecursion IsSpellableName names
 
 -- A command can be spelled where its names are names, its lists but that of the conditions aren't empty, its columns
--- are of integers or texts, its integers have 64 bits, and no text of it holds a line feed.
+-- are of integers or texts, its integers have 64 bits, no text of it holds a line feed, and no value of it is null.
 abbrev pub IsSpellable : Command → Type 0
 IsSpellable (Table name schema) =
     IsName name × (0 < length schema.columns) × AllByRecursion IsSpellableColumn schema.columns
@@ -249,12 +254,14 @@ abbrev pub kind_text : ColKind → List ℕ
 kind_text kind.Int = codes "int"
 kind_text kind.Text = codes "text"
 kind_text (kind.Ref table) = codes "ref " ++ table
+kind_text (kind.RefOrNull table) = codes "ref " ++ table ++ codes " null"
 
 -- The characters of a symbol in the canonical spelling. Numbers have no zeros in front, and 0 has no sign.
 abbrev pub symbol_text : Symbol → List ℕ
 symbol_text (Keyword word) = word
 symbol_text (Name name) = name
 symbol_text (Kind k) = kind_text k
+symbol_text (Literal value.Null) = codes "null"
 symbol_text (Literal (value.Int z)) = signed_decimal z
 symbol_text (Literal (value.Text text)) = text_literal text
 symbol_text (Sign mark) = mark_text mark

@@ -6,6 +6,7 @@ ghost use Rattle.std.specs.declared.cmp.Ordering.TheVariants.{Equal};
 ghost use Rattle.plain_tables.specs.declared.value.Value.{Value};
 ghost use Rattle.plain_tables.specs.declared.command.Limits.{Limits};
 ghost use Rattle.plain_tables.specs.Values.{value_cmp};
+ghost use Rattle.plain_tables.specs.Hashes.{hash_of};
 ghost use Rattle.plain_tables.specs.Databases.{Database, IsWellFormed};
 ghost use Rattle.plain_tables.specs.Division.{EveryStreamDivides, LinesStayFirst, DividesInOneWay};
 ghost use Rattle.plain_tables.specs.Runs.{Answers, RunsStayWellFormed};
@@ -14,6 +15,11 @@ ghost use Rattle.plain_tables.specs.Runs.{Answers, RunsStayWellFormed};
 pub fn values_are_ordered()
     ensures total { IsTotalOrder value_cmp }
     ensures exact { (x y : Value) → (value_cmp x y ≡ Equal) ↔ (x ≡ y) }
+{}
+
+/// Equal values have equal hashes.
+pub fn equal_values_hash_alike()
+    ensures { (x y : Value) → value_cmp x y ≡ Equal → hash_of x ≡ hash_of y }
 {}
 
 /// Every stream of bytes is lines, each ended by its line feed, and then a rest.

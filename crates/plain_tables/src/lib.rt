@@ -9,12 +9,13 @@
 //!
 //! - A text or a name is seen as its bytes (`Text`), a list as its items (`Sequence`); so a definition takes the very
 //!   command that a parser gives.
-//! - The order of values is total, and values that compare alike are one.
+//! - The order of values is total, and values that compare alike are one; equal values have equal hashes.
 //! - A refusal has one number, one text, and a record's number where it comes out of a block.
 #![tactic(auto)]
 
 mod command;
 mod condition;
+mod hash;
 pub mod laws;
 pub mod query_laws;
 mod refusal;
@@ -26,6 +27,7 @@ mod value;
 
 pub use command::{Command, Items, Limits, Setting};
 pub use condition::{ColName, Cond, Op};
+pub use hash::hash_of;
 pub use no_memory::NoMemory;
 pub use refusal::Refusal;
 pub use schema::{BaseKind, ColKind, Column, IndexKind, Schema};

@@ -2,12 +2,13 @@
 
 use crate::{Sequence, Text};
 
-/// What a column holds: integers, texts, or references to rows of the table named.
+/// What a column holds: integers, texts, references to rows of the table named, or such references and nulls.
 #[derive(Debug, Drop)]
 pub enum ColKind {
     Int,
     Text,
     Ref(Text),
+    RefOrNull(Text),
 }
 
 /// A column of a table. A table's first column is its key.
@@ -23,7 +24,7 @@ pub struct Schema {
     pub columns: Sequence<Column>,
 }
 
-/// The type of a column's values. Those of a reference column are keys, and so of one of these too.
+/// The type of a column's values that aren't null. Those of a reference column are keys, and so of one of these too.
 #[derive(Clone, Copy, Debug, PartialEq, Eq)]
 pub enum BaseKind {
     Int,

@@ -3,10 +3,11 @@
 use crate::Text;
 use std::cmp::Ordering;
 
-/// An integer or a text. Integers stand before texts; integers are ordered by size, texts by their
-/// bytes. The value in a reference column is the key of the row that it names.
+/// Null, an integer or a text. Null stands before integers, and integers before texts; integers are ordered
+/// by size, texts by their bytes. The value in a reference column is the key of the row that it names, or null.
 #[derive(Debug, Drop)]
 pub enum Value {
+    Null,
     Int(i64),
     Text(Text),
 }
@@ -66,6 +67,9 @@ impl Ord for Value {
             (Value::Int(_), Value::Text(_)) => Ordering::Less,
             (Value::Text(_), Value::Int(_)) => Ordering::Greater,
             (Value::Text(s), Value::Text(t)) => s.cmp(t),
+            (Value::Null, Value::Null) => Ordering::Equal,
+            (Value::Null, _) => Ordering::Less,
+            (_, Value::Null) => Ordering::Greater,
         }
     }
 }

@@ -1,0 +1,33 @@
+//! Hashes of values.
+
+use plain_tables::{Text, Value, hash_of};
+use std::test::Fail;
+
+// Integers, and the FNV-1a hashes of 64 bits of the byte 0 and their eight bytes, as a program in another language has them.
+const INTEGERS: [(i64, u64); 4] = [
+    (1, 16574514615351781388),
+    (-1, 8811690462992864311),
+    (0x0001_0203_0405_0607, 2440841100319050223),
+    (i64::MIN, 7539304728655239487),
+];
+
+// Texts, and those of the byte 1 and their bytes.
+const TEXTS: [(&str, u64); 4] = [
+    ("", 12638152016183539244),
+    ("a", 589763776587810007),
+    ("é", 15220724286103435740),
+    ("foobar", 4699563385904585153),
+];
+
+#[test]
+fn hashes_are_those_of_fnv_1a(rt: HostRuntime) -> Result<(), Fail> {
+    assert_eq!(rt; hash_of(&Value::Null), 12638155314718423877);
+    for (number, hash) in INTEGERS {
+        assert_eq!(rt; hash_of(&Value::Int(number)), hash);
+    }
+    for (word, hash) in TEXTS {
+        let value = Value::Text(Text::from_str(rt.alloc(), word)?);
+        assert_eq!(rt; hash_of(&value), hash);
+    }
+    Ok(())
+}
