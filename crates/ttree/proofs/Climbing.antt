@@ -1,11 +1,12 @@
 -- From a place that is mended to the one above it.
 use Rattle.std.proofs.Common.{◌≡◌, ℕ, ◌+◌, ◌≤◌, ◌⊎◌, ◌∙◌, length, true, false, List, [], ◌∷◌, arith, inl, inr, sym, ap, subst}
-use Rattle.ttree_node.specs.Tree.{Tree, empty, node, Frame, went_left, went_right, Label, Zipper, at, plug, whole, height, is_root, has_left, has_right, items_of, up}
+use Rattle.ttree_node.specs.Tree.{Tree, empty, node, Frame, went_left, went_right, Label, Zipper, at, plug, whole, height, stated, is_root, has_left, has_right, items_of, up}
 use Rattle.ttree.specs.Shape.{IsFit, IsTTree}
 use Rattle.ttree.specs.Mending.{IsMendable, StandsFor, IsMendableTree, CanRise, height_of}
 use Rattle.ttree.specs.Rising.{IsMendableHere, IsMendedTo, StandsMended, HasRisen, IsNearTree}
 use Rattle.ttree.proofs.EachNode.{each_here}
-use Rattle.ttree.proofs.Fitness.{in_numbers, high_node, no_node_low}
+use Rattle.ttree.proofs.Fitness.{in_numbers, high_node, no_node_low, stated-height}
+use Rattle.ttree.proofs.Replacing.{fit-replaced}
 use Rattle.std.proofs.lemmas.Bool.{cases_lt}
 
 module _ {I : Type 0} (least most : ℕ) where
@@ -49,8 +50,8 @@ module _ {I : Type 0} (least most : ℕ) where
         }
       ]
 
-  pub has-risen : (z : Zipper (Label I)) (u : Tree (Label I)) → (k : CanRise least most z) → IsMendedTo least most z.here u → HasRisen least most (at z.above u)
-  has-risen z u k m = record { was = k.was; was_fit = k.was_fit; here = mended k.was z.here u k.here m }
+  pub has-risen : (before : ℕ) (z : Zipper (Label I)) (u : Tree (Label I)) → (k : CanRise least most z) → before ≡ stated z.here → IsMendedTo least most z.here u → HasRisen least most before (at z.above u)
+  has-risen before z u k e m = record { was = k.was; was_fit = k.was_fit; was_high = e ∙ k.stated; here = mended k.was z.here u k.here m }
 
   joined_left : (was t : Tree (Label I)) (x : Label I) (r : Tree (Label I)) → IsTTree least most (node was x r) → StandsMended least most was t → IsMendable least most t x r × StandsFor (node was x r) t x r
   joined_left was t x r (_, f, rf) s =
@@ -110,17 +111,23 @@ module _ {I : Type 0} (least most : ℕ) where
 
   can_rise_at : (c : List (Frame (Label I))) (t : Tree (Label I)) → is_root c ≡ false → (was : Tree (Label I)) → IsTTree least most (plug c was) → StandsMended least most was t → CanRise least most (up (at c t))
   can_rise_at [] t e was f s = cc
-  can_rise_at (went_left x r ∷ c) t e was f s = record { was = node was x r; was_fit = f; here = joined_left was t x r (each_here (IsFit least most) c (node was x r) f) s }
-  can_rise_at (went_right l x ∷ c) t e was f s = record { was = node l x was; was_fit = f; here = joined_right was t x l (each_here (IsFit least most) c (node l x was) f) s }
+  can_rise_at (went_left x r ∷ c) t e was f s = let k = each_here (IsFit least most) c (node was x r) f in record { was = node was x r; was_fit = f; stated = k.1.true_height; here = joined_left was t x r k s }
+  can_rise_at (went_right l x ∷ c) t e was f s = let k = each_here (IsFit least most) c (node l x was) f in record { was = node l x was; was_fit = f; stated = k.1.true_height; here = joined_right was t x l k s }
 
   -- what has risen can rise on
-  pub can-rise : (z : Zipper (Label I)) → is_root z.above ≡ false → HasRisen least most z → CanRise least most (up z)
-  can-rise z e k = can_rise_at z.above z.here e k.was k.was_fit k.here
+  pub can-rise : (before : ℕ) (z : Zipper (Label I)) → is_root z.above ≡ false → HasRisen least most before z → CanRise least most (up z)
+  can-rise before z e k = can_rise_at z.above z.here e k.was k.was_fit k.here
 
   at_root : (c : List (Frame (Label I))) (t : Tree (Label I)) → is_root c ≡ true → IsTTree least most t → IsTTree least most (plug c t)
   at_root [] t e f = f
   at_root (g ∷ c) t e f = cc
 
   -- and at the root the whole tree is a T-tree
-  pub risen-fit : (z : Zipper (Label I)) → is_root z.above ≡ true → HasRisen least most z → IsTTree least most (whole z)
-  risen-fit z e k = at_root z.above z.here e k.here.fit
+  pub risen-fit : (before : ℕ) (z : Zipper (Label I)) → is_root z.above ≡ true → HasRisen least most before z → IsTTree least most (whole z)
+  risen-fit before z e k = at_root z.above z.here e k.here.fit
+
+  -- as it is where the tree is as high as the one that stood here
+  pub risen-same : (before : ℕ) (z : Zipper (Label I)) → stated z.here ≡ before → HasRisen least most before z → IsTTree least most (whole z)
+  risen-same before z e k =
+      let same : height z.here ≡ height k.was = sym (stated-height least most z.here k.here.fit) ∙ e ∙ k.was_high in
+      fit-replaced least most z.above k.was z.here k.was_fit k.here.fit same (λ low. k.here.leaf low (same ∙ low))

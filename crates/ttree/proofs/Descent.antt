@@ -1,5 +1,5 @@
 -- A search goes down a tree.
-use Rattle.std.proofs.Common.{◌≡◌, ℕ, ◌+◌, ◌-◌, ◌<◌, ◌≤◌, List, [], ◌∷◌, ◌++◌, length, refl, sym, ap, subst, ◌∙◌, arith, true, false, Ordering}
+use Rattle.std.proofs.Common.{◌≡◌, ℕ, ◌+◌, ◌-◌, ◌<◌, ◌≤◌, List, [], ◌∷◌, ◌++◌, length, refl, sym, ap, subst, ◌∙◌, arith, inl, inr, true, false, Ordering}
 use Rattle.std.specs.List.{All}
 use Rattle.std.specs.declared.cmp.Ordering.TheVariants.{Less, Greater}
 use Rattle.std.proofs.lemmas.List.{append-nil, take_all, drop_all}
@@ -7,7 +7,8 @@ use Rattle.std.proofs.lemmas.List.Elements.{All-nil}
 use Rattle.mm_index.specs.Range.{NeverFalls}
 use Rattle.ttree_node.specs.Tree.{Tree, empty, node, Frame, Zipper, Label, at, plug, whole, list, items_of, left_of, right_of, has_left, has_right, is_node, is_root, height, down_left, down_right, left_below, right_below, list_until, list_from, list_before, list_after}
 use Rattle.ttree.specs.Shape.{HasItems, HasItemsInEach}
-use Rattle.ttree.specs.Searching.{IsCut, IsGap}
+use Rattle.std.proofs.lemmas.Bool.{cases_lt}
+use Rattle.ttree.specs.Searching.{IsCut, IsGap, IsGapIn}
 use Rattle.ttree.proofs.EachNode.{each_here}
 use Rattle.ttree.proofs.Cuts.{below_cut, above_cut, All-inside, NeverFalls-inside, list_around, front, back}
 
@@ -69,7 +70,7 @@ module _ {I : Type 0} (place : I → Ordering) where
       go_right h l = right_at tree z.above z.here between l (all_below h)
 
       -- or ends at the node
-      pub end_left : All (λ r. place r ≡ Greater) (items_of z.here) → has_left z.here ≡ false → IsGap place z 0
+      end_left : All (λ r. place r ≡ Greater) (items_of z.here) → has_left z.here ≡ false → IsGap place z 0
       end_left h l = record {
         index = omega arith;
         below = subst (λ (xs : List I). All (λ r. place r ≡ Less) xs) (sym (ap (λ xs. list_before z.above ++ (xs ++ [])) (no_left z.here l) ∙ append-nil (list_before z.above))) between.below;
@@ -78,7 +79,7 @@ module _ {I : Type 0} (place : I → Ordering) where
         right_open = λ e. absurd (omega arith);
       }
 
-      pub end_right : All (λ r. place r ≡ Less) (items_of z.here) → has_right z.here ≡ false → IsGap place z (length (items_of z.here))
+      end_right : All (λ r. place r ≡ Less) (items_of z.here) → has_right z.here ≡ false → IsGap place z (length (items_of z.here))
       end_right h l = record {
         index = omega arith;
         below = all_below h;
@@ -88,7 +89,7 @@ module _ {I : Type 0} (place : I → Ordering) where
         right_open = λ e. l;
       }
 
-      pub end_inside : (i : ℕ) → 0 < i → i < length (items_of z.here) → IsCut place (items_of z.here) i i → IsGap place z i
+      end_inside : (i : ℕ) → 0 < i → i < length (items_of z.here) → IsCut place (items_of z.here) i i → IsGap place z i
       end_inside i low high cut =
           let is : i - 1 + 1 ≡ i = omega arith in record {
             index = omega arith;
@@ -97,6 +98,20 @@ module _ {I : Type 0} (place : I → Ordering) where
             left_open = λ e. absurd (omega arith);
             right_open = λ e. absurd (omega arith);
           }
+
+      pub end_here : (i : ℕ) → IsGapIn place (has_left z.here) (has_right z.here) (items_of z.here) i → IsGap place z i
+      end_here i gap =
+          elim (cases_lt 0 i) [
+            | inl before ↦ elim (cases_lt i (length (items_of z.here))) [
+              | inl inside ↦ end_inside i before inside gap.cut
+              | inr past ↦
+                  let e : length (items_of z.here) ≡ i = omega (arith, past, gap.cut.within) in
+                  subst (λ (k : ℕ). IsGap place z k) e (end_right (λ k c l. gap.cut.below k c (omega arith) (omega (arith, e, l))) (gap.right_open (sym e)))
+            ]
+            | inr first ↦
+                let e : 0 ≡ i = omega (arith, first) in
+                subst (λ (k : ℕ). IsGap place z k) e (end_left (λ k c l. gap.cut.above k c (omega (arith, e)) l) (gap.left_open (sym e)))
+          ]
 
   empty_at : (tree : Tree (Label I)) (c : List (Frame (Label I))) (t : Tree (Label I)) → is_node t ≡ false → IsBetween tree (at c t) → IsGap place (at c t) 0
   empty_at tree c empty h b = record {
@@ -113,6 +128,13 @@ module _ {I : Type 0} (place : I → Ordering) where
   end_empty tree z b h = empty_at tree z.above z.here h b
 
 module _ {I : Type 0} where
+  whole_at : (c : List (Frame (Label I))) (t : Tree (Label I)) → is_root c ≡ true → plug c t ≡ t
+  whole_at [] t h = refl
+  whole_at (f ∷ c) t h = cc
+
+  pub root_whole : (z : Zipper (Label I)) → is_root z.above ≡ true → whole z ≡ z.here
+  root_whole z h = whole_at z.above z.here h
+
   -- ---- heights
   pub left_lower : (t : Tree (Label I)) → has_left t ≡ true → height (left_of t) < height t
   left_lower empty h = cc

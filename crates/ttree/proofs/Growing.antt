@@ -31,6 +31,7 @@ module _ {I : Type 0} where
         let f = each_here (IsFit least most) c (node empty x s) fit in record {
           was = node empty x s;
           was_fit = fit;
+          stated = f.1.true_height;
           here = (
             record {
               left_fit = leaf_fit least most r some;
@@ -60,6 +61,7 @@ module _ {I : Type 0} where
         let f = each_here (IsFit least most) c (node s x empty) fit in record {
           was = node s x empty;
           was_fit = fit;
+          stated = f.1.true_height;
           here = (
             record {
               left_fit = f.0;

@@ -15,9 +15,6 @@ module _ {I : Type 0} (least most : ℕ) where
       (omega (arith, a.0, a.1, b.0, b.1, n, whole_length), omega (arith, a.1, b.1, n, whole_length))
 
   -- so each height fits 32 bits where there are at most 2^32 items
-  pub fit-height-short : (t : Tree (Label I)) → IsTTree least most t → length (list t) ≤ 2 ^ 32 → height t < 4294967295
-  fit-height-short t f short = let a = height-short t f in omega (arith, a.0, short)
-
   mendable_low : (t : Tree (Label I)) → IsMendableHere least most t → length (list t) ≤ 2 ^ 32 → height t < 4294967295
   mendable_low empty k short = absurd k
   mendable_low (node l x r) k short =

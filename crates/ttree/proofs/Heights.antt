@@ -3,7 +3,7 @@ use Rattle.std.proofs.Common.{◌≡◌, ℕ, zero, suc, ◌+◌, ◌<◌, ◌�
 use Rattle.std.proofs.lemmas.List.{length-append}
 use Rattle.std.proofs.lemmas.Bool.{cases_lt}
 use Rattle.ttree_node.specs.Tree.{Tree, empty, node, Label, list, size, height, stated, left_of, right_of, is_node}
-use Rattle.ttree.specs.Shape.{fib, IsNear, HasTrueHeight, IsOccupied, IsFit, IsTTree, IsBalanced, HasTrueHeights, HasItemsInEach, IsOccupiedThroughout}
+use Rattle.ttree.specs.Shape.{fib, IsNear, HasTrueHeight, IsOccupied, IsFit, IsTTree, IsBalanced, HasTrueHeights, HasItems, HasItemsInEach, IsOccupiedThroughout}
 use Rattle.ttree.proofs.EachNode.{each_map}
 use Rattle.ttree.proofs.Fitness.{stated-height}
 
@@ -58,7 +58,7 @@ higher_right h k a b l r p q =
 
 module _ {I : Type 0} where
   -- a balanced tree without empty nodes holds at least so many items
-  pub height_bound : (most : ℕ) (t : Tree (Label I)) → IsBalanced t → HasItemsInEach most t → fib (height t + 2) ≤ 1 + length (list t)
+  height_bound : (most : ℕ) (t : Tree (Label I)) → IsBalanced t → HasItemsInEach most t → fib (height t + 2) ≤ 1 + length (list t)
   height_bound most empty b h = omega (arith, fib-two)
   height_bound most (node l x r) b h =
       let p = height_bound most l b.0 h.0 in
@@ -86,6 +86,10 @@ module _ {I : Type 0} where
 
     pub occupied : (t : Tree (Label I)) → IsTTree least most t → IsOccupiedThroughout least t
     occupied t h = each_map (IsFit least most) (IsOccupied least) (λ l x r k. k.occupied) t h
+
+    -- so its list bounds its height
+    pub list_bound : (t : Tree (Label I)) → IsTTree least most t → fib (height t + 2) ≤ 1 + length (list t)
+    list_bound t h = height_bound most t (balanced t h) (each_map (IsFit least most) (HasItems most) (λ l x r k. k.items) t h)
 
     -- the height is told by the stated heights of the children
     pub height_told : (t : Tree (Label I)) → IsTTree least most t → is_node t ≡ true → height t ≡ 1 + max (stated (left_of t)) (stated (right_of t))

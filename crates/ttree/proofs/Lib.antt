@@ -15,6 +15,7 @@ pub mod Heights
 pub mod Leaning
 pub mod Losing
 pub mod Narrowing
+pub mod Occupancy
 pub mod Ordered
 pub mod Places
 pub mod Puts

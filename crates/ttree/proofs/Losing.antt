@@ -6,6 +6,7 @@ use Rattle.ttree.specs.Mending.{CanRise, IsMendableTree}
 use Rattle.ttree.specs.Removing.{HasLost, HasLostBelow}
 use Rattle.ttree.proofs.Fitness.{high_node, node_high, no_node_low, in_numbers, some_items}
 use Rattle.ttree.proofs.EachNode.{each_here}
+use Rattle.ttree.proofs.Places.{size-plug_one}
 use Rattle.ttree.proofs.Replacing.{fit-new_items, kept-internal, size_merged}
 use Rattle.ttree_node.specs.Laws.{list-plug}
 use Rattle.ttree_node.specs.Seen.{child, merged}
@@ -206,8 +207,8 @@ module _ {I : Type 0} (least most : ℕ) where
 
   dropped_at : (c : List (Frame (Label I))) (was : Tree (Label I)) → 1 ≤ least → IsTTree least most (plug c was) → height was ≡ 1 → is_node (up (at c empty)).here ≡ true → CanRise least most (up (at c empty))
   dropped_at [] was some f leaf e = cc
-  dropped_at (went_left x r ∷ c) was some f leaf e = record { was = node was x r; was_fit = f; here = dropped_left was x r some (each_here (IsFit least most) c (node was x r) f) leaf }
-  dropped_at (went_right l x ∷ c) was some f leaf e = record { was = node l x was; was_fit = f; here = dropped_right was x l some (each_here (IsFit least most) c (node l x was) f) leaf }
+  dropped_at (went_left x r ∷ c) was some f leaf e = let k = each_here (IsFit least most) c (node was x r) f in record { was = node was x r; was_fit = f; stated = k.1.true_height; here = dropped_left was x r some k leaf }
+  dropped_at (went_right l x ∷ c) was some f leaf e = let k = each_here (IsFit least most) c (node l x was) f in record { was = node l x was; was_fit = f; stated = k.1.true_height; here = dropped_right was x l some k leaf }
 
   same_height : (xs : List I) (t : Tree (Label I)) → height (new_items xs t) ≡ height t
   same_height xs empty = refl
@@ -254,17 +255,12 @@ module _ {I : Type 0} where
   size_leaf (node empty x (node a y b)) (_, _, h) = cc
   size_leaf (node empty x empty) leaf = omega arith
 
-  size_plug_one : (c : List (Frame (Label I))) (t u : Tree (Label I)) → size u + 1 ≡ size t → size (plug c u) + 1 ≡ size (plug c t)
-  size_plug_one [] t u e = e
-  size_plug_one (went_left x r ∷ c) t u e = size_plug_one c (node t x r) (node u x r) (omega (arith, e))
-  size_plug_one (went_right l x ∷ c) t u e = size_plug_one c (node l x t) (node l x u) (omega (arith, e))
-
   -- but one node does
   pub size-dropped : (z : Zipper (Label I)) → is_leaf z.here → size (whole (without_leaf z)) + 1 ≡ size (whole z)
-  size-dropped z leaf = ap (λ t. size t + 1) (without_leaf_whole z.above) ∙ size_plug_one z.above z.here empty (omega (arith, size_leaf z.here leaf))
+  size-dropped z leaf = ap (λ t. size t + 1) (without_leaf_whole z.above) ∙ size-plug_one z.above z.here empty (omega (arith, size_leaf z.here leaf))
 
   pub size-merged : (side : Side) (z : Zipper (Label I)) → is_leaf (child side z.here) → size (whole (with_tree (merged side) z)) + 1 ≡ size (whole z)
-  size-merged side z leaf = size_plug_one z.above z.here (merged side z.here) (size_merged side z.here leaf)
+  size-merged side z leaf = size-plug_one z.above z.here (merged side z.here) (size_merged side z.here leaf)
 
 module _ {I : Type 0} (least most : ℕ) where
   left_new_items : (xs : List I) (t : Tree (Label I)) → left_of (new_items xs t) ≡ left_of t

@@ -1,13 +1,14 @@
 -- A list that rises by a strict order, searched for a reference that it does not hold.
-use Rattle.std.proofs.Common.{◌≡◌, ℕ, ◌≤◌, List, [], ◌∷◌, get_or, refl, sym, ap, subst, ◌∙◌, arith, inl, inr, Ordering}
-use Rattle.std.specs.List.{All, Contains}
+use Rattle.std.proofs.Common.{◌≡◌, ℕ, ◌≤◌, List, [], ◌∷◌, Option, Some, None, false, get_or, refl, sym, ap, subst, ◌∙◌, arith, inl, inr, Ordering}
+use Rattle.std.specs.List.{All}
+use Rattle.std.specs.Option.{IfNone, is_some}
 use Rattle.std.specs.declared.cmp.Ordering.TheVariants.{Less, Equal, Greater}
 use Rattle.std.specs.Ordering.{ordering_index}
 use Rattle.std.proofs.lemmas.List.Elements.{All-nil}
 use Rattle.std.proofs.lemmas.Bool.{cases_order}
-use Rattle.mm_index.specs.Order.{IsStrictOver, IsRising, insert_by}
+use Rattle.mm_index.specs.Order.{IsStrictOver, IsRising, insert_placed, insert_by}
 use Rattle.mm_index.specs.Range.{NeverFalls}
-use Rattle.mm_index.proofs.Placed.{insert_by_split}
+use Rattle.mm_index.proofs.Placed.{insert_placed_split}
 
 index_le_two : (o : Ordering) → ordering_index o ≤ 2
 index_le_two Less = omega arith
@@ -30,10 +31,16 @@ module _ {A : Type 0} (covers : A → Type 0) (cmp : A → A → Ordering) (orde
         | inr (inr after) ↦ absurd (omega arith)
       ]
 
-  -- no element that is held stands Equal to one that is not
-  pub none_Equal : (r q : A) (xs : List A) → (Contains xs r → ⊥) → covers q → covers r → Contains xs q → cmp q r ≡ Equal → ⊥
-  none_Equal r q xs absent p s held e = absent (subst (λ (x : A). Contains xs x) (order.strict q r p s e) held)
+-- what holds of nothing found
+pub at_none : {A : Type 0} (found : Option A) (P : Type 0) → is_some found ≡ false → IfNone found P → P
+at_none None P e h = h
+at_none (Some q) P e h = cc
 
 -- into an empty list
-pub insert_by_first : {A : Type 0} (cmp : A → A → Ordering) (r : A) → insert_by cmp r [] ≡ r ∷ []
-insert_by_first cmp r = insert_by_split cmp r [] [] (All-nil (λ q. cmp q r ≡ Less)) (All-nil (λ q. cmp q r ≡ Greater))
+pub insert_placed_first : {A : Type 0} (place : A → Ordering) (r : A) → insert_placed place r [] ≡ r ∷ []
+insert_placed_first place r = insert_placed_split place r [] [] (All-nil (λ q. place q ≡ Less)) (All-nil (λ q. place q ≡ Greater))
+
+-- a probe for r puts it at its place by the order
+pub insert_placed-by : {A : Type 0} (cmp : A → A → Ordering) (r : A) (xs : List A) → insert_placed (λ q. cmp q r) r xs ≡ insert_by cmp r xs
+unfolding insert_by
+insert_placed-by cmp r xs = refl

@@ -1,5 +1,5 @@
 -- Steps down to a child and back up.
-use Rattle.std.proofs.Common.{◌≡◌, ℕ, ◌≤◌, ◌<◌, length, true, false, refl, sym, ◌∙◌, List, [], ◌∷◌, ◌++◌, arith, length-append}
+use Rattle.std.proofs.Common.{◌≡◌, ℕ, ◌+◌, ◌≤◌, ◌<◌, length, true, false, refl, sym, ◌∙◌, List, [], ◌∷◌, ◌++◌, arith, length-append}
 use Rattle.ttree_node.specs.Tree.{Tree, empty, node, Frame, went_left, went_right, Label, Zipper, at, plug, whole, list, size, height, is_node, has_left, has_right, is_root, up, items_of, new_items, new_height, with_height, with_items, with_tree}
 use Rattle.ttree_node.specs.Laws.{list-plug}
 use Rattle.ttree_node.specs.Seen.{on_side, child}
@@ -112,6 +112,12 @@ module _ {X : Type 0} where
   size-plug [] t u e = e
   size-plug (went_left x r ∷ c) t u e = size-plug c (node t x r) (node u x r) (omega (arith, e))
   size-plug (went_right l x ∷ c) t u e = size-plug c (node l x t) (node l x u) (omega (arith, e))
+
+  -- and a subtree of one node fewer leaves one node fewer
+  pub size-plug_one : (c : List (Frame X)) (t u : Tree X) → size u + 1 ≡ size t → size (plug c u) + 1 ≡ size (plug c t)
+  size-plug_one [] t u e = e
+  size-plug_one (went_left x r ∷ c) t u e = size-plug_one c (node t x r) (node u x r) (omega (arith, e))
+  size-plug_one (went_right l x ∷ c) t u e = size-plug_one c (node l x t) (node l x u) (omega (arith, e))
 
 module _ {I : Type 0} where
   pub list-new_height : (h : ℕ) (t : Tree (Label I)) → list (new_height h t) ≡ list t

@@ -182,10 +182,19 @@ module _ {I : Type 0} (least most : ℕ) where
   half_enough Left z k e o = k.left_half e o
   half_enough Right z k e o = k.right_half o e
 
+  stated_merged : (side : Side) (t : Tree (Label I)) → stated (merged side t) ≡ stated t
+  stated_merged Root t = refl
+  stated_merged Left empty = refl
+  stated_merged Left (node empty x r) = refl
+  stated_merged Left (node (node a y b) x r) = refl
+  stated_merged Right empty = refl
+  stated_merged Right (node l x empty) = refl
+  stated_merged Right (node l x (node a y b)) = refl
+
   pub merged-rises : (side : Side) (z : Zipper (Label I)) → 1 ≤ least → HasLostBelow least most z → is_node (child side z.here) ≡ true → is_node (child (opposite side) z.here) ≡ false
       → length (items_of z.here) + length (items_of (child side z.here)) ≤ most → CanRise least most (with_tree (merged side) z)
   merged-rises side z some k e o room =
-      record { was = k.was; was_fit = k.was_fit; here = merged_mends side k.was z.here some (leaf_below side z.here k.near e o) o k.same (half_enough side z k e o) room }
+      record { was = k.was; was_fit = k.was_fit; stated = stated_merged side z.here ∙ k.true_height ∙ k.same; here = merged_mends side k.was z.here some (leaf_below side z.here k.near e o) o k.same (half_enough side z k e o) room }
 
 module _ {I : Type 0} where
   -- a merge frees one node

@@ -3,5 +3,6 @@ pub mod Held
 pub mod Mending
 pub mod Removing
 pub mod Rising
+pub mod Room
 pub mod Searching
 pub mod Shape

@@ -1,6 +1,6 @@
 -- A node that an edit below left out of balance, before its height is set and it is rotated.
 use Rattle.std.specs.Prelude.{◌≡◌, ℕ, ◌+◌, ◌<◌, ◌≤◌, max, length, true, false, ◌⊎◌}
-use Rattle.ttree_node.specs.Tree.{Tree, empty, node, Label, Zipper, plug, height, is_node, left_of, right_of, items_of}
+use Rattle.ttree_node.specs.Tree.{Tree, empty, node, Label, Zipper, plug, height, stated, is_node, left_of, right_of, items_of}
 use Rattle.ttree.specs.Shape.{HasItems, IsNear, IsTTree}
 
 module _ {I : Type 0} where
@@ -38,8 +38,9 @@ module _ {I : Type 0} where
   IsMendableTree least most was empty = ⊥
   IsMendableTree least most was (node l x r) = IsMendable least most l x r × StandsFor was l x r
 
-  -- from this place up to the root heights are to be set, and nodes rotated where they are not balanced
+  -- From this place up to the root heights are to be set, and nodes rotated where they are not balanced. The node still states the height of the tree that stood here.
   pub record CanRise (least most : ℕ) (z : Zipper (Label I)) : Type 0 where
     pub was : Tree (Label I)
     pub was_fit : IsTTree least most (plug z.above was)
+    pub stated : stated z.here ≡ height was
     pub here : IsMendableTree least most was z.here

@@ -84,10 +84,11 @@ module _ {I : Type 0} where
     pub leaf : height was ≡ 1 → height t ≡ 1 → length (items_of was) ≤ length (items_of t)
     pub one_child : height was ≡ 1 → (has_left t ≡ false) ⊎ (has_right t ≡ false)
 
-  -- from this place up to the root nothing but what is above is left to mend
-  pub record HasRisen (least most : ℕ) (z : Zipper (Label I)) : Type 0 where
+  -- from this place up to the root nothing but what is above is left to mend, and the tree that stood here was so high before
+  pub record HasRisen (least most before : ℕ) (z : Zipper (Label I)) : Type 0 where
     pub was : Tree (Label I)
     pub was_fit : IsTTree least most (plug z.above was)
+    pub was_high : before ≡ height was
     pub here : StandsMended least most was z.here
 
 module _ {I : Type 0} where

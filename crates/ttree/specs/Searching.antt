@@ -1,5 +1,5 @@
 -- Where a search of a tree ends, and how often it asks.
-use Rattle.std.specs.Prelude.{◌≡◌, ℕ, ◌+◌, ◌<◌, ◌≤◌, List, ◌++◌, ◌∷◌, length, slice_index_or, All, false}
+use Rattle.std.specs.Prelude.{◌≡◌, ℕ, ◌+◌, ◌<◌, ◌≤◌, List, ◌++◌, ◌∷◌, length, slice_index_or, All, Bool, true, false, IfOk, IfErr}
 use Rattle.std.specs.List.{AllWithin}
 use Rattle.std.specs.declared.cmp.Ordering.{Ordering}
 use Rattle.std.specs.declared.cmp.Ordering.TheVariants.{Less, Equal, Greater}
@@ -9,7 +9,7 @@ use Rattle.ttree.specs.Shape.{binary_digits}
 use Rattle.ttree.specs.declared.turn.Seek.{Seek}
 use Rattle.ttree.specs.declared.turn.Seek.TheVariants.{Any, First}
 use Rattle.ttree.specs.declared.turn.Turn.{Turn}
-use Rattle.ttree.specs.declared.turn.Turn.TheVariants.{Left, Right, Hit, Gap}
+use Rattle.ttree.specs.declared.turn.Turn.TheVariants.{Left, Right, Here}
 
 -- how a search takes an answer: one for the first reference in the range goes on at those in it as at those above it
 abbrev pub taken : Seek → Ordering → Ordering
@@ -19,16 +19,15 @@ taken First Equal = Greater
 taken First Greater = Greater
 
 -- a probe that was only asked, at most n times
-pub record IsAskedAtMost (n : ℕ) {P R : Type 0} (can_place : P → R → Type 0) (place : P → R → Ordering) (asked : P → ℕ) (old new : P) : Type 0 where
-  pub only : IsOnlyAsked can_place place asked old new
+pub record IsAskedAtMost (n : ℕ) {P R : Type 0} (is_sound : P → Type 0) (can_place : P → R → Type 0) (place : P → R → Ordering) (asked : P → ℕ) (old new : P) : Type 0 where
+  pub only : IsOnlyAsked is_sound can_place place asked old new
   pub most : asked new ≤ asked old + n
 
--- how often it asks at a node: twice, and once for each binary digit of the number of items where it searches among them
-abbrev pub most_at : Turn → ℕ → ℕ
-most_at Left n = 2
-most_at Right n = 2
-most_at (Hit i) n = 2 + binary_digits n
-most_at (Gap i) n = 2 + binary_digits n
+-- how often it asks at a node once it is known not to go left: once, and where it ends there as often again as the number of items has binary digits
+abbrev pub most_from : Turn → ℕ → ℕ
+most_from Left n = 1
+most_from Right n = 1
+most_from (Here found) n = 1 + binary_digits n
 
 module _ {I : Type 0} where
   -- ---- in one node
@@ -45,18 +44,29 @@ module _ {I : Type 0} where
     pub below : AllWithin (λ r. place r ≡ Less) items 0 low
     pub above : AllWithin (λ r. place r ≡ Greater) items high (length items)
 
-  -- where a search goes on from a node with these items
-  abbrev pub IsTurn : (I → Ordering) → List I → Turn → Type 0
-  IsTurn place items Left = All (λ r. place r ≡ Greater) items
-  IsTurn place items Right = All (λ r. place r ≡ Less) items
-  IsTurn place items (Hit i) = IsHitIn place items i
-  IsTurn place items (Gap i) = (0 < i) × (i < length items) × IsCut place items i i
+  -- what stands before item i is below the range and the rest above it, and no child hangs where that is
+  pub record IsGapIn (place : I → Ordering) (has_left has_right : Bool) (items : List I) (i : ℕ) : Type 0 where
+    pub cut : IsCut place items i i
+    pub left_open : i ≡ 0 → has_left ≡ false
+    pub right_open : i ≡ length items → has_right ≡ false
+
+  -- where a search goes on from a node with these children and items
+  abbrev pub IsTurn : (I → Ordering) → Bool → Bool → List I → Turn → Type 0
+  IsTurn place has_left has_right items Left = (has_left ≡ true) × All (λ r. place r ≡ Greater) items
+  IsTurn place has_left has_right items Right = (has_right ≡ true) × All (λ r. place r ≡ Less) items
+  IsTurn place has_left has_right items (Here found) = IfOk found (IsHitIn place items) × IfErr found (IsGapIn place has_left has_right items)
+
+  -- the same, where the search is known not to end before item `from` nor to go left
+  abbrev pub IsTurnFrom : (I → Ordering) → ℕ → Bool → List I → Turn → Type 0
+  IsTurnFrom place from has_right items Left = ⊥
+  IsTurnFrom place from has_right items Right = (has_right ≡ true) × All (λ r. place r ≡ Less) items
+  IsTurnFrom place from has_right items (Here found) = IfOk found (IsHitIn place items) × IfErr found (λ i. IsCut place items i i × (from ≤ i) × (i ≡ length items → has_right ≡ false))
 
   -- ---- in a tree
 
   -- the list with r before item i of the node at a place
-  abbrev pub filled : ℕ → I → Zipper (Label I) → List I
-  filled i r z = list_until i z ++ r ∷ list_from i z
+  abbrev pub with_item : ℕ → I → Zipper (Label I) → List I
+  with_item i r z = list_until i z ++ r ∷ list_from i z
 
   -- nothing is in the range: the list up to item i of the node at the place stands below it, and the rest above it
   pub record IsGap (place : I → Ordering) (z : Zipper (Label I)) (i : ℕ) : Type 0 where

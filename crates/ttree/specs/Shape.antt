@@ -1,5 +1,5 @@
 -- What a T-tree is beside its list: no node is empty, the children's heights differ by at most one, the stated heights are true, and the nodes are full enough.
-use Rattle.std.specs.Prelude.{◌≡◌, ℕ, zero, suc, ◌+◌, ◌<◌, ◌≤◌, max, length, true, false}
+use Rattle.std.specs.Prelude.{◌≡◌, ℕ, zero, suc, ◌+◌, ◌-◌, ◌^◌, ◌<◌, ◌≤◌, max, length, true, false}
 use Rattle.std.specs.Int.Digits.{digits_of}
 use Rattle.ttree_node.specs.Tree.{Tree, empty, node, Label, height, is_node, items_of}
 
@@ -67,6 +67,10 @@ unfoldable pub fib : ℕ → ℕ
 fib zero = 0
 fib (suc zero) = 1
 fib (suc (suc n)) = fib (suc n) + fib n
+
+-- the greatest height that a node can state
+abbrev pub greatest_height : ℕ
+greatest_height = 2 ^ 32 - 1
 
 -- the number of binary digits
 unfoldable pub binary_digits : ℕ → ℕ

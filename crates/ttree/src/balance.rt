@@ -1,4 +1,5 @@
-//! How balance comes back after an edit: heights are set, and nodes rotated, from a place up to the root.
+//! How balance comes back after an edit: from a place up heights are set, and nodes rotated. Each node on the way states the
+//! height of the tree that stood there before, so the way ends where a height is as it was.
 ghost use Rattle.std.specs.Prelude.{◌≡◌, ◌≤◌, ◌^◌, length};
 ghost use Rattle.ttree_node.specs.Tree.{list, size, whole};
 ghost use Rattle.ttree_node.specs.Editor.{position, tree_at, spares_at};
@@ -11,7 +12,7 @@ use crate::rotate::rotate;
 use crate::steps::restate;
 use ttree_node::{Editor, Side};
 
-/// Sets the node's height where its children's heights differ by at most one, else rotates it.
+// Sets the node's height where its children's heights differ by at most one, else rotates it.
 fn mend<const MIN: usize, const MAX: usize>(editor: &mut Editor<'_, MAX>)
     requires ordered { MIN ≤ MAX }
     requires mendable { IsMendableHere MIN MAX (position editor.old).here }
@@ -23,7 +24,7 @@ fn mend<const MIN: usize, const MAX: usize>(editor: &mut Editor<'_, MAX>)
     ensures full { 2 ≤ MIN → IsGrowing MAX (position editor.old).here → IsGrown MAX (position editor.new).here }
     ensures tree { tree_at editor.new ≡ whole (position editor.new) }
     ensures list { list (tree_at editor.new) ≡ list (tree_at editor.old) }
-    ensures nodes { size (tree_at editor.new) ≡ size (tree_at editor.old) }
+    ensures size { size (tree_at editor.new) ≡ size (tree_at editor.old) }
     ensures spares { spares_at editor.new ≡ spares_at editor.old }
 {
     let (left, right) = editor.heights();
@@ -36,7 +37,7 @@ fn mend<const MIN: usize, const MAX: usize>(editor: &mut Editor<'_, MAX>)
     }
 }
 
-/// Sets heights from the place up to the root, and rotates each node that isn't balanced.
+// Sets heights from the place up, and rotates each node that isn't balanced, as far as a height changes.
 pub(crate) fn rebalance<const MIN: usize, const MAX: usize>(editor: &mut Editor<'_, MAX>)
     requires some { 1 ≤ MIN }
     requires ordered { MIN ≤ MAX }
@@ -48,12 +49,18 @@ pub(crate) fn rebalance<const MIN: usize, const MAX: usize>(editor: &mut Editor<
     ensures fit { IsTTree MIN MAX (tree_at editor.new) }
     ensures full { 2 ≤ MIN → CanRiseFull MIN MAX (position editor.old) → ParentsAreFull MAX (tree_at editor.new) }
     ensures list { list (tree_at editor.new) ≡ list (tree_at editor.old) }
-    ensures nodes { size (tree_at editor.new) ≡ size (tree_at editor.old) }
+    ensures size { size (tree_at editor.new) ≡ size (tree_at editor.old) }
     ensures spares { spares_at editor.new ≡ spares_at editor.old }
 {
-    mend::<MIN, MAX>(editor);
-    while !editor.at_root() {
-        editor.up();
+    loop {
+        let before = editor.height();
         mend::<MIN, MAX>(editor);
+        if editor.height() == before {
+            return;
+        }
+        if editor.at_root() {
+            return;
+        }
+        editor.up();
     }
 }

@@ -1,8 +1,9 @@
-//! The T-tree as an ordered index.
+//! The T-tree as an `OrderedIndex`: each call is the tree's own, which says more.
 ghost use Rattle.std.specs.Prelude.{◌≡◌, ◌+◌, ◌*◌, Some};
 ghost use Rattle.ttree_node.specs.Tree.{height};
-ghost use Rattle.ttree_node.specs.Seen.{tree_of, spares_of};
+ghost use Rattle.ttree_node.specs.Seen.{tree_of};
 ghost use Rattle.ttree.specs.Held.{items_of_tree};
+ghost use Rattle.ttree.specs.Room.{room_of};
 ghost use Rattle.ttree.specs.Shape.{binary_digits};
 
 use crate::tree::TTree;
@@ -14,7 +15,7 @@ use part_raw::TupleRef;
 impl<const MIN: usize, const MAX: usize> OrderedIndex for TTree<MIN, MAX> {
     ghost items = { λ t. items_of_tree t };
 
-    ghost room = { λ t. spares_of t };
+    ghost room = { λ t. room_of MIN t };
 
     ghost most_asked = { λ t. Some (2 * height (tree_of t) + binary_digits MAX) };
 
@@ -34,6 +35,10 @@ impl<const MIN: usize, const MAX: usize> OrderedIndex for TTree<MIN, MAX> {
         TTree::find(self, probe)
     }
 
+    fn insert_unless_found<P: Probe>(&mut self, probe: &mut P, r: TupleRef) -> Option<TupleRef> {
+        TTree::insert_unless_found(self, probe, r)
+    }
+
     fn range<P: Probe>(&self, probe: &mut P, out: &mut Vec<TupleRef>) -> Result<(), NoMemory> {
         TTree::range(self, probe, out)
     }
@@ -44,7 +49,7 @@ impl<const MIN: usize, const MAX: usize> OrderedIndex for TTree<MIN, MAX> {
 
     fn release_spares(&mut self)
         ensures items { items_of_tree self.new ≡ items_of_tree self.old }
-        ensures room { spares_of self.new ≡ 0 }
+        ensures room { room_of MIN self.new ≡ 0 }
     {
         TTree::release_spares(self);
     }

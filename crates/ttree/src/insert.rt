@@ -1,24 +1,29 @@
-//! The steps of an insert.
-ghost use Rattle.std.specs.Prelude.{◌≡◌, ◌+◌, ◌++◌, ◌^◌, ◌<◌, ◌≤◌, true, false, length, All, Contains};
-ghost use Rattle.mm_index.specs.Order.{IsRising, insert_by};
-ghost use Rattle.ttree_node.specs.Tree.{whole, list, items_of, is_node, is_root, has_left, has_right, with_leaf, list_before, list_after};
+//! The steps of an insert. The search ends at an item in the range, and nothing changes, or in a gap, where the new item
+//! goes in: into the node, or as a leaf below it, or in place of the node's least item, which goes before it.
+ghost use Rattle.std.specs.Prelude.{◌≡◌, ◌≢◌, ◌+◌, ◌*◌, ◌++◌, ◌^◌, ◌<◌, ◌≤◌, true, false, length, IfSome, IfNone, All, Contains};
+ghost use Rattle.std.specs.declared.cmp.Ordering.{Ordering};
+ghost use Rattle.mm_index.specs.Asking.{counted};
+ghost use Rattle.mm_index.specs.Order.{insert_placed};
+ghost use Rattle.mm_index.specs.Range.{NeverFalls};
+ghost use Rattle.ttree_node.specs.Tree.{whole, list, height, items_of, is_node, is_root, has_left, has_right, with_leaf, list_before, list_after};
 ghost use Rattle.ttree_node.specs.Seen.{on_side, child, hangs_on_node};
 ghost use Rattle.ttree_node.specs.Editor.{position, tree_at, spares_at};
-ghost use Rattle.ttree.specs.Shape.{IsTTree, ParentsAreFull};
-ghost use Rattle.ttree.specs.Searching.{filled};
+ghost use Rattle.ttree.specs.Room.{nodes_at};
+ghost use Rattle.ttree.specs.Shape.{IsTTree, ParentsAreFull, binary_digits};
+ghost use Rattle.ttree.specs.Searching.{with_item, IsAskedAtMost};
 
 use crate::balance::rebalance;
 use crate::search::locate_to_edit;
-use mm_index::{OrderProbe, TupleOrder};
+use mm_index::Probe;
 use part_raw::TupleRef;
 use ttree_node::{Editor, Side};
 
-// Puts `r` at its place.
-pub(crate) fn insert<O: TupleOrder, const MIN: usize, const MAX: usize>(
+// Puts `r` where the probe's range would stand, or gives a reference that stands in it and changes nothing.
+pub(crate) fn insert_unless_found<P: Probe, const MIN: usize, const MAX: usize>(
     editor: &mut Editor<'_, MAX>,
-    order: &O,
+    probe: &mut P,
     r: TupleRef,
-)
+) -> Option<TupleRef>
     requires some { 1 ≤ MIN }
     requires ordered { MIN ≤ MAX }
     requires two { 2 ≤ MAX }
@@ -27,23 +32,34 @@ pub(crate) fn insert<O: TupleOrder, const MIN: usize, const MAX: usize>(
     requires fit { IsTTree MIN MAX (tree_at editor.old) }
     requires short { length (list (tree_at editor.old)) < 2 ^ 32 }
     requires spare { 0 < spares_at editor.old }
-    requires absent { ¬ (Contains (list (tree_at editor.old)) r) }
-    requires covered { All (O.covers order.now) (list (tree_at editor.old)) }
-    requires r_covered { O.covers order.now r }
-    requires rising { IsRising (O.cmp order.now) (list (tree_at editor.old)) }
+    requires sound { P.is_sound probe.old }
+    requires placed { All (P.can_place probe.old) (list (tree_at editor.old)) }
+    requires in_order { NeverFalls (P.place probe.old) (list (tree_at editor.old)) }
     ensures same_reference { editor.new.links.ghost_name ≡ editor.old.links.ghost_name }
     ensures fit { IsTTree MIN MAX (tree_at editor.new) }
     ensures parents { 2 ≤ MIN → ParentsAreFull MAX (tree_at editor.old) → ParentsAreFull MAX (tree_at editor.new) }
-    ensures list { list (tree_at editor.new) ≡ insert_by (O.cmp order.now) r (list (tree_at editor.old)) }
-    ensures room { spares_at editor.old ≤ spares_at editor.new + 1 }
+    ensures held { IfSome result (Contains (list (tree_at editor.old))) }
+    ensures found { IfSome result (λ q. P.place probe.old q ≡ Ordering.Equal) }
+    ensures kept { IfSome result (λ _. tree_at editor.new ≡ tree_at editor.old) }
+    ensures kept_spares { IfSome result (λ _. spares_at editor.new ≡ spares_at editor.old) }
+    ensures none { IfNone result (All (λ q. P.place probe.old q ≢ Ordering.Equal) (list (tree_at editor.old))) }
+    ensures list { IfNone result (list (tree_at editor.new) ≡ insert_placed (P.place probe.old) r (list (tree_at editor.old))) }
+    ensures one { IfNone result (length (list (tree_at editor.new)) ≡ length (list (tree_at editor.old)) + 1) }
+    ensures nodes { nodes_at editor.new ≡ nodes_at editor.old }
+    ensures spares { spares_at editor.old ≤ spares_at editor.new + 1 }
+    ensures probe { IsAskedAtMost (2 * height (tree_at editor.old) + binary_digits MAX) P.is_sound P.can_place P.place P.asked probe.old probe.new }
+    ensures asks { 0 < length (list (tree_at editor.old)) → counted (P.asked probe.old) ≤ P.asked probe.new }
 {
     if !editor.has_node() {
         editor.new_leaf(Side::Root, r);
-        return;
+        return None;
     }
-    match locate_to_edit(editor, &mut OrderProbe::new(order, r)) {
-        Ok(_) => unreachable!(),
-        Err(index) => put_at::<MIN, MAX>(editor, index, r),
+    match locate_to_edit(editor, probe) {
+        Ok(index) => Some(editor.items()[index]),
+        Err(index) => {
+            put_at::<MIN, MAX>(editor, index, r);
+            None
+        }
     }
 }
 
@@ -67,12 +83,13 @@ fn put_at<const MIN: usize, const MAX: usize>(
     ensures same_reference { editor.new.links.ghost_name ≡ editor.old.links.ghost_name }
     ensures fit { IsTTree MIN MAX (tree_at editor.new) }
     ensures parents { 2 ≤ MIN → ParentsAreFull MAX (tree_at editor.old) → ParentsAreFull MAX (tree_at editor.new) }
-    ensures list { list (tree_at editor.new) ≡ filled index r (position editor.old) }
-    ensures room { spares_at editor.old ≤ spares_at editor.new + 1 }
+    ensures list { list (tree_at editor.new) ≡ with_item index r (position editor.old) }
+    ensures nodes { nodes_at editor.new ≡ nodes_at editor.old }
+    ensures spares { spares_at editor.old ≤ spares_at editor.new + 1 }
 {
     let count = editor.items().len();
     if count < MAX {
-        fill::<MIN, MAX>(editor, index, r);
+        put_with_room::<MIN, MAX>(editor, index, r);
     } else if index == 0 {
         grow::<MIN, MAX>(editor, Side::Left, r);
     } else if index == count {
@@ -83,7 +100,11 @@ fn put_at<const MIN: usize, const MAX: usize>(
 }
 
 // Puts `r` into a node with room.
-fn fill<const MIN: usize, const MAX: usize>(editor: &mut Editor<'_, MAX>, index: usize, r: TupleRef)
+fn put_with_room<const MIN: usize, const MAX: usize>(
+    editor: &mut Editor<'_, MAX>,
+    index: usize,
+    r: TupleRef,
+)
     requires node { is_node (position editor.old).here ≡ true }
     requires index { index ≤ length (items_of (position editor.old).here) }
     requires free { length (items_of (position editor.old).here) < MAX }
@@ -92,7 +113,8 @@ fn fill<const MIN: usize, const MAX: usize>(editor: &mut Editor<'_, MAX>, index:
     ensures same_reference { editor.new.links.ghost_name ≡ editor.old.links.ghost_name }
     ensures fit { IsTTree MIN MAX (tree_at editor.new) }
     ensures parents { ParentsAreFull MAX (tree_at editor.old) → ParentsAreFull MAX (tree_at editor.new) }
-    ensures list { list (tree_at editor.new) ≡ filled index r (position editor.old) }
+    ensures list { list (tree_at editor.new) ≡ with_item index r (position editor.old) }
+    ensures nodes { nodes_at editor.new ≡ nodes_at editor.old }
     ensures spares { spares_at editor.new ≡ spares_at editor.old }
 {
     editor.put(index, r);
@@ -115,6 +137,7 @@ fn grow<const MIN: usize, const MAX: usize>(editor: &mut Editor<'_, MAX>, side: 
     ensures fit { IsTTree MIN MAX (tree_at editor.new) }
     ensures parents { 2 ≤ MIN → ParentsAreFull MAX (tree_at editor.old) → ParentsAreFull MAX (tree_at editor.new) }
     ensures list { list (tree_at editor.new) ≡ list (whole (with_leaf r (on_side side (position editor.old)))) }
+    ensures nodes { nodes_at editor.new ≡ nodes_at editor.old }
     ensures spares { spares_at editor.new + 1 ≡ spares_at editor.old }
 {
     editor.new_leaf(side, r);
@@ -142,8 +165,9 @@ fn spill<const MIN: usize, const MAX: usize>(
     ensures same_reference { editor.new.links.ghost_name ≡ editor.old.links.ghost_name }
     ensures fit { IsTTree MIN MAX (tree_at editor.new) }
     ensures parents { 2 ≤ MIN → ParentsAreFull MAX (tree_at editor.old) → ParentsAreFull MAX (tree_at editor.new) }
-    ensures list { list (tree_at editor.new) ≡ filled index r (position editor.old) }
-    ensures room { spares_at editor.old ≤ spares_at editor.new + 1 }
+    ensures list { list (tree_at editor.new) ≡ with_item index r (position editor.old) }
+    ensures nodes { nodes_at editor.new ≡ nodes_at editor.old }
+    ensures spares { spares_at editor.old ≤ spares_at editor.new + 1 }
 {
     let least = editor.cut(0);
     editor.put(index - 1, r);
@@ -164,8 +188,9 @@ fn put_before<const MIN: usize, const MAX: usize>(editor: &mut Editor<'_, MAX>, 
     ensures same_reference { editor.new.links.ghost_name ≡ editor.old.links.ghost_name }
     ensures fit { IsTTree MIN MAX (tree_at editor.new) }
     ensures parents { 2 ≤ MIN → ParentsAreFull MAX (tree_at editor.old) → ParentsAreFull MAX (tree_at editor.new) }
-    ensures list { list (tree_at editor.new) ≡ filled 0 item (position editor.old) }
-    ensures room { spares_at editor.old ≤ spares_at editor.new + 1 }
+    ensures list { list (tree_at editor.new) ≡ with_item 0 item (position editor.old) }
+    ensures nodes { nodes_at editor.new ≡ nodes_at editor.old }
+    ensures spares { spares_at editor.old ≤ spares_at editor.new + 1 }
 {
     if !editor.has_left() {
         return grow::<MIN, MAX>(editor, Side::Left, item);
@@ -174,7 +199,7 @@ fn put_before<const MIN: usize, const MAX: usize>(editor: &mut Editor<'_, MAX>, 
     to_rightmost(editor);
     let end = editor.items().len();
     if end < MAX {
-        fill::<MIN, MAX>(editor, end, item);
+        put_with_room::<MIN, MAX>(editor, end, item);
     } else {
         grow::<MIN, MAX>(editor, Side::Right, item);
     }

@@ -1,9 +1,11 @@
-//! The steps of a removal.
+//! The steps of a removal: the item goes out, and where an internal node then holds too few, the greatest item of its left
+//! subtree comes up. What is left to do is at the node that lost an item last.
 ghost use Rattle.std.specs.Prelude.{◌≡◌, ◌+◌, ◌<◌, ◌≤◌, ◌^◌, ◌++◌, ◌∷◌, [], true, false, length, remove as removed, All, Contains};
 ghost use Rattle.mm_index.specs.Order.{IsRising, remove_by};
 ghost use Rattle.ttree_node.specs.Tree.{list, size, whole, is_node, is_root, has_left, has_right, left_of, items_of, down_left, with_items, with_tree};
 ghost use Rattle.ttree_node.specs.Editor.{position, tree_at, spares_at};
 ghost use Rattle.ttree.specs.Shape.{IsTTree};
+ghost use Rattle.ttree.specs.Room.{nodes_at};
 ghost use Rattle.ttree.specs.Removing.{HasLost, rightmost, without_greatest, without_left_greatest};
 
 use crate::search::locate_to_edit;
@@ -12,7 +14,7 @@ use mm_index::{OrderProbe, TupleOrder};
 use part_raw::TupleRef;
 use ttree_node::Editor;
 
-/// Takes the last item out of the rightmost node of the tree that is here.
+// Takes the last item out of the rightmost node of the tree that is here.
 fn take_greatest<const MIN: usize, const MAX: usize>(editor: &mut Editor<'_, MAX>) -> TupleRef
     requires node { is_node (position editor.old).here ≡ true }
     requires fit { IsTTree MIN MAX (position editor.old).here }
@@ -34,7 +36,7 @@ fn take_greatest<const MIN: usize, const MAX: usize>(editor: &mut Editor<'_, MAX
     }
 }
 
-/// Goes to the rightmost node of the tree that is here.
+// Goes to the rightmost node of the tree that is here.
 fn to_greatest<const MAX: usize>(editor: &mut Editor<'_, MAX>)
     requires node { is_node (position editor.old).here ≡ true }
     ensures same_reference { editor.new.links.ghost_name ≡ editor.old.links.ghost_name }
@@ -47,7 +49,7 @@ fn to_greatest<const MAX: usize>(editor: &mut Editor<'_, MAX>)
     }
 }
 
-/// Takes the greatest item out of the left subtree.
+// Takes the greatest item out of the left subtree.
 fn take_from_left<const MIN: usize, const MAX: usize>(editor: &mut Editor<'_, MAX>) -> TupleRef
     requires left { has_left (position editor.old).here ≡ true }
     requires fit { IsTTree MIN MAX (left_of (position editor.old).here) }
@@ -64,7 +66,7 @@ fn take_from_left<const MIN: usize, const MAX: usize>(editor: &mut Editor<'_, MA
     greatest
 }
 
-/// Goes to the rightmost node of the left subtree.
+// Goes to the rightmost node of the left subtree.
 fn to_left_greatest<const MAX: usize>(editor: &mut Editor<'_, MAX>)
     requires left { has_left (position editor.old).here ≡ true }
     ensures same_reference { editor.new.links.ghost_name ≡ editor.old.links.ghost_name }
@@ -76,7 +78,7 @@ fn to_left_greatest<const MAX: usize>(editor: &mut Editor<'_, MAX>)
     to_greatest(editor);
 }
 
-/// Moves the greatest item of the left subtree to the front of the node, and goes to the node that held it.
+// Moves the greatest item of the left subtree to the front of the node, and goes to the node that held it.
 fn borrow_greatest<const MIN: usize, const MAX: usize>(editor: &mut Editor<'_, MAX>)
     requires ordered { MIN ≤ MAX }
     requires lost { HasLost MIN MAX (position editor.old) }
@@ -88,7 +90,7 @@ fn borrow_greatest<const MIN: usize, const MAX: usize>(editor: &mut Editor<'_, M
     ensures open { has_right (position editor.new).here ≡ false }
     ensures tree { tree_at editor.new ≡ whole (position editor.new) }
     ensures list { list (tree_at editor.new) ≡ list (tree_at editor.old) }
-    ensures nodes { size (tree_at editor.new) ≡ size (tree_at editor.old) }
+    ensures size { size (tree_at editor.new) ≡ size (tree_at editor.old) }
     ensures spares { spares_at editor.new ≡ spares_at editor.old }
 {
     let greatest = take_from_left::<MIN, MAX>(editor);
@@ -96,7 +98,7 @@ fn borrow_greatest<const MIN: usize, const MAX: usize>(editor: &mut Editor<'_, M
     to_left_greatest(editor);
 }
 
-/// Brings the shape of the tree back after the node lost an item.
+// Brings the shape of the tree back after the node lost an item.
 fn recover<const MIN: usize, const MAX: usize>(editor: &mut Editor<'_, MAX>)
     requires some { 1 ≤ MIN }
     requires ordered { MIN ≤ MAX }
@@ -107,8 +109,8 @@ fn recover<const MIN: usize, const MAX: usize>(editor: &mut Editor<'_, MAX>)
     ensures same_reference { editor.new.links.ghost_name ≡ editor.old.links.ghost_name }
     ensures fit { IsTTree MIN MAX (tree_at editor.new) }
     ensures list { list (tree_at editor.new) ≡ list (tree_at editor.old) }
-    ensures freed { spares_at editor.new + size (tree_at editor.new) ≡ spares_at editor.old + size (tree_at editor.old) }
-    ensures room { spares_at editor.old ≤ spares_at editor.new }
+    ensures nodes { nodes_at editor.new ≡ nodes_at editor.old }
+    ensures spares { spares_at editor.old ≤ spares_at editor.new }
 {
     if editor.has_left() && editor.has_right() {
         if editor.items().len() < MIN {
@@ -120,7 +122,7 @@ fn recover<const MIN: usize, const MAX: usize>(editor: &mut Editor<'_, MAX>)
     }
 }
 
-/// Takes the item at `index` out of the node.
+// Takes the item at `index` out of the node.
 pub(crate) fn take_out<const MIN: usize, const MAX: usize>(
     editor: &mut Editor<'_, MAX>,
     index: usize,
@@ -135,14 +137,14 @@ pub(crate) fn take_out<const MIN: usize, const MAX: usize>(
     ensures same_reference { editor.new.links.ghost_name ≡ editor.old.links.ghost_name }
     ensures fit { IsTTree MIN MAX (tree_at editor.new) }
     ensures list { list (tree_at editor.new) ≡ list (whole (with_items (removed (items_of (position editor.old).here) index) (position editor.old))) }
-    ensures freed { spares_at editor.new + size (tree_at editor.new) ≡ spares_at editor.old + size (tree_at editor.old) }
-    ensures room { spares_at editor.old ≤ spares_at editor.new }
+    ensures nodes { nodes_at editor.new ≡ nodes_at editor.old }
+    ensures spares { spares_at editor.old ≤ spares_at editor.new }
 {
     editor.cut(index);
     recover::<MIN, MAX>(editor);
 }
 
-/// Takes `r` out of the tree.
+// Takes `r` out of the tree.
 pub(crate) fn remove<O: TupleOrder, const MIN: usize, const MAX: usize>(
     editor: &mut Editor<'_, MAX>,
     order: &O,
@@ -156,14 +158,15 @@ pub(crate) fn remove<O: TupleOrder, const MIN: usize, const MAX: usize>(
     requires fit { IsTTree MIN MAX (tree_at editor.old) }
     requires short { length (list (tree_at editor.old)) ≤ 2 ^ 32 }
     requires held { Contains (list (tree_at editor.old)) r }
+    requires sound { O.is_sound order.now }
     requires covered { All (O.covers order.now) (list (tree_at editor.old)) }
     requires rising { IsRising (O.cmp order.now) (list (tree_at editor.old)) }
     ensures same_reference { editor.new.links.ghost_name ≡ editor.old.links.ghost_name }
     ensures fit { IsTTree MIN MAX (tree_at editor.new) }
     ensures list { list (tree_at editor.new) ≡ remove_by (O.cmp order.now) r (list (tree_at editor.old)) }
     ensures one { length (list (tree_at editor.new)) + 1 ≡ length (list (tree_at editor.old)) }
-    ensures freed { spares_at editor.new + size (tree_at editor.new) ≡ spares_at editor.old + size (tree_at editor.old) }
-    ensures room { spares_at editor.old ≤ spares_at editor.new }
+    ensures nodes { nodes_at editor.new ≡ nodes_at editor.old }
+    ensures spares { spares_at editor.old ≤ spares_at editor.new }
 {
     match locate_to_edit(editor, &mut OrderProbe::new(order, r)) {
         Ok(index) => take_out::<MIN, MAX>(editor, index),

@@ -1,16 +1,30 @@
-//! One node that is rotated: LL and RR by one turn, LR and RL by two, each after a slide.
+//! One node that is rotated. At A the child B is two higher than the other. Where B leans out, or to no side, it rises
+//! above A (LL); where it leans in, its inner child C rises above both (LR). RR and RL are the mirror images.
+//!
+//! ```text
+//!     LL:      A                 B           LR:     A                   C
+//!            /   \             /   \               /   \               /   \
+//!           B     z    ->     x     A             B     z    ->      B       A
+//!          / \                     / \           / \                / \     / \
+//!         x   y                   y   z         x   C              x   u   v   z
+//!                                                  / \
+//!                                                 u   v
+//! ```
+//!
+//! The node that rises gets two children, and must hold `MIN` items. So items slide into it first where it holds fewer:
+//! from its only child, or where it is a leaf (LR and RL alone) from B, its parent.
 ghost use Rattle.std.specs.Prelude.{◌≡◌, ◌<◌, ◌≤◌, ◌↔◌, IsTrue, true, false, length};
 ghost use Rattle.ttree_node.specs.Tree.{list, whole, is_node, has_left, has_right, height, stated, items_of, with_tree};
 ghost use Rattle.ttree_node.specs.Editor.{position, tree_at, spares_at};
 ghost use Rattle.ttree_node.specs.Seen.{child, opposite};
-ghost use Rattle.ttree.specs.Shape.{IsTTree};
+ghost use Rattle.ttree.specs.Shape.{IsTTree, greatest_height};
 ghost use Rattle.ttree.specs.Rising.{IsFilled, IsInnerFilled, Leans, IsMendedTo, with_child, outer_turned, inner_raised, inner_turned, all_restated};
 ghost use Rattle.ttree.specs.Fullness.{IsGrown, IsGrowing};
 
 use crate::steps::{child_len, enter, fill, other_side, raise, restate, restate_child};
 use ttree_node::{Editor, Side, Way};
 
-/// Fills the node that is to rise from its only child, where it holds fewer than `MIN`.
+// Fills the node that is to rise from its only child, where it holds fewer than `MIN`.
 fn fill_riser<const MIN: usize, const MAX: usize>(editor: &mut Editor<'_, MAX>)
     requires ordered { MIN ≤ MAX }
     requires fit { IsTTree MIN MAX (position editor.old).here }
@@ -31,7 +45,7 @@ fn fill_riser<const MIN: usize, const MAX: usize>(editor: &mut Editor<'_, MAX>)
     }
 }
 
-/// Fills the child on that side, which is to rise, from its own only child.
+// Fills the child on that side, which is to rise, from its own only child.
 fn fill_below<const MIN: usize, const MAX: usize>(editor: &mut Editor<'_, MAX>, side: Side)
     requires ordered { MIN ≤ MAX }
     requires child { is_node (child side (position editor.old).here) ≡ true }
@@ -50,7 +64,7 @@ fn fill_below<const MIN: usize, const MAX: usize>(editor: &mut Editor<'_, MAX>, 
     editor.up();
 }
 
-/// Whether the child on that side is a leaf.
+// Whether the child on that side is a leaf.
 fn has_leaf<const MAX: usize>(editor: &mut Editor<'_, MAX>, side: Side) -> bool
     requires child { is_node (child side (position editor.old).here) ≡ true }
     requires tree { tree_at editor.old ≡ whole (position editor.old) }
@@ -66,8 +80,8 @@ fn has_leaf<const MAX: usize>(editor: &mut Editor<'_, MAX>, side: Side) -> bool
     is_leaf
 }
 
-/// Fills the child on that side, the inner one of a node that is about to be rotated, where it holds
-/// fewer than `MIN`: a leaf from the node, a half-leaf from its own child.
+// Fills the child on that side, the inner one of a node that is about to be rotated, where it holds
+// fewer than `MIN`: a leaf from the node, a half-leaf from its own child.
 fn fill_inner<const MIN: usize, const MAX: usize>(editor: &mut Editor<'_, MAX>, side: Side)
     requires ordered { MIN ≤ MAX }
     requires fit { IsTTree MIN MAX (position editor.old).here }
@@ -87,7 +101,7 @@ fn fill_inner<const MIN: usize, const MAX: usize>(editor: &mut Editor<'_, MAX>, 
     }
 }
 
-/// The same below the child on that side, whose inner child is on its other side.
+// The same below the child on that side, whose inner child is on its other side.
 fn fill_inner_below<const MIN: usize, const MAX: usize>(editor: &mut Editor<'_, MAX>, side: Side)
     requires ordered { MIN ≤ MAX }
     requires child { is_node (child side (position editor.old).here) ≡ true }
@@ -107,7 +121,7 @@ fn fill_inner_below<const MIN: usize, const MAX: usize>(editor: &mut Editor<'_, 
     editor.up();
 }
 
-/// Whether the child on that side leans no less to that side than to the other, by the stated heights.
+// Whether the child on that side leans no less to that side than to the other, by the stated heights.
 fn leans_out<const MAX: usize>(editor: &mut Editor<'_, MAX>, side: Side) -> bool
     requires child { is_node (child side (position editor.old).here) ≡ true }
     requires tree { tree_at editor.old ≡ whole (position editor.old) }
@@ -126,7 +140,7 @@ fn leans_out<const MAX: usize>(editor: &mut Editor<'_, MAX>, side: Side) -> bool
     }
 }
 
-/// The child on that side rises above the node.
+// The child on that side rises above the node.
 fn turn_outer<const MAX: usize>(editor: &mut Editor<'_, MAX>, side: Side)
     requires child { is_node (child side (position editor.old).here) ≡ true }
     requires tree { tree_at editor.old ≡ whole (position editor.old) }
@@ -141,7 +155,7 @@ fn turn_outer<const MAX: usize>(editor: &mut Editor<'_, MAX>, side: Side)
     restate(editor);
 }
 
-/// The inner child of the child on that side takes that child's place.
+// The inner child of the child on that side takes that child's place.
 fn raise_inner<const MAX: usize>(editor: &mut Editor<'_, MAX>, side: Side)
     requires child { is_node (child side (position editor.old).here) ≡ true }
     requires inner { is_node (child (opposite side) (child side (position editor.old).here)) ≡ true }
@@ -157,7 +171,7 @@ fn raise_inner<const MAX: usize>(editor: &mut Editor<'_, MAX>, side: Side)
     editor.up();
 }
 
-/// States the heights of both children and of the node anew.
+// States the heights of both children and of the node anew.
 fn restate_all<const MAX: usize>(editor: &mut Editor<'_, MAX>)
     requires left { has_left (position editor.old).here ≡ true }
     requires right { has_right (position editor.old).here ≡ true }
@@ -173,7 +187,7 @@ fn restate_all<const MAX: usize>(editor: &mut Editor<'_, MAX>)
     restate(editor);
 }
 
-/// The inner child of the child on that side rises above both.
+// The inner child of the child on that side rises above both.
 fn turn_inner<const MAX: usize>(editor: &mut Editor<'_, MAX>, side: Side)
     requires child { is_node (child side (position editor.old).here) ≡ true }
     requires inner { is_node (child (opposite side) (child side (position editor.old).here)) ≡ true }
@@ -189,11 +203,11 @@ fn turn_inner<const MAX: usize>(editor: &mut Editor<'_, MAX>, side: Side)
     restate_all(editor);
 }
 
-/// Rotates the node, whose child on that side is too high, and sets the heights of the nodes that changed.
+// Rotates the node, whose child on that side is too high, and sets the heights of the nodes that changed.
 pub(crate) fn rotate<const MIN: usize, const MAX: usize>(editor: &mut Editor<'_, MAX>, side: Side)
     requires ordered { MIN ≤ MAX }
     requires leans { Leans side MIN MAX (position editor.old).here }
-    requires low { height (position editor.old).here < 4294967295 }
+    requires low { height (position editor.old).here < greatest_height }
     requires tree { tree_at editor.old ≡ whole (position editor.old) }
     ensures same_reference { editor.new.links.ghost_name ≡ editor.old.links.ghost_name }
     ensures above { (position editor.new).above ≡ (position editor.old).above }

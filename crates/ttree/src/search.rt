@@ -1,5 +1,6 @@
-//! The search of a tree from its root.
+//! The search of a tree from its root, to read it or to edit it there. One step at a node, `turn_at`, serves both.
 ghost use Rattle.std.specs.Prelude.{◌≡◌, ◌+◌, ◌*◌, ◌≤◌, true, All, IfOk, IfErr};
+ghost use Rattle.mm_index.specs.Asking.{counted};
 ghost use Rattle.mm_index.specs.Range.{NeverFalls};
 ghost use Rattle.ttree_node.specs.Tree.{whole, list, items_of, is_node, is_root, height};
 ghost use Rattle.ttree_node.specs.Look.{position};
@@ -18,26 +19,26 @@ pub(crate) fn locate<P: Probe, const MAX: usize>(
     seek: Seek,
 ) -> Result<usize, usize>
     requires root { is_root (position look.old).above ≡ true }
+    requires node { is_node (position look.old).here ≡ true }
     requires some { HasItemsInEach MAX (whole (position look.old)) }
+    requires sound { P.is_sound probe.old }
     requires placed { All (P.can_place probe.old) (list (whole (position look.old))) }
     requires in_order { NeverFalls (λ r. taken seek (P.place probe.old r)) (list (whole (position look.old))) }
     ensures links { look.new.links ≡ look.old.links }
     ensures whole { whole (position look.new) ≡ whole (position look.old) }
     ensures hit { IfOk result (IsHitIn (λ r. taken seek (P.place probe.old r)) (items_of (position look.new).here)) }
     ensures gap { IfErr result (IsGap (λ r. taken seek (P.place probe.old r)) (position look.new)) }
-    ensures probe { IsAskedAtMost (2 * height (whole (position look.old)) + binary_digits MAX) P.can_place P.place P.asked probe.old probe.new }
+    ensures probe { IsAskedAtMost (2 * height (whole (position look.old)) + binary_digits MAX) P.is_sound P.can_place P.place P.asked probe.old probe.new }
+    ensures asks { counted (P.asked probe.old) ≤ P.asked probe.new }
 {
-    while look.has_node() {
-        match turn_at(look.items(), probe, seek) {
-            Turn::Left if look.has_left() => look.down_left(),
-            Turn::Left => return Err(0),
-            Turn::Right if look.has_right() => look.down_right(),
-            Turn::Right => return Err(look.items().len()),
-            Turn::Hit(index) => return Ok(index),
-            Turn::Gap(index) => return Err(index),
+    loop {
+        let (has_left, has_right) = (look.has_left(), look.has_right());
+        match turn_at(look.items(), has_left, has_right, probe, seek) {
+            Turn::Left => look.down_left(),
+            Turn::Right => look.down_right(),
+            Turn::Here(found) => return found,
         }
     }
-    Err(0)
 }
 
 // The same to edit the tree there. Where nothing is in the range, the node is the one that would hold it, or the last node of the path.
@@ -48,6 +49,7 @@ pub(crate) fn locate_to_edit<P: Probe, const MAX: usize>(
     requires root { is_root (edited editor.old).above ≡ true }
     requires node { is_node (edited editor.old).here ≡ true }
     requires some { HasItemsInEach MAX (whole (edited editor.old)) }
+    requires sound { P.is_sound probe.old }
     requires placed { All (P.can_place probe.old) (list (whole (edited editor.old))) }
     requires in_order { NeverFalls (P.place probe.old) (list (whole (edited editor.old))) }
     ensures same_reference { editor.new.links.ghost_name ≡ editor.old.links.ghost_name }
@@ -57,15 +59,15 @@ pub(crate) fn locate_to_edit<P: Probe, const MAX: usize>(
     ensures spares { spares_at editor.new ≡ spares_at editor.old }
     ensures hit { IfOk result (IsHitIn (P.place probe.old) (items_of (edited editor.new).here)) }
     ensures gap { IfErr result (IsGap (P.place probe.old) (edited editor.new)) }
+    ensures probe { IsAskedAtMost (2 * height (whole (edited editor.old)) + binary_digits MAX) P.is_sound P.can_place P.place P.asked probe.old probe.new }
+    ensures asks { counted (P.asked probe.old) ≤ P.asked probe.new }
 {
     loop {
-        match turn_at(editor.items(), probe, Seek::Any) {
-            Turn::Left if editor.has_left() => editor.down_left(),
-            Turn::Left => return Err(0),
-            Turn::Right if editor.has_right() => editor.down_right(),
-            Turn::Right => return Err(editor.items().len()),
-            Turn::Hit(index) => return Ok(index),
-            Turn::Gap(index) => return Err(index),
+        let (has_left, has_right) = (editor.has_left(), editor.has_right());
+        match turn_at(editor.items(), has_left, has_right, probe, Seek::Any) {
+            Turn::Left => editor.down_left(),
+            Turn::Right => editor.down_right(),
+            Turn::Here(found) => return found,
         }
     }
 }

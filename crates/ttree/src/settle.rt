@@ -1,17 +1,19 @@
-//! What follows the loss of an item: merged and freed leaves.
+//! What follows the loss of an item: a half-leaf takes in its leaf where both fit one node, and an empty leaf is freed.
+//! No item is lost by it, and each freed node is a spare one.
 ghost use Rattle.std.specs.Prelude.{◌≡◌, ◌+◌, ◌≤◌, ◌^◌, true, false, length};
 ghost use Rattle.ttree_node.specs.Tree.{list, size, whole, is_node, has_left, has_right, is_leaf, items_of};
 ghost use Rattle.ttree_node.specs.Editor.{position, tree_at, spares_at};
 ghost use Rattle.ttree_node.specs.Seen.{child, opposite};
 ghost use Rattle.ttree.specs.Shape.{IsTTree};
+ghost use Rattle.ttree.specs.Room.{nodes_at};
 ghost use Rattle.ttree.specs.Removing.{HasLost, HasLostBelow};
 
 use crate::balance::rebalance;
 use crate::steps::child_len;
 use ttree_node::{Editor, Side};
 
-/// Where the half-leaf and its leaf on that side hold `MAX` or fewer together, the half-leaf takes all
-/// items and the leaf is freed.
+// Where the half-leaf and its leaf on that side hold `MAX` or fewer together, the half-leaf takes all
+// items and the leaf is freed.
 fn merge_child<const MIN: usize, const MAX: usize>(editor: &mut Editor<'_, MAX>, side: Side)
     requires some { 1 ≤ MIN }
     requires ordered { MIN ≤ MAX }
@@ -24,8 +26,8 @@ fn merge_child<const MIN: usize, const MAX: usize>(editor: &mut Editor<'_, MAX>,
     ensures same_reference { editor.new.links.ghost_name ≡ editor.old.links.ghost_name }
     ensures fit { IsTTree MIN MAX (tree_at editor.new) }
     ensures list { list (tree_at editor.new) ≡ list (tree_at editor.old) }
-    ensures freed { spares_at editor.new + size (tree_at editor.new) ≡ spares_at editor.old + size (tree_at editor.old) }
-    ensures room { spares_at editor.old ≤ spares_at editor.new }
+    ensures nodes { nodes_at editor.new ≡ nodes_at editor.old }
+    ensures spares { spares_at editor.old ≤ spares_at editor.new }
 {
     let free = MAX - editor.items().len();
     if child_len(editor, side) <= free {
@@ -34,7 +36,7 @@ fn merge_child<const MIN: usize, const MAX: usize>(editor: &mut Editor<'_, MAX>,
     }
 }
 
-/// Merges the node with its leaf if it is a half-leaf.
+// Merges the node with its leaf if it is a half-leaf.
 fn merge_half<const MIN: usize, const MAX: usize>(editor: &mut Editor<'_, MAX>)
     requires some { 1 ≤ MIN }
     requires ordered { MIN ≤ MAX }
@@ -45,8 +47,8 @@ fn merge_half<const MIN: usize, const MAX: usize>(editor: &mut Editor<'_, MAX>)
     ensures same_reference { editor.new.links.ghost_name ≡ editor.old.links.ghost_name }
     ensures fit { IsTTree MIN MAX (tree_at editor.new) }
     ensures list { list (tree_at editor.new) ≡ list (tree_at editor.old) }
-    ensures freed { spares_at editor.new + size (tree_at editor.new) ≡ spares_at editor.old + size (tree_at editor.old) }
-    ensures room { spares_at editor.old ≤ spares_at editor.new }
+    ensures nodes { nodes_at editor.new ≡ nodes_at editor.old }
+    ensures spares { spares_at editor.old ≤ spares_at editor.new }
 {
     if !editor.has_right() {
         merge_child::<MIN, MAX>(editor, Side::Left);
@@ -55,7 +57,7 @@ fn merge_half<const MIN: usize, const MAX: usize>(editor: &mut Editor<'_, MAX>)
     }
 }
 
-/// Merges or frees what is to be merged or freed where the node lost an item, and balances the tree.
+// Merges or frees what is to be merged or freed where the node lost an item, and balances the tree.
 pub(crate) fn settle<const MIN: usize, const MAX: usize>(editor: &mut Editor<'_, MAX>)
     requires some { 1 ≤ MIN }
     requires ordered { MIN ≤ MAX }
@@ -67,8 +69,8 @@ pub(crate) fn settle<const MIN: usize, const MAX: usize>(editor: &mut Editor<'_,
     ensures same_reference { editor.new.links.ghost_name ≡ editor.old.links.ghost_name }
     ensures fit { IsTTree MIN MAX (tree_at editor.new) }
     ensures list { list (tree_at editor.new) ≡ list (tree_at editor.old) }
-    ensures freed { spares_at editor.new + size (tree_at editor.new) ≡ spares_at editor.old + size (tree_at editor.old) }
-    ensures room { spares_at editor.old ≤ spares_at editor.new }
+    ensures nodes { nodes_at editor.new ≡ nodes_at editor.old }
+    ensures spares { spares_at editor.old ≤ spares_at editor.new }
 {
     if editor.has_left() || editor.has_right() {
         merge_half::<MIN, MAX>(editor);
@@ -80,7 +82,7 @@ pub(crate) fn settle<const MIN: usize, const MAX: usize>(editor: &mut Editor<'_,
     }
 }
 
-/// Frees the leaf, which holds no item any more, and balances the tree.
+// Frees the leaf, which holds no item any more, and balances the tree.
 fn free_leaf<const MIN: usize, const MAX: usize>(editor: &mut Editor<'_, MAX>)
     requires some { 1 ≤ MIN }
     requires ordered { MIN ≤ MAX }
@@ -93,8 +95,8 @@ fn free_leaf<const MIN: usize, const MAX: usize>(editor: &mut Editor<'_, MAX>)
     ensures same_reference { editor.new.links.ghost_name ≡ editor.old.links.ghost_name }
     ensures fit { IsTTree MIN MAX (tree_at editor.new) }
     ensures list { list (tree_at editor.new) ≡ list (tree_at editor.old) }
-    ensures freed { spares_at editor.new + size (tree_at editor.new) ≡ spares_at editor.old + size (tree_at editor.old) }
-    ensures room { spares_at editor.old ≤ spares_at editor.new }
+    ensures nodes { nodes_at editor.new ≡ nodes_at editor.old }
+    ensures spares { spares_at editor.old ≤ spares_at editor.new }
 {
     editor.drop_leaf();
     if editor.has_node() {

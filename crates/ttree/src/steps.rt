@@ -1,4 +1,4 @@
-//! Small steps of an editor, on either side of a node.
+//! Small steps of an editor that are the same on either side of a node, with the side as an argument.
 ghost use Rattle.std.specs.Prelude.{◌≡◌, ◌<◌, ◌≤◌, true, false, length};
 ghost use Rattle.ttree_node.specs.Tree.{list, whole, is_node, items_of, with_tree};
 ghost use Rattle.ttree_node.specs.Editor.{position, tree_at, spares_at};
@@ -7,7 +7,7 @@ ghost use Rattle.ttree.specs.Rising.{raised, restated, restated_child, filled};
 
 use ttree_node::{Editor, Side, Way};
 
-/// The other side of a node.
+// The other side of a node.
 pub(crate) fn other_side(side: Side) -> Side
     ensures { result ≡ opposite side }
 {
@@ -18,7 +18,7 @@ pub(crate) fn other_side(side: Side) -> Side
     }
 }
 
-/// Goes down to the child on that side.
+// Goes down to the child on that side.
 pub(crate) fn enter<const MAX: usize>(editor: &mut Editor<'_, MAX>, side: Side)
     requires child { is_node (child side (position editor.old).here) ≡ true }
     ensures same_reference { editor.new.links.ghost_name ≡ editor.old.links.ghost_name }
@@ -33,7 +33,7 @@ pub(crate) fn enter<const MAX: usize>(editor: &mut Editor<'_, MAX>, side: Side)
     }
 }
 
-/// The child on that side takes the node's place.
+// The child on that side takes the node's place.
 pub(crate) fn raise<const MAX: usize>(editor: &mut Editor<'_, MAX>, side: Side)
     requires child { is_node (child side (position editor.old).here) ≡ true }
     requires tree { tree_at editor.old ≡ whole (position editor.old) }
@@ -50,7 +50,7 @@ pub(crate) fn raise<const MAX: usize>(editor: &mut Editor<'_, MAX>, side: Side)
     }
 }
 
-/// States the node's height anew.
+// States the node's height anew.
 pub(crate) fn restate<const MAX: usize>(editor: &mut Editor<'_, MAX>)
     requires node { is_node (position editor.old).here ≡ true }
     requires tree { tree_at editor.old ≡ whole (position editor.old) }
@@ -63,7 +63,7 @@ pub(crate) fn restate<const MAX: usize>(editor: &mut Editor<'_, MAX>)
     editor.reheight();
 }
 
-/// States the height of the child on that side anew.
+// States the height of the child on that side anew.
 pub(crate) fn restate_child<const MAX: usize>(editor: &mut Editor<'_, MAX>, side: Side)
     requires child { is_node (child side (position editor.old).here) ≡ true }
     requires tree { tree_at editor.old ≡ whole (position editor.old) }
@@ -78,7 +78,7 @@ pub(crate) fn restate_child<const MAX: usize>(editor: &mut Editor<'_, MAX>, side
     editor.up();
 }
 
-/// How many items the child on that side holds.
+// How many items the child on that side holds.
 pub(crate) fn child_len<const MAX: usize>(editor: &mut Editor<'_, MAX>, side: Side) -> usize
     requires child { is_node (child side (position editor.old).here) ≡ true }
     requires tree { tree_at editor.old ≡ whole (position editor.old) }
@@ -94,7 +94,7 @@ pub(crate) fn child_len<const MAX: usize>(editor: &mut Editor<'_, MAX>, side: Si
     len
 }
 
-/// Moves items that way between the node and its child on that side, nearest first, until the one that takes them is full or the other holds one.
+// Moves items that way between the node and its child on that side, nearest first, until the one that takes them is full or the other holds one.
 pub(crate) fn fill<const MAX: usize>(editor: &mut Editor<'_, MAX>, side: Side, way: Way)
     requires child { is_node (child side (position editor.old).here) ≡ true }
     requires open { is_node (child (opposite side) (child side (position editor.old).here)) ≡ false }

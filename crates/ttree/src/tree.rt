@@ -1,15 +1,16 @@
-//! The T-tree.
+//! The T-tree as its callers see it: a list of references that rises, and the inserts that are sure of their memory.
+//! Each call hands on to the search or to an editor of the nodes, and keeps the two counts.
 ghost use Rattle.std.specs.Prelude.{◌≡◌, ◌≢◌, ◌++◌, ◌+◌, ◌*◌, ◌^◌, ◌<◌, ◌≤◌, max, length, IfSome, IfNone, IfOk, IfErr, OnOk, OnErr, All, Contains};
 ghost use Rattle.std.specs.declared.cmp.Ordering.{Ordering};
-ghost use Rattle.mm_index.specs.Asking.{IsOnlyAsked};
-ghost use Rattle.mm_index.specs.Order.{IsRising, insert_by, remove_by};
+ghost use Rattle.mm_index.specs.Asking.{IsOnlyAsked, counted};
+ghost use Rattle.mm_index.specs.Order.{IsRising, insert_by, insert_placed, remove_by};
 ghost use Rattle.mm_index.specs.Range.{NeverFalls, in_range, from_range};
 
-use crate::insert::insert;
+use crate::insert::insert_unless_found;
 use crate::removal::remove;
 use crate::search::locate;
 use crate::turn::Seek;
-use mm_index::{Probe, TupleOrder};
+use mm_index::{OrderProbe, Probe, TupleOrder};
 use no_memory::NoMemory;
 use part_raw::TupleRef;
 use std::alloc::Global;
@@ -20,19 +21,21 @@ use ttree_node::{Links, Look, Walk};
 #[derive(Drop)]
 pub struct TTree<const MIN: usize, const MAX: usize> {
     pub(crate) links: Links<MAX>,
+    // How many references it holds.
     pub(crate) len: usize,
+    // How many nodes it has, the spare ones too.
+    pub(crate) nodes: usize,
 }
 
 impl<const MIN: usize, const MAX: usize> Model for TTree<MIN, MAX> {
     ghost use Rattle.ttree.specs.Held.{IsSound};
-    ghost use Rattle.ttree_node.specs.Seen.{tree_of};
     ghost use Rattle.ttree_node.specs.declared.parts.Parts.{Parts};
 
     ghost Value = { Parts MAX };
 
     ghost view = { λ t. t.links };
 
-    ghost invariant = { λ t. IsSound MIN MAX (tree_of t.links) t.len };
+    ghost invariant = { λ t. IsSound MIN MAX t.links t.len t.nodes };
 }
 
 impl<const MIN: usize, const MAX: usize> TTree<MIN, MAX> {
@@ -42,6 +45,7 @@ impl<const MIN: usize, const MAX: usize> TTree<MIN, MAX> {
     ghost use Rattle.ttree.specs.Searching.{taken, IsAskedAtMost, IsHitIn, IsGap};
     ghost use Rattle.ttree_node.specs.Seen.{tree_of, spares_of};
     ghost use Rattle.ttree.specs.Held.{items_of_tree};
+    ghost use Rattle.ttree.specs.Room.{nodes_of, room_of, nodes_for};
     ghost use Rattle.ttree.specs.Shape.{IsBalanced, HasTrueHeights, HasItemsInEach, IsOccupiedThroughout, ParentsAreFull, fib, binary_digits};
 
     /// An empty tree, which has taken no memory.
@@ -50,24 +54,29 @@ impl<const MIN: usize, const MAX: usize> TTree<MIN, MAX> {
         requires ordered { MIN ≤ MAX }
         requires two { 2 ≤ MAX }
         ensures tree { tree_of result ≡ empty }
-        ensures room { spares_of result ≡ 0 }
+        ensures spares { spares_of result ≡ 0 }
+        ensures room { room_of MIN result ≡ 0 }
     {
         TTree {
             links: Links::new(alloc),
             len: 0,
+            nodes: 0,
         }
     }
 
     /// A reference in the range of the probe.
     pub fn find<P: Probe>(&self, probe: &mut P) -> Option<TupleRef>
+        requires sound { P.is_sound probe.old }
         requires placed { All (P.can_place probe.old) (items_of_tree self.now) }
         requires in_order { NeverFalls (P.place probe.old) (items_of_tree self.now) }
         ensures held { IfSome result (Contains (items_of_tree self.now)) }
         ensures found { IfSome result (λ r. P.place probe.old r ≡ Ordering.Equal) }
         ensures none { IfNone result (All (λ r. P.place probe.old r ≢ Ordering.Equal) (items_of_tree self.now)) }
-        ensures probe { IsOnlyAsked P.can_place P.place P.asked probe.old probe.new }
+        ensures probe { IsOnlyAsked P.is_sound P.can_place P.place P.asked probe.old probe.new }
+        ensures asks { 0 < length (items_of_tree self.now) → counted (P.asked probe.old) ≤ P.asked probe.new }
         // Each level asks at most twice, and the last one once more for each binary digit of the number of its items.
         ensures most_asked { P.asked probe.new ≤ P.asked probe.old + (2 * height (tree_of self.now) + binary_digits MAX) }
+        ensures bound { fib (height (tree_of self.now) + 2) ≤ 1 + length (items_of_tree self.now) }
     {
         let (look, found) = self.search(probe, Seek::Any);
         match found {
@@ -78,13 +87,15 @@ impl<const MIN: usize, const MAX: usize> TTree<MIN, MAX> {
 
     /// Appends the references in the range of the probe, in order.
     pub fn range<P: Probe>(&self, probe: &mut P, out: &mut Vec<TupleRef>) -> Result<(), NoMemory>
+        requires sound { P.is_sound probe.old }
         requires placed { All (P.can_place probe.old) (items_of_tree self.now) }
         requires in_order { NeverFalls (P.place probe.old) (items_of_tree self.now) }
         ensures ok { OnOk result (out.new.items ≡ out.old.items ++ in_range (P.place probe.old) (items_of_tree self.now)) }
         ensures err { OnErr result (out.new.items ≡ out.old.items) }
-        ensures probe { IsOnlyAsked P.can_place P.place P.asked probe.old probe.new }
+        ensures probe { IsOnlyAsked P.is_sound P.can_place P.place P.asked probe.old probe.new }
         // Beyond the search it asks once for each reference that it appends, and once more.
         ensures most_asked { OnOk result (P.asked probe.new ≤ P.asked probe.old + (2 * height (tree_of self.now) + binary_digits MAX) + length (in_range (P.place probe.old) (items_of_tree self.now)) + 1) }
+        ensures bound { fib (height (tree_of self.now) + 2) ≤ 1 + length (items_of_tree self.now) }
     {
         let before = out.len();
         for r in self.walk_from(probe) {
@@ -108,11 +119,14 @@ impl<const MIN: usize, const MAX: usize> TTree<MIN, MAX> {
 
     /// The references in order, from the first that does not stand below the probe's range.
     pub fn walk_from<P: Probe>(&self, probe: &mut P) -> Walk<'_, MAX>
+        requires sound { P.is_sound probe.old }
         requires placed { All (P.can_place probe.old) (items_of_tree self.now) }
         requires in_order { NeverFalls (P.place probe.old) (items_of_tree self.now) }
         ensures rest { rest_of result ≡ from_range (P.place probe.old) (items_of_tree self.now) }
-        ensures probe { IsOnlyAsked P.can_place P.place P.asked probe.old probe.new }
+        ensures probe { IsOnlyAsked P.is_sound P.can_place P.place P.asked probe.old probe.new }
+        ensures asks { 0 < length (items_of_tree self.now) → counted (P.asked probe.old) ≤ P.asked probe.new }
         ensures most_asked { P.asked probe.new ≤ P.asked probe.old + (2 * height (tree_of self.now) + binary_digits MAX) }
+        ensures bound { fib (height (tree_of self.now) + 2) ≤ 1 + length (items_of_tree self.now) }
     {
         let (look, found) = self.search(probe, Seek::First);
         match found {
@@ -124,14 +138,20 @@ impl<const MIN: usize, const MAX: usize> TTree<MIN, MAX> {
 
     // Searches from the root: the place where the search ends, and there the index of an item in the range, or of where it would be.
     fn search<P: Probe>(&self, probe: &mut P, seek: Seek) -> (Look<'_, MAX>, Result<usize, usize>)
+        requires sound { P.is_sound probe.old }
         requires placed { All (P.can_place probe.old) (items_of_tree self.now) }
         requires in_order { NeverFalls (P.place probe.old) (items_of_tree self.now) }
         ensures whole { whole (position result.0) ≡ tree_of self.now }
         ensures hit { IfOk result.1 (IsHitIn (λ r. taken seek (P.place probe.old r)) (items_of (position result.0).here)) }
         ensures gap { IfErr result.1 (IsGap (λ r. taken seek (P.place probe.old r)) (position result.0)) }
-        ensures probe { IsAskedAtMost (2 * height (tree_of self.now) + binary_digits MAX) P.can_place P.place P.asked probe.old probe.new }
+        ensures probe { IsAskedAtMost (2 * height (tree_of self.now) + binary_digits MAX) P.is_sound P.can_place P.place P.asked probe.old probe.new }
+        ensures asks { 0 < length (items_of_tree self.now) → counted (P.asked probe.old) ≤ P.asked probe.new }
+        ensures bound { fib (height (tree_of self.now) + 2) ≤ 1 + length (items_of_tree self.now) }
     {
         let mut look = self.links.look();
+        if !look.has_node() {
+            return (look, Err(0));
+        }
         let found = locate(&mut look, probe, seek);
         (look, found)
     }
@@ -145,7 +165,8 @@ impl<const MIN: usize, const MAX: usize> TTree<MIN, MAX> {
         ensures no_empty_node { HasItemsInEach MAX (tree_of self.now) }
         // A node with two children holds at least `MIN`, and one with a leaf alone at least one more together with it.
         ensures occupied { IsOccupiedThroughout MIN (tree_of self.now) }
-        // So the height is at most logarithmic.
+        // So the nodes are at most these, and the height is at most logarithmic.
+        ensures few_nodes { MIN * size (tree_of self.now) ≤ 2 * length (items_of_tree self.now) + MIN }
         ensures bound { fib (height (tree_of self.now) + 2) ≤ 1 + length (items_of_tree self.now) }
     {
         let root = self.links.look();
@@ -161,34 +182,82 @@ impl<const MIN: usize, const MAX: usize> TTree<MIN, MAX> {
         requires { n ≤ 2 ^ 32 }
         ensures tree { tree_of self.new ≡ tree_of self.old }
         ensures items { items_of_tree self.new ≡ items_of_tree self.old }
-        ensures reserved { OnOk result (n ≤ spares_of self.new) }
-        ensures room { spares_of self.old ≤ spares_of self.new }
-        ensures no_more { OnOk result (spares_of self.new ≡ max (spares_of self.old) n) }
+        ensures reserved { OnOk result (n ≤ room_of MIN self.new) }
+        ensures room { room_of MIN self.old ≤ room_of MIN self.new }
+        // It makes no spare nodes beyond a spare one for each insert, and none beyond the nodes that suffice for all references.
+        ensures spares { spares_of self.new ≤ max (spares_of self.old) n }
+        ensures nodes { nodes_of self.new ≤ max (nodes_of self.old) (nodes_for MIN (length (items_of_tree self.old) + n)) }
         ensures err { OnErr result (spares_of self.new ≡ spares_of self.old) }
     {
-        self.links.reserve(n)
+        let spares = self.links.spares();
+        let enough = 1 + (2 * (self.len + n)).div_ceil(MIN);
+        let more = n
+            .saturating_sub(spares)
+            .min(enough.saturating_sub(self.nodes));
+        if more > 0 {
+            self.links.reserve(spares + more)?;
+            self.nodes += more;
+        }
+        Ok(())
     }
 
     /// Puts `r` at its place. Takes no memory.
     pub fn insert<O: TupleOrder>(&mut self, order: &O, r: TupleRef)
         // There is room for one more, and `r` is not held.
-        requires reserved { 0 < spares_of self.old }
+        requires reserved { 0 < room_of MIN self.old }
         requires short { length (items_of_tree self.old) < 2 ^ 32 }
         requires absent { ¬ (Contains (items_of_tree self.old) r) }
 
         // The list rises by the order, which covers it and `r`.
+        requires sound { O.is_sound order.now }
         requires covered { All (O.covers order.now) (items_of_tree self.old) }
         requires r_covered { O.covers order.now r }
         requires rising { IsRising (O.cmp order.now) (items_of_tree self.old) }
 
         ensures items { items_of_tree self.new ≡ insert_by (O.cmp order.now) r (items_of_tree self.old) }
         ensures rising { IsRising (O.cmp order.now) (items_of_tree self.new) }
-        ensures room { spares_of self.old ≤ spares_of self.new + 1 }
+        // A node that this adds was a spare one, and it adds one at most.
+        ensures nodes { nodes_of self.new ≡ nodes_of self.old }
+        ensures spares { spares_of self.old ≤ spares_of self.new + 1 }
+        ensures room { room_of MIN self.old ≤ room_of MIN self.new + 1 }
         // Where each node that has a child is full, it stays so: hence it is so after inserts alone into a new tree.
         ensures full { 2 ≤ MIN → ParentsAreFull MAX (tree_of self.old) → ParentsAreFull MAX (tree_of self.new) }
     {
-        insert::<O, MIN, MAX>(&mut self.links.edit(), order, r);
-        self.len += 1;
+        let found = self.insert_unless_found(&mut OrderProbe::new(order, r), r);
+        prove!(found.is_none());
+    }
+
+    /// Puts `r` where the probe's range would stand and gives None, or gives a reference that stands in the range and
+    /// changes nothing. It searches once, and takes no memory.
+    pub fn insert_unless_found<P: Probe>(&mut self, probe: &mut P, r: TupleRef) -> Option<TupleRef>
+        requires reserved { 0 < room_of MIN self.old }
+        requires short { length (items_of_tree self.old) < 2 ^ 32 }
+        requires sound { P.is_sound probe.old }
+        requires placed { All (P.can_place probe.old) (items_of_tree self.old) }
+        requires in_order { NeverFalls (P.place probe.old) (items_of_tree self.old) }
+        ensures held { IfSome result (Contains (items_of_tree self.old)) }
+        ensures found { IfSome result (λ q. P.place probe.old q ≡ Ordering.Equal) }
+        ensures kept { IfSome result (λ _. tree_of self.new ≡ tree_of self.old) }
+        ensures kept_spares { IfSome result (λ _. spares_of self.new ≡ spares_of self.old) }
+        ensures none { IfNone result (All (λ q. P.place probe.old q ≢ Ordering.Equal) (items_of_tree self.old)) }
+        ensures inserted { IfNone result (items_of_tree self.new ≡ insert_placed (P.place probe.old) r (items_of_tree self.old)) }
+        ensures one { IfNone result (length (items_of_tree self.new) ≡ length (items_of_tree self.old) + 1) }
+        // A node that this adds was a spare one, and it adds one at most.
+        ensures nodes { nodes_of self.new ≡ nodes_of self.old }
+        ensures spares { spares_of self.old ≤ spares_of self.new + 1 }
+        ensures room { room_of MIN self.old ≤ room_of MIN self.new + 1 }
+        // Where each node that has a child is full, it stays so.
+        ensures full { 2 ≤ MIN → ParentsAreFull MAX (tree_of self.old) → ParentsAreFull MAX (tree_of self.new) }
+        ensures probe { IsOnlyAsked P.is_sound P.can_place P.place P.asked probe.old probe.new }
+        ensures asks { 0 < length (items_of_tree self.old) → counted (P.asked probe.old) ≤ P.asked probe.new }
+        ensures most_asked { P.asked probe.new ≤ P.asked probe.old + (2 * height (tree_of self.old) + binary_digits MAX) }
+        ensures bound { fib (height (tree_of self.old) + 2) ≤ 1 + length (items_of_tree self.old) }
+    {
+        let found = insert_unless_found::<P, MIN, MAX>(&mut self.links.edit(), probe, r);
+        if found.is_none() {
+            self.len += 1;
+        }
+        found
     }
 
     /// Takes `r` out. Each node that this frees is kept as a spare one. Takes no memory.
@@ -196,13 +265,15 @@ impl<const MIN: usize, const MAX: usize> TTree<MIN, MAX> {
         requires held { Contains (items_of_tree self.old) r }
 
         // The list rises by the order, which covers it.
+        requires sound { O.is_sound order.now }
         requires covered { All (O.covers order.now) (items_of_tree self.old) }
         requires rising { IsRising (O.cmp order.now) (items_of_tree self.old) }
 
         ensures items { items_of_tree self.new ≡ remove_by (O.cmp order.now) r (items_of_tree self.old) }
         ensures rising { IsRising (O.cmp order.now) (items_of_tree self.new) }
-        ensures freed { spares_of self.new + size (tree_of self.new) ≡ spares_of self.old + size (tree_of self.old) }
-        ensures room { spares_of self.old ≤ spares_of self.new }
+        ensures nodes { nodes_of self.new ≡ nodes_of self.old }
+        ensures spares { spares_of self.old ≤ spares_of self.new }
+        ensures room { room_of MIN self.old ≤ room_of MIN self.new }
     {
         remove::<O, MIN, MAX>(&mut self.links.edit(), order, r);
         self.len -= 1;
@@ -218,8 +289,10 @@ impl<const MIN: usize, const MAX: usize> TTree<MIN, MAX> {
     /// Gives back the memory that was reserved and not used. Takes no memory.
     pub fn release_spares(&mut self)
         ensures tree { tree_of self.new ≡ tree_of self.old }
-        ensures room { spares_of self.new ≡ 0 }
+        ensures spares { spares_of self.new ≡ 0 }
+        ensures room { room_of MIN self.new ≡ 0 }
     {
+        self.nodes -= self.links.spares();
         self.links.release_spares();
     }
 }

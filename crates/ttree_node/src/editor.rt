@@ -62,6 +62,13 @@ impl<'a, const MAX: usize> Editor<'a, MAX> {
         self.links.items(self.at)
     }
 
+    /// The stated height of the node, 0 where no node is.
+    pub fn height(&self) -> u32
+        ensures { result ≡ stated (position self.now).here }
+    {
+        self.links.height_at(self.at)
+    }
+
     /// The stated heights of the left and of the right child, 0 for none.
     pub fn heights(&self) -> (u32, u32)
         ensures left { result.0 ≡ stated (left_of (position self.now).here) }

@@ -28,11 +28,13 @@ impl TupleOrder for KeyOrder {
     ghost use Rattle.std.specs.Ordering.{nat_cmp};
     ghost use Rattle.std.specs.declared.cmp.Ordering.TheVariants.{Equal};
 
+    ghost is_sound = { λ _. Unit {0} };
+
     ghost covers = { λ _ r. r.slot ≡ 0 };
 
     ghost cmp = { λ _ a b. nat_cmp a.part b.part };
 
-    ghost is_strict = { λ _. record {
+    ghost is_strict = { λ _ _. record {
       antisymm = λ a b _ _. nat_cmp_total.antisymm a.part b.part;
       trans = λ a b c _ _ _ h k. nat_cmp_total.trans a.part b.part c.part h k;
       strict = λ a b p q e.

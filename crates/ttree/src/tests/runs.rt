@@ -8,7 +8,6 @@ use super::keys::{add, add_all, find_key, key_probe, keyed, range_keys};
 use crate::TTree;
 use mm_index::Probe;
 use no_memory::NoMemory;
-use part_raw::TupleRef;
 use std::alloc::Global;
 use std::test::Fail;
 
@@ -62,11 +61,21 @@ fn has_from(tree: &TTree<2, 3>, low: u32, keys: &[u32]) -> bool
         .eq(keys.iter().copied())
 }
 
+// Whether a walk from 0 gives all 200 references.
+fn walks_from_zero(tree: &TTree<2, 3>) -> bool
+    requires { IsRising (λ a b. nat_cmp a.part b.part) (items_of_tree tree.now) }
+{
+    tree.walk_from(&mut key_probe(0, u32::MAX))
+        .eq((0..200).map(|i| keyed(i * 2)))
+}
+
 #[test]
 fn searches_on_several_levels(rt: HostRuntime) -> Result<(), Fail> {
     let tree = scattered(rt.alloc())?;
+    assert_eq!(rt; tree.len(), 200);
     assert!(rt; (7..10).contains(&tree.height()));
     assert!(rt; has_even_keys(&tree));
+    assert!(rt; walks_from_zero(&tree));
     assert!(rt; has_from(&tree, 393, &[394, 396, 398]));
     Ok(())
 }
@@ -94,25 +103,21 @@ fn reserve_under_refusal(rt: HostRuntime) {
     }
 }
 
-// What stands in a list to which a range over 1, 2 and 3 was appended, and whether it was.
-fn appended(alloc: Global) -> Result<(Vec<TupleRef>, bool), NoMemory> {
+// Whether a range over 1, 2 and 3 appends them to a list with a 9, or nothing where it is refused.
+fn appends_all_or_nothing(alloc: Global) -> Result<bool, NoMemory> {
     let mut tree: TTree<1, 2> = TTree::new(alloc);
     let mut out = Vec::new(alloc);
     add_all(&mut tree, &[2, 1, 3])?;
     out.push(keyed(9))?;
     let is_whole = range_keys(&tree, &mut key_probe(1, 9), &mut out).is_ok();
-    Ok((out, is_whole))
+    let wanted = [keyed(9), keyed(1), keyed(2), keyed(3)];
+    let count = if is_whole { 4 } else { 1 };
+    Ok(out.iter().copied().eq(wanted[..count].iter().copied()) && tree.len() == 3)
 }
 
 #[test]
 fn range_under_refusal(rt: HostRuntime) {
-    if let Ok((out, is_whole)) = appended(rt.alloc()) {
-        let wanted = [9, 1, 2, 3];
-        let count = if is_whole { 4 } else { 1 };
-        assert!(rt;
-            out.iter()
-                .map(|r| r.part)
-                .eq(wanted[..count].iter().copied())
-        );
+    if let Ok(is_right) = appends_all_or_nothing(rt.alloc()) {
+        assert!(rt; is_right);
     }
 }

@@ -38,8 +38,17 @@ fn has_nodes<const MIN: usize, const MAX: usize>(tree: &TTree<MIN, MAX>, nodes: 
     true
 }
 
-// The first line of a run after which the tree has another shape. Before the arrow stand keys, which
-// are put in, or taken out where they are there; behind it the nodes of the tree.
+// Whether these are the height of the tree and the number of its references.
+fn has_size<const MIN: usize, const MAX: usize>(tree: &TTree<MIN, MAX>, size: &str) -> bool {
+    let wanted = size.split_whitespace().map(|n| n.parse::<usize>().ok());
+    [Some(tree.height()), Some(tree.len())]
+        .into_iter()
+        .eq(wanted)
+}
+
+// The first line of a run after which the tree has another shape. Before the first arrow stand keys,
+// which are put in, or taken out where they are there; behind it the height of the tree and the number
+// of its references, and behind the second arrow its nodes.
 fn first_misshapen<'a, const MIN: usize, const MAX: usize>(
     alloc: Global,
     run: &'a str,
@@ -50,9 +59,10 @@ fn first_misshapen<'a, const MIN: usize, const MAX: usize>(
 {
     let mut tree: TTree<MIN, MAX> = TTree::new(alloc);
     for line in run.split('\n') {
-        let (keys, nodes) = line.split_once(" => ").unwrap_or((line, ""));
+        let (keys, shape) = line.split_once(" => ").unwrap_or((line, ""));
+        let (size, nodes) = shape.split_once(" => ").unwrap_or((shape, ""));
         flip_all(&mut tree, keys)?;
-        if !has_nodes(&tree, nodes) {
+        if !has_size(&tree, size) || !has_nodes(&tree, nodes) {
             return Ok(Some(line));
         }
     }
@@ -62,15 +72,15 @@ fn first_misshapen<'a, const MIN: usize, const MAX: usize>(
 #[test]
 fn a_slide_and_a_double_rotation(rt: HostRuntime) -> Result<(), Fail> {
     let run = "\
-10 20 30 1 2 3 5 => :2 3 5, L:1, R:10 20 30, LL, LR, RL, RR\n\
-4 6 15 => :3 4 5, L:1 2, R:15 20 30, RL:6 10, RLL, RLR, LL, LR, RR";
+10 20 30 1 2 3 5 => 2 7 => :2 3 5, L:1, R:10 20 30, LL, LR, RL, RR\n\
+4 6 15 => 3 10 => :3 4 5, L:1 2, R:15 20 30, RL:6 10, RLL, RLR, LL, LR, RR";
     assert_eq!(rt; first_misshapen::<2, 3>(rt.alloc(), run)?, None);
     Ok(())
 }
 
 #[test]
 fn a_single_rotation(rt: HostRuntime) -> Result<(), Fail> {
-    let run = "1 2 3 4 5 6 7 => :3 4, L:1 2, R:5 6, RR:7, RRL, RRR, RL, LL, LR";
+    let run = "1 2 3 4 5 6 7 => 3 7 => :3 4, L:1 2, R:5 6, RR:7, RRL, RRR, RL, LL, LR";
     assert_eq!(rt; first_misshapen::<1, 2>(rt.alloc(), run)?, None);
     Ok(())
 }
@@ -78,10 +88,10 @@ fn a_single_rotation(rt: HostRuntime) -> Result<(), Fail> {
 #[test]
 fn a_half_leaf_takes_its_leaf(rt: HostRuntime) -> Result<(), Fail> {
     let run = "\
-10 20 30 1 2 3 5 => :2 3 5, L:1, R:10 20 30\n\
-5 3 => :1 2, L, R:10 20 30, RL, RR\n\
-30 20 => :1 2 10, L, R\n\
-2 1 10 => ";
+10 20 30 1 2 3 5 => 2 7 => :2 3 5, L:1, R:10 20 30\n\
+5 3 => 2 5 => :1 2, L, R:10 20 30, RL, RR\n\
+30 20 => 1 3 => :1 2 10, L, R\n\
+2 1 10 => 0 0 => ";
     assert_eq!(rt; first_misshapen::<2, 3>(rt.alloc(), run)?, None);
     Ok(())
 }
@@ -89,8 +99,8 @@ fn a_half_leaf_takes_its_leaf(rt: HostRuntime) -> Result<(), Fail> {
 #[test]
 fn a_freed_leaf_turns_the_root(rt: HostRuntime) -> Result<(), Fail> {
     let run = "\
-1 2 3 4 5 6 7 => :3 4, L:1 2, R:5 6, RR:7\n\
-1 2 => :5 6, L:3 4, R:7, LL, LR, RL, RR";
+1 2 3 4 5 6 7 => 3 7 => :3 4, L:1 2, R:5 6, RR:7\n\
+1 2 => 2 5 => :5 6, L:3 4, R:7, LL, LR, RL, RR";
     assert_eq!(rt; first_misshapen::<1, 2>(rt.alloc(), run)?, None);
     Ok(())
 }
@@ -98,9 +108,9 @@ fn a_freed_leaf_turns_the_root(rt: HostRuntime) -> Result<(), Fail> {
 #[test]
 fn an_internal_node_borrows(rt: HostRuntime) -> Result<(), Fail> {
     let run = "\
-1 2 3 4 5 6 7 8 9 10 => :4 5 6, L:1 2 3, R:7 8 9, RL, RR:10\n\
-5 4 6 => :2 3, L:1, R:7 8 9, RR:10\n\
-3 => :7 8 9, L:1 2, R:10, LL, LR, RL, RR";
+1 2 3 4 5 6 7 8 9 10 => 3 10 => :4 5 6, L:1 2 3, R:7 8 9, RL, RR:10\n\
+5 4 6 => 3 7 => :2 3, L:1, R:7 8 9, RR:10\n\
+3 => 2 6 => :7 8 9, L:1 2, R:10, LL, LR, RL, RR";
     assert_eq!(rt; first_misshapen::<2, 3>(rt.alloc(), run)?, None);
     Ok(())
 }

@@ -34,13 +34,13 @@ rotate-requires-then-saturating_sub-gt1-2 g c =
       ),
     )
 
-pub returns-then-saturating_sub-gt1-clause-nodes : goal.returns-then-saturating_sub-gt1-clause-nodes
-returns-then-saturating_sub-gt1-clause-nodes g c =
+pub returns-then-saturating_sub-gt1-clause-size : goal.returns-then-saturating_sub-gt1-clause-size
+returns-then-saturating_sub-gt1-clause-size g c =
     size-mended g.row.MIN g.row.MAX (position c.args.editor.now) (position c.rotate.new.editor) c.rotate.ensures.above c.rotate.ensures.mended c.requires.tree c.rotate.ensures.tree
 
-pub returns-then-saturating_sub-gt1-2-clause-nodes :
-    goal.returns-then-saturating_sub-gt1-2-clause-nodes
-returns-then-saturating_sub-gt1-2-clause-nodes g c =
+pub returns-then-saturating_sub-gt1-2-clause-size :
+    goal.returns-then-saturating_sub-gt1-2-clause-size
+returns-then-saturating_sub-gt1-2-clause-size g c =
     size-mended g.row.MIN g.row.MAX (position c.args.editor.now) (position c.rotate-then-saturating_sub-gt1-2.new.editor) c.rotate-then-saturating_sub-gt1-2.ensures.above c.rotate-then-saturating_sub-gt1-2.ensures.mended c.requires.tree c.rotate-then-saturating_sub-gt1-2.ensures.tree
 
 pub returns-else-saturating_sub-gt1-2-clause-mended :
@@ -50,9 +50,9 @@ returns-else-saturating_sub-gt1-2-clause-mended g c =
     let low : height t < 4294967295 = mendable-low g.row.MIN g.row.MAX (position c.args.editor.now) c.requires.mendable (subst (λ t. length (list t) ≤ 2 ^ 32) c.requires.tree c.requires.short) in
     subst (λ z. IsMendedTo g.row.MIN g.row.MAX t z.here) (sym c.restate.ensures.height) (mends-near g.row.MIN g.row.MAX t c.requires.mendable (omega (arith, s.0, s.1)) (omega (arith, s.0, s.1)) low)
 
-pub returns-else-saturating_sub-gt1-2-clause-nodes :
-    goal.returns-else-saturating_sub-gt1-2-clause-nodes
-returns-else-saturating_sub-gt1-2-clause-nodes g c =
+pub returns-else-saturating_sub-gt1-2-clause-size :
+    goal.returns-else-saturating_sub-gt1-2-clause-size
+returns-else-saturating_sub-gt1-2-clause-size g c =
     size_restated (position c.args.editor.now) (position c.restate.new.editor) c.restate.ensures.height c.requires.tree c.restate.ensures.tree
 
 pub returns-else-saturating_sub-gt1-2-clause-full :

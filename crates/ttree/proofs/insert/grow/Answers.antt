@@ -1,6 +1,6 @@
 use Rattle.std.proofs.Common.{◌≡◌, ◌∙◌, ◌^◌, ◌≤◌, length, ap, subst, sym, arith, lit<}
 use Rattle.part_raw.specs.declared.tuple_ref.TupleRef.{TupleRef}
-use Rattle.ttree_node.specs.Tree.{Tree, Zipper, Label, whole, list, up, with_leaf}
+use Rattle.ttree_node.specs.Tree.{Tree, Zipper, Label, whole, list, size, up, with_leaf}
 use Rattle.ttree_node.specs.Seen.{on_side}
 use Rattle.ttree_node.specs.Editor.{position, tree_at}
 use Rattle.ttree.specs.Shape.{IsTTree, ParentsAreFull}
@@ -8,7 +8,7 @@ use Rattle.ttree.specs.Fullness.{CanRiseFull}
 use Rattle.ttree.proofs.Fullness.{grown_rises_full}
 use Rattle.ttree.specs.Mending.{CanRise}
 use Rattle.ttree.proofs.Growing.{grown_rises}
-use Rattle.ttree.proofs.Puts.{length_grown}
+use Rattle.ttree.proofs.Puts.{length_grown, size_grown}
 use Rattle.ttree.proofs.Places.{whole-up}
 use Rattle.ttree.proofs.insert.grow.Goals as goal
 
@@ -47,3 +47,19 @@ returns-clause-parents g c = λ two full.
     let parents : ParentsAreFull g.row.MAX (whole z) = subst (λ (t : Tree (Label TupleRef)). ParentsAreFull g.row.MAX t) c.requires.tree full in
     c.rebalance.ensures.full two
     (subst (λ (w : Zipper (Label TupleRef)). CanRiseFull g.row.MIN g.row.MAX w) (sym there) (grown_rises_full g.row.MAX g.row.MIN c.args.side z c.args.r c.requires.side c.requires.node c.requires.open c.requires.full fit parents))
+
+pub returns-clause-nodes : goal.returns-clause-nodes
+returns-clause-nodes g c =
+    let z : Zipper (Label TupleRef) = position c.args.editor.now in
+    let y : Zipper (Label TupleRef) = with_leaf c.args.r (on_side c.args.side z) in
+    let grown : tree_at c.up.new.self ≡ whole y = c.up.ensures.tree ∙ c.new_leaf.ensures.tree ∙ ap (λ (w : Zipper (Label TupleRef)). whole w) c.new_leaf.ensures.leaf in
+    omega (
+      arith,
+      c.rebalance.ensures.size,
+      c.rebalance.ensures.spares,
+      c.up.ensures.spares,
+      c.new_leaf.ensures.spares,
+      ap (λ (t : Tree (Label TupleRef)). size t) grown,
+      ap (λ (t : Tree (Label TupleRef)). size t) c.requires.tree,
+      size_grown c.args.side z c.args.r c.requires.side c.requires.node c.requires.open,
+    )

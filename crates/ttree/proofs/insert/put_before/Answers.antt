@@ -2,7 +2,7 @@ use Rattle.std.proofs.Common.{◌∙◌, ◌++◌, ap, sym}
 use Rattle.part_raw.specs.declared.tuple_ref.TupleRef.{TupleRef}
 use Rattle.ttree_node.specs.Tree.{Zipper, Label, list, list_before, list_after}
 use Rattle.ttree_node.specs.Editor.{position}
-use Rattle.ttree.proofs.Puts.{list_grown_left, list_grown_right, filled_left}
+use Rattle.ttree.proofs.Puts.{list_grown_left, list_grown_right, with_item_left}
 use Rattle.ttree.proofs.insert.put_before.Goals as goal
 
 pub returns-then-not-has_left-clause-list : goal.returns-then-not-has_left-clause-list
@@ -17,5 +17,5 @@ returns-else-end-clause-list g c =
     let end = c.to_rightmost.ensures in
     let moved = c.down_left.ensures.moved in
     c.grow-else-end.ensures.list ∙ list_grown_right w c.args.item end.node end.open
-    ∙ filled_left z w c.args.item c.requires.node end.node end.open
+    ∙ with_item_left z w c.args.item c.requires.node end.node end.open
     (end.ahead ∙ ap (λ (y : Zipper (Label TupleRef)). list_before y.above ++ list y.here) moved) (end.behind ∙ ap (λ (y : Zipper (Label TupleRef)). list_after y.above) moved)

@@ -2,15 +2,16 @@ use Rattle.std.proofs.Common.{◌≡◌, ◌∙◌, ◌-◌, ◌<◌, ◌≤◌,
 use Rattle.std.specs.List.{insert, remove}
 use Rattle.std.proofs.lemmas.List.{length-drop}
 use Rattle.part_raw.specs.declared.tuple_ref.TupleRef.{TupleRef}
-use Rattle.ttree_node.specs.Tree.{Tree, Zipper, Label, whole, list, items_of, is_node, with_items}
+use Rattle.ttree_node.specs.Tree.{Tree, Zipper, Label, whole, list, size, items_of, is_node, with_items}
 use Rattle.ttree_node.specs.Editor.{position, tree_at}
 use Rattle.ttree.specs.Shape.{IsTTree, ParentsAreFull}
 use Rattle.ttree.proofs.Fullness.{full-with_items}
-use Rattle.ttree.specs.Searching.{filled}
+use Rattle.ttree.specs.Searching.{with_item}
 use Rattle.ttree.proofs.Descent.{few_here}
 use Rattle.ttree.proofs.Ends.{items_in_each}
 use Rattle.ttree.proofs.Replacing.{whole-new_items}
 use Rattle.ttree.proofs.Refits.{items_again, items_now, node_still}
+use Rattle.ttree.proofs.Places.{size-with_items}
 use Rattle.ttree.proofs.Puts.{spilt, length_spilt, list_spilt, length_list_spilt}
 use Rattle.ttree.proofs.insert.spill.Goals as goal
 
@@ -90,5 +91,13 @@ returns-clause-list g c =
     let cut = c.cut-least.ensures.items in
     let items : items_of (position c.cut-least.new.self).here ≡ remove xs 0 = ap (λ (y : Zipper (Label TupleRef)). items_of y.here) cut ∙ items_now z (remove xs 0) c.requires.node in
     let there : position c.put.new.self ≡ with_items ys z = c.put.ensures.items ∙ (λ k. with_items (insert (items k) (c.args.index - 1) c.args.r) (cut k)) ∙ items_again z (remove xs 0) ys in
-    c.put_before.ensures.list ∙ ap (λ (y : Zipper (Label TupleRef)). filled 0 c.cut-least.result y) there
+    c.put_before.ensures.list ∙ ap (λ (y : Zipper (Label TupleRef)). with_item 0 c.cut-least.result y) there
     ∙ list_spilt z c.args.index c.args.r some c.cut-least.result c.requires.node c.requires.inside c.cut-least.ensures.item
+
+pub returns-clause-nodes : goal.returns-clause-nodes
+returns-clause-nodes g c =
+    let z : Zipper (Label TupleRef) = position c.args.editor.now in
+    let y : Zipper (Label TupleRef) = position c.cut-least.new.self in
+    let put = ap (λ (t : Tree (Label TupleRef)). size t) c.put.ensures.tree ∙ (λ i. size (whole (c.put.ensures.items i))) ∙ size-with_items (insert (items_of y.here) (c.args.index - 1) c.args.r) y in
+    let cut = (λ i. size (whole (c.cut-least.ensures.items i))) ∙ size-with_items (remove (items_of z.here) 0) z ∙ sym (ap (λ (t : Tree (Label TupleRef)). size t) c.requires.tree) in
+    omega (arith, put ∙ cut, c.put_before.ensures.nodes, c.put.ensures.spares, c.cut-least.ensures.spares)

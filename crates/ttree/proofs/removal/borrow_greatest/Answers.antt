@@ -40,8 +40,8 @@ returns-clause-list g c =
     let is = put_back z (position c.take_from_left-greatest.new.editor) (position c.put.new.self) i c.take_from_left-greatest.ensures.taken c.put.ensures.items in
     ap (λ t. list t) (c.to_left_greatest.ensures.tree ∙ c.put.ensures.tree) ∙ (λ j. list (whole (is j))) ∙ list-lent z i c.requires.left c.take_from_left-greatest.ensures.greatest ∙ sym (ap (λ t. list t) c.requires.tree)
 
-pub returns-clause-nodes : goal.returns-clause-nodes
-returns-clause-nodes g c =
+pub returns-clause-size : goal.returns-clause-size
+returns-clause-size g c =
     let z = position c.args.editor.now in let i = c.take_from_left-greatest.result in
     let is = put_back z (position c.take_from_left-greatest.new.editor) (position c.put.new.self) i c.take_from_left-greatest.ensures.taken c.put.ensures.items in
     ap (λ t. size t) (c.to_left_greatest.ensures.tree ∙ c.put.ensures.tree) ∙ (λ j. size (whole (is j))) ∙ size-lent z (insert (items_of z.here) 0 i) ∙ sym (ap (λ t. size t) c.requires.tree)

@@ -25,7 +25,7 @@ locate_to_edit-requires g c =
     let rising : IsRising cmp (list (whole z)) = subst (λ (t : Tree (Label TupleRef)). IsRising cmp (list t)) c.requires.tree c.requires.rising in
     let r_covered : covers c.args.r = All-contains covers (list (whole z)) c.args.r covered held in
     let in_order : NeverFalls (λ q. cmp q c.args.r) (list (whole z)) =
-    NeverFalls-by_order covers cmp (g.met.O.TupleOrder.is_strict c.args.order.now) c.args.r (list (whole z)) covered r_covered rising in (
+    NeverFalls-by_order covers cmp (g.met.O.TupleOrder.is_strict c.args.order.now c.requires.sound) c.args.r (list (whole z)) covered r_covered rising in (
       lit< tt,
       (
         c.requires.root,
@@ -34,8 +34,8 @@ locate_to_edit-requires g c =
           (
             subst (λ (t : Tree (Label TupleRef)). HasItemsInEach g.row.MAX t) c.requires.tree (items_in_each g.row.MIN g.row.MAX (tree_at c.args.editor.now) c.requires.fit),
             (
-              rw (c.new.ensures.order, c.new.ensures.sought) (λ k d l. (covered k d l, r_covered)),
-              rw (c.new.ensures.order, c.new.ensures.sought) in_order,
+              rw (c.new.ensures.order, c.new.ensures.sought) (c.requires.sound, r_covered),
+              (rw c.new.ensures.order covered, rw (c.new.ensures.order, c.new.ensures.sought) in_order),
             ),
           ),
         ),
@@ -51,14 +51,14 @@ unreachable-requires g c =
     let same : whole w ≡ tree_at c.args.editor.now = c.locate_to_edit.ensures.whole ∙ sym c.requires.tree in
     let gap : IsGap (λ q. cmp q c.args.r) w c.in-Err.field-0 = rw (c.new.ensures.order, c.new.ensures.sought) at c.in-Err.ensures.gap in
     All-contains (λ q. cmp q c.args.r ≢ Equal) xs c.args.r (none_in_gap (tree_at c.args.editor.now) w same (λ q. cmp q c.args.r) c.in-Err.field-0 gap) c.requires.held
-    (cmp_itself covers cmp (g.met.O.TupleOrder.is_strict c.args.order.now) c.args.r (All-contains covers xs c.args.r c.requires.covered c.requires.held))
+    (cmp_itself covers cmp (g.met.O.TupleOrder.is_strict c.args.order.now c.requires.sound) c.args.r (All-contains covers xs c.args.r c.requires.covered c.requires.held))
 
 pub returns-clause-list : goal.returns-clause-list
 returns-clause-list g c =
     let w : Zipper (Label TupleRef) = position c.locate_to_edit.new.editor in
     let covers = g.O.TupleOrder.covers c.args.order.now in
     let cmp = g.O.TupleOrder.cmp c.args.order.now in
-    let strict = g.met.O.TupleOrder.is_strict c.args.order.now in
+    let strict = g.met.O.TupleOrder.is_strict c.args.order.now c.requires.sound in
     let i = c.in-Ok.index in
     let xs : List TupleRef = list (tree_at c.args.editor.now) in
     let bs : List TupleRef = list_until i w in let cs : List TupleRef = list_from (i + 1) w in

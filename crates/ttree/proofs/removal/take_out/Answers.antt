@@ -32,8 +32,8 @@ recover-requires g c =
       ),
     )
 
-pub returns-clause-freed : goal.returns-clause-freed
-returns-clause-freed g c =
+pub returns-clause-nodes : goal.returns-clause-nodes
+returns-clause-nodes g c =
     let z = position c.args.editor.now in let xs = remove (items_of z.here) c.args.index in
     let same : size (tree_at c.cut.new.self) ≡ size (tree_at c.args.editor.now) = ap (λ t. size t) c.cut.ensures.tree ∙ (λ i. size (whole (c.cut.ensures.items i))) ∙ size-with_items xs z ∙ sym (ap (λ t. size t) c.requires.tree) in
-    omega (arith, same, c.recover.ensures.freed, c.cut.ensures.spares)
+    omega (arith, same, c.recover.ensures.nodes, c.cut.ensures.spares)

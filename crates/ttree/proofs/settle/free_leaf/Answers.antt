@@ -32,9 +32,9 @@ returns-then-has_node-clause-list g c =
     let z = position c.args.editor.now in
     c.rebalance.ensures.list ∙ ap (λ t. list t) c.drop_leaf.ensures.tree ∙ (λ i. list (whole (c.drop_leaf.ensures.gone i))) ∙ list-dropped z c.requires.leaf c.requires.no_items ∙ sym (ap (λ t. list t) c.requires.tree)
 
-pub returns-then-has_node-clause-freed : goal.returns-then-has_node-clause-freed
-returns-then-has_node-clause-freed g c =
+pub returns-then-has_node-clause-nodes : goal.returns-then-has_node-clause-nodes
+returns-then-has_node-clause-nodes g c =
     let z = position c.args.editor.now in
     let n : size (tree_at c.drop_leaf.new.self) + 1 ≡ size (tree_at c.args.editor.now) =
     (λ i. size (c.drop_leaf.ensures.tree i) + 1) ∙ (λ i. size (whole (c.drop_leaf.ensures.gone i)) + 1) ∙ size-dropped z c.requires.leaf ∙ sym (ap (λ t. size t) c.requires.tree) in
-    omega (arith, n, c.rebalance.ensures.nodes, c.rebalance.ensures.spares, c.drop_leaf.ensures.spares)
+    omega (arith, n, c.rebalance.ensures.size, c.rebalance.ensures.spares, c.drop_leaf.ensures.spares)

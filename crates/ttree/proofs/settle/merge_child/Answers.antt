@@ -42,14 +42,14 @@ rebalance-requires g c =
       ),
     )
 
-pub returns-then-child_len-free-clause-freed : goal.returns-then-child_len-free-clause-freed
-returns-then-child_len-free-clause-freed g c =
+pub returns-then-child_len-free-clause-nodes : goal.returns-then-child_len-free-clause-nodes
+returns-then-child_len-free-clause-nodes g c =
     let side = c.args.side in let z = position c.args.editor.now in let same = c.child_len.ensures.same_place in
     let n : size (tree_at c.merge.new.self) + 1 ≡ size (tree_at c.args.editor.now) =
     (λ i. size (c.merge.ensures.tree i) + 1) ∙ (λ i. size (whole (c.merge.ensures.merged i)) + 1) ∙ (λ i. size (whole (with_tree (merged side) (same i))) + 1)
     ∙ size-merged side z (leaf_below g.row.MIN g.row.MAX side z.here c.requires.lost.near c.requires.child c.requires.other) ∙ sym (ap (λ t. size t) c.requires.tree)
     in
-    omega (arith, n, c.rebalance.ensures.nodes, c.rebalance.ensures.spares, c.merge.ensures.spares, c.child_len.ensures.spares)
+    omega (arith, n, c.rebalance.ensures.size, c.rebalance.ensures.spares, c.merge.ensures.spares, c.child_len.ensures.spares)
 
 pub returns-else-child_len-free-clause-fit : goal.returns-else-child_len-free-clause-fit
 returns-else-child_len-free-clause-fit g c =

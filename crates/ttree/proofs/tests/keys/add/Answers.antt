@@ -17,7 +17,7 @@ insert-requires g c =
     let others = at_none c.find_key.result _ (c.is_none.ensures ∙ ap not c.if-is_none.true) c.find_key.ensures.none in
     let absent : Contains (items_of_tree c.reserve.new.self) c.keyed.result → ⊥ = λ h.
     All-contains (λ r. r.part ≡ c.args.key → ⊥) _ c.keyed.result others (rw c.reserve.ensures.items at h) c.keyed.ensures.part in
-    (lit< tt, (omega (arith, c.in_ok-reserve.ensures.reserved), (rw c.reserve.ensures.items (omega (arith, c.len.ensures)), (absent, (rw c.reserve.ensures.items c.requires.slots, (c.keyed.ensures.slot, rw c.reserve.ensures.items c.requires.rising))))))
+    (lit< tt, (omega (arith, c.in_ok-reserve.ensures.reserved), (rw c.reserve.ensures.items (omega (arith, c.len.ensures)), (absent, (tt, (rw c.reserve.ensures.items c.requires.slots, (c.keyed.ensures.slot, rw c.reserve.ensures.items c.requires.rising)))))))
 
 pub returns-in_ok-reserve-clause-slots : goal.returns-in_ok-reserve-clause-slots
 returns-in_ok-reserve-clause-slots g c =

@@ -5,7 +5,8 @@ use Rattle.ttree_node.specs.Seen.{tree_of}
 use Rattle.ttree_node.specs.declared.parts.Parts.{Parts}
 use Rattle.ttree.specs.Shape.{IsTTree}
 use Rattle.ttree.proofs.Ends.{items_in_each}
-use Rattle.ttree.proofs.Heights.{height_bound, balanced, true_heights, occupied}
+use Rattle.ttree.proofs.Heights.{list_bound, balanced, true_heights, occupied}
+use Rattle.ttree.proofs.Occupancy.{few_nodes}
 use Rattle.ttree.proofs.tree.TTree.height.Goals as goal
 
 pub returns-clause-balanced : goal.returns-clause-balanced
@@ -36,10 +37,22 @@ pub returns-clause-bound : goal.returns-clause-bound
 returns-clause-bound g c =
     let t : Tree (Label TupleRef) = tree_of c.args.self.now in
     let fit : IsTTree g.row.MIN g.row.MAX t = subst (λ (p : Parts g.row.MAX). IsTTree g.row.MIN g.row.MAX (tree_of p)) c.self.view_is c.self.invariant.fit in
-    height_bound g.row.MAX t (balanced g.row.MIN g.row.MAX t fit) (items_in_each g.row.MIN g.row.MAX t fit)
+    list_bound g.row.MIN g.row.MAX t fit
 
 pub returns-then-not-has_node-clause-bound : goal.returns-then-not-has_node-clause-bound
 returns-then-not-has_node-clause-bound g c =
     let t : Tree (Label TupleRef) = tree_of c.args.self.now in
     let fit : IsTTree g.row.MIN g.row.MAX t = subst (λ (p : Parts g.row.MAX). IsTTree g.row.MIN g.row.MAX (tree_of p)) c.self.view_is c.self.invariant.fit in
-    height_bound g.row.MAX t (balanced g.row.MIN g.row.MAX t fit) (items_in_each g.row.MIN g.row.MAX t fit)
+    list_bound g.row.MIN g.row.MAX t fit
+
+pub returns-clause-few_nodes : goal.returns-clause-few_nodes
+returns-clause-few_nodes g c =
+    let t : Tree (Label TupleRef) = tree_of c.args.self.now in
+    let fit : IsTTree g.row.MIN g.row.MAX t = subst (λ (p : Parts g.row.MAX). IsTTree g.row.MIN g.row.MAX (tree_of p)) c.self.view_is c.self.invariant.fit in
+    few_nodes g.row.MIN g.row.MAX t fit
+
+pub returns-then-not-has_node-clause-few_nodes : goal.returns-then-not-has_node-clause-few_nodes
+returns-then-not-has_node-clause-few_nodes g c =
+    let t : Tree (Label TupleRef) = tree_of c.args.self.now in
+    let fit : IsTTree g.row.MIN g.row.MAX t = subst (λ (p : Parts g.row.MAX). IsTTree g.row.MIN g.row.MAX (tree_of p)) c.self.view_is c.self.invariant.fit in
+    few_nodes g.row.MIN g.row.MAX t fit

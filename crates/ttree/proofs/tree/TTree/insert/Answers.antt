@@ -1,50 +1,37 @@
-use Rattle.std.proofs.Common.{◌≡◌, ◌∙◌, List, length, ap, subst, sym, arith}
+use Rattle.std.proofs.Common.{◌≡◌, ◌∙◌, List, not, ap, subst, sym, lit<}
+use Rattle.std.specs.List.{All, Contains}
 use Rattle.part_raw.specs.declared.tuple_ref.TupleRef.{TupleRef}
 use Rattle.mm_index.specs.Order.{IsRising, insert_by}
+use Rattle.mm_index.specs.Range.{NeverFalls}
 use Rattle.mm_index.proofs.Placed.{IsRising-insert_by}
-use Rattle.mm_index.proofs.Listed.{length-insert_by}
-use Rattle.ttree_node.specs.Tree.{Tree, Label, list}
-use Rattle.ttree_node.specs.Editor.{tree_at}
-use Rattle.ttree_node.specs.declared.parts.Parts.{Parts}
-use Rattle.ttree_node.specs.Seen.{tree_of}
 use Rattle.ttree.specs.Held.{items_of_tree}
-use Rattle.ttree.specs.Shape.{ParentsAreFull}
+use Rattle.ttree.proofs.Ordered.{NeverFalls-by_order, at_none, insert_placed-by}
 use Rattle.ttree.proofs.tree.TTree.insert.Goals as goal
 
-pub invariant_of-self : goal.invariant_of-self
-invariant_of-self g c =
-    let cmp = g.O.TupleOrder.cmp c.args.order.now in
-    let covers = g.O.TupleOrder.covers c.args.order.now in
-    let strict = g.met.O.TupleOrder.is_strict c.args.order.now in
-    let old : list (tree_at c.edit.result) ≡ items_of_tree c.args.self.now =
-    ap (λ (t : Tree (Label TupleRef)). list t) c.edit.ensures.tree ∙ ap (λ (p : Parts g.row.MAX). items_of_tree p) c.self.view_is in
-    let is : list (tree_at c.insert.new.editor) ≡ insert_by cmp c.args.r (items_of_tree c.args.self.now) =
-    c.insert.ensures.list ∙ ap (λ (xs : List TupleRef). insert_by cmp c.args.r xs) old in
-    let n = length-insert_by covers cmp strict c.args.r c.requires.r_covered (items_of_tree c.args.self.now) c.requires.covered c.requires.absent in
-    let new = ap (λ (xs : List TupleRef). length xs) is in
-    let held = ap (λ (p : Parts g.row.MAX). length (items_of_tree p)) c.self.view_is in
-    record {
-      some = c.self.invariant.some;
-      ordered = c.self.invariant.ordered;
-      two = c.self.invariant.two;
-      fit = c.insert.ensures.fit;
-      counted = omega (arith, c.self.invariant.counted, n, new, held);
-      short = omega (arith, n, new, c.requires.short);
-    }
+pub insert_unless_found-found-requires : goal.insert_unless_found-found-requires
+insert_unless_found-found-requires g c =
+    let strict = g.met.O.TupleOrder.is_strict c.args.order.now c.requires.sound in (
+      lit< tt,
+      (
+        c.requires.reserved,
+        (
+          c.requires.short,
+          (
+            rw (c.new.ensures.order, c.new.ensures.sought) (c.requires.sound, c.requires.r_covered),
+            (rw c.new.ensures.order c.requires.covered, rw (c.new.ensures.order, c.new.ensures.sought) (NeverFalls-by_order _ _ strict c.args.r _ c.requires.covered c.requires.r_covered c.requires.rising)),
+          ),
+        ),
+      ),
+    )
+
+pub returns-clause-items : goal.returns-clause-items
+returns-clause-items g c =
+    let inserted = at_none c.insert_unless_found-found.result _ (c.is_none.ensures ∙ ap not c.if-prove.false) c.insert_unless_found-found.ensures.inserted in
+    (rw (c.new.ensures.order, c.new.ensures.sought) at inserted) ∙ insert_placed-by (g.O.TupleOrder.cmp c.args.order.now) c.args.r (items_of_tree c.args.self.now)
 
 pub returns-clause-rising : goal.returns-clause-rising
 returns-clause-rising g c =
     let cmp = g.O.TupleOrder.cmp c.args.order.now in
-    let covers = g.O.TupleOrder.covers c.args.order.now in
-    let strict = g.met.O.TupleOrder.is_strict c.args.order.now in
-    let old : list (tree_at c.edit.result) ≡ items_of_tree c.args.self.now =
-    ap (λ (t : Tree (Label TupleRef)). list t) c.edit.ensures.tree ∙ ap (λ (p : Parts g.row.MAX). items_of_tree p) c.self.view_is in
-    let is : list (tree_at c.insert.new.editor) ≡ insert_by cmp c.args.r (items_of_tree c.args.self.now) =
-    c.insert.ensures.list ∙ ap (λ (xs : List TupleRef). insert_by cmp c.args.r xs) old in
-    subst (λ (xs : List TupleRef). IsRising cmp xs) (sym is)
-    (IsRising-insert_by covers cmp strict c.args.r (items_of_tree c.args.self.now) c.requires.covered c.requires.r_covered c.requires.rising)
-
-pub returns-clause-full : goal.returns-clause-full
-returns-clause-full g c = λ two full.
-    let old : tree_at c.edit.result ≡ tree_of c.args.self.now = c.edit.ensures.tree ∙ ap (λ (p : Parts g.row.MAX). tree_of p) c.self.view_is in
-    c.insert.ensures.parents two (subst (λ (t : Tree (Label TupleRef)). ParentsAreFull g.row.MAX t) (sym old) full)
+    let strict = g.met.O.TupleOrder.is_strict c.args.order.now c.requires.sound in
+    subst (λ (xs : List TupleRef). IsRising cmp xs) (sym (returns-clause-items g c))
+    (IsRising-insert_by (g.O.TupleOrder.covers c.args.order.now) cmp strict c.args.r (items_of_tree c.args.self.now) c.requires.covered c.requires.r_covered c.requires.rising)

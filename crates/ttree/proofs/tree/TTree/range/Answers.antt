@@ -17,8 +17,11 @@ pub place-requires : goal.place-requires
 place-requires g c =
     let place : TupleRef → Ordering = g.P.Probe.place c.args.probe.now in
     let split = c.loop-r.invariant.left ∙ ap (λ (xs : List TupleRef). c.loop-r.yielded ++ xs) c.in-Some.ensures.steps in
-    c.loop-r.invariant.only.may_ask c.in-Some.r
-    (All-left place (items_of_tree c.args.self.now) c.loop-r.yielded (c.in-Some.r ∷ rest_of c.next.new.self) split (g.P.Probe.can_place c.args.probe.now) c.requires.placed none (omega arith))
+    record {
+      sound = c.loop-r.invariant.only.sound c.requires.sound;
+      may_ask = c.loop-r.invariant.only.may_ask c.in-Some.r
+          (All-left place (items_of_tree c.args.self.now) c.loop-r.yielded (c.in-Some.r ∷ rest_of c.next.new.self) split (g.P.Probe.can_place c.args.probe.now) c.requires.placed none (omega arith));
+    }
 
 pub returns-in-None-clause-ok : goal.returns-in-None-clause-ok
 returns-in-None-clause-ok g c =
@@ -44,7 +47,7 @@ loop-r-preserved g c =
       added = rw (c.push.ensures.items, pushed, kept.added) (append_assoc c.args.out.now.items y (r ∷ []));
       left = kept.left ∙ ap (λ (xs : List TupleRef). y ++ xs) c.in-Some.ensures.steps ∙ sym (append_assoc y (r ∷ []) (rest_of c.next.new.self));
       equal = All-push (λ q. g.P.Probe.place c.args.probe.now q ≡ Equal) y r kept.equal equal;
-      only = IsOnlyAsked-trans _ _ _ _ _ _ kept.only (IsOnlyAsked-once _ _ _ _ _ c.place.ensures.answers c.place.ensures.may_ask c.place.ensures.count);
+      only = IsOnlyAsked-trans _ _ _ _ _ _ _ kept.only (IsOnlyAsked-once _ _ _ _ _ _ c.place.ensures.sound c.place.ensures.answers c.place.ensures.may_ask c.place.ensures.count);
       most = omega (arith, kept.most, c.place.ensures.count, counted-le (g.P.Probe.asked c.loop-r.probe), length_push y r);
     }
 

@@ -16,6 +16,6 @@ invariant-loop-r g l = record {
   added : l.out.items ≡ l.fn.out.items ++ l.yielded;
   left : from_range (g.P.Probe.place l.fn.probe) (items_of_tree l.self) ≡ l.yielded ++ rest_of l.r-iterator;
   equal : All (λ r. g.P.Probe.place l.fn.probe r ≡ Equal) l.yielded;
-  only : IsOnlyAsked g.P.Probe.can_place g.P.Probe.place g.P.Probe.asked l.fn.probe l.probe;
+  only : IsOnlyAsked g.P.Probe.is_sound g.P.Probe.can_place g.P.Probe.place g.P.Probe.asked l.fn.probe l.probe;
   most : g.P.Probe.asked l.probe ≤ g.P.Probe.asked l.fn.probe + (2 * height (tree_of l.self) + binary_digits g.row.MAX) + length l.yielded;
 }

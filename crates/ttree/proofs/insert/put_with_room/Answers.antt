@@ -1,14 +1,15 @@
 use Rattle.std.proofs.Common.{◌∙◌, ap, subst, sym, arith}
 use Rattle.std.specs.List.{insert}
 use Rattle.part_raw.specs.declared.tuple_ref.TupleRef.{TupleRef}
-use Rattle.ttree_node.specs.Tree.{Tree, Zipper, Label, whole, list, items_of}
+use Rattle.ttree_node.specs.Tree.{Tree, Zipper, Label, whole, list, size, items_of}
 use Rattle.ttree_node.specs.Editor.{position}
 use Rattle.ttree.specs.Shape.{IsTTree, ParentsAreFull}
 use Rattle.ttree.proofs.Fullness.{full-with_items}
 use Rattle.ttree.proofs.Refits.{items_now}
 use Rattle.ttree.proofs.Replacing.{whole-new_items}
+use Rattle.ttree.proofs.Places.{size-with_items}
 use Rattle.ttree.proofs.Puts.{list_put, length_insert}
-use Rattle.ttree.proofs.insert.fill.Goals as goal
+use Rattle.ttree.proofs.insert.put_with_room.Goals as goal
 
 pub returns-clause-fit : goal.returns-clause-fit
 returns-clause-fit g c =
@@ -33,3 +34,10 @@ returns-clause-list g c =
     let z : Zipper (Label TupleRef) = position c.args.editor.now in
     let e = c.put.ensures.tree ∙ ap (λ (y : Zipper (Label TupleRef)). whole y) c.put.ensures.items in
     ap (λ (t : Tree (Label TupleRef)). list t) e ∙ list_put z c.args.index c.args.r c.requires.node
+
+pub returns-clause-nodes : goal.returns-clause-nodes
+returns-clause-nodes g c =
+    let z : Zipper (Label TupleRef) = position c.args.editor.now in
+    let e = c.put.ensures.tree ∙ ap (λ (y : Zipper (Label TupleRef)). whole y) c.put.ensures.items in
+    let same = ap (λ (t : Tree (Label TupleRef)). size t) e ∙ size-with_items (insert (items_of z.here) c.args.index c.args.r) z ∙ sym (ap (λ (t : Tree (Label TupleRef)). size t) c.requires.tree) in
+    omega (arith, same, c.put.ensures.spares)
