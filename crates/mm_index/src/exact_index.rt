@@ -1,8 +1,10 @@
-//! Indexes that find references by a hash.
-ghost use Rattle.std.specs.Prelude.{◌≡◌, ℕ, ◌+◌, ◌^◌, ◌<◌, ◌≤◌, List, ◌∷◌, length, OnOk, OnErr, Contains};
+//! What a hash index is: a bag of pairs of a hash and a reference. It makes no hash, compares no tuples and promises no
+//! order.
+ghost use Rattle.std.specs.Prelude.{◌≡◌, ℕ, ◌+◌, ◌<◌, ◌≤◌, List, ◌∷◌, length, OnOk, OnErr, Contains};
 ghost use Rattle.part_raw.specs.declared.tuple_ref.TupleRef.{TupleRef};
 ghost use Rattle.mm_index.specs.Bag.{IsSameBag, AppendsBag, with_hash};
 
+use crate::MAX_LEN;
 use no_memory::NoMemory;
 use part_raw::TupleRef;
 
@@ -16,7 +18,7 @@ pub trait ExactIndex {
 
     /// Makes sure of memory for `n` inserts, until `release_spares`.
     fn reserve(&mut self, n: usize) -> Result<(), NoMemory>
-        requires { n ≤ 2 ^ 32 }
+        requires { n ≤ MAX_LEN }
         ensures entries { IsSameBag (entries self.new) (entries self.old) }
         ensures reserved { OnOk result (n ≤ room self.new) }
         ensures room { room self.old ≤ room self.new };
@@ -24,7 +26,7 @@ pub trait ExactIndex {
     /// Puts one pair in. Takes no memory.
     fn insert(&mut self, hash: u64, r: TupleRef)
         requires reserved { 0 < room self.old }
-        requires short { length (entries self.old) < 2 ^ 32 }
+        requires short { length (entries self.old) < MAX_LEN }
         ensures entries { IsSameBag (entries self.new) ((hash, r) ∷ entries self.old) }
         ensures room { room self.old ≤ room self.new + 1 };
 

@@ -1,20 +1,29 @@
-//! Indexes that hold references and no keys: what a relation asks of an ordered index and of a
-//! hash index, and a plain form of each.
+//! Indexes that hold references and no keys: the traits behind which a table keeps its indexes, and a plain form of each.
 //!
-//! An ordered index is seen as a list of references, a hash index as a bag of pairs of a hash and
-//! a reference. Neither reads a key: an order or a probe, handed in with each call, compares the
-//! tuples that the references name.
+//! An index reads no tuple. Whatever compares tuples, an order or a probe, is handed in with the call that needs it, and a
+//! hash is a number that the caller made. So an index doesn't care what a key is, whether two rows have the same, in
+//! which store its references lead, nor when a tuple changes: its caller takes a reference out by the order before a
+//! change, and puts it in by the order after.
+//!
+//! - An ordered index is a list of references that rises by the order handed in; a hash index is a bag of pairs of a hash
+//!   and a reference. That is all that contracts see of one, beside its room.
+//! - `room` inserts are sure of their memory: `reserve` and what appends to a caller's vector take memory, and nothing
+//!   else does.
+//! - A search changes nothing but its probe's count.
+//!
+//! The plain forms keep what they hold in one vector. They are what an index is compared with, and not made to be fast.
+//! The laws of `specs/` on which a table rests are contracts of functions that do nothing (`laws`).
 #![tactic(auto)]
 
-pub mod exact_index;
+mod exact_index;
 pub mod laws;
-pub mod order_probe;
-pub mod ordered_index;
-pub mod plain_bag;
-pub mod probe;
+mod order_probe;
+mod ordered_index;
+mod plain_bag;
+mod probe;
 mod search;
-pub mod sorted_vec;
-pub mod tuple_order;
+mod sorted_vec;
+mod tuple_order;
 
 pub use exact_index::ExactIndex;
 pub use order_probe::OrderProbe;
@@ -23,3 +32,6 @@ pub use plain_bag::{Chain, PlainBag};
 pub use probe::Probe;
 pub use sorted_vec::{SortedVec, Walk};
 pub use tuple_order::TupleOrder;
+
+/// How many references an index can be asked to hold at most: 2^32.
+pub const MAX_LEN: usize = 4_294_967_296;

@@ -1,4 +1,4 @@
-//! An order as a probe for one reference.
+//! An order as a probe for one reference, so that one search serves both.
 ghost use Rattle.std.specs.Prelude.{◌≡◌};
 
 use crate::probe::Probe;
@@ -9,12 +9,16 @@ use std::cmp::Ordering;
 /// Places references beside the sought one by an order: only the sought one is `Equal`.
 #[derive(Drop)]
 pub struct OrderProbe<'a, O> {
+    /// The order by which it places.
     pub order: &'a O,
+    /// The reference that alone is in the range.
     pub sought: TupleRef,
+    /// How often it was asked.
     pub asked: u64,
 }
 
 impl<'a, O: TupleOrder> OrderProbe<'a, O> {
+    /// A probe for that reference, which was not asked yet.
     pub fn new(order: &'a O, sought: TupleRef) -> OrderProbe<'a, O>
         ensures order { result.order.now ≡ order.now }
         ensures sought { result.sought ≡ sought }

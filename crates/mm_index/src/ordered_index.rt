@@ -1,18 +1,20 @@
-//! Indexes that list references in an order.
-ghost use Rattle.std.specs.Prelude.{◌≡◌, ◌≢◌, ℕ, ◌+◌, ◌^◌, ◌<◌, ◌≤◌, List, ◌++◌, length, Option, None, IfSome, IfNone, OnOk, OnErr, OnSome, All, Contains};
+//! What an ordered index is: a list of references that rises by an order. It keeps no order from one call to the next, and
+//! asks the one that is handed in.
+ghost use Rattle.std.specs.Prelude.{◌≡◌, ◌≢◌, ℕ, ◌+◌, ◌<◌, ◌≤◌, List, ◌++◌, length, Option, None, IfSome, IfNone, OnOk, OnErr, OnSome, All, Contains};
 ghost use Rattle.std.specs.declared.cmp.Ordering.{Ordering};
 ghost use Rattle.part_raw.specs.declared.tuple_ref.TupleRef.{TupleRef};
 ghost use Rattle.mm_index.specs.Asking.{IsOnlyAsked, counted};
 ghost use Rattle.mm_index.specs.Order.{IsRising, insert_by, insert_placed, remove_by};
 ghost use Rattle.mm_index.specs.Range.{NeverFalls, in_range};
 
+use crate::MAX_LEN;
 use crate::probe::Probe;
 use crate::tuple_order::TupleOrder;
 use no_memory::NoMemory;
 use part_raw::TupleRef;
 
-/// A list of references that rises by an order. The order is handed in with each call that needs
-/// it, and may change between calls as long as the list rises by the one that is handed in.
+/// A list of references that rises by an order. The order is handed in with each call that needs it, and may change
+/// between calls as long as the list rises by the one that is handed in.
 pub trait OrderedIndex {
     // the references in order
     ghost items: { Self → List TupleRef };
@@ -25,7 +27,7 @@ pub trait OrderedIndex {
 
     /// Makes sure of memory for `n` inserts, until `release_spares`.
     fn reserve(&mut self, n: usize) -> Result<(), NoMemory>
-        requires { n ≤ 2 ^ 32 }
+        requires { n ≤ MAX_LEN }
         ensures items { items self.new ≡ items self.old }
         ensures reserved { OnOk result (n ≤ room self.new) }
         ensures room { room self.old ≤ room self.new };
@@ -34,7 +36,7 @@ pub trait OrderedIndex {
     fn insert<O: TupleOrder>(&mut self, order: &O, r: TupleRef)
         // There is room for one more, and `r` is not held.
         requires reserved { 0 < room self.old }
-        requires short { length (items self.old) < 2 ^ 32 }
+        requires short { length (items self.old) < MAX_LEN }
         requires absent { ¬ (Contains (items self.old) r) }
 
         // The list rises by the order, which covers it and `r`.
@@ -76,7 +78,7 @@ pub trait OrderedIndex {
     /// changes nothing. It searches once, and takes no memory.
     fn insert_unless_found<P: Probe>(&mut self, probe: &mut P, r: TupleRef) -> Option<TupleRef>
         requires reserved { 0 < room self.old }
-        requires short { length (items self.old) < 2 ^ 32 }
+        requires short { length (items self.old) < MAX_LEN }
         requires sound { P.is_sound probe.old }
         requires placed { All (P.can_place probe.old) (items self.old) }
         requires in_order { NeverFalls (P.place probe.old) (items self.old) }

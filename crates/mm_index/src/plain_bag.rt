@@ -1,4 +1,5 @@
-//! The plain hash index: pairs of a hash and a reference in a vector.
+//! The plain hash index: pairs of a hash and a reference in a vector, in no order. Its room is the vector's capacity that
+//! is not used.
 ghost use Rattle.std.specs.Prelude.{◌≡◌, ◌<◌, [], length, Contains, slice_index_or};
 ghost use Rattle.std.specs.Iterator.{YieldsFirst, item_count};
 ghost use Rattle.mm_index.specs.Bag.{IsSameBag, with_hash};

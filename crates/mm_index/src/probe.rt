@@ -1,4 +1,5 @@
-//! What a search asks about each reference that it meets.
+//! What a search asks about each reference that it meets. A probe knows its range and no index, and an index knows what the
+//! probe answers and no range.
 ghost use Rattle.std.specs.Prelude.{◌≡◌, ℕ};
 ghost use Rattle.std.specs.declared.cmp.Ordering.{Ordering};
 ghost use Rattle.part_raw.specs.declared.tuple_ref.TupleRef.{TupleRef};

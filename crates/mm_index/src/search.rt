@@ -1,4 +1,4 @@
-//! The binary search of a sorted list.
+//! The binary search of a list along which a probe's places never fall.
 ghost use Rattle.std.specs.Prelude.{◌≡◌, ◌≢◌, ◌<◌, ◌≤◌, length, IfOk, IfErr, All, Contains};
 ghost use Rattle.std.specs.List.{AllWithin};
 ghost use Rattle.mm_index.specs.Asking.{IsOnlyAsked, counted};

@@ -1,4 +1,4 @@
-//! The plain ordered index: a sorted vector.
+//! The plain ordered index: a sorted vector of references. Its room is the vector's capacity that is not used.
 ghost use Rattle.std.specs.Prelude.{◌≡◌, ◌+◌, ◌<◌, ◌≤◌, [], length, insert, All};
 ghost use Rattle.mm_index.specs.Asking.{IsOnlyAsked, counted};
 ghost use Rattle.mm_index.specs.Range.{NeverFalls, from_range};

@@ -1,4 +1,4 @@
-//! The order in which an index lists references.
+//! The order in which an index lists references. It compares tuples, and an index only hands it the references.
 ghost use Rattle.std.specs.Prelude.{◌≡◌};
 ghost use Rattle.std.specs.declared.cmp.Ordering.{Ordering};
 ghost use Rattle.part_raw.specs.declared.tuple_ref.TupleRef.{TupleRef};

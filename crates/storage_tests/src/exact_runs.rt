@@ -3,7 +3,7 @@
 ghost use Rattle.std.specs.Prelude.{Contains, IfOk};
 ghost use Rattle.std.specs.Bool.{OnTrue};
 
-use mm_index::ExactIndex;
+use mm_index::{ExactIndex, MAX_LEN};
 use no_memory::NoMemory;
 use part_raw::TupleRef;
 use std::alloc::Global;
@@ -15,7 +15,7 @@ pub fn numbered(slot: u32) -> TupleRef {
 
 pub fn add<E: ExactIndex>(index: &mut E, hash: u64, r: TupleRef) -> Result<(), NoMemory> {
     index.reserve(1)?;
-    if index.len() < 4_294_967_296 {
+    if index.len() < MAX_LEN {
         index.insert(hash, r);
     }
     Ok(())

@@ -6,7 +6,7 @@ ghost use Rattle.std.specs.declared.cmp.Ordering.TheVariants.{Less, Equal, Great
 ghost use Rattle.mm_index.specs.Order.{IsRising};
 
 use super::table::list_unless_found;
-use mm_index::{OrderedIndex, Probe, TupleOrder};
+use mm_index::{MAX_LEN, OrderedIndex, Probe, TupleOrder};
 use no_memory::NoMemory;
 use part_raw::TupleRef;
 use std::cmp::Ordering;
@@ -108,7 +108,7 @@ pub fn add<I: OrderedIndex>(index: &mut I, key: u32) -> Result<(), NoMemory>
     ensures rising { IsRising (λ a b. nat_cmp a.part b.part) (I.items index.new) }
     ensures slots { All (λ r. r.slot ≡ 0) (I.items index.new) }
 {
-    if index.len() < 4_294_967_296 && find_key(index, key).is_none() {
+    if index.len() < MAX_LEN && find_key(index, key).is_none() {
         index.reserve(1)?;
         index.insert(&KeyOrder, keyed(key));
     }
@@ -125,7 +125,7 @@ pub fn add_unless_found<I: OrderedIndex>(
     ensures rising { IsRising (λ a b. nat_cmp a.part b.part) (I.items index.new) }
     ensures slots { All (λ r. r.slot ≡ 0) (I.items index.new) }
 {
-    if index.len() >= 4_294_967_296 {
+    if index.len() >= MAX_LEN {
         return Err(NoMemory);
     }
     let mut probe = KeyRange {

@@ -1,5 +1,5 @@
 //! A table's calls of its indexes, by the contracts alone: each function is proved for every index.
-ghost use Rattle.std.specs.Prelude.{◌≡◌, ◌≢◌, ◌⊎◌, ◌↔◌, ◌+◌, ◌^◌, ◌<◌, ◌≤◌, ◌∷◌, ◌++◌, length, IsTrue, IfOk, IfSome, IfNone, None, OnOk, OnErr, All, Any, Contains};
+ghost use Rattle.std.specs.Prelude.{◌≡◌, ◌≢◌, ◌⊎◌, ◌↔◌, ◌+◌, ◌<◌, ◌≤◌, ◌∷◌, ◌++◌, length, IsTrue, IfOk, IfSome, IfNone, None, OnOk, OnErr, All, Any, Contains};
 ghost use Rattle.std.specs.declared.cmp.Ordering.{Ordering};
 ghost use Rattle.std.specs.List.{last_or};
 ghost use Rattle.part_raw.specs.declared.tuple_ref.TupleRef.{TupleRef};
@@ -8,7 +8,7 @@ ghost use Rattle.mm_index.specs.Bag.{IsSameBag, with_hash};
 ghost use Rattle.mm_index.specs.Order.{IsRising, insert_by};
 ghost use Rattle.mm_index.specs.Range.{NeverFalls, from_range};
 
-use mm_index::{ExactIndex, OrderedIndex, PlainBag, Probe, SortedVec, TupleOrder};
+use mm_index::{ExactIndex, MAX_LEN, OrderedIndex, PlainBag, Probe, SortedVec, TupleOrder};
 use no_memory::NoMemory;
 use part_raw::TupleRef;
 use std::alloc::{AllocError, Global};
@@ -20,7 +20,7 @@ pub fn list_two<I: OrderedIndex, O: TupleOrder>(
     a: TupleRef,
     b: TupleRef,
 ) -> Result<(), NoMemory>
-    requires short { length (I.items index.old) + 1 < 2 ^ 32 }
+    requires short { length (I.items index.old) + 1 < MAX_LEN }
     requires sound { O.is_sound order.now }
     requires rising { IsRising (O.cmp order.now) (I.items index.old) }
     requires covered { All (O.covers order.now) (I.items index.old) }
@@ -45,7 +45,7 @@ pub fn list_two<I: OrderedIndex, O: TupleOrder>(
 // where room was reserved.
 pub fn move_one<I: OrderedIndex, O: TupleOrder>(index: &mut I, before: &O, after: &O, r: TupleRef)
     requires reserved { 0 < I.room index.old }
-    requires short { length (I.items index.old) < 2 ^ 32 }
+    requires short { length (I.items index.old) < MAX_LEN }
     requires held { Contains (I.items index.old) r }
     requires sound { O.is_sound before.now }
     requires sound_after { O.is_sound after.now }
@@ -70,7 +70,7 @@ pub fn list_unless_found<I: OrderedIndex, O: TupleOrder, P: Probe>(
     probe: &mut P,
     r: TupleRef,
 ) -> Result<Option<TupleRef>, NoMemory>
-    requires short { length (I.items index.old) < 2 ^ 32 }
+    requires short { length (I.items index.old) < MAX_LEN }
     requires sound { O.is_sound order.now }
     requires rising { IsRising (O.cmp order.now) (I.items index.old) }
     requires covered { All (O.covers order.now) (I.items index.old) }
@@ -103,7 +103,7 @@ pub fn has<I: OrderedIndex, P: Probe>(index: &I, probe: &mut P) -> bool
 // A tuple's hash changes.
 pub fn rehash<E: ExactIndex>(index: &mut E, old_hash: u64, new_hash: u64, r: TupleRef)
     requires reserved { 0 < E.room index.old }
-    requires short { length (E.entries index.old) < 2 ^ 32 }
+    requires short { length (E.entries index.old) < MAX_LEN }
     requires held { Contains (E.entries index.old) (old_hash, r) }
     ensures { IsSameBag ((new_hash, r) ∷ E.entries index.old) ((old_hash, r) ∷ E.entries index.new) }
 {
