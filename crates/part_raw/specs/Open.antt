@@ -1,5 +1,5 @@
--- How a store keeps its partitions: their blocks, which slots hold a tuple, and the list of the partitions with a free slot. No public
--- clause cites this module.
+-- How a store keeps its partitions: their blocks, which slots hold a tuple, and the list of the partitions with a free
+-- slot. No public clause cites this module.
 use Rattle.std.specs.Prelude.{◌≡◌, ℕ, zero, suc, ◌+◌, ◌*◌, ◌^◌, ◌<◌, ◌≤◌, Bool, true, List, [], map, length, Option, Some, None, count_by, sum_by, slice_index_or, nat_lt}
 use Rattle.std.specs.FinMap.{len}
 use Rattle.part_raw.specs.declared.TheConstants.{SLOTS}
@@ -38,8 +38,8 @@ module _ {T : Type 0} where
     pub as_many : length occupancies ≡ length blocks
     pub bits : (part : ℕ) → part < length blocks → IsPartition (words_at occupancies part) (slots_at blocks part)
 
-  -- each block has its bitmap, the free slots are counted, each slot is free or holds a tuple, and the list holds every partition with
-  -- a free slot
+  -- each block has its bitmap, the free slots are counted, each slot is free or holds a tuple, and the list holds every
+  -- partition with a free slot
   pub record IsStore (blocks : List (List (Option T))) (occupancies : List Occupancy) (free : ℕ) (first_open : Option ℕ) : Type 0 where
     pub mapped : HaveBitmaps blocks occupancies
     pub counted : free ≡ sum_by vacancies blocks

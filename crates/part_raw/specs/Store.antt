@@ -1,5 +1,5 @@
--- What a contract sees of a `Partitions`: a finite map from references to tuples, and a count of free slots. The laws of the map
--- are in `proofs.Tuples`.
+-- What a contract sees of a `Partitions`: a finite map from references to tuples, and a count of free slots. The laws
+-- of the map are in `proofs.Tuples`.
 use Rattle.std.specs.Prelude.{ℕ, Option, IsSome, refl, if◌then◌else◌, nat_lt}
 use Rattle.std.specs.Coded.{Coded, code_by, coded×, coded_ℕ}
 use Rattle.std.specs.FinMap as map

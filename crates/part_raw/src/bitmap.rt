@@ -1,4 +1,5 @@
-//! A bit for each slot of a partition: the first that is set or clear is found a word at a time.
+//! A bit for each slot of a partition. The first that is set or clear is found a word at a time. What the bits mean is
+//! the partition's affair.
 ghost use Rattle.std.specs.Prelude.{◌≡◌, ◌↔◌, ℕ, ◌<◌, ◌≤◌, true, false, MatchOption, IsTrue};
 ghost use Rattle.part_raw.specs.Layout.{is_set, ChangesBit};
 
@@ -8,7 +9,7 @@ pub(crate) const WORD_BITS: u32 = u64::BITS;
 
 const WORDS: usize = (SLOTS / WORD_BITS) as usize;
 
-// A bit for each slot, set where the slot holds a tuple. That of a slot is bit `slot % WORD_BITS` of word `slot / WORD_BITS`.
+// A bit for each slot, set where the slot holds a tuple: bit `slot % WORD_BITS` of word `slot / WORD_BITS`.
 #[derive(Clone, Copy)]
 pub struct Bitmap {
     words: [u64; WORDS],

@@ -9,8 +9,8 @@ use std::alloc::{AllocError, Global};
 use std::marker::Model;
 use std_alloc::room::may_hold;
 
-// The slots of a partition, seen as a list of what each holds. It takes the 8 bytes of the block's address. Neither it nor a
-// tuple in it can be let go: `free` takes the block once every slot is empty, and nothing else does.
+// The slots of a partition, seen as a list of what each holds. It takes the 8 bytes of the block's address. Neither it
+// nor a tuple in it can be let go: `free` takes the block once every slot is empty, and nothing else does.
 pub struct Block<T> {
     slots: Slots<T>,
     deed: Deed<T, Global>,

@@ -1,7 +1,8 @@
 //! A store of tuples that do not move, each named by a reference: a partition and a slot in it.
 //!
-//! A store is a finite map from references to tuples, with a number of free slots. It does not care what a tuple is, which part of
-//! it is a key, or in what order tuples are looked for: it gives out a reference for a tuple, and the tuple for the reference.
+//! A store is a finite map from references to tuples, with a number of free slots. It does not care what a tuple is,
+//! which part of it is a key, or in what order tuples are looked for: it gives out a reference for a tuple, and the
+//! tuple for the reference.
 //!
 //! ```text
 //! Partitions<T>
@@ -21,10 +22,12 @@
 //! ```
 //!
 //! What always holds:
-//! - A slot holds a tuple exactly where its bit is set, and only such a slot is read. Making a partition writes nothing to its slots.
+//! - A slot holds a tuple exactly where its bit is set, and only such a slot is read. Making a partition writes nothing
+//!   to its slots.
 //! - The list from `first_open` on has each partition with a free slot once, and no other.
 //! - Each slot of each block is free or holds a tuple, so `len` is told by the number of blocks and `free`.
-//! - A block can't be let go, nor can a tuple in it: it is given back to the allocator once, and only with all its slots empty.
+//! - A block can't be let go, nor can a tuple in it: it is given back to the allocator once, and only with all its
+//!   slots empty.
 //!
 //! All that reads or writes through a pointer stands in `raw`: a few functions of a line or two.
 #![tactic(auto)]
@@ -42,5 +45,6 @@ pub use tuple_ref::TupleRef;
 /// How many slots a partition has.
 pub const SLOTS: u32 = 256;
 
-/// How many tuples references can name: those of 2^32 partitions. A store with no free slot that holds as many can't grow.
+/// How many tuples references can name: those of 2^32 partitions. A store with no free slot that holds as many can't
+/// grow.
 pub const MAX_TUPLES: u64 = (1 << 32) * SLOTS as u64;

@@ -1,4 +1,5 @@
-//! All partitions of a store, and the list of those with a free slot.
+//! All partitions of a store, and the list of those with a free slot. A look-up reads the blocks alone; a put and a take
+//! keep the bitmaps, the count of free slots and the list in step with them.
 ghost use Rattle.std.specs.Prelude.{◌≡◌, ◌+◌, ◌<◌, ◌≤◌, None, Some, IsOk, OnErr, OnOk};
 ghost use Rattle.std.specs.Borrow.{sem};
 ghost use Rattle.std.specs.FinMap as map;
@@ -12,8 +13,8 @@ use no_memory::NoMemory;
 use std::alloc::Global;
 use std::marker::Model;
 
-// Which slots of a partition hold a tuple, and the next in the list of the partitions that have a free slot. Outside that list
-// the link says nothing.
+// Which slots of a partition hold a tuple, and the next in the list of the partitions that have a free slot. Outside
+// that list the link says nothing.
 #[derive(Clone, Copy)]
 struct Occupancy {
     held: Bitmap,
