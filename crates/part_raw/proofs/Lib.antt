@@ -4,8 +4,9 @@ pub mod Tuples
 pub mod Chain
 pub mod Deeds
 pub mod Lending
-pub mod Block
+pub mod SlotSteps
 pub mod Lookup
 pub mod Slots
+pub mod Bitmaps
 pub mod Sound
 pub mod Parts

@@ -1,7 +1,7 @@
 -- The slots of a partition: how many are free, and that the bitmap tells which hold a tuple.
-use Rattle.std.proofs.Common.{◌≡◌, ℕ, zero, suc, ◌+◌, ◌<◌, Bool, true, false, cond, List, [], ◌∷◌, length, get_or, set, count_by, Option, Some, None, is_some, IsSome, IsTrue, MatchOption, not, ◌↔◌, refl, sym, ap, ◌∙◌, inl, inr, arith}
-use Rattle.std.proofs.lemmas.Bool.{cases_eq, true≢false}
-use Rattle.std.proofs.lemmas.List.{get_or-set_same, get_or-set_other, length-set, length-replicate}
+use Rattle.std.proofs.Common.{◌≡◌, ℕ, zero, suc, ◌+◌, ◌<◌, ◌≤◌, Bool, true, false, cond, List, [], ◌∷◌, length, get_or, set, Option, Some, None, is_some, IsSome, refl, sym, ap, ◌∙◌, inl, inr, arith}
+use Rattle.std.proofs.lemmas.Bool.{cases_eq, cases_lt, true≢false}
+use Rattle.std.proofs.lemmas.List.{get_or-set_same, get_or-set_other, get_or_past, length-set, length-replicate}
 use Rattle.std.proofs.lemmas.List.Sums.{sum_by-cons, sum_by-set}
 use Rattle.std.proofs.Math.ListN.{replicate}
 use Rattle.std.specs.Option.{is_none}
@@ -77,15 +77,29 @@ module _ {T : Type 0} where
             ];
       }
 
+  -- whether a slot holds a tuple is told by its bit; past the slots none does
+  pub held_by_bit : (words : List ℕ) (slots : List (Option T)) (slot : ℕ) (bit : Bool) → IsPartition words slots
+      → (slot < 256 → bit ≡ is_set words slot) → (256 ≤ slot → bit ≡ false) → bit ≡ is_some (get_or slots slot None)
+  held_by_bit words slots slot bit is within past =
+      elim (cases_lt slot 256) [
+        | inl in_range ↦ within in_range ∙ is.bits slot in_range
+        | inr beyond ↦ past beyond ∙ sym (ap is_some (get_or_past slots slot None (omega (arith, beyond, is.count))))
+      ]
+
+  -- a tuple that is written over leaves each bit right
+  pub IsPartition-rewrite : (words : List ℕ) (slots : List (Option T)) (slot : ℕ) (tuple : T) → IsSome (get_or slots slot None) → IsPartition words slots → IsPartition words (set slots slot (Some tuple))
+  IsPartition-rewrite words slots slot tuple held is =
+      let in_range : slot < 256 = omega (arith, held_within slots slot held, is.count) in
+      IsPartition-set words words slots slot (Some tuple) in_range is (record { changed = is.bits slot in_range ∙ held; others = λ other below differs. refl })
+
   -- in a partition whose bits are all set none is free
   pub no_vacancy_of_bits : (words : List ℕ) (slots : List (Option T)) → IsPartition words slots → ((slot : ℕ) → slot < 256 → is_set words slot ≡ true) → vacancies slots ≡ 0
   no_vacancy_of_bits words slots is all_set =
       no_vacancy slots (λ slot within. let in_range : slot < 256 = omega (arith, is.count) in sym (is.bits slot in_range) ∙ all_set slot in_range)
 
-  -- in a partition with a bit that is not set a slot is free
-  pub vacancy_of_bit : (words : List ℕ) (slots : List (Option T)) (slot : ℕ) → IsPartition words slots → slot < 256 → is_set words slot ≡ false → vacancies slots ≡ 0 → ⊥
-  vacancy_of_bit words slots slot is in_range clear none =
-      true≢false (sym (full_slot slots slot none (omega (arith, is.count))) ∙ sym (is.bits slot in_range) ∙ clear)
+  -- in a partition in which none is free each bit is set
+  pub bits_of_no_vacancy : (words : List ℕ) (slots : List (Option T)) → IsPartition words slots → vacancies slots ≡ 0 → (slot : ℕ) → slot < 256 → is_set words slot ≡ true
+  bits_of_no_vacancy words slots is none slot in_range = is.bits slot in_range ∙ full_slot slots slot none (omega (arith, is.count))
 
   none_of : (o : Option T) → is_some o ≡ false → o ≡ None
   none_of None e = refl
@@ -108,37 +122,15 @@ module _ {T : Type 0} where
       empty_at (suc n) zero = refl
       empty_at (suc n) (suc slot) = empty_at n slot
 
-  -- in a partition whose bits are all clear each slot is empty
-  pub all_empty : (words : List ℕ) (slots : List (Option T)) → IsPartition words slots → ((slot : ℕ) → slot < 256 → is_set words slot ≡ false) → slots ≡ replicate 256 None
-  all_empty words slots is clear =
-      empties slots (λ slot within. let in_range : slot < 256 = omega (arith, is.count) in none_of _ (sym (is.bits slot in_range) ∙ clear slot in_range))
-      ∙ ap (λ (n : ℕ). replicate n None) is.count
+  -- slots that are all empty are so many empty ones
+  pub replicate_of_vacant : (slots : List (Option T)) → IsVacant slots → slots ≡ replicate 256 None
+  replicate_of_vacant slots is = empties slots is.empty ∙ ap (λ (n : ℕ). replicate n None) is.count
     where
-      empties : (slots : List (Option T)) → ((slot : ℕ) → slot < length slots → get_or slots slot None ≡ None) → slots ≡ replicate (length slots) None
+      empties : (slots : List (Option T)) → ((slot : ℕ) → get_or slots slot None ≡ None) → slots ≡ replicate (length slots) None
       empties [] empty = refl
-      empties (o ∷ rest) empty = λ i. empty 0 (omega arith) i ∷ empties rest (λ slot within. empty (suc slot) (omega arith)) i
-
-  -- how many slots hold a tuple
-  abbrev one_if_held : Option T → ℕ
-  one_if_held o = cond (is_some o) 1 0
-
-  -- a slot that is emptied leaves one fewer
-  pub fewer_held : (slots : List (Option T)) (slot : ℕ) → IsSome (get_or slots slot None) → count_by is_some (set slots slot None) < count_by is_some slots
-  fewer_held slots slot held =
-      let counted = sum_by-set one_if_held slots slot None None (held_within slots slot held) in
-      let one : ◌≡◌ {A = ℕ} (one_if_held (get_or slots slot None)) 1 = ap (λ (b : Bool). cond b 1 0) held in
-      omega (arith, counted, one)
+      empties (o ∷ rest) empty = λ i. empty 0 i ∷ empties rest (λ slot. empty (suc slot)) i
 
   -- free slots and a clear bitmap make a partition
   pub IsPartition-vacant : (words : List ℕ) (slots : List (Option T)) → ((slot : ℕ) → slot < 256 → is_set words slot ≡ false) → IsVacant slots → IsPartition words slots
   IsPartition-vacant words slots clear is =
       record { count = is.count; bits = λ slot in_range. clear slot in_range ∙ sym (ap is_some (is.empty slot)) }
-
-  -- a partition is full exactly where no bit of it is clear
-  pub full_where_none_clear : (words : List ℕ) (slots : List (Option T)) (first : Option ℕ) (full : Bool) → IsPartition words slots
-      → MatchOption first ((slot : ℕ) → slot < 256 → is_set words slot ≡ true) (λ slot. (slot < 256) × (is_set words slot ≡ false))
-      → is_some first ≡ not full → IsTrue full ↔ (vacancies slots ≡ 0)
-  full_where_none_clear words slots None true is found e = (λ _. no_vacancy_of_bits words slots is found, λ _. refl)
-  full_where_none_clear words slots None false is found e = absurd (true≢false (sym e))
-  full_where_none_clear words slots (Some slot) true is found e = absurd (true≢false e)
-  full_where_none_clear words slots (Some slot) false is found e = (λ t. absurd (true≢false (sym t)), λ none. absurd (vacancy_of_bit words slots slot is found.0 found.1 none))

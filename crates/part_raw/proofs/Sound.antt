@@ -1,44 +1,41 @@
 -- A store stays a store: after a put, a take, a write and a new partition.
-use Rattle.std.proofs.Common.{◌≡◌, ◌≢◌, ℕ, suc, ◌+◌, ◌-◌, ◌^◌, ◌<◌, ◌≤◌, Bool, true, false, cond, List, [], ◌∷◌, ◌++◌, map, length, get_or, set, Option, Some, None, is_some, IsSome, refl, sym, ap, ◌∙◌, inl, inr, arith, subst, count_by, sum_by, nat_lt}
-use Rattle.std.proofs.lemmas.Bool.{cases_eq, ltb-true, lt-ltb, le-ltb}
-use Rattle.std.proofs.lemmas.List.{length-set, length_push, get_or-map, map-set, map-append, length-map}
+use Rattle.std.proofs.Common.{◌≡◌, ◌≢◌, ℕ, zero, suc, ◌+◌, ◌-◌, ◌^◌, ◌<◌, ◌≤◌, Bool, true, false, cond, List, [], ◌∷◌, ◌++◌, length, get_or, set, Option, Some, None, is_some, refl, sym, ap, ◌∙◌, inl, inr, arith, subst, count_by, sum_by, nat_lt}
+use Rattle.std.proofs.lemmas.Bool.{cases_eq, true≢false, ltb-true, lt-ltb, le-ltb}
+use Rattle.std.proofs.lemmas.List.{length-set, length_push, get_or-set_same, get_or-set_other, get_or_push}
 use Rattle.std.proofs.lemmas.List.Sums.{sum_by-cons, sum_by-append, sum_by-set}
-use Rattle.std.proofs.Math.Seq.{map-set_same}
-use Rattle.std.specs.FinMap.{get, len, len-empty}
-use Rattle.part_raw.specs.declared.store.Linked.{Linked}
+use Rattle.std.specs.FinMap.{len, len-empty}
+use Rattle.part_raw.specs.declared.store.Occupancy.{Occupancy}
 use Rattle.part_raw.specs.TupleRefs.{ref_cmp, ref_to}
 use Rattle.part_raw.specs.Store.{free_reserved}
-use Rattle.part_raw.specs.Layout.{vacancies, tuples_of, tuples_from, IsVacant}
-use Rattle.part_raw.specs.Open.{Link, link_at, link_of, slots_of, IsOpenList, IsStore}
+use Rattle.part_raw.specs.Layout.{vacancies, tuples_of, tuples_from, IsPartition, IsVacant}
+use Rattle.part_raw.specs.Open.{words_at, next_at, has_vacancy, open_at, IsOpenList, HaveBitmaps, IsStore}
 use Rattle.part_raw.proofs.Tuples.{len-insert_fresh, len-insert_held, len-remove_held}
 use Rattle.part_raw.proofs.Slots.{vacancies-fill, vacancies-free, vacancies-rewrite, all_vacant}
-use Rattle.part_raw.proofs.Chain.{none_first, first_of, keep_rest, push_first, set_first}
-use Rattle.part_raw.proofs.Parts.{Writes, found_at, tuples-written, tuples-freed, tuples-push}
+use Rattle.part_raw.proofs.Chain.{none_first, first_of, SameBeside, keep_rest, keep_all, put_first}
+use Rattle.part_raw.proofs.Bitmaps.{mapped-read, mapped-set_same, mapped-set_other, mapped-push_same, mapped-push_other, get_or-push_other, HaveBitmaps-set, HaveBitmaps-write, HaveBitmaps-push}
+use Rattle.part_raw.proofs.Parts.{Blocks, Writes, read_block, found_at, tuples-written, tuples-freed, tuples-push}
 
 -- where none is free a partition is made
 pub free_reserved_none : (free : ℕ) → free ≤ 0 → 256 ≡ free_reserved free
 free_reserved_none free none = ap (λ (b : Bool). cond b free 256) (sym (le-ltb 0 free none))
 
+abbrev next_of : Occupancy → Option ℕ
+next_of o = o.next_open
+
 module _ {T : Type 0} where
-  abbrev vacant : Linked T → ℕ
-  vacant p = vacancies p.partition
-
-  abbrev is_open : Linked T → Bool
-  is_open p = nat_lt 0 (vacancies p.partition)
-
-  abbrev one_if_open : Linked T → ℕ
-  one_if_open p = cond (is_open p) 1 0
+  abbrev one_if_open : List (Option T) → ℕ
+  one_if_open slots = cond (has_vacancy slots) 1 0
 
   -- ---- the count of free slots and the list
 
   -- where no partition has a free slot none is free
-  none_open : (parts : List (Linked T)) → count_by is_open parts ≡ 0 → sum_by vacant parts ≡ 0
+  none_open : (blocks : Blocks T) → count_by has_vacancy blocks ≡ 0 → sum_by vacancies blocks ≡ 0
   none_open [] none = refl
-  none_open (p ∷ rest) none =
-      let split = sum_by-cons one_if_open p rest in
+  none_open (slots ∷ rest) none =
+      let split = sum_by-cons one_if_open slots rest in
       let later = none_open rest (omega (arith, split, none)) in
-      let here : vacant p ≡ 0 = zero_of (vacant p) (omega (arith, split, none)) in
-      omega (arith, sum_by-cons vacant p rest, later, here)
+      let here : vacancies slots ≡ 0 = zero_of (vacancies slots) (omega (arith, split, none)) in
+      omega (arith, sum_by-cons vacancies slots rest, later, here)
     where
       zero_of : (n : ℕ) → ◌≡◌ {A = ℕ} (cond (nat_lt 0 n) 1 0) 0 → n ≡ 0
       zero_of n e =
@@ -49,187 +46,221 @@ module _ {T : Type 0} where
                 absurd (omega (arith, e, one))
           ]
 
-  -- a store with a free slot has a partition with one first in its list
-  pub first_is_some : (parts : List (Linked T)) (free : ℕ) → IsStore parts free None → free ≡ 0
-  first_is_some parts free is =
-      let none = none_first (map link_of parts) is.open_count is.linked in
-      is.counted ∙ none_open parts (sym is.all_open ∙ none)
+  has_vacancy_yes : (slots : List (Option T)) → 0 < vacancies slots → has_vacancy slots ≡ true
+  has_vacancy_yes slots some = lt-ltb 0 (vacancies slots) some
 
-  pub first_within : (parts : List (Linked T)) (free part : ℕ) → IsStore parts free (Some part) → part < length parts
-  first_within parts free part is =
-      let first = first_of (map link_of parts) is.open_count part is.linked in
-      omega (arith, first.2, length-map parts link_of)
+  has_vacancy_no : (slots : List (Option T)) → vacancies slots ≡ 0 → has_vacancy slots ≡ false
+  has_vacancy_no slots none = le-ltb 0 (vacancies slots) (omega arith)
 
-  link_read : (parts : List (Linked T)) (p : Linked T) (part : ℕ) → part < length parts → p ≡ get_or parts part p → link_at (map link_of parts) part ≡ link_of p
-  link_read parts p part within read = get_or-map link_of parts part p (false, None) within ∙ ap link_of (sym read)
+  -- an open partition has a block
+  open_within : (blocks : Blocks T) (part : ℕ) → open_at blocks part ≡ true → part < length blocks
+  open_within [] part is = absurd (true≢false (sym is))
+  open_within (slots ∷ rest) zero is = omega arith
+  open_within (slots ∷ rest) (suc part) is = omega (arith, open_within rest part is)
 
-  pub first_open : (parts : List (Linked T)) (p : Linked T) (free part : ℕ) → IsStore parts free (Some part) → p ≡ get_or parts part p → 0 < vacancies p.partition
-  first_open parts p free part is read =
-      let first = first_of (map link_of parts) is.open_count part is.linked in
-      ltb-true 0 (vacancies p.partition) (sym (ap (λ (l : Link). l.0) (link_read parts p part (first_within parts free part is) read)) ∙ first.3)
+  module _ (blocks : Blocks T) (occupancies : List Occupancy) (free : ℕ) where
+    -- a store with a free slot has a partition with one first in its list
+    pub first_is_some : IsStore blocks occupancies free None → free ≡ 0
+    first_is_some is = is.counted ∙ none_open blocks (sym is.all_open ∙ none_first (open_at blocks) (next_at occupancies) is.open_count is.linked)
+
+    pub first_within : (part : ℕ) → IsStore blocks occupancies free (Some part) → part < length blocks
+    first_within part is = open_within blocks part (first_of (open_at blocks) (next_at occupancies) is.open_count part is.linked).2
+
+    pub first_open : (slots : List (Option T)) (part : ℕ) → IsStore blocks occupancies free (Some part) → slots ≡ get_or blocks part slots → 0 < vacancies slots
+    first_open slots part is read =
+        let block = read_block blocks slots part (first_within part is) read in
+        ltb-true 0 (vacancies slots) (sym (ap has_vacancy block) ∙ (first_of (open_at blocks) (next_at occupancies) is.open_count part is.linked).2)
 
   -- ---- one partition changes
 
-  -- what is to be shown of the new list
-  pub record Relinked (parts : List (Linked T)) (p new : Linked T) (part open_count : ℕ) (first : Option ℕ) : Type 0 where
-    pub count : ℕ
-    pub counted : count + one_if_open p ≡ open_count + one_if_open new
-    pub linked : IsOpenList (map link_of (set parts part new)) count first
+  -- the block and its bitmap, as they are and as they become
+  pub record Step (blocks : Blocks T) (occupancies : List Occupancy) (slots new : List (Option T)) (o o' : Occupancy) (part slot : ℕ) (tuple : Option T) : Type 0 where
+    pub writes : Writes blocks slots new part slot tuple
+    pub read : o ≡ get_or occupancies part o
+    pub bits : IsPartition o'.held.words new
 
-  IsStore-set : (parts : List (Linked T)) (p new : Linked T) (free free' part : ℕ) (first first' : Option ℕ)
-      → (is : IsStore parts free first) → part < length parts → p ≡ get_or parts part p
-      → free' + vacant p ≡ free + vacant new
-      → len (tuples_of (slots_of (set parts part new))) + free' ≡ len (tuples_of (slots_of parts)) + free
-      → Relinked parts p new part is.open_count first'
-      → IsStore (set parts part new) free' first'
-  IsStore-set parts p new free free' part first first' is within read freed total relinked =
-      let sums = sum_by-set vacant parts part new p within in
-      let opens = sum_by-set one_if_open parts part new p within in
-      let was : vacant (get_or parts part p) ≡ vacant p = ap vacant (sym read) in
-      let was_open : one_if_open (get_or parts part p) ≡ one_if_open p = ap one_if_open (sym read) in
+  IsStore-set : (blocks : Blocks T) (occupancies occupancies' : List Occupancy) (slots new : List (Option T)) (free free' part : ℕ) (first first' : Option ℕ) (count : ℕ)
+      → (is : IsStore blocks occupancies free first) → part < length blocks → slots ≡ get_or blocks part slots
+      → HaveBitmaps (set blocks part new) occupancies'
+      → free' + vacancies slots ≡ free + vacancies new
+      → len (tuples_of (set blocks part new)) + free' ≡ len (tuples_of blocks) + free
+      → count + one_if_open slots ≡ is.open_count + one_if_open new
+      → IsOpenList (open_at (set blocks part new)) (next_at occupancies') count first'
+      → IsStore (set blocks part new) occupancies' free' first'
+  IsStore-set blocks occupancies occupancies' slots new free free' part first first' count is within read mapped freed total counted linked =
+      let sums = sum_by-set vacancies blocks part new slots within in
+      let opens = sum_by-set one_if_open blocks part new slots within in
+      let was : vacancies (get_or blocks part slots) ≡ vacancies slots = ap vacancies (sym read) in
+      let was_open : one_if_open (get_or blocks part slots) ≡ one_if_open slots = ap one_if_open (sym read) in
       record {
+        mapped = mapped;
         counted = omega (arith, sums, was, freed, is.counted);
-        total = omega (arith, total, is.total, length-set parts part new);
-        open_count = relinked.count;
-        all_open = omega (arith, opens, was_open, relinked.counted, is.all_open);
-        linked = relinked.linked;
-        numbered = omega (arith, is.numbered, length-set parts part new);
+        total = omega (arith, total, is.total, length-set blocks part new);
+        open_count = count;
+        all_open = omega (arith, opens, was_open, counted, is.all_open);
+        linked = linked;
+        numbered = omega (arith, is.numbered, length-set blocks part new);
       }
 
-  is_open_yes : (p : Linked T) → 0 < vacant p → is_open p ≡ true
-  is_open_yes p some = lt-ltb 0 (vacant p) some
+  module _ (blocks : Blocks T) (occupancies : List Occupancy) (slots new : List (Option T)) (o o' : Occupancy) (free part slot : ℕ) (tuple : Option T)
+      (as_many : length occupancies ≡ length blocks) (s : Step blocks occupancies slots new o o' part slot tuple) where
+    has_map : part < length occupancies
+    has_map = omega (arith, s.writes.within, as_many)
 
-  is_open_no : (p : Linked T) → vacant p ≡ 0 → is_open p ≡ false
-  is_open_no p none = le-ltb 0 (vacant p) (omega arith)
+    beside : SameBeside (open_at blocks) (open_at (set blocks part new)) (next_at occupancies) (next_at (set occupancies part o')) part
+    beside = record {
+      opens = λ other differs. ap has_vacancy (get_or-set_other blocks part other new [] differs);
+      nexts = λ other differs. mapped-set_other next_of occupancies part other o' None differs;
+    }
 
-  -- the same links make the same list
-  same_links : (parts : List (Linked T)) (p new : Linked T) (part open_count : ℕ) (first : Option ℕ)
-      → p ≡ get_or parts part p → is_open new ≡ is_open p → new.next_open ≡ p.next_open
-      → IsOpenList (map link_of parts) open_count first → Relinked parts p new part open_count first
-  same_links parts p new part open_count first read same next linked =
-      let link : link_of new ≡ link_of (get_or parts part p) = (λ i. (same i, next i)) ∙ ap link_of read in
-      record {
-        count = open_count;
-        counted = ap (λ (b : Bool). open_count + cond b 1 0) (sym same);
-        linked = subst (λ (links : List Link). IsOpenList links open_count first) (sym (map-set_same link_of parts part new p link)) linked;
-      }
+    was_open : open_at blocks part ≡ has_vacancy slots
+    was_open = ap has_vacancy (read_block blocks slots part s.writes.within s.writes.read)
+
+    is_open : open_at (set blocks part new) part ≡ has_vacancy new
+    is_open = ap has_vacancy (get_or-set_same blocks part new [] s.writes.within)
+
+    was_next : next_at occupancies part ≡ o.next_open
+    was_next = mapped-read next_of occupancies part o None has_map s.read
+
+    is_next : next_at (set occupancies part o') part ≡ o'.next_open
+    is_next = mapped-set_same next_of occupancies part o' None has_map
+
+    -- the list stays where the partition is open as before, and names the same next
+    same_list : (count : ℕ) (first : Option ℕ) → has_vacancy new ≡ has_vacancy slots → o'.next_open ≡ o.next_open
+        → IsOpenList (open_at blocks) (next_at occupancies) count first → IsOpenList (open_at (set blocks part new)) (next_at (set occupancies part o')) count first
+    same_list count first same next linked =
+        keep_all (open_at blocks) (open_at (set blocks part new)) (next_at occupancies) (next_at (set occupancies part o')) part beside count first
+        (is_open ∙ same ∙ sym was_open) (is_next ∙ next ∙ sym was_next) linked
 
   -- ---- a put
 
-  pub IsStore-put_full : (parts : List (Linked T)) (p new : Linked T) (free part slot : ℕ) (tuple : T)
-      → IsStore parts free (Some part) → Writes parts p new part slot (Some tuple) → get_or p.partition slot None ≡ None
-      → 0 < free → vacancies new.partition ≡ 0 → new.next_open ≡ p.next_open
-      → IsStore (set parts part new) (free - 1) p.next_open
-  IsStore-put_full parts p new free part slot tuple is w fresh some full next =
-      let filled = vacancies-fill p.partition slot tuple w.in_slots fresh in
-      let now : vacant new ≡ vacancies (set p.partition slot (Some tuple)) = ap vacancies w.slots in
-      let none = found_at parts p (ref_to part slot) w.within w.read ∙ fresh in
-      let more = ap len (tuples-written parts p new part slot tuple w) ∙ len-insert_fresh (tuples_of (slots_of parts)) (ref_to part slot) tuple none in
-      let first = first_of (map link_of parts) is.open_count part is.linked in
-      let old_link = link_read parts p part w.within w.read in
-      let rest = subst (λ (l : Link). IsOpenList (map link_of parts) first.0 l.1) old_link first.4 in
-      let kept = keep_rest (map link_of parts) part (link_of new) is.open_count first.0 p.next_open (omega (arith, first.1)) is.linked rest in
-      let was_open : one_if_open p ≡ 1 = ap (λ (b : Bool). cond b 1 0) (is_open_yes p (omega (arith, filled))) in
-      let is_closed : one_if_open new ≡ 0 = ap (λ (b : Bool). cond b 1 0) (is_open_no new full) in
-      IsStore-set parts p new free (free - 1) part (Some part) p.next_open is w.within w.read (omega (arith, filled, now)) (omega (arith, more))
-      (record {
-        count = first.0;
-        counted = omega (arith, first.1, was_open, is_closed);
-        linked = subst (λ (links : List Link). IsOpenList links first.0 p.next_open) (sym (map-set link_of parts part new)) kept;
-      })
+  module _ (blocks : Blocks T) (occupancies : List Occupancy) (slots new : List (Option T)) (o o' : Occupancy) (free part slot : ℕ) (tuple : T)
+      (is : IsStore blocks occupancies free (Some part)) (s : Step blocks occupancies slots new o o' part slot (Some tuple)) (fresh : get_or slots slot None ≡ None) (some : 0 < free) where
+    put_fills : vacancies new + 1 ≡ vacancies slots
+    put_fills = ap (λ (xs : List (Option T)). vacancies xs + 1) s.writes.is ∙ vacancies-fill slots slot tuple s.writes.in_slots fresh
 
-  pub IsStore-put_open : (parts : List (Linked T)) (p new : Linked T) (free part slot : ℕ) (tuple : T)
-      → IsStore parts free (Some part) → Writes parts p new part slot (Some tuple) → get_or p.partition slot None ≡ None
-      → 0 < free → vacancies new.partition ≢ 0 → new.next_open ≡ p.next_open
-      → IsStore (set parts part new) (free - 1) (Some part)
-  IsStore-put_open parts p new free part slot tuple is w fresh some still next =
-      let filled = vacancies-fill p.partition slot tuple w.in_slots fresh in
-      let now : vacant new ≡ vacancies (set p.partition slot (Some tuple)) = ap vacancies w.slots in
-      let none = found_at parts p (ref_to part slot) w.within w.read ∙ fresh in
-      let more = ap len (tuples-written parts p new part slot tuple w) ∙ len-insert_fresh (tuples_of (slots_of parts)) (ref_to part slot) tuple none in
-      let same : is_open new ≡ is_open p = is_open_yes new (omega arith) ∙ sym (is_open_yes p (omega (arith, filled))) in
-      IsStore-set parts p new free (free - 1) part (Some part) (Some part) is w.within w.read (omega (arith, filled, now)) (omega (arith, more))
-      (same_links parts p new part is.open_count (Some part) w.read same next is.linked)
+    put_adds : len (tuples_of (set blocks part new)) ≡ len (tuples_of blocks) + 1
+    put_adds =
+        ap len (tuples-written blocks slots new part slot tuple s.writes)
+        ∙ len-insert_fresh (tuples_of blocks) (ref_to part slot) tuple (found_at blocks slots (ref_to part slot) s.writes.within s.writes.read ∙ fresh)
+
+    pub IsStore-put_full : vacancies new ≡ 0 → IsStore (set blocks part new) (set occupancies part o') (free - 1) o.next_open
+    IsStore-put_full full =
+        let first = first_of (open_at blocks) (next_at occupancies) is.open_count part is.linked in
+        let rest = subst (λ (next : Option ℕ). IsOpenList (open_at blocks) (next_at occupancies) first.0 next) (was_next blocks occupancies slots new o o' free part slot (Some tuple) is.mapped.as_many s) first.3 in
+        let kept = keep_rest (open_at blocks) (open_at (set blocks part new)) (next_at occupancies) (next_at (set occupancies part o')) part
+        (beside blocks occupancies slots new o o' free part slot (Some tuple) is.mapped.as_many s) is.open_count first.0 o.next_open (omega (arith, first.1)) is.linked rest in
+        let opened : one_if_open slots ≡ 1 = ap (λ (b : Bool). cond b 1 0) (has_vacancy_yes slots (omega (arith, put_fills))) in
+        let closed : one_if_open new ≡ 0 = ap (λ (b : Bool). cond b 1 0) (has_vacancy_no new full) in
+        IsStore-set blocks occupancies (set occupancies part o') slots new free (free - 1) part (Some part) o.next_open first.0 is s.writes.within s.writes.read
+        (HaveBitmaps-set blocks occupancies new o' part is.mapped s.writes.within s.bits)
+        (omega (arith, put_fills, some)) (omega (arith, put_adds, some)) (omega (arith, first.1, opened, closed)) kept
+
+    pub IsStore-put_open : vacancies new ≢ 0 → o'.next_open ≡ o.next_open → IsStore (set blocks part new) (set occupancies part o') (free - 1) (Some part)
+    IsStore-put_open still next =
+        let same : has_vacancy new ≡ has_vacancy slots = has_vacancy_yes new (omega arith) ∙ sym (has_vacancy_yes slots (omega (arith, put_fills))) in
+        IsStore-set blocks occupancies (set occupancies part o') slots new free (free - 1) part (Some part) (Some part) is.open_count is s.writes.within s.writes.read
+        (HaveBitmaps-set blocks occupancies new o' part is.mapped s.writes.within s.bits)
+        (omega (arith, put_fills, some)) (omega (arith, put_adds, some)) (ap (λ (b : Bool). is.open_count + cond b 1 0) (sym same))
+        (same_list blocks occupancies slots new o o' free part slot (Some tuple) is.mapped.as_many s is.open_count (Some part) same next is.linked)
 
   -- ---- a take
 
-  pub IsStore-take_full : (parts : List (Linked T)) (p new : Linked T) (free part slot : ℕ) (first : Option ℕ) (tuple : T)
-      → IsStore parts free first → Writes parts p new part slot None → get_or p.partition slot None ≡ Some tuple
-      → vacancies p.partition ≡ 0 → new.next_open ≡ first
-      → IsStore (set parts part new) (free + 1) (Some part)
-  IsStore-take_full parts p new free part slot first tuple is w held full next =
-      let freed = vacancies-free p.partition slot tuple w.in_slots held in
-      let now : vacant new ≡ vacancies (set p.partition slot None) = ap vacancies w.slots in
-      let found = found_at parts p (ref_to part slot) w.within w.read ∙ held in
-      let some : IsSome (get (tuples_of (slots_of parts)) (ref_to part slot)) = ap is_some found in
-      let fewer = len-remove_held (tuples_of (slots_of parts)) (ref_to part slot) some in
-      let after = ap len (tuples-freed parts p new part slot w) in
-      let closed = ap (λ (l : Link). l.0) (link_read parts p part w.within w.read) ∙ is_open_no p full in
-      let front = set_first (map link_of parts) is.open_count part first (omega (arith, w.within, length-map parts link_of)) closed is.linked in
-      let opened = is_open_yes new (omega (arith, freed, now)) in
-      let was_closed : one_if_open p ≡ 0 = ap (λ (b : Bool). cond b 1 0) (is_open_no p full) in
-      let is_opened : one_if_open new ≡ 1 = ap (λ (b : Bool). cond b 1 0) opened in
-      let link : (true, first) ≡ link_of new = λ i. (sym opened i, sym next i) in
-      IsStore-set parts p new free (free + 1) part first (Some part) is w.within w.read (omega (arith, freed, now)) (omega (arith, fewer, after))
-      (record {
-        count = suc is.open_count;
-        counted = omega (arith, was_closed, is_opened);
-        linked = subst (λ (links : List Link). IsOpenList links (suc is.open_count) (Some part))
-            (ap (set (map link_of parts) part) link ∙ sym (map-set link_of parts part new)) front;
-      })
+  module _ (blocks : Blocks T) (occupancies : List Occupancy) (slots new : List (Option T)) (o o' : Occupancy) (free part slot : ℕ) (first : Option ℕ) (tuple : T)
+      (is : IsStore blocks occupancies free first) (s : Step blocks occupancies slots new o o' part slot None) (held : get_or slots slot None ≡ Some tuple) where
+    take_frees : vacancies new ≡ vacancies slots + 1
+    take_frees = ap vacancies s.writes.is ∙ vacancies-free slots slot tuple s.writes.in_slots held
 
-  pub IsStore-take_open : (parts : List (Linked T)) (p new : Linked T) (free part slot : ℕ) (first : Option ℕ) (tuple : T)
-      → IsStore parts free first → Writes parts p new part slot None → get_or p.partition slot None ≡ Some tuple
-      → vacancies p.partition ≢ 0 → new.next_open ≡ p.next_open
-      → IsStore (set parts part new) (free + 1) first
-  IsStore-take_open parts p new free part slot first tuple is w held was next =
-      let freed = vacancies-free p.partition slot tuple w.in_slots held in
-      let now : vacant new ≡ vacancies (set p.partition slot None) = ap vacancies w.slots in
-      let found = found_at parts p (ref_to part slot) w.within w.read ∙ held in
-      let some : IsSome (get (tuples_of (slots_of parts)) (ref_to part slot)) = ap is_some found in
-      let fewer = len-remove_held (tuples_of (slots_of parts)) (ref_to part slot) some in
-      let after = ap len (tuples-freed parts p new part slot w) in
-      let same : is_open new ≡ is_open p = is_open_yes new (omega (arith, freed, now)) ∙ sym (is_open_yes p (omega arith)) in
-      IsStore-set parts p new free (free + 1) part first first is w.within w.read (omega (arith, freed, now)) (omega (arith, fewer, after))
-      (same_links parts p new part is.open_count first w.read same next is.linked)
+    take_takes : len (tuples_of (set blocks part new)) + 1 ≡ len (tuples_of blocks)
+    take_takes =
+        let found = found_at blocks slots (ref_to part slot) s.writes.within s.writes.read ∙ held in
+        ap (λ (n : ℕ). n + 1) (ap len (tuples-freed blocks slots new part slot s.writes)) ∙ len-remove_held (tuples_of blocks) (ref_to part slot) (ap is_some found)
+
+    pub IsStore-take_full : vacancies slots ≡ 0 → o'.next_open ≡ first → IsStore (set blocks part new) (set occupancies part o') (free + 1) (Some part)
+    IsStore-take_full full next =
+        let shut = has_vacancy_no slots full in
+        let opened = has_vacancy_yes new (omega (arith, take_frees)) in
+        let was_closed : one_if_open slots ≡ 0 = ap (λ (b : Bool). cond b 1 0) shut in
+        let is_opened : one_if_open new ≡ 1 = ap (λ (b : Bool). cond b 1 0) opened in
+        let front = put_first (open_at blocks) (open_at (set blocks part new)) (next_at occupancies) (next_at (set occupancies part o')) part
+        (beside blocks occupancies slots new o o' free part slot None is.mapped.as_many s) is.open_count first
+        (was_open blocks occupancies slots new o o' free part slot None is.mapped.as_many s ∙ shut)
+        (is_open blocks occupancies slots new o o' free part slot None is.mapped.as_many s ∙ opened)
+        (is_next blocks occupancies slots new o o' free part slot None is.mapped.as_many s ∙ next) is.linked in
+        IsStore-set blocks occupancies (set occupancies part o') slots new free (free + 1) part first (Some part) (suc is.open_count) is s.writes.within s.writes.read
+        (HaveBitmaps-set blocks occupancies new o' part is.mapped s.writes.within s.bits)
+        (omega (arith, take_frees)) (omega (arith, take_takes)) (omega (arith, was_closed, is_opened)) front
+
+    pub IsStore-take_open : vacancies slots ≢ 0 → o'.next_open ≡ o.next_open → IsStore (set blocks part new) (set occupancies part o') (free + 1) first
+    IsStore-take_open was next =
+        let same : has_vacancy new ≡ has_vacancy slots = has_vacancy_yes new (omega (arith, take_frees)) ∙ sym (has_vacancy_yes slots (omega arith)) in
+        IsStore-set blocks occupancies (set occupancies part o') slots new free (free + 1) part first first is.open_count is s.writes.within s.writes.read
+        (HaveBitmaps-set blocks occupancies new o' part is.mapped s.writes.within s.bits)
+        (omega (arith, take_frees)) (omega (arith, take_takes)) (ap (λ (b : Bool). is.open_count + cond b 1 0) (sym same))
+        (same_list blocks occupancies slots new o o' free part slot None is.mapped.as_many s is.open_count first same next is.linked)
 
   -- ---- a write through `get_mut`
 
-  pub IsStore-write : (parts : List (Linked T)) (p new : Linked T) (free part slot : ℕ) (first : Option ℕ) (old tuple : T)
-      → IsStore parts free first → Writes parts p new part slot (Some tuple) → get_or p.partition slot None ≡ Some old
-      → new.next_open ≡ p.next_open → IsStore (set parts part new) free first
-  IsStore-write parts p new free part slot first old tuple is w held next =
-      let kept = vacancies-rewrite p.partition slot old tuple w.in_slots held in
-      let now : vacant new ≡ vacant p = ap vacancies w.slots ∙ kept in
-      let found = found_at parts p (ref_to part slot) w.within w.read ∙ held in
-      let some : IsSome (get (tuples_of (slots_of parts)) (ref_to part slot)) = ap is_some found in
-      let as_many = ap len (tuples-written parts p new part slot tuple w) ∙ len-insert_held (tuples_of (slots_of parts)) (ref_to part slot) tuple some in
-      let same : is_open new ≡ is_open p = ap (nat_lt 0) now in
-      IsStore-set parts p new free free part first first is w.within w.read (omega (arith, now)) (omega (arith, as_many))
-      (same_links parts p new part is.open_count first w.read same next is.linked)
+  pub IsStore-write : (blocks : Blocks T) (occupancies : List Occupancy) (slots new : List (Option T)) (free part slot : ℕ) (first : Option ℕ) (old tuple : T)
+      → IsStore blocks occupancies free first → Writes blocks slots new part slot (Some tuple) → get_or slots slot None ≡ Some old
+      → IsPartition (words_at occupancies part) new → IsStore (set blocks part new) occupancies free first
+  IsStore-write blocks occupancies slots new free part slot first old tuple is w held bits =
+      let kept : vacancies new ≡ vacancies slots = ap vacancies w.is ∙ vacancies-rewrite slots slot old tuple w.in_slots held in
+      let found = found_at blocks slots (ref_to part slot) w.within w.read ∙ held in
+      let as_many = ap len (tuples-written blocks slots new part slot tuple w) ∙ len-insert_held (tuples_of blocks) (ref_to part slot) tuple (ap is_some found) in
+      let same : has_vacancy new ≡ has_vacancy slots = ap (nat_lt 0) kept in
+      let beside : SameBeside (open_at blocks) (open_at (set blocks part new)) (next_at occupancies) (next_at occupancies) part = record {
+        opens = λ other differs. ap has_vacancy (get_or-set_other blocks part other new [] differs);
+        nexts = λ other differs. refl;
+      } in
+      IsStore-set blocks occupancies occupancies slots new free free part first first is.open_count is w.within w.read
+      (HaveBitmaps-write blocks occupancies new part is.mapped w.within bits)
+      (omega (arith, kept)) (omega (arith, as_many)) (ap (λ (b : Bool). is.open_count + cond b 1 0) (sym same))
+      (keep_all (open_at blocks) (open_at (set blocks part new)) (next_at occupancies) (next_at occupancies) part beside is.open_count first
+      (ap has_vacancy (get_or-set_same blocks part new [] w.within) ∙ same ∙ sym (ap has_vacancy (read_block blocks slots part w.within w.read))) refl is.linked)
 
   -- ---- a new partition, and no partition
 
-  pub IsStore-push : (parts : List (Linked T)) (new : Linked T) (first : Option ℕ) (part : ℕ)
-      → IsStore parts 0 first → IsVacant new.partition → new.next_open ≡ first → part ≡ length parts
-      → len (tuples_of (slots_of parts)) + 0 < 2 ^ 40 → IsStore (parts ++ new ∷ []) 256 (Some part)
-  IsStore-push parts new first part is empty_slots next e room =
-      let free : vacant new ≡ 256 = all_vacant new.partition empty_slots.empty ∙ empty_slots.count in
-      let opened = is_open_yes new (omega arith) in
+  -- past the blocks no partition is open
+  closed_past : (blocks : Blocks T) (part : ℕ) → part ≡ length blocks → open_at blocks part ≡ false
+  closed_past [] part e = refl
+  closed_past (slots ∷ rest) zero e = absurd (omega (arith, e))
+  closed_past (slots ∷ rest) (suc part) e = closed_past rest part (omega (arith, e))
+
+  pub IsStore-push : (blocks : Blocks T) (occupancies : List Occupancy) (new : List (Option T)) (o : Occupancy) (first : Option ℕ) (part : ℕ)
+      → IsStore blocks occupancies 0 first → IsVacant new → IsPartition o.held.words new → o.next_open ≡ first → part ≡ length blocks
+      → len (tuples_of blocks) < 2 ^ 40 → IsStore (blocks ++ new ∷ []) (occupancies ++ o ∷ []) 256 (Some part)
+  IsStore-push blocks occupancies new o first part is vacant bits next e room =
+      let blocks' = blocks ++ new ∷ [] in let occupancies' = occupancies ++ o ∷ [] in
+      let e' : part ≡ length occupancies = omega (arith, e, is.mapped.as_many) in
+      let free : vacancies new ≡ 256 = all_vacant new vacant.empty ∙ vacant.count in
+      let opened = has_vacancy_yes new (omega (arith, free)) in
       let is_opened : one_if_open new ≡ 1 = ap (λ (b : Bool). cond b 1 0) opened in
-      let same = ap len (tuples-push parts new empty_slots) in
-      let front = push_first (map link_of parts) is.open_count part first (e ∙ sym (length-map parts link_of)) is.linked in
-      let link : (true, first) ≡ link_of new = λ i. (sym opened i, sym next i) in
+      let same = ap len (tuples-push blocks new vacant) in
+      let here : get_or blocks' part [] ≡ new = get_or_push blocks new [] part (sym e) in
+      let beside : SameBeside (open_at blocks) (open_at blocks') (next_at occupancies) (next_at occupancies') part = record {
+        opens = λ other differs. ap has_vacancy (get_or-push_other blocks other new [] (λ at. differs (omega (arith, at, e))));
+        nexts = λ other differs. mapped-push_other next_of occupancies other o None (λ at. differs (omega (arith, at, e')));
+      } in
       record {
-        counted = omega (arith, is.counted, sum_by-append vacant parts (new ∷ []), sum_by-cons vacant new [], free);
-        total = omega (arith, is.total, same, length_push parts new);
+        mapped = HaveBitmaps-push blocks occupancies new o is.mapped bits;
+        counted = omega (arith, is.counted, sum_by-append vacancies blocks (new ∷ []), sum_by-cons vacancies new [], free);
+        total = omega (arith, is.total, same, length_push blocks new);
         open_count = suc is.open_count;
-        all_open = omega (arith, is.all_open, sum_by-append one_if_open parts (new ∷ []), sum_by-cons one_if_open new [], is_opened);
-        linked = subst (λ (links : List Link). IsOpenList links (suc is.open_count) (Some part))
-            (ap (λ l. map link_of parts ++ l ∷ []) link ∙ sym (map-append link_of parts (new ∷ []))) front;
-        numbered = omega (arith, is.total, length_push parts new);
+        all_open = omega (arith, is.all_open, sum_by-append one_if_open blocks (new ∷ []), sum_by-cons one_if_open new [], is_opened);
+        linked = put_first (open_at blocks) (open_at blocks') (next_at occupancies) (next_at occupancies') part beside is.open_count first
+            (closed_past blocks part e) (ap has_vacancy here ∙ opened) (mapped-push_same next_of occupancies part o None e' ∙ next) is.linked;
+        numbered = omega (arith, is.total, length_push blocks new, room);
       }
 
-  pub IsStore-empty : IsStore {T = T} [] 0 None
+  pub IsStore-empty : IsStore {T = T} [] [] 0 None
   unfolding tuples_from
-  IsStore-empty = record { counted = refl; total = omega (arith, len-empty ref_cmp T); open_count = 0; all_open = refl; linked = tt; numbered = omega arith }
+  IsStore-empty = record {
+    mapped = record { as_many = refl; bits = λ part within. absurd (omega (arith, within)) };
+    counted = refl;
+    total = omega (arith, len-empty ref_cmp T);
+    open_count = 0;
+    all_open = refl;
+    linked = tt;
+    numbered = omega arith;
+  }

@@ -2,27 +2,29 @@
 use Rattle.std.specs.Prelude.{◌≡◌, ◌≢◌, ℕ, ◌+◌, ◌/◌, ◌%◌, ◌<◌, ◌==◌, Bool, List, [], ◌∷◌, length, Option, Some, None, is_some, is_none, count_by, slice_index, slice_index_or}
 use Rattle.std.specs.Int.{bit_at}
 use Rattle.std.specs.FinMap.{insert, empty}
+use Rattle.part_raw.specs.declared.TheConstants.{SLOTS}
+use Rattle.part_raw.specs.declared.bitmap.TheConstants.{WORD_BITS}
 use Rattle.part_raw.specs.TupleRefs.{ref_to}
 use Rattle.part_raw.specs.Store.{Tuples}
 
--- whether the bit of this slot is set, in words of 64 bits
+-- whether the bit of this slot is set
 abbrev pub is_set : List ℕ → ℕ → Bool
-is_set words slot = bit_at (slice_index words (slot / 64)) (slot % 64) == 1
+is_set words slot = bit_at (slice_index words (slot / WORD_BITS)) (slot % WORD_BITS) == 1
 
 -- the bit of this slot is this, and the others are as they were
 pub record ChangesBit (old new : List ℕ) (slot : ℕ) (bit : Bool) : Type 0 where
   pub changed : is_set new slot ≡ bit
-  pub others : (other : ℕ) → other < 256 → other ≢ slot → is_set new other ≡ is_set old other
+  pub others : (other : ℕ) → other < SLOTS → other ≢ slot → is_set new other ≡ is_set old other
 
 module _ {T : Type 0} where
-  -- a partition has 256 slots, and the bit of each that holds a tuple is set, and no other
+  -- the bit of each that holds a tuple is set, and no other
   pub record IsPartition (words : List ℕ) (slots : List (Option T)) : Type 0 where
-    pub count : length slots ≡ 256
-    pub bits : (slot : ℕ) → slot < 256 → is_set words slot ≡ is_some (slice_index_or slots slot None)
+    pub count : length slots ≡ SLOTS
+    pub bits : (slot : ℕ) → slot < SLOTS → is_set words slot ≡ is_some (slice_index_or slots slot None)
 
-  -- 256 slots, and none holds a tuple
+  -- none of the slots holds a tuple
   pub record IsVacant (slots : List (Option T)) : Type 0 where
-    pub count : length slots ≡ 256
+    pub count : length slots ≡ SLOTS
     pub empty : (slot : ℕ) → slice_index_or slots slot None ≡ None
 
   -- how many slots hold no tuple

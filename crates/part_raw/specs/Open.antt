@@ -1,35 +1,50 @@
--- How a store keeps its partitions: the list of those with a free slot. No public clause cites this module.
-use Rattle.std.specs.Prelude.{◌≡◌, ℕ, zero, suc, ◌+◌, ◌*◌, ◌^◌, ◌<◌, ◌≤◌, Bool, true, false, List, map, length, Option, Some, None, count_by, sum_by, slice_index_or, nat_lt}
+-- How a store keeps its partitions: their blocks, which slots hold a tuple, and the list of the partitions with a free
+-- slot. No public clause cites this module.
+use Rattle.std.specs.Prelude.{◌≡◌, ℕ, zero, suc, ◌+◌, ◌*◌, ◌^◌, ◌<◌, ◌≤◌, Bool, true, List, [], map, length, Option, Some, None, count_by, sum_by, slice_index_or, nat_lt}
 use Rattle.std.specs.FinMap.{len}
-use Rattle.part_raw.specs.Layout.{vacancies, tuples_of}
-use Rattle.part_raw.specs.declared.store.Linked.{Linked}
+use Rattle.part_raw.specs.declared.TheConstants.{SLOTS}
+use Rattle.part_raw.specs.Layout.{IsPartition, vacancies, tuples_of}
+use Rattle.part_raw.specs.declared.store.Occupancy.{Occupancy}
 
--- whether a partition has a free slot, and the next partition in the list of those that have one
-abbrev pub Link : Type 0
-Link = Bool × Option ℕ
+-- from the first on, so many partitions are open and name the next, and the last names none
+abbrev pub IsOpenList : (ℕ → Bool) → (ℕ → Option ℕ) → ℕ → Option ℕ → Type 0
+IsOpenList is_open next zero None = Unit {0}
+IsOpenList is_open next zero (Some part) = ⊥
+IsOpenList is_open next (suc count) None = ⊥
+IsOpenList is_open next (suc count) (Some part) = (is_open part ≡ true) × IsOpenList is_open next count (next part)
 
-abbrev pub link_at : List Link → ℕ → Link
-link_at links part = slice_index_or links part (false, None)
+-- the words of a partition's bitmap
+abbrev pub words_at : List Occupancy → ℕ → List ℕ
+words_at occupancies part = slice_index_or (map (λ o. o.held.words) occupancies) part []
 
--- from the first on, so many partitions each have a free slot and name the next, and the last names none
-abbrev pub IsOpenList : List Link → ℕ → Option ℕ → Type 0
-IsOpenList links zero None = Unit {0}
-IsOpenList links zero (Some part) = ⊥
-IsOpenList links (suc count) None = ⊥
-IsOpenList links (suc count) (Some part) = (part < length links) × ((link_at links part).0 ≡ true) × IsOpenList links count (link_at links part).1
+-- the partition that it names as the next in the list
+abbrev pub next_at : List Occupancy → ℕ → Option ℕ
+next_at occupancies part = slice_index_or (map (λ o. o.next_open) occupancies) part None
 
 module _ {T : Type 0} where
-  abbrev pub link_of : Linked T → Link
-  link_of p = (nat_lt 0 (vacancies p.partition), p.next_open)
+  -- whether a slot is free
+  abbrev pub has_vacancy : List (Option T) → Bool
+  has_vacancy slots = nat_lt 0 (vacancies slots)
 
-  abbrev pub slots_of : List (Linked T) → List (List (Option T))
-  slots_of = map (λ p. p.partition)
+  abbrev pub slots_at : List (List (Option T)) → ℕ → List (Option T)
+  slots_at blocks part = slice_index_or blocks part []
 
-  -- the free slots are counted, each slot is free or holds a tuple, and the list holds every partition with a free slot
-  pub record IsStore (parts : List (Linked T)) (free : ℕ) (first_open : Option ℕ) : Type 0 where
-    pub counted : free ≡ sum_by (λ p. vacancies p.partition) parts
-    pub total : len (tuples_of (slots_of parts)) + free ≡ 256 * length parts
+  -- whether this partition has a free slot
+  abbrev pub open_at : List (List (Option T)) → ℕ → Bool
+  open_at blocks part = has_vacancy (slots_at blocks part)
+
+  -- each block has its bitmap
+  pub record HaveBitmaps (blocks : List (List (Option T))) (occupancies : List Occupancy) : Type 0 where
+    pub as_many : length occupancies ≡ length blocks
+    pub bits : (part : ℕ) → part < length blocks → IsPartition (words_at occupancies part) (slots_at blocks part)
+
+  -- each block has its bitmap, the free slots are counted, each slot is free or holds a tuple, and the list holds every
+  -- partition with a free slot
+  pub record IsStore (blocks : List (List (Option T))) (occupancies : List Occupancy) (free : ℕ) (first_open : Option ℕ) : Type 0 where
+    pub mapped : HaveBitmaps blocks occupancies
+    pub counted : free ≡ sum_by vacancies blocks
+    pub total : len (tuples_of blocks) + free ≡ SLOTS * length blocks
     pub open_count : ℕ
-    pub all_open : open_count ≡ count_by (λ p. (link_of p).0) parts
-    pub linked : IsOpenList (map link_of parts) open_count first_open
-    pub numbered : length parts ≤ 2 ^ 32
+    pub all_open : open_count ≡ count_by has_vacancy blocks
+    pub linked : IsOpenList (open_at blocks) (next_at occupancies) open_count first_open
+    pub numbered : length blocks ≤ 2 ^ 32

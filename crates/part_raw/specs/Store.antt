@@ -1,8 +1,9 @@
--- What a contract sees of a `Partitions`: a finite map from references to tuples, and a count of free slots. The laws of the map
--- are in `proofs.Tuples`.
+-- What a contract sees of a `Partitions`: a finite map from references to tuples, and a count of free slots. The laws
+-- of the map are in `proofs.Tuples`.
 use Rattle.std.specs.Prelude.{ℕ, Option, IsSome, refl, if◌then◌else◌, nat_lt}
 use Rattle.std.specs.Coded.{Coded, code_by, coded×, coded_ℕ}
 use Rattle.std.specs.FinMap as map
+use Rattle.part_raw.specs.declared.TheConstants.{SLOTS}
 use Rattle.part_raw.specs.TupleRefs.{ref_cmp, ref_code}
 use Rattle.part_raw.specs.declared.tuple_ref.TupleRef.{TupleRef}
 
@@ -20,9 +21,9 @@ abbrev pub store_code : {T : Type 0} → Coded T → Coded (Store T)
 store_code {T} code =
     code_by (Tuples T × ℕ) (coded× (map.code ref_code code) coded_ℕ) (λ s. (s.tuples, s.free)) (λ p. record { tuples = p.0; free = p.1 }) (λ _. refl)
 
--- how many slots are free once room is made: where there was none, a partition of 256 is new
+-- how many slots are free once room is made: where there was none, a partition is new
 abbrev pub free_reserved : ℕ → ℕ
-free_reserved free = if nat_lt 0 free then free else 256
+free_reserved free = if nat_lt 0 free then free else SLOTS
 
 module _ {T : Type 0} where
   abbrev pub store : Tuples T → ℕ → Store T

@@ -1,11 +1,50 @@
-//! A store of tuples that do not move, named by references.
+//! A store of tuples that do not move, each named by a reference: a partition and a slot in it.
+//!
+//! A store is a finite map from references to tuples, with a number of free slots. It does not care what a tuple is,
+//! which part of it is a key, or in what order tuples are looked for: it gives out a reference for a tuple, and the
+//! tuple for the reference.
+//!
+//! ```text
+//! Partitions<T>
+//!   blocks       ──▶ ┌ Block ┐ ┌ Block ┐ ..          8 bytes each, all that `get` reads
+//!                    └───┼───┘ └───┼───┘
+//!                        │         └──▶ ..
+//!                        └──▶ ┌──────┬──────┬─ .. ─┬──────┐
+//!                             │ slot │ slot │      │ slot │   one block of memory, 256 slots, each as long as a T
+//!                             │  0   │  1   │      │ 255  │
+//!                             └──────┴──────┴─ .. ─┴──────┘
+//!   occupancies  ──▶ ┌ Occupancy ──────┐ ┌ Occupancy ──────┐ ..
+//!                    │ held: 256 bits  │ │                 │   which slots of the block hold a tuple
+//!                    │ next_open ──────┼─┼─▶ ..            │   the next partition with a free slot
+//!                    └─────────────────┘ └─────────────────┘
+//!   first_open       the first partition with a free slot
+//!   free             how many slots are free in all
+//! ```
+//!
+//! What always holds:
+//! - A slot holds a tuple exactly where its bit is set, and only such a slot is read. Making a partition writes nothing
+//!   to its slots.
+//! - The list from `first_open` on has each partition with a free slot once, and no other.
+//! - Each slot of each block is free or holds a tuple, so `len` is told by the number of blocks and `free`.
+//! - A block can't be let go, nor can a tuple in it: it is given back to the allocator once, and only with all its
+//!   slots empty.
+//!
+//! All that reads or writes through a pointer stands in `raw`: a few functions of a line or two.
 #![tactic(auto)]
 
 mod bitmap;
+mod block;
 mod partition;
 mod raw;
 mod store;
-pub mod tuple_ref;
+mod tuple_ref;
 
 pub use store::Partitions;
 pub use tuple_ref::TupleRef;
+
+/// How many slots a partition has.
+pub const SLOTS: u32 = 256;
+
+/// How many tuples references can name: those of 2^32 partitions. A store with no free slot that holds as many can't
+/// grow.
+pub const MAX_TUPLES: u64 = (1 << 32) * SLOTS as u64;

@@ -1,4 +1,7 @@
-//! The memory of a partition: slots side by side in one block. Every pointer of the crate is read and written here.
+//! The memory of a partition: slots side by side in one block. Every pointer of the crate is read and written here, and
+//! each function is a line or two, with a proof that follows its machine steps. To the rest of the crate the memory is
+//! a list that has, for each slot, a tuple or nothing: no call reads an empty slot, writes over a tuple, or gives back
+//! a block that holds one or is another's.
 ghost use Rattle.std.specs.Prelude.{◌≡◌, ℕ, ◌<◌, List, Option, None, Some, length, replicate, slice_index_or, slice_set, IfOk, IsSome};
 ghost use Rattle.std.specs.Borrow.{sem};
 ghost use Rattle.std.specs.Vec.Ownership.{FitsInBlock};
@@ -10,7 +13,7 @@ use std::alloc::{AllocError, Allocator};
 use std::marker::{Model, PhantomData};
 use std::mem::{align_of, size_of};
 
-/// The slots of one block. An empty slot has room for a tuple, and nothing is known of its bytes.
+// The slots of one block. An empty slot has room for a tuple, and nothing is known of its bytes.
 pub struct Slots<T> {
     ptr: *mut T,
     ghost held: { List (Option T) },
@@ -22,7 +25,7 @@ impl<T> Model for Slots<T> {
     ghost also_shares = { λ s _ κ. block_lends T.row s.ptr s.held κ };
 }
 
-/// The right to give a block of `count` slots back to its allocator. It takes no space.
+// The right to give a block of `count` slots back to its allocator. It takes no space.
 pub struct Deed<T, A: Allocator> {
     mark: PhantomData<*const (T, A)>,
     ghost at: { Ptr },
@@ -36,7 +39,7 @@ impl<T, A: Allocator> Model for Deed<T, A> {
     ghost also_shares = { λ _ _ _. ftrue };
 }
 
-/// A block of `count` empty slots.
+// A block of `count` empty slots.
 pub(crate) fn allocate<T, A: Allocator>(
     alloc: &A,
     count: usize,
@@ -55,7 +58,7 @@ pub(crate) fn allocate<T, A: Allocator>(
     }
 }
 
-/// Gives a block back whose slots are all empty.
+// Gives a block back whose slots are all empty.
 pub(crate) fn deallocate<T, A: Allocator>(
     alloc: &A,
     slots: Slots<T>,
@@ -74,7 +77,7 @@ pub(crate) fn deallocate<T, A: Allocator>(
 impl<T> Slots<T> {
     ghost use Rattle.part_raw.specs.RawLends.{LendsHeld};
 
-    /// Writes a tuple into an empty slot.
+    // Writes a tuple into an empty slot.
     pub(crate) fn write(&mut self, slot: usize, tuple: T)
         requires within { slot < length self.old.held }
         requires empty { slice_index_or self.old.held slot None ≡ None }
@@ -84,7 +87,7 @@ impl<T> Slots<T> {
         unsafe { self.ptr.add(slot).write(tuple) }
     }
 
-    /// Reads the tuple out of a slot, which is empty from then on.
+    // Reads the tuple out of a slot, which is empty from then on.
     pub(crate) fn read(&mut self, slot: usize) -> T
         requires { IsSome (slice_index_or self.old.held slot None) }
         ensures tuple { slice_index_or self.old.held slot None ≡ Some result }

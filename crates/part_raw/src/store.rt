@@ -1,29 +1,34 @@
-//! All partitions of a store, and the list of those with a free slot.
-ghost use Rattle.std.specs.Prelude.{◌≡◌, ◌+◌, ◌^◌, ◌<◌, ◌≤◌, None, Some, IsOk, OnErr, OnOk};
+//! All partitions of a store, and the list of those with a free slot. A look-up reads the blocks alone; a put and a take
+//! keep the bitmaps, the count of free slots and the list in step with them.
+ghost use Rattle.std.specs.Prelude.{◌≡◌, ◌+◌, ◌<◌, ◌≤◌, None, Some, IsOk, OnErr, OnOk};
 ghost use Rattle.std.specs.Borrow.{sem};
 ghost use Rattle.std.specs.FinMap as map;
 ghost use Rattle.part_raw.specs.Store.{store, tuple_at, IsHeld, free_reserved};
 
-use crate::TupleRef;
-use crate::partition::Partition;
+use crate::bitmap::Bitmap;
+use crate::block::Block;
+use crate::partition::{discard, fill, vacate};
+use crate::{MAX_TUPLES, SLOTS, TupleRef};
 use no_memory::NoMemory;
 use std::alloc::Global;
 use std::marker::Model;
 
-/// A partition, with the next in the list of those that have a free slot. Outside that list the link says nothing.
-#[derive(Drop)]
-struct Linked<T> {
-    partition: Partition<T>,
+// Which slots of a partition hold a tuple, and the next in the list of the partitions that have a free slot. Outside
+// that list the link says nothing.
+#[derive(Clone, Copy)]
+struct Occupancy {
+    held: Bitmap,
     next_open: Option<u32>,
 }
 
 /// Tuples that do not move, each under a reference that is its own while it is held.
 ///
-/// A store grows by partitions of 256 slots, and keeps them until it is dropped.
-#[derive(Drop)]
+/// A store grows by partitions of `SLOTS` slots, and keeps them until it is dropped.
 pub struct Partitions<T> {
     alloc: Global,
-    parts: Vec<Linked<T>>,
+    // A look-up of a tuple reads this alone, so the blocks stand apart from what only `put`, `take` and `holds` read.
+    blocks: Vec<Block<T>>,
+    occupancies: Vec<Occupancy>,
     free: u64,
     first_open: Option<u32>,
 }
@@ -36,11 +41,31 @@ impl<T> Model for Partitions<T> {
     ghost coded = { store_code T.code };
 
     ghost use Rattle.part_raw.specs.Layout.{tuples_of};
-    ghost use Rattle.part_raw.specs.Open.{slots_of, IsStore};
+    ghost use Rattle.part_raw.specs.Open.{IsStore};
 
-    ghost view = { λ s. store (tuples_of (slots_of s.parts.items)) s.free };
+    ghost view = { λ s. store (tuples_of s.blocks.items) s.free };
 
-    ghost invariant = { λ s. IsStore s.parts.items s.free s.first_open };
+    ghost invariant = { λ s. IsStore s.blocks.items s.occupancies.items s.free s.first_open };
+}
+
+/// Each tuple that is held is dropped, and each block is freed.
+impl<T: Drop> Drop for Partitions<T> {
+    fn drop(self) {
+        let Partitions {
+            alloc: _,
+            mut blocks,
+            mut occupancies,
+            free: _,
+            first_open: _,
+        } = self;
+        while let Some(block) = blocks.pop() {
+            match occupancies.pop() {
+                Some(occupancy) => discard(occupancy.held, block),
+                None => unreachable!(),
+            }
+        }
+        blocks.destroy_empty();
+    }
 }
 
 impl<T> Partitions<T> {
@@ -52,7 +77,8 @@ impl<T> Partitions<T> {
     {
         Partitions {
             alloc,
-            parts: Vec::new(alloc),
+            blocks: Vec::new(alloc),
+            occupancies: Vec::new(alloc),
             free: 0,
             first_open: None,
         }
@@ -61,7 +87,7 @@ impl<T> Partitions<T> {
     /// The number of free slots: so many calls of `put` need no `reserve` before them.
     pub fn free(&self) -> u64
         ensures value { result ≡ self.now.free }
-        ensures within { map.len self.now.tuples + self.now.free ≤ 2 ^ 40 }
+        ensures within { map.len self.now.tuples + self.now.free ≤ MAX_TUPLES }
     {
         self.free
     }
@@ -69,15 +95,14 @@ impl<T> Partitions<T> {
     /// The number of tuples that are held.
     pub fn len(&self) -> u64
         ensures value { result ≡ map.len self.now.tuples }
-        ensures within { map.len self.now.tuples + self.now.free ≤ 2 ^ 40 }
+        ensures within { map.len self.now.tuples + self.now.free ≤ MAX_TUPLES }
     {
-        self.parts.len() as u64 * 256 - self.free
+        self.blocks.len() as u64 * SLOTS as u64 - self.free
     }
 
-    /// Makes sure of one free slot. A store with none gets a partition of 256, so such a store has to hold fewer tuples than
-    /// references can name.
+    /// Makes sure of one free slot: a store with none gets a partition of `SLOTS` more.
     pub fn reserve(&mut self) -> Result<(), NoMemory>
-        requires { self.old.free ≡ 0 → map.len self.old.tuples < 2 ^ 40 }
+        requires { self.old.free ≡ 0 → map.len self.old.tuples < MAX_TUPLES }
         ensures ok { OnOk result (self.new ≡ store self.old.tuples (free_reserved self.old.free)) }
         ensures err { OnErr result (self.new ≡ self.old) }
         ensures had_room { 0 < self.old.free → IsOk result }
@@ -85,15 +110,17 @@ impl<T> Partitions<T> {
         if self.free > 0 {
             return Ok(());
         }
-        self.parts.reserve(1)?;
-        let partition = Partition::new(self.alloc)?;
-        let part = self.parts.len() as u32;
-        self.parts.push_reserved(Linked {
-            partition,
+        self.blocks.reserve(1)?;
+        self.occupancies.reserve(1)?;
+        let block = Block::new(self.alloc)?;
+        let part = self.blocks.len() as u32;
+        self.blocks.push_reserved(block);
+        self.occupancies.push_reserved(Occupancy {
+            held: Bitmap::new(),
             next_open: self.first_open,
         });
         self.first_open = Some(part);
-        self.free = 256;
+        self.free = SLOTS as u64;
         Ok(())
     }
 
@@ -109,10 +136,11 @@ impl<T> Partitions<T> {
             None => unreachable!(),
         };
         self.free -= 1;
-        let linked = &mut self.parts[part as usize];
-        let slot = linked.partition.put(tuple);
-        if linked.partition.is_full() {
-            self.first_open = linked.next_open;
+        let occupancy = &mut self.occupancies[part as usize];
+        let block = &mut self.blocks[part as usize];
+        let slot = fill(&mut occupancy.held, block, tuple);
+        if occupancy.held.is_full() {
+            self.first_open = occupancy.next_open;
         }
         TupleRef { part, slot }
     }
@@ -122,7 +150,7 @@ impl<T> Partitions<T> {
         ensures { result ≡ map.contains_key self.now.tuples r }
     {
         let part = r.part as usize;
-        part < self.parts.len() && self.parts[part].partition.holds(r.slot)
+        part < self.occupancies.len() && self.occupancies[part].held.has(r.slot)
     }
 
     /// The tuple under this reference.
@@ -130,7 +158,7 @@ impl<T> Partitions<T> {
         requires { IsHeld self.now r }
         ensures { tuple_at self.now r ≡ Some result.now }
     {
-        self.parts[r.part as usize].partition.get(r.slot)
+        self.blocks[r.part as usize].get(r.slot)
     }
 
     /// The tuple under this reference, to write to.
@@ -139,7 +167,7 @@ impl<T> Partitions<T> {
         ensures* writes_back { sem 𝓛 (LendsTuple T.row self.entry r result) }
         ensures value { tuple_at self.old r ≡ Some result.now }
     {
-        self.parts[r.part as usize].partition.get_mut(r.slot)
+        self.blocks[r.part as usize].get_mut(r.slot)
     }
 
     /// Takes the tuple out. Its slot is free from then on. It takes no memory.
@@ -150,11 +178,12 @@ impl<T> Partitions<T> {
         ensures free { self.new.free ≡ self.old.free + 1 }
     {
         self.free += 1;
-        let linked = &mut self.parts[r.part as usize];
-        let was_full = linked.partition.is_full();
-        let tuple = linked.partition.take(r.slot);
+        let occupancy = &mut self.occupancies[r.part as usize];
+        let block = &mut self.blocks[r.part as usize];
+        let was_full = occupancy.held.is_full();
+        let tuple = vacate(&mut occupancy.held, block, r.slot);
         if was_full {
-            linked.next_open = self.first_open;
+            occupancy.next_open = self.first_open;
             self.first_open = Some(r.part);
         }
         tuple

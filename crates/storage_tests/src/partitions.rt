@@ -1,12 +1,10 @@
 //! A store on worked rows: which calls succeed, how often a tuple is dropped, and what a refused growth leaves.
 
 use no_memory::NoMemory;
-use part_raw::{Partitions, TupleRef};
+use part_raw::{MAX_TUPLES, Partitions, TupleRef};
 use std::alloc::Global;
 use std::cell::Cell;
 use std::process::Abort;
-
-const MOST: u64 = 1 << 40;
 
 /// A tuple that counts its drops.
 struct Counted<'a> {
@@ -26,7 +24,7 @@ fn counts_are<T>(rt: &impl Abort, store: &Partitions<T>, len: u64, free: u64) {
 }
 
 fn reserve<T>(rt: &impl Abort, store: &mut Partitions<T>) -> Result<(), NoMemory> {
-    assert!(rt; store.free() > 0 || store.len() < MOST);
+    assert!(rt; store.free() > 0 || store.len() < MAX_TUPLES);
     store.reserve()
 }
 

@@ -57,7 +57,7 @@ use Rattle.std_alloc.proofs.RcSteps.{Good, word, word-Good, first_Good}
 use Rattle.std_alloc.proofs.ResultValues.{ok_of, err_of}
 use Rattle.std_alloc.proofs.VecSteps.Shapes.{after, head, arm_body}
 use Rattle.part_raw.specs.Raw.{slots_own}
-use Rattle.part_raw.proofs.Block.{Sr, slots_d, sz, of_room, slots_made}
+use Rattle.part_raw.proofs.SlotSteps.{Sr, slots_d, sz, of_room, slots_made}
 use Rattle.part_raw.proofs.Deeds.{Dr, deed, mark, deed_made}
 use Rattle.part_raw.specs.contracts.raw.allocate as F
 use Rattle.part_raw.specs.contracts.raw.allocate.Key.{name as #self}

@@ -43,7 +43,7 @@ use Rattle.core.proofs.slots.Leases.{uncapped, block_ty, block_size, block_align
 use Rattle.std_alloc.proofs.RcSteps.{word, word-Good}
 use Rattle.std_alloc.proofs.VecSteps.Shapes.{after}
 use Rattle.part_raw.specs.Raw.{slots_own}
-use Rattle.part_raw.proofs.Block.{Sr, slots_d, Slot, sz, to_room, slots_had}
+use Rattle.part_raw.proofs.SlotSteps.{Sr, slots_d, Slot, sz, to_room, slots_had}
 use Rattle.part_raw.proofs.Deeds.{Dr, mark, deed_had}
 use Rattle.part_raw.specs.contracts.raw.deallocate as F
 use Rattle.part_raw.specs.contracts.raw.deallocate.Key.{name as #self}

@@ -42,7 +42,7 @@ use Rattle.std_alloc.proofs.VecSteps.Shapes.{after}
 use Rattle.part_raw.specs.Raw.{block_lends}
 use Rattle.part_raw.proofs.Tuples.{some_of}
 use Rattle.part_raw.proofs.Slots.{held_within}
-use Rattle.part_raw.proofs.Block.{Sr, slots_d, sz, seen, slot_seen}
+use Rattle.part_raw.proofs.SlotSteps.{Sr, slots_d, sz, seen, slot_seen}
 use Rattle.part_raw.specs.contracts.raw.Slots.get as F
 use Rattle.part_raw.specs.contracts.raw.Slots.get.Key.{name as #self}
 use Rattle.part_raw.proofs.raw.Slots.get.Statement as stated

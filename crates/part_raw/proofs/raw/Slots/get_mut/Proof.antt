@@ -46,7 +46,7 @@ use Rattle.part_raw.specs.Raw.{slot_owns, slots_own}
 use Rattle.part_raw.specs.RawLends.{with_held}
 use Rattle.part_raw.proofs.Tuples.{some_of}
 use Rattle.part_raw.proofs.Slots.{held_within}
-use Rattle.part_raw.proofs.Block.{Sr, slots_d, sz, besides, slot_out, slot_in, slots_made, opened}
+use Rattle.part_raw.proofs.SlotSteps.{Sr, slots_d, sz, besides, slot_out, slot_in, slots_made, opened}
 use Rattle.part_raw.specs.contracts.raw.Slots.get_mut as F
 use Rattle.part_raw.specs.contracts.raw.Slots.get_mut.Key.{name as #self}
 use Rattle.part_raw.proofs.raw.Slots.get_mut.Statement as stated

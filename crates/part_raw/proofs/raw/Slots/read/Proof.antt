@@ -42,7 +42,7 @@ use Rattle.std_alloc.proofs.VecSteps.Shapes.{after}
 use Rattle.part_raw.specs.Raw.{slot_owns, slots_own}
 use Rattle.part_raw.proofs.Tuples.{some_of}
 use Rattle.part_raw.proofs.Slots.{held_within}
-use Rattle.part_raw.proofs.Block.{Sr, slots_d, sz, besides, slot_out, slot_in, tuple_out, opened, closed}
+use Rattle.part_raw.proofs.SlotSteps.{Sr, slots_d, sz, besides, slot_out, slot_in, tuple_out, opened, closed}
 use Rattle.part_raw.specs.contracts.raw.Slots.read as F
 use Rattle.part_raw.specs.contracts.raw.Slots.read.Key.{name as #self}
 use Rattle.part_raw.proofs.raw.Slots.read.Statement as stated

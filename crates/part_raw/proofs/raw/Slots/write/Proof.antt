@@ -38,7 +38,7 @@ use Rattle.core.proofs.slots.Bodies.{knowing}
 use Rattle.core.proofs.ptr.Rows.{times_below, one_below}
 use Rattle.std_alloc.proofs.VecSteps.Shapes.{after}
 use Rattle.part_raw.specs.Raw.{slot_owns, slots_own}
-use Rattle.part_raw.proofs.Block.{Sr, slots_d, sz, besides, slot_out, slot_in, tuple_in, opened, closed, says_both}
+use Rattle.part_raw.proofs.SlotSteps.{Sr, slots_d, sz, besides, slot_out, slot_in, tuple_in, opened, closed, says_both}
 use Rattle.part_raw.specs.contracts.raw.Slots.write as F
 use Rattle.part_raw.specs.contracts.raw.Slots.write.Key.{name as #self}
 use Rattle.part_raw.proofs.raw.Slots.write.Statement as stated

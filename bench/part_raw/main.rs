@@ -1,0 +1,109 @@
+//! Times the partition store: rows of 64 bytes are put, read in random order, and sought by their keys. The words are the
+//! numbers of rows.
+
+const ROUNDS: usize = 9;
+
+/// What `part_raw_bench` answers: nanoseconds for each phase, and what it met.
+#[repr(C)]
+#[derive(Clone, Copy, Default)]
+struct Times {
+    put: u64,
+    get: u64,
+    find: u64,
+    sum: u64,
+    found: u64,
+}
+
+unsafe extern "C" {
+    fn part_raw_bench(keys: *const u64, keys_len: usize, places: *const u32, places_len: usize, order: *const u32, order_len: usize, times: *mut Times) -> bool;
+}
+
+/// Numbers that look random: xorshift from a fixed seed.
+struct Random(u64);
+
+impl Random {
+    fn below(&mut self, limit: usize) -> usize {
+        self.0 ^= self.0 << 13;
+        self.0 ^= self.0 >> 7;
+        self.0 ^= self.0 << 17;
+        ((u128::from(self.0) * limit as u128) >> 64) as usize
+    }
+
+    /// The numbers below `count`, shuffled.
+    fn shuffled(&mut self, count: usize) -> Vec<u32> {
+        let mut numbers: Vec<u32> = (0..count as u32).collect();
+        for last in (1..count).rev() {
+            numbers.swap(last, self.below(last + 1));
+        }
+        numbers
+    }
+}
+
+/// The keys in the order in which they are put, where each stands there, and the order in which they are read and sought.
+struct Work {
+    keys: Vec<u64>,
+    places: Vec<u32>,
+    order: Vec<u32>,
+}
+
+impl Work {
+    fn new(count: usize) -> Work {
+        let mut random = Random(0x9E37_79B9_7F4A_7C15);
+        let keys = random.shuffled(count);
+        let mut places = vec![0; count];
+        for (place, key) in keys.iter().enumerate() {
+            places[*key as usize] = place as u32;
+        }
+        Work {
+            keys: keys.into_iter().map(u64::from).collect(),
+            places,
+            order: random.shuffled(count),
+        }
+    }
+}
+
+fn run(work: &Work) -> Times {
+    let mut times = Times::default();
+    // SAFETY: the slices are those of the vectors, and nothing is asked of what they hold.
+    let held = unsafe {
+        part_raw_bench(
+            work.keys.as_ptr(),
+            work.keys.len(),
+            work.places.as_ptr(),
+            work.places.len(),
+            work.order.as_ptr(),
+            work.order.len(),
+            &mut times,
+        )
+    };
+    assert!(held, "out of memory");
+    times
+}
+
+fn best(a: Times, b: Times) -> Times {
+    Times {
+        put: a.put.min(b.put),
+        get: a.get.min(b.get),
+        find: a.find.min(b.find),
+        ..b
+    }
+}
+
+fn main() {
+    let words: Vec<String> = std::env::args().skip(1).collect();
+    let counts: Vec<usize> = match words.as_slice() {
+        [] => vec![10_000, 1_000_000, 8_000_000],
+        words => words.iter().map(|word| word.parse().expect("numbers of rows")).collect(),
+    };
+    println!("best of {ROUNDS} rounds, ns each");
+    println!("\n| rows | put | get, each after the last | find by binary search |");
+    println!("|---|---|---|---|");
+    for count in counts {
+        let work = Work::new(count);
+        let times = (1..ROUNDS).fold(run(&work), |times, _| best(times, run(&work)));
+        assert_eq!(times.sum, (0..count as u64).sum::<u64>());
+        assert_eq!(times.found, count as u64);
+        let each = |time: u64| time as f64 / count as f64;
+        println!("| {count} | {:.1} | {:.1} | {:.1} |", each(times.put), each(times.get), each(times.find));
+    }
+}
