@@ -5,6 +5,8 @@ use Rattle.ttree_node.specs.Tree.{list, size}
 use Rattle.ttree_node.specs.Seen.{tree_of, spares_of}
 use Rattle.ttree_node.specs.declared.parts.Parts.{Parts}
 use Rattle.ttree.specs.Shape.{IsTTree}
+pub use Rattle.ttree_node.specs.Walk.{rest_of}
+pub use Rattle.ttree_node.specs.Tree.{height}
 
 -- the references in order
 abbrev pub items_of_tree : {MAX : ℕ} → Parts MAX → List TupleRef

@@ -1,0 +1,76 @@
+-- Places of one value along a list that rises by a column.
+use Rattle.std.proofs.Common.{◌≡◌, ◌≢◌, ◌≤◌, ℕ, List, Option, Some, None, refl, sym, ap, ◌∙◌, arith, subst, IfSome, IfNone, ◌⊎◌, inl, inr}
+use Rattle.std.specs.List.{All, Contains}
+use Rattle.std.specs.Option.{option_cmp}
+use Rattle.std.specs.Ordering.{then_cmp, on, ordering_then, ordering_index, ordering_reverse}
+use Rattle.std.specs.declared.cmp.Ordering.{Ordering}
+use Rattle.std.specs.declared.cmp.Ordering.TheVariants.{Less, Equal, Greater}
+use Rattle.std.specs.Cmp.{IsTotalOrder}
+use Rattle.std.specs.Cmp.Lexicographic.{options_total}
+use Rattle.part_raw.specs.declared.tuple_ref.TupleRef.{TupleRef}
+use Rattle.part_raw.specs.Store.{Tuples}
+use Rattle.mm_index.specs.Order.{IsRising}
+use Rattle.mm_index.specs.Range.{NeverFalls}
+use Rattle.mm_index.proofs.Listed.{NeverFalls-from_rising}
+use Rattle.plain_tables.specs.declared.value.Value.{Value}
+use Rattle.plain_tables.specs.Values.{value_cmp, value_cmp_total}
+use Rattle.mm_relation.specs.declared.row.Row.{Row}
+use Rattle.mm_relation.specs.Reading.{Keys, value_at, key_at}
+use Rattle.mm_relation.specs.Order.{column_cmp, option_exact}
+
+at_most_greater : (o : Ordering) → ordering_index o ≤ 2
+at_most_greater Less = omega arith
+at_most_greater Equal = omega arith
+at_most_greater Greater = omega arith
+
+module _ {A : Type 0} (cmp : A → A → Ordering) (total : IsTotalOrder cmp) where
+  equal_back : (x y : A) → cmp x y ≡ Equal → cmp y x ≡ Equal
+  equal_back x y e = total.antisymm y x ∙ ap ordering_reverse e
+
+  greater_back : (x y : A) → cmp x y ≡ Less → cmp y x ≡ Greater
+  greater_back x y e = total.antisymm y x ∙ ap ordering_reverse e
+
+  -- what stands below stands no higher beside a third
+  pub rises_beside : (x y s : A) → cmp x y ≡ Less → ordering_index (cmp x s) ≤ ordering_index (cmp y s)
+  rises_beside x y s l = elim (cmp y s) as (λ o. cmp y s ≡ o → ordering_index (cmp x s) ≤ ordering_index o) [
+    | Less ↦ λ e. rw (total.trans x y s l e) (omega arith)
+    | Equal ↦ λ e.
+        let back : cmp s x ≡ Greater = sym (total.congr y s x e) ∙ greater_back x y l in
+        let below : cmp x s ≡ Less = total.antisymm x s ∙ ap ordering_reverse back in
+        rw below (omega arith)
+    | Greater ↦ λ e. at_most_greater (cmp x s)
+  ] refl
+
+first_of_then : (o p : Ordering) → ordering_then o p ≡ Less → (o ≡ Less) ⊎ (o ≡ Equal)
+first_of_then Less p e = inl refl
+first_of_then Equal p e = inr refl
+first_of_then Greater p e = cc
+
+pub NeverFalls-value : (keys : Keys) (column : ℕ) (tuples : Tuples Row) (sought : Option Value) (xs : List TupleRef) → IsRising (column_cmp keys column tuples) xs → NeverFalls (λ r. option_cmp value_cmp (value_at keys column tuples r) sought) xs
+NeverFalls-value keys column tuples sought xs rising =
+    let total : IsTotalOrder (option_cmp value_cmp) = options_total value_cmp_total in
+    let value : TupleRef → Option Value = value_at keys column tuples in
+    let key : TupleRef → Option Value = key_at tuples in
+    NeverFalls-from_rising (column_cmp keys column tuples) (λ r. option_cmp value_cmp (value r) sought) xs
+    (λ p q _ _ h.
+    elim (first_of_then (option_cmp value_cmp (value p) (value q)) (option_cmp value_cmp (key p) (key q)) h) [
+      | inl below ↦ rises_beside (option_cmp value_cmp) total (value p) (value q) sought below
+      | inr same ↦ rw (total.congr (value p) (value q) sought same) (omega arith)
+    ])
+    rising
+
+pub option_cmp-self : (x : Option Value) → option_cmp value_cmp x x ≡ Equal
+option_cmp-self x = self (option_cmp value_cmp x x) ((let total : IsTotalOrder (option_cmp value_cmp) = options_total value_cmp_total in total.antisymm x x))
+  where
+    self : (o : Ordering) → o ≡ ordering_reverse o → o ≡ Equal
+    self Less e = cc
+    self Equal e = refl
+    self Greater e = cc
+
+pub value_found : (F : TupleRef → Option Value) (o : Option TupleRef) (sought : Option Value) → IfSome o (λ r. option_cmp value_cmp (F r) sought ≡ Equal) → IfSome o (λ r. F r ≡ sought)
+value_found F (Some r) sought h = option_exact (F r) sought h
+value_found F None sought h = tt
+
+pub value_none : (F : TupleRef → Option Value) (o : Option TupleRef) (sought : Option Value) (xs : List TupleRef) → IfNone o (All (λ r. option_cmp value_cmp (F r) sought ≢ Equal) xs) → IfNone o (All (λ r. F r ≢ sought) xs)
+value_none F (Some r) sought xs h = tt
+value_none F None sought xs h = λ k d l e. h k d l (ap (λ v. option_cmp value_cmp v sought) e ∙ option_cmp-self sought)

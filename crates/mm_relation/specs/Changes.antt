@@ -1,0 +1,70 @@
+-- What the calls of a relation do to it.
+use Rattle.std.specs.Prelude.{Bool, ◌≡◌, ℕ, ◌<◌, ◌≤◌, ◌-◌, ◌==◌, ◌||◌, if◌then◌else◌, IsTrue, Contains, slice_set, [], ◌∷◌, List, Option, Some, None, Result, Ok, Err, map}
+use Rattle.std.specs.List.{list_any}
+use Rattle.std.specs.FinMap as finite
+use Rattle.part_raw.specs.declared.tuple_ref.TupleRef.{TupleRef}
+use Rattle.plain_tables.specs.declared.value.Value.{Value}
+use Rattle.mm_relation.specs.declared.row.Row.{Row}
+use Rattle.mm_relation.specs.declared.row.Cell.{Cell}
+use Rattle.mm_relation.specs.declared.refusal.RowRefusal.{RowRefusal}
+use Rattle.mm_relation.specs.declared.refusal.RowRefusal.TheVariants.{KeyExists, Full, NoMemory}
+use Rattle.mm_relation.specs.State.{RelationState, tree_of, HasKey, entries_on}
+
+-- all but the rows, and with them the indexes' contents, is as it was
+pub record KeepsSchema (old new : RelationState) : Type 0 where
+  pub schema : new.schema ≡ old.schema
+  pub targets : new.targets ≡ old.targets
+  pub declared : new.declared ≡ old.declared
+
+-- one row more, under a reference that was free
+pub record IsInserted (old new : RelationState) (r : TupleRef) (row : Row) : Type 0 where
+  pub free : finite.get old.rows r ≡ None
+  pub rows : new.rows ≡ finite.insert old.rows r row
+  pub keeps : KeepsSchema old new
+
+-- this row less
+pub record IsRemoved (old new : RelationState) (r : TupleRef) : Type 0 where
+  pub rows : new.rows ≡ finite.remove old.rows r
+  pub keeps : KeepsSchema old new
+
+-- KeyExists where the key is there, then Full where the relation is full, want of memory aside
+abbrev pub IsToldRightly : RelationState → Value → Result TupleRef RowRefusal → Type 0
+IsToldRightly s key (Ok r) = (HasKey s.rows key → ⊥) × (finite.len s.rows < 16777216)
+IsToldRightly s key (Err KeyExists) = HasKey s.rows key
+IsToldRightly s key (Err Full) = (HasKey s.rows key → ⊥) × (16777216 ≤ finite.len s.rows)
+IsToldRightly s key (Err NoMemory) = Unit {0}
+
+-- a row as it comes in: no link names it
+abbrev pub new_row : Value → List Cell → Row
+new_row key cells = record { key = key; cells = cells; referrers = 0 }
+
+-- whether a tree stands on this column: the key's own, or a declared one
+abbrev pub has_tree_on : RelationState → ℕ → Bool
+has_tree_on s column = (column == 0) || list_any (λ t. t.0 == column) s.trees
+
+abbrev pub HasTree : RelationState → ℕ → Type 0
+HasTree s column = IsTrue (has_tree_on s column)
+
+-- the list of the tree on this column
+abbrev pub list_of : RelationState → ℕ → List TupleRef
+list_of s column = if column == 0 then s.by_key else tree_of column s.trees
+
+-- whether a hash stands on this column
+abbrev pub has_hash_on : RelationState → ℕ → Bool
+has_hash_on s column = list_any (λ h. h.0 == column) s.hashes
+
+abbrev pub HasHash : RelationState → ℕ → Type 0
+HasHash s column = IsTrue (has_hash_on s column)
+
+-- the entries of the hash on this column
+abbrev pub entries_of : RelationState → ℕ → List (ℕ × TupleRef)
+entries_of s column = entries_on column s.hashes
+
+-- a row with this number of links that name it
+abbrev pub with_referrers : ℕ → Row → Row
+with_referrers n row = record row { referrers = n }
+
+-- this row has this number of referrers, and nothing else changed
+pub record Refers (old new : RelationState) (r : TupleRef) (count : ℕ → ℕ) : Type 0 where
+  pub rows : (row : Row) → finite.get old.rows r ≡ Some row → new.rows ≡ finite.insert old.rows r (with_referrers (count row.referrers) row)
+  pub same : new ≡ record old { rows = new.rows }

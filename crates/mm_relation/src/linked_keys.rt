@@ -1,0 +1,31 @@
+//! The keys of the rows that links name.
+ghost use Rattle.std.specs.Prelude.{◌≡◌, Some, IsSome};
+ghost use Rattle.mm_relation.specs.Reading.{Keys};
+
+use crate::numbers::ColumnNumber;
+use part_raw::TupleRef;
+use plain_tables::Value;
+
+/// Where links lead: the key of the row that each names.
+pub trait LinkedKeys {
+    // from reference column and reference to the key
+    ghost keys: { Self → Keys };
+
+    /// The key of the row that a link in this column names.
+    fn key_of(&self, column: ColumnNumber, to: TupleRef) -> &Value
+        requires { IsSome (keys self.now column.0 to) }
+        ensures { keys self.now column.0 to ≡ Some result.now };
+}
+
+/// No link leads anywhere: what an order by keys asks of links.
+pub struct NoLinks;
+
+impl LinkedKeys for NoLinks {
+    ghost use Rattle.mm_relation.specs.State.{no_keys};
+
+    ghost keys = { λ _. no_keys };
+
+    fn key_of(&self, _column: ColumnNumber, _to: TupleRef) -> &Value {
+        unreachable!()
+    }
+}

@@ -1,0 +1,93 @@
+//! A row under all indexes of a relation, over the relation's parts.
+ghost use Rattle.ttree.specs.Held.{items_of_tree};
+ghost use Rattle.ttree.specs.Room.{room_of};
+ghost use Rattle.std.specs.Prelude.{◌≡◌, ◌≤◌, ◌<◌, None, Some, IsSome, IfSome, IfNone, OnOk, map};
+ghost use Rattle.std.specs.FinMap as finite;
+ghost use Rattle.mm_relation.specs.State.{IsKeyed, HasKey};
+ghost use Rattle.mm_relation.specs.Indexes.{shown_tree, shown_hash, tree_columns, hash_columns, HaveRoom, Serve, CanRead, CanReadRow};
+
+use crate::indexes::Indexes;
+use crate::keyed::{put_row, take_row};
+use crate::linked_keys::LinkedKeys;
+use crate::row::Row;
+use crate::tree::Tree;
+use mm_index::OrderedIndex;
+use no_memory::NoMemory;
+use part_raw::{Partitions, TupleRef};
+
+// Makes sure of room for one row more. What the parts hold stays.
+pub fn make_room(
+    rows: &mut Partitions<Row>,
+    by_key: &mut Tree,
+    indexes: &mut Indexes,
+) -> Result<(), NoMemory>
+    requires few { finite.len rows.old.tuples < 16777216 }
+    ensures rows { rows.new.tuples ≡ rows.old.tuples }
+    ensures by_key { (items_of_tree by_key.new) ≡ (items_of_tree by_key.old) }
+    ensures trees { map shown_tree indexes.new.trees ≡ map shown_tree indexes.old.trees }
+    ensures hashes { map shown_hash indexes.new.hashes ≡ map shown_hash indexes.old.hashes }
+    ensures free { OnOk result (0 < rows.new.free) }
+    ensures key_room { OnOk result (0 < (room_of 30 by_key.new)) }
+    ensures room { OnOk result (HaveRoom 1 indexes.new) }
+{
+    if rows.free() == 0 {
+        rows.reserve()?;
+    }
+    by_key.reserve(1)?;
+    indexes.reserve(1)
+}
+
+// Takes a row in unless its key is there. There is room for it.
+pub fn place<R: LinkedKeys>(
+    rows: &mut Partitions<Row>,
+    by_key: &mut Tree,
+    indexes: &mut Indexes,
+    links: &R,
+    row: Row,
+) -> Option<TupleRef>
+    requires free { 0 < rows.old.free }
+    requires key_room { 0 < (room_of 30 by_key.old) }
+    requires room { HaveRoom 1 indexes.old }
+    requires few { finite.len rows.old.tuples < 16777216 }
+    requires keyed { IsKeyed rows.old.tuples (items_of_tree by_key.old) }
+    requires read { CanRead (R.keys links.now) rows.old.tuples indexes.old }
+    requires row_read { CanReadRow (R.keys links.now) row indexes.old }
+    requires serve { Serve (R.keys links.now) rows.old.tuples (items_of_tree by_key.old) indexes.old }
+    ensures keyed { IsKeyed rows.new.tuples (items_of_tree by_key.new) }
+    ensures serve { Serve (R.keys links.now) rows.new.tuples (items_of_tree by_key.new) indexes.new }
+    ensures trees { tree_columns indexes.new ≡ tree_columns indexes.old }
+    ensures hashes { hash_columns indexes.new ≡ hash_columns indexes.old }
+    ensures fresh { IfSome result (λ r. finite.get rows.old.tuples r ≡ None) }
+    ensures put { IfSome result (λ r. rows.new.tuples ≡ finite.insert rows.old.tuples r row) }
+    ensures no_key { IfSome result (λ _. HasKey rows.old.tuples row.key → ⊥) }
+    ensures has_key { IfNone result (HasKey rows.old.tuples row.key) }
+    ensures kept { IfNone result (rows.new.tuples ≡ rows.old.tuples) }
+    ensures kept_list { IfNone result ((items_of_tree by_key.new) ≡ (items_of_tree by_key.old)) }
+    ensures kept_indexes { IfNone result (indexes.new ≡ indexes.old) }
+{
+    let r = put_row(rows, by_key, row)?;
+    indexes.list(rows, links, r);
+    Some(r)
+}
+
+// Takes a row out. It takes no memory.
+pub fn displace<R: LinkedKeys>(
+    rows: &mut Partitions<Row>,
+    by_key: &mut Tree,
+    indexes: &mut Indexes,
+    links: &R,
+    r: TupleRef,
+)
+    requires held { IsSome (finite.get rows.old.tuples r) }
+    requires keyed { IsKeyed rows.old.tuples (items_of_tree by_key.old) }
+    requires read { CanRead (R.keys links.now) rows.old.tuples indexes.old }
+    requires serve { Serve (R.keys links.now) rows.old.tuples (items_of_tree by_key.old) indexes.old }
+    ensures taken { rows.new.tuples ≡ finite.remove rows.old.tuples r }
+    ensures keyed { IsKeyed rows.new.tuples (items_of_tree by_key.new) }
+    ensures serve { Serve (R.keys links.now) rows.new.tuples (items_of_tree by_key.new) indexes.new }
+    ensures trees { tree_columns indexes.new ≡ tree_columns indexes.old }
+    ensures hashes { hash_columns indexes.new ≡ hash_columns indexes.old }
+{
+    indexes.unlist(rows, links, r);
+    take_row(rows, by_key, r);
+}

@@ -1,0 +1,246 @@
+//! The rows of one table.
+ghost use Rattle.std.specs.Prelude.{◌≡◌, ◌≢◌, ◌+◌, ◌-◌, ◌^◌, ◌<◌, ◌≤◌, All, Some, IsSome, IfSome, IfNone, IfOk, OnErr, length};
+
+use crate::hashes::{chain_on, is_hash_on};
+use crate::indexes::Indexes;
+use crate::keyed::find_row;
+use crate::numbers::{ColumnNumber, DeclaredIndex};
+use crate::parts::{displace, make_room, place};
+use crate::referring::{lower, raise};
+use crate::refusal::RowRefusal;
+use crate::relations::{Links, Relations};
+use crate::row::{Cell, Row};
+use crate::tree::{Tree, Walk};
+use crate::trees::{is_tree_on, walk_tree};
+use crate::view::RowView;
+use lin_hash::Chain;
+use mm_index::Probe;
+use part_raw::{Partitions, TupleRef};
+use plain_tables::{Schema, Sequence, Value};
+use std::marker::Model;
+
+// The greatest number of rows.
+const MOST_ROWS: u64 = 16_777_216;
+
+/// The rows of one table in a store of their own, under the tree of their keys and every declared index.
+#[derive(Drop)]
+pub struct Relation {
+    schema: Schema,
+    targets: Vec<Option<usize>>,
+    declared: Vec<DeclaredIndex>,
+    rows: Partitions<Row>,
+    by_key: Tree,
+    indexes: Indexes,
+}
+
+impl Model for Relation {
+    ghost use Rattle.mm_relation.specs.State.{RelationState, state_code, IsKept};
+    ghost use Rattle.mm_relation.specs.Seen.{state};
+    ghost use Rattle.ttree.specs.Held.{items_of_tree};
+    ghost use Rattle.plain_tables.specs.contracts.schema.Schema.{the_row as schema_row};
+    ghost use Rattle.mm_relation.specs.contracts.numbers.DeclaredIndex.{the_row as index_row};
+    ghost use Rattle.mm_relation.specs.contracts.row.Row.{the_row as row_row};
+
+    ghost Value = { RelationState };
+
+    ghost coded = { state_code schema_row.coded index_row.coded row_row.coded };
+
+    ghost view = { λ r. state r.schema r.targets.items r.declared.items r.rows.tuples (items_of_tree r.by_key) r.indexes };
+
+    ghost invariant = { λ r. IsKept (state r.schema r.targets.items r.declared.items r.rows.tuples (items_of_tree r.by_key) r.indexes) };
+}
+
+impl Relation {
+    ghost use Rattle.std.specs.FinMap as finite;
+    ghost use Rattle.mm_relation.specs.declared.row.Row.{Row};
+    ghost use Rattle.mm_relation.specs.Reading.{Keys, key_at};
+    ghost use Rattle.mm_relation.specs.State.{IsReadable, IsCurrent, linked_keys};
+    ghost use Rattle.mm_relation.specs.Changes.{IsInserted, IsRemoved, IsToldRightly, new_row, HasTree, HasHash, has_tree_on, has_hash_on, list_of, entries_of, Refers};
+    ghost use Rattle.mm_relation.specs.Searching.{IsLogarithmic};
+    ghost use Rattle.mm_index.specs.Asking.{IsOnlyAsked};
+    ghost use Rattle.mm_index.specs.Bag.{IsSameBag, with_hash};
+    ghost use Rattle.mm_index.specs.Range.{NeverFalls, from_range};
+    ghost use Rattle.ttree.specs.Held.{rest_of};
+    ghost use Rattle.lin_hash.specs.Rest.{chain_rest};
+
+    /// The key of a row.
+    pub fn key(&self, r: TupleRef) -> &Value
+        requires { IsSome (finite.get self.now.rows r) }
+        ensures { key_at self.now.rows r ≡ Some result.now }
+    {
+        &self.rows.get(r).key
+    }
+
+    /// A row, lent without a copy.
+    pub fn row(&self, r: TupleRef) -> RowView<'_>
+        requires { IsSome (finite.get self.now.rows r) }
+        ensures row { finite.get self.now.rows r ≡ Some result.row }
+        ensures targets { result.targets ≡ self.now.targets }
+    {
+        RowView {
+            row: self.rows.get(r),
+            targets: self.targets.as_slice(),
+        }
+    }
+
+    /// How many rows there are.
+    pub fn len(&self) -> u64
+        ensures value { result ≡ finite.len self.now.rows }
+        ensures most { result ≤ 16777216 }
+    {
+        self.rows.len()
+    }
+
+    /// Its columns.
+    pub fn schema(&self) -> &Schema
+        ensures { result.now ≡ self.now.schema }
+    {
+        &self.schema
+    }
+
+    /// Its declared indexes, in the order of their declaration. The tree of the key is none of them.
+    pub fn declared(&self) -> &[DeclaredIndex]
+        ensures { result.now ≡ self.now.declared }
+    {
+        self.declared.as_slice()
+    }
+
+    /// Whether a tree stands on a column: the key's own, or a declared one.
+    pub fn has_tree(&self, column: ColumnNumber) -> bool
+        ensures { result ≡ has_tree_on self.now column.0 }
+    {
+        column.0 == 0 || is_tree_on(self.indexes.trees.as_slice(), column)
+    }
+
+    /// Whether a hash stands on a column.
+    pub fn has_hash(&self, column: ColumnNumber) -> bool
+        ensures { result ≡ has_hash_on self.now column.0 }
+    {
+        is_hash_on(self.indexes.hashes.as_slice(), column)
+    }
+
+    /// The rows in the order of a column with a tree, from the first that does not stand below the probe's range.
+    pub fn walk_column<P: Probe>(&self, column: ColumnNumber, probe: &mut P) -> Walk<'_>
+        requires has_tree { HasTree self.now column.0 }
+        requires sound { P.is_sound probe.old }
+        requires placed { All (P.can_place probe.old) (list_of self.now column.0) }
+        requires in_order { NeverFalls (P.place probe.old) (list_of self.now column.0) }
+        ensures rest { rest_of result ≡ from_range (P.place probe.old) (list_of self.now column.0) }
+        ensures probe { IsOnlyAsked P.is_sound P.can_place P.place P.asked probe.old probe.new }
+    {
+        if column.0 == 0 {
+            return self.by_key.walk_from(probe);
+        }
+        walk_tree(self.indexes.trees.as_slice(), column, probe)
+    }
+
+    /// The rows whose value in a column with a hash has this hash, in any order.
+    pub fn chain_of(&self, column: ColumnNumber, hash: u64) -> Chain<'_>
+        requires { HasHash self.now column.0 }
+        ensures { IsSameBag (chain_rest result) (with_hash hash (entries_of self.now column.0)) }
+    {
+        chain_on(self.indexes.hashes.as_slice(), column, hash)
+    }
+
+    /// The row with this key.
+    pub fn find_key(&self, key: &Value) -> Option<TupleRef>
+        ensures found { IfSome result (λ r. key_at self.now.rows r ≡ Some key.now) }
+        ensures none { IfNone result ((r : TupleRef) → key_at self.now.rows r ≢ Some key.now) }
+    {
+        self.find_key_counted(key).0
+    }
+
+    /// The row with this key, and how many rows' keys were compared with it.
+    pub fn find_key_counted(&self, key: &Value) -> (Option<TupleRef>, u64)
+        ensures found { IfSome result.0 (λ r. key_at self.now.rows r ≡ Some key.now) }
+        ensures none { IfNone result.0 ((r : TupleRef) → key_at self.now.rows r ≢ Some key.now) }
+        ensures asks { 0 < finite.len self.now.rows → 1 ≤ result.1 }
+        ensures few { IsLogarithmic (finite.len self.now.rows) result.1 }
+    {
+        find_row(&self.rows, &self.by_key, key)
+    }
+
+    /// Takes a row in, under every index, with no links to it so far.
+    pub fn insert_row<R: Relations>(
+        &mut self,
+        others: &R,
+        key: Value,
+        cells: Sequence<Cell>,
+    ) -> Result<TupleRef, RowRefusal>
+        requires readable { IsReadable (linked_keys self.old.targets (R.tables others.now)) (length self.old.targets) (new_row key cells) }
+        requires current { IsCurrent (linked_keys self.old.targets (R.tables others.now)) self.old }
+        ensures inserted { IfOk result (λ r. IsInserted self.old self.new r (new_row key cells)) }
+        ensures current { IsCurrent (linked_keys self.old.targets (R.tables others.now)) self.new }
+        ensures unchanged { OnErr result (self.new ≡ self.old) }
+        ensures told { IsToldRightly self.old key result }
+    {
+        if self.rows.len() >= MOST_ROWS {
+            let there = self.find_key(&key).is_some();
+            return Err(if there {
+                RowRefusal::KeyExists
+            } else {
+                RowRefusal::Full
+            });
+        }
+        if make_room(&mut self.rows, &mut self.by_key, &mut self.indexes).is_err() {
+            return Err(RowRefusal::NoMemory);
+        }
+        let row = Row {
+            key,
+            cells,
+            referrers: 0,
+        };
+        let links = Links {
+            targets: self.targets.as_slice(),
+            others,
+        };
+        place(
+            &mut self.rows,
+            &mut self.by_key,
+            &mut self.indexes,
+            &links,
+            row,
+        )
+        .ok_or(RowRefusal::KeyExists)
+    }
+
+    /// Takes a row out. It takes no memory.
+    pub fn remove_row<R: Relations>(&mut self, others: &R, r: TupleRef)
+        requires held { IsSome (finite.get self.old.rows r) }
+        requires current { IsCurrent (linked_keys self.old.targets (R.tables others.now)) self.old }
+        ensures removed { IsRemoved self.old self.new r }
+        ensures current { IsCurrent (linked_keys self.old.targets (R.tables others.now)) self.new }
+    {
+        let links = Links {
+            targets: self.targets.as_slice(),
+            others,
+        };
+        displace(
+            &mut self.rows,
+            &mut self.by_key,
+            &mut self.indexes,
+            &links,
+            r,
+        );
+    }
+
+    /// So many links more name a row. It takes no memory.
+    pub fn add_referrers(&mut self, r: TupleRef, n: u64)
+        requires held { IsSome (finite.get self.old.rows r) }
+        requires room { (row : Row) → finite.get self.old.rows r ≡ Some row → row.referrers + n < 2 ^ 64 }
+        ensures added { Refers self.old self.new r (λ count. count + n) }
+        ensures current { (keys : Keys) → IsCurrent keys self.old → IsCurrent keys self.new }
+    {
+        raise(&mut self.rows, r, n);
+    }
+
+    /// So many links fewer name a row. It takes no memory.
+    pub fn sub_referrers(&mut self, r: TupleRef, n: u64)
+        requires held { IsSome (finite.get self.old.rows r) }
+        requires enough { (row : Row) → finite.get self.old.rows r ≡ Some row → n ≤ row.referrers }
+        ensures taken { Refers self.old self.new r (λ count. count - n) }
+        ensures current { (keys : Keys) → IsCurrent keys self.old → IsCurrent keys self.new }
+    {
+        lower(&mut self.rows, r, n);
+    }
+}

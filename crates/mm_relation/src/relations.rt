@@ -1,0 +1,38 @@
+//! The relations that links lead into.
+ghost use Rattle.std.specs.Prelude.{◌≡◌, ◌<◌, List, Some, length, slice_get};
+ghost use Rattle.mm_relation.specs.State.{RelationState, linked_keys};
+
+use crate::linked_keys::LinkedKeys;
+use crate::numbers::{ColumnNumber, TableNumber};
+use crate::relation::Relation;
+use part_raw::TupleRef;
+use plain_tables::Value;
+
+/// A list of relations: those that come before one of them, and that its links lead into.
+pub trait Relations {
+    // the relations in order
+    ghost tables: { Self → List RelationState };
+
+    /// The relation with this number.
+    fn at(&self, table: TableNumber) -> &Relation
+        requires { table.0 < length (tables self.now) }
+        ensures { slice_get (tables self.now) table.0 ≡ Some result.now };
+}
+
+/// Where the links of one table lead: each reference column into one of the others.
+#[derive(Drop)]
+pub struct Links<'a, R> {
+    pub targets: &'a [Option<usize>],
+    pub others: &'a R,
+}
+
+impl<'a, R: Relations> LinkedKeys for Links<'a, R> {
+    ghost keys = { λ l. linked_keys l.targets.now (R.tables l.others.now) };
+
+    fn key_of(&self, column: ColumnNumber, to: TupleRef) -> &Value {
+        match self.targets[column.0] {
+            Some(table) => self.others.at(TableNumber(table)).key(to),
+            None => unreachable!(),
+        }
+    }
+}
