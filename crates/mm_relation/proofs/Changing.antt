@@ -1,22 +1,20 @@
 -- A row's coming and going, under the key's tree and all declared indexes.
-use Rattle.std.proofs.Common.{◌≡◌, ◌≢◌, ◌≤◌, ◌<◌, ◌+◌, ◌^◌, ℕ, List, ◌∷◌, Option, Some, None, IsSome, is_some, refl, sym, ap, ◌∙◌, arith, subst, length, get_or, map, ◌⊎◌, inl, inr}
-use Rattle.std.specs.List.{All, Contains}
+use Rattle.std.proofs.Common.{◌≡◌, ◌<◌, ◌^◌, ℕ, List, ◌∷◌, None, IsSome, sym, ap, ◌∙◌, arith, subst, inl, inr}
+use Rattle.std.specs.List.{Contains}
 use Rattle.std.specs.Option.{option_and_then}
 use Rattle.std.proofs.lemmas.List.Elements.{All-contains}
 use Rattle.std.specs.FinMap.{get, insert, remove, len}
 use Rattle.part_raw.specs.declared.tuple_ref.TupleRef.{TupleRef}
 use Rattle.part_raw.specs.Store.{Tuples}
-use Rattle.part_raw.proofs.Tuples.{get-insert_same, get-insert_other, get-remove_other}
-use Rattle.part_raw.proofs.Lookup.{same_or_other}
+use Rattle.part_raw.proofs.Tuples.{get-insert_same, get-remove_other}
 use Rattle.mm_index.specs.Bag.{IsSameBag}
 use Rattle.mm_index.proofs.Bags.{IsSameBag-sym}
-use Rattle.mm_index.proofs.Refs.{Contains-same_refs}
 use Rattle.mm_index.proofs.Members.{Contains-cons_cases}
 use Rattle.mm_relation.specs.declared.row.Row.{Row}
 use Rattle.mm_relation.specs.declared.indexes.Indexes.{Indexes}
 use Rattle.mm_relation.specs.Reading.{Keys, value_at, row_value}
 use Rattle.mm_relation.specs.Order.{KeysDiffer}
-use Rattle.mm_relation.specs.State.{IsKeyed, no_keys}
+use Rattle.mm_relation.specs.State.{IsKeyed}
 use Rattle.mm_relation.specs.Indexes.{Await, Gain, Have, Lose, Serve, HaveRoom, CanRead, CanReadRow, IsColumn}
 use Rattle.mm_relation.proofs.KeyOrder.{unlisted, same_elsewhere, not_taken}
 use Rattle.mm_relation.proofs.Serving.{all_agree, all_gain, all_lose, all_bag, all_await, all_have}

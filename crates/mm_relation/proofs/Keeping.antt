@@ -15,7 +15,7 @@ use Rattle.mm_relation.specs.declared.numbers.DeclaredIndex.{DeclaredIndex}
 use Rattle.mm_relation.specs.declared.trees.TreeOn.{TreeOn}
 use Rattle.mm_relation.specs.declared.hashes.HashOn.{HashOn}
 use Rattle.mm_relation.specs.declared.indexes.Indexes.{Indexes}
-use Rattle.mm_relation.specs.Reading.{Keys, value_at, row_value}
+use Rattle.mm_relation.specs.Reading.{Keys, row_value}
 use Rattle.mm_relation.specs.State.{IsKeyed, IsKept, IsCurrent, IsReadable, is_tree}
 use Rattle.mm_relation.specs.Indexes.{shown_tree, shown_hash, tree_columns, hash_columns, Serve, CanRead, CanReadRow, IsColumn}
 use Rattle.mm_relation.specs.Seen.{state}

@@ -1,5 +1,5 @@
 -- The rows under the tree of their keys, as a row comes and goes.
-use Rattle.std.proofs.Common.{◌≡◌, ◌≢◌, ◌≤◌, ◌<◌, ◌+◌, ℕ, List, ◌∷◌, IfSome, IfNone, Option, Some, None, IsSome, is_some, false, refl, sym, ap, ◌∙◌, arith, subst, length, get_or, ◌⊎◌, inl, inr}
+use Rattle.std.proofs.Common.{◌≡◌, ◌≢◌, ◌+◌, List, ◌∷◌, IfSome, IfNone, Option, Some, None, IsSome, is_some, false, refl, sym, ap, ◌∙◌, arith, subst, length, get_or, inl, inr}
 use Rattle.std.specs.List.{All, Contains}
 use Rattle.std.specs.Option.{option_cmp, option_and_then}
 use Rattle.std.specs.Ordering.{ordering_then}
@@ -17,12 +17,11 @@ use Rattle.mm_index.specs.Range.{NeverFalls}
 use Rattle.mm_index.proofs.Bags.{IsSameBag-trans, IsSameBag-from_same}
 use Rattle.mm_index.proofs.Listed.{IsRising-agree, All-insert_by, Contains-insert_by_itself, Contains-insert_by, length-insert_by, IsSameBag-insert_by, IsSameBag-remove_by, Contains-remove_by, Contains-from_remove_by, length-remove_by}
 use Rattle.mm_index.proofs.Placed.{IsRising-insert_by, IsRising-remove_by, insert_placed_by}
-use Rattle.plain_tables.specs.declared.value.Value.{Value}
 use Rattle.plain_tables.specs.Values.{value_cmp}
 use Rattle.mm_relation.specs.declared.row.Row.{Row}
 use Rattle.mm_relation.specs.Reading.{value_at, key_at, row_value}
 use Rattle.mm_relation.specs.Order.{KeysDiffer, column_cmp, column_cmp_strict, held_from_value, option_exact}
-use Rattle.mm_relation.specs.State.{ListsRows, IsKeyed, HasKey, no_keys}
+use Rattle.mm_relation.specs.State.{IsKeyed, HasKey, no_keys}
 use Rattle.mm_relation.proofs.Placing.{NeverFalls-value, option_cmp-self}
 
 -- where a comparison tells two apart, a second one is not asked

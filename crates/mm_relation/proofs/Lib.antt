@@ -4,5 +4,11 @@ pub mod Rows
 pub mod Serving
 pub mod KeyOrder
 pub mod Changing
+pub mod Setting
+pub mod Replacing
+pub mod Each
 pub mod Keeping
 pub mod Referred
+pub mod Dropping
+pub mod Listing
+pub mod Declared

@@ -1,6 +1,5 @@
 -- A row whose number of referrers changes: each column has the value that it had.
-use Rattle.std.proofs.Common.{◌≡◌, ◌≤◌, ◌<◌, ◌+◌, ℕ, List, Option, Some, None, IsSome, is_some, refl, sym, ap, ◌∙◌, arith, subst, length, inl, inr}
-use Rattle.std.specs.List.{All, Contains}
+use Rattle.std.proofs.Common.{◌≡◌, ℕ, List, Option, Some, IsSome, is_some, refl, sym, ap, ◌∙◌, arith, subst, length, inl, inr}
 use Rattle.std.specs.Option.{option_and_then}
 use Rattle.std.specs.FinMap.{get, insert, len}
 use Rattle.part_raw.specs.declared.tuple_ref.TupleRef.{TupleRef}
@@ -12,8 +11,8 @@ use Rattle.mm_relation.specs.declared.row.Row.{Row}
 use Rattle.mm_relation.specs.declared.numbers.DeclaredIndex.{DeclaredIndex}
 use Rattle.mm_relation.specs.declared.indexes.Indexes.{Indexes}
 use Rattle.mm_relation.specs.Reading.{Keys, value_at, row_value}
-use Rattle.mm_relation.specs.State.{RelationState, IsKeyed, IsKept, IsCurrent, IsReadable}
-use Rattle.mm_relation.specs.Changes.{with_referrers, Refers}
+use Rattle.mm_relation.specs.State.{IsKept, IsCurrent, IsReadable}
+use Rattle.mm_relation.specs.Changes.{with_referrers}
 use Rattle.mm_relation.specs.Seen.{state}
 use Rattle.mm_relation.proofs.KeyOrder.{keyed_again}
 use Rattle.mm_relation.proofs.Serving.{tree_agrees, hash_agrees}

@@ -1,8 +1,8 @@
 -- The rows of a relation, beside the lists that have them.
-use Rattle.std.proofs.Common.{◌≡◌, ◌≢◌, ◌≤◌, ◌<◌, ℕ, List, Option, Some, None, IsSome, is_some, refl, sym, ap, ◌∙◌, arith, subst, IfNone, length, get_or}
-use Rattle.std.specs.List.{All, Contains}
+use Rattle.std.proofs.Common.{◌≢◌, List, Option, Some, None, IsSome, is_some, ap, ◌∙◌, IfNone}
+use Rattle.std.specs.List.{All}
 use Rattle.std.specs.Option.{option_cmp}
-use Rattle.std.specs.declared.cmp.Ordering.TheVariants.{Less, Equal, Greater}
+use Rattle.std.specs.declared.cmp.Ordering.TheVariants.{Equal}
 use Rattle.std.proofs.lemmas.List.Elements.{All-contains}
 use Rattle.std.specs.FinMap.{get}
 use Rattle.part_raw.specs.declared.tuple_ref.TupleRef.{TupleRef}
@@ -10,7 +10,7 @@ use Rattle.part_raw.specs.Store.{Tuples}
 use Rattle.plain_tables.specs.declared.value.Value.{Value}
 use Rattle.plain_tables.specs.Values.{value_cmp}
 use Rattle.mm_relation.specs.declared.row.Row.{Row}
-use Rattle.mm_relation.specs.Reading.{Keys, value_at, key_at}
+use Rattle.mm_relation.specs.Reading.{value_at, key_at}
 use Rattle.mm_relation.specs.Order.{held_from_value}
 use Rattle.mm_relation.specs.State.{ListsRows, no_keys}
 use Rattle.mm_relation.proofs.Placing.{option_cmp-self}

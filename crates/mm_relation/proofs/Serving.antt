@@ -1,30 +1,26 @@
 -- Declared indexes that serve a list of references, as a row comes and goes.
-use Rattle.std.proofs.Common.{length, get_or, ◌⊎◌, inl, inr, ◌^◌, ◌==◌, ◌&&◌, ◌≡◌, ◌≢◌, ◌<◌, ◌+◌, ◌∷◌, ℕ, List, Option, Some, None, IsSome, [], refl, sym, ap, ◌∙◌, arith, subst, map, count_by, Bool, cond}
+use Rattle.std.proofs.Common.{length, get_or, inl, inr, ◌^◌, ◌==◌, ◌&&◌, ◌≡◌, ◌<◌, ◌+◌, ◌∷◌, ℕ, List, IsSome, [], refl, sym, ap, ◌∙◌, arith, subst, map, count_by, Bool, cond}
 use Rattle.std.specs.List.{All, Contains}
 use Rattle.std.proofs.lemmas.List.Elements.{All-contains, All-map, Contains-get_or}
 use Rattle.std.proofs.lemmas.List.{get_or-map, length-map}
 use Rattle.std.proofs.lemmas.Bool.{eqb-true, eq-eqb, and_parts, and_from}
 use Rattle.std.specs.Bool.{Decides}
 use Rattle.std.proofs.lemmas.List.Sums.{sum_by-cons}
-use Rattle.std.specs.FinMap.{get}
 use Rattle.part_raw.specs.declared.tuple_ref.TupleRef.{TupleRef}
 use Rattle.part_raw.specs.Store.{Tuples}
 use Rattle.mm_index.specs.Bag.{IsSameBag}
-use Rattle.mm_index.specs.Order.{IsRising, IsStrictOver, insert_by, remove_by}
 use Rattle.mm_index.proofs.Bags.{IsSameBag-sym, IsSameBag-trans, IsSameBag-cons, IsSameBag-from_same, Contains-same_bag, length-same_bag}
 use Rattle.mm_index.proofs.Members.{Contains-map, Contains-cons}
 use Rattle.mm_index.proofs.Refs.{same_ref, Decides-same_ref, Contains-same_refs}
 use Rattle.mm_index.proofs.Listed.{IsRising-agree, IsSameBag-insert_by, IsSameBag-remove_by}
-use Rattle.std.specs.Option.{option_and_then}
-use Rattle.std.specs.declared.cmp.Ordering.{Ordering}
 use Rattle.mm_relation.specs.declared.row.Row.{Row}
 use Rattle.mm_relation.specs.declared.trees.TreeOn.{TreeOn}
 use Rattle.mm_relation.specs.declared.hashes.HashOn.{HashOn}
-use Rattle.mm_relation.specs.Reading.{Keys, value_at, key_at, row_value, hash_at, hash_of_value}
+use Rattle.mm_relation.specs.Reading.{Keys, value_at, key_at, hash_at, hash_of_value}
 use Rattle.mm_relation.specs.Order.{KeysDiffer, column_cmp, column_cmp_strict}
 use Rattle.mm_relation.specs.State.{TreeServes, HashServes}
 use Rattle.mm_relation.specs.declared.indexes.Indexes.{Indexes}
-use Rattle.mm_relation.specs.Indexes.{Await, Gain, Have, Lose, Serve, HaveRoom, IsColumn, shown_tree, shown_hash, IsRisingTree, TreeAwaits, TreeGains, TreeHas, TreeLoses, HashGains, HashHas, HashLoses}
+use Rattle.mm_relation.specs.Indexes.{Await, Gain, Have, Lose, Serve, HaveRoom, IsColumn, shown_tree, shown_hash, TreeAwaits, TreeGains, TreeHas, TreeLoses, HashGains, HashLoses}
 
 -- what is left of two bags from which one element is taken
 pub same_behind : {A : Type 0} (x : A) (xs ys : List A) → IsSameBag (x ∷ xs) (x ∷ ys) → IsSameBag xs ys

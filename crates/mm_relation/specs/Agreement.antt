@@ -1,15 +1,15 @@
 -- Keys that agree on the links of a relation's rows serve it alike.
 pub use Rattle.mm_relation.specs.Order.{OrdersAlike}
-use Rattle.std.specs.Prelude.{◌≡◌, ℕ, List, Option, Some, IsSome, All, map}
+use Rattle.std.specs.Prelude.{◌≡◌, ℕ, List, Option, IsSome, map}
 use Rattle.mm_index.specs.Bag.{IsSameBag}
 use Rattle.part_raw.specs.declared.tuple_ref.TupleRef.{TupleRef}
 use Rattle.part_raw.specs.Store.{Tuples}
-use Rattle.std.proofs.Common.{refl, sym, ap, ◌∙◌, subst}
+use Rattle.std.proofs.Common.{sym, subst}
 use Rattle.std.specs.Option.{option_and_then}
 use Rattle.mm_relation.specs.declared.row.Row.{Row}
 use Rattle.mm_relation.specs.Reading.{Keys, AgreeOnLinks, row_value, value_at, hash_of_value}
 use Rattle.mm_relation.specs.Order.{value_at-agree, orders_alike}
-use Rattle.mm_relation.specs.State.{RelationState, IsCurrent, TreeServes, HashServes}
+use Rattle.mm_relation.specs.State.{RelationState, IsCurrent, HashServes}
 
 -- Law: what is current under the keys that links lead to is current under any others that agree on the links of the rows.
 abbrev pub StaysCurrent : Type 0

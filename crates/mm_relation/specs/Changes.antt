@@ -1,5 +1,5 @@
 -- What the calls of a relation do to it.
-use Rattle.std.specs.Prelude.{Bool, ◌≡◌, ℕ, ◌<◌, ◌≤◌, ◌-◌, ◌==◌, ◌||◌, if◌then◌else◌, IsTrue, Contains, slice_set, [], ◌∷◌, List, Option, Some, None, Result, Ok, Err, map}
+use Rattle.std.specs.Prelude.{Bool, ◌≡◌, ℕ, ◌<◌, ◌≤◌, ◌==◌, ◌||◌, if◌then◌else◌, IsTrue, List, Some, None, Result, Ok, Err}
 use Rattle.std.specs.List.{list_any}
 use Rattle.std.specs.FinMap as finite
 use Rattle.part_raw.specs.declared.tuple_ref.TupleRef.{TupleRef}
@@ -8,6 +8,8 @@ use Rattle.mm_relation.specs.declared.row.Row.{Row}
 use Rattle.mm_relation.specs.declared.row.Cell.{Cell}
 use Rattle.mm_relation.specs.declared.refusal.RowRefusal.{RowRefusal}
 use Rattle.mm_relation.specs.declared.refusal.RowRefusal.TheVariants.{KeyExists, Full, NoMemory}
+use Rattle.mm_relation.specs.declared.numbers.ColumnNumber.{ColumnNumber}
+use Rattle.mm_relation.specs.Settings.{CellsSet}
 use Rattle.mm_relation.specs.State.{RelationState, tree_of, HasKey, entries_on}
 
 -- all but the rows, and with them the indexes' contents, is as it was
@@ -25,6 +27,11 @@ pub record IsInserted (old new : RelationState) (r : TupleRef) (row : Row) : Typ
 -- this row less
 pub record IsRemoved (old new : RelationState) (r : TupleRef) : Type 0 where
   pub rows : new.rows ≡ finite.remove old.rows r
+  pub keeps : KeepsSchema old new
+
+-- these cells are set in exactly these rows
+pub record IsChanged (old new : RelationState) (rs : List TupleRef) (sets : List (ColumnNumber × Cell)) : Type 0 where
+  pub rows : CellsSet old.rows new.rows rs sets
   pub keeps : KeepsSchema old new
 
 -- KeyExists where the key is there, then Full where the relation is full, want of memory aside

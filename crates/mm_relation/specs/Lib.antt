@@ -4,5 +4,7 @@ pub mod State
 pub mod Indexes
 pub mod Agreement
 pub mod Seen
+pub mod Settings
 pub mod Changes
 pub mod Searching
+pub mod Declaring

@@ -1,7 +1,7 @@
 -- The order of a tree on a column.
-use Rattle.std.specs.Prelude.{◌≡◌, ℕ, ◌-◌, ◌==◌, true, false, List, Option, Some, None, IsSome, All, is_some}
-use Rattle.std.proofs.Common.{zero, suc, ◌<◌, arith, cond, refl, sym, ap, ◌∙◌, subst}
-use Rattle.std.specs.Option.{option_cmp, option_and_then, option_map}
+use Rattle.std.specs.Prelude.{◌≡◌, ℕ, ◌-◌, ◌==◌, true, false, List, Option, Some, None, IsSome}
+use Rattle.std.proofs.Common.{zero, suc, ◌<◌, arith, cond, refl, ap}
+use Rattle.std.specs.Option.{option_cmp, option_and_then}
 use Rattle.std.specs.Ordering.{then_cmp, on, ordering_then}
 use Rattle.std.specs.declared.cmp.Ordering.{Ordering}
 use Rattle.std.specs.declared.cmp.Ordering.TheVariants.{Less, Equal, Greater}

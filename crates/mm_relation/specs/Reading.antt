@@ -1,6 +1,6 @@
 -- What a row's columns hold, read through links.
-use Rattle.std.specs.Prelude.{◌≡◌, ℕ, ◌-◌, ◌<◌, ◌==◌, if◌then◌else◌, Option, Some, None, IsSome, slice_get}
-use Rattle.std.specs.Option.{option_and_then, option_map}
+use Rattle.std.specs.Prelude.{◌≡◌, ℕ, ◌-◌, ◌<◌, ◌==◌, if◌then◌else◌, Option, Some, None, slice_get}
+use Rattle.std.specs.Option.{option_and_then}
 use Rattle.std.specs.FinMap as map
 use Rattle.part_raw.specs.declared.tuple_ref.TupleRef.{TupleRef}
 use Rattle.part_raw.specs.Store.{Tuples}

@@ -1,6 +1,6 @@
 -- What a relation is seen as, what it keeps by itself, and what holds of it beside the relations that its links lead into.
-use Rattle.std.specs.List.{list_any, AllPairs}
-use Rattle.std.specs.Prelude.{Bool, true, false, not, filter, ◌≡◌, ◌≢◌, ℕ, ◌<◌, ◌≤◌, ◌==◌, if◌then◌else◌, IsTrue, [], ◌∷◌, List, Option, Some, None, IsSome, refl, length, map, slice_get, All, Contains}
+use Rattle.std.specs.List.{list_any}
+use Rattle.std.specs.Prelude.{Bool, true, false, not, filter, ◌≡◌, ℕ, ◌<◌, ◌≤◌, ◌==◌, if◌then◌else◌, IsTrue, [], ◌∷◌, List, Option, Some, None, IsSome, refl, length, map, slice_get, All, Contains}
 use Rattle.std.specs.Coded.{Coded, code_by, coded×, coded_ℕ, coded_list, coded_option}
 use Rattle.std.specs.Option.{option_and_then}
 use Rattle.std.specs.FinMap as finite
@@ -15,7 +15,7 @@ use Rattle.plain_tables.specs.declared.schema.IndexKind.{IndexKind}
 use Rattle.plain_tables.specs.declared.schema.IndexKind.TheVariants.{Tree, Hash}
 use Rattle.mm_relation.specs.declared.row.Row.{Row}
 use Rattle.mm_relation.specs.declared.numbers.DeclaredIndex.{DeclaredIndex}
-use Rattle.mm_relation.specs.Reading.{Keys, value_at, key_at, row_value, hash_at}
+use Rattle.mm_relation.specs.Reading.{Keys, key_at, row_value, hash_at}
 use Rattle.mm_relation.specs.Order.{KeysDiffer, column_cmp}
 
 -- The schema; the table that each column's links lead into; the declared indexes; the rows; the list of the key's tree; the column

@@ -51,7 +51,7 @@ fn hash_in<R: LinkedKeys>(
 }
 
 // Puts a row's reference into one.
-fn list_in_hash<R: LinkedKeys>(on: &mut HashOn, rows: &Partitions<Row>, others: &R, r: TupleRef)
+pub fn list_in_hash<R: LinkedKeys>(on: &mut HashOn, rows: &Partitions<Row>, others: &R, r: TupleRef)
     requires { HashAwaits (R.keys others.now) rows.now.tuples r on.old }
     ensures { HashGains (R.keys others.now) rows.now.tuples r on.old on.new }
 {

@@ -1,6 +1,9 @@
 //! The rows of one table, under the T-tree of its key and every declared index, which hold references and no keys.
 #![tactic(auto)]
 
+mod building;
+mod change;
+mod declare;
 mod hashes;
 mod indexes;
 mod keyed;

@@ -1,6 +1,7 @@
 //! The rows of one table.
-ghost use Rattle.std.specs.Prelude.{◌≡◌, ◌≢◌, ◌+◌, ◌-◌, ◌^◌, ◌<◌, ◌≤◌, All, Some, IsSome, IfSome, IfNone, IfOk, OnErr, length};
+ghost use Rattle.std.specs.Prelude.{◌≡◌, ◌≢◌, ◌+◌, ◌-◌, ◌^◌, ◌<◌, ◌≤◌, All, Some, IsSome, IfSome, IfNone, IfOk, OnOk, OnErr, length};
 
+use crate::change::{change_each, copies_for};
 use crate::hashes::{chain_on, is_hash_on};
 use crate::indexes::Indexes;
 use crate::keyed::find_row;
@@ -15,8 +16,10 @@ use crate::trees::{is_tree_on, walk_tree};
 use crate::view::RowView;
 use lin_hash::Chain;
 use mm_index::Probe;
+use no_memory::NoMemory;
 use part_raw::{Partitions, TupleRef};
 use plain_tables::{Schema, Sequence, Value};
+use std::alloc::Global;
 use std::marker::Model;
 
 // The greatest number of rows.
@@ -25,12 +28,12 @@ const MOST_ROWS: u64 = 16_777_216;
 /// The rows of one table in a store of their own, under the tree of their keys and every declared index.
 #[derive(Drop)]
 pub struct Relation {
-    schema: Schema,
-    targets: Vec<Option<usize>>,
-    declared: Vec<DeclaredIndex>,
-    rows: Partitions<Row>,
-    by_key: Tree,
-    indexes: Indexes,
+    pub(crate) schema: Schema,
+    pub(crate) targets: Vec<Option<usize>>,
+    pub(crate) declared: Vec<DeclaredIndex>,
+    pub(crate) rows: Partitions<Row>,
+    pub(crate) by_key: Tree,
+    pub(crate) indexes: Indexes,
 }
 
 impl Model for Relation {
@@ -52,10 +55,11 @@ impl Model for Relation {
 
 impl Relation {
     ghost use Rattle.std.specs.FinMap as finite;
+    ghost use Rattle.std.specs.List.{AllPairs};
     ghost use Rattle.mm_relation.specs.declared.row.Row.{Row};
-    ghost use Rattle.mm_relation.specs.Reading.{Keys, key_at};
+    ghost use Rattle.mm_relation.specs.Reading.{Keys, key_at, cell_value};
     ghost use Rattle.mm_relation.specs.State.{IsReadable, IsCurrent, linked_keys};
-    ghost use Rattle.mm_relation.specs.Changes.{IsInserted, IsRemoved, IsToldRightly, new_row, HasTree, HasHash, has_tree_on, has_hash_on, list_of, entries_of, Refers};
+    ghost use Rattle.mm_relation.specs.Changes.{IsInserted, IsRemoved, IsChanged, IsToldRightly, new_row, HasTree, HasHash, has_tree_on, has_hash_on, list_of, entries_of, Refers};
     ghost use Rattle.mm_relation.specs.Searching.{IsLogarithmic};
     ghost use Rattle.mm_index.specs.Asking.{IsOnlyAsked};
     ghost use Rattle.mm_index.specs.Bag.{IsSameBag, with_hash};
@@ -242,5 +246,40 @@ impl Relation {
         ensures current { (keys : Keys) → IsCurrent keys self.old → IsCurrent keys self.new }
     {
         lower(&mut self.rows, r, n);
+    }
+
+    /// Sets cells in each of these rows. All are changed, or, where no memory is found, none.
+    pub fn change_rows<R: Relations>(
+        &mut self,
+        alloc: Global,
+        others: &R,
+        rs: &[TupleRef],
+        sets: &[(ColumnNumber, Cell)],
+    ) -> Result<(), NoMemory>
+        requires held { All (λ r. IsSome (finite.get self.old.rows r)) rs.now }
+        requires once { AllPairs (λ q r. q ≢ r) rs.now }
+        requires columns { All (λ s. s.0.0 < length self.old.targets) sets.now }
+        requires not_the_key { All (λ s. 0 < s.0.0) sets.now }
+        requires readable { All (λ s. IsSome (cell_value (linked_keys self.old.targets (R.tables others.now)) s.0.0 s.1)) sets.now }
+        requires current { IsCurrent (linked_keys self.old.targets (R.tables others.now)) self.old }
+        ensures changed { OnOk result (IsChanged self.old self.new rs.now sets.now) }
+        ensures current { IsCurrent (linked_keys self.old.targets (R.tables others.now)) self.new }
+        ensures unchanged { OnErr result (self.new ≡ self.old) }
+    {
+        let mut copies = copies_for(alloc, sets, rs.len())?;
+        self.indexes.reserve(rs.len())?;
+        let links = Links {
+            targets: self.targets.as_slice(),
+            others,
+        };
+        change_each(
+            &mut self.rows,
+            &mut self.indexes,
+            &links,
+            rs,
+            sets,
+            &mut copies,
+        );
+        Ok(())
     }
 }

@@ -38,7 +38,7 @@ pub fn reserve_in_trees(trees: &mut [TreeOn], n: usize) -> Result<(), NoMemory>
 }
 
 // Puts a row's reference into one.
-fn list_in_tree<R: LinkedKeys>(on: &mut TreeOn, rows: &Partitions<Row>, others: &R, r: TupleRef)
+pub fn list_in_tree<R: LinkedKeys>(on: &mut TreeOn, rows: &Partitions<Row>, others: &R, r: TupleRef)
     requires keys_differ { KeysDiffer rows.now.tuples }
     requires awaits { TreeAwaits (R.keys others.now) rows.now.tuples r on.old }
     ensures { TreeGains (R.keys others.now) rows.now.tuples r on.old on.new }

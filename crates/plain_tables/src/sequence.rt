@@ -1,8 +1,9 @@
 //! A list of values, seen by contracts as just that list.
 
-ghost use Rattle.std.specs.Prelude.{◌≡◌, ◌↔◌, [], length, IsTrue};
+ghost use Rattle.std.specs.Prelude.{◌≡◌, ◌↔◌, ◌<◌, ◌∷◌, ◌++◌, [], length, remove, slice_index_or, IsTrue, OnOk, OnErr};
 ghost use Rattle.std.specs.Borrow.{sem};
 
+use no_memory::NoMemory;
 use std::alloc::Global;
 use std::marker::Model;
 
@@ -74,5 +75,25 @@ impl<T> Sequence<T> {
         ensures value { result.now ≡ self.old }
     {
         self.items.as_mut_slice()
+    }
+
+    /// Puts an item behind the others. An item that there is no memory for is dropped.
+    pub fn push(&mut self, item: T) -> Result<(), NoMemory>
+    where
+        T: Drop,
+        ensures pushed { OnOk result (self.new ≡ self.old ++ item ∷ []) }
+        ensures unchanged { OnErr result (self.new ≡ self.old) }
+    {
+        self.items.push(item)?;
+        Ok(())
+    }
+
+    /// Takes the item at a place out. Those behind it move up.
+    pub fn remove(&mut self, place: usize) -> T
+        requires { place < length self.old }
+        ensures value { result ≡ slice_index_or self.old place result }
+        ensures rest { self.new ≡ remove self.old place }
+    {
+        self.items.remove(place)
     }
 }

@@ -1,12 +1,8 @@
 use Rattle.ttree.specs.Held.{items_of_tree}
-use Rattle.std.proofs.Common.{◌≡◌, ◌≢◌, ◌∙◌, Some, IsSome, None, sym, ap, arith, is_some}
-use Rattle.std.specs.List.{All}
-use Rattle.std.specs.declared.cmp.Ordering.TheVariants.{Equal}
+use Rattle.std.proofs.Common.{◌∙◌, sym, ap, arith, is_some}
 use Rattle.std.specs.FinMap.{get, remove}
 use Rattle.part_raw.proofs.Tuples.{get-insert_same}
-use Rattle.part_raw.specs.declared.tuple_ref.TupleRef.{TupleRef}
-use Rattle.mm_relation.specs.declared.row.Row.{Row}
-use Rattle.mm_relation.proofs.KeyOrder.{covered, in_order, place, key_found, keyed_with, bag_with, no_key, got, from_some, from_none, taken_again}
+use Rattle.mm_relation.proofs.KeyOrder.{covered, in_order, key_found, keyed_with, bag_with, no_key, got, from_some, from_none, taken_again}
 use Rattle.mm_relation.proofs.keyed.put_row.Goals as goal
 
 pub get-requires : goal.get-requires

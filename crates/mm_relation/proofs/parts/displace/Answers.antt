@@ -1,5 +1,4 @@
 use Rattle.ttree.specs.Held.{items_of_tree}
-use Rattle.std.proofs.Common.{arith}
 use Rattle.mm_relation.proofs.Changing.{have, served_without}
 use Rattle.mm_relation.proofs.Loops.{same_mapped}
 use Rattle.mm_relation.specs.declared.trees.TreeOn.{TreeOn}

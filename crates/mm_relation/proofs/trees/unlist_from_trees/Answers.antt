@@ -1,4 +1,4 @@
-use Rattle.std.proofs.Common.{◌≡◌, ◌<◌, length, arith}
+use Rattle.std.proofs.Common.{arith}
 use Rattle.mm_relation.specs.Indexes.{TreeHas, TreeLoses}
 use Rattle.mm_relation.proofs.Loops.{changed_so_far, left_to_change, still_holds, from_any}
 use Rattle.mm_relation.proofs.trees.unlist_from_trees.Goals as goal

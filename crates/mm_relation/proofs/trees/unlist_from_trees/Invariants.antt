@@ -1,4 +1,4 @@
-use Rattle.std.proofs.Common.{◌≡◌, ℕ, ◌<◌, ◌≤◌, length, get_or}
+use Rattle.std.proofs.Common.{◌≡◌, ℕ, ◌<◌, ◌≤◌, get_or}
 use Rattle.mm_relation.specs.declared.trees.TreeOn.{TreeOn}
 use Rattle.mm_relation.specs.Indexes.{TreeLoses}
 use Rattle.mm_relation.proofs.trees.unlist_from_trees.Given as goal

@@ -1,10 +1,8 @@
 use Rattle.ttree.specs.Held.{items_of_tree}
-use Rattle.std.proofs.Common.{◌≡◌, ◌∙◌, ◌+◌, ◌≤◌, ◌<◌, sym, ap, arith, subst, length}
-use Rattle.std.specs.FinMap.{len, insert}
-use Rattle.part_raw.proofs.Tuples.{len-insert_fresh}
+use Rattle.std.proofs.Common.{◌≡◌, ◌<◌, sym, ap, arith, subst, length}
+use Rattle.std.specs.FinMap.{len}
 use Rattle.mm_relation.specs.State.{IsKept, IsCurrent, linked_keys}
 use Rattle.mm_relation.specs.Changes.{new_row}
-use Rattle.mm_relation.specs.Seen.{state}
 use Rattle.mm_relation.proofs.Keeping.{same_state, can_read, row_read, served, kept_on, current_on, readable_after, few_after}
 use Rattle.mm_relation.proofs.relation.Relation.insert_row.Goals as goal
 

@@ -1,5 +1,5 @@
 use Rattle.ttree.specs.Held.{items_of_tree}
-use Rattle.std.proofs.Common.{◌≡◌, ◌∙◌, ◌+◌, ◌≤◌, sym, ap, arith, subst, length}
+use Rattle.std.proofs.Common.{◌≡◌, ◌+◌, ap, arith, length}
 use Rattle.std.specs.FinMap.{len, remove}
 use Rattle.part_raw.proofs.Tuples.{len-remove_held}
 use Rattle.mm_relation.specs.State.{IsCurrent, linked_keys}

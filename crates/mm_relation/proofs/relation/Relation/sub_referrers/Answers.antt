@@ -1,5 +1,5 @@
 use Rattle.ttree.specs.Held.{items_of_tree}
-use Rattle.std.proofs.Common.{◌+◌, ◌-◌, refl}
+use Rattle.std.proofs.Common.{◌-◌}
 use Rattle.mm_relation.proofs.Referred.{kept_after, current_after}
 use Rattle.mm_relation.proofs.relation.Relation.sub_referrers.Goals as goal
 

@@ -1,0 +1,75 @@
+-- What it does to a relation to be made, to have an index declared or dropped, and to be told where links lead.
+use Rattle.std.specs.Prelude.{Bool, not, ◌&&◌, ◌≡◌, ℕ, ◌==◌, if◌then◌else◌, [], ◌∷◌, ◌++◌, List, Some, None, length, replicate, slice_set}
+use Rattle.std.specs.FinMap as finite
+use Rattle.part_raw.specs.declared.tuple_ref.TupleRef.{TupleRef}
+use Rattle.plain_tables.specs.declared.schema.Schema.{Schema}
+use Rattle.plain_tables.specs.declared.schema.IndexKind.{IndexKind}
+use Rattle.plain_tables.specs.declared.schema.IndexKind.TheVariants.{Tree, Hash}
+use Rattle.mm_relation.specs.declared.numbers.ColumnNumber.{ColumnNumber}
+use Rattle.mm_relation.specs.declared.numbers.TableNumber.{TableNumber}
+use Rattle.mm_relation.specs.declared.numbers.DeclaredIndex.{DeclaredIndex}
+use Rattle.mm_relation.specs.declared.trees.TreeOn.{TreeOn}
+use Rattle.mm_relation.specs.declared.hashes.HashOn.{HashOn}
+use Rattle.mm_relation.specs.declared.indexes.Indexes.{Indexes}
+use Rattle.mm_relation.specs.State.{RelationState, is_tree}
+
+-- these columns and nothing else: no row, no declared index, no column whose links lead anywhere
+abbrev pub new_relation : Schema → RelationState
+new_relation schema =
+    record { schema = schema; targets = replicate (length schema.columns) None; declared = []; rows = finite.empty; by_key = []; trees = []; hashes = [] }
+
+-- the declaration of an index
+abbrev pub declaration : ColumnNumber → IndexKind → DeclaredIndex
+declaration column kind = record { column = column; kind = kind }
+
+-- the new indexes are the old ones and one more on this column, the last of its kind
+abbrev pub IsAddedOf : IndexKind → ColumnNumber → Indexes → Indexes → Type 0
+IsAddedOf Tree column old new = (on : TreeOn) × (on.column.0 ≡ column.0) × (new ≡ record old { trees = old.trees ++ on ∷ [] })
+IsAddedOf Hash column old new = (on : HashOn) × (on.column.0 ≡ column.0) × (new ≡ record old { hashes = old.hashes ++ on ∷ [] })
+
+abbrev pub IsAdded : DeclaredIndex → Indexes → Indexes → Type 0
+IsAdded index old new = IsAddedOf index.kind index.column old new
+
+-- the new relation has one declared index more, the last, and nothing else changed: a tree with some list, or a hash with some entries
+abbrev pub IsDeclaredOf : IndexKind → ColumnNumber → RelationState → RelationState → Type 0
+IsDeclaredOf Tree column old new =
+    (list : List TupleRef) × (new ≡ record old { declared = old.declared ++ declaration column Tree ∷ []; trees = old.trees ++ (column.0, list) ∷ [] })
+IsDeclaredOf Hash column old new =
+    (entries : List (ℕ × TupleRef)) × (new ≡ record old { declared = old.declared ++ declaration column Hash ∷ []; hashes = old.hashes ++ (column.0, entries) ∷ [] })
+
+abbrev pub IsDeclared : RelationState → RelationState → DeclaredIndex → Type 0
+IsDeclared old new index = IsDeclaredOf index.kind index.column old new
+
+-- the list without its first element that passes
+abbrev pub without_first : {A : Type 0} → (A → Bool) → List A → List A
+without_first test [] = []
+without_first test (x ∷ rest) = if test x then rest else x ∷ without_first test rest
+
+-- the two kinds are one
+abbrev pub is_kind : IndexKind → IndexKind → Bool
+is_kind Tree kind = is_tree kind
+is_kind Hash kind = not (is_tree kind)
+
+-- the two declarations are one: on one column, of one kind
+abbrev pub is_index : DeclaredIndex → DeclaredIndex → Bool
+is_index index other = (other.column.0 == index.column.0) && is_kind index.kind other.kind
+
+-- the first index of a kind on a column is gone
+abbrev pub indexes_without_of : IndexKind → ℕ → Indexes → Indexes
+indexes_without_of Tree column all = record all { trees = without_first (λ t. t.column.0 == column) all.trees }
+indexes_without_of Hash column all = record all { hashes = without_first (λ h. h.column.0 == column) all.hashes }
+
+abbrev pub indexes_without : DeclaredIndex → Indexes → Indexes
+indexes_without index all = indexes_without_of index.kind index.column.0 all
+
+-- the first such declared index is gone, and nothing else changed
+abbrev pub without_of : IndexKind → ℕ → RelationState → RelationState
+without_of Tree column s = record s { trees = without_first (λ t. t.0 == column) s.trees }
+without_of Hash column s = record s { hashes = without_first (λ h. h.0 == column) s.hashes }
+
+abbrev pub without_index : RelationState → DeclaredIndex → RelationState
+without_index s index = without_of index.kind index.column.0 (record s { declared = without_first (is_index index) s.declared })
+
+-- the links in this column lead into this table
+abbrev pub with_target : RelationState → ℕ → TableNumber → RelationState
+with_target s column table = record s { targets = slice_set s.targets column (Some table.0) }

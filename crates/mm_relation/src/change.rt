@@ -1,0 +1,160 @@
+//! Cells set in rows, under all indexes of a relation.
+ghost use Rattle.std.specs.Prelude.{◌≡◌, ◌≢◌, ◌∷◌, ◌++◌, ℕ, ◌≤◌, ◌<◌, ◌+◌, ◌-◌, slice_set, [], List, Some, IsSome, IfOk, OnOk, OnErr, All, length};
+ghost use Rattle.std.specs.List.{AllPairs};
+ghost use Rattle.std.specs.FinMap as finite;
+ghost use Rattle.part_raw.specs.declared.tuple_ref.TupleRef.{TupleRef};
+ghost use Rattle.mm_relation.specs.declared.row.Cell.{Cell};
+ghost use Rattle.mm_relation.specs.declared.row.Row.{Row};
+ghost use Rattle.mm_relation.specs.State.{IsKeyed};
+ghost use Rattle.mm_relation.specs.Settings.{with_cells, piled, pile, IsPiled, CanSet, CellsSet};
+ghost use Rattle.mm_relation.specs.Indexes.{tree_columns, hash_columns, HaveRoom, Serve, CanRead};
+
+use crate::indexes::Indexes;
+use crate::linked_keys::LinkedKeys;
+use crate::numbers::ColumnNumber;
+use crate::row::{Cell, Row};
+use no_memory::NoMemory;
+use part_raw::{Partitions, TupleRef};
+use plain_tables::{Text, Value};
+use std::alloc::Global;
+
+fn copy_of_value(alloc: Global, value: &Value) -> Result<Value, NoMemory>
+    ensures { IfOk result (λ copy. copy ≡ value.now) }
+{
+    match value {
+        Value::Null => Ok(Value::Null),
+        Value::Int(z) => Ok(Value::Int(*z)),
+        Value::Text(text) => Ok(Value::Text(Text::from_str(alloc, text.as_str())?)),
+    }
+}
+
+fn copy_of_cell(alloc: Global, cell: &Cell) -> Result<Cell, NoMemory>
+    ensures { IfOk result (λ copy. copy ≡ cell.now) }
+{
+    match cell {
+        Cell::Held(value) => Ok(Cell::Held(copy_of_value(alloc, value)?)),
+        Cell::Link { to } => Ok(Cell::Link { to: *to }),
+    }
+}
+
+// Puts a copy of each cell on the pile, the first set's uppermost.
+fn pile_copies(
+    alloc: Global,
+    sets: &[(ColumnNumber, Cell)],
+    copies: &mut Vec<Cell>,
+) -> Result<(), NoMemory>
+    ensures { OnOk result (copies.new.items ≡ piled sets.now copies.old.items) }
+{
+    let Some(((_, cell), rest)) = sets.split_first() else {
+        return Ok(());
+    };
+    pile_copies(alloc, rest, copies)?;
+    copies.push(copy_of_cell(alloc, cell)?)?;
+    Ok(())
+}
+
+// Copies of the cells for so many rows.
+pub fn copies_for(
+    alloc: Global,
+    sets: &[(ColumnNumber, Cell)],
+    count: usize,
+) -> Result<Vec<Cell>, NoMemory>
+    ensures { IfOk result (λ copies. copies.items ≡ pile count sets.now) }
+{
+    let mut copies = Vec::new(alloc);
+    for _ in 0..count {
+        pile_copies(alloc, sets, &mut copies)?;
+    }
+    Ok(copies)
+}
+
+// Takes the copy on top off the pile.
+fn top_of(copies: &mut Vec<Cell>) -> Cell
+    requires { 0 < length copies.old.items }
+    ensures { copies.old.items ≡ copies.new.items ++ result ∷ [] }
+{
+    match copies.pop() {
+        Some(cell) => cell,
+        None => unreachable!(),
+    }
+}
+
+// Sets the cell in one column.
+fn write_cell(row: &mut Row, column: ColumnNumber, cell: Cell)
+    requires { (0 < column.0) × (column.0 ≤ length row.old.cells) }
+    ensures { row.new ≡ record row.old { cells = slice_set row.old.cells (column.0 - 1) cell } }
+{
+    row.cells.as_mut_slice()[column.0 - 1] = cell;
+}
+
+// Sets cells in a row, each to the copy on top of the pile.
+fn write_cells(row: &mut Row, sets: &[(ColumnNumber, Cell)], copies: &mut Vec<Cell>)
+    requires columns { All (λ s. (0 < s.0.0) × (s.0.0 ≤ length row.old.cells)) sets.now }
+    requires ready { IsPiled sets.now copies.old.items }
+    ensures row { row.new ≡ with_cells sets.now row.old }
+    ensures left { (under : List Cell) → copies.old.items ≡ piled sets.now under → copies.new.items ≡ under }
+{
+    let Some(((column, _), rest)) = sets.split_first() else {
+        return;
+    };
+    let cell = top_of(copies);
+    write_cell(row, *column, cell);
+    write_cells(row, rest, copies);
+}
+
+// Sets cells in one row, which keeps its key and its reference. It takes no memory.
+fn change_row<R: LinkedKeys>(
+    rows: &mut Partitions<Row>,
+    indexes: &mut Indexes,
+    links: &R,
+    r: TupleRef,
+    sets: &[(ColumnNumber, Cell)],
+    copies: &mut Vec<Cell>,
+)
+    requires held { IsSome (finite.get rows.old.tuples r) }
+    requires few { finite.len rows.old.tuples ≤ 16777216 }
+    requires room { HaveRoom 1 indexes.old }
+    requires ready { IsPiled sets.now copies.old.items }
+    requires settable { CanSet (R.keys links.now) rows.old.tuples sets.now }
+    requires read { CanRead (R.keys links.now) rows.old.tuples indexes.old }
+    requires served { (list : List TupleRef) × IsKeyed rows.old.tuples list × Serve (R.keys links.now) rows.old.tuples list indexes.old }
+    ensures row { (t : Row) → finite.get rows.old.tuples r ≡ Some t → rows.new.tuples ≡ finite.insert rows.old.tuples r (with_cells sets.now t) }
+    ensures served { (list : List TupleRef) → IsKeyed rows.old.tuples list → Serve (R.keys links.now) rows.old.tuples list indexes.old
+        → IsKeyed rows.new.tuples list × Serve (R.keys links.now) rows.new.tuples list indexes.new }
+    ensures trees { tree_columns indexes.new ≡ tree_columns indexes.old }
+    ensures hashes { hash_columns indexes.new ≡ hash_columns indexes.old }
+    ensures room { (n : ℕ) → HaveRoom (n + 1) indexes.old → HaveRoom n indexes.new }
+    ensures left { (under : List Cell) → copies.old.items ≡ piled sets.now under → copies.new.items ≡ under }
+{
+    indexes.unlist(rows, links, r);
+    write_cells(rows.get_mut(r), sets, copies);
+    indexes.list(rows, links, r);
+}
+
+// Sets cells in each of these rows, with the copies that were made for them. It takes no memory.
+pub fn change_each<R: LinkedKeys>(
+    rows: &mut Partitions<Row>,
+    indexes: &mut Indexes,
+    links: &R,
+    rs: &[TupleRef],
+    sets: &[(ColumnNumber, Cell)],
+    copies: &mut Vec<Cell>,
+)
+    requires held { All (λ r. IsSome (finite.get rows.old.tuples r)) rs.now }
+    requires once { AllPairs (λ q r. q ≢ r) rs.now }
+    requires few { finite.len rows.old.tuples ≤ 16777216 }
+    requires room { HaveRoom (length rs.now) indexes.old }
+    requires ready { copies.old.items ≡ pile (length rs.now) sets.now }
+    requires settable { CanSet (R.keys links.now) rows.old.tuples sets.now }
+    requires read { CanRead (R.keys links.now) rows.old.tuples indexes.old }
+    requires served { (list : List TupleRef) × IsKeyed rows.old.tuples list × Serve (R.keys links.now) rows.old.tuples list indexes.old }
+    ensures rows { CellsSet rows.old.tuples rows.new.tuples rs.now sets.now }
+    ensures served { (list : List TupleRef) → IsKeyed rows.old.tuples list → Serve (R.keys links.now) rows.old.tuples list indexes.old
+        → IsKeyed rows.new.tuples list × Serve (R.keys links.now) rows.new.tuples list indexes.new }
+    ensures trees { tree_columns indexes.new ≡ tree_columns indexes.old }
+    ensures hashes { hash_columns indexes.new ≡ hash_columns indexes.old }
+{
+    for r in rs {
+        change_row(rows, indexes, links, *r, sets, copies);
+    }
+}

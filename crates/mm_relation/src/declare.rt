@@ -1,0 +1,106 @@
+//! The making of a relation, and what is declared of one.
+ghost use Rattle.std.specs.Prelude.{◌≡◌, ◌<◌, IfOk, OnOk, OnErr, length, position};
+ghost use Rattle.mm_relation.specs.Declaring.{is_index, without_first};
+
+use crate::indexes::Indexes;
+use crate::numbers::{ColumnNumber, DeclaredIndex, TableNumber};
+use crate::relation::Relation;
+use crate::relations::{Links, Relations};
+use crate::tree::Tree;
+use no_memory::NoMemory;
+use part_raw::Partitions;
+use plain_tables::{IndexKind, Schema, Sequence};
+use std::alloc::Global;
+
+// Whether two declarations are alike.
+fn is_same(a: &DeclaredIndex, b: DeclaredIndex) -> bool
+    ensures { result ≡ is_index b a.now }
+{
+    a.column.0 == b.column.0 && a.kind == b.kind
+}
+
+// The place of the first declaration like this one.
+fn first_declared(declared: &[DeclaredIndex], index: DeclaredIndex) -> Option<usize>
+    ensures { result ≡ position (is_index index) declared.now }
+{
+    declared.iter().position(|d| is_same(d, index))
+}
+
+// Takes out the first declaration like this one, where there is one.
+#[tactic(auto, using(crate::proofs::Dropping::removed_first, crate::proofs::Dropping::nothing_first))]
+fn drop_declared(declared: &mut Vec<DeclaredIndex>, index: DeclaredIndex)
+    ensures { declared.new.items ≡ without_first (is_index index) declared.old.items }
+{
+    if let Some(place) = first_declared(declared.as_slice(), index) {
+        declared.remove(place);
+    }
+}
+
+impl Relation {
+    ghost use Rattle.mm_relation.specs.Declaring.{new_relation, declaration, IsDeclared, without_index, with_target};
+    ghost use Rattle.mm_relation.specs.Reading.{Keys};
+    ghost use Rattle.mm_relation.specs.State.{IsCurrent, linked_keys};
+
+    /// A relation of these columns, with no rows and no declared index. Links lead nowhere so far.
+    pub fn new(alloc: Global, schema: Schema) -> Result<Relation, NoMemory>
+        ensures { IfOk result (λ r. r ≡ new_relation schema) }
+    {
+        let mut targets = Vec::new(alloc);
+        targets.resize(schema.columns.len(), None)?;
+        Ok(Relation {
+            schema,
+            targets,
+            declared: Vec::new(alloc),
+            rows: Partitions::new(alloc),
+            by_key: Tree::new(alloc),
+            indexes: Indexes {
+                trees: Sequence::new(alloc),
+                hashes: Sequence::new(alloc),
+            },
+        })
+    }
+
+    /// Tells into which table the links of a column lead.
+    pub fn set_target(&mut self, column: ColumnNumber, table: TableNumber)
+        requires { column.0 < length self.old.targets }
+        ensures { self.new ≡ with_target self.old column.0 table }
+    {
+        self.targets[column.0] = Some(table.0);
+    }
+
+    /// Declares an index over the rows that are there. It is the last of its kind.
+    pub fn add_index<R: Relations>(
+        &mut self,
+        others: &R,
+        column: ColumnNumber,
+        kind: IndexKind,
+    ) -> Result<(), NoMemory>
+        requires within { column.0 < length self.old.targets }
+        requires current { IsCurrent (linked_keys self.old.targets (R.tables others.now)) self.old }
+        ensures declared { OnOk result (IsDeclared self.old self.new (declaration column kind)) }
+        ensures current { IsCurrent (linked_keys self.old.targets (R.tables others.now)) self.new }
+        ensures unchanged { OnErr result (self.new ≡ self.old) }
+    {
+        self.declared.reserve(1)?;
+        let alloc = *self.declared.allocator();
+        let links = Links {
+            targets: self.targets.as_slice(),
+            others,
+        };
+        let index = DeclaredIndex { column, kind };
+        self.indexes
+            .add(&self.rows, &self.by_key, &links, index, alloc)?;
+        self.declared.push_reserved(index);
+        Ok(())
+    }
+
+    /// Drops the first index of this kind on this column, where there is one. It takes no memory.
+    pub fn drop_index(&mut self, column: ColumnNumber, kind: IndexKind)
+        ensures dropped { self.new ≡ without_index self.old (declaration column kind) }
+        ensures current { (keys : Keys) → IsCurrent keys self.old → IsCurrent keys self.new }
+    {
+        let index = DeclaredIndex { column, kind };
+        drop_declared(&mut self.declared, index);
+        self.indexes.remove_first(index);
+    }
+}
