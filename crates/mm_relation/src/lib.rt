@@ -1,4 +1,18 @@
 //! The rows of one table, under the T-tree of its key and every declared index, which hold references and no keys.
+//!
+//! ```text
+//!  by_key, trees, hashes          rows                                   another table
+//!  references in an order,  ──▶  slot: key, cells, referrers  ──link──▶  slot: its key is the value
+//!  or under a hash
+//! ```
+//!
+//! It does not care what its table is called, which command changes it, nor whether its links are held where they lead: it
+//! reads other tables through one map from references to keys, and says what it needs of that map.
+//!
+//! - No two rows have one key, and the key's tree has each row once, in the order of the keys.
+//! - Under the keys that links lead to, each declared tree has each row once in its column's order, and each declared hash
+//!   each row under the hash of its value. A call asks this and ensures it again.
+//! - What finds no memory finds none before the first change.
 #![tactic(auto)]
 
 mod building;
@@ -22,8 +36,11 @@ mod tree;
 mod trees;
 mod view;
 
+pub use lin_hash::Chain;
 pub use linked_keys::LinkedKeys;
+pub use mm_index::Probe;
 pub use numbers::{ColumnNumber, DeclaredIndex, TableNumber};
+pub use part_raw::TupleRef;
 pub use refusal::RowRefusal;
 pub use relation::Relation;
 pub use relations::Relations;
