@@ -158,6 +158,14 @@ kept_new schema targets declared rows list all width no_index no_row no_list no_
   within = λ k d l. absurd (omega (arith, l));
 })
 
+-- with no rows there is nothing to serve
+pub current_new : (schema : Schema) (targets : List (Option ℕ)) (declared : List DeclaredIndex) (rows : Tuples Row) (list : List TupleRef) (all : Indexes) → rows ≡ empty → all.trees ≡ [] → all.hashes ≡ [] → (keys : Keys) → IsCurrent keys (state schema targets declared rows list all)
+current_new schema targets declared rows list all no_row no_tree no_hash keys = rw (no_row, no_tree, no_hash) (record {
+  readable = λ r t e. absurd (none_held r (ap is_some e));
+  trees = λ k d l. absurd (omega (arith, l));
+  hashes = λ k d l. absurd (omega (arith, l));
+})
+
 -- where a column's links lead is told
 pub kept_told : (schema : Schema) (targets told : List (Option ℕ)) (declared : List DeclaredIndex) (rows : Tuples Row) (list : List TupleRef) (all : Indexes) → length told ≡ length targets → IsKept (state schema targets declared rows list all) → IsKept (state schema told declared rows list all)
 kept_told schema targets told declared rows list all same kept = record {

@@ -43,7 +43,8 @@ impl Relation {
 
     /// A relation of these columns, with no rows and no declared index. Links lead nowhere so far.
     pub fn new(alloc: Global, schema: Schema) -> Result<Relation, NoMemory>
-        ensures { IfOk result (λ r. r ≡ new_relation schema) }
+        ensures made { IfOk result (λ r. r ≡ new_relation schema) }
+        ensures current { IfOk result (λ r. (keys : Keys) → IsCurrent keys r) }
     {
         let mut targets = Vec::new(alloc);
         targets.resize(schema.columns.len(), None)?;
