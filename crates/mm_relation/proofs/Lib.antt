@@ -12,3 +12,4 @@ pub mod Referred
 pub mod Dropping
 pub mod Listing
 pub mod Declared
+pub mod Same

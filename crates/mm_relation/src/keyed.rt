@@ -9,18 +9,13 @@ ghost use Rattle.mm_relation.specs.Reading.{key_at};
 ghost use Rattle.mm_relation.specs.State.{IsKeyed, HasKey};
 ghost use Rattle.mm_relation.specs.Searching.{IsLogarithmic};
 
-use crate::linked_keys::NoLinks;
-use crate::numbers::ColumnNumber;
-use crate::order::ColumnOrder;
-use crate::probe::ValueProbe;
+use crate::order::KeyOrder;
+use crate::probe::KeyProbe;
 use crate::row::Row;
 use crate::tree::Tree;
 use mm_index::OrderedIndex;
 use part_raw::{Partitions, TupleRef};
 use plain_tables::Value;
-
-// The key's column.
-const KEY: ColumnNumber = ColumnNumber(0);
 
 // The row with this key, and how many rows were compared.
 pub fn find_row(rows: &Partitions<Row>, by_key: &Tree, key: &Value) -> (Option<TupleRef>, u64)
@@ -30,10 +25,8 @@ pub fn find_row(rows: &Partitions<Row>, by_key: &Tree, key: &Value) -> (Option<T
     ensures asks { 0 < finite.len rows.now.tuples → 1 ≤ result.1 }
     ensures few { IsLogarithmic (finite.len rows.now.tuples) result.1 }
 {
-    let mut probe = ValueProbe {
+    let mut probe = KeyProbe {
         rows,
-        others: &NoLinks,
-        column: KEY,
         sought: key,
         asked: 0,
     };
@@ -57,10 +50,8 @@ pub fn put_row(rows: &mut Partitions<Row>, by_key: &mut Tree, row: Row) -> Optio
     ensures kept_list { IfNone result ((items_of_tree by_key.new) ≡ (items_of_tree by_key.old)) }
 {
     let r = rows.put(row);
-    let mut probe = ValueProbe {
+    let mut probe = KeyProbe {
         rows,
-        others: &NoLinks,
-        column: KEY,
         sought: &rows.get(r).key,
         asked: 0,
     };
@@ -79,13 +70,6 @@ pub fn take_row(rows: &mut Partitions<Row>, by_key: &mut Tree, r: TupleRef)
     ensures taken { rows.new.tuples ≡ finite.remove rows.old.tuples r }
     ensures unlisted { IsSameBag (items_of_tree by_key.old) (r ∷ (items_of_tree by_key.new)) }
 {
-    by_key.remove(
-        &ColumnOrder {
-            rows,
-            others: &NoLinks,
-            column: KEY,
-        },
-        r,
-    );
+    by_key.remove(&KeyOrder { rows }, r);
     rows.take(r);
 }

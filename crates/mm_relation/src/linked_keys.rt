@@ -16,16 +16,3 @@ pub trait LinkedKeys {
         requires { IsSome (keys self.now column.0 to) }
         ensures { keys self.now column.0 to ≡ Some result.now };
 }
-
-/// No link leads anywhere: what an order by keys asks of links.
-pub struct NoLinks;
-
-impl LinkedKeys for NoLinks {
-    ghost use Rattle.mm_relation.specs.State.{no_keys};
-
-    ghost keys = { λ _. no_keys };
-
-    fn key_of(&self, _column: ColumnNumber, _to: TupleRef) -> &Value {
-        unreachable!()
-    }
-}

@@ -63,3 +63,27 @@ impl<'a, R: LinkedKeys> TupleOrder for ColumnOrder<'a, R> {
         }
     }
 }
+
+/// Rows by their keys. It reads no link.
+#[derive(Drop)]
+pub struct KeyOrder<'a> {
+    pub rows: &'a Partitions<Row>,
+}
+
+impl<'a> TupleOrder for KeyOrder<'a> {
+    ghost use Rattle.mm_relation.specs.Order.{column_cmp_strict};
+    ghost use Rattle.mm_relation.specs.State.{no_keys};
+
+    ghost is_sound = { λ o. KeysDiffer o.rows.now.tuples };
+
+    ghost covers = { λ o r. IsSome (value_at no_keys 0 o.rows.now.tuples r) };
+
+    ghost cmp = { λ o. column_cmp no_keys 0 o.rows.now.tuples };
+
+    ghost is_strict = { λ o. column_cmp_strict no_keys 0 o.rows.now.tuples };
+
+    #[tactic(auto, using(crate::proofs::Same::then_same))]
+    fn cmp(&self, a: TupleRef, b: TupleRef) -> Ordering {
+        self.rows.get(a).key.cmp(&self.rows.get(b).key)
+    }
+}
