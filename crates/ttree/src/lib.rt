@@ -24,7 +24,4 @@ mod tree;
 mod turn;
 
 pub use tree::TTree;
-pub use ttree_node::Walk;
-
-#[cfg(test)]
-mod tests;
+pub use ttree_node::{Look, Walk};

@@ -39,7 +39,7 @@ impl<const MIN: usize, const MAX: usize> Model for TTree<MIN, MAX> {
 }
 
 impl<const MIN: usize, const MAX: usize> TTree<MIN, MAX> {
-    ghost use Rattle.ttree_node.specs.Tree.{empty, height, size, whole, items_of};
+    ghost use Rattle.ttree_node.specs.Tree.{at, empty, height, size, whole, items_of};
     ghost use Rattle.ttree_node.specs.Look.{position};
     ghost use Rattle.ttree_node.specs.Walk.{rest_of};
     ghost use Rattle.ttree.specs.Searching.{taken, IsAskedAtMost, IsHitIn, IsGap};
@@ -115,6 +115,13 @@ impl<const MIN: usize, const MAX: usize> TTree<MIN, MAX> {
         ensures { rest_of result ≡ items_of_tree self.now }
     {
         self.links.walk()
+    }
+
+    /// The root of the tree, to read its nodes.
+    pub fn look(&self) -> Look<'_, MAX>
+        ensures { position result ≡ at [] (tree_of self.now) }
+    {
+        self.links.look()
     }
 
     /// The references in order, from the first that does not stand below the probe's range.

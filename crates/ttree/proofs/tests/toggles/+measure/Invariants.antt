@@ -1,4 +1,0 @@
-use Rattle.ttree.proofs.tests.toggles.+measure.Given as goal
-
-abbrev pub decreases-measure : goal.decreases-measure
-decreases-measure g l = l.levels

@@ -1,4 +1,0 @@
-mod keys;
-mod runs;
-mod shapes;
-mod toggles;
