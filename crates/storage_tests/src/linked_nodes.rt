@@ -23,7 +23,7 @@ fn gives<R: Abort>(rt: &R, mut walk: Walk<'_, 3>, keys: &[u32]) {
 
 // The first leaf, where the editor then stands.
 fn grow_root<R: Abort>(rt: &R, edit: &mut Editor<'_, 3>, key: u32)
-    ensures same_reference { edit.new.links.ghost_name ≡ edit.old.links.ghost_name }
+    ensures same_reference { edit.new.nodes.ghost_name ≡ edit.old.nodes.ghost_name }
 {
     assert!(rt; !edit.has_node());
     assert!(rt; edit.spares() > 0);
@@ -32,7 +32,7 @@ fn grow_root<R: Abort>(rt: &R, edit: &mut Editor<'_, 3>, key: u32)
 
 // A leaf with that key on the left of the node, where the editor then stands.
 fn grow_left<R: Abort>(rt: &R, edit: &mut Editor<'_, 3>, key: u32)
-    ensures same_reference { edit.new.links.ghost_name ≡ edit.old.links.ghost_name }
+    ensures same_reference { edit.new.nodes.ghost_name ≡ edit.old.nodes.ghost_name }
 {
     assert!(rt; edit.has_node());
     assert!(rt; !edit.has_left());
@@ -42,7 +42,7 @@ fn grow_left<R: Abort>(rt: &R, edit: &mut Editor<'_, 3>, key: u32)
 
 // The same on the right.
 fn grow_right<R: Abort>(rt: &R, edit: &mut Editor<'_, 3>, key: u32)
-    ensures same_reference { edit.new.links.ghost_name ≡ edit.old.links.ghost_name }
+    ensures same_reference { edit.new.nodes.ghost_name ≡ edit.old.nodes.ghost_name }
 {
     assert!(rt; edit.has_node());
     assert!(rt; !edit.has_right());
@@ -51,7 +51,7 @@ fn grow_right<R: Abort>(rt: &R, edit: &mut Editor<'_, 3>, key: u32)
 }
 
 fn climb<R: Abort>(rt: &R, edit: &mut Editor<'_, 3>)
-    ensures same_reference { edit.new.links.ghost_name ≡ edit.old.links.ghost_name }
+    ensures same_reference { edit.new.nodes.ghost_name ≡ edit.old.nodes.ghost_name }
 {
     assert!(rt; !edit.at_root());
     edit.up();
@@ -91,7 +91,7 @@ fn stands<R: Abort>(
 
 // Drops the leaf on the right of the node. It has one item, the given one.
 fn drop_right<R: Abort>(rt: &R, edit: &mut Editor<'_, 3>, key: u32)
-    ensures same_reference { edit.new.links.ghost_name ≡ edit.old.links.ghost_name }
+    ensures same_reference { edit.new.nodes.ghost_name ≡ edit.old.nodes.ghost_name }
 {
     assert!(rt; edit.has_right());
     edit.down_right();
@@ -109,7 +109,7 @@ fn drop_right<R: Abort>(rt: &R, edit: &mut Editor<'_, 3>, key: u32)
 fn a_chain_turns(rt: HostRuntime) {
     let mut links: Links<3> = Links::new(rt.alloc());
     links.reserve(3).expect(&rt, "memory");
-    let mut edit = links.edit();
+    let mut edit = links.nodes_mut().edit();
     grow_root(&rt, &mut edit, 20);
     grow_right(&rt, &mut edit, 30);
     grow_right(&rt, &mut edit, 40);
@@ -120,7 +120,7 @@ fn a_chain_turns(rt: HostRuntime) {
     stands(&rt, &links, &[LEFT], &[20], (false, false));
     gives(&rt, links.walk(), &[20, 30, 40]);
     assert_eq!(rt; links.spares(), 0);
-    drop_right(&rt, &mut links.edit(), 40);
+    drop_right(&rt, &mut links.nodes_mut().edit(), 40);
     stands(&rt, &links, &[], &[30], (true, false));
     gives(&rt, links.walk(), &[20, 30]);
     assert_eq!(rt; links.spares(), 1);
@@ -128,7 +128,7 @@ fn a_chain_turns(rt: HostRuntime) {
 
 // The root [20] with the leaf [40] on its right, which then merges, or gives its item up.
 fn join<R: Abort>(rt: &R, edit: &mut Editor<'_, 3>, merges: bool)
-    ensures same_reference { edit.new.links.ghost_name ≡ edit.old.links.ghost_name }
+    ensures same_reference { edit.new.nodes.ghost_name ≡ edit.old.nodes.ghost_name }
 {
     assert!(rt; !edit.has_node());
     assert!(rt; edit.spares() == 2);
@@ -148,7 +148,7 @@ fn join<R: Abort>(rt: &R, edit: &mut Editor<'_, 3>, merges: bool)
 fn a_leaf_merges(rt: HostRuntime) {
     let mut links: Links<3> = Links::new(rt.alloc());
     links.reserve(2).expect(&rt, "memory");
-    join(&rt, &mut links.edit(), true);
+    join(&rt, &mut links.nodes_mut().edit(), true);
     stands(&rt, &links, &[], &[20, 40], (false, false));
     assert_eq!(rt; links.spares(), 1);
 }
@@ -157,7 +157,7 @@ fn a_leaf_merges(rt: HostRuntime) {
 fn an_item_slides(rt: HostRuntime) {
     let mut links: Links<3> = Links::new(rt.alloc());
     links.reserve(2).expect(&rt, "memory");
-    join(&rt, &mut links.edit(), false);
+    join(&rt, &mut links.nodes_mut().edit(), false);
     stands(&rt, &links, &[], &[20, 40], (false, true));
     stands(&rt, &links, &[RIGHT], &[], (false, false));
 }
@@ -177,7 +177,7 @@ fn reserve_under_refusal(rt: HostRuntime) {
 
 // The root [40], on its left [20], and on the left of that [10, 15]. The editor is at the root again.
 fn lean_left<R: Abort>(rt: &R, edit: &mut Editor<'_, 3>)
-    ensures same_reference { edit.new.links.ghost_name ≡ edit.old.links.ghost_name }
+    ensures same_reference { edit.new.nodes.ghost_name ≡ edit.old.nodes.ghost_name }
 {
     grow_root(rt, edit, 40);
     grow_left(rt, edit, 20);
@@ -195,7 +195,7 @@ fn lean_left<R: Abort>(rt: &R, edit: &mut Editor<'_, 3>)
 fn a_tree_of_three_levels(rt: HostRuntime) {
     let mut links: Links<3> = Links::new(rt.alloc());
     links.reserve(3).expect(&rt, "memory");
-    let mut edit = links.edit();
+    let mut edit = links.nodes_mut().edit();
     lean_left(&rt, &mut edit);
     assert!(rt; edit.heights() == (2, 0));
     assert!(rt; edit.has_left());
@@ -210,7 +210,7 @@ fn a_tree_of_three_levels(rt: HostRuntime) {
 fn a_look_goes_up(rt: HostRuntime) {
     let mut links: Links<3> = Links::new(rt.alloc());
     links.reserve(3).expect(&rt, "memory");
-    lean_left(&rt, &mut links.edit());
+    lean_left(&rt, &mut links.nodes_mut().edit());
     let mut look = place(&rt, &links, &[LEFT]);
     assert!(rt; !look.at_root());
     look.up();
@@ -223,7 +223,7 @@ fn a_look_goes_up(rt: HostRuntime) {
 // The root [40, 45], below it [20] and [80], below [20] the leaves [10] and [30], below [80] a node with no items on
 // the left, and below that the leaf [70] on the right.
 fn plant<R: Abort>(rt: &R, edit: &mut Editor<'_, 3>)
-    ensures same_reference { edit.new.links.ghost_name ≡ edit.old.links.ghost_name }
+    ensures same_reference { edit.new.nodes.ghost_name ≡ edit.old.nodes.ghost_name }
 {
     grow_root(rt, edit, 40);
     assert!(rt; edit.has_node());
@@ -254,7 +254,7 @@ fn walks_of_four_levels(rt: HostRuntime) {
     gives(&rt, links.walk(), &[]);
     leaves(&rt, &links, &[], 0, &[]);
     links.reserve(7).expect(&rt, "memory");
-    let mut edit = links.edit();
+    let mut edit = links.nodes_mut().edit();
     plant(&rt, &mut edit);
     gives(&rt, links.walk(), &[10, 20, 30, 40, 45, 70, 80]);
     leaves(&rt, &links, &[], 0, &[40, 45, 70, 80]);

@@ -18,7 +18,7 @@ fn mend<const MIN: usize, const MAX: usize>(editor: &mut Editor<'_, MAX>)
     requires mendable { IsMendableHere MIN MAX (position editor.old).here }
     requires tree { tree_at editor.old ≡ whole (position editor.old) }
     requires short { length (list (tree_at editor.old)) ≤ 2 ^ 32 }
-    ensures same_reference { editor.new.links.ghost_name ≡ editor.old.links.ghost_name }
+    ensures same_reference { editor.new.nodes.ghost_name ≡ editor.old.nodes.ghost_name }
     ensures above { (position editor.new).above ≡ (position editor.old).above }
     ensures mended { IsMendedTo MIN MAX (position editor.old).here (position editor.new).here }
     ensures full { 2 ≤ MIN → IsGrowing MAX (position editor.old).here → IsGrown MAX (position editor.new).here }
@@ -45,7 +45,7 @@ pub(crate) fn rebalance<const MIN: usize, const MAX: usize>(editor: &mut Editor<
     requires can_rise { CanRise MIN MAX (position editor.old) }
     requires tree { tree_at editor.old ≡ whole (position editor.old) }
     requires short { length (list (tree_at editor.old)) ≤ 2 ^ 32 }
-    ensures same_reference { editor.new.links.ghost_name ≡ editor.old.links.ghost_name }
+    ensures same_reference { editor.new.nodes.ghost_name ≡ editor.old.nodes.ghost_name }
     ensures fit { IsTTree MIN MAX (tree_at editor.new) }
     ensures full { 2 ≤ MIN → CanRiseFull MIN MAX (position editor.old) → ParentsAreFull MAX (tree_at editor.new) }
     ensures list { list (tree_at editor.new) ≡ list (tree_at editor.old) }

@@ -5,10 +5,10 @@ ghost use Rattle.std.specs.declared.cmp.Ordering.{Ordering};
 ghost use Rattle.mm_index.specs.Asking.{counted};
 ghost use Rattle.mm_index.specs.Order.{insert_placed};
 ghost use Rattle.mm_index.specs.Range.{NeverFalls};
-ghost use Rattle.ttree_node.specs.Tree.{whole, list, height, items_of, is_node, is_root, has_left, has_right, with_leaf, list_before, list_after};
-ghost use Rattle.ttree_node.specs.Seen.{on_side, child, hangs_on_node};
+ghost use Rattle.ttree_node.specs.Tree.{whole, list, height, items_of, is_node, has_left, has_right, with_leaf, list_before, list_after};
+ghost use Rattle.ttree_node.specs.Seen.{tree_of, spares_of, shown, on_side, child, hangs_on_node};
 ghost use Rattle.ttree_node.specs.Editor.{position, tree_at, spares_at};
-ghost use Rattle.ttree.specs.Room.{nodes_at};
+ghost use Rattle.ttree.specs.Room.{nodes_of, nodes_at};
 ghost use Rattle.ttree.specs.Shape.{IsTTree, ParentsAreFull, binary_digits};
 ghost use Rattle.ttree.specs.Searching.{with_item, IsAskedAtMost};
 
@@ -16,48 +16,45 @@ use crate::balance::rebalance;
 use crate::search::locate_to_edit;
 use mm_index::Probe;
 use part_raw::TupleRef;
-use ttree_node::{Editor, Side};
+use ttree_node::{Editor, LinkedNodes, Side};
 
 // Puts `r` where the probe's range would stand, or gives a reference that stands in it and changes nothing.
 pub(crate) fn insert_unless_found<P: Probe, const MIN: usize, const MAX: usize>(
-    editor: &mut Editor<'_, MAX>,
+    nodes: &mut LinkedNodes<MAX>,
     probe: &mut P,
     r: TupleRef,
 ) -> Option<TupleRef>
     requires some { 1 ≤ MIN }
     requires ordered { MIN ≤ MAX }
     requires two { 2 ≤ MAX }
-    requires root { is_root (position editor.old).above ≡ true }
-    requires tree { tree_at editor.old ≡ whole (position editor.old) }
-    requires fit { IsTTree MIN MAX (tree_at editor.old) }
-    requires short { length (list (tree_at editor.old)) < 2 ^ 32 }
-    requires spare { 0 < spares_at editor.old }
+    requires fit { IsTTree MIN MAX (tree_of nodes.old) }
+    requires short { length (list (tree_of nodes.old)) < 2 ^ 32 }
+    requires spare { 0 < spares_of nodes.old }
     requires sound { P.is_sound probe.old }
-    requires placed { All (P.can_place probe.old) (list (tree_at editor.old)) }
-    requires in_order { NeverFalls (P.place probe.old) (list (tree_at editor.old)) }
-    ensures same_reference { editor.new.links.ghost_name ≡ editor.old.links.ghost_name }
-    ensures fit { IsTTree MIN MAX (tree_at editor.new) }
-    ensures parents { 2 ≤ MIN → ParentsAreFull MAX (tree_at editor.old) → ParentsAreFull MAX (tree_at editor.new) }
-    ensures held { IfSome result (Contains (list (tree_at editor.old))) }
+    requires placed { All (P.can_place probe.old) (list (tree_of nodes.old)) }
+    requires in_order { NeverFalls (P.place probe.old) (list (tree_of nodes.old)) }
+    ensures fit { IsTTree MIN MAX (tree_of nodes.new) }
+    ensures parents { 2 ≤ MIN → ParentsAreFull MAX (tree_of nodes.old) → ParentsAreFull MAX (tree_of nodes.new) }
+    ensures held { IfSome result (Contains (list (tree_of nodes.old))) }
     ensures found { IfSome result (λ q. P.place probe.old q ≡ Ordering.Equal) }
-    ensures kept { IfSome result (λ _. tree_at editor.new ≡ tree_at editor.old) }
-    ensures kept_spares { IfSome result (λ _. spares_at editor.new ≡ spares_at editor.old) }
-    ensures none { IfNone result (All (λ q. P.place probe.old q ≢ Ordering.Equal) (list (tree_at editor.old))) }
-    ensures list { IfNone result (list (tree_at editor.new) ≡ insert_placed (P.place probe.old) r (list (tree_at editor.old))) }
-    ensures one { IfNone result (length (list (tree_at editor.new)) ≡ length (list (tree_at editor.old)) + 1) }
-    ensures nodes { nodes_at editor.new ≡ nodes_at editor.old }
-    ensures spares { spares_at editor.old ≤ spares_at editor.new + 1 }
-    ensures probe { IsAskedAtMost (2 * height (tree_at editor.old) + binary_digits MAX) P.is_sound P.can_place P.place P.asked probe.old probe.new }
-    ensures asks { 0 < length (list (tree_at editor.old)) → counted (P.asked probe.old) ≤ P.asked probe.new }
+    ensures kept { IfSome result (λ _. shown nodes.new ≡ shown nodes.old) }
+    ensures none { IfNone result (All (λ q. P.place probe.old q ≢ Ordering.Equal) (list (tree_of nodes.old))) }
+    ensures list { IfNone result (list (tree_of nodes.new) ≡ insert_placed (P.place probe.old) r (list (tree_of nodes.old))) }
+    ensures one { IfNone result (length (list (tree_of nodes.new)) ≡ length (list (tree_of nodes.old)) + 1) }
+    ensures nodes { nodes_of (shown nodes.new) ≡ nodes_of (shown nodes.old) }
+    ensures spares { spares_of nodes.old ≤ spares_of nodes.new + 1 }
+    ensures probe { IsAskedAtMost (2 * height (tree_of nodes.old) + binary_digits MAX) P.is_sound P.can_place P.place P.asked probe.old probe.new }
+    ensures asks { 0 < length (list (tree_of nodes.old)) → counted (P.asked probe.old) ≤ P.asked probe.new }
 {
+    let mut editor = nodes.edit();
     if !editor.has_node() {
         editor.new_leaf(Side::Root, r);
         return None;
     }
-    match locate_to_edit(editor, probe) {
+    match locate_to_edit(&mut editor, probe) {
         Ok(index) => Some(editor.items()[index]),
         Err(index) => {
-            put_at::<MIN, MAX>(editor, index, r);
+            put_at::<MIN, MAX>(&mut editor, index, r);
             None
         }
     }
@@ -80,7 +77,7 @@ fn put_at<const MIN: usize, const MAX: usize>(
     requires fit { IsTTree MIN MAX (tree_at editor.old) }
     requires short { length (list (tree_at editor.old)) < 2 ^ 32 }
     requires spare { 0 < spares_at editor.old }
-    ensures same_reference { editor.new.links.ghost_name ≡ editor.old.links.ghost_name }
+    ensures same_reference { editor.new.nodes.ghost_name ≡ editor.old.nodes.ghost_name }
     ensures fit { IsTTree MIN MAX (tree_at editor.new) }
     ensures parents { 2 ≤ MIN → ParentsAreFull MAX (tree_at editor.old) → ParentsAreFull MAX (tree_at editor.new) }
     ensures list { list (tree_at editor.new) ≡ with_item index r (position editor.old) }
@@ -110,7 +107,7 @@ fn put_with_room<const MIN: usize, const MAX: usize>(
     requires free { length (items_of (position editor.old).here) < MAX }
     requires tree { tree_at editor.old ≡ whole (position editor.old) }
     requires fit { IsTTree MIN MAX (tree_at editor.old) }
-    ensures same_reference { editor.new.links.ghost_name ≡ editor.old.links.ghost_name }
+    ensures same_reference { editor.new.nodes.ghost_name ≡ editor.old.nodes.ghost_name }
     ensures fit { IsTTree MIN MAX (tree_at editor.new) }
     ensures parents { ParentsAreFull MAX (tree_at editor.old) → ParentsAreFull MAX (tree_at editor.new) }
     ensures list { list (tree_at editor.new) ≡ with_item index r (position editor.old) }
@@ -133,7 +130,7 @@ fn grow<const MIN: usize, const MAX: usize>(editor: &mut Editor<'_, MAX>, side: 
     requires fit { IsTTree MIN MAX (tree_at editor.old) }
     requires short { length (list (tree_at editor.old)) < 2 ^ 32 }
     requires spare { 0 < spares_at editor.old }
-    ensures same_reference { editor.new.links.ghost_name ≡ editor.old.links.ghost_name }
+    ensures same_reference { editor.new.nodes.ghost_name ≡ editor.old.nodes.ghost_name }
     ensures fit { IsTTree MIN MAX (tree_at editor.new) }
     ensures parents { 2 ≤ MIN → ParentsAreFull MAX (tree_at editor.old) → ParentsAreFull MAX (tree_at editor.new) }
     ensures list { list (tree_at editor.new) ≡ list (whole (with_leaf r (on_side side (position editor.old)))) }
@@ -162,7 +159,7 @@ fn spill<const MIN: usize, const MAX: usize>(
     requires fit { IsTTree MIN MAX (tree_at editor.old) }
     requires short { length (list (tree_at editor.old)) < 2 ^ 32 }
     requires spare { 0 < spares_at editor.old }
-    ensures same_reference { editor.new.links.ghost_name ≡ editor.old.links.ghost_name }
+    ensures same_reference { editor.new.nodes.ghost_name ≡ editor.old.nodes.ghost_name }
     ensures fit { IsTTree MIN MAX (tree_at editor.new) }
     ensures parents { 2 ≤ MIN → ParentsAreFull MAX (tree_at editor.old) → ParentsAreFull MAX (tree_at editor.new) }
     ensures list { list (tree_at editor.new) ≡ with_item index r (position editor.old) }
@@ -185,7 +182,7 @@ fn put_before<const MIN: usize, const MAX: usize>(editor: &mut Editor<'_, MAX>, 
     requires fit { IsTTree MIN MAX (tree_at editor.old) }
     requires short { length (list (tree_at editor.old)) < 2 ^ 32 }
     requires spare { 0 < spares_at editor.old }
-    ensures same_reference { editor.new.links.ghost_name ≡ editor.old.links.ghost_name }
+    ensures same_reference { editor.new.nodes.ghost_name ≡ editor.old.nodes.ghost_name }
     ensures fit { IsTTree MIN MAX (tree_at editor.new) }
     ensures parents { 2 ≤ MIN → ParentsAreFull MAX (tree_at editor.old) → ParentsAreFull MAX (tree_at editor.new) }
     ensures list { list (tree_at editor.new) ≡ with_item 0 item (position editor.old) }
@@ -208,7 +205,7 @@ fn put_before<const MIN: usize, const MAX: usize>(editor: &mut Editor<'_, MAX>, 
 // Goes to the rightmost node of the tree that is here.
 pub(crate) fn to_rightmost<const MAX: usize>(editor: &mut Editor<'_, MAX>)
     requires node { is_node (position editor.old).here ≡ true }
-    ensures same_reference { editor.new.links.ghost_name ≡ editor.old.links.ghost_name }
+    ensures same_reference { editor.new.nodes.ghost_name ≡ editor.old.nodes.ghost_name }
     ensures node { is_node (position editor.new).here ≡ true }
     ensures open { has_right (position editor.new).here ≡ false }
     ensures whole { whole (position editor.new) ≡ whole (position editor.old) }

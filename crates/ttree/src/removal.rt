@@ -2,24 +2,25 @@
 //! subtree comes up. What is left to do is at the node that lost an item last.
 ghost use Rattle.std.specs.Prelude.{◌≡◌, ◌+◌, ◌<◌, ◌≤◌, ◌^◌, ◌++◌, ◌∷◌, [], true, false, length, remove as removed, All, Contains};
 ghost use Rattle.mm_index.specs.Order.{IsRising, remove_by};
-ghost use Rattle.ttree_node.specs.Tree.{list, size, whole, is_node, is_root, has_left, has_right, left_of, items_of, down_left, with_items, with_tree};
+ghost use Rattle.ttree_node.specs.Tree.{list, size, whole, is_node, has_left, has_right, left_of, items_of, down_left, with_items, with_tree};
 ghost use Rattle.ttree_node.specs.Editor.{position, tree_at, spares_at};
 ghost use Rattle.ttree.specs.Shape.{IsTTree};
-ghost use Rattle.ttree.specs.Room.{nodes_at};
+ghost use Rattle.ttree.specs.Room.{nodes_of, nodes_at};
+ghost use Rattle.ttree_node.specs.Seen.{tree_of, spares_of, shown};
 ghost use Rattle.ttree.specs.Removing.{HasLost, rightmost, without_greatest, without_left_greatest};
 
 use crate::search::locate_to_edit;
 use crate::settle::settle;
 use mm_index::{OrderProbe, TupleOrder};
 use part_raw::TupleRef;
-use ttree_node::Editor;
+use ttree_node::{Editor, LinkedNodes};
 
 // Takes the last item out of the rightmost node of the tree that is here.
 fn take_greatest<const MIN: usize, const MAX: usize>(editor: &mut Editor<'_, MAX>) -> TupleRef
     requires node { is_node (position editor.old).here ≡ true }
     requires fit { IsTTree MIN MAX (position editor.old).here }
     requires tree { tree_at editor.old ≡ whole (position editor.old) }
-    ensures same_reference { editor.new.links.ghost_name ≡ editor.old.links.ghost_name }
+    ensures same_reference { editor.new.nodes.ghost_name ≡ editor.old.nodes.ghost_name }
     ensures taken { position editor.new ≡ with_tree without_greatest (position editor.old) }
     ensures greatest { list (position editor.new).here ++ result ∷ [] ≡ list (position editor.old).here }
     ensures tree { tree_at editor.new ≡ whole (position editor.new) }
@@ -39,7 +40,7 @@ fn take_greatest<const MIN: usize, const MAX: usize>(editor: &mut Editor<'_, MAX
 // Goes to the rightmost node of the tree that is here.
 fn to_greatest<const MAX: usize>(editor: &mut Editor<'_, MAX>)
     requires node { is_node (position editor.old).here ≡ true }
-    ensures same_reference { editor.new.links.ghost_name ≡ editor.old.links.ghost_name }
+    ensures same_reference { editor.new.nodes.ghost_name ≡ editor.old.nodes.ghost_name }
     ensures moved { position editor.new ≡ rightmost (position editor.old) }
     ensures tree { tree_at editor.new ≡ tree_at editor.old }
     ensures spares { spares_at editor.new ≡ spares_at editor.old }
@@ -54,7 +55,7 @@ fn take_from_left<const MIN: usize, const MAX: usize>(editor: &mut Editor<'_, MA
     requires left { has_left (position editor.old).here ≡ true }
     requires fit { IsTTree MIN MAX (left_of (position editor.old).here) }
     requires tree { tree_at editor.old ≡ whole (position editor.old) }
-    ensures same_reference { editor.new.links.ghost_name ≡ editor.old.links.ghost_name }
+    ensures same_reference { editor.new.nodes.ghost_name ≡ editor.old.nodes.ghost_name }
     ensures taken { position editor.new ≡ with_tree without_left_greatest (position editor.old) }
     ensures greatest { list (without_greatest (left_of (position editor.old).here)) ++ result ∷ [] ≡ list (left_of (position editor.old).here) }
     ensures tree { tree_at editor.new ≡ whole (position editor.new) }
@@ -69,7 +70,7 @@ fn take_from_left<const MIN: usize, const MAX: usize>(editor: &mut Editor<'_, MA
 // Goes to the rightmost node of the left subtree.
 fn to_left_greatest<const MAX: usize>(editor: &mut Editor<'_, MAX>)
     requires left { has_left (position editor.old).here ≡ true }
-    ensures same_reference { editor.new.links.ghost_name ≡ editor.old.links.ghost_name }
+    ensures same_reference { editor.new.nodes.ghost_name ≡ editor.old.nodes.ghost_name }
     ensures moved { position editor.new ≡ rightmost (down_left (position editor.old)) }
     ensures tree { tree_at editor.new ≡ tree_at editor.old }
     ensures spares { spares_at editor.new ≡ spares_at editor.old }
@@ -85,7 +86,7 @@ fn borrow_greatest<const MIN: usize, const MAX: usize>(editor: &mut Editor<'_, M
     requires left { has_left (position editor.old).here ≡ true }
     requires few { length (items_of (position editor.old).here) < MIN }
     requires tree { tree_at editor.old ≡ whole (position editor.old) }
-    ensures same_reference { editor.new.links.ghost_name ≡ editor.old.links.ghost_name }
+    ensures same_reference { editor.new.nodes.ghost_name ≡ editor.old.nodes.ghost_name }
     ensures lost { HasLost MIN MAX (position editor.new) }
     ensures open { has_right (position editor.new).here ≡ false }
     ensures tree { tree_at editor.new ≡ whole (position editor.new) }
@@ -106,7 +107,7 @@ fn recover<const MIN: usize, const MAX: usize>(editor: &mut Editor<'_, MAX>)
     requires lost { HasLost MIN MAX (position editor.old) }
     requires tree { tree_at editor.old ≡ whole (position editor.old) }
     requires short { length (list (tree_at editor.old)) ≤ 2 ^ 32 }
-    ensures same_reference { editor.new.links.ghost_name ≡ editor.old.links.ghost_name }
+    ensures same_reference { editor.new.nodes.ghost_name ≡ editor.old.nodes.ghost_name }
     ensures fit { IsTTree MIN MAX (tree_at editor.new) }
     ensures list { list (tree_at editor.new) ≡ list (tree_at editor.old) }
     ensures nodes { nodes_at editor.new ≡ nodes_at editor.old }
@@ -134,7 +135,7 @@ pub(crate) fn take_out<const MIN: usize, const MAX: usize>(
     requires fit { IsTTree MIN MAX (tree_at editor.old) }
     requires tree { tree_at editor.old ≡ whole (position editor.old) }
     requires short { length (list (tree_at editor.old)) ≤ 2 ^ 32 }
-    ensures same_reference { editor.new.links.ghost_name ≡ editor.old.links.ghost_name }
+    ensures same_reference { editor.new.nodes.ghost_name ≡ editor.old.nodes.ghost_name }
     ensures fit { IsTTree MIN MAX (tree_at editor.new) }
     ensures list { list (tree_at editor.new) ≡ list (whole (with_items (removed (items_of (position editor.old).here) index) (position editor.old))) }
     ensures nodes { nodes_at editor.new ≡ nodes_at editor.old }
@@ -146,30 +147,28 @@ pub(crate) fn take_out<const MIN: usize, const MAX: usize>(
 
 // Takes `r` out of the tree.
 pub(crate) fn remove<O: TupleOrder, const MIN: usize, const MAX: usize>(
-    editor: &mut Editor<'_, MAX>,
+    nodes: &mut LinkedNodes<MAX>,
     order: &O,
     r: TupleRef,
 )
     requires some { 1 ≤ MIN }
     requires ordered { MIN ≤ MAX }
     requires two { 2 ≤ MAX }
-    requires root { is_root (position editor.old).above ≡ true }
-    requires tree { tree_at editor.old ≡ whole (position editor.old) }
-    requires fit { IsTTree MIN MAX (tree_at editor.old) }
-    requires short { length (list (tree_at editor.old)) ≤ 2 ^ 32 }
-    requires held { Contains (list (tree_at editor.old)) r }
+    requires fit { IsTTree MIN MAX (tree_of nodes.old) }
+    requires short { length (list (tree_of nodes.old)) ≤ 2 ^ 32 }
+    requires held { Contains (list (tree_of nodes.old)) r }
     requires sound { O.is_sound order.now }
-    requires covered { All (O.covers order.now) (list (tree_at editor.old)) }
-    requires rising { IsRising (O.cmp order.now) (list (tree_at editor.old)) }
-    ensures same_reference { editor.new.links.ghost_name ≡ editor.old.links.ghost_name }
-    ensures fit { IsTTree MIN MAX (tree_at editor.new) }
-    ensures list { list (tree_at editor.new) ≡ remove_by (O.cmp order.now) r (list (tree_at editor.old)) }
-    ensures one { length (list (tree_at editor.new)) + 1 ≡ length (list (tree_at editor.old)) }
-    ensures nodes { nodes_at editor.new ≡ nodes_at editor.old }
-    ensures spares { spares_at editor.old ≤ spares_at editor.new }
+    requires covered { All (O.covers order.now) (list (tree_of nodes.old)) }
+    requires rising { IsRising (O.cmp order.now) (list (tree_of nodes.old)) }
+    ensures fit { IsTTree MIN MAX (tree_of nodes.new) }
+    ensures list { list (tree_of nodes.new) ≡ remove_by (O.cmp order.now) r (list (tree_of nodes.old)) }
+    ensures one { length (list (tree_of nodes.new)) + 1 ≡ length (list (tree_of nodes.old)) }
+    ensures nodes { nodes_of (shown nodes.new) ≡ nodes_of (shown nodes.old) }
+    ensures spares { spares_of nodes.old ≤ spares_of nodes.new }
 {
-    match locate_to_edit(editor, &mut OrderProbe::new(order, r)) {
-        Ok(index) => take_out::<MIN, MAX>(editor, index),
+    let mut editor = nodes.edit();
+    match locate_to_edit(&mut editor, &mut OrderProbe::new(order, r)) {
+        Ok(index) => take_out::<MIN, MAX>(&mut editor, index),
         Err(_) => unreachable!(),
     }
 }

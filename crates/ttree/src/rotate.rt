@@ -29,7 +29,7 @@ fn fill_riser<const MIN: usize, const MAX: usize>(editor: &mut Editor<'_, MAX>)
     requires ordered { MIN ≤ MAX }
     requires fit { IsTTree MIN MAX (position editor.old).here }
     requires tree { tree_at editor.old ≡ whole (position editor.old) }
-    ensures same_reference { editor.new.links.ghost_name ≡ editor.old.links.ghost_name }
+    ensures same_reference { editor.new.nodes.ghost_name ≡ editor.old.nodes.ghost_name }
     ensures above { (position editor.new).above ≡ (position editor.old).above }
     ensures filled { IsFilled MIN MAX (position editor.old).here (position editor.new).here }
     ensures tree { tree_at editor.new ≡ whole (position editor.new) }
@@ -51,7 +51,7 @@ fn fill_below<const MIN: usize, const MAX: usize>(editor: &mut Editor<'_, MAX>, 
     requires child { is_node (child side (position editor.old).here) ≡ true }
     requires fit { IsTTree MIN MAX (child side (position editor.old).here) }
     requires tree { tree_at editor.old ≡ whole (position editor.old) }
-    ensures same_reference { editor.new.links.ghost_name ≡ editor.old.links.ghost_name }
+    ensures same_reference { editor.new.nodes.ghost_name ≡ editor.old.nodes.ghost_name }
     ensures above { (position editor.new).above ≡ (position editor.old).above }
     ensures rest { (position editor.new).here ≡ with_child side (child side (position editor.new).here) (position editor.old).here }
     ensures filled { IsFilled MIN MAX (child side (position editor.old).here) (child side (position editor.new).here) }
@@ -68,7 +68,7 @@ fn fill_below<const MIN: usize, const MAX: usize>(editor: &mut Editor<'_, MAX>, 
 fn has_leaf<const MAX: usize>(editor: &mut Editor<'_, MAX>, side: Side) -> bool
     requires child { is_node (child side (position editor.old).here) ≡ true }
     requires tree { tree_at editor.old ≡ whole (position editor.old) }
-    ensures same_reference { editor.new.links.ghost_name ≡ editor.old.links.ghost_name }
+    ensures same_reference { editor.new.nodes.ghost_name ≡ editor.old.nodes.ghost_name }
     ensures leaf { IsTrue result ↔ ((has_left (child side (position editor.old).here) ≡ false) × (has_right (child side (position editor.old).here) ≡ false)) }
     ensures same_place { position editor.new ≡ position editor.old }
     ensures tree { tree_at editor.new ≡ tree_at editor.old }
@@ -87,7 +87,7 @@ fn fill_inner<const MIN: usize, const MAX: usize>(editor: &mut Editor<'_, MAX>, 
     requires fit { IsTTree MIN MAX (position editor.old).here }
     requires high { height (child (opposite side) (position editor.old).here) < height (child side (position editor.old).here) }
     requires tree { tree_at editor.old ≡ whole (position editor.old) }
-    ensures same_reference { editor.new.links.ghost_name ≡ editor.old.links.ghost_name }
+    ensures same_reference { editor.new.nodes.ghost_name ≡ editor.old.nodes.ghost_name }
     ensures above { (position editor.new).above ≡ (position editor.old).above }
     ensures filled { IsInnerFilled side MIN MAX (position editor.old).here (position editor.new).here }
     ensures tree { tree_at editor.new ≡ whole (position editor.new) }
@@ -108,7 +108,7 @@ fn fill_inner_below<const MIN: usize, const MAX: usize>(editor: &mut Editor<'_, 
     requires fit { IsTTree MIN MAX (child side (position editor.old).here) }
     requires high { height (child side (child side (position editor.old).here)) < height (child (opposite side) (child side (position editor.old).here)) }
     requires tree { tree_at editor.old ≡ whole (position editor.old) }
-    ensures same_reference { editor.new.links.ghost_name ≡ editor.old.links.ghost_name }
+    ensures same_reference { editor.new.nodes.ghost_name ≡ editor.old.nodes.ghost_name }
     ensures above { (position editor.new).above ≡ (position editor.old).above }
     ensures rest { (position editor.new).here ≡ with_child side (child side (position editor.new).here) (position editor.old).here }
     ensures filled { IsInnerFilled (opposite side) MIN MAX (child side (position editor.old).here) (child side (position editor.new).here) }
@@ -125,7 +125,7 @@ fn fill_inner_below<const MIN: usize, const MAX: usize>(editor: &mut Editor<'_, 
 fn leans_out<const MAX: usize>(editor: &mut Editor<'_, MAX>, side: Side) -> bool
     requires child { is_node (child side (position editor.old).here) ≡ true }
     requires tree { tree_at editor.old ≡ whole (position editor.old) }
-    ensures same_reference { editor.new.links.ghost_name ≡ editor.old.links.ghost_name }
+    ensures same_reference { editor.new.nodes.ghost_name ≡ editor.old.nodes.ghost_name }
     ensures leans { IsTrue result ↔ (stated (child (opposite side) (child side (position editor.old).here)) ≤ stated (child side (child side (position editor.old).here))) }
     ensures same_place { position editor.new ≡ position editor.old }
     ensures tree { tree_at editor.new ≡ tree_at editor.old }
@@ -144,7 +144,7 @@ fn leans_out<const MAX: usize>(editor: &mut Editor<'_, MAX>, side: Side) -> bool
 fn turn_outer<const MAX: usize>(editor: &mut Editor<'_, MAX>, side: Side)
     requires child { is_node (child side (position editor.old).here) ≡ true }
     requires tree { tree_at editor.old ≡ whole (position editor.old) }
-    ensures same_reference { editor.new.links.ghost_name ≡ editor.old.links.ghost_name }
+    ensures same_reference { editor.new.nodes.ghost_name ≡ editor.old.nodes.ghost_name }
     ensures turned { position editor.new ≡ with_tree (outer_turned side) (position editor.old) }
     ensures tree { tree_at editor.new ≡ whole (position editor.new) }
     ensures list { list (tree_at editor.new) ≡ list (tree_at editor.old) }
@@ -160,7 +160,7 @@ fn raise_inner<const MAX: usize>(editor: &mut Editor<'_, MAX>, side: Side)
     requires child { is_node (child side (position editor.old).here) ≡ true }
     requires inner { is_node (child (opposite side) (child side (position editor.old).here)) ≡ true }
     requires tree { tree_at editor.old ≡ whole (position editor.old) }
-    ensures same_reference { editor.new.links.ghost_name ≡ editor.old.links.ghost_name }
+    ensures same_reference { editor.new.nodes.ghost_name ≡ editor.old.nodes.ghost_name }
     ensures turned { position editor.new ≡ with_tree (inner_raised side) (position editor.old) }
     ensures tree { tree_at editor.new ≡ whole (position editor.new) }
     ensures list { list (tree_at editor.new) ≡ list (tree_at editor.old) }
@@ -176,7 +176,7 @@ fn restate_all<const MAX: usize>(editor: &mut Editor<'_, MAX>)
     requires left { has_left (position editor.old).here ≡ true }
     requires right { has_right (position editor.old).here ≡ true }
     requires tree { tree_at editor.old ≡ whole (position editor.old) }
-    ensures same_reference { editor.new.links.ghost_name ≡ editor.old.links.ghost_name }
+    ensures same_reference { editor.new.nodes.ghost_name ≡ editor.old.nodes.ghost_name }
     ensures height { position editor.new ≡ with_tree all_restated (position editor.old) }
     ensures tree { tree_at editor.new ≡ whole (position editor.new) }
     ensures list { list (tree_at editor.new) ≡ list (tree_at editor.old) }
@@ -192,7 +192,7 @@ fn turn_inner<const MAX: usize>(editor: &mut Editor<'_, MAX>, side: Side)
     requires child { is_node (child side (position editor.old).here) ≡ true }
     requires inner { is_node (child (opposite side) (child side (position editor.old).here)) ≡ true }
     requires tree { tree_at editor.old ≡ whole (position editor.old) }
-    ensures same_reference { editor.new.links.ghost_name ≡ editor.old.links.ghost_name }
+    ensures same_reference { editor.new.nodes.ghost_name ≡ editor.old.nodes.ghost_name }
     ensures turned { position editor.new ≡ with_tree (inner_turned side) (position editor.old) }
     ensures tree { tree_at editor.new ≡ whole (position editor.new) }
     ensures list { list (tree_at editor.new) ≡ list (tree_at editor.old) }
@@ -209,7 +209,7 @@ pub(crate) fn rotate<const MIN: usize, const MAX: usize>(editor: &mut Editor<'_,
     requires leans { Leans side MIN MAX (position editor.old).here }
     requires low { height (position editor.old).here < greatest_height }
     requires tree { tree_at editor.old ≡ whole (position editor.old) }
-    ensures same_reference { editor.new.links.ghost_name ≡ editor.old.links.ghost_name }
+    ensures same_reference { editor.new.nodes.ghost_name ≡ editor.old.nodes.ghost_name }
     ensures above { (position editor.new).above ≡ (position editor.old).above }
     ensures mended { IsMendedTo MIN MAX (position editor.old).here (position editor.new).here }
     ensures full { 2 ≤ MIN → IsGrowing MAX (position editor.old).here → IsGrown MAX (position editor.new).here }

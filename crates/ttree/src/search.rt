@@ -24,7 +24,7 @@ pub(crate) fn locate<P: Probe, const MAX: usize>(
     requires sound { P.is_sound probe.old }
     requires placed { All (P.can_place probe.old) (list (whole (position look.old))) }
     requires in_order { NeverFalls (λ r. taken seek (P.place probe.old r)) (list (whole (position look.old))) }
-    ensures links { look.new.links ≡ look.old.links }
+    ensures nodes { look.new.nodes ≡ look.old.nodes }
     ensures whole { whole (position look.new) ≡ whole (position look.old) }
     ensures hit { IfOk result (IsHitIn (λ r. taken seek (P.place probe.old r)) (items_of (position look.new).here)) }
     ensures gap { IfErr result (IsGap (λ r. taken seek (P.place probe.old r)) (position look.new)) }
@@ -52,7 +52,7 @@ pub(crate) fn locate_to_edit<P: Probe, const MAX: usize>(
     requires sound { P.is_sound probe.old }
     requires placed { All (P.can_place probe.old) (list (whole (edited editor.old))) }
     requires in_order { NeverFalls (P.place probe.old) (list (whole (edited editor.old))) }
-    ensures same_reference { editor.new.links.ghost_name ≡ editor.old.links.ghost_name }
+    ensures same_reference { editor.new.nodes.ghost_name ≡ editor.old.nodes.ghost_name }
     ensures node { is_node (edited editor.new).here ≡ true }
     ensures whole { whole (edited editor.new) ≡ whole (edited editor.old) }
     ensures tree { tree_at editor.new ≡ tree_at editor.old }

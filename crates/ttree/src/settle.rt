@@ -23,7 +23,7 @@ fn merge_child<const MIN: usize, const MAX: usize>(editor: &mut Editor<'_, MAX>,
     requires other { is_node (child (opposite side) (position editor.old).here) ≡ false }
     requires tree { tree_at editor.old ≡ whole (position editor.old) }
     requires short { length (list (tree_at editor.old)) ≤ 2 ^ 32 }
-    ensures same_reference { editor.new.links.ghost_name ≡ editor.old.links.ghost_name }
+    ensures same_reference { editor.new.nodes.ghost_name ≡ editor.old.nodes.ghost_name }
     ensures fit { IsTTree MIN MAX (tree_at editor.new) }
     ensures list { list (tree_at editor.new) ≡ list (tree_at editor.old) }
     ensures nodes { nodes_at editor.new ≡ nodes_at editor.old }
@@ -44,7 +44,7 @@ fn merge_half<const MIN: usize, const MAX: usize>(editor: &mut Editor<'_, MAX>)
     requires lost { HasLostBelow MIN MAX (position editor.old) }
     requires tree { tree_at editor.old ≡ whole (position editor.old) }
     requires short { length (list (tree_at editor.old)) ≤ 2 ^ 32 }
-    ensures same_reference { editor.new.links.ghost_name ≡ editor.old.links.ghost_name }
+    ensures same_reference { editor.new.nodes.ghost_name ≡ editor.old.nodes.ghost_name }
     ensures fit { IsTTree MIN MAX (tree_at editor.new) }
     ensures list { list (tree_at editor.new) ≡ list (tree_at editor.old) }
     ensures nodes { nodes_at editor.new ≡ nodes_at editor.old }
@@ -66,7 +66,7 @@ pub(crate) fn settle<const MIN: usize, const MAX: usize>(editor: &mut Editor<'_,
     requires internal { has_left (position editor.old).here ≡ true → has_right (position editor.old).here ≡ true → MIN ≤ length (items_of (position editor.old).here) }
     requires tree { tree_at editor.old ≡ whole (position editor.old) }
     requires short { length (list (tree_at editor.old)) ≤ 2 ^ 32 }
-    ensures same_reference { editor.new.links.ghost_name ≡ editor.old.links.ghost_name }
+    ensures same_reference { editor.new.nodes.ghost_name ≡ editor.old.nodes.ghost_name }
     ensures fit { IsTTree MIN MAX (tree_at editor.new) }
     ensures list { list (tree_at editor.new) ≡ list (tree_at editor.old) }
     ensures nodes { nodes_at editor.new ≡ nodes_at editor.old }
@@ -92,7 +92,7 @@ fn free_leaf<const MIN: usize, const MAX: usize>(editor: &mut Editor<'_, MAX>)
     requires no_items { length (items_of (position editor.old).here) ≡ 0 }
     requires tree { tree_at editor.old ≡ whole (position editor.old) }
     requires short { length (list (tree_at editor.old)) ≤ 2 ^ 32 }
-    ensures same_reference { editor.new.links.ghost_name ≡ editor.old.links.ghost_name }
+    ensures same_reference { editor.new.nodes.ghost_name ≡ editor.old.nodes.ghost_name }
     ensures fit { IsTTree MIN MAX (tree_at editor.new) }
     ensures list { list (tree_at editor.new) ≡ list (tree_at editor.old) }
     ensures nodes { nodes_at editor.new ≡ nodes_at editor.old }

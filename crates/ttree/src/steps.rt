@@ -21,7 +21,7 @@ pub(crate) fn other_side(side: Side) -> Side
 // Goes down to the child on that side.
 pub(crate) fn enter<const MAX: usize>(editor: &mut Editor<'_, MAX>, side: Side)
     requires child { is_node (child side (position editor.old).here) ≡ true }
-    ensures same_reference { editor.new.links.ghost_name ≡ editor.old.links.ghost_name }
+    ensures same_reference { editor.new.nodes.ghost_name ≡ editor.old.nodes.ghost_name }
     ensures moved { position editor.new ≡ on_side side (position editor.old) }
     ensures tree { tree_at editor.new ≡ tree_at editor.old }
     ensures spares { spares_at editor.new ≡ spares_at editor.old }
@@ -37,7 +37,7 @@ pub(crate) fn enter<const MAX: usize>(editor: &mut Editor<'_, MAX>, side: Side)
 pub(crate) fn raise<const MAX: usize>(editor: &mut Editor<'_, MAX>, side: Side)
     requires child { is_node (child side (position editor.old).here) ≡ true }
     requires tree { tree_at editor.old ≡ whole (position editor.old) }
-    ensures same_reference { editor.new.links.ghost_name ≡ editor.old.links.ghost_name }
+    ensures same_reference { editor.new.nodes.ghost_name ≡ editor.old.nodes.ghost_name }
     ensures turned { position editor.new ≡ with_tree (raised side) (position editor.old) }
     ensures tree { tree_at editor.new ≡ whole (position editor.new) }
     ensures list { list (tree_at editor.new) ≡ list (tree_at editor.old) }
@@ -54,7 +54,7 @@ pub(crate) fn raise<const MAX: usize>(editor: &mut Editor<'_, MAX>, side: Side)
 pub(crate) fn restate<const MAX: usize>(editor: &mut Editor<'_, MAX>)
     requires node { is_node (position editor.old).here ≡ true }
     requires tree { tree_at editor.old ≡ whole (position editor.old) }
-    ensures same_reference { editor.new.links.ghost_name ≡ editor.old.links.ghost_name }
+    ensures same_reference { editor.new.nodes.ghost_name ≡ editor.old.nodes.ghost_name }
     ensures height { position editor.new ≡ with_tree restated (position editor.old) }
     ensures tree { tree_at editor.new ≡ whole (position editor.new) }
     ensures list { list (tree_at editor.new) ≡ list (tree_at editor.old) }
@@ -67,7 +67,7 @@ pub(crate) fn restate<const MAX: usize>(editor: &mut Editor<'_, MAX>)
 pub(crate) fn restate_child<const MAX: usize>(editor: &mut Editor<'_, MAX>, side: Side)
     requires child { is_node (child side (position editor.old).here) ≡ true }
     requires tree { tree_at editor.old ≡ whole (position editor.old) }
-    ensures same_reference { editor.new.links.ghost_name ≡ editor.old.links.ghost_name }
+    ensures same_reference { editor.new.nodes.ghost_name ≡ editor.old.nodes.ghost_name }
     ensures height { position editor.new ≡ with_tree (restated_child side) (position editor.old) }
     ensures tree { tree_at editor.new ≡ whole (position editor.new) }
     ensures list { list (tree_at editor.new) ≡ list (tree_at editor.old) }
@@ -82,7 +82,7 @@ pub(crate) fn restate_child<const MAX: usize>(editor: &mut Editor<'_, MAX>, side
 pub(crate) fn child_len<const MAX: usize>(editor: &mut Editor<'_, MAX>, side: Side) -> usize
     requires child { is_node (child side (position editor.old).here) ≡ true }
     requires tree { tree_at editor.old ≡ whole (position editor.old) }
-    ensures same_reference { editor.new.links.ghost_name ≡ editor.old.links.ghost_name }
+    ensures same_reference { editor.new.nodes.ghost_name ≡ editor.old.nodes.ghost_name }
     ensures len { result ≡ length (items_of (child side (position editor.old).here)) }
     ensures same_place { position editor.new ≡ position editor.old }
     ensures tree { tree_at editor.new ≡ tree_at editor.old }
@@ -101,7 +101,7 @@ pub(crate) fn fill<const MAX: usize>(editor: &mut Editor<'_, MAX>, side: Side, w
     requires some { 0 < length (items_of (giver way side (position editor.old).here)) }
     requires room { length (items_of (taker way side (position editor.old).here)) ≤ MAX }
     requires tree { tree_at editor.old ≡ whole (position editor.old) }
-    ensures same_reference { editor.new.links.ghost_name ≡ editor.old.links.ghost_name }
+    ensures same_reference { editor.new.nodes.ghost_name ≡ editor.old.nodes.ghost_name }
     ensures filled { position editor.new ≡ with_tree (filled MAX side way) (position editor.old) }
     ensures tree { tree_at editor.new ≡ whole (position editor.new) }
     ensures list { list (tree_at editor.new) ≡ list (tree_at editor.old) }

@@ -28,10 +28,12 @@ pub struct TTree<const MIN: usize, const MAX: usize> {
 }
 
 impl<const MIN: usize, const MAX: usize> Model for TTree<MIN, MAX> {
+    ghost use Rattle.ttree_node.specs.TreeWithSpares.{TreeWithSpares, tree_with_spares_code};
     ghost use Rattle.ttree.specs.Held.{IsSound};
-    ghost use Rattle.ttree_node.specs.declared.parts.Parts.{Parts};
 
-    ghost Value = { Parts MAX };
+    ghost Value = { TreeWithSpares };
+
+    ghost coded = { tree_with_spares_code };
 
     ghost view = { λ t. t.links };
 
@@ -43,7 +45,6 @@ impl<const MIN: usize, const MAX: usize> TTree<MIN, MAX> {
     ghost use Rattle.ttree_node.specs.Look.{position};
     ghost use Rattle.ttree_node.specs.Walk.{rest_of};
     ghost use Rattle.ttree.specs.Searching.{taken, IsAskedAtMost, IsHitIn, IsGap};
-    ghost use Rattle.ttree_node.specs.Seen.{tree_of, spares_of};
     ghost use Rattle.ttree.specs.Held.{items_of_tree};
     ghost use Rattle.ttree.specs.Room.{nodes_of, room_of, nodes_for};
     ghost use Rattle.ttree.specs.Shape.{IsBalanced, HasTrueHeights, HasItemsInEach, IsOccupiedThroughout, ParentsAreFull, fib, binary_digits};
@@ -53,8 +54,8 @@ impl<const MIN: usize, const MAX: usize> TTree<MIN, MAX> {
         requires some { 1 ≤ MIN }
         requires ordered { MIN ≤ MAX }
         requires two { 2 ≤ MAX }
-        ensures tree { tree_of result ≡ empty }
-        ensures spares { spares_of result ≡ 0 }
+        ensures tree { result.tree ≡ empty }
+        ensures spares { result.spares ≡ 0 }
         ensures room { room_of MIN result ≡ 0 }
     {
         TTree {
@@ -75,8 +76,8 @@ impl<const MIN: usize, const MAX: usize> TTree<MIN, MAX> {
         ensures probe { IsOnlyAsked P.is_sound P.can_place P.place P.asked probe.old probe.new }
         ensures asks { 0 < length (items_of_tree self.now) → counted (P.asked probe.old) ≤ P.asked probe.new }
         // Each level asks at most twice, and the last one once more for each binary digit of the number of its items.
-        ensures most_asked { P.asked probe.new ≤ P.asked probe.old + (2 * height (tree_of self.now) + binary_digits MAX) }
-        ensures bound { fib (height (tree_of self.now) + 2) ≤ 1 + length (items_of_tree self.now) }
+        ensures most_asked { P.asked probe.new ≤ P.asked probe.old + (2 * height self.now.tree + binary_digits MAX) }
+        ensures bound { fib (height self.now.tree + 2) ≤ 1 + length (items_of_tree self.now) }
     {
         let (look, found) = self.search(probe, Seek::Any);
         match found {
@@ -94,8 +95,8 @@ impl<const MIN: usize, const MAX: usize> TTree<MIN, MAX> {
         ensures err { OnErr result (out.new.items ≡ out.old.items) }
         ensures probe { IsOnlyAsked P.is_sound P.can_place P.place P.asked probe.old probe.new }
         // Beyond the search it asks once for each reference that it appends, and once more.
-        ensures most_asked { OnOk result (P.asked probe.new ≤ P.asked probe.old + (2 * height (tree_of self.now) + binary_digits MAX) + length (in_range (P.place probe.old) (items_of_tree self.now)) + 1) }
-        ensures bound { fib (height (tree_of self.now) + 2) ≤ 1 + length (items_of_tree self.now) }
+        ensures most_asked { OnOk result (P.asked probe.new ≤ P.asked probe.old + (2 * height self.now.tree + binary_digits MAX) + length (in_range (P.place probe.old) (items_of_tree self.now)) + 1) }
+        ensures bound { fib (height self.now.tree + 2) ≤ 1 + length (items_of_tree self.now) }
     {
         let before = out.len();
         for r in self.walk_from(probe) {
@@ -132,8 +133,8 @@ impl<const MIN: usize, const MAX: usize> TTree<MIN, MAX> {
         ensures rest { rest_of result ≡ from_range (P.place probe.old) (items_of_tree self.now) }
         ensures probe { IsOnlyAsked P.is_sound P.can_place P.place P.asked probe.old probe.new }
         ensures asks { 0 < length (items_of_tree self.now) → counted (P.asked probe.old) ≤ P.asked probe.new }
-        ensures most_asked { P.asked probe.new ≤ P.asked probe.old + (2 * height (tree_of self.now) + binary_digits MAX) }
-        ensures bound { fib (height (tree_of self.now) + 2) ≤ 1 + length (items_of_tree self.now) }
+        ensures most_asked { P.asked probe.new ≤ P.asked probe.old + (2 * height self.now.tree + binary_digits MAX) }
+        ensures bound { fib (height self.now.tree + 2) ≤ 1 + length (items_of_tree self.now) }
     {
         let (look, found) = self.search(probe, Seek::First);
         match found {
@@ -148,12 +149,12 @@ impl<const MIN: usize, const MAX: usize> TTree<MIN, MAX> {
         requires sound { P.is_sound probe.old }
         requires placed { All (P.can_place probe.old) (items_of_tree self.now) }
         requires in_order { NeverFalls (P.place probe.old) (items_of_tree self.now) }
-        ensures whole { whole (position result.0) ≡ tree_of self.now }
+        ensures whole { whole (position result.0) ≡ self.now.tree }
         ensures hit { IfOk result.1 (IsHitIn (λ r. taken seek (P.place probe.old r)) (items_of (position result.0).here)) }
         ensures gap { IfErr result.1 (IsGap (λ r. taken seek (P.place probe.old r)) (position result.0)) }
-        ensures probe { IsAskedAtMost (2 * height (tree_of self.now) + binary_digits MAX) P.is_sound P.can_place P.place P.asked probe.old probe.new }
+        ensures probe { IsAskedAtMost (2 * height self.now.tree + binary_digits MAX) P.is_sound P.can_place P.place P.asked probe.old probe.new }
         ensures asks { 0 < length (items_of_tree self.now) → counted (P.asked probe.old) ≤ P.asked probe.new }
-        ensures bound { fib (height (tree_of self.now) + 2) ≤ 1 + length (items_of_tree self.now) }
+        ensures bound { fib (height self.now.tree + 2) ≤ 1 + length (items_of_tree self.now) }
     {
         let mut look = self.links.look();
         if !look.has_node() {
@@ -165,16 +166,16 @@ impl<const MIN: usize, const MAX: usize> TTree<MIN, MAX> {
 
     /// The height of the tree: 0 where it is empty, 1 for a leaf, and one more than the higher child's for another node.
     pub fn height(&self) -> usize
-        ensures height { result ≡ height (tree_of self.now) }
+        ensures height { result ≡ height self.now.tree }
         // The children's heights differ by at most one at each node, and the stated heights are true.
-        ensures balanced { IsBalanced (tree_of self.now) }
-        ensures true_heights { HasTrueHeights (tree_of self.now) }
-        ensures no_empty_node { HasItemsInEach MAX (tree_of self.now) }
+        ensures balanced { IsBalanced self.now.tree }
+        ensures true_heights { HasTrueHeights self.now.tree }
+        ensures no_empty_node { HasItemsInEach MAX self.now.tree }
         // A node with two children holds at least `MIN`, and one with a leaf alone at least one more together with it.
-        ensures occupied { IsOccupiedThroughout MIN (tree_of self.now) }
+        ensures occupied { IsOccupiedThroughout MIN self.now.tree }
         // So the nodes are at most these, and the height is at most logarithmic.
-        ensures few_nodes { MIN * size (tree_of self.now) ≤ 2 * length (items_of_tree self.now) + MIN }
-        ensures bound { fib (height (tree_of self.now) + 2) ≤ 1 + length (items_of_tree self.now) }
+        ensures few_nodes { MIN * size self.now.tree ≤ 2 * length (items_of_tree self.now) + MIN }
+        ensures bound { fib (height self.now.tree + 2) ≤ 1 + length (items_of_tree self.now) }
     {
         let root = self.links.look();
         if !root.has_node() {
@@ -187,14 +188,14 @@ impl<const MIN: usize, const MAX: usize> TTree<MIN, MAX> {
     /// Makes sure of memory for `n` inserts, until `release_spares`. After an `Err` nothing has changed.
     pub fn reserve(&mut self, n: usize) -> Result<(), NoMemory>
         requires { n ≤ 2 ^ 32 }
-        ensures tree { tree_of self.new ≡ tree_of self.old }
+        ensures tree { self.new.tree ≡ self.old.tree }
         ensures items { items_of_tree self.new ≡ items_of_tree self.old }
         ensures reserved { OnOk result (n ≤ room_of MIN self.new) }
         ensures room { room_of MIN self.old ≤ room_of MIN self.new }
         // It makes no spare nodes beyond a spare one for each insert, and none beyond the nodes that suffice for all references.
-        ensures spares { spares_of self.new ≤ max (spares_of self.old) n }
+        ensures spares { self.new.spares ≤ max self.old.spares n }
         ensures nodes { nodes_of self.new ≤ max (nodes_of self.old) (nodes_for MIN (length (items_of_tree self.old) + n)) }
-        ensures err { OnErr result (spares_of self.new ≡ spares_of self.old) }
+        ensures err { OnErr result (self.new ≡ self.old) }
     {
         let spares = self.links.spares();
         let enough = 1 + (2 * (self.len + n)).div_ceil(MIN);
@@ -225,10 +226,10 @@ impl<const MIN: usize, const MAX: usize> TTree<MIN, MAX> {
         ensures rising { IsRising (O.cmp order.now) (items_of_tree self.new) }
         // A node that this adds was a spare one, and it adds one at most.
         ensures nodes { nodes_of self.new ≡ nodes_of self.old }
-        ensures spares { spares_of self.old ≤ spares_of self.new + 1 }
+        ensures spares { self.old.spares ≤ self.new.spares + 1 }
         ensures room { room_of MIN self.old ≤ room_of MIN self.new + 1 }
         // Where each node that has a child is full, it stays so: hence it is so after inserts alone into a new tree.
-        ensures full { 2 ≤ MIN → ParentsAreFull MAX (tree_of self.old) → ParentsAreFull MAX (tree_of self.new) }
+        ensures full { 2 ≤ MIN → ParentsAreFull MAX self.old.tree → ParentsAreFull MAX self.new.tree }
     {
         let found = self.insert_unless_found(&mut OrderProbe::new(order, r), r);
         prove!(found.is_none());
@@ -244,23 +245,22 @@ impl<const MIN: usize, const MAX: usize> TTree<MIN, MAX> {
         requires in_order { NeverFalls (P.place probe.old) (items_of_tree self.old) }
         ensures held { IfSome result (Contains (items_of_tree self.old)) }
         ensures found { IfSome result (λ q. P.place probe.old q ≡ Ordering.Equal) }
-        ensures kept { IfSome result (λ _. tree_of self.new ≡ tree_of self.old) }
-        ensures kept_spares { IfSome result (λ _. spares_of self.new ≡ spares_of self.old) }
+        ensures kept { IfSome result (λ _. self.new ≡ self.old) }
         ensures none { IfNone result (All (λ q. P.place probe.old q ≢ Ordering.Equal) (items_of_tree self.old)) }
         ensures inserted { IfNone result (items_of_tree self.new ≡ insert_placed (P.place probe.old) r (items_of_tree self.old)) }
         ensures one { IfNone result (length (items_of_tree self.new) ≡ length (items_of_tree self.old) + 1) }
         // A node that this adds was a spare one, and it adds one at most.
         ensures nodes { nodes_of self.new ≡ nodes_of self.old }
-        ensures spares { spares_of self.old ≤ spares_of self.new + 1 }
+        ensures spares { self.old.spares ≤ self.new.spares + 1 }
         ensures room { room_of MIN self.old ≤ room_of MIN self.new + 1 }
         // Where each node that has a child is full, it stays so.
-        ensures full { 2 ≤ MIN → ParentsAreFull MAX (tree_of self.old) → ParentsAreFull MAX (tree_of self.new) }
+        ensures full { 2 ≤ MIN → ParentsAreFull MAX self.old.tree → ParentsAreFull MAX self.new.tree }
         ensures probe { IsOnlyAsked P.is_sound P.can_place P.place P.asked probe.old probe.new }
         ensures asks { 0 < length (items_of_tree self.old) → counted (P.asked probe.old) ≤ P.asked probe.new }
-        ensures most_asked { P.asked probe.new ≤ P.asked probe.old + (2 * height (tree_of self.old) + binary_digits MAX) }
-        ensures bound { fib (height (tree_of self.old) + 2) ≤ 1 + length (items_of_tree self.old) }
+        ensures most_asked { P.asked probe.new ≤ P.asked probe.old + (2 * height self.old.tree + binary_digits MAX) }
+        ensures bound { fib (height self.old.tree + 2) ≤ 1 + length (items_of_tree self.old) }
     {
-        let found = insert_unless_found::<P, MIN, MAX>(&mut self.links.edit(), probe, r);
+        let found = insert_unless_found::<P, MIN, MAX>(self.links.nodes_mut(), probe, r);
         if found.is_none() {
             self.len += 1;
         }
@@ -279,10 +279,10 @@ impl<const MIN: usize, const MAX: usize> TTree<MIN, MAX> {
         ensures items { items_of_tree self.new ≡ remove_by (O.cmp order.now) r (items_of_tree self.old) }
         ensures rising { IsRising (O.cmp order.now) (items_of_tree self.new) }
         ensures nodes { nodes_of self.new ≡ nodes_of self.old }
-        ensures spares { spares_of self.old ≤ spares_of self.new }
+        ensures spares { self.old.spares ≤ self.new.spares }
         ensures room { room_of MIN self.old ≤ room_of MIN self.new }
     {
-        remove::<O, MIN, MAX>(&mut self.links.edit(), order, r);
+        remove::<O, MIN, MAX>(self.links.nodes_mut(), order, r);
         self.len -= 1;
     }
 
@@ -295,8 +295,8 @@ impl<const MIN: usize, const MAX: usize> TTree<MIN, MAX> {
 
     /// Gives back the memory that was reserved and not used. Takes no memory.
     pub fn release_spares(&mut self)
-        ensures tree { tree_of self.new ≡ tree_of self.old }
-        ensures spares { spares_of self.new ≡ 0 }
+        ensures tree { self.new.tree ≡ self.old.tree }
+        ensures spares { self.new.spares ≡ 0 }
         ensures room { room_of MIN self.new ≡ 0 }
     {
         self.nodes -= self.links.spares();

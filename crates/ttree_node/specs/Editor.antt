@@ -6,11 +6,11 @@ use Rattle.ttree_node.specs.Seen.{tree_of, position_at, spares_of}
 use Rattle.ttree_node.specs.declared.editor.Editor.{Editor}
 
 abbrev pub position : {MAX : ℕ} → Editor MAX → Zipper (Label TupleRef)
-position e = position_at e.links.now e.at
+position e = position_at e.nodes.now e.at
 
 abbrev pub spares_at : {MAX : ℕ} → Editor MAX → ℕ
-spares_at e = spares_of e.links.now
+spares_at e = spares_of e.nodes.now
 
 -- the tree that the `Links` has, should the editor end here
 abbrev pub tree_at : {MAX : ℕ} → Editor MAX → Tree (Label TupleRef)
-tree_at e = tree_of e.links.now
+tree_at e = tree_of e.nodes.now

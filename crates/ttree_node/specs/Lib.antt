@@ -3,8 +3,11 @@ pub mod Held
 pub mod Laws
 pub mod Lends
 pub mod Linked
+pub mod LinksLends
 pub mod Look
 pub mod Order
 pub mod Seen
 pub mod Tree
+pub mod TreeCode
+pub mod TreeWithSpares
 pub mod Walk

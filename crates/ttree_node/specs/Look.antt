@@ -6,4 +6,4 @@ use Rattle.ttree_node.specs.Seen.{position_at}
 use Rattle.ttree_node.specs.declared.look.Look.{Look}
 
 abbrev pub position : {MAX : ℕ} → Look MAX → Zipper (Label TupleRef)
-position l = position_at l.links.now l.at
+position l = position_at l.nodes.now l.at

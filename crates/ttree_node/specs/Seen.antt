@@ -9,14 +9,19 @@ use Rattle.ttree_node.specs.declared.node.Way.TheVariants.{Up, Down}
 use Rattle.ttree_node.specs.Linked.{located, zipper_at}
 use Rattle.ttree_node.specs.declared.nodes.Place.{Place}
 use Rattle.ttree_node.specs.declared.parts.Parts.{Parts}
+use Rattle.ttree_node.specs.TreeWithSpares.{TreeWithSpares}
 
--- the tree of a `Links`
+-- the tree that nodes are linked to
 abbrev pub tree_of : {MAX : ℕ} → Parts MAX → Tree (Label TupleRef)
 tree_of p = relabel (λ x. x.label) (located p)
 
 -- the number of its spare nodes
 abbrev pub spares_of : {MAX : ℕ} → Parts MAX → ℕ
 spares_of p = p.spares
+
+-- both, without the places at which they lie
+abbrev pub shown : {MAX : ℕ} → Parts MAX → TreeWithSpares
+shown p = record { tree = tree_of p; spares = spares_of p }
 
 -- the place in the tree at which a node lies
 abbrev pub position_at : {MAX : ℕ} → Parts MAX → Option Place → Zipper (Label TupleRef)

@@ -2,34 +2,34 @@
 ghost use Rattle.std.specs.Prelude.{◌≡◌, []};
 
 use crate::editor::Editor;
-use crate::links::Links;
+use crate::linked_nodes::LinkedNodes;
 use crate::look::Look;
 
-impl<const MAX: usize> Links<MAX> {
+impl<const MAX: usize> LinkedNodes<MAX> {
     ghost use Rattle.ttree_node.specs.Tree.{at};
     ghost use Rattle.ttree_node.specs.Seen.{tree_of, spares_of};
     ghost use Rattle.ttree_node.specs.Look.{position};
     ghost use Rattle.ttree_node.specs.Editor.{position as edited, tree_at, spares_at};
 
-    /// The root of the tree, to be read.
-    pub fn look(&self) -> Look<'_, MAX>
-        ensures links { result.links.now ≡ self.now }
+    // The root of the tree, to be read.
+    pub(crate) fn look(&self) -> Look<'_, MAX>
+        ensures nodes { result.nodes.now ≡ self.now }
         ensures root { position result ≡ at [] (tree_of self.now) }
     {
         Look {
-            links: self,
+            nodes: self,
             at: self.root(),
         }
     }
 
     /// The root of the tree, to be edited.
     pub fn edit(&mut self) -> Editor<'_, MAX>
-        ensures same_reference { result.links.ghost_name ≡ self.entry.ghost_name }
+        ensures same_reference { result.nodes.ghost_name ≡ self.entry.ghost_name }
         ensures tree { tree_at result ≡ tree_of self.old }
         ensures root { edited result ≡ at [] (tree_of self.old) }
         ensures spares { spares_at result ≡ spares_of self.old }
     {
         let at = self.root();
-        Editor { links: self, at }
+        Editor { nodes: self, at }
     }
 }

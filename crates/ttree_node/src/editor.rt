@@ -2,17 +2,17 @@
 ghost use Rattle.std.specs.Prelude.{◌≡◌, ◌+◌, ◌<◌, ◌≤◌, true, false, [], length, insert, remove, slice_index_or};
 ghost use Rattle.ttree_node.specs.Linked.{located, IsPlaceIn};
 
-use crate::links::Links;
+use crate::linked_nodes::LinkedNodes;
 use crate::node::{Side, Way};
 use crate::nodes::Place;
 use part_raw::TupleRef;
 
-/// A place in the tree of a `Links`: a node, or nothing where the tree is empty. No call takes memory.
+/// A place in a tree that is edited: a node, or nothing where the tree is empty. No call takes memory.
 #[derive(Drop)]
 pub struct Editor<'a, const MAX: usize> {
-    pub(crate) links: &'a mut Links<MAX>,
+    pub(crate) nodes: &'a mut LinkedNodes<MAX>,
     pub(crate) at: Option<Place>,
-    ghost placed: { IsPlaceIn (located links.now) at },
+    ghost placed: { IsPlaceIn (located nodes.now) at },
 }
 
 impl<'a, const MAX: usize> Editor<'a, MAX> {
@@ -24,49 +24,49 @@ impl<'a, const MAX: usize> Editor<'a, MAX> {
     pub fn has_node(&self) -> bool
         ensures { result ≡ is_node (position self.now).here }
     {
-        self.links.is_node(self.at)
+        self.nodes.is_node(self.at)
     }
 
     /// The number of spare nodes.
     pub fn spares(&self) -> usize
         ensures { result ≡ spares_at self.now }
     {
-        self.links.spares()
+        self.nodes.spares()
     }
 
     /// Whether this is the root, or the tree is empty.
     pub fn at_root(&self) -> bool
         ensures { result ≡ is_root (position self.now).above }
     {
-        self.links.is_root(self.at)
+        self.nodes.is_root(self.at)
     }
 
     /// Whether the node has a left child.
     pub fn has_left(&self) -> bool
         ensures { result ≡ has_left (position self.now).here }
     {
-        self.links.has_left(self.at)
+        self.nodes.has_left(self.at)
     }
 
     /// Whether the node has a right child.
     pub fn has_right(&self) -> bool
         ensures { result ≡ has_right (position self.now).here }
     {
-        self.links.has_right(self.at)
+        self.nodes.has_right(self.at)
     }
 
     /// The items of the node.
     pub fn items(&self) -> &[TupleRef]
         ensures { result.now ≡ items_of (position self.now).here }
     {
-        self.links.items(self.at)
+        self.nodes.items(self.at)
     }
 
     /// The stated height of the node, 0 where no node is.
     pub fn height(&self) -> u32
         ensures { result ≡ stated (position self.now).here }
     {
-        self.links.height_at(self.at)
+        self.nodes.height_at(self.at)
     }
 
     /// The stated heights of the left and of the right child, 0 for none.
@@ -74,50 +74,50 @@ impl<'a, const MAX: usize> Editor<'a, MAX> {
         ensures left { result.0 ≡ stated (left_of (position self.now).here) }
         ensures right { result.1 ≡ stated (right_of (position self.now).here) }
     {
-        self.links.heights(self.at)
+        self.nodes.heights(self.at)
     }
 
     /// Goes to the root.
     pub fn to_root(&mut self)
-        ensures same_reference { self.new.links.ghost_name ≡ self.old.links.ghost_name }
+        ensures same_reference { self.new.nodes.ghost_name ≡ self.old.nodes.ghost_name }
         ensures moved { position self.new ≡ to_root (position self.old) }
         ensures tree { tree_at self.new ≡ tree_at self.old }
         ensures spares { spares_at self.new ≡ spares_at self.old }
     {
-        self.at = self.links.root();
+        self.at = self.nodes.root();
     }
 
     /// Goes to the left child.
     pub fn down_left(&mut self)
         requires { has_left (position self.old).here ≡ true }
-        ensures same_reference { self.new.links.ghost_name ≡ self.old.links.ghost_name }
+        ensures same_reference { self.new.nodes.ghost_name ≡ self.old.nodes.ghost_name }
         ensures moved { position self.new ≡ down_left (position self.old) }
         ensures tree { tree_at self.new ≡ tree_at self.old }
         ensures spares { spares_at self.new ≡ spares_at self.old }
     {
-        self.at = self.links.left_of(self.at);
+        self.at = self.nodes.left_of(self.at);
     }
 
     /// Goes to the right child.
     pub fn down_right(&mut self)
         requires { has_right (position self.old).here ≡ true }
-        ensures same_reference { self.new.links.ghost_name ≡ self.old.links.ghost_name }
+        ensures same_reference { self.new.nodes.ghost_name ≡ self.old.nodes.ghost_name }
         ensures moved { position self.new ≡ down_right (position self.old) }
         ensures tree { tree_at self.new ≡ tree_at self.old }
         ensures spares { spares_at self.new ≡ spares_at self.old }
     {
-        self.at = self.links.right_of(self.at);
+        self.at = self.nodes.right_of(self.at);
     }
 
     /// Goes to the parent.
     pub fn up(&mut self)
         requires { is_root (position self.old).above ≡ false }
-        ensures same_reference { self.new.links.ghost_name ≡ self.old.links.ghost_name }
+        ensures same_reference { self.new.nodes.ghost_name ≡ self.old.nodes.ghost_name }
         ensures moved { position self.new ≡ up (position self.old) }
         ensures tree { tree_at self.new ≡ tree_at self.old }
         ensures spares { spares_at self.new ≡ spares_at self.old }
     {
-        self.at = self.links.parent_of(self.at);
+        self.at = self.nodes.parent_of(self.at);
     }
 
     /// Puts the item in before the one at `index`, or at the end.
@@ -125,35 +125,35 @@ impl<'a, const MAX: usize> Editor<'a, MAX> {
         requires node { is_node (position self.old).here ≡ true }
         requires index { index ≤ length (items_of (position self.old).here) }
         requires room { length (items_of (position self.old).here) < MAX }
-        ensures same_reference { self.new.links.ghost_name ≡ self.old.links.ghost_name }
+        ensures same_reference { self.new.nodes.ghost_name ≡ self.old.nodes.ghost_name }
         ensures items { position self.new ≡ with_items (insert (items_of (position self.old).here) index item) (position self.old) }
         ensures tree { tree_at self.new ≡ whole (position self.new) }
         ensures spares { spares_at self.new ≡ spares_at self.old }
     {
-        self.links.put(self.at, index, item);
+        self.nodes.put(self.at, index, item);
     }
 
     /// Takes out the item at `index`.
     pub fn cut(&mut self, index: usize) -> TupleRef
         requires { index < length (items_of (position self.old).here) }
-        ensures same_reference { self.new.links.ghost_name ≡ self.old.links.ghost_name }
+        ensures same_reference { self.new.nodes.ghost_name ≡ self.old.nodes.ghost_name }
         ensures item { result ≡ slice_index_or (items_of (position self.old).here) index result }
         ensures items { position self.new ≡ with_items (remove (items_of (position self.old).here) index) (position self.old) }
         ensures tree { tree_at self.new ≡ whole (position self.new) }
         ensures spares { spares_at self.new ≡ spares_at self.old }
     {
-        self.links.cut(self.at, index)
+        self.nodes.cut(self.at, index)
     }
 
     /// States the node's height anew, from the stated heights of its children. It stops at the greatest `u32`.
     pub fn reheight(&mut self)
         requires { is_node (position self.old).here ≡ true }
-        ensures same_reference { self.new.links.ghost_name ≡ self.old.links.ghost_name }
+        ensures same_reference { self.new.nodes.ghost_name ≡ self.old.nodes.ghost_name }
         ensures height { position self.new ≡ with_height (height_over (position self.old).here) (position self.old) }
         ensures tree { tree_at self.new ≡ whole (position self.new) }
         ensures spares { spares_at self.new ≡ spares_at self.old }
     {
-        self.links.reheight(self.at);
+        self.nodes.reheight(self.at);
     }
 
     /// Makes a spare node a leaf of height 1 with one item, on that side of the node, or as the root where the tree is empty. The editor then stands at the leaf.
@@ -162,24 +162,24 @@ impl<'a, const MAX: usize> Editor<'a, MAX> {
         requires open { is_node (child side (position self.old).here) ≡ false }
         requires spare { 0 < spares_at self.old }
         requires room { 0 < MAX }
-        ensures same_reference { self.new.links.ghost_name ≡ self.old.links.ghost_name }
+        ensures same_reference { self.new.nodes.ghost_name ≡ self.old.nodes.ghost_name }
         ensures leaf { position self.new ≡ with_leaf item (on_side side (position self.old)) }
         ensures tree { tree_at self.new ≡ whole (position self.new) }
         ensures spares { spares_at self.new + 1 ≡ spares_at self.old }
     {
-        self.at = self.links.new_leaf(self.at, side, item);
+        self.at = self.nodes.new_leaf(self.at, side, item);
     }
 
     /// Makes an empty leaf a spare node. The editor then stands at its parent, or nowhere if it was the root.
     pub fn drop_leaf(&mut self)
         requires leaf { is_leaf (position self.old).here }
         requires no_items { length (items_of (position self.old).here) ≡ 0 }
-        ensures same_reference { self.new.links.ghost_name ≡ self.old.links.ghost_name }
+        ensures same_reference { self.new.nodes.ghost_name ≡ self.old.nodes.ghost_name }
         ensures gone { position self.new ≡ without_leaf (position self.old) }
         ensures tree { tree_at self.new ≡ whole (position self.new) }
         ensures spares { spares_at self.new ≡ spares_at self.old + 1 }
     {
-        self.at = self.links.drop_leaf(self.at);
+        self.at = self.nodes.drop_leaf(self.at);
     }
 
     /// Moves `count` items, nearest first, between the node and its child on that side, up to the node or down to the child.
@@ -188,13 +188,13 @@ impl<'a, const MAX: usize> Editor<'a, MAX> {
         requires open { is_node (child (opposite side) (child side (position self.old).here)) ≡ false }
         requires items { count ≤ length (items_of (giver way side (position self.old).here)) }
         requires room { length (items_of (taker way side (position self.old).here)) + count ≤ MAX }
-        ensures same_reference { self.new.links.ghost_name ≡ self.old.links.ghost_name }
+        ensures same_reference { self.new.nodes.ghost_name ≡ self.old.nodes.ghost_name }
         ensures slid { position self.new ≡ with_tree (slid side way count) (position self.old) }
         ensures list { list (tree_at self.new) ≡ list (whole (position self.old)) }
         ensures tree { tree_at self.new ≡ whole (position self.new) }
         ensures spares { spares_at self.new ≡ spares_at self.old }
     {
-        self.at = self.links.slide(self.at, side, way, count);
+        self.at = self.nodes.slide(self.at, side, way, count);
     }
 
     /// Gives the node all items of its one child, a leaf, which becomes a spare node.
@@ -202,36 +202,36 @@ impl<'a, const MAX: usize> Editor<'a, MAX> {
         requires leaf { is_leaf (child side (position self.old).here) }
         requires other { is_node (child (opposite side) (position self.old).here) ≡ false }
         requires room { length (items_of (position self.old).here) + length (items_of (child side (position self.old).here)) ≤ MAX }
-        ensures same_reference { self.new.links.ghost_name ≡ self.old.links.ghost_name }
+        ensures same_reference { self.new.nodes.ghost_name ≡ self.old.nodes.ghost_name }
         ensures merged { position self.new ≡ with_tree (merged side) (position self.old) }
         ensures list { list (tree_at self.new) ≡ list (whole (position self.old)) }
         ensures tree { tree_at self.new ≡ whole (position self.new) }
         ensures spares { spares_at self.new ≡ spares_at self.old + 1 }
     {
-        self.at = self.links.merge(self.at, side);
+        self.at = self.nodes.merge(self.at, side);
     }
 
     /// The right child takes the node's place, and the node becomes its left child.
     pub fn rotate_left(&mut self)
         requires { has_right (position self.old).here ≡ true }
-        ensures same_reference { self.new.links.ghost_name ≡ self.old.links.ghost_name }
+        ensures same_reference { self.new.nodes.ghost_name ≡ self.old.nodes.ghost_name }
         ensures turned { position self.new ≡ with_tree rotated_left (position self.old) }
         ensures list { list (tree_at self.new) ≡ list (whole (position self.old)) }
         ensures tree { tree_at self.new ≡ whole (position self.new) }
         ensures spares { spares_at self.new ≡ spares_at self.old }
     {
-        self.at = self.links.rotate_left(self.at);
+        self.at = self.nodes.rotate_left(self.at);
     }
 
     /// The left child takes the node's place, and the node becomes its right child.
     pub fn rotate_right(&mut self)
         requires { has_left (position self.old).here ≡ true }
-        ensures same_reference { self.new.links.ghost_name ≡ self.old.links.ghost_name }
+        ensures same_reference { self.new.nodes.ghost_name ≡ self.old.nodes.ghost_name }
         ensures turned { position self.new ≡ with_tree rotated_right (position self.old) }
         ensures list { list (tree_at self.new) ≡ list (whole (position self.old)) }
         ensures tree { tree_at self.new ≡ whole (position self.new) }
         ensures spares { spares_at self.new ≡ spares_at self.old }
     {
-        self.at = self.links.rotate_right(self.at);
+        self.at = self.nodes.rotate_right(self.at);
     }
 }

@@ -1,11 +1,11 @@
 //! Edits of one node.
 ghost use Rattle.std.specs.Prelude.{◌≡◌, ◌<◌, ◌≤◌, true, length, insert, remove, slice_index_or};
 
-use crate::links::Links;
+use crate::linked_nodes::LinkedNodes;
 use crate::nodes::Place;
 use part_raw::TupleRef;
 
-impl<const MAX: usize> Links<MAX> {
+impl<const MAX: usize> LinkedNodes<MAX> {
     ghost use Rattle.ttree_node.specs.Tree.{whole, is_node, items_of, with_items, with_height, height_over};
     ghost use Rattle.ttree_node.specs.Linked.{located, IsPlaceIn};
     ghost use Rattle.ttree_node.specs.Seen.{tree_of, position_at, spares_of};

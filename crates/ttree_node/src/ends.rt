@@ -1,9 +1,9 @@
 //! The end of a tree: each node becomes a spare one.
 ghost use Rattle.std.specs.Prelude.{◌≡◌};
 
-use crate::links::Links;
+use crate::linked_nodes::LinkedNodes;
 
-impl<const MAX: usize> Links<MAX> {
+impl<const MAX: usize> LinkedNodes<MAX> {
     ghost use Rattle.ttree_node.specs.Tree.{empty};
     ghost use Rattle.ttree_node.specs.Seen.{tree_of};
 

@@ -1,12 +1,12 @@
 //! A leaf that comes, and one that goes.
 ghost use Rattle.std.specs.Prelude.{◌≡◌, ◌+◌, ◌<◌, true, false, []};
 
-use crate::links::Links;
+use crate::linked_nodes::LinkedNodes;
 use crate::node::Side;
 use crate::nodes::Place;
 use part_raw::TupleRef;
 
-impl<const MAX: usize> Links<MAX> {
+impl<const MAX: usize> LinkedNodes<MAX> {
     ghost use Rattle.ttree_node.specs.Tree.{whole, is_node, is_leaf, with_leaf, without_leaf};
     ghost use Rattle.ttree_node.specs.Linked.{located, IsPlaceIn};
     ghost use Rattle.ttree_node.specs.Seen.{tree_of, position_at, spares_of, on_side, child, hangs_on_node};

@@ -13,8 +13,12 @@
 //!     [20]     [80]
 //! ```
 //!
-//! Contracts see a tree of lists of references, with a stated height at each node, and the number of spare nodes. One stands at a place in
-//! the tree with a [`Look`], which reads, or with an [`Editor`], which also changes. A [`Walk`] gives all references in list order.
+//! Contracts see a `Links` as a tree of lists of references, with a stated height at each node, and the number of spare nodes; where the nodes
+//! lie is no part of its value. One stands at a place in the tree with a [`Look`], which reads, or with an [`Editor`], which also changes. A
+//! [`Walk`] gives all references in list order.
+//!
+//! An editor needs the places of the nodes. So it stands in the [`LinkedNodes`] that a `Links` lends out ([`Links::nodes_mut`]). A function that
+//! edits takes these, or an editor of them; when the loan ends, the `Links` has the tree that they are then.
 //!
 //! This crate doesn't care in which order the references are, how full a node is, whether the stated heights are true or the tree is
 //! balanced: that is its user's to keep. It relies on this, and each call keeps it:
@@ -32,6 +36,7 @@ mod editor;
 mod edits;
 mod ends;
 mod leaves;
+mod linked_nodes;
 mod links;
 mod look;
 mod merges;
@@ -45,6 +50,7 @@ mod slides;
 mod walk;
 
 pub use editor::Editor;
+pub use linked_nodes::LinkedNodes;
 pub use links::Links;
 pub use look::Look;
 pub use node::{Side, Way};

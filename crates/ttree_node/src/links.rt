@@ -1,116 +1,96 @@
-//! The owner of a tree's nodes.
-ghost use Rattle.std.specs.Prelude.{◌≡◌, ◌+◌, ◌<◌, ◌≤◌, ◌^◌, max, OnOk, OnErr};
+//! A tree with spare nodes, as the T-tree sees it: where the nodes lie is hidden.
+ghost use Rattle.std.specs.Prelude.{◌≡◌, ◌+◌, ◌<◌, [], max, OnOk, OnErr};
+ghost use Rattle.std.specs.Borrow.{sem};
 
-use crate::parts::Parts;
+use crate::linked_nodes::LinkedNodes;
+use crate::look::Look;
+use crate::walk::Walk;
 use no_memory::NoMemory;
 use std::alloc::Global;
 use std::marker::Model;
 
-/// All nodes of a tree, with left, right and parent links, and spare nodes for the tree to grow by. At most `MAX` items lie in a node.
+/// A tree of nodes that hold at most `MAX` items each, and spare nodes for it to grow by. It is seen as that tree and the number of the
+/// spare nodes: two `Links` with the same tree and as many spare nodes are one value, wherever their nodes lie.
+#[derive(Drop)]
 pub struct Links<const MAX: usize> {
-    pub(crate) parts: Parts<MAX>,
+    nodes: LinkedNodes<MAX>,
 }
 
 impl<const MAX: usize> Model for Links<MAX> {
-    ghost use Rattle.ttree_node.specs.declared.parts.Parts.{Parts};
+    ghost use Rattle.ttree_node.specs.TreeWithSpares.{TreeWithSpares, tree_with_spares_code};
 
-    ghost Value = { Parts MAX };
+    ghost Value = { TreeWithSpares };
 
-    ghost use Rattle.ttree_node.specs.Linked.{Sound};
+    ghost coded = { tree_with_spares_code };
 
-    ghost view = { λ a. a.parts };
+    ghost use Rattle.ttree_node.specs.Seen.{shown};
 
-    ghost invariant = { λ a. Sound a.parts };
-}
-
-/// Each node is freed, and each spare node.
-impl<const MAX: usize> Drop for Links<MAX> {
-    fn drop(mut self) {
-        self.clear();
-        self.release_spares();
-        let Links { parts } = self;
-        let Parts {
-            nodes,
-            alloc: _,
-            root: _,
-            free: _,
-            spares: _,
-        } = parts;
-        nodes.finish();
-    }
+    ghost view = { λ a. shown a.nodes };
 }
 
 impl<const MAX: usize> Links<MAX> {
-    ghost use Rattle.ttree_node.specs.Tree.{empty, size};
-    ghost use Rattle.ttree_node.specs.Seen.{tree_of, spares_of};
+    ghost use Rattle.ttree_node.specs.Tree.{empty, at, list, size};
+    ghost use Rattle.ttree_node.specs.Seen.{shown};
     ghost use Rattle.ttree_node.specs.Linked.{node_limit};
+    ghost use Rattle.ttree_node.specs.Look.{position};
+    ghost use Rattle.ttree_node.specs.LinksLends.{LendsNodes};
+    ghost use Rattle.ttree_node.specs.Walk.{rest_of};
 
     /// An empty tree with no spare nodes. It takes no memory.
     pub fn new(alloc: Global) -> Links<MAX>
-        ensures tree { tree_of result ≡ empty }
-        ensures spares { spares_of result ≡ 0 }
+        ensures tree { result.tree ≡ empty }
+        ensures spares { result.spares ≡ 0 }
     {
         Links {
-            parts: Parts::new(alloc),
+            nodes: LinkedNodes::new(alloc),
         }
     }
 
     /// The number of spare nodes.
     pub fn spares(&self) -> usize
-        ensures { result ≡ spares_of self.now }
+        ensures { result ≡ self.now.spares }
     {
-        self.parts.spares
+        self.nodes.spares()
     }
 
-    /// Sees to `n` spare nodes. Nothing else takes memory.
+    /// Sees to `n` spare nodes. Nothing else takes memory. Where there is none, nothing has changed.
     pub fn reserve(&mut self, n: usize) -> Result<(), NoMemory>
-        requires { n + size (tree_of self.old) < node_limit }
-        ensures tree { tree_of self.new ≡ tree_of self.old }
-        ensures ok { OnOk result (spares_of self.new ≡ max (spares_of self.old) n) }
-        ensures err { OnErr result (spares_of self.new ≡ spares_of self.old) }
+        requires { n + size self.old.tree < node_limit }
+        ensures tree { self.new.tree ≡ self.old.tree }
+        ensures ok { OnOk result (self.new.spares ≡ max self.old.spares n) }
+        ensures err { OnErr result (self.new ≡ self.old) }
     {
-        let before = self.spares();
-        while self.spares() < n {
-            if self.add_spare().is_err() {
-                self.shed_to(before);
-                return Err(NoMemory);
-            }
-        }
-        Ok(())
+        self.nodes.reserve(n)
     }
 
     /// Gives the spare nodes back to the heap.
     pub fn release_spares(&mut self)
-        ensures tree { tree_of self.new ≡ tree_of self.old }
-        ensures spares { spares_of self.new ≡ 0 }
+        ensures tree { self.new.tree ≡ self.old.tree }
+        ensures spares { self.new.spares ≡ 0 }
     {
-        self.shed_to(0);
+        self.nodes.release_spares();
     }
 
-    fn shed_to(&mut self, count: usize)
-        requires { count ≤ spares_of self.old }
-        ensures tree { tree_of self.new ≡ tree_of self.old }
-        ensures spares { spares_of self.new ≡ count }
+    /// The root of the tree, to be read.
+    pub fn look(&self) -> Look<'_, MAX>
+        ensures shown { shown result.nodes.now ≡ self.now }
+        ensures root { position result ≡ at [] self.now.tree }
     {
-        while self.spares() > count {
-            self.shed_spare();
-        }
+        self.nodes.look()
     }
 
-    fn add_spare(&mut self) -> Result<(), NoMemory>
-        requires { size (tree_of self.old) + spares_of self.old + 1 < node_limit }
-        ensures tree { tree_of self.new ≡ tree_of self.old }
-        ensures ok { OnOk result (spares_of self.new ≡ spares_of self.old + 1) }
-        ensures err { OnErr result (spares_of self.new ≡ spares_of self.old) }
+    /// All items in list order.
+    pub fn walk(&self) -> Walk<'_, MAX>
+        ensures { rest_of result ≡ list self.now.tree }
     {
-        self.parts.add_spare()
+        self.nodes.walk()
     }
 
-    fn shed_spare(&mut self)
-        requires { 0 < spares_of self.old }
-        ensures tree { tree_of self.new ≡ tree_of self.old }
-        ensures spares { spares_of self.new + 1 ≡ spares_of self.old }
+    /// The nodes, which are edited at a place of theirs. What they are when that ends, the tree is.
+    pub fn nodes_mut(&mut self) -> &mut LinkedNodes<MAX>
+        ensures* writes_back { sem 𝓛 (LendsNodes MAX.row self.entry result) }
+        ensures shown { shown result.now ≡ self.old }
     {
-        self.parts.shed_spare();
+        &mut self.nodes
     }
 }

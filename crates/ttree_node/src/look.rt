@@ -2,16 +2,16 @@
 ghost use Rattle.std.specs.Prelude.{◌≡◌, true, false};
 ghost use Rattle.ttree_node.specs.Linked.{located, IsPlaceIn};
 
-use crate::links::Links;
+use crate::linked_nodes::LinkedNodes;
 use crate::nodes::Place;
 use part_raw::TupleRef;
 
 /// A place in the tree of a `Links`: a node, or nothing where the tree is empty.
 #[derive(Clone, Copy)]
 pub struct Look<'a, const MAX: usize> {
-    pub(crate) links: &'a Links<MAX>,
+    pub(crate) nodes: &'a LinkedNodes<MAX>,
     pub(crate) at: Option<Place>,
-    ghost placed: { IsPlaceIn (located links.now) at },
+    ghost placed: { IsPlaceIn (located nodes.now) at },
 }
 
 impl<'a, const MAX: usize> Look<'a, MAX> {
@@ -22,35 +22,35 @@ impl<'a, const MAX: usize> Look<'a, MAX> {
     pub fn has_node(&self) -> bool
         ensures { result ≡ is_node (position self.now).here }
     {
-        self.links.is_node(self.at)
+        self.nodes.is_node(self.at)
     }
 
     /// Whether this is the root, or the tree is empty.
     pub fn at_root(&self) -> bool
         ensures { result ≡ is_root (position self.now).above }
     {
-        self.links.is_root(self.at)
+        self.nodes.is_root(self.at)
     }
 
     /// Whether the node has a left child.
     pub fn has_left(&self) -> bool
         ensures { result ≡ has_left (position self.now).here }
     {
-        self.links.has_left(self.at)
+        self.nodes.has_left(self.at)
     }
 
     /// Whether the node has a right child.
     pub fn has_right(&self) -> bool
         ensures { result ≡ has_right (position self.now).here }
     {
-        self.links.has_right(self.at)
+        self.nodes.has_right(self.at)
     }
 
     /// The items of the node.
     pub fn items(&self) -> &[TupleRef]
         ensures { result.now ≡ items_of (position self.now).here }
     {
-        self.links.items(self.at)
+        self.nodes.items(self.at)
     }
 
     /// The stated heights of the left and of the right child, 0 for none.
@@ -58,41 +58,41 @@ impl<'a, const MAX: usize> Look<'a, MAX> {
         ensures left { result.0 ≡ stated (left_of (position self.now).here) }
         ensures right { result.1 ≡ stated (right_of (position self.now).here) }
     {
-        self.links.heights(self.at)
+        self.nodes.heights(self.at)
     }
 
     /// Goes to the root.
     pub fn to_root(&mut self)
-        ensures links { self.new.links ≡ self.old.links }
+        ensures nodes { self.new.nodes ≡ self.old.nodes }
         ensures moved { position self.new ≡ to_root (position self.old) }
     {
-        self.at = self.links.root();
+        self.at = self.nodes.root();
     }
 
     /// Goes to the left child.
     pub fn down_left(&mut self)
         requires { has_left (position self.old).here ≡ true }
-        ensures links { self.new.links ≡ self.old.links }
+        ensures nodes { self.new.nodes ≡ self.old.nodes }
         ensures moved { position self.new ≡ down_left (position self.old) }
     {
-        self.at = self.links.left_of(self.at);
+        self.at = self.nodes.left_of(self.at);
     }
 
     /// Goes to the right child.
     pub fn down_right(&mut self)
         requires { has_right (position self.old).here ≡ true }
-        ensures links { self.new.links ≡ self.old.links }
+        ensures nodes { self.new.nodes ≡ self.old.nodes }
         ensures moved { position self.new ≡ down_right (position self.old) }
     {
-        self.at = self.links.right_of(self.at);
+        self.at = self.nodes.right_of(self.at);
     }
 
     /// Goes to the parent.
     pub fn up(&mut self)
         requires { is_root (position self.old).above ≡ false }
-        ensures links { self.new.links ≡ self.old.links }
+        ensures nodes { self.new.nodes ≡ self.old.nodes }
         ensures moved { position self.new ≡ up (position self.old) }
     {
-        self.at = self.links.parent_of(self.at);
+        self.at = self.nodes.parent_of(self.at);
     }
 }

@@ -1,7 +1,7 @@
 //! Items that go from a child into its node.
 ghost use Rattle.std.specs.Prelude.{◌≡◌, ◌+◌, ◌≤◌, ◌++◌, true, false, length};
 
-use crate::links::Links;
+use crate::linked_nodes::LinkedNodes;
 use crate::node::Side;
 use crate::nodes::Place;
 use crate::parts::MOST_ITEMS;
@@ -23,7 +23,7 @@ pub(crate) fn joined<const MAX: usize>(
     items
 }
 
-impl<const MAX: usize> Links<MAX> {
+impl<const MAX: usize> LinkedNodes<MAX> {
     ghost use Rattle.ttree_node.specs.Tree.{whole, is_node, is_leaf, has_left, has_right, left_of, right_of, items_of, with_items, with_tree, merged_left, merged_right};
     ghost use Rattle.ttree_node.specs.Linked.{located, IsPlaceIn};
     ghost use Rattle.ttree_node.specs.Seen.{tree_of, position_at, spares_of, child, opposite, merged};

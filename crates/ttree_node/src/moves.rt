@@ -1,12 +1,12 @@
 //! The steps from node to node, and what is read at a node. Each is a read of one link or two.
 ghost use Rattle.std.specs.Prelude.{◌≡◌, ◌≤◌, true, false, length, []};
 
-use crate::links::Links;
+use crate::linked_nodes::LinkedNodes;
 use crate::nodes::Place;
 use crate::parts::MOST_ITEMS;
 use part_raw::TupleRef;
 
-impl<const MAX: usize> Links<MAX> {
+impl<const MAX: usize> LinkedNodes<MAX> {
     ghost use Rattle.ttree_node.specs.Tree.{at, whole, is_root, has_left, has_right, left_of, right_of, down_left, down_right, up, items_of, stated, is_node};
     ghost use Rattle.ttree_node.specs.Linked.{located, IsPlaceIn};
     ghost use Rattle.ttree_node.specs.Seen.{tree_of, position_at};

@@ -1,11 +1,11 @@
 //! From node to node in list order, by the links alone.
 ghost use Rattle.std.specs.Prelude.{◌≡◌, ◌<◌, length, IfSome};
 
-use crate::links::Links;
+use crate::linked_nodes::LinkedNodes;
 use crate::node::Side;
 use crate::nodes::Place;
 
-impl<const MAX: usize> Links<MAX> {
+impl<const MAX: usize> LinkedNodes<MAX> {
     ghost use Rattle.ttree_node.specs.Tree.{list_after, list_behind, list_from, items_of};
     ghost use Rattle.ttree_node.specs.Order.{list_onward, last_side, nodes_after, nodes_behind, nodes_onward, nodes_from};
     ghost use Rattle.ttree_node.specs.Linked.{located, IsPlaceIn, there};

@@ -12,7 +12,7 @@ use std::alloc::Global;
 // No heap has a block for a node of more items.
 pub(crate) const MOST_ITEMS: usize = 1 << 56;
 
-// The fields of a `Links`, of which a step may leave some links wrong for a while.
+// The fields of `LinkedNodes`, of which a step may leave some links wrong for a while.
 pub struct Parts<const MAX: usize> {
     pub(crate) nodes: Nodes<Node<MAX>>,
     pub(crate) alloc: Global,

@@ -1,11 +1,11 @@
 //! Rotations.
 ghost use Rattle.std.specs.Prelude.{◌≡◌, true};
 
-use crate::links::Links;
+use crate::linked_nodes::LinkedNodes;
 use crate::node::Side;
 use crate::nodes::Place;
 
-impl<const MAX: usize> Links<MAX> {
+impl<const MAX: usize> LinkedNodes<MAX> {
     ghost use Rattle.ttree_node.specs.Tree.{whole, has_left, has_right, with_tree, rotated_left, rotated_right};
     ghost use Rattle.ttree_node.specs.Linked.{located, IsPlaceIn};
     ghost use Rattle.ttree_node.specs.Seen.{tree_of, position_at, spares_of};

@@ -1,14 +1,14 @@
 //! Items that go between a node and its child, either way.
 ghost use Rattle.std.specs.Prelude.{◌≡◌, ◌+◌, ◌≤◌, true, length};
 
-use crate::links::Links;
+use crate::linked_nodes::LinkedNodes;
 use crate::merges::joined;
 use crate::node::{Side, Way};
 use crate::nodes::Place;
 use arrayvec::ArrayVec;
 use part_raw::TupleRef;
 
-impl<const MAX: usize> Links<MAX> {
+impl<const MAX: usize> LinkedNodes<MAX> {
     ghost use Rattle.ttree_node.specs.Tree.{whole, is_node, has_left, has_right, left_of, right_of, items_of, with_tree, dealt_left, dealt_right, up_from_left, up_from_right, down_to_left, down_to_right};
     ghost use Rattle.ttree_node.specs.Linked.{located, IsPlaceIn};
     ghost use Rattle.ttree_node.specs.Seen.{tree_of, position_at, spares_of, child, giver, taker, slid};

@@ -2,7 +2,7 @@
 ghost use Rattle.std.specs.Prelude.{◌≡◌, ◌≤◌, ◌++◌, length};
 ghost use Rattle.std.specs.Iterator.{YieldsFirst, item_count};
 
-use crate::links::Links;
+use crate::linked_nodes::LinkedNodes;
 use crate::look::Look;
 use part_raw::TupleRef;
 
@@ -13,18 +13,18 @@ pub struct Walk<'a, const MAX: usize> {
     index: usize,
 }
 
-impl<const MAX: usize> Links<MAX> {
+impl<const MAX: usize> LinkedNodes<MAX> {
     ghost use Rattle.ttree_node.specs.Tree.{list};
     ghost use Rattle.ttree_node.specs.Seen.{tree_of};
     ghost use Rattle.ttree_node.specs.Walk.{rest_of};
 
-    /// All items in list order.
-    pub fn walk(&self) -> Walk<'_, MAX>
+    // All items in list order.
+    pub(crate) fn walk(&self) -> Walk<'_, MAX>
         ensures { rest_of result ≡ list (tree_of self.now) }
     {
         let at = self.first_below(self.root());
         Walk {
-            look: Look { links: self, at },
+            look: Look { nodes: self, at },
             index: 0,
         }
     }
@@ -55,12 +55,12 @@ impl<'a, const MAX: usize> Iterator for Walk<'a, MAX> {
     ghost remaining = { item_count rest_of };
 
     fn next(&mut self) -> Option<TupleRef> {
-        let links = self.look.links;
-        if links.items(self.look.at).len() <= self.index {
-            self.look.at = Some(links.next_with_items(self.look.at)?);
+        let nodes = self.look.nodes;
+        if nodes.items(self.look.at).len() <= self.index {
+            self.look.at = Some(nodes.next_with_items(self.look.at)?);
             self.index = 0;
         }
-        let item = links.items(self.look.at)[self.index];
+        let item = nodes.items(self.look.at)[self.index];
         self.index += 1;
         Some(item)
     }

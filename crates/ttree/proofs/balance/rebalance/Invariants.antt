@@ -8,7 +8,7 @@ use Rattle.ttree.proofs.balance.rebalance.Given as goal
 -- from the place on it can rise
 abbrev pub invariant-loop-before : goal.invariant-loop-before
 invariant-loop-before g l = record {
-  same_reference : l.editor.links.ghost_name ≡ l.fn.editor.links.ghost_name;
+  same_reference : l.editor.nodes.ghost_name ≡ l.fn.editor.nodes.ghost_name;
   rises : CanRise g.row.MIN g.row.MAX (position l.editor);
   full : 2 ≤ g.row.MIN → CanRiseFull g.row.MIN g.row.MAX (position l.fn.editor) → CanRiseFull g.row.MIN g.row.MAX (position l.editor);
   tree : tree_at l.editor ≡ whole (position l.editor);

@@ -1,11 +1,13 @@
-use Rattle.std.proofs.Common.{◌≡◌, ◌∙◌, ◌+◌, List, get_or, length, Ordering, ap, subst, sym, lit<, arith}
+use Rattle.std.proofs.Common.{◌≡◌, ◌∙◌, ◌+◌, List, get_or, length, Ordering, ap, subst, sym, lit<, arith, rules}
 use Rattle.std.specs.List.{All, Contains}
 use Rattle.part_raw.specs.declared.tuple_ref.TupleRef.{TupleRef}
 use Rattle.mm_index.specs.Order.{insert_placed}
 use Rattle.mm_index.specs.Range.{NeverFalls}
 use Rattle.mm_index.proofs.Placed.{insert_placed_split}
-use Rattle.ttree_node.specs.Tree.{Tree, Zipper, Label, whole, list, size, with_leaf, list_until, list_from}
+use Rattle.ttree_node.specs.Tree.{Tree, Zipper, Label, is_root, whole, list, size, with_leaf, list_until, list_from}
 use Rattle.ttree_node.specs.Editor.{position, tree_at}
+use Rattle.ttree_node.specs.Seen.{tree_of, shown}
+use Rattle.ttree.specs.Room.{nodes_of, nodes_at}
 use Rattle.ttree.specs.Shape.{HasItemsInEach, ParentsAreFull}
 use Rattle.ttree.proofs.Ends.{items_in_each, held_here, none_in_gap}
 use Rattle.ttree.proofs.Fullness.{full_first}
@@ -19,56 +21,61 @@ use Rattle.ttree.proofs.insert.insert_unless_found.Goals as goal
 pub returns-then-not-has_node-clause-list : goal.returns-then-not-has_node-clause-list
 returns-then-not-has_node-clause-list g c =
     let place : TupleRef → Ordering = g.P.Probe.place c.args.probe.now in
-    let z : Zipper (Label TupleRef) = position c.args.editor.now in
-    let first = list_first z c.args.r c.requires.root (sym c.has_node.ensures ∙ c.if-not-has_node.true) in
+    let z : Zipper (Label TupleRef) = position c.edit-editor.result in
+    let first = list_first z c.args.r (ap (λ (y : Zipper (Label TupleRef)). is_root y.above) c.edit-editor.ensures.root) (sym c.has_node.ensures ∙ c.if-not-has_node.true) in
     let tree : tree_at c.new_leaf.new.self ≡ whole (with_leaf c.args.r z) = c.new_leaf.ensures.tree ∙ ap (λ (y : Zipper (Label TupleRef)). whole y) c.new_leaf.ensures.leaf in
+    let after : list (tree_at c.new_leaf.new.self) ≡ insert_placed place c.args.r (list (tree_of c.args.nodes.now)) =
     ap (λ (t : Tree (Label TupleRef)). list t) tree ∙ first.1 ∙ sym (insert_placed_first place c.args.r)
-    ∙ ap (λ (xs : List TupleRef). insert_placed place c.args.r xs) (sym (ap (λ (t : Tree (Label TupleRef)). list t) c.requires.tree ∙ first.0))
+    ∙ ap (λ (xs : List TupleRef). insert_placed place c.args.r xs) (sym (ap (λ (t : Tree (Label TupleRef)). list t) (ap (λ (y : Zipper (Label TupleRef)). whole y) (sym c.edit-editor.ensures.root)) ∙ first.0)) in
+    search (rules, after)
 
 pub returns-then-not-has_node-clause-none : goal.returns-then-not-has_node-clause-none
 returns-then-not-has_node-clause-none g c =
-    let z : Zipper (Label TupleRef) = position c.args.editor.now in
-    let first = list_first z c.args.r c.requires.root (sym c.has_node.ensures ∙ c.if-not-has_node.true) in
-    let empty = ap (λ (t : Tree (Label TupleRef)). length (list t)) c.requires.tree ∙ ap (λ (xs : List TupleRef). length xs) first.0 in
+    let z : Zipper (Label TupleRef) = position c.edit-editor.result in
+    let first = list_first z c.args.r (ap (λ (y : Zipper (Label TupleRef)). is_root y.above) c.edit-editor.ensures.root) (sym c.has_node.ensures ∙ c.if-not-has_node.true) in
+    let empty = ap (λ (t : Tree (Label TupleRef)). length (list t)) (ap (λ (y : Zipper (Label TupleRef)). whole y) (sym c.edit-editor.ensures.root)) ∙ ap (λ (xs : List TupleRef). length xs) first.0 in
     λ k d l. absurd (omega (arith, empty, l))
 
 pub returns-then-not-has_node-clause-one : goal.returns-then-not-has_node-clause-one
 returns-then-not-has_node-clause-one g c =
-    let z : Zipper (Label TupleRef) = position c.args.editor.now in
-    let first = list_first z c.args.r c.requires.root (sym c.has_node.ensures ∙ c.if-not-has_node.true) in
+    let z : Zipper (Label TupleRef) = position c.edit-editor.result in
+    let first = list_first z c.args.r (ap (λ (y : Zipper (Label TupleRef)). is_root y.above) c.edit-editor.ensures.root) (sym c.has_node.ensures ∙ c.if-not-has_node.true) in
     let tree : tree_at c.new_leaf.new.self ≡ whole (with_leaf c.args.r z) = c.new_leaf.ensures.tree ∙ ap (λ (y : Zipper (Label TupleRef)). whole y) c.new_leaf.ensures.leaf in
-    omega (
+    let after : length (list (tree_at c.new_leaf.new.self)) ≡ length (list (tree_of c.args.nodes.now)) + 1 = omega (
       arith,
       ap (λ (t : Tree (Label TupleRef)). length (list t)) tree,
       ap (λ (xs : List TupleRef). length xs) first.1,
-      ap (λ (t : Tree (Label TupleRef)). length (list t)) c.requires.tree,
+      ap (λ (t : Tree (Label TupleRef)). length (list t)) (ap (λ (y : Zipper (Label TupleRef)). whole y) (sym c.edit-editor.ensures.root)),
       ap (λ (xs : List TupleRef). length xs) first.0,
-    )
+    ) in
+    search (rules, after)
 
 pub returns-then-not-has_node-clause-asks : goal.returns-then-not-has_node-clause-asks
 returns-then-not-has_node-clause-asks g c =
-    let z : Zipper (Label TupleRef) = position c.args.editor.now in
-    let first = list_first z c.args.r c.requires.root (sym c.has_node.ensures ∙ c.if-not-has_node.true) in
-    let empty = ap (λ (t : Tree (Label TupleRef)). length (list t)) c.requires.tree ∙ ap (λ (xs : List TupleRef). length xs) first.0 in
+    let z : Zipper (Label TupleRef) = position c.edit-editor.result in
+    let first = list_first z c.args.r (ap (λ (y : Zipper (Label TupleRef)). is_root y.above) c.edit-editor.ensures.root) (sym c.has_node.ensures ∙ c.if-not-has_node.true) in
+    let empty = ap (λ (t : Tree (Label TupleRef)). length (list t)) (ap (λ (y : Zipper (Label TupleRef)). whole y) (sym c.edit-editor.ensures.root)) ∙ ap (λ (xs : List TupleRef). length xs) first.0 in
     λ some. absurd (omega (arith, empty, some))
 
 pub returns-then-not-has_node-clause-parents : goal.returns-then-not-has_node-clause-parents
 returns-then-not-has_node-clause-parents g c = λ two full.
-    let z : Zipper (Label TupleRef) = position c.args.editor.now in
+    let z : Zipper (Label TupleRef) = position c.edit-editor.result in
     let tree : tree_at c.new_leaf.new.self ≡ whole (with_leaf c.args.r z) = c.new_leaf.ensures.tree ∙ ap (λ (y : Zipper (Label TupleRef)). whole y) c.new_leaf.ensures.leaf in
-    subst (λ (t : Tree (Label TupleRef)). ParentsAreFull g.row.MAX t) (sym tree) (full_first g.row.MAX z c.args.r c.requires.root)
+    let after : ParentsAreFull g.row.MAX (tree_at c.new_leaf.new.self) = subst (λ (t : Tree (Label TupleRef)). ParentsAreFull g.row.MAX t) (sym tree) (full_first g.row.MAX z c.args.r (ap (λ (y : Zipper (Label TupleRef)). is_root y.above) c.edit-editor.ensures.root)) in
+    search (rules, after)
 
 pub returns-then-not-has_node-clause-nodes : goal.returns-then-not-has_node-clause-nodes
 returns-then-not-has_node-clause-nodes g c =
-    let z : Zipper (Label TupleRef) = position c.args.editor.now in
+    let z : Zipper (Label TupleRef) = position c.edit-editor.result in
     let tree : tree_at c.new_leaf.new.self ≡ whole (with_leaf c.args.r z) = c.new_leaf.ensures.tree ∙ ap (λ (y : Zipper (Label TupleRef)). whole y) c.new_leaf.ensures.leaf in
-    omega (
+    let after : nodes_at c.new_leaf.new.self ≡ nodes_of (shown c.args.nodes.now) = omega (
       arith,
       ap (λ (t : Tree (Label TupleRef)). size t) tree,
-      ap (λ (t : Tree (Label TupleRef)). size t) c.requires.tree,
-      size_first z c.args.r c.requires.root (sym c.has_node.ensures ∙ c.if-not-has_node.true),
+      ap (λ (t : Tree (Label TupleRef)). size t) (ap (λ (y : Zipper (Label TupleRef)). whole y) (sym c.edit-editor.ensures.root)),
+      size_first z c.args.r (ap (λ (y : Zipper (Label TupleRef)). is_root y.above) c.edit-editor.ensures.root) (sym c.has_node.ensures ∙ c.if-not-has_node.true),
       c.new_leaf.ensures.spares,
-    )
+    ) in
+    search (rules, after)
 
 -- ---- the search, and where it ends
 
@@ -76,16 +83,16 @@ pub locate_to_edit-requires : goal.locate_to_edit-requires
 locate_to_edit-requires g c = (
   lit< tt,
   (
-    c.requires.root,
+    (ap (λ (y : Zipper (Label TupleRef)). is_root y.above) c.edit-editor.ensures.root),
     (
       sym c.has_node.ensures ∙ c.if-not-has_node.false,
       (
-        subst (λ (t : Tree (Label TupleRef)). HasItemsInEach g.row.MAX t) c.requires.tree (items_in_each g.row.MIN g.row.MAX (tree_at c.args.editor.now) c.requires.fit),
+        subst (λ (t : Tree (Label TupleRef)). HasItemsInEach g.row.MAX t) (ap (λ (y : Zipper (Label TupleRef)). whole y) (sym c.edit-editor.ensures.root)) (items_in_each g.row.MIN g.row.MAX (tree_of c.args.nodes.now) c.requires.fit),
         (
           c.requires.sound,
           (
-            subst (λ (t : Tree (Label TupleRef)). All (g.P.Probe.can_place c.args.probe.now) (list t)) c.requires.tree c.requires.placed,
-            subst (λ (t : Tree (Label TupleRef)). NeverFalls (g.P.Probe.place c.args.probe.now) (list t)) c.requires.tree c.requires.in_order,
+            subst (λ (t : Tree (Label TupleRef)). All (g.P.Probe.can_place c.args.probe.now) (list t)) (ap (λ (y : Zipper (Label TupleRef)). whole y) (sym c.edit-editor.ensures.root)) c.requires.placed,
+            subst (λ (t : Tree (Label TupleRef)). NeverFalls (g.P.Probe.place c.args.probe.now) (list t)) (ap (λ (y : Zipper (Label TupleRef)). whole y) (sym c.edit-editor.ensures.root)) c.requires.in_order,
           ),
         ),
       ),
@@ -97,24 +104,28 @@ pub returns-in-Ok-clause-held : goal.returns-in-Ok-clause-held
 returns-in-Ok-clause-held g c =
     let none : TupleRef = record { part = 0; slot = 0 } in
     let w : Zipper (Label TupleRef) = position c.locate_to_edit.new.editor in
-    let t : Tree (Label TupleRef) = tree_at c.args.editor.now in
+    let t : Tree (Label TupleRef) = tree_of c.args.nodes.now in
     subst (λ (xs : List TupleRef). Contains (list t) (get_or xs c.in-Ok.index none)) (sym c.items.ensures)
-    (held_here t w (c.locate_to_edit.ensures.whole ∙ sym c.requires.tree) c.in-Ok.index none c.in-Ok.ensures.hit.index)
+    (held_here t w (c.locate_to_edit.ensures.whole ∙ sym (ap (λ (y : Zipper (Label TupleRef)). whole y) (sym c.edit-editor.ensures.root))) c.in-Ok.index none c.in-Ok.ensures.hit.index)
 
 pub returns-in-Err-clause-none : goal.returns-in-Err-clause-none
 returns-in-Err-clause-none g c =
-    none_in_gap (tree_at c.args.editor.now) (position c.locate_to_edit.new.editor) (c.locate_to_edit.ensures.whole ∙ sym c.requires.tree) (g.P.Probe.place c.args.probe.now) c.in-Err.index c.in-Err.ensures.gap
+    none_in_gap (tree_of c.args.nodes.now) (position c.locate_to_edit.new.editor) (c.locate_to_edit.ensures.whole ∙ sym (ap (λ (y : Zipper (Label TupleRef)). whole y) (sym c.edit-editor.ensures.root))) (g.P.Probe.place c.args.probe.now) c.in-Err.index c.in-Err.ensures.gap
 
 pub returns-in-Err-clause-list : goal.returns-in-Err-clause-list
 returns-in-Err-clause-list g c =
     let w : Zipper (Label TupleRef) = position c.locate_to_edit.new.editor in
     let place : TupleRef → Ordering = g.P.Probe.place c.args.probe.now in
-    let same : whole w ≡ tree_at c.args.editor.now = c.locate_to_edit.ensures.whole ∙ sym c.requires.tree in
+    let same : whole w ≡ tree_of c.args.nodes.now = c.locate_to_edit.ensures.whole ∙ sym (ap (λ (y : Zipper (Label TupleRef)). whole y) (sym c.edit-editor.ensures.root)) in
+    let after : list (tree_at c.put_at.new.editor) ≡ insert_placed place c.args.r (list (tree_of c.args.nodes.now)) =
     c.put_at.ensures.list ∙ sym (insert_placed_split place c.args.r (list_until c.in-Err.index w) (list_from c.in-Err.index w) c.in-Err.ensures.gap.below c.in-Err.ensures.gap.above)
-    ∙ ap (λ (xs : List TupleRef). insert_placed place c.args.r xs) (sym (ap (λ (t : Tree (Label TupleRef)). list t) (sym same) ∙ list_cut c.in-Err.index w))
+    ∙ ap (λ (xs : List TupleRef). insert_placed place c.args.r xs) (sym (ap (λ (t : Tree (Label TupleRef)). list t) (sym same) ∙ list_cut c.in-Err.index w)) in
+    search (rules, after)
 
 pub returns-in-Err-clause-one : goal.returns-in-Err-clause-one
 returns-in-Err-clause-one g c =
     let w : Zipper (Label TupleRef) = position c.locate_to_edit.new.editor in
-    let same : whole w ≡ tree_at c.args.editor.now = c.locate_to_edit.ensures.whole ∙ sym c.requires.tree in
-    ap (λ (xs : List TupleRef). length xs) c.put_at.ensures.list ∙ length_with_item w c.in-Err.index c.args.r ∙ ap (λ (t : Tree (Label TupleRef)). length (list t) + 1) same
+    let same : whole w ≡ tree_of c.args.nodes.now = c.locate_to_edit.ensures.whole ∙ sym (ap (λ (y : Zipper (Label TupleRef)). whole y) (sym c.edit-editor.ensures.root)) in
+    let after : length (list (tree_at c.put_at.new.editor)) ≡ length (list (tree_of c.args.nodes.now)) + 1 =
+    ap (λ (xs : List TupleRef). length xs) c.put_at.ensures.list ∙ length_with_item w c.in-Err.index c.args.r ∙ ap (λ (t : Tree (Label TupleRef)). length (list t) + 1) same in
+    search (rules, after)

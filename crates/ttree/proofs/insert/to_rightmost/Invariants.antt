@@ -5,7 +5,7 @@ use Rattle.ttree.proofs.insert.to_rightmost.Given as goal
 
 abbrev pub invariant-loop-editor : goal.invariant-loop-editor
 invariant-loop-editor g l = record {
-  same_reference : l.editor.links.ghost_name ≡ l.fn.editor.links.ghost_name;
+  same_reference : l.editor.nodes.ghost_name ≡ l.fn.editor.nodes.ghost_name;
   node : is_node (position l.editor).here ≡ true;
   whole : whole (position l.editor) ≡ whole (position l.fn.editor);
   ahead : list_before (position l.editor).above ++ list (position l.editor).here ≡ list_before (position l.fn.editor).above ++ list (position l.fn.editor).here;

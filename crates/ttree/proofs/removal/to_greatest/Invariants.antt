@@ -6,7 +6,7 @@ use Rattle.ttree.proofs.removal.to_greatest.Given as goal
 
 abbrev pub invariant-loop-editor : goal.invariant-loop-editor
 invariant-loop-editor g l = record {
-  same_reference : l.editor.links.ghost_name ≡ l.fn.editor.links.ghost_name;
+  same_reference : l.editor.nodes.ghost_name ≡ l.fn.editor.nodes.ghost_name;
   on_the_way : rightmost (position l.editor) ≡ rightmost (position l.fn.editor);
   tree : tree_at l.editor ≡ tree_at l.fn.editor;
   spares : spares_at l.editor ≡ spares_at l.fn.editor;

@@ -51,7 +51,7 @@ loop-look-preserved-in-Left g c =
       node = (λ i. is_node (moved i).here) ∙ ap (λ (u : Tree (Label TupleRef)). is_node u) (left_here z) ∙ turn.0;
       only = IsOnlyAsked-trans _ _ _ _ _ _ _ kept.only c.turn_at.ensures.probe.only;
       most = omega (arith, low, lower, kept.most, c.in-Left.ensures.probe.most);
-      links = c.down_left.ensures.links ∙ kept.links;
+      nodes = c.down_left.ensures.nodes ∙ kept.nodes;
     }
 
 pub loop-look-preserved : goal.loop-look-preserved
@@ -70,7 +70,7 @@ loop-look-preserved g c =
       node = (λ i. is_node (moved i).here) ∙ ap (λ (u : Tree (Label TupleRef)). is_node u) (right_here z) ∙ turn.0;
       only = IsOnlyAsked-trans _ _ _ _ _ _ _ kept.only c.turn_at.ensures.probe.only;
       most = omega (arith, low, lower, kept.most, c.in-Right.ensures.probe.most);
-      links = c.down_right.ensures.links ∙ kept.links;
+      nodes = c.down_right.ensures.nodes ∙ kept.nodes;
     }
 
 pub returns-in-Here-clause-hit : goal.returns-in-Here-clause-hit
@@ -109,5 +109,5 @@ loop-look-init g c =
       node = c.requires.node;
       only = IsOnlyAsked-refl _ _ _ _ _;
       most = omega (arith, ap (λ (t : Tree (Label TupleRef)). height t) (root_whole z c.requires.root));
-      links = refl;
+      nodes = refl;
     }

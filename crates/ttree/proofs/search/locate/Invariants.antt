@@ -13,7 +13,7 @@ invariant-loop-look g l = record {
   node : is_node (position l.look).here ≡ true;
   only : IsOnlyAsked g.P.Probe.is_sound g.P.Probe.can_place g.P.Probe.place g.P.Probe.asked l.fn.probe l.probe;
   most : g.P.Probe.asked l.probe + 2 * height (position l.look).here ≤ g.P.Probe.asked l.fn.probe + 2 * height (whole (position l.fn.look));
-  links : l.look.links ≡ l.fn.look.links;
+  nodes : l.look.nodes ≡ l.fn.look.nodes;
 }
 
 abbrev pub decreases-loop-look : goal.decreases-loop-look

@@ -12,7 +12,7 @@ invariant-loop-editor g l = record {
   node : is_node (position l.editor).here ≡ true;
   only : IsOnlyAsked g.P.Probe.is_sound g.P.Probe.can_place g.P.Probe.place g.P.Probe.asked l.fn.probe l.probe;
   most : g.P.Probe.asked l.probe + 2 * height (position l.editor).here ≤ g.P.Probe.asked l.fn.probe + 2 * height (whole (position l.fn.editor));
-  same_reference : l.editor.links.ghost_name ≡ l.fn.editor.links.ghost_name;
+  same_reference : l.editor.nodes.ghost_name ≡ l.fn.editor.nodes.ghost_name;
   tree : tree_at l.editor ≡ tree_at l.fn.editor;
   spares : spares_at l.editor ≡ spares_at l.fn.editor;
 }

@@ -3,9 +3,8 @@ use Rattle.std.specs.List.{All}
 use Rattle.part_raw.specs.declared.tuple_ref.TupleRef.{TupleRef}
 use Rattle.mm_index.specs.Range.{NeverFalls}
 use Rattle.ttree_node.specs.Tree.{Tree, Zipper, Label, list, size, whole, is_root}
-use Rattle.ttree_node.specs.Editor.{tree_at, spares_at}
-use Rattle.ttree_node.specs.declared.parts.Parts.{Parts}
-use Rattle.ttree_node.specs.Seen.{tree_of, spares_of}
+use Rattle.ttree_node.specs.Seen.{tree_of, shown}
+use Rattle.ttree_node.specs.TreeWithSpares.{TreeWithSpares}
 use Rattle.ttree.specs.Held.{items_of_tree}
 use Rattle.ttree.specs.Room.{nodes_of, nodes_at}
 use Rattle.ttree.specs.Shape.{IsTTree, ParentsAreFull}
@@ -16,10 +15,10 @@ use Rattle.ttree.proofs.tree.TTree.insert_unless_found.Goals as goal
 pub insert_unless_found-found-requires : goal.insert_unless_found-found-requires
 insert_unless_found-found-requires g c =
     let p = c.args.self.now in
-    let fit : IsTTree g.row.MIN g.row.MAX (tree_of p) = subst (λ (q : Parts g.row.MAX). IsTTree g.row.MIN g.row.MAX (tree_of q)) c.self.view_is c.self.invariant.fit in
-    let spare = spare_in_room g.row.MIN (size (tree_of p)) (spares_of p) (length (items_of_tree p)) (few_nodes g.row.MIN g.row.MAX (tree_of p) fit) c.requires.reserved in
-    let old : tree_at c.edit.result ≡ tree_of p = c.edit.ensures.tree ∙ ap (λ (q : Parts g.row.MAX). tree_of q) c.self.view_is in
-    let held : items_of_tree p ≡ list (tree_at c.edit.result) = ap (λ (t : Tree (Label TupleRef)). list t) (sym old) in (
+    let fit : IsTTree g.row.MIN g.row.MAX p.tree = subst (λ (q : TreeWithSpares). IsTTree g.row.MIN g.row.MAX q.tree) c.self.view_is c.self.invariant.fit in
+    let spare = spare_in_room g.row.MIN (size p.tree) p.spares (length (items_of_tree p)) (few_nodes g.row.MIN g.row.MAX p.tree fit) c.requires.reserved in
+    let seen : p ≡ shown c.nodes_mut.result.now = sym (c.nodes_mut.ensures.shown ∙ c.self.view_is) in
+    let held : items_of_tree p ≡ list (tree_of c.nodes_mut.result.now) = ap (λ (q : TreeWithSpares). items_of_tree q) seen in (
       lit< tt,
       (
         c.self.invariant.some,
@@ -28,22 +27,16 @@ insert_unless_found-found-requires g c =
           (
             c.self.invariant.two,
             (
-              ap (λ (z : Zipper (Label TupleRef)). is_root z.above) c.edit.ensures.root,
+              subst (λ (q : TreeWithSpares). IsTTree g.row.MIN g.row.MAX q.tree) seen fit,
               (
-                c.edit.ensures.tree ∙ ap (λ (z : Zipper (Label TupleRef)). whole z) (sym c.edit.ensures.root),
+                omega (arith, c.requires.short, ap (λ (xs : List TupleRef). length xs) held),
                 (
-                  subst (λ (t : Tree (Label TupleRef)). IsTTree g.row.MIN g.row.MAX t) (sym old) fit,
+                  omega (arith, spare, ap (λ (q : TreeWithSpares). q.spares) seen),
                   (
-                    omega (arith, c.requires.short, ap (λ (xs : List TupleRef). length xs) held),
+                    c.requires.sound,
                     (
-                      omega (arith, spare, c.edit.ensures.spares, ap (λ (q : Parts g.row.MAX). spares_of q) c.self.view_is),
-                      (
-                        c.requires.sound,
-                        (
-                          subst (λ (xs : List TupleRef). All (g.P.Probe.can_place c.args.probe.now) xs) held c.requires.placed,
-                          subst (λ (xs : List TupleRef). NeverFalls (g.P.Probe.place c.args.probe.now) xs) held c.requires.in_order,
-                        ),
-                      ),
+                      subst (λ (xs : List TupleRef). All (g.P.Probe.can_place c.args.probe.now) xs) held c.requires.placed,
+                      subst (λ (xs : List TupleRef). NeverFalls (g.P.Probe.place c.args.probe.now) xs) held c.requires.in_order,
                     ),
                   ),
                 ),
@@ -57,9 +50,9 @@ insert_unless_found-found-requires g c =
 pub returns-then-is_none-clause-bound : goal.returns-then-is_none-clause-bound
 returns-then-is_none-clause-bound g c =
     let p = c.args.self.now in
-    list_bound g.row.MIN g.row.MAX (tree_of p) (subst (λ (q : Parts g.row.MAX). IsTTree g.row.MIN g.row.MAX (tree_of q)) c.self.view_is c.self.invariant.fit)
+    list_bound g.row.MIN g.row.MAX p.tree (subst (λ (q : TreeWithSpares). IsTTree g.row.MIN g.row.MAX q.tree) c.self.view_is c.self.invariant.fit)
 
 pub returns-else-is_none-clause-bound : goal.returns-else-is_none-clause-bound
 returns-else-is_none-clause-bound g c =
     let p = c.args.self.now in
-    list_bound g.row.MIN g.row.MAX (tree_of p) (subst (λ (q : Parts g.row.MAX). IsTTree g.row.MIN g.row.MAX (tree_of q)) c.self.view_is c.self.invariant.fit)
+    list_bound g.row.MIN g.row.MAX p.tree (subst (λ (q : TreeWithSpares). IsTTree g.row.MIN g.row.MAX q.tree) c.self.view_is c.self.invariant.fit)

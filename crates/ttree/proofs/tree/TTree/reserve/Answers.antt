@@ -2,8 +2,7 @@ use Rattle.std.proofs.Common.{◌≡◌, ◌+◌, ◌*◌, ◌∙◌, ℕ, max, 
 use Rattle.std.specs.Int.{div_ceil}
 use Rattle.part_raw.specs.declared.tuple_ref.TupleRef.{TupleRef}
 use Rattle.ttree_node.specs.Tree.{Tree, Label, list, size}
-use Rattle.ttree_node.specs.Seen.{tree_of, spares_of}
-use Rattle.ttree_node.specs.declared.parts.Parts.{Parts}
+use Rattle.ttree_node.specs.TreeWithSpares.{TreeWithSpares}
 use Rattle.ttree.specs.Held.{items_of_tree}
 use Rattle.ttree.specs.Room.{nodes_for}
 use Rattle.ttree.proofs.Ends.{items_in_each}
@@ -13,7 +12,7 @@ use Rattle.ttree.proofs.tree.TTree.reserve.Goals as goal
 
 pub reserve-requires : goal.reserve-requires
 reserve-requires g c =
-    let t = tree_of c.self.inside.links in
+    let t = c.self.inside.links.tree in
     let few = few_nodes g.row.MAX t (items_in_each g.row.MIN g.row.MAX t c.self.invariant.fit) in
     (lit< tt, omega (arith, few, c.requires, c.self.invariant.short, c.min-more.ensures, c.saturating_sub.ensures, c.if-more-gt0.true))
 
@@ -23,7 +22,7 @@ returns-in_ok-reserve-clause-reserved g c =
     let more = c.min-more.result in
     let enough : 1 + c.div_ceil-enough.result ≡ nodes_for g.row.MIN (length (items_of_tree p) + c.args.n) =
     ap (λ k. 1 + k) c.div_ceil-enough.ensures ∙ ap (λ k. 1 + div_ceil (2 * (k + c.args.n)) g.row.MIN) c.self.invariant.counted ∙ sym (nodes_for_is g.row.MIN (length (items_of_tree p) + c.args.n)) in
-    room_reserved g.row.MIN (size (tree_of p)) (size (tree_of q)) (spares_of p) (spares_of q) (length (items_of_tree p)) (length (items_of_tree q))
+    room_reserved g.row.MIN (size p.tree) (size q.tree) p.spares q.spares (length (items_of_tree p)) (length (items_of_tree q))
     (ap (λ (t : Tree (Label TupleRef)). size t) c.reserve.ensures.tree) (ap (λ (t : Tree (Label TupleRef)). length (list t)) c.reserve.ensures.tree) c.args.n more c.self.invariant.some
     (omega (arith, c.min-more.ensures, c.saturating_sub.ensures, c.saturating_sub-2.ensures, c.self.invariant.all_nodes, c.spares-spares.ensures, enough))
     (omega (arith, c.in_ok-reserve.ensures.ok, c.spares-spares.ensures))
@@ -31,23 +30,23 @@ returns-in_ok-reserve-clause-reserved g c =
 pub returns-in_ok-reserve-clause-room : goal.returns-in_ok-reserve-clause-room
 returns-in_ok-reserve-clause-room g c =
     let p = c.args.self.now in let q = c.reserve.new.self in
-    let tree : tree_of q ≡ tree_of p = c.reserve.ensures.tree ∙ ap (λ (r : Parts g.row.MAX). tree_of r) c.self.view_is in
-    room_grows g.row.MIN (size (tree_of p)) (size (tree_of q)) (spares_of p) (spares_of q) (length (items_of_tree p)) (length (items_of_tree q))
+    let tree : q.tree ≡ p.tree = c.reserve.ensures.tree ∙ ap (λ (r : TreeWithSpares). r.tree) c.self.view_is in
+    room_grows g.row.MIN (size p.tree) (size q.tree) p.spares q.spares (length (items_of_tree p)) (length (items_of_tree q))
     (ap (λ (t : Tree (Label TupleRef)). size t) tree) (ap (λ (t : Tree (Label TupleRef)). length (list t)) tree)
-    (omega (arith, c.in_ok-reserve.ensures.ok, ap (λ (r : Parts g.row.MAX). spares_of r) c.self.view_is))
+    (omega (arith, c.in_ok-reserve.ensures.ok, ap (λ (r : TreeWithSpares). r.spares) c.self.view_is))
 
 pub returns-in_ok-reserve-clause-nodes : goal.returns-in_ok-reserve-clause-nodes
 returns-in_ok-reserve-clause-nodes g c =
     let p = c.args.self.now in let q = c.reserve.new.self in
-    let tree : tree_of q ≡ tree_of p = c.reserve.ensures.tree ∙ ap (λ (r : Parts g.row.MAX). tree_of r) c.self.view_is in
-    let held : c.self.inside.len ≡ length (items_of_tree p) = c.self.invariant.counted ∙ ap (λ (r : Parts g.row.MAX). length (items_of_tree r)) c.self.view_is in
+    let tree : q.tree ≡ p.tree = c.reserve.ensures.tree ∙ ap (λ (r : TreeWithSpares). r.tree) c.self.view_is in
+    let held : c.self.inside.len ≡ length (items_of_tree p) = c.self.invariant.counted ∙ ap (λ (r : TreeWithSpares). length (items_of_tree r)) c.self.view_is in
     let enough : 1 + c.div_ceil-enough.result ≡ nodes_for g.row.MIN (length (items_of_tree p) + c.args.n) =
     ap (λ k. 1 + k) c.div_ceil-enough.ensures ∙ ap (λ k. 1 + div_ceil (2 * (k + c.args.n)) g.row.MIN) held ∙ sym (nodes_for_is g.row.MIN (length (items_of_tree p) + c.args.n)) in
     omega (
       arith,
       ap (λ (t : Tree (Label TupleRef)). size t) tree,
-      ap (λ (r : Parts g.row.MAX). size (tree_of r)) c.self.view_is,
-      ap (λ (r : Parts g.row.MAX). spares_of r) c.self.view_is,
+      ap (λ (r : TreeWithSpares). size r.tree) c.self.view_is,
+      ap (λ (r : TreeWithSpares). r.spares) c.self.view_is,
       c.in_ok-reserve.ensures.ok,
       c.min-more.ensures,
       c.saturating_sub.ensures,
@@ -64,7 +63,7 @@ returns-else-more-gt0-clause-reserved g c =
     let more = c.min-more.result in
     let enough : 1 + c.div_ceil-enough.result ≡ nodes_for g.row.MIN (length (items_of_tree p) + c.args.n) =
     ap (λ k. 1 + k) c.div_ceil-enough.ensures ∙ ap (λ k. 1 + div_ceil (2 * (k + c.args.n)) g.row.MIN) c.self.invariant.counted ∙ sym (nodes_for_is g.row.MIN (length (items_of_tree p) + c.args.n)) in
-    room_reserved g.row.MIN (size (tree_of p)) (size (tree_of q)) (spares_of p) (spares_of q) (length (items_of_tree p)) (length (items_of_tree q))
-    (ap (λ (r : Parts g.row.MAX). size (tree_of r)) (sym c.self.view_is)) (ap (λ (r : Parts g.row.MAX). length (items_of_tree r)) (sym c.self.view_is)) c.args.n more c.self.invariant.some
+    room_reserved g.row.MIN (size p.tree) (size q.tree) p.spares q.spares (length (items_of_tree p)) (length (items_of_tree q))
+    (ap (λ (r : TreeWithSpares). size r.tree) (sym c.self.view_is)) (ap (λ (r : TreeWithSpares). length (items_of_tree r)) (sym c.self.view_is)) c.args.n more c.self.invariant.some
     (omega (arith, c.min-more.ensures, c.saturating_sub.ensures, c.saturating_sub-2.ensures, c.self.invariant.all_nodes, c.spares-spares.ensures, enough))
-    (omega (arith, ap (λ (r : Parts g.row.MAX). spares_of r) c.self.view_is, c.if-more-gt0.false))
+    (omega (arith, ap (λ (r : TreeWithSpares). r.spares) c.self.view_is, c.if-more-gt0.false))

@@ -1,0 +1,29 @@
+use Rattle.ttree_node.specs.Held.{set_node}
+use Rattle.ttree_node.specs.Lends.{with_node}
+use Rattle.ttree_node.specs.Tree.{with_items}
+use Rattle.ttree_node.specs.Seen.{position_at}
+use Rattle.ttree_node.proofs.Relabels.{Now, now_whole, reitemed}
+use Rattle.ttree_node.proofs.Visit.{visit}
+use Rattle.ttree_node.proofs.linked_nodes.LinkedNodes.set_items.Given.{Over}
+use Rattle.ttree_node.proofs.linked_nodes.LinkedNodes.set_items.Goals as goal
+
+now : (g : Over) (c : goal.After-self-1 g)
+    → Now (record c.self.inside.parts { nodes = with_node c.self.inside.parts.nodes c.unwrap.result.at (record c.get_mut-node.result.now { items = c.args.items }) }) c.args.place
+    (with_items c.args.items.items (position_at c.args.self.now c.args.place))
+now g c =
+    let n = c.get_mut-node.result.now in let q = c.unwrap.result.at in
+    let v = visit c.args.self.now c.self.inside.parts c.self.view_is c.self.invariant c.args.place c.unwrap.result c.unwrap.ensures c.requires.placed n c.get_mut-node.ensures.value in
+    reitemed c.args.self.now _ c.args.place n v (λ i. (c.self.view_is i).root) (λ i. (c.self.view_is i).free) (λ i. (c.self.view_is i).spares) q c.unwrap.ensures c.args.items.items
+    (λ i. set_node q (record n { items = c.args.items }) (c.self.view_is i).nodes.held)
+
+pub invariant_of-self : goal.invariant_of-self
+invariant_of-self g c = (now g c).sound
+
+pub returns-clause-placed : goal.returns-clause-placed
+returns-clause-placed g c = (now g c).placed
+
+pub returns-clause-items : goal.returns-clause-items
+returns-clause-items g c = (now g c).position
+
+pub returns-clause-tree : goal.returns-clause-tree
+returns-clause-tree g c = now_whole _ _ _ (now g c)
