@@ -1,6 +1,6 @@
 //! The T-tree as its callers see it: a list of references that rises, and the inserts that are sure of their memory.
 //! Each call hands on to the search or to an editor of the nodes, and keeps the two counts.
-ghost use Rattle.std.specs.Prelude.{◌≡◌, ◌≢◌, ◌++◌, ◌+◌, ◌*◌, ◌^◌, ◌<◌, ◌≤◌, max, length, IfSome, IfNone, IfOk, IfErr, OnOk, OnErr, All, Contains};
+ghost use Rattle.std.specs.Prelude.{[], ◌≡◌, ◌≢◌, ◌++◌, ◌+◌, ◌*◌, ◌^◌, ◌<◌, ◌≤◌, max, length, IfSome, IfNone, IfOk, IfErr, OnOk, OnErr, All, Contains};
 ghost use Rattle.std.specs.declared.cmp.Ordering.{Ordering};
 ghost use Rattle.mm_index.specs.Asking.{IsOnlyAsked, counted};
 ghost use Rattle.mm_index.specs.Order.{IsRising, insert_by, insert_placed, remove_by};
@@ -120,7 +120,7 @@ impl<const MIN: usize, const MAX: usize> TTree<MIN, MAX> {
 
     /// The root of the tree, to read its nodes.
     pub fn look(&self) -> Look<'_, MAX>
-        ensures { position result ≡ at [] (tree_of self.now) }
+        ensures { position result ≡ at [] self.now.tree }
     {
         self.links.look()
     }

@@ -6,11 +6,11 @@ ghost use Rattle.std.specs.declared.cmp.Ordering.TheVariants.{Less, Equal, Great
 ghost use Rattle.mm_index.specs.Order.{IsRising};
 ghost use Rattle.ttree.specs.Held.{items_of_tree};
 
-use ttree::TTree;
 use mm_index::{Probe, TupleOrder};
 use no_memory::NoMemory;
 use part_raw::TupleRef;
 use std::cmp::Ordering;
+use ttree::TTree;
 
 pub fn keyed(key: u32) -> TupleRef
     ensures part { result.part ≡ key }

@@ -5,11 +5,11 @@ ghost use Rattle.mm_index.specs.Order.{IsRising};
 ghost use Rattle.ttree.specs.Held.{items_of_tree};
 
 use crate::keys::{add, add_all, find_key, key_probe, keyed, range_keys};
-use ttree::TTree;
 use mm_index::Probe;
 use no_memory::NoMemory;
 use std::alloc::Global;
 use std::test::Fail;
+use ttree::TTree;
 
 // Every even key below 400, in a scattered order.
 fn scattered(alloc: Global) -> Result<TTree<2, 3>, NoMemory>

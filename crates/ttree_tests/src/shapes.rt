@@ -2,10 +2,10 @@
 ghost use Rattle.std.specs.Prelude.{◌≤◌};
 
 use crate::keys::flip_all;
-use ttree::TTree;
 use no_memory::NoMemory;
 use std::alloc::Global;
 use std::test::Fail;
+use ttree::TTree;
 
 // Whether the node at the end of the path has these keys. Where there is no node, it has none.
 fn is_at<const MIN: usize, const MAX: usize>(
