@@ -131,6 +131,7 @@ impl Relation {
         requires in_order { NeverFalls (P.place probe.old) (list_of self.now column.0) }
         ensures rest { rest_of result ≡ from_range (P.place probe.old) (list_of self.now column.0) }
         ensures probe { IsOnlyAsked P.is_sound P.can_place P.place P.asked probe.old probe.new }
+        ensures few { (keys : Keys) → IsCurrent keys self.now → IsLogarithmic (finite.len self.now.rows) (P.asked probe.new - P.asked probe.old) }
     {
         if column.0 == 0 {
             return self.by_key.walk_from(probe);

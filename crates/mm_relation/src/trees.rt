@@ -1,11 +1,12 @@
 //! The declared trees of a relation.
-ghost use Rattle.std.specs.Prelude.{◌≡◌, ℕ, ◌≤◌, ◌<◌, length, slice_index_or, map, OnOk, All, ◌==◌};
+ghost use Rattle.std.specs.Prelude.{◌≡◌, ℕ, ◌≤◌, ◌<◌, ◌-◌, length, slice_index_or, map, OnOk, All, ◌==◌};
 ghost use Rattle.std.specs.List.{list_any};
 ghost use Rattle.mm_index.specs.Asking.{IsOnlyAsked};
 ghost use Rattle.mm_index.specs.Range.{NeverFalls, from_range};
 ghost use Rattle.ttree.specs.Held.{rest_of};
 ghost use Rattle.mm_relation.specs.declared.trees.TreeOn.{TreeOn};
 ghost use Rattle.mm_relation.specs.Order.{KeysDiffer};
+ghost use Rattle.mm_relation.specs.Searching.{IsLogarithmic};
 ghost use Rattle.mm_relation.specs.State.{tree_of, HasColumn};
 ghost use Rattle.mm_relation.specs.Indexes.{shown_tree, tree_room, TreeAwaits, TreeGains, TreeHas, TreeLoses};
 
@@ -118,6 +119,7 @@ pub fn walk_tree<'a, P: Probe>(trees: &'a [TreeOn], column: ColumnNumber, probe:
     requires in_order { NeverFalls (P.place probe.old) (tree_of column.0 (map shown_tree trees.now)) }
     ensures rest { rest_of result ≡ from_range (P.place probe.old) (tree_of column.0 (map shown_tree trees.now)) }
     ensures probe { IsOnlyAsked P.is_sound P.can_place P.place P.asked probe.old probe.new }
+    ensures few { IsLogarithmic (length (tree_of column.0 (map shown_tree trees.now))) (P.asked probe.new - P.asked probe.old) }
 {
     match trees.split_first() {
         Some((first, rest)) => {
