@@ -1,9 +1,8 @@
 -- How often a search compares: few times, by the number of rows.
-use Rattle.std.proofs.Common.{◌≡◌, ◌≤◌, ◌<◌, ◌+◌, ◌*◌, ◌-◌, ◌==◌, ◌∙◌, ℕ, suc, List, [], ◌∷◌, inl, inr, true, false, IsTrue, ◌||◌, refl, arith, subst, sym, length, map}
+use Rattle.std.proofs.Common.{◌≡◌, ◌≤◌, ◌+◌, ◌*◌, ◌-◌, ◌==◌, ℕ, suc, List, [], ◌∷◌, inl, inr, true, false, IsTrue, ◌||◌, refl, arith, subst, length, map}
 use Rattle.std.specs.List.{All, list_any}
 use Rattle.std.proofs.lemmas.Bool.{cases_Bool}
 use Rattle.std.proofs.lemmas.Bool.{eqb-true}
-use Rattle.std.specs.FinMap as finite
 use Rattle.part_raw.specs.declared.tuple_ref.TupleRef.{TupleRef}
 use Rattle.part_raw.specs.Store.{Tuples}
 use Rattle.mm_index.proofs.Bags.{length-same_bag}
