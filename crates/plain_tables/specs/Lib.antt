@@ -11,6 +11,7 @@ pub mod QueryLaws
 pub mod Reading
 pub mod References
 pub mod Refusals
+pub mod ResolvedLaws
 pub mod Resolving
 pub mod Runs
 pub mod SequenceLends

@@ -6,10 +6,8 @@ use Rattle.std.specs.Option.{option_and_then, option_map, option_map_or}
 use Rattle.std.specs.Str.{bytes_eq}
 use Rattle.std.specs.Ordering.{is_eq}
 use Rattle.plain_tables.specs.Names.{IsName}
-use Rattle.plain_tables.specs.Values.{value_cmp}
-use Rattle.plain_tables.specs.Tables.{Table, Row, AreRising, has_key_of}
+use Rattle.plain_tables.specs.Tables.{Table, Row, key_cmp, AreRising, has_key_of}
 use Rattle.plain_tables.specs.Databases.{Database, table_named}
-use Rattle.plain_tables.specs.Queries.{value_at}
 use Rattle.plain_tables.specs.declared.value.Value.{Value}
 use Rattle.plain_tables.specs.declared.value.Value.TheVariants as value
 use Rattle.plain_tables.specs.declared.schema.BaseKind.{BaseKind}
@@ -87,11 +85,15 @@ is_held tables reference =
 
 -- whether a reference names the row of the table of that name
 abbrev pub is_to : List ℕ → Row → Reference → Bool
-is_to name row reference = bytes_eq name reference.0 && is_eq (value_cmp (value_at row 0) reference.1)
+is_to name row reference = bytes_eq name reference.0 && is_eq (key_cmp row (reference.1 ∷ []))
 
 -- whether a row of some table refers to the row of the table of that name
 abbrev pub is_referenced : Database → List ℕ → Row → Bool
 is_referenced tables name row = list_any (is_to name row) (flat_map table_references tables)
+
+-- whether a column refers to one of these tables, if it refers to a table at all
+abbrev pub refers_into : Database → Column → Bool
+refers_into tables column = option_map_or (λ name. is_some (table_named name tables)) (referred column.kind) true
 
 -- whether a column refers to the table of that name
 abbrev pub refers_to : List ℕ → Column → Bool
@@ -104,11 +106,11 @@ is_table_referenced tables name = list_any (λ t. list_any (refers_to name) t.co
 -- ---- well-formed databases
 
 -- An integer column holds integers of 64 bits, a text column texts of at most 1,024 bytes. A reference column holds keys of
--- the table that it refers to, and nulls where it can.
+-- the table that it refers to, and nulls where they can stand.
 abbrev pub CanHold : Database → ColKind → Value → Type 0
+CanHold tables k value.Null = IsTrue (takes_null k)
 CanHold tables kind.Int (value.Int z) = FitsSigned w64 z
 CanHold tables kind.Text (value.Text text) = length text ≤ 1024
-CanHold tables (kind.RefOrNull name) value.Null = Unit {0}
 CanHold tables (kind.Ref name) v = IsTrue (is_held tables (name, v))
 CanHold tables (kind.RefOrNull name) v = IsTrue (is_held tables (name, v))
 CanHold tables k v = ⊥
@@ -139,14 +141,11 @@ pub record IsSoundTable (limits : Limits) (table : Table) : Type 0 where
   pub rows_rise : AreRising table.rows
   pub few_rows : length table.rows ≤ limits.rows
 
--- a column refers to a table of these, if it refers to one
-abbrev pub RefersInto : Database → Column → Type 0
-RefersInto tables column = IsTrue (option_map_or (λ name. is_some (table_named name tables)) (referred column.kind) true)
-
 -- behind these tables each refers to tables before it
 abbrev pub ReferBack : Database → Database → Type 0
 ReferBack before [] = Unit {0}
-ReferBack before (table ∷ after) = All (RefersInto before) table.columns × ReferBack (before ++ table ∷ []) after
+ReferBack before (table ∷ after) =
+    All (λ c. IsTrue (refers_into before c)) table.columns × ReferBack (before ++ table ∷ []) after
 
 -- Each table is sound, refers to tables before it, and has rows that its columns can hold. They differ in their names, and
 -- there are at most 64.

@@ -1,6 +1,6 @@
 -- Resolving: what a command means with numbers in the place of names, and the checks that need no row.
-use Rattle.std.specs.Prelude.{ℕ, List, [], ◌∷◌, ◌++◌, Bool, true, false, ◌||◌, ◌&&◌, not, ◌==◌, nat_lt, nat_le, length, map, if◌then◌else◌, is_some, None, Result, Ok, Err, slice_get, zip, take}
-use Rattle.std.specs.List.{list_any, position, filter_map}
+use Rattle.std.specs.Prelude.{ℕ, List, [], ◌∷◌, ◌++◌, Bool, true, false, ◌||◌, ◌&&◌, not, ◌==◌, nat_lt, nat_le, length, map, if◌then◌else◌, is_some, None, Result, Ok, Err, zip, take}
+use Rattle.std.specs.List.{list_any, position_or_len, filter_map}
 use Rattle.std.specs.Option.{option_map, option_map_or}
 use Rattle.std.specs.Str.{bytes_eq}
 use Rattle.plain_tables.specs.Values.{is_null}
@@ -8,7 +8,7 @@ use Rattle.plain_tables.specs.Tables.{Table, Row}
 use Rattle.plain_tables.specs.Databases.{Database, is_named, table_named}
 use Rattle.plain_tables.specs.Queries.{JoinedColumn, joined_columns, column_meant, place_meant, places_meant, named_items}
 use Rattle.plain_tables.specs.Effects.{Check, repeats, column_names, misses, is_long, setting_name, condition_names}
-use Rattle.plain_tables.specs.References.{referred, is_typed}
+use Rattle.plain_tables.specs.References.{referred, is_typed, refers_into}
 use Rattle.plain_tables.specs.declared.value.Value.{Value}
 use Rattle.plain_tables.specs.declared.condition.Op.{Op}
 use Rattle.plain_tables.specs.declared.condition.Op.TheVariants as op
@@ -37,17 +37,17 @@ abbrev pub meaning : List Check → Resolved → Result Resolved Refusal
 meaning [] r = Ok r
 meaning (check ∷ checks) r = if check.refuses then Err check.refusal else meaning checks r
 
--- the number of a column, and that of a table
+-- the number of a column
 abbrev pub column_number : ℕ → ColumnNumber
 column_number n = record { 0 = n }
 
-abbrev pub table_number : ℕ → TableNumber
-table_number n = record { 0 = n }
+-- the number of the table of that name
+abbrev pub number_of : List ℕ → Database → TableNumber
+number_of name tables = record { 0 = position_or_len (is_named name) tables }
 
--- a command on the table of that name, by the table and its number, refused where there is none
+-- a command on the table of that name, by its number and the table, refused where there is none
 abbrev pub on_numbered : List ℕ → Database → (TableNumber → Table → Result Resolved Refusal) → Result Resolved Refusal
-on_numbered name tables means =
-    option_map_or (λ n. option_map_or (means (table_number n)) (slice_get tables n) (Err NoSuchTable)) (position (is_named name) tables) (Err NoSuchTable)
+on_numbered name tables means = option_map_or (means (number_of name tables)) (table_named name tables) (Err NoSuchTable)
 
 -- the columns that a command on one table can name
 abbrev pub own_columns : Table → List JoinedColumn
@@ -92,15 +92,11 @@ has_mistyped tables columns row = list_any (λ c. not (is_typed tables c.1 c.0.k
 
 -- ---- table
 
--- whether a column refers to a table that isn't there
-abbrev pub refers_nowhere : Database → Column → Bool
-refers_nowhere tables column = option_map_or (λ name. not (is_some (table_named name tables))) (referred column.kind) false
-
 -- Each table referred to is there, the name is new, no column is named twice, the first column refers to no table, and there
 -- are at most 16 columns, and fewer than 64 tables so far.
 abbrev pub table_checks : Database → List ℕ → Schema → List Check
 table_checks tables name schema =
-    record { refuses = list_any (refers_nowhere tables) schema.columns; refusal = NoSuchTable }
+    record { refuses = list_any (λ c. not (refers_into tables c)) schema.columns; refusal = NoSuchTable }
     ∷ record { refuses = is_some (table_named name tables); refusal = TableExists }
     ∷ record { refuses = repeats bytes_eq (column_names schema.columns); refusal = ColumnNamedTwice }
     ∷ record { refuses = list_any (λ c. is_some (referred c.kind)) (take 1 schema.columns); refusal = WrongType }

@@ -21,6 +21,7 @@ mod numbers;
 pub mod query_laws;
 mod refusal;
 mod resolved;
+pub mod resolved_laws;
 mod schema;
 mod sequence;
 pub mod spelling_laws;
