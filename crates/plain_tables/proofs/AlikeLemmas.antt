@@ -1,7 +1,7 @@
 -- Declared indexes: no command is resolved by them, and no resolved command reads them.
-use Rattle.std.proofs.Common.{◌≡◌, ℕ, suc, Bool, false, true, not, length, map, set, take, drop, List, [], ◌∷◌, ◌++◌, refl, sym, ap, ◌∙◌, Option, Some, None}
+use Rattle.std.proofs.Common.{◌≡◌, ℕ, suc, Bool, false, true, not, map, set, take, drop, List, [], ◌∷◌, ◌++◌, refl, sym, ap, ◌∙◌, Option, Some, None}
 use Rattle.std.specs.Prelude.{Result, Err, zip, ◌||◌, ◌&&◌}
-use Rattle.std.specs.List.{list_any, list_all, flat_map, slice_get, remove, filter_map}
+use Rattle.std.specs.List.{list_any, list_all, slice_get, remove}
 use Rattle.std.specs.Option.{is_some, option_map, option_map_or, option_and_then}
 use Rattle.std.proofs.lemmas.List.{length-map, map-set, map_push, map-append, take-map, drop-map}
 use Rattle.std.proofs.lemmas.List.Folds.{flat_map-map}
@@ -9,7 +9,7 @@ use Rattle.std.proofs.lemmas.Option.{slice_get-map}
 use Rattle.plain_tables.specs.Values.{is_null}
 use Rattle.plain_tables.specs.Tables.{Table, Row, has_key_of}
 use Rattle.plain_tables.specs.Databases.{Database, table_named}
-use Rattle.plain_tables.specs.Queries.{JoinedColumn, column_meant, place_meant}
+use Rattle.plain_tables.specs.Queries.{JoinedColumn, column_meant}
 use Rattle.plain_tables.specs.Effects.{Effect, Check, Outcome, Refused, Done, checked, setting_name, grown_by, new_table}
 use Rattle.plain_tables.specs.QueryLaws.{unindexed}
 use Rattle.plain_tables.specs.References.{Reference, referred, own_type, key_type, type_of, has_type, is_typed, references, table_references, is_held, is_to, is_referenced, refers_into}
@@ -19,7 +19,6 @@ use Rattle.plain_tables.specs.Doing.{on_table, passes_all, assigned_references, 
 use Rattle.plain_tables.specs.ResolvedLaws.{ResolvedAlike, DoneAlike}
 use Rattle.plain_tables.specs.declared.value.Value.{Value}
 use Rattle.plain_tables.specs.declared.value.Value.TheVariants as value
-use Rattle.plain_tables.specs.declared.condition.ColName.{ColName}
 use Rattle.plain_tables.specs.declared.condition.Cond.{Cond}
 use Rattle.plain_tables.specs.declared.refusal.Refusal.{Refusal}
 use Rattle.plain_tables.specs.declared.refusal.Refusal.TheVariants.{NoSuchTable}
@@ -27,13 +26,11 @@ use Rattle.plain_tables.specs.declared.schema.BaseKind.{BaseKind}
 use Rattle.plain_tables.specs.declared.schema.ColKind.{ColKind}
 use Rattle.plain_tables.specs.declared.schema.Column.{Column}
 use Rattle.plain_tables.specs.declared.schema.Schema.{Schema}
-use Rattle.plain_tables.specs.declared.command.Items.{Items}
 use Rattle.plain_tables.specs.declared.command.Setting.{Setting}
 use Rattle.plain_tables.specs.declared.command.Limits.{Limits}
 use Rattle.plain_tables.specs.declared.command.Command.{Command}
 use Rattle.plain_tables.specs.declared.command.Command.TheVariants as command
 use Rattle.plain_tables.specs.declared.numbers.TableNumber.{TableNumber}
-use Rattle.plain_tables.specs.declared.resolved.Assignment.{Assignment}
 use Rattle.plain_tables.specs.declared.resolved.Resolved.{Resolved}
 use Rattle.plain_tables.specs.declared.resolved.Resolved.TheVariants as resolved
 use Rattle.plain_tables.proofs.IndexLemmas.{bare, named_unindexed, place_unindexed, some_unindexed, found_bare, checked_as}

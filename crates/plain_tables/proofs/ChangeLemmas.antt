@@ -1,21 +1,20 @@
 -- What resolved commands leave: of other tables, of rows that aren't picked, of a database that they are refused of.
-use Rattle.std.proofs.Common.{◌≡◌, ◌≢◌, ◌<◌, ◌+◌, ℕ, zero, suc, Bool, true, false, not, cond, length, map, set, get_or, arith, List, [], ◌∷◌, inl, inr, refl, sym, ap, ◌∙◌, subst, Option, Some, None}
+use Rattle.std.proofs.Common.{◌≡◌, ◌≢◌, ◌<◌, ℕ, zero, suc, true, false, not, length, map, set, get_or, arith, List, [], ◌∷◌, refl, sym, ap, ◌∙◌, subst, Option, Some}
 use Rattle.std.specs.Prelude.{pos, ◌==◌}
-use Rattle.std.specs.List.{All, AllZip, filter, filter_map, list_any, slice_get}
-use Rattle.std.specs.Option.{option_map}
-use Rattle.std.proofs.lemmas.Bool.{or_parts, eqb-true, eqb-false, eq-eqb, ne_eqb, cond-true, cond-false}
+use Rattle.std.specs.List.{All, list_any, slice_get}
+use Rattle.std.proofs.lemmas.Bool.{or_parts, eqb-false, cond-true, cond-false}
 use Rattle.std.proofs.lemmas.List.{length-map, length-set, get_or-set_same, get_or-set_other, map-id}
-use Rattle.std.proofs.lemmas.List.Elements.{All-nil, All-head, All-tail, All-map, All-filter, All-weaker}
+use Rattle.std.proofs.lemmas.List.Elements.{All-head, All-tail, All-map, All-filter, All-weaker}
 use Rattle.std.proofs.lemmas.List.Filters.{length-filter_both}
 use Rattle.std.proofs.lemmas.Option.{none-some, same_Some, slice_get-get_or}
 use Rattle.plain_tables.specs.Tables.{Table, Row}
 use Rattle.plain_tables.specs.Databases.{Database}
 use Rattle.plain_tables.specs.Queries.{value_at, full_name}
-use Rattle.plain_tables.specs.Effects.{Effect, Done, Changed, Rows, Refused, repeats, grown_by}
+use Rattle.plain_tables.specs.Effects.{Done, Changed, Rows, Refused, grown_by}
 use Rattle.plain_tables.specs.References.{IsRowOf}
 use Rattle.plain_tables.specs.Resolving.{own_columns}
-use Rattle.plain_tables.specs.Doing.{passes_all, assigned, insert_checks, update_checks, delete_checks, updated, picked, without, shown_values, headings, done}
-use Rattle.plain_tables.specs.ResolvedLaws.{rows_table, rowless, ChangesRowsOf, OwnRowsChange, KeepsIfRefused, RefusedKeeps, RefusedUpdateKeeps, RefusedDeleteKeeps, UpdateKeepsUnpicked, is_to_column, assigns_twice, HasAssigned, UpdateSetsPicked, DeletesThePicked, SelectsRows, ShownFitHeadings, IsShown}
+use Rattle.plain_tables.specs.Doing.{passes_all, assigned, insert_checks, update_checks, delete_checks, updated, picked, without, shown_values, headings}
+use Rattle.plain_tables.specs.ResolvedLaws.{rowless, ChangesRowsOf, OwnRowsChange, KeepsIfRefused, RefusedKeeps, RefusedUpdateKeeps, RefusedDeleteKeeps, UpdateKeepsUnpicked, is_to_column, assigns_twice, HasAssigned, UpdateSetsPicked, DeletesThePicked, SelectsRows, ShownFitHeadings, IsShown}
 use Rattle.plain_tables.specs.Runs.{refused}
 use Rattle.plain_tables.specs.declared.value.Value.TheVariants as value
 use Rattle.plain_tables.specs.declared.schema.Column.{Column}
@@ -27,7 +26,7 @@ use Rattle.plain_tables.specs.declared.resolved.Shown.{Shown}
 use Rattle.plain_tables.specs.declared.resolved.Shown.TheVariants as shown
 use Rattle.plain_tables.specs.declared.resolved.Resolved.TheVariants as resolved
 use Rattle.plain_tables.proofs.EffectLemmas.{checked_satisfies}
-use Rattle.plain_tables.proofs.ListLemmas.{AllZip-map, filter_every, filter_others, filter_again, option_map_or_satisfies}
+use Rattle.plain_tables.proofs.ListLemmas.{AllZip-map, filter_every, filter_others, filter_again}
 use Rattle.plain_tables.proofs.SettingLemmas.{any_column}
 use Rattle.plain_tables.proofs.SoundLemmas.{of_table_satisfies}
 use Rattle.plain_tables.proofs.UpdateLemmas.{length_of_one}

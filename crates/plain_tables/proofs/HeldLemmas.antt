@@ -1,17 +1,13 @@
 -- References that are held, and rows that columns can hold: that both stay where a database changes.
-use Rattle.std.proofs.Common.{◌≡◌, ◌<◌, ℕ, zero, suc, Bool, true, false, length, set, get_or, map, arith, List, [], ◌∷◌, ◌++◌, inl, inr, sym, ap, ◌∙◌, refl, subst, Option, Some, None}
-use Rattle.std.specs.Prelude.{not, zip, ◌&&◌}
-use Rattle.std.specs.List.{All, AllZip, filter, list_any, list_all, flat_map, cons_option, slice_get, find}
-use Rattle.std.specs.Option.{option_map}
-use Rattle.std.specs.Ordering.{is_eq}
-use Rattle.std.proofs.lemmas.Bool.{cases_Bool, or_parts, and_parts, not-false, both_ways, false≢true}
-use Rattle.std.proofs.lemmas.List.Elements.{All-nil, All-cons, All-head, All-tail, All-append}
-use Rattle.std.proofs.lemmas.Option.{none-some, same_Some}
+use Rattle.std.proofs.Common.{◌≡◌, ℕ, zero, suc, true, false, length, set, get_or, arith, List, [], ◌∷◌, inl, inr, refl, subst, Some}
+use Rattle.std.specs.Prelude.{not}
+use Rattle.std.specs.List.{All, AllZip, flat_map, slice_get}
+use Rattle.std.proofs.lemmas.Bool.{cases_Bool, or_parts, not-false, false≢true}
+use Rattle.std.proofs.lemmas.List.Elements.{All-head, All-tail}
 use Rattle.std.specs.Str.{bytes_eq}
-use Rattle.plain_tables.specs.Tables.{Table, Row, key_cmp, has_key_of}
-use Rattle.plain_tables.specs.Databases.{Database, is_named, table_named}
-use Rattle.plain_tables.specs.Effects.{is_long}
-use Rattle.plain_tables.specs.References.{Reference, reference_of, references, table_references, is_held, is_typed, takes_null, CanHold, IsRowOf}
+use Rattle.plain_tables.specs.Tables.{Table, Row, has_key_of}
+use Rattle.plain_tables.specs.Databases.{Database, is_named}
+use Rattle.plain_tables.specs.References.{Reference, reference_of, references, table_references, is_held, is_typed, CanHold, IsRowOf}
 use Rattle.plain_tables.specs.Resolving.{has_mistyped}
 use Rattle.plain_tables.specs.ResolvedLaws.{IsStorable}
 use Rattle.plain_tables.specs.declared.value.Value.{Value}

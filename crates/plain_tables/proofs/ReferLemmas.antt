@@ -1,15 +1,15 @@
 -- References between tables: that each table still refers to tables before it where a database changes.
-use Rattle.std.proofs.Common.{◌≡◌, ◌<◌, ℕ, zero, suc, Bool, true, false, length, get_or, List, [], ◌∷◌, ◌++◌, append-nil, append_assoc, inl, inr, sym, ap, ◌∙◌, refl, subst, Option, Some, None}
+use Rattle.std.proofs.Common.{◌≡◌, ℕ, zero, suc, true, false, get_or, List, [], ◌∷◌, ◌++◌, append-nil, append_assoc, inl, inr, sym, ap, ◌∙◌, refl, subst, Option, Some, None}
 use Rattle.std.specs.Prelude.{cond}
-use Rattle.std.specs.List.{All, AllZip, list_any, filter_map, flat_map, cons_option, slice_get, remove}
+use Rattle.std.specs.List.{All, AllZip, list_any, flat_map, cons_option, slice_get, remove}
 use Rattle.std.specs.Option.{is_some, option_map, option_map_or}
 use Rattle.std.specs.Str.{bytes_eq}
-use Rattle.std.proofs.lemmas.Bool.{cases_Bool, or_parts, false≢true, true_from_ne_false}
+use Rattle.std.proofs.lemmas.Bool.{cases_Bool, or_parts, false≢true}
 use Rattle.std.proofs.lemmas.List.Elements.{All-nil, All-cons, All-head, All-tail, All-weaker, AllZip-push}
 use Rattle.std.proofs.lemmas.Option.{none-some, same_Some}
 use Rattle.plain_tables.specs.Tables.{Table, Row}
 use Rattle.plain_tables.specs.Databases.{Database, is_named, table_named}
-use Rattle.plain_tables.specs.References.{Reference, referred, reference_of, references, table_references, is_held, refers_into, refers_to, ReferBack}
+use Rattle.plain_tables.specs.References.{Reference, referred, reference_of, references, table_references, refers_into, refers_to, ReferBack}
 use Rattle.plain_tables.specs.declared.value.Value.{Value}
 use Rattle.plain_tables.specs.declared.value.Value.TheVariants as value
 use Rattle.plain_tables.specs.declared.schema.Column.{Column}

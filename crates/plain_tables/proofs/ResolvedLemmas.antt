@@ -1,24 +1,24 @@
 -- A command is resolved only to one of these tables, with values that can stand there.
-use Rattle.std.proofs.Common.{◌≡◌, ◌≢◌, ◌<◌, ◌≤◌, ℕ, zero, suc, Bool, true, false, not, length, map, get_or, take, arith, List, [], ◌∷◌, inl, inr, refl, sym, ap, ◌∙◌, subst, Option, Some, None}
-use Rattle.std.specs.Prelude.{Result, Ok, Err, ◌==◌, ◌||◌, ◌&&◌, nat_lt, nat_le}
-use Rattle.std.specs.List.{All, AllByRecursion, list_any, filter_map, cons_option, position_or_len, slice_get}
+use Rattle.std.proofs.Common.{◌≡◌, ◌≢◌, ◌<◌, ℕ, true, false, not, length, map, get_or, take, arith, List, [], ◌∷◌, inl, inr, refl, sym, ap, ◌∙◌, subst, Option, Some, None}
+use Rattle.std.specs.Prelude.{Result, Ok, Err, ◌==◌, ◌&&◌, nat_lt, nat_le}
+use Rattle.std.specs.List.{All, AllByRecursion, list_any, cons_option, slice_get}
 use Rattle.std.specs.Option.{is_some, option_map, option_map_or, option_and_then}
 use Rattle.std.specs.Result.{result_ok}
 use Rattle.std.specs.Str.{bytes_eq}
 use Rattle.std.specs.declared.cmp.Ordering.TheVariants.{Less}
 use Rattle.std.proofs.lemmas.Bool.{cases_Bool, or_parts, or_from, not-false, both_ways, false≢true, eqb-true, eq-eqb, ne_eqb, ltb-false, leb-false}
-use Rattle.std.proofs.lemmas.List.Elements.{All-nil, All-cons, All-head, All-tail, All-map, All-weaker, All-from_recursion}
+use Rattle.std.proofs.lemmas.List.Elements.{All-nil, All-cons, All-head, All-tail, All-map, All-weaker}
 use Rattle.std.proofs.lemmas.List.Folds.{find_at, list_any_none}
 use Rattle.std.proofs.lemmas.Option.{none-some, same_Some, slice_get-get_or, slice_get-map}
 use Rattle.std.proofs.lemmas.Slice.Eq.{bytes_eq-Decides}
 use Rattle.plain_tables.specs.Values.{is_null}
-use Rattle.plain_tables.specs.Tables.{Table, Row, key_cmp}
+use Rattle.plain_tables.specs.Tables.{Table, key_cmp}
 use Rattle.plain_tables.specs.Databases.{Database, is_named, table_named}
 use Rattle.plain_tables.specs.Queries.{JoinedColumn, column_meant, place_meant, places_meant}
-use Rattle.plain_tables.specs.Effects.{Check, repeats, column_names, is_long, setting_name, condition_names, misses, new_table}
+use Rattle.plain_tables.specs.Effects.{Check, repeats, is_long, setting_name}
 use Rattle.plain_tables.specs.References.{referred, own_type, is_typed, refers_into, IsKeyTree}
-use Rattle.plain_tables.specs.Resolving.{meaning, column_number, number_of, on_numbered, own_columns, tests_of, assignments_of, shown_of, asks_order, mistypes, is_mistyped, table_checks, insert_checks, update_checks, delete_checks, select_checks, resolved_of}
-use Rattle.plain_tables.specs.ResolvedLaws.{HasWidth, IsGiven, IsStorable, IsOfColumn, IsDeclarable, IsAssignable, is_to_column, assigns_twice, AreTests, IsShown, OfTable, IsMeant, ResolvedAreMeant, CommandsKeepSound}
+use Rattle.plain_tables.specs.Resolving.{meaning, column_number, number_of, on_numbered, own_columns, tests_of, assignments_of, shown_of, asks_order, mistypes, is_mistyped, table_checks, insert_checks, update_checks, delete_checks, select_checks}
+use Rattle.plain_tables.specs.ResolvedLaws.{HasWidth, IsGiven, IsStorable, IsOfColumn, IsDeclarable, IsAssignable, is_to_column, assigns_twice, AreTests, IsShown, IsMeant, ResolvedAreMeant, CommandsKeepSound}
 use Rattle.plain_tables.specs.declared.value.Value.{Value}
 use Rattle.plain_tables.specs.declared.value.Value.TheVariants as value
 use Rattle.plain_tables.specs.declared.condition.ColName.{ColName}
@@ -35,10 +35,8 @@ use Rattle.plain_tables.specs.declared.command.Items.TheVariants as items
 use Rattle.plain_tables.specs.declared.command.Setting.{Setting}
 use Rattle.plain_tables.specs.declared.command.Limits.{Limits}
 use Rattle.plain_tables.specs.declared.command.Command.TheVariants as command
-use Rattle.plain_tables.specs.declared.numbers.ColumnNumber.{ColumnNumber}
 use Rattle.plain_tables.specs.declared.numbers.TableNumber.{TableNumber}
 use Rattle.plain_tables.specs.declared.resolved.Assignment.{Assignment}
-use Rattle.plain_tables.specs.declared.resolved.Test.{Test}
 use Rattle.plain_tables.specs.declared.resolved.Resolved.{Resolved}
 use Rattle.plain_tables.specs.declared.resolved.Resolved.TheVariants as resolved
 use Rattle.plain_tables.proofs.DatabaseLemmas.{columns_differ}

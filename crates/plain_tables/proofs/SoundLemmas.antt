@@ -1,26 +1,26 @@
 -- Each resolved command keeps a database sound.
-use Rattle.std.proofs.Common.{◌≡◌, ◌≢◌, ℕ, zero, suc, ◌+◌, ◌<◌, ◌≤◌, Bool, true, false, not, cond, length, take, drop, set, map, get_or, arith, List, [], ◌∷◌, ◌++◌, inl, inr, refl, sym, ap, ◌∙◌, subst, Option, Some, None, ◌⊎◌}
-use Rattle.std.specs.Prelude.{nat_le, ◌&&◌, ◌||◌}
-use Rattle.std.specs.List.{All, AllPairs, AllZip, filter, filter_map, list_any, list_all, flat_map, slice_get, remove}
-use Rattle.std.specs.Option.{is_some, option_and_then, option_map_or}
+use Rattle.std.proofs.Common.{◌≡◌, ◌≢◌, ℕ, suc, ◌<◌, ◌≤◌, Bool, true, false, not, cond, length, take, set, map, get_or, arith, List, [], ◌∷◌, ◌++◌, inl, inr, refl, sym, ap, ◌∙◌, subst, Some, ◌⊎◌}
+use Rattle.std.specs.Prelude.{◌||◌}
+use Rattle.std.specs.List.{All, filter, list_any, flat_map, slice_get, remove}
+use Rattle.std.specs.Option.{is_some, option_and_then}
 use Rattle.std.specs.Str.{bytes_eq}
 use Rattle.std.specs.Ordering.{is_eq, is_lt}
 use Rattle.std.specs.declared.cmp.Ordering.{Ordering}
 use Rattle.std.specs.declared.cmp.Ordering.TheVariants.{Less, Equal, Greater}
-use Rattle.std.proofs.lemmas.Bool.{cases_Bool, or_parts, or_left, or_right, or_cases, and_cases, not-false, not_from_false, both_ways, false≢true, leb-false, cond_both, eq-eqb}
+use Rattle.std.proofs.lemmas.Bool.{cases_Bool, or_left, or_right, not-false, not_from_false, both_ways, false≢true, leb-false, cond_both, eq-eqb}
 use Rattle.std.proofs.lemmas.List.{length-map, length-set, length-append, length-take, length-drop, length_push}
 use Rattle.std.proofs.lemmas.List.Elements.{All-nil, All-cons, All-head, All-tail, All-push, All-set, All-map, All-filter, All-weaker}
 use Rattle.std.proofs.lemmas.List.Filters.{length-filter_both}
 use Rattle.std.proofs.lemmas.List.Folds.{list_any-append, list_any_none}
-use Rattle.std.proofs.lemmas.List.Kept.{AllPairs-cons, AllPairs-filter}
+use Rattle.std.proofs.lemmas.List.Kept.{AllPairs-filter}
 use Rattle.std.proofs.lemmas.List.Quantifiers.{all_pairs_push, all_pairs_remove}
 use Rattle.std.proofs.lemmas.Option.{slice_get_within, get_or_from_slice_get, same_Some}
 use Rattle.plain_tables.specs.Tables.{Table, Row, AreRising, key_cmp, has_key_of, with_row}
 use Rattle.plain_tables.specs.Databases.{Database, is_named, table_named}
 use Rattle.plain_tables.specs.Effects.{Effect, new_table, grown_by}
 use Rattle.plain_tables.specs.References.{Reference, reference_of, references, table_references, is_held, is_to, is_referenced, is_typed, refers_into, refers_to, CanHold, IsRowOf, IsKeyTree, IsSoundTable, IsSound}
-use Rattle.plain_tables.specs.Doing.{on_table, passes_all, assigned, assigned_references, insert_checks, update_checks, delete_checks, updated, picked, update, without, delete, is_kind, is_index, with_index, without_index, done}
-use Rattle.plain_tables.specs.ResolvedLaws.{OfTable, IsDeclarable, IsIndexable, IsInsertable, IsAssignable, AreAssignable, IsMeant, DoneKeepsSound, UpdateKeepsSound, DeleteKeepsSound}
+use Rattle.plain_tables.specs.Doing.{on_table, passes_all, assigned, assigned_references, insert_checks, update_checks, delete_checks, updated, picked, without, is_kind, is_index, with_index, without_index, done}
+use Rattle.plain_tables.specs.ResolvedLaws.{OfTable, IsIndexable, IsInsertable, IsAssignable, AreAssignable, DoneKeepsSound, UpdateKeepsSound, DeleteKeepsSound}
 use Rattle.plain_tables.specs.declared.value.Value.{Value}
 use Rattle.plain_tables.specs.declared.refusal.Refusal.{Refusal}
 use Rattle.plain_tables.specs.declared.refusal.Refusal.TheVariants.{NoSuchTable}

@@ -2,7 +2,7 @@
 use Rattle.std.specs.Prelude.{ℕ, List, [], ◌∷◌, ◌++◌, Bool, true, false, not, ◌==◌, ◌&&◌, nat_le, length, map, if◌then◌else◌, None, slice_get, slice_set, remove}
 use Rattle.std.specs.List.{list_any, list_all, filter, filter_map}
 use Rattle.std.specs.Option.{option_and_then, option_map, option_map_or}
-use Rattle.plain_tables.specs.Tables.{Table, Row, has_key_of, with_row}
+use Rattle.plain_tables.specs.Tables.{Table, Row, has_key_of}
 use Rattle.plain_tables.specs.Databases.{Database}
 use Rattle.plain_tables.specs.Queries.{full_name, value_at, stands}
 use Rattle.plain_tables.specs.Effects.{Check, Effect, Done, Changed, Rows, Refused, checked, new_table, grown_by}

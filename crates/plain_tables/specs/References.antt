@@ -1,5 +1,5 @@
 -- References: the tables that columns refer to, and the rows that their values name.
-use Rattle.std.specs.Prelude.{◌≡◌, ◌≢◌, ℕ, ◌<◌, ◌≤◌, List, [], ◌∷◌, ◌++◌, Bool, false, true, not, ◌&&◌, length, Option, Some, None, is_some, IsSome, IsFalse, IsTrue, FitsSigned, slice_get, zip}
+use Rattle.std.specs.Prelude.{◌≡◌, ◌≢◌, ℕ, ◌<◌, ◌≤◌, List, [], ◌∷◌, ◌++◌, Bool, false, true, ◌&&◌, length, Option, Some, None, is_some, IsSome, IsTrue, FitsSigned, slice_get, zip}
 use Rattle.std.specs.Int.{w64}
 use Rattle.std.specs.List.{All, AllPairs, filter_map, flat_map, list_any}
 use Rattle.std.specs.Option.{option_and_then, option_map, option_map_or}

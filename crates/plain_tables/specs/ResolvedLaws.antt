@@ -1,6 +1,6 @@
 -- Laws of resolved commands: that they keep databases sound, what they leave and show, and that no declared index plays a
 -- part.
-use Rattle.std.specs.Prelude.{◌≡◌, ◌≢◌, ◌+◌, ◌==◌, ℕ, ◌<◌, ◌≤◌, List, [], Bool, not, length, map, Result, Ok, Option, Some, None, is_some, IsTrue, IsFalse, FitsSigned, slice_get}
+use Rattle.std.specs.Prelude.{◌≡◌, ◌≢◌, ◌+◌, ◌==◌, ℕ, ◌<◌, ◌≤◌, List, [], Bool, not, length, map, Ok, Option, Some, None, is_some, IsTrue, IsFalse, FitsSigned, slice_get}
 use Rattle.std.specs.Int.{w64}
 use Rattle.std.specs.List.{All, AllZip, Contains, list_any}
 use Rattle.plain_tables.specs.Names.{IsName}

@@ -1,5 +1,5 @@
 -- Resolving: what a command means with numbers in the place of names, and the checks that need no row.
-use Rattle.std.specs.Prelude.{ℕ, List, [], ◌∷◌, ◌++◌, Bool, true, false, ◌||◌, ◌&&◌, not, ◌==◌, nat_lt, nat_le, length, map, if◌then◌else◌, is_some, None, Result, Ok, Err, zip, take}
+use Rattle.std.specs.Prelude.{ℕ, List, [], ◌∷◌, ◌++◌, Bool, true, false, ◌||◌, ◌&&◌, not, ◌==◌, nat_lt, nat_le, length, map, if◌then◌else◌, is_some, Result, Ok, Err, zip, take}
 use Rattle.std.specs.List.{list_any, position_or_len, filter_map}
 use Rattle.std.specs.Option.{option_map, option_map_or}
 use Rattle.std.specs.Str.{bytes_eq}
