@@ -9,16 +9,12 @@ use Rattle.std.proofs.lemmas.List.Elements.{All-nil, All-cons, All-head, All-tai
 use Rattle.std.proofs.lemmas.Option.{none-some, same_Some}
 use Rattle.plain_tables.specs.Tables.{Table, Row}
 use Rattle.plain_tables.specs.Databases.{Database, is_named, table_named}
-use Rattle.plain_tables.specs.References.{Reference, referred, reference_of, references, table_references, refers_into, refers_to, ReferBack}
+use Rattle.plain_tables.specs.References.{Reference, referred, reference_of, references, table_references, RefersInto, refers_to, ReferBack}
 use Rattle.plain_tables.specs.declared.value.Value.{Value}
 use Rattle.plain_tables.specs.declared.value.Value.TheVariants as value
 use Rattle.plain_tables.specs.declared.schema.Column.{Column}
 use Rattle.plain_tables.proofs.HeldLemmas.{StaysHeld}
 use Rattle.plain_tables.proofs.ListLemmas.{All-flat_map, fails_where_none}
-
--- a column refers to one of these tables, if it refers to a table at all
-abbrev pub Refers : Database → Column → Type 0
-Refers tables column = refers_into tables column ≡ true
 
 -- ---- tables of the same names and columns
 
@@ -49,7 +45,7 @@ refers_as : (found : Option (List ℕ)) (tables others : Database)
 refers_as None tables others there h = refl
 refers_as (Some name) tables others there h = there name h
 
-refers_alike : (tables others : Database) → AllZip HasShape tables others → (c : Column) → Refers tables c → Refers others c
+refers_alike : (tables others : Database) → AllZip HasShape tables others → (c : Column) → RefersInto tables c → RefersInto others c
 refers_alike tables others same c h =
     refers_as (referred c.kind) tables others (λ name there. sym (named_alike name tables others same) ∙ there) h
 
@@ -59,20 +55,20 @@ refer_back_alike before before' [] [] same same' back = tt
 refer_back_alike before before' [] (u ∷ after') same same' back = absurd same'
 refer_back_alike before before' (t ∷ after) [] same same' back = absurd same'
 refer_back_alike before before' (t ∷ after) (u ∷ after') same same' back = (
-  subst (λ columns. All (Refers before') columns) same'.0.1
-      (All-weaker (Refers before) (Refers before') (refers_alike before before' same) t.columns back.0),
+  subst (λ columns. All (RefersInto before') columns) same'.0.1
+      (All-weaker (RefersInto before) (RefersInto before') (refers_alike before before' same) t.columns back.0),
   refer_back_alike (before ++ t ∷ []) (before' ++ u ∷ []) after after' (AllZip-push HasShape before before' t u same same'.0) same'.1 back.1,
 )
 
 -- ---- a table more
 
-pub refer_back_more : (before after : Database) (t : Table) → ReferBack before after → All (Refers (before ++ after)) t.columns
+pub refer_back_more : (before after : Database) (t : Table) → ReferBack before after → All (RefersInto (before ++ after)) t.columns
     → ReferBack before (after ++ t ∷ [])
-refer_back_more before [] t back refer = (subst (λ tables. All (Refers tables) t.columns) (append-nil before) refer, tt)
+refer_back_more before [] t back refer = (subst (λ tables. All (RefersInto tables) t.columns) (append-nil before) refer, tt)
 refer_back_more before (u ∷ after) t back refer = (
   back.0,
   refer_back_more (before ++ u ∷ []) after t back.1
-      (subst (λ tables. All (Refers tables) t.columns) (sym (append_assoc before (u ∷ []) after)) refer),
+      (subst (λ tables. All (RefersInto tables) t.columns) (sym (append_assoc before (u ∷ []) after)) refer),
 )
 
 pub held_with_more : (r : Reference) (tables : Database) (t : Table) → StaysHeld tables (tables ++ t ∷ []) r
@@ -98,8 +94,8 @@ refers_past : (found : Option (List ℕ)) (before after : Database) (gone : Tabl
 refers_past None before after gone other h = refl
 refers_past (Some name) before after gone other h = rw (named_without name before after gone other) at h
 
-refers_without : (before after : Database) (gone : Table) (c : Column) → refers_to gone.name c ≡ false → Refers (before ++ gone ∷ after) c
-    → Refers (before ++ after) c
+refers_without : (before after : Database) (gone : Table) (c : Column) → refers_to gone.name c ≡ false → RefersInto (before ++ gone ∷ after) c
+    → RefersInto (before ++ after) c
 refers_without before after gone c other h = refers_past (referred c.kind) before after gone other h
 
 refer_back_without : (before more after : Database) (gone : Table) → All (RefersElsewhere gone.name) after

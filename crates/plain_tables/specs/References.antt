@@ -141,11 +141,13 @@ pub record IsSoundTable (limits : Limits) (table : Table) : Type 0 where
   pub rows_rise : AreRising table.rows
   pub few_rows : length table.rows ≤ limits.rows
 
+abbrev pub RefersInto : Database → Column → Type 0
+RefersInto tables column = IsTrue (refers_into tables column)
+
 -- behind these tables each refers to tables before it
 abbrev pub ReferBack : Database → Database → Type 0
 ReferBack before [] = Unit {0}
-ReferBack before (table ∷ after) =
-    All (λ c. IsTrue (refers_into before c)) table.columns × ReferBack (before ++ table ∷ []) after
+ReferBack before (table ∷ after) = All (RefersInto before) table.columns × ReferBack (before ++ table ∷ []) after
 
 -- Each table is sound, refers to tables before it, and has rows that its columns can hold. They differ in their names, and
 -- there are at most 64.

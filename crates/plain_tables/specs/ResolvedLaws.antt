@@ -9,7 +9,7 @@ use Rattle.plain_tables.specs.Databases.{Database, table_named}
 use Rattle.plain_tables.specs.Queries.{value_at}
 use Rattle.plain_tables.specs.QueryLaws.{unindexed, AreDoneAlike}
 use Rattle.plain_tables.specs.Effects.{Effect, Rows, Refused, repeats, new_table}
-use Rattle.plain_tables.specs.References.{refers_into, is_typed, is_table_referenced, IsRowOf, IsKeyTree, IsSoundTable, IsSound}
+use Rattle.plain_tables.specs.References.{RefersInto, is_typed, is_table_referenced, IsRowOf, IsKeyTree, IsSoundTable, IsSound}
 use Rattle.plain_tables.specs.Resolving.{has_mistyped, resolved_of}
 use Rattle.plain_tables.specs.Doing.{passes_all, updated, picked, update, without, delete, shown_values, headings, is_index, done}
 use Rattle.plain_tables.specs.Spelling.{IsSpellable}
@@ -69,7 +69,7 @@ IsOfColumn tables table n v = (c : Column) × (slice_get table.columns n.0 ≡ S
 -- A table that can be declared: it would be sound, refers to tables that are there, and is new among fewer than 64.
 pub record IsDeclarable (limits : Limits) (tables : Database) (name : List ℕ) (schema : Schema) : Type 0 where
   pub sound : IsSoundTable limits (new_table name schema)
-  pub refers_back : All (λ c. IsTrue (refers_into tables c)) schema.columns
+  pub refers_back : All (RefersInto tables) schema.columns
   pub is_new : IsFalse (is_some (table_named name tables))
   pub has_room : length tables < 64
 
