@@ -113,7 +113,8 @@ abbrev pub IsShown : Table → Shown → Type 0
 IsShown table shown.All = Unit {0}
 IsShown table (shown.Columns columns) = All (λ c. c.0 < length table.columns) columns
 
--- A resolved command of these tables: what it names by numbers is there, and it is such that only its rows can be refused.
+-- A resolved command of these tables: what it names by numbers is there, its values can stand there, and only the checks
+-- that look at rows can refuse it.
 abbrev pub IsMeant : Limits → Database → Resolved → Type 0
 IsMeant limits tables (resolved.Table name schema) = IsDeclarable limits tables name schema
 IsMeant limits tables (resolved.DropTable n) = OfTable n tables (λ table. IsFalse (is_table_referenced tables table.name))
