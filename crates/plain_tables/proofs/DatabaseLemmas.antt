@@ -35,7 +35,7 @@ use Rattle.plain_tables.proofs.UpdateLemmas.{IsApt, settings_apt, set_in_fits, s
 
 -- ---- names
 
-differs : (xs ys : List ℕ) → bytes_eq xs ys ≡ false → xs ≢ ys
+pub differs : (xs ys : List ℕ) → bytes_eq xs ys ≡ false → xs ≢ ys
 differs xs ys f e = both_ways (bytes_eq xs ys) f ((bytes_eq-Decides xs ys).1 e)
 
 name_differs : (name : List ℕ) (columns : List Column) → list_any (bytes_eq name) (column_names columns) ≡ false
@@ -46,7 +46,7 @@ name_differs name (c ∷ columns) h =
     All-cons (λ d. name ≢ d.name) c columns (differs name c.name parts.0) (name_differs name columns parts.1)
 
 -- where no name is repeated, names differ
-columns_differ : (columns : List Column) → repeats bytes_eq (column_names columns) ≡ false → AllPairs (λ c d. c.name ≢ d.name) columns
+pub columns_differ : (columns : List Column) → repeats bytes_eq (column_names columns) ≡ false → AllPairs (λ c d. c.name ≢ d.name) columns
 columns_differ [] h = AllPairs-nil (λ c d. c.name ≢ d.name)
 columns_differ (c ∷ columns) h =
     let parts = or_parts (list_any (bytes_eq c.name) (column_names columns)) (repeats bytes_eq (column_names columns)) h in

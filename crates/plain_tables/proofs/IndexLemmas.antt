@@ -16,12 +16,12 @@ use Rattle.plain_tables.specs.declared.command.Command.TheVariants as command
 
 -- ---- tables by name
 
-named_unindexed : (name : List ℕ) (tables : Database) → table_named name (map unindexed tables) ≡ option_map unindexed (table_named name tables)
+pub named_unindexed : (name : List ℕ) (tables : Database) → table_named name (map unindexed tables) ≡ option_map unindexed (table_named name tables)
 named_unindexed name [] = refl
 named_unindexed name (t ∷ tables) =
     elim (cases_Bool (is_named name t)) [ inl e ↦ rw e refl | inr f ↦ rw f (named_unindexed name tables) ]
 
-place_unindexed : (name : List ℕ) (tables : Database) → position_or_len (is_named name) (map unindexed tables) ≡ position_or_len (is_named name) tables
+pub place_unindexed : (name : List ℕ) (tables : Database) → position_or_len (is_named name) (map unindexed tables) ≡ position_or_len (is_named name) tables
 place_unindexed name [] = refl
 place_unindexed name (t ∷ tables) =
     elim (cases_Bool (is_named name t)) [ inl e ↦ rw e refl | inr f ↦ rw f (ap (λ n. 1 + n) (place_unindexed name tables)) ]
@@ -35,7 +35,7 @@ with_unindexed name table tables =
 -- ---- effects
 
 -- the effect on databases with no index declared
-abbrev bare : Effect → Effect
+abbrev pub bare : Effect → Effect
 bare e = record { database = map unindexed e.database; outcome = e.outcome }
 
 checked_bare : (tables : Database) (checks : List Check) (e : Effect) → checked (map unindexed tables) checks (bare e) ≡ bare (checked tables checks e)
@@ -44,11 +44,11 @@ checked_bare tables (c ∷ checks) e =
     elim (cases_Bool c.refuses) [ inl t ↦ rw t refl | inr f ↦ rw f (checked_bare tables checks e) ]
 
 -- an effect that is checked, with another database behind the checks that is the same but for the indexes
-checked_as : (tables : Database) (checks : List Check) (e f : Effect) → f ≡ bare e
+pub checked_as : (tables : Database) (checks : List Check) (e f : Effect) → f ≡ bare e
     → checked (map unindexed tables) checks f ≡ bare (checked tables checks e)
 checked_as tables checks e f same = ap (checked (map unindexed tables) checks) same ∙ checked_bare tables checks e
 
-found_bare : (tables : Database) (found : Option Table) (e f : Table → Effect) → ((t : Table) → f (unindexed t) ≡ bare (e t))
+pub found_bare : (tables : Database) (found : Option Table) (e f : Table → Effect) → ((t : Table) → f (unindexed t) ≡ bare (e t))
     → option_map_or f (option_map unindexed found) (record { database = map unindexed tables; outcome = Refused NoSuchTable })
     ≡ bare (option_map_or e found (record { database = tables; outcome = Refused NoSuchTable }))
 found_bare tables None e f same = refl
@@ -69,7 +69,7 @@ changed_bare tables checks name table o =
     (record { database = with_table name (unindexed table) (map unindexed tables); outcome = o })
     (ap (λ d. record { database = d; outcome = o }) (with_unindexed name table tables))
 
-some_unindexed : (found : Option Table) → is_some (option_map unindexed found) ≡ is_some found
+pub some_unindexed : (found : Option Table) → is_some (option_map unindexed found) ≡ is_some found
 some_unindexed None = refl
 some_unindexed (Some t) = refl
 

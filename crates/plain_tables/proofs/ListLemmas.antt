@@ -1,14 +1,14 @@
 -- Lists: pairs of elements, the first that passes a test, and filters. What holds of what an option gives.
-use Rattle.std.proofs.Common.{◌≡◌, ◌≢◌, ℕ, zero, suc, ◌+◌, ◌<◌, ◌≤◌, Bool, true, false, length, arith, List, [], ◌∷◌, ◌++◌, sym, ap, ◌∙◌, inl, inr, get_or, set, map, Some, None, Option, refl}
+use Rattle.std.proofs.Common.{◌≡◌, ◌≢◌, ℕ, zero, suc, ◌+◌, ◌<◌, ◌≤◌, Bool, true, false, length, arith, List, [], ◌∷◌, ◌++◌, sym, ap, ◌∙◌, inl, inr, get_or, set, take, drop, map, Some, None, Option, refl, subst, ◌⊎◌}
 use Rattle.std.specs.Prelude.{nat_lt, not}
-use Rattle.std.specs.List.{All, AllPairs, AllZip, filter, find, position, position_or_len, slice_get, list_any, flat_map, filter_map, cons_option}
+use Rattle.std.specs.List.{All, AllPairs, AllZip, filter, find, position, position_or_len, slice_get, list_any, list_all, flat_map, filter_map, cons_option, remove}
 use Rattle.std.specs.Option.{is_some, option_map, option_map_or}
-use Rattle.std.proofs.lemmas.Bool.{cases_Bool, cases_eq, or_parts, ltb-true}
+use Rattle.std.proofs.lemmas.Bool.{cases_Bool, cases_eq, or_parts, or_cases, or_right, and_parts, cond_both, false≢true, ltb-true}
 use Rattle.std.proofs.lemmas.List.{get_or-set_same, get_or-set_other, length-set}
-use Rattle.std.proofs.lemmas.List.Elements.{All-nil, All-cons, All-tail, All-head, All-append, All-map, All-weaker}
+use Rattle.std.proofs.lemmas.List.Elements.{All-nil, All-cons, All-tail, All-head, All-append, All-map, All-take, All-drop, All-weaker}
 use Rattle.std.proofs.lemmas.List.Folds.{find_at}
 use Rattle.std.proofs.lemmas.List.Kept.{AllPairs-cons}
-use Rattle.std.proofs.lemmas.Option.{cond_some}
+use Rattle.std.proofs.lemmas.Option.{cond_some, none-some, same_Some, slice_get_within, get_or_from_slice_get}
 
 -- ---- pairs
 
@@ -121,6 +121,68 @@ All-flat_map P f [] all = All-nil P
 All-flat_map P f (x ∷ xs) all =
     All-append P (f x) (flat_map f xs) (All-head (λ z. All P (f z)) x xs all)
     (All-flat_map P f xs (All-tail (λ z. All P (f z)) x xs all))
+
+-- each of two lists joined end to end, and each of many
+pub All-append_parts : {X : Type 0} (P : X → Type 0) (xs ys : List X) → All P (xs ++ ys) → All P xs × All P ys
+All-append_parts P [] ys all = (All-nil P, all)
+All-append_parts P (x ∷ xs) ys all =
+    let parts = All-append_parts P xs ys (All-tail P x (xs ++ ys) all) in
+    (All-cons P x xs (All-head P x (xs ++ ys) all) parts.0, parts.1)
+
+pub All-from_flat_map : {X Y : Type 0} (P : Y → Type 0) (f : X → List Y) (xs : List X) → All P (flat_map f xs) → All (λ x. All P (f x)) xs
+All-from_flat_map P f [] all = All-nil (λ x. All P (f x))
+All-from_flat_map P f (x ∷ xs) all =
+    let parts = All-append_parts P (f x) (flat_map f xs) all in
+    All-cons (λ z. All P (f z)) x xs parts.0 (All-from_flat_map P f xs parts.1)
+
+-- one element more, if there is one, and the others
+pub All-cons_option : {X : Type 0} (P : X → Type 0) (o : Option X) (xs : List X) → All P (cons_option o xs)
+    → ((x : X) → o ≡ Some x → P x) × All P xs
+All-cons_option P None xs h = (λ x e. absurd (none-some x e), h)
+All-cons_option P (Some y) xs h = (λ x e. subst P (same_Some y x e) (All-head P y xs h), All-tail P y xs h)
+
+-- the element at a place
+pub All-at : {X : Type 0} (P : X → Type 0) (xs : List X) (n : ℕ) (x : X) → All P xs → slice_get xs n ≡ Some x → P x
+All-at P xs n x all there = subst P (get_or_from_slice_get xs n x x there) (all n x (slice_get_within xs n x there))
+
+-- all elements but one
+pub All-remove : {X : Type 0} (P : X → Type 0) (xs : List X) (n : ℕ) → All P xs → All P (remove xs n)
+All-remove P xs n all = All-append P (take n xs) (drop (suc n) xs) (All-take P n xs all) (All-drop P (suc n) xs all)
+
+pub All-from_list_all : {X : Type 0} (p : X → Bool) (xs : List X) → list_all p xs ≡ true → All (λ x. p x ≡ true) xs
+All-from_list_all p [] h = All-nil (λ x. p x ≡ true)
+All-from_list_all p (x ∷ xs) h =
+    let parts = and_parts (p x) (list_all p xs) h in All-cons (λ z. p z ≡ true) x xs parts.0 (All-from_list_all p xs parts.1)
+
+-- a list beside itself, and beside itself with one element changed
+pub AllZip-self : {X : Type 0} (R : X → X → Type 0) → ((x : X) → R x x) → (xs : List X) → AllZip R xs xs
+AllZip-self R self [] = tt
+AllZip-self R self (x ∷ xs) = (self x, AllZip-self R self xs)
+
+pub AllZip-set : {X : Type 0} (R : X → X → Type 0) → ((x : X) → R x x) → (xs : List X) (n : ℕ) (old new : X)
+    → slice_get xs n ≡ Some old → R old new → AllZip R xs (set xs n new)
+AllZip-set R self [] n old new there h = absurd (none-some old there)
+AllZip-set R self (x ∷ xs) zero old new there h =
+    (subst (λ y. R y new) (sym (same_Some x old there)) h, AllZip-self R self xs)
+AllZip-set R self (x ∷ xs) (suc n) old new there h = (self x, AllZip-set R self xs n old new there h)
+
+any_more : {X : Type 0} (p q : X → Bool) (x : X) (xs : List X) → list_any p (filter q xs) ≡ true → list_any p (filter q (x ∷ xs)) ≡ true
+any_more p q x xs h =
+    cond_both (q x) (x ∷ filter q xs) (filter q xs) (λ ys. list_any p ys ≡ true) (λ t. or_right (p x) (list_any p (filter q xs)) h) (λ f. h)
+
+-- one that passes is among those that pass one of two tests, or among those that pass the other
+pub any_of_two : {X : Type 0} (p q r : X → Bool) (xs : List X) → All (λ x. (q x ≡ true) ⊎ (r x ≡ true)) xs → list_any p xs ≡ true
+    → (list_any p (filter q xs) ≡ true) ⊎ (list_any p (filter r xs) ≡ true)
+any_of_two p q r [] each some = absurd (false≢true some)
+any_of_two {X} p q r (x ∷ xs) each some =
+    let Either : X → Type 0 = λ z. (q z ≡ true) ⊎ (r z ≡ true) in
+    elim (or_cases (p x) (list_any p xs) some) [
+      | inl here ↦ elim (All-head Either x xs each) [ inl t ↦ inl (rw (t, here) refl) | inr t ↦ inr (rw (t, here) refl) ]
+      | inr later ↦ elim (any_of_two p q r xs (All-tail Either x xs each) later) [
+        | inl left ↦ inl (any_more p q x xs left)
+        | inr right ↦ inr (any_more p r x xs right)
+      ]
+    ]
 
 -- one is found where some pass
 pub found_where_some : {X : Type 0} (p : X → Bool) (xs : List X) → 0 < length (filter p xs) → is_some (find p xs) ≡ true

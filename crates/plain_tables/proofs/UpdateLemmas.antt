@@ -66,7 +66,7 @@ pub record IsApt (table : Table) (setting : Setting) : Type 0 where
   of_kind : (place : ℕ) → place_meant (joined_columns (table ∷ [])) (setting_name setting) ≡ Some place
       → (d : Column) → IsOfKind (get_or table.columns place d).kind setting.value
 
-first_behind_key : (place : Option ℕ) (places : List ℕ) → list_any (λ p. p == 0) (cons_option place places) ≡ false
+pub first_behind_key : (place : Option ℕ) (places : List ℕ) → list_any (λ p. p == 0) (cons_option place places) ≡ false
     → ((p : ℕ) → place ≡ Some p → 0 < p) × (list_any (λ p. p == 0) places ≡ false)
 first_behind_key None places h = (λ p e. absurd (none-some p e), h)
 first_behind_key (Some q) places h =

@@ -2,13 +2,17 @@ pub mod AnswerText
 pub mod Csv
 pub mod Databases
 pub mod Division
+pub mod Doing
 pub mod Effects
 pub mod Hashes
 pub mod Names
 pub mod Queries
 pub mod QueryLaws
 pub mod Reading
+pub mod References
 pub mod Refusals
+pub mod ResolvedLaws
+pub mod Resolving
 pub mod Runs
 pub mod SequenceLends
 pub mod Spelling

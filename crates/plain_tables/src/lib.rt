@@ -3,7 +3,7 @@
 //! The types are what a command line can say: values, columns, conditions, commands, refusals. The definitions, in
 //! `specs/`, are what it means: which line spells which command, what a command does to a database of plain tables, and
 //! which bytes answer a stream. Every promise above is stated by these words, and by no others. The laws of the
-//! definitions are contracts of functions that do nothing (`laws`, `query_laws`, `spelling_laws`).
+//! definitions are contracts of functions that do nothing (`laws`, `query_laws`, `resolved_laws`, `spelling_laws`).
 //!
 //! Nothing here cares how rows are kept, which index finds them, how a line is read, or how a stream is cut in pieces.
 //!
@@ -17,8 +17,11 @@ mod command;
 mod condition;
 mod hash;
 pub mod laws;
+mod numbers;
 pub mod query_laws;
 mod refusal;
+mod resolved;
+pub mod resolved_laws;
 mod schema;
 mod sequence;
 pub mod spelling_laws;
@@ -29,7 +32,9 @@ pub use command::{Command, Items, Limits, Setting};
 pub use condition::{ColName, Cond, Op};
 pub use hash::hash_of;
 pub use no_memory::NoMemory;
+pub use numbers::{ColumnNumber, TableNumber};
 pub use refusal::Refusal;
+pub use resolved::{Assignment, Resolved, Shown, Test};
 pub use schema::{BaseKind, ColKind, Column, IndexKind, Schema};
 pub use sequence::Sequence;
 pub use text::Text;

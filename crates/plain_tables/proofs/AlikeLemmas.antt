@@ -1,0 +1,291 @@
+-- Declared indexes: no command is resolved by them, and no resolved command reads them.
+use Rattle.std.proofs.Common.{◌≡◌, ℕ, suc, Bool, false, true, not, map, set, take, drop, List, [], ◌∷◌, ◌++◌, refl, sym, ap, ◌∙◌, Option, Some, None}
+use Rattle.std.specs.Prelude.{Result, Err, zip, ◌||◌, ◌&&◌}
+use Rattle.std.specs.List.{list_any, list_all, slice_get, remove}
+use Rattle.std.specs.Option.{is_some, option_map, option_map_or, option_and_then}
+use Rattle.std.proofs.lemmas.List.{length-map, map-set, map_push, map-append, take-map, drop-map}
+use Rattle.std.proofs.lemmas.List.Folds.{flat_map-map}
+use Rattle.std.proofs.lemmas.Option.{slice_get-map}
+use Rattle.plain_tables.specs.Values.{is_null}
+use Rattle.plain_tables.specs.Tables.{Table, Row, has_key_of}
+use Rattle.plain_tables.specs.Databases.{Database, table_named}
+use Rattle.plain_tables.specs.Queries.{JoinedColumn, column_meant}
+use Rattle.plain_tables.specs.Effects.{Effect, Check, Outcome, Refused, Done, checked, setting_name, grown_by, new_table}
+use Rattle.plain_tables.specs.QueryLaws.{unindexed}
+use Rattle.plain_tables.specs.References.{Reference, referred, own_type, key_type, type_of, has_type, is_typed, references, table_references, is_held, is_to, is_referenced, refers_into}
+use Rattle.plain_tables.specs.Resolving.{meaning, number_of, on_numbered, own_columns, tests_of, assignments_of, shown_of, asks_order, mistypes, is_mistyped, has_mistyped, table_checks, insert_checks, update_checks, delete_checks, select_checks, resolved_of}
+use Rattle.plain_tables.specs.Doing as doing
+use Rattle.plain_tables.specs.Doing.{on_table, passes_all, assigned_references, updated, picked, without, with_index, without_index, done}
+use Rattle.plain_tables.specs.ResolvedLaws.{ResolvedAlike, DoneAlike}
+use Rattle.plain_tables.specs.declared.value.Value.{Value}
+use Rattle.plain_tables.specs.declared.value.Value.TheVariants as value
+use Rattle.plain_tables.specs.declared.condition.Cond.{Cond}
+use Rattle.plain_tables.specs.declared.refusal.Refusal.{Refusal}
+use Rattle.plain_tables.specs.declared.refusal.Refusal.TheVariants.{NoSuchTable}
+use Rattle.plain_tables.specs.declared.schema.BaseKind.{BaseKind}
+use Rattle.plain_tables.specs.declared.schema.ColKind.{ColKind}
+use Rattle.plain_tables.specs.declared.schema.Column.{Column}
+use Rattle.plain_tables.specs.declared.schema.Schema.{Schema}
+use Rattle.plain_tables.specs.declared.command.Setting.{Setting}
+use Rattle.plain_tables.specs.declared.command.Limits.{Limits}
+use Rattle.plain_tables.specs.declared.command.Command.{Command}
+use Rattle.plain_tables.specs.declared.command.Command.TheVariants as command
+use Rattle.plain_tables.specs.declared.numbers.TableNumber.{TableNumber}
+use Rattle.plain_tables.specs.declared.resolved.Resolved.{Resolved}
+use Rattle.plain_tables.specs.declared.resolved.Resolved.TheVariants as resolved
+use Rattle.plain_tables.proofs.IndexLemmas.{bare, named_unindexed, place_unindexed, some_unindexed, found_bare, checked_as}
+
+-- the tables with no index declared
+abbrev plain : Database → Database
+plain tables = map unindexed tables
+
+any_agree : {X : Type 0} (p q : X → Bool) → ((x : X) → p x ≡ q x) → (xs : List X) → list_any p xs ≡ list_any q xs
+any_agree p q same [] = refl
+any_agree p q same (x ∷ xs) = rw (same x, any_agree p q same xs) refl
+
+all_agree : {X : Type 0} (p q : X → Bool) → ((x : X) → p x ≡ q x) → (xs : List X) → list_all p xs ≡ list_all q xs
+all_agree p q same [] = refl
+all_agree p q same (x ∷ xs) = rw (same x, all_agree p q same xs) refl
+
+-- ---- types
+
+key_plain : (found : Option Table) → option_and_then key_type (option_map unindexed found) ≡ option_and_then key_type found
+key_plain None = refl
+key_plain (Some t) = refl
+
+referred_type : (tables : Database) (found : Option (List ℕ)) (own : Option BaseKind)
+    → option_map_or (λ name. option_and_then key_type (table_named name (plain tables))) found own
+    ≡ option_map_or (λ name. option_and_then key_type (table_named name tables)) found own
+referred_type tables None own = refl
+referred_type tables (Some name) own = ap (option_and_then key_type) (named_unindexed name tables) ∙ key_plain (table_named name tables)
+
+type_plain : (tables : Database) (k : ColKind) → type_of (plain tables) k ≡ type_of tables k
+type_plain tables k = referred_type tables (referred k) (own_type k)
+
+typed_plain : (tables : Database) (v : Value) (k : ColKind) → is_typed (plain tables) v k ≡ is_typed tables v k
+typed_plain tables value.Null k = refl
+typed_plain tables (value.Int z) k = ap (λ t. option_map_or (has_type (value.Int z)) t false) (type_plain tables k)
+typed_plain tables (value.Text text) k = ap (λ t. option_map_or (has_type (value.Text text)) t false) (type_plain tables k)
+
+row_plain : (tables : Database) (columns : List Column) (row : Row) → has_mistyped (plain tables) columns row ≡ has_mistyped tables columns row
+row_plain tables columns row =
+    any_agree (λ c. not (is_typed (plain tables) c.1 c.0.kind)) (λ c. not (is_typed tables c.1 c.0.kind))
+    (λ c. ap not (typed_plain tables c.1 c.0.kind)) (zip columns row)
+
+column_plain : (tables : Database) (v : Value) (found : Option JoinedColumn)
+    → option_map_or (λ joined. not (is_typed (plain tables) v joined.column.kind)) found false
+    ≡ option_map_or (λ joined. not (is_typed tables v joined.column.kind)) found false
+column_plain tables v None = refl
+column_plain tables v (Some joined) = ap not (typed_plain tables v joined.column.kind)
+
+settings_plain : (tables : Database) (columns : List JoinedColumn) (settings : List Setting)
+    → list_any (λ s. mistypes (plain tables) columns (setting_name s) s.value) settings
+    ≡ list_any (λ s. mistypes tables columns (setting_name s) s.value) settings
+settings_plain tables columns settings =
+    any_agree (λ s. mistypes (plain tables) columns (setting_name s) s.value) (λ s. mistypes tables columns (setting_name s) s.value)
+    (λ s. column_plain tables s.value (column_meant columns (setting_name s))) settings
+
+conditions_plain : (tables : Database) (columns : List JoinedColumn) (conditions : List Cond)
+    → list_any (is_mistyped (plain tables) columns) conditions ≡ list_any (is_mistyped tables columns) conditions
+conditions_plain tables columns conditions =
+    any_agree (is_mistyped (plain tables) columns) (is_mistyped tables columns)
+    (λ c. ap (λ b. b || (is_null c.value && asks_order c.op)) (column_plain tables c.value (column_meant columns c.column))) conditions
+
+referred_plain : (tables : Database) (found : Option (List ℕ))
+    → option_map_or (λ name. is_some (table_named name (plain tables))) found true
+    ≡ option_map_or (λ name. is_some (table_named name tables)) found true
+referred_plain tables None = refl
+referred_plain tables (Some name) = ap is_some (named_unindexed name tables) ∙ some_unindexed (table_named name tables)
+
+-- ---- commands resolved
+
+abbrev Means : Type 0
+Means = Result Resolved Refusal
+
+numbered_found : (found : Option Table) (e f : Table → Means) → ((t : Table) → f (unindexed t) ≡ e t)
+    → option_map_or f (option_map unindexed found) (Err NoSuchTable) ≡ option_map_or e found (Err NoSuchTable)
+numbered_found None e f same = refl
+numbered_found (Some t) e f same = same t
+
+numbered_plain : (name : List ℕ) (tables : Database) (e f : TableNumber → Table → Means) → ((n : TableNumber) (t : Table) → f n (unindexed t) ≡ e n t)
+    → on_numbered name (plain tables) f ≡ on_numbered name tables e
+numbered_plain name tables e f same =
+    let number : ℕ → TableNumber = λ place. record { 0 = place } in
+    ap (λ place. option_map_or (f (number place)) (table_named name (plain tables)) (Err NoSuchTable)) (place_unindexed name tables)
+    ∙ ap (λ found. option_map_or (f (number_of name tables)) found (Err NoSuchTable)) (named_unindexed name tables)
+    ∙ numbered_found (table_named name tables) (e (number_of name tables)) (f (number_of name tables)) (same (number_of name tables))
+
+-- the same checks let the same command pass
+same_checks : (checks others : List Check) (r : Resolved) → checks ≡ others → meaning checks r ≡ meaning others r
+same_checks checks others r same = ap (λ cs. meaning cs r) same
+
+table_checks_plain : (tables : Database) (name : List ℕ) (schema : Schema) → table_checks (plain tables) name schema ≡ table_checks tables name schema
+table_checks_plain tables name schema =
+    let into : list_any (λ c. not (refers_into (plain tables) c)) schema.columns ≡ list_any (λ c. not (refers_into tables c)) schema.columns =
+    any_agree (λ c. not (refers_into (plain tables) c)) (λ c. not (refers_into tables c))
+    (λ c. ap not (referred_plain tables (referred c.kind))) schema.columns
+    in
+    let there : is_some (table_named name (plain tables)) ≡ is_some (table_named name tables) =
+    ap is_some (named_unindexed name tables) ∙ some_unindexed (table_named name tables)
+    in
+    rw (into, there, length-map tables unindexed) refl
+
+resolved_plain : (tables : Database) (c : Command) → resolved_of (plain tables) c ≡ resolved_of tables c
+resolved_plain tables (command.Table name schema) =
+    same_checks (table_checks (plain tables) name schema) (table_checks tables name schema) (resolved.Table name schema)
+    (table_checks_plain tables name schema)
+resolved_plain tables (command.Insert name row) =
+    numbered_plain name tables (λ n t. meaning (insert_checks tables t row) (resolved.Insert n row))
+    (λ n t. meaning (insert_checks (plain tables) t row) (resolved.Insert n row))
+    (λ n t. same_checks (insert_checks (plain tables) (unindexed t) row) (insert_checks tables t row) (resolved.Insert n row)
+    (rw (row_plain tables t.columns row) refl))
+resolved_plain tables (command.Update name settings conditions) =
+    numbered_plain name tables
+    (λ n t. meaning (update_checks tables t settings conditions)
+    (resolved.Update n (assignments_of (own_columns t) settings) (tests_of (own_columns t) conditions)))
+    (λ n t. meaning (update_checks (plain tables) t settings conditions)
+    (resolved.Update n (assignments_of (own_columns t) settings) (tests_of (own_columns t) conditions)))
+    (λ n t. same_checks (update_checks (plain tables) (unindexed t) settings conditions) (update_checks tables t settings conditions)
+    (resolved.Update n (assignments_of (own_columns t) settings) (tests_of (own_columns t) conditions))
+    (rw (settings_plain tables (own_columns t) settings, conditions_plain tables (own_columns t) conditions) refl))
+resolved_plain tables (command.Delete name conditions) =
+    numbered_plain name tables
+    (λ n t. meaning (delete_checks tables t conditions) (resolved.Delete n (tests_of (own_columns t) conditions)))
+    (λ n t. meaning (delete_checks (plain tables) t conditions) (resolved.Delete n (tests_of (own_columns t) conditions)))
+    (λ n t. same_checks (delete_checks (plain tables) (unindexed t) conditions) (delete_checks tables t conditions)
+    (resolved.Delete n (tests_of (own_columns t) conditions)) (rw (conditions_plain tables (own_columns t) conditions) refl))
+resolved_plain tables (command.Select its name conditions) =
+    numbered_plain name tables
+    (λ n t. meaning (select_checks tables t its conditions)
+    (resolved.Select (shown_of (own_columns t) its) n (tests_of (own_columns t) conditions)))
+    (λ n t. meaning (select_checks (plain tables) t its conditions)
+    (resolved.Select (shown_of (own_columns t) its) n (tests_of (own_columns t) conditions)))
+    (λ n t. same_checks (select_checks (plain tables) (unindexed t) its conditions) (select_checks tables t its conditions)
+    (resolved.Select (shown_of (own_columns t) its) n (tests_of (own_columns t) conditions))
+    (rw (conditions_plain tables (own_columns t) conditions) refl))
+
+pub resolved_alike : ResolvedAlike
+resolved_alike tables others c alike =
+    sym (resolved_plain tables c) ∙ ap (λ d. resolved_of d c) alike ∙ resolved_plain others c
+
+-- ---- rows that are named
+
+held_found : (found : Option Table) (v : Value)
+    → option_map_or (λ table. has_key_of (v ∷ []) table.rows) (option_map unindexed found) false
+    ≡ option_map_or (λ table. has_key_of (v ∷ []) table.rows) found false
+held_found None v = refl
+held_found (Some t) v = refl
+
+held_plain : (tables : Database) (r : Reference) → is_held (plain tables) r ≡ is_held tables r
+held_plain tables r =
+    ap (λ found. option_map_or (λ table. has_key_of (r.1 ∷ []) table.rows) found false) (named_unindexed r.0 tables)
+    ∙ held_found (table_named r.0 tables) r.1
+
+all_held_plain : (tables : Database) (refs : List Reference) → list_all (is_held (plain tables)) refs ≡ list_all (is_held tables) refs
+all_held_plain tables refs = all_agree (is_held (plain tables)) (is_held tables) (held_plain tables) refs
+
+referenced_plain : (tables : Database) (name : List ℕ) (rows : List Row)
+    → list_any (is_referenced (plain tables) name) rows ≡ list_any (is_referenced tables name) rows
+referenced_plain tables name rows =
+    any_agree (is_referenced (plain tables) name) (is_referenced tables name)
+    (λ row. ap (list_any (is_to name row)) (flat_map-map table_references unindexed tables)) rows
+
+-- ---- what is done
+
+abbrev left_with : Outcome → Database → Effect
+left_with o d = record { database = d; outcome = o }
+
+on_table_plain : (n : TableNumber) (tables : Database) (e f : Table → Effect) → ((t : Table) → f (unindexed t) ≡ bare (e t))
+    → on_table n (plain tables) f ≡ bare (on_table n tables e)
+on_table_plain n tables e f same =
+    ap (λ found. option_map_or f found (record { database = plain tables; outcome = Refused NoSuchTable })) (slice_get-map unindexed tables n.0)
+    ∙ found_bare tables (slice_get tables n.0) e f same
+
+-- a table in the place of one, behind the same checks
+changed_plain : (tables : Database) (checks others : List Check) (n : ℕ) (table : Table) (o : Outcome) → others ≡ checks
+    → checked (plain tables) others (record { database = set (plain tables) n (unindexed table); outcome = o })
+    ≡ bare (checked tables checks (record { database = set tables n table; outcome = o }))
+changed_plain tables checks others n table o same =
+    let left : Effect = left_with o (set (plain tables) n (unindexed table)) in
+    let right : Effect = left_with o (set tables n table) in
+    let changed : left ≡ bare right = ap (left_with o) (sym (map-set unindexed tables n table)) in
+    ap (λ cs. checked (plain tables) cs left) same ∙ checked_as tables checks right left changed
+
+unindexed_twice : (tables : Database) → plain (plain tables) ≡ plain tables
+unindexed_twice [] = refl
+unindexed_twice (t ∷ tables) = ap (λ ts. unindexed t ∷ ts) (unindexed_twice tables)
+
+bare_twice : (e : Effect) → bare (bare e) ≡ bare e
+bare_twice e = ap (left_with e.outcome) (unindexed_twice e.database)
+
+removed_plain : (tables : Database) (n : ℕ) → remove (plain tables) n ≡ plain (remove tables n)
+removed_plain tables n =
+    ap (λ front. front ++ drop (suc n) (plain tables)) (take-map unindexed n tables)
+    ∙ ap (λ rest. plain (take n tables) ++ rest) (drop-map unindexed (suc n) tables)
+    ∙ sym (map-append unindexed (take n tables) (drop (suc n) tables))
+
+reindexed_found : (tables : Database) (found : Option Table) (e f : Table → Effect) → ((t : Table) → bare (f (unindexed t)) ≡ bare (e t))
+    → bare (option_map_or f (option_map unindexed found) (record { database = plain tables; outcome = Refused NoSuchTable }))
+    ≡ bare (option_map_or e found (record { database = tables; outcome = Refused NoSuchTable }))
+reindexed_found tables None e f same = bare_twice (record { database = tables; outcome = Refused NoSuchTable })
+reindexed_found tables (Some t) e f same = same t
+
+-- a table with other indexes in the place of one
+reindexed : (n : TableNumber) (tables : Database) (e f : Table → Effect) → ((t : Table) → bare (f (unindexed t)) ≡ bare (e t))
+    → bare (on_table n (plain tables) f) ≡ bare (on_table n tables e)
+reindexed n tables e f same =
+    ap (λ found. bare (option_map_or f found (record { database = plain tables; outcome = Refused NoSuchTable }))) (slice_get-map unindexed tables n.0)
+    ∙ reindexed_found tables (slice_get tables n.0) e f same
+
+-- declared indexes don't matter where a table's are changed
+indexes_changed : (tables : Database) (n : ℕ) (old new : Table) (o : Outcome) → unindexed old ≡ unindexed new
+    → bare (record { database = set (plain tables) n old; outcome = o }) ≡ bare (record { database = set tables n new; outcome = o })
+indexes_changed tables n old new o same =
+    ap (left_with o)
+    (map-set unindexed (plain tables) n old ∙ ap (λ d. set d n (unindexed old)) (unindexed_twice tables)
+    ∙ ap (set (plain tables) n) same ∙ sym (map-set unindexed tables n new))
+
+done_plain : (limits : Limits) (tables : Database) (r : Resolved) → bare (done limits (plain tables) r) ≡ bare (done limits tables r)
+done_plain limits tables (resolved.Table name schema) =
+    ap (λ d. left_with Done (plain d)) (sym (map_push unindexed tables (new_table name schema)))
+    ∙ bare_twice (done limits tables (resolved.Table name schema))
+done_plain limits tables (resolved.DropTable n) =
+    ap (λ d. left_with Done (plain d)) (removed_plain tables n.0)
+    ∙ bare_twice (done limits tables (resolved.DropTable n))
+done_plain limits tables (resolved.Index n column k) =
+    reindexed n tables _ _ (λ t. indexes_changed tables n.0 (with_index column k (unindexed t)) (with_index column k t) Done refl)
+done_plain limits tables (resolved.DropIndex n column k) =
+    reindexed n tables _ _ (λ t. indexes_changed tables n.0 (without_index column k (unindexed t)) (without_index column k t) Done refl)
+done_plain limits tables (resolved.Insert n row) =
+    let same : done limits (plain tables) (resolved.Insert n row) ≡ bare (done limits tables (resolved.Insert n row)) =
+    on_table_plain n tables _ _
+    (λ t. changed_plain tables (doing.insert_checks limits tables t row) (doing.insert_checks limits (plain tables) (unindexed t) row) n.0
+    (grown_by row t) _ (rw (all_held_plain tables (references t.columns row)) refl))
+    in
+    ap bare same ∙ bare_twice (done limits tables (resolved.Insert n row))
+done_plain limits tables (resolved.Update n assignments tests) =
+    let same : done limits (plain tables) (resolved.Update n assignments tests) ≡ bare (done limits tables (resolved.Update n assignments tests)) =
+    on_table_plain n tables _ _
+    (λ t. changed_plain tables (doing.update_checks tables t assignments) (doing.update_checks (plain tables) (unindexed t) assignments) n.0
+    (updated assignments (passes_all tests) t) _ (rw (all_held_plain tables (assigned_references t assignments)) refl))
+    in
+    ap bare same ∙ bare_twice (done limits tables (resolved.Update n assignments tests))
+done_plain limits tables (resolved.Delete n tests) =
+    let same : done limits (plain tables) (resolved.Delete n tests) ≡ bare (done limits tables (resolved.Delete n tests)) =
+    on_table_plain n tables _ _
+    (λ t. changed_plain tables (doing.delete_checks tables t (passes_all tests)) (doing.delete_checks (plain tables) (unindexed t) (passes_all tests)) n.0
+    (without (passes_all tests) t) _ (rw (referenced_plain tables t.name (picked (passes_all tests) t)) refl))
+    in
+    ap bare same ∙ bare_twice (done limits tables (resolved.Delete n tests))
+done_plain limits tables (resolved.Select its n tests) =
+    let same : done limits (plain tables) (resolved.Select its n tests) ≡ bare (done limits tables (resolved.Select its n tests)) =
+    on_table_plain n tables _ _ (λ t. refl)
+    in
+    ap bare same ∙ bare_twice (done limits tables (resolved.Select its n tests))
+
+pub done_alike : DoneAlike
+done_alike limits tables others r alike =
+    let same : bare (done limits tables r) ≡ bare (done limits others r) =
+    sym (done_plain limits tables r) ∙ ap (λ d. bare (done limits d r)) alike ∙ done_plain limits others r
+    in
+    record { answered = ap (λ (e : Effect). e.outcome) same; left = ap (λ (e : Effect). e.database) same }

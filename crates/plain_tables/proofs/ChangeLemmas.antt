@@ -1,0 +1,224 @@
+-- What resolved commands leave: of other tables, of rows that aren't picked, of a database that they are refused of.
+use Rattle.std.proofs.Common.{◌≡◌, ◌≢◌, ◌<◌, ℕ, zero, suc, true, false, not, length, map, set, get_or, arith, List, [], ◌∷◌, refl, sym, ap, ◌∙◌, subst, Option, Some}
+use Rattle.std.specs.Prelude.{pos, ◌==◌}
+use Rattle.std.specs.List.{All, list_any, slice_get}
+use Rattle.std.proofs.lemmas.Bool.{or_parts, eqb-false, cond-true, cond-false}
+use Rattle.std.proofs.lemmas.List.{length-map, length-set, get_or-set_same, get_or-set_other, map-id}
+use Rattle.std.proofs.lemmas.List.Elements.{All-head, All-tail, All-map, All-filter, All-weaker}
+use Rattle.std.proofs.lemmas.List.Filters.{length-filter_both}
+use Rattle.std.proofs.lemmas.Option.{none-some, same_Some, slice_get-get_or}
+use Rattle.plain_tables.specs.Tables.{Table, Row}
+use Rattle.plain_tables.specs.Databases.{Database}
+use Rattle.plain_tables.specs.Queries.{value_at, full_name}
+use Rattle.plain_tables.specs.Effects.{Done, Changed, Rows, Refused, grown_by}
+use Rattle.plain_tables.specs.References.{IsRowOf}
+use Rattle.plain_tables.specs.Resolving.{own_columns}
+use Rattle.plain_tables.specs.Doing.{passes_all, assigned, insert_checks, update_checks, delete_checks, updated, picked, without, shown_values, headings}
+use Rattle.plain_tables.specs.ResolvedLaws.{rowless, ChangesRowsOf, OwnRowsChange, KeepsIfRefused, RefusedKeeps, RefusedUpdateKeeps, RefusedDeleteKeeps, UpdateKeepsUnpicked, is_to_column, assigns_twice, HasAssigned, UpdateSetsPicked, DeletesThePicked, SelectsRows, ShownFitHeadings, IsShown}
+use Rattle.plain_tables.specs.Runs.{refused}
+use Rattle.plain_tables.specs.declared.value.Value.TheVariants as value
+use Rattle.plain_tables.specs.declared.schema.Column.{Column}
+use Rattle.plain_tables.specs.declared.refusal.Refusal.{Refusal}
+use Rattle.plain_tables.specs.declared.numbers.ColumnNumber.{ColumnNumber}
+use Rattle.plain_tables.specs.declared.numbers.TableNumber.{TableNumber}
+use Rattle.plain_tables.specs.declared.resolved.Assignment.{Assignment}
+use Rattle.plain_tables.specs.declared.resolved.Shown.{Shown}
+use Rattle.plain_tables.specs.declared.resolved.Shown.TheVariants as shown
+use Rattle.plain_tables.specs.declared.resolved.Resolved.TheVariants as resolved
+use Rattle.plain_tables.proofs.EffectLemmas.{checked_satisfies}
+use Rattle.plain_tables.proofs.ListLemmas.{AllZip-map, filter_every, filter_others, filter_again}
+use Rattle.plain_tables.proofs.SettingLemmas.{any_column}
+use Rattle.plain_tables.proofs.SoundLemmas.{of_table_satisfies}
+use Rattle.plain_tables.proofs.UpdateLemmas.{length_of_one}
+
+-- ---- the tables that are left
+
+-- an element in the place of one that f takes to the same
+map_set_alike : {X Y : Type 0} (f : X → Y) (xs : List X) (n : ℕ) (old new : X) → slice_get xs n ≡ Some old → f new ≡ f old
+    → map f (set xs n new) ≡ map f xs
+map_set_alike f [] n old new there same = refl
+map_set_alike f (x ∷ xs) zero old new there same = let here : x ≡ old = same_Some x old there in rw (same, here) refl
+map_set_alike f (x ∷ xs) (suc n) old new there same = ap (λ ys. f x ∷ ys) (map_set_alike f xs n old new there same)
+
+slice_get_other : {X : Type 0} (xs : List X) (n k : ℕ) (new : X) → k ≢ n → slice_get (set xs n new) k ≡ slice_get xs k
+slice_get_other [] n k new other = refl
+slice_get_other (x ∷ xs) zero zero new other = absurd (other refl)
+slice_get_other (x ∷ xs) zero (suc k) new other = refl
+slice_get_other (x ∷ xs) (suc n) zero new other = refl
+slice_get_other (x ∷ xs) (suc n) (suc k) new other = slice_get_other xs n k new (λ e. other (ap suc e))
+
+nothing_changes : (n : TableNumber) (tables : Database) → ChangesRowsOf n tables tables
+nothing_changes n tables = record { all_but_rows = refl; others = λ k other. refl }
+
+rows_change : (n : TableNumber) (tables : Database) (old new : Table) → slice_get tables n.0 ≡ Some old → rowless new ≡ rowless old
+    → ChangesRowsOf n tables (set tables n.0 new)
+rows_change n tables old new there same = record {
+  all_but_rows = map_set_alike rowless tables n.0 old new there same;
+  others = λ k other. slice_get_other tables n.0 k new other;
+}
+
+same_table : (n m : TableNumber) (tables left : Database) → ◌≡◌ {A = Option TableNumber} (Some n) (Some m) → ChangesRowsOf n tables left
+    → ChangesRowsOf m tables left
+same_table n m tables left same h = subst (λ k. ChangesRowsOf k tables left) (same_Some n m same) h
+
+pub own_rows_change : OwnRowsChange
+own_rows_change limits tables (resolved.Table name schema) m is = absurd (none-some m is)
+own_rows_change limits tables (resolved.DropTable n) m is = absurd (none-some m is)
+own_rows_change limits tables (resolved.Index n column k) m is = absurd (none-some m is)
+own_rows_change limits tables (resolved.DropIndex n column k) m is = absurd (none-some m is)
+own_rows_change limits tables (resolved.Insert n row) m is =
+    same_table n m tables _ is
+    (of_table_satisfies (λ e. ChangesRowsOf n tables e.database) n tables _ (λ r. nothing_changes n tables)
+    (λ table there. checked_satisfies (λ e. ChangesRowsOf n tables e.database) tables (insert_checks limits tables table row) _
+    (λ r. nothing_changes n tables) (λ passed. rows_change n tables table (grown_by row table) there refl)))
+own_rows_change limits tables (resolved.Update n assignments tests) m is =
+    same_table n m tables _ is
+    (of_table_satisfies (λ e. ChangesRowsOf n tables e.database) n tables _ (λ r. nothing_changes n tables)
+    (λ table there. checked_satisfies (λ e. ChangesRowsOf n tables e.database) tables (update_checks tables table assignments) _
+    (λ r. nothing_changes n tables) (λ passed. rows_change n tables table (updated assignments (passes_all tests) table) there refl)))
+own_rows_change limits tables (resolved.Delete n tests) m is =
+    same_table n m tables _ is
+    (of_table_satisfies (λ e. ChangesRowsOf n tables e.database) n tables _ (λ r. nothing_changes n tables)
+    (λ table there. checked_satisfies (λ e. ChangesRowsOf n tables e.database) tables (delete_checks tables table (passes_all tests)) _
+    (λ r. nothing_changes n tables) (λ passed. rows_change n tables table (without (passes_all tests) table) there refl)))
+own_rows_change limits tables (resolved.Select its n tests) m is =
+    same_table n m tables _ is
+    (of_table_satisfies (λ e. ChangesRowsOf n tables e.database) n tables _ (λ r. nothing_changes n tables)
+    (λ table there. nothing_changes n tables))
+
+-- ---- refusals
+
+not_done : (why : Refusal) → Done ≡ Refused why → ⊥
+not_done why same = cc
+
+not_changed : (n : ℕ) (why : Refusal) → Changed n ≡ Refused why → ⊥
+not_changed n why same = cc
+
+not_rows : (names : List (List ℕ)) (rows : List Row) (why : Refusal) → Rows names rows ≡ Refused why → ⊥
+not_rows names rows why same = cc
+
+refusal_keeps : (tables : Database) (r : Refusal) → KeepsIfRefused tables (refused tables r)
+refusal_keeps tables r why same = refl
+
+pub refused_update_keeps : RefusedUpdateKeeps
+refused_update_keeps tables n assignments picks =
+    of_table_satisfies (KeepsIfRefused tables) n tables _ (refusal_keeps tables)
+    (λ table there. checked_satisfies (KeepsIfRefused tables) tables (update_checks tables table assignments) _ (refusal_keeps tables)
+    (λ passed why same. absurd (not_changed _ why same)))
+
+pub refused_delete_keeps : RefusedDeleteKeeps
+refused_delete_keeps tables n picks =
+    of_table_satisfies (KeepsIfRefused tables) n tables _ (refusal_keeps tables)
+    (λ table there. checked_satisfies (KeepsIfRefused tables) tables (delete_checks tables table picks) _ (refusal_keeps tables)
+    (λ passed why same. absurd (not_changed _ why same)))
+
+pub refused_keeps : RefusedKeeps
+refused_keeps limits tables (resolved.Table name schema) = λ why same. absurd (not_done why same)
+refused_keeps limits tables (resolved.DropTable n) = λ why same. absurd (not_done why same)
+refused_keeps limits tables (resolved.Index n column k) =
+    of_table_satisfies (KeepsIfRefused tables) n tables _ (refusal_keeps tables) (λ table there why same. absurd (not_done why same))
+refused_keeps limits tables (resolved.DropIndex n column k) =
+    of_table_satisfies (KeepsIfRefused tables) n tables _ (refusal_keeps tables) (λ table there why same. absurd (not_done why same))
+refused_keeps limits tables (resolved.Insert n row) =
+    of_table_satisfies (KeepsIfRefused tables) n tables _ (refusal_keeps tables)
+    (λ table there. checked_satisfies (KeepsIfRefused tables) tables (insert_checks limits tables table row) _ (refusal_keeps tables)
+    (λ passed why same. absurd (not_changed _ why same)))
+refused_keeps limits tables (resolved.Update n assignments tests) = refused_update_keeps tables n assignments (passes_all tests)
+refused_keeps limits tables (resolved.Delete n tests) = refused_delete_keeps tables n (passes_all tests)
+refused_keeps limits tables (resolved.Select its n tests) =
+    of_table_satisfies (KeepsIfRefused tables) n tables _ (refusal_keeps tables) (λ table there why same. absurd (not_rows _ _ why same))
+
+-- ---- update
+
+pub update_keeps_unpicked : UpdateKeepsUnpicked
+update_keeps_unpicked assignments picks table =
+    AllZip-map (λ old new. picks old ≡ false → new ≡ old) _
+    (λ row other. cond-false (picks row) (assigned assignments row) row other) table.rows
+
+assigned_length : (assignments : List Assignment) (row : Row) → length (assigned assignments row) ≡ length row
+assigned_length [] row = refl
+assigned_length (a ∷ assignments) row =
+    assigned_length assignments (set row a.column.0 a.value) ∙ length-set row a.column.0 a.value
+
+kept_value : (assignments : List Assignment) (row : Row) (column : ℕ) → list_any (is_to_column column) assignments ≡ false
+    → value_at (assigned assignments row) column ≡ value_at row column
+kept_value [] row column none = refl
+kept_value (a ∷ assignments) row column none =
+    let parts = or_parts (a.column.0 == column) (list_any (is_to_column column) assignments) none in
+    kept_value assignments (set row a.column.0 a.value) column parts.1
+    ∙ get_or-set_other row a.column.0 column a.value (value.Int (pos 0)) (λ e. eqb-false a.column.0 column parts.0 (sym e))
+
+set_value : (assignments : List Assignment) (row : Row) (k : ℕ) (a : Assignment) → assigns_twice assignments ≡ false
+    → k < length assignments → get_or assignments k a ≡ a → a.column.0 < length row
+    → value_at (assigned assignments row) a.column.0 ≡ a.value
+set_value [] row k a apart below there within = absurd (omega arith)
+set_value (b ∷ assignments) row zero a apart below there within =
+    let parts = or_parts (list_any (is_to_column b.column.0) assignments) (assigns_twice assignments) apart in
+    let others : list_any (is_to_column a.column.0) assignments ≡ false =
+    subst (λ (c : Assignment). list_any (is_to_column c.column.0) assignments ≡ false) there parts.0 in
+    subst (λ (c : Assignment). value_at (assigned assignments (set row c.column.0 c.value)) a.column.0 ≡ a.value) (sym there)
+    (kept_value assignments (set row a.column.0 a.value) a.column.0 others
+    ∙ get_or-set_same row a.column.0 a.value (value.Int (pos 0)) within)
+set_value (b ∷ assignments) row (suc k) a apart below there within =
+    let parts = or_parts (list_any (is_to_column b.column.0) assignments) (assigns_twice assignments) apart in
+    set_value assignments (set row b.column.0 b.value) k a parts.1 (omega arith) there
+    (let same = length-set row b.column.0 b.value in omega arith)
+
+pub update_sets_picked : UpdateSetsPicked
+update_sets_picked assignments picks table apart =
+    AllZip-map (λ old new. picks old ≡ true → HasAssigned assignments old new) _
+    (λ row here.
+    subst (HasAssigned assignments row) (sym (cond-true (picks row) (assigned assignments row) row here))
+    (record {
+      set = λ a there within. set_value assignments row there.0 a apart there.1 there.2 within;
+      kept = λ column none. kept_value assignments row column none;
+      as_long = assigned_length assignments row;
+    })) table.rows
+
+-- ---- delete
+
+pub deletes_the_picked : DeletesThePicked
+deletes_the_picked picks table = record {
+  none_picked = filter_others picks table.rows;
+  others = filter_again (λ row. not (picks row)) table.rows;
+  counted = let both = length-filter_both picks (λ row. not (picks row)) (λ row. refl) table.rows in omega arith;
+}
+
+-- ---- select
+
+pub selects_rows : SelectsRows
+selects_rows limits tables n table there =
+    let shows : map (shown_values shown.All) (picked (passes_all []) table) ≡ table.rows =
+    map-id (picked (passes_all []) table) ∙ filter_every (passes_all []) (λ row. refl) table.rows
+    in
+    rw there (ap (Rows (headings table shown.All)) shows)
+
+pub row_length : (tables : Database) (columns : List Column) (row : Row) → IsRowOf tables columns row → length row ≡ length columns
+row_length tables [] [] h = refl
+row_length tables [] (v ∷ row) h = absurd h
+row_length tables (c ∷ columns) [] h = absurd h
+row_length tables (c ∷ columns) (v ∷ row) h = ap suc (row_length tables columns row h.1)
+
+-- columns that are there have a heading each
+headings_length : (table : Table) (columns : List ColumnNumber) → All (λ c. c.0 < length table.columns) columns
+    → length (headings table (shown.Columns columns)) ≡ length columns
+headings_length table [] within = refl
+headings_length table (c ∷ columns) within =
+    let P : ColumnNumber → Type 0 = λ d. d.0 < length table.columns in
+    let first : c.0 < length table.columns = All-head P c columns within in
+    let inside : c.0 < length (own_columns table) = let same = length_of_one table in omega arith in
+    rw (slice_get-get_or (own_columns table) c.0 any_column inside) (ap suc (headings_length table columns (All-tail P c columns within)))
+
+shown_length : (tables : Database) (table : Table) (its : Shown) (row : Row) → IsShown table its → IsRowOf tables table.columns row
+    → length (shown_values its row) ≡ length (headings table its)
+shown_length tables table shown.All row within fits =
+    row_length tables table.columns row fits ∙ sym (length-map (own_columns table) full_name ∙ length_of_one table)
+shown_length tables table (shown.Columns columns) row within fits =
+    length-map columns (λ c. value_at row c.0) ∙ sym (headings_length table columns within)
+
+pub shown_fit_headings : ShownFitHeadings
+shown_fit_headings tables table its tests fit within =
+    All-map (λ row. length row ≡ length (headings table its)) (shown_values its) (picked (passes_all tests) table)
+    (All-weaker (IsRowOf tables table.columns) (λ row. length (shown_values its row) ≡ length (headings table its))
+    (λ row fits. shown_length tables table its row within fits) (picked (passes_all tests) table)
+    (All-filter (passes_all tests) (IsRowOf tables table.columns) table.rows fit))

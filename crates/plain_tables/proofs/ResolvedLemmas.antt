@@ -1,0 +1,299 @@
+-- A command is resolved only to one of these tables, with values that can stand there.
+use Rattle.std.proofs.Common.{◌≡◌, ◌≢◌, ◌<◌, ℕ, true, false, not, length, map, get_or, take, arith, List, [], ◌∷◌, inl, inr, refl, sym, ap, ◌∙◌, subst, Option, Some, None}
+use Rattle.std.specs.Prelude.{Result, Ok, Err, ◌==◌, ◌&&◌, nat_lt, nat_le}
+use Rattle.std.specs.List.{All, AllByRecursion, list_any, cons_option, slice_get}
+use Rattle.std.specs.Option.{is_some, option_map, option_map_or, option_and_then}
+use Rattle.std.specs.Result.{result_ok}
+use Rattle.std.specs.Str.{bytes_eq}
+use Rattle.std.specs.declared.cmp.Ordering.TheVariants.{Less}
+use Rattle.std.proofs.lemmas.Bool.{cases_Bool, or_parts, or_from, not-false, both_ways, false≢true, eqb-true, eq-eqb, ne_eqb, ltb-false, leb-false}
+use Rattle.std.proofs.lemmas.List.Elements.{All-nil, All-cons, All-head, All-tail, All-map, All-weaker}
+use Rattle.std.proofs.lemmas.List.Folds.{find_at, list_any_none}
+use Rattle.std.proofs.lemmas.Option.{none-some, same_Some, slice_get-get_or, slice_get-map}
+use Rattle.std.proofs.lemmas.Slice.Eq.{bytes_eq-Decides}
+use Rattle.plain_tables.specs.Values.{is_null}
+use Rattle.plain_tables.specs.Tables.{Table, key_cmp}
+use Rattle.plain_tables.specs.Databases.{Database, is_named, table_named}
+use Rattle.plain_tables.specs.Queries.{JoinedColumn, column_meant, place_meant, places_meant}
+use Rattle.plain_tables.specs.Effects.{Check, repeats, is_long, setting_name}
+use Rattle.plain_tables.specs.References.{referred, own_type, is_typed, refers_into, IsKeyTree}
+use Rattle.plain_tables.specs.Resolving.{meaning, column_number, number_of, on_numbered, own_columns, tests_of, assignments_of, shown_of, asks_order, mistypes, is_mistyped, table_checks, insert_checks, update_checks, delete_checks, select_checks}
+use Rattle.plain_tables.specs.ResolvedLaws.{HasWidth, IsGiven, IsStorable, IsOfColumn, IsDeclarable, IsAssignable, is_to_column, assigns_twice, AreTests, IsShown, IsMeant, ResolvedAreMeant, CommandsKeepSound}
+use Rattle.plain_tables.specs.declared.value.Value.{Value}
+use Rattle.plain_tables.specs.declared.value.Value.TheVariants as value
+use Rattle.plain_tables.specs.declared.condition.ColName.{ColName}
+use Rattle.plain_tables.specs.declared.condition.Cond.{Cond}
+use Rattle.plain_tables.specs.declared.refusal.Refusal.{Refusal}
+use Rattle.plain_tables.specs.declared.refusal.Refusal.TheVariants.{NoSuchTable}
+use Rattle.plain_tables.specs.declared.schema.ColKind.{ColKind}
+use Rattle.plain_tables.specs.declared.schema.ColKind.TheVariants as kind
+use Rattle.plain_tables.specs.declared.schema.Column.{Column}
+use Rattle.plain_tables.specs.declared.schema.Schema.{Schema}
+use Rattle.plain_tables.specs.declared.schema.IndexKind.{IndexKind}
+use Rattle.plain_tables.specs.declared.command.Items.{Items}
+use Rattle.plain_tables.specs.declared.command.Items.TheVariants as items
+use Rattle.plain_tables.specs.declared.command.Setting.{Setting}
+use Rattle.plain_tables.specs.declared.command.Limits.{Limits}
+use Rattle.plain_tables.specs.declared.command.Command.TheVariants as command
+use Rattle.plain_tables.specs.declared.numbers.TableNumber.{TableNumber}
+use Rattle.plain_tables.specs.declared.resolved.Assignment.{Assignment}
+use Rattle.plain_tables.specs.declared.resolved.Resolved.{Resolved}
+use Rattle.plain_tables.specs.declared.resolved.Resolved.TheVariants as resolved
+use Rattle.plain_tables.proofs.DatabaseLemmas.{columns_differ}
+use Rattle.plain_tables.proofs.ListLemmas.{AllPairs-nil, fails_where_none}
+use Rattle.plain_tables.proofs.SettingLemmas.{any_column, named_at}
+use Rattle.plain_tables.proofs.SoundLemmas.{done_keeps_sound}
+use Rattle.plain_tables.proofs.UpdateLemmas.{joined, columns_of_one, length_of_one, column_at_place, first_behind_key}
+
+-- ---- checks
+
+not_Ok : {X Y : Type 0} (why : Y) (x : X) → ◌≡◌ {A = Result X Y} (Err why) (Ok x) → ⊥
+not_Ok why x same = none-some x (ap result_ok same)
+
+same_Ok : {X Y : Type 0} (x y : X) → ◌≡◌ {A = Result X Y} (Ok x) (Ok y) → x ≡ y
+same_Ok x y same = same_Some x y (ap result_ok same)
+
+-- where checks let a command pass, none of them refuses
+passes_checks : (checks : List Check) (r q : Resolved) → meaning checks r ≡ Ok q
+    → AllByRecursion (λ c. c.refuses ≡ false) checks × (r ≡ q)
+passes_checks [] r q h = (tt, same_Ok r q h)
+passes_checks (c ∷ checks) r q h =
+    elim (cases_Bool c.refuses) [
+      | inl t ↦ absurd (not_Ok c.refusal q (rw t at h))
+      | inr f ↦ let rest = passes_checks checks r q (rw f at h) in ((f, rest.0), rest.1)
+    ]
+
+table_found : (found : Option Table) (means : Table → Result Resolved Refusal) (q : Resolved)
+    → option_map_or means found (Err NoSuchTable) ≡ Ok q → (table : Table) × (found ≡ Some table) × (means table ≡ Ok q)
+table_found None means q h = absurd (not_Ok NoSuchTable q h)
+table_found (Some table) means q h = (table, refl, h)
+
+-- What holds of the command that a table gives behind checks, where they pass, holds of the command on the table of a name.
+numbered_satisfies : (P : Resolved → Type 0) (name : List ℕ) (tables : Database) (checks : Table → List Check)
+    (gives : TableNumber → Table → Resolved) (q : Resolved)
+    → on_numbered name tables (λ n table. meaning (checks table) (gives n table)) ≡ Ok q
+    → ((n : TableNumber) (table : Table) → slice_get tables n.0 ≡ Some table → AllByRecursion (λ c. c.refuses ≡ false) (checks table)
+    → P (gives n table))
+    → P q
+numbered_satisfies P name tables checks gives q h holds =
+    let n : TableNumber = number_of name tables in
+    let found = table_found (table_named name tables) (λ table. meaning (checks table) (gives n table)) q h in
+    let passed = passes_checks (checks found.0) (gives n found.0) q found.2 in
+    subst P passed.1 (holds n found.0 (sym (find_at (is_named name) tables) ∙ found.1) passed.0)
+
+-- ---- what an option gives
+
+option_map_some : {X Y : Type 0} (f : X → Y) (o : Option X) (y : Y) → option_map f o ≡ Some y → (x : X) × (o ≡ Some x) × (f x ≡ y)
+option_map_some f None y h = absurd (none-some y h)
+option_map_some f (Some x) y h = (x, refl, same_Some (f x) y h)
+
+-- one element more, if there is one
+one_more : {X : Type 0} (P : X → Type 0) (o : Option X) (xs : List X) → ((x : X) → o ≡ Some x → P x) → All P xs → All P (cons_option o xs)
+one_more P None xs one all = all
+one_more P (Some x) xs one all = All-cons P x xs (one x refl) all
+
+-- one more, made of what an option has
+mapped_more : {X Y : Type 0} (P : Y → Type 0) (f : X → Y) (o : Option X) (ys : List Y) → ((x : X) → o ≡ Some x → P (f x)) → All P ys
+    → All P (cons_option (option_map f o) ys)
+mapped_more P f o ys one all =
+    one_more P (option_map f o) ys
+    (λ y same. let from = option_map_some f o y same in subst P from.2 (one from.0 from.1)) all
+
+-- ---- values
+
+storable_value : (v : Value) → is_long v ≡ false → HasWidth v → IsStorable v
+storable_value value.Null short width = tt
+storable_value (value.Int z) short width = width
+storable_value (value.Text text) short width = ltb-false 1024 (length text) short
+
+-- the column at the place that a name means, and a value of its type
+of_column_meant : (tables : Database) (table : Table) (name : ColName) (v : Value) (place : ℕ) → place_meant (own_columns table) name ≡ Some place
+    → mistypes tables (own_columns table) name v ≡ false → IsOfColumn tables table (column_number place) v
+of_column_meant tables table name v place meant right =
+    let at_place = column_at_place (own_columns table) name place meant in
+    let within : place < length table.columns = let same = length_of_one table in let below = at_place.0 in omega arith in
+    let c : Column = get_or table.columns place any_column.column in
+    let there : slice_get table.columns place ≡ Some c = slice_get-get_or table.columns place any_column.column within in
+    let found : column_meant (own_columns table) name ≡ Some (joined table c) =
+    at_place.1 ∙ ap (λ columns. slice_get columns place) (columns_of_one table) ∙ slice_get-map (joined table) table.columns place
+    ∙ ap (option_map (joined table)) there
+    in
+    let typed : not (is_typed tables v c.kind) ≡ false =
+    sym (ap (λ o. option_map_or (λ j. not (is_typed tables v j.column.kind)) o false) found) ∙ right
+    in
+    (c, there, not-false (is_typed tables v c.kind) typed)
+
+-- ---- conditions, settings and items
+
+tests_meant : (tables : Database) (table : Table) (conditions : List Cond)
+    → list_any (is_mistyped tables (own_columns table)) conditions ≡ false → AreTests tables table (tests_of (own_columns table) conditions)
+tests_meant tables table [] right = All-nil (λ t. IsOfColumn tables table t.column t.value)
+tests_meant tables table (c ∷ conditions) right =
+    let columns : List JoinedColumn = own_columns table in
+    let parts = or_parts (is_mistyped tables columns c) (list_any (is_mistyped tables columns) conditions) right in
+    let typed = or_parts (mistypes tables columns c.column c.value) (is_null c.value && asks_order c.op) parts.0 in
+    mapped_more (λ t. IsOfColumn tables table t.column t.value) (λ place. record { column = column_number place; op = c.op; value = c.value })
+    (place_meant columns c.column) (tests_of columns conditions)
+    (λ place meant. of_column_meant tables table c.column c.value place meant typed.0)
+    (tests_meant tables table conditions parts.1)
+
+assignments_meant : (tables : Database) (table : Table) (settings : List Setting)
+    → list_any (λ s. mistypes tables (own_columns table) (setting_name s) s.value) settings ≡ false
+    → list_any (λ s. is_long s.value) settings ≡ false
+    → list_any (λ place. place == 0) (places_meant (own_columns table) (map setting_name settings)) ≡ false
+    → All (λ s. HasWidth s.value) settings → All (IsAssignable tables table) (assignments_of (own_columns table) settings)
+assignments_meant tables table [] right short behind widths = All-nil (IsAssignable tables table)
+assignments_meant tables table (s ∷ settings) right short behind widths =
+    let columns : List JoinedColumn = own_columns table in
+    let typed = or_parts (mistypes tables columns (setting_name s) s.value)
+    (list_any (λ t. mistypes tables columns (setting_name t) t.value) settings) right in
+    let brief = or_parts (is_long s.value) (list_any (λ t. is_long t.value) settings) short in
+    let later = first_behind_key (place_meant columns (setting_name s)) (places_meant columns (map setting_name settings)) behind in
+    mapped_more (IsAssignable tables table) (λ place. record { column = column_number place; value = s.value })
+    (place_meant columns (setting_name s)) (assignments_of columns settings)
+    (λ place meant. record {
+      behind_key = later.0 place meant;
+      of_column = of_column_meant tables table (setting_name s) s.value place meant typed.0;
+      storable = storable_value s.value brief.0 (All-head (λ t. HasWidth t.value) s settings widths);
+    })
+    (assignments_meant tables table settings typed.1 brief.1 later.1 (All-tail (λ t. HasWidth t.value) s settings widths))
+
+-- Settings of different names are assignments to different columns: two of one column would have its name.
+
+-- a setting that means a column has its name
+named_there : (columns : List JoinedColumn) (s : Setting) (place : ℕ) → place_meant columns (setting_name s) ≡ Some place
+    → s.column ≡ (get_or columns place any_column).column.name
+named_there columns s place meant =
+    named_at columns s place (rw meant (eq-eqb place place refl))
+
+each_apart : (columns : List JoinedColumn) (s : Setting) (place : ℕ) → place_meant columns (setting_name s) ≡ Some place
+    → (settings : List Setting) → list_any (bytes_eq s.column) (map (λ t. t.column) settings) ≡ false
+    → All (λ a. is_to_column place a ≡ false) (assignments_of columns settings)
+each_apart columns s place meant [] apart = All-nil (λ a. is_to_column place a ≡ false)
+each_apart columns s place meant (t ∷ settings) apart =
+    let parts = or_parts (bytes_eq s.column t.column) (list_any (bytes_eq s.column) (map (λ u. u.column) settings)) apart in
+    mapped_more (λ a. is_to_column place a ≡ false) (λ p. record { column = column_number p; value = t.value })
+    (place_meant columns (setting_name t)) (assignments_of columns settings)
+    (λ p there. ne_eqb p place (λ same.
+    both_ways (bytes_eq s.column t.column) parts.0
+    ((bytes_eq-Decides s.column t.column).1
+    (named_there columns s place meant ∙ sym (named_there columns t place (there ∙ ap Some same))))))
+    (each_apart columns s place meant settings parts.1)
+
+-- one assignment more, if a name means a column, to a column that the others aren't to
+once_more : (found : Option ℕ) (v : Value) (others : List Assignment)
+    → ((place : ℕ) → found ≡ Some place → list_any (is_to_column place) others ≡ false) → assigns_twice others ≡ false
+    → assigns_twice (cons_option (option_map (λ place. record { column = column_number place; value = v }) found) others) ≡ false
+once_more None v others apart once = once
+once_more (Some place) v others apart once = or_from (list_any (is_to_column place) others) (assigns_twice others) (apart place refl) once
+
+others_apart : (columns : List JoinedColumn) (s : Setting) (place : ℕ) → place_meant columns (setting_name s) ≡ Some place
+    → (settings : List Setting) → list_any (bytes_eq s.column) (map (λ t. t.column) settings) ≡ false
+    → list_any (is_to_column place) (assignments_of columns settings) ≡ false
+others_apart columns s place meant settings apart =
+    list_any_none (is_to_column place) (assignments_of columns settings)
+    (each_apart columns s place meant settings apart)
+
+assigned_once : (columns : List JoinedColumn) (settings : List Setting) → repeats bytes_eq (map (λ s. s.column) settings) ≡ false
+    → assigns_twice (assignments_of columns settings) ≡ false
+assigned_once columns [] apart = refl
+assigned_once columns (s ∷ settings) apart =
+    let parts = or_parts (list_any (bytes_eq s.column) (map (λ t. t.column) settings)) (repeats bytes_eq (map (λ t. t.column) settings)) apart in
+    once_more (place_meant columns (setting_name s)) s.value (assignments_of columns settings)
+    (λ place meant. others_apart columns s place meant settings parts.0) (assigned_once columns settings parts.1)
+
+places_within : (table : Table) (names : List ColName) → All (λ place. place < length table.columns) (places_meant (own_columns table) names)
+places_within table [] = All-nil (λ place. place < length table.columns)
+places_within table (name ∷ names) =
+    one_more (λ place. place < length table.columns) (place_meant (own_columns table) name) (places_meant (own_columns table) names)
+    (λ place meant.
+    let below = (column_at_place (own_columns table) name place meant).0 in let same = length_of_one table in omega arith)
+    (places_within table names)
+
+shown_meant : (table : Table) (its : Items) → IsShown table (shown_of (own_columns table) its)
+shown_meant table items.All = tt
+shown_meant table (items.Named names) =
+    All-map (λ c. c.0 < length table.columns) column_number (places_meant (own_columns table) names) (places_within table names)
+
+-- ---- a table to be declared
+
+own_kind : (k : ColKind) → is_some (referred k) ≡ false → is_some (own_type k) ≡ true
+own_kind kind.Int h = refl
+own_kind kind.Text h = refl
+own_kind (kind.Ref table) h = absurd (false≢true (sym h))
+own_kind (kind.RefOrNull table) h = absurd (false≢true (sym h))
+
+first_keyed : (columns : List Column) → 0 < length columns → list_any (λ c. is_some (referred c.kind)) (take 1 columns) ≡ false
+    → is_some (option_and_then (λ c. own_type c.kind) (slice_get columns 0)) ≡ true
+first_keyed [] some h = absurd (omega arith)
+first_keyed (c ∷ columns) some h = own_kind c.kind (or_parts (is_some (referred c.kind)) false h).0
+
+declarable : (limits : Limits) (tables : Database) (name : List ℕ) (schema : Schema) → IsGiven (command.Table name schema)
+    → AllByRecursion (λ c. c.refuses ≡ false) (table_checks tables name schema) → IsDeclarable limits tables name schema
+declarable limits tables name schema given passed =
+    let few = or_parts (nat_lt 16 (length schema.columns)) (nat_le 64 (length tables)) passed.1.1.1.1.0 in
+    record {
+      sound = record {
+        named = given.0;
+        columns_named = given.2;
+        columns_apart = columns_differ schema.columns passed.1.1.0;
+        few_columns = ltb-false 16 (length schema.columns) few.0;
+        keyed = first_keyed schema.columns given.1 passed.1.1.1.0;
+        indexes_on_columns = All-nil (λ (i : ℕ × IndexKind). i.0 < length schema.columns);
+        indexes_apart = AllPairs-nil (λ (i j : ℕ × IndexKind). i ≢ j);
+        no_key_tree = All-nil (λ i. ¬ (IsKeyTree i));
+        rows_rise = AllPairs-nil (λ r s. key_cmp r s ≡ Less);
+        few_rows = omega arith;
+      };
+      refers_back =
+          All-weaker (λ c. not (refers_into tables c) ≡ false) (λ c. refers_into tables c ≡ true) (λ c. not-false (refers_into tables c))
+          schema.columns (fails_where_none (λ c. not (refers_into tables c)) schema.columns passed.0);
+      is_new = passed.1.0;
+      has_room = leb-false 64 (length tables) few.1;
+    }
+
+-- ---- every command
+
+pub resolved_are_meant : ResolvedAreMeant
+resolved_are_meant limits tables (command.Table name schema) r given h =
+    let passed = passes_checks (table_checks tables name schema) (resolved.Table name schema) r h in
+    subst (IsMeant limits tables) passed.1 (declarable limits tables name schema given passed.0)
+resolved_are_meant limits tables (command.Insert name row) r given h =
+    numbered_satisfies (IsMeant limits tables) name tables (λ table. insert_checks tables table row) (λ n table. resolved.Insert n row) r h
+    (λ n table there passed. (
+      table,
+      there,
+      record {
+        counted = eqb-true (length row) (length table.columns) (not-false _ passed.0);
+        typed = passed.1.0;
+        storable = λ k d l. storable_value (get_or row k d) (fails_where_none is_long row passed.1.1.0 k d l) (given k d l);
+      },
+    ))
+resolved_are_meant limits tables (command.Update name settings conditions) r given h =
+    numbered_satisfies (IsMeant limits tables) name tables (λ table. update_checks tables table settings conditions)
+    (λ n table. resolved.Update n (assignments_of (own_columns table) settings) (tests_of (own_columns table) conditions)) r h
+    (λ n table there passed.
+    let typed = or_parts (list_any (λ s. mistypes tables (own_columns table) (setting_name s) s.value) settings)
+    (list_any (is_mistyped tables (own_columns table)) conditions) passed.1.1.0 in (
+      table,
+      there,
+      (
+        record {
+          each = assignments_meant tables table settings typed.0 passed.1.1.1.0 passed.1.1.1.1.0 given;
+          apart = assigned_once (own_columns table) settings passed.1.0;
+        },
+        tests_meant tables table conditions typed.1,
+      ),
+    ))
+resolved_are_meant limits tables (command.Delete name conditions) r given h =
+    numbered_satisfies (IsMeant limits tables) name tables (λ table. delete_checks tables table conditions)
+    (λ n table. resolved.Delete n (tests_of (own_columns table) conditions)) r h
+    (λ n table there passed. (table, there, tests_meant tables table conditions passed.1.0))
+resolved_are_meant limits tables (command.Select its name conditions) r given h =
+    numbered_satisfies (IsMeant limits tables) name tables (λ table. select_checks tables table its conditions)
+    (λ n table. resolved.Select (shown_of (own_columns table) its) n (tests_of (own_columns table) conditions)) r h
+    (λ n table there passed. (table, there, (shown_meant table its, tests_meant tables table conditions passed.1.1.0)))
+
+pub commands_keep_sound : CommandsKeepSound
+commands_keep_sound limits tables c r given h sound =
+    done_keeps_sound limits tables r sound (resolved_are_meant limits tables c r given h)

@@ -1,0 +1,151 @@
+-- Doing: what a resolved command does to a database, with the checks that look at rows.
+use Rattle.std.specs.Prelude.{ℕ, List, [], ◌∷◌, ◌++◌, Bool, true, false, not, ◌==◌, ◌&&◌, nat_le, length, map, if◌then◌else◌, None, slice_get, slice_set, remove}
+use Rattle.std.specs.List.{list_any, list_all, filter, filter_map}
+use Rattle.std.specs.Option.{option_and_then, option_map, option_map_or}
+use Rattle.plain_tables.specs.Tables.{Table, Row, has_key_of}
+use Rattle.plain_tables.specs.Databases.{Database}
+use Rattle.plain_tables.specs.Queries.{full_name, value_at, stands}
+use Rattle.plain_tables.specs.Effects.{Check, Effect, Done, Changed, Rows, Refused, checked, new_table, grown_by}
+use Rattle.plain_tables.specs.References.{Reference, reference_of, references, is_held, is_referenced}
+use Rattle.plain_tables.specs.Resolving.{own_columns}
+use Rattle.plain_tables.specs.declared.refusal.Refusal.TheVariants.{NoSuchTable, KeyExists, NoReferencedRow, TableFull, RowIsReferenced}
+use Rattle.plain_tables.specs.declared.schema.IndexKind.{IndexKind}
+use Rattle.plain_tables.specs.declared.schema.IndexKind.TheVariants as index
+use Rattle.plain_tables.specs.declared.command.Limits.{Limits}
+use Rattle.plain_tables.specs.declared.numbers.ColumnNumber.{ColumnNumber}
+use Rattle.plain_tables.specs.declared.numbers.TableNumber.{TableNumber}
+use Rattle.plain_tables.specs.declared.resolved.Assignment.{Assignment}
+use Rattle.plain_tables.specs.declared.resolved.Test.{Test}
+use Rattle.plain_tables.specs.declared.resolved.Shown.{Shown}
+use Rattle.plain_tables.specs.declared.resolved.Shown.TheVariants as shown
+use Rattle.plain_tables.specs.declared.resolved.Resolved.{Resolved}
+use Rattle.plain_tables.specs.declared.resolved.Resolved.TheVariants as resolved
+
+-- ---- tables by number
+
+-- What is done on the table of a number. A resolved command has a number of a table that is there.
+abbrev pub on_table : TableNumber → Database → (Table → Effect) → Effect
+on_table n tables effect =
+    option_map_or effect (slice_get tables n.0) (record { database = tables; outcome = Refused NoSuchTable })
+
+-- the tables with this one in the place of that number
+abbrev pub with_table : TableNumber → Table → Database → Database
+with_table n table tables = slice_set tables n.0 table
+
+-- ---- tests and assignments
+
+-- Whether a row passes a test: its value in the column stands so to the test's.
+abbrev pub passes : Row → Test → Bool
+passes row test = stands test.op (value_at row test.column.0) test.value
+
+abbrev pub passes_all : List Test → Row → Bool
+passes_all tests row = list_all (passes row) tests
+
+-- the row with the values of the assignments in their columns
+abbrev pub assigned : List Assignment → Row → Row
+assigned [] row = row
+assigned (a ∷ assignments) row = assigned assignments (slice_set row a.column.0 a.value)
+
+-- ---- insert
+
+-- a new key, references that are held, and room under the limit
+abbrev pub insert_checks : Limits → Database → Table → Row → List Check
+insert_checks limits tables table row =
+    record { refuses = has_key_of row table.rows; refusal = KeyExists None }
+    ∷ record { refuses = not (list_all (is_held tables) (references table.columns row)); refusal = NoReferencedRow None }
+    ∷ record { refuses = nat_le limits.rows (length table.rows); refusal = TableFull None }
+    ∷ []
+
+-- ---- update
+
+-- the references that assignments make
+abbrev pub assigned_references : Table → List Assignment → List Reference
+assigned_references table assignments =
+    filter_map (λ a. option_and_then (λ c. reference_of c a.value) (slice_get table.columns a.column.0)) assignments
+
+-- The references are held, whether a row is picked or not.
+abbrev pub update_checks : Database → Table → List Assignment → List Check
+update_checks tables table assignments =
+    record { refuses = not (list_all (is_held tables) (assigned_references table assignments)); refusal = NoReferencedRow None } ∷ []
+
+-- each row that is picked has the values assigned
+abbrev pub updated : List Assignment → (Row → Bool) → Table → Table
+updated assignments picks table =
+    record table { rows = map (λ row. if picks row then assigned assignments row else row) table.rows }
+
+-- the rows that are picked
+abbrev pub picked : (Row → Bool) → Table → List Row
+picked picks table = filter picks table.rows
+
+-- what an update does to the rows of a table that are picked
+abbrev pub update : Database → TableNumber → List Assignment → (Row → Bool) → Effect
+update tables n assignments picks =
+    on_table n tables (λ table. checked tables (update_checks tables table assignments)
+    (record { database = with_table n (updated assignments picks table) tables; outcome = Changed (length (picked picks table)) }))
+
+-- ---- delete
+
+-- no row that is picked is referred to
+abbrev pub delete_checks : Database → Table → (Row → Bool) → List Check
+delete_checks tables table picks =
+    record { refuses = list_any (is_referenced tables table.name) (picked picks table); refusal = RowIsReferenced } ∷ []
+
+-- the table without the rows that are picked
+abbrev pub without : (Row → Bool) → Table → Table
+without picks table = record table { rows = filter (λ row. not (picks row)) table.rows }
+
+-- what a delete does to the rows of a table that are picked
+abbrev pub delete : Database → TableNumber → (Row → Bool) → Effect
+delete tables n picks =
+    on_table n tables (λ table. checked tables (delete_checks tables table picks)
+    (record { database = with_table n (without picks table) tables; outcome = Changed (length (picked picks table)) }))
+
+-- ---- select
+
+-- the values that are shown of a row, and the names above them
+abbrev pub shown_values : Shown → Row → Row
+shown_values shown.All row = row
+shown_values (shown.Columns columns) row = map (λ c. value_at row c.0) columns
+
+abbrev pub headings : Table → Shown → List (List ℕ)
+headings table shown.All = map full_name (own_columns table)
+headings table (shown.Columns columns) = filter_map (λ c. option_map full_name (slice_get (own_columns table) c.0)) columns
+
+-- ---- declared indexes
+
+-- the kinds are one
+abbrev pub is_kind : IndexKind → IndexKind → Bool
+is_kind index.Tree index.Tree = true
+is_kind index.Hash index.Hash = true
+is_kind k l = false
+
+-- the declarations are one
+abbrev pub is_index : ColumnNumber → IndexKind → ℕ × IndexKind → Bool
+is_index column k i = (i.0 == column.0) && is_kind k i.1
+
+-- the table with one declared index more, the last, or with one less
+abbrev pub with_index : ColumnNumber → IndexKind → Table → Table
+with_index column k table = record table { indexes = table.indexes ++ (column.0, k) ∷ [] }
+
+abbrev pub without_index : ColumnNumber → IndexKind → Table → Table
+without_index column k table = record table { indexes = filter (λ i. not (is_index column k i)) table.indexes }
+
+-- ---- all commands
+
+-- A table that is declared stands last. An insert adds a row, an update and a delete answer how many rows passed the tests,
+-- and a select changes nothing.
+abbrev pub done : Limits → Database → Resolved → Effect
+done limits tables (resolved.Table name schema) =
+    record { database = tables ++ new_table name schema ∷ []; outcome = Done }
+done limits tables (resolved.DropTable n) = record { database = remove tables n.0; outcome = Done }
+done limits tables (resolved.Index n column k) =
+    on_table n tables (λ table. record { database = with_table n (with_index column k table) tables; outcome = Done })
+done limits tables (resolved.DropIndex n column k) =
+    on_table n tables (λ table. record { database = with_table n (without_index column k table) tables; outcome = Done })
+done limits tables (resolved.Insert n row) =
+    on_table n tables (λ table. checked tables (insert_checks limits tables table row)
+    (record { database = with_table n (grown_by row table) tables; outcome = Changed 1 }))
+done limits tables (resolved.Update n assignments tests) = update tables n assignments (passes_all tests)
+done limits tables (resolved.Delete n tests) = delete tables n (passes_all tests)
+done limits tables (resolved.Select its n tests) =
+    on_table n tables (λ table. record { database = tables; outcome = Rows (headings table its) (map (shown_values its) (picked (passes_all tests) table)) })

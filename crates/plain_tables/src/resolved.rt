@@ -1,0 +1,73 @@
+//! A command with numbers in the place of names, which has passed the checks that need no row.
+
+use crate::{ColumnNumber, IndexKind, Op, Schema, Sequence, TableNumber, Text, Value};
+
+/// A command on tables and columns by their numbers.
+#[derive(Debug, Drop)]
+pub enum Resolved {
+    /// A new table, which stands last.
+    Table {
+        name: Text,
+        schema: Schema,
+    },
+    /// The table is gone, and those behind it move up.
+    DropTable {
+        table: TableNumber,
+    },
+    /// One declared index more, the last of its table.
+    Index {
+        table: TableNumber,
+        column: ColumnNumber,
+        kind: IndexKind,
+    },
+    /// One declared index less.
+    DropIndex {
+        table: TableNumber,
+        column: ColumnNumber,
+        kind: IndexKind,
+    },
+    /// One row more.
+    Insert {
+        table: TableNumber,
+        values: Sequence<Value>,
+    },
+    /// These values in each row that passes the tests.
+    Update {
+        table: TableNumber,
+        assignments: Sequence<Assignment>,
+        tests: Sequence<Test>,
+    },
+    /// The table without the rows that pass the tests.
+    Delete {
+        table: TableNumber,
+        tests: Sequence<Test>,
+    },
+    /// These columns of the rows that pass the tests.
+    Select {
+        shown: Shown,
+        table: TableNumber,
+        tests: Sequence<Test>,
+    },
+}
+
+/// What an update puts into a column.
+#[derive(Debug, Drop)]
+pub struct Assignment {
+    pub column: ColumnNumber,
+    pub value: Value,
+}
+
+/// What a row has to pass: its value in the column stands so to this value.
+#[derive(Debug, Drop)]
+pub struct Test {
+    pub column: ColumnNumber,
+    pub op: Op,
+    pub value: Value,
+}
+
+/// The columns that a select shows: all of them, or these, in that order.
+#[derive(Debug, Drop)]
+pub enum Shown {
+    All,
+    Columns(Sequence<ColumnNumber>),
+}
