@@ -8,7 +8,7 @@ use Rattle.part_raw.specs.Store.{Tuples}
 use Rattle.part_raw.proofs.Tuples.{get-insert_same, get-insert_other, get-remove_same, get-remove_other, len-remove_held, same_tuples}
 use Rattle.part_raw.proofs.Lookup.{same_or_other}
 use Rattle.mm_index.specs.Order.{remove_by}
-use Rattle.mm_relation.specs.declared.numbers.ColumnNumber.{ColumnNumber}
+use Rattle.plain_tables.specs.declared.numbers.ColumnNumber.{ColumnNumber}
 use Rattle.mm_relation.specs.declared.row.Row.{Row}
 use Rattle.mm_relation.specs.declared.row.Cell.{Cell}
 use Rattle.mm_relation.specs.declared.trees.TreeOn.{TreeOn}

@@ -19,7 +19,7 @@ use Rattle.part_raw.proofs.Refs.{ref_cmp_total}
 use Rattle.part_raw.proofs.Tuples.{same_ref_self, same_ref_true, get-insert_same, get-insert_other}
 use Rattle.part_raw.proofs.Lookup.{same_or_other}
 use Rattle.mm_index.proofs.Members.{Contains-cons, Contains-cons_cases}
-use Rattle.mm_relation.specs.declared.numbers.ColumnNumber.{ColumnNumber}
+use Rattle.plain_tables.specs.declared.numbers.ColumnNumber.{ColumnNumber}
 use Rattle.mm_relation.specs.declared.row.Row.{Row}
 use Rattle.mm_relation.specs.declared.row.Cell.{Cell}
 use Rattle.mm_relation.specs.Reading.{Keys, cell_value, row_value, value_at}

@@ -8,7 +8,7 @@ use Rattle.mm_relation.specs.declared.row.Row.{Row}
 use Rattle.mm_relation.specs.declared.row.Cell.{Cell}
 use Rattle.mm_relation.specs.declared.refusal.RowRefusal.{RowRefusal}
 use Rattle.mm_relation.specs.declared.refusal.RowRefusal.TheVariants.{KeyExists, Full, NoMemory}
-use Rattle.mm_relation.specs.declared.numbers.ColumnNumber.{ColumnNumber}
+use Rattle.plain_tables.specs.declared.numbers.ColumnNumber.{ColumnNumber}
 use Rattle.mm_relation.specs.Settings.{CellsSet}
 use Rattle.mm_relation.specs.State.{RelationState, tree_of, HasKey, entries_on}
 

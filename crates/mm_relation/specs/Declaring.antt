@@ -5,8 +5,8 @@ use Rattle.part_raw.specs.declared.tuple_ref.TupleRef.{TupleRef}
 use Rattle.plain_tables.specs.declared.schema.Schema.{Schema}
 use Rattle.plain_tables.specs.declared.schema.IndexKind.{IndexKind}
 use Rattle.plain_tables.specs.declared.schema.IndexKind.TheVariants.{Tree, Hash}
-use Rattle.mm_relation.specs.declared.numbers.ColumnNumber.{ColumnNumber}
-use Rattle.mm_relation.specs.declared.numbers.TableNumber.{TableNumber}
+use Rattle.plain_tables.specs.declared.numbers.ColumnNumber.{ColumnNumber}
+use Rattle.plain_tables.specs.declared.numbers.TableNumber.{TableNumber}
 use Rattle.mm_relation.specs.declared.numbers.DeclaredIndex.{DeclaredIndex}
 use Rattle.mm_relation.specs.declared.trees.TreeOn.{TreeOn}
 use Rattle.mm_relation.specs.declared.hashes.HashOn.{HashOn}

@@ -13,7 +13,7 @@ ghost use Rattle.mm_relation.specs.State.{IsKeyed, TreeServes, HashServes};
 use crate::hashes::{HashOn, list_in_hash};
 use crate::indexes::Indexes;
 use crate::linked_keys::LinkedKeys;
-use crate::numbers::{ColumnNumber, DeclaredIndex};
+use crate::numbers::DeclaredIndex;
 use crate::row::Row;
 use crate::tree::Tree;
 use crate::trees::{TreeOn, list_in_tree};
@@ -21,7 +21,7 @@ use lin_hash::LinHash;
 use mm_index::{ExactIndex, OrderedIndex};
 use no_memory::NoMemory;
 use part_raw::{Partitions, TupleRef};
-use plain_tables::{IndexKind, Sequence};
+use plain_tables::{ColumnNumber, IndexKind, Sequence};
 use std::alloc::Global;
 
 // A tree on a column, which lists each of the rows.

@@ -11,11 +11,10 @@ ghost use Rattle.mm_relation.specs.Indexes.{tree_columns, hash_columns, HaveRoom
 
 use crate::indexes::Indexes;
 use crate::linked_keys::LinkedKeys;
-use crate::numbers::ColumnNumber;
 use crate::row::{Cell, Row};
 use no_memory::NoMemory;
 use part_raw::{Partitions, TupleRef};
-use plain_tables::{Text, Value};
+use plain_tables::{ColumnNumber, Text, Value};
 use std::alloc::Global;
 
 fn copy_of_value(alloc: Global, value: &Value) -> Result<Value, NoMemory>

@@ -3,13 +3,13 @@ ghost use Rattle.std.specs.Prelude.{◌≡◌, ◌<◌, IfOk, OnOk, OnErr, lengt
 ghost use Rattle.mm_relation.specs.Declaring.{is_index, without_first};
 
 use crate::indexes::Indexes;
-use crate::numbers::{ColumnNumber, DeclaredIndex, TableNumber};
+use crate::numbers::DeclaredIndex;
 use crate::relation::Relation;
 use crate::relations::{Links, Relations};
 use crate::tree::Tree;
 use no_memory::NoMemory;
 use part_raw::Partitions;
-use plain_tables::{IndexKind, Schema, Sequence};
+use plain_tables::{ColumnNumber, IndexKind, Schema, Sequence, TableNumber};
 use std::alloc::Global;
 
 // Whether two declarations are alike.

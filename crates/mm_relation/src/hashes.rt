@@ -9,14 +9,13 @@ ghost use Rattle.mm_relation.specs.Reading.{value_at, hash_at};
 ghost use Rattle.mm_relation.specs.Indexes.{shown_hash, hash_room, HashAwaits, HashGains, HashHas, HashLoses};
 
 use crate::linked_keys::LinkedKeys;
-use crate::numbers::ColumnNumber;
 use crate::order::value_in;
 use crate::row::Row;
 use lin_hash::{Chain, LinHash};
 use mm_index::ExactIndex;
 use no_memory::NoMemory;
 use part_raw::{Partitions, TupleRef};
-use plain_tables::hash_of;
+use plain_tables::{ColumnNumber, hash_of};
 
 /// A declared hash: the rows under the hash of their values in one column.
 #[derive(Drop)]

@@ -39,7 +39,7 @@ mod view;
 pub use lin_hash::Chain;
 pub use linked_keys::LinkedKeys;
 pub use mm_index::Probe;
-pub use numbers::{ColumnNumber, DeclaredIndex, TableNumber};
+pub use numbers::DeclaredIndex;
 pub use part_raw::TupleRef;
 pub use refusal::RowRefusal;
 pub use relation::Relation;

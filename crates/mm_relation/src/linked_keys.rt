@@ -2,9 +2,8 @@
 ghost use Rattle.std.specs.Prelude.{◌≡◌, Some, IsSome};
 ghost use Rattle.mm_relation.specs.Reading.{Keys};
 
-use crate::numbers::ColumnNumber;
 use part_raw::TupleRef;
-use plain_tables::Value;
+use plain_tables::{ColumnNumber, Value};
 
 /// Where links lead: the key of the row that each names.
 pub trait LinkedKeys {

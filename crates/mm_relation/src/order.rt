@@ -4,11 +4,10 @@ ghost use Rattle.mm_relation.specs.Reading.{value_at, key_at};
 ghost use Rattle.mm_relation.specs.Order.{KeysDiffer, column_cmp};
 
 use crate::linked_keys::LinkedKeys;
-use crate::numbers::ColumnNumber;
 use crate::row::{Cell, Row};
 use mm_index::TupleOrder;
 use part_raw::{Partitions, TupleRef};
-use plain_tables::Value;
+use plain_tables::{ColumnNumber, Value};
 use std::cmp::Ordering;
 
 // The value in a column, read through a link where there is one.

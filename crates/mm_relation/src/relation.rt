@@ -5,7 +5,7 @@ use crate::change::{change_each, copies_for};
 use crate::hashes::{chain_on, is_hash_on};
 use crate::indexes::Indexes;
 use crate::keyed::find_row;
-use crate::numbers::{ColumnNumber, DeclaredIndex};
+use crate::numbers::DeclaredIndex;
 use crate::parts::{displace, make_room, place};
 use crate::referring::{lower, raise};
 use crate::refusal::RowRefusal;
@@ -18,7 +18,7 @@ use lin_hash::Chain;
 use mm_index::Probe;
 use no_memory::NoMemory;
 use part_raw::{Partitions, TupleRef};
-use plain_tables::{Schema, Sequence, Value};
+use plain_tables::{ColumnNumber, Schema, Sequence, Value};
 use std::alloc::Global;
 use std::marker::Model;
 

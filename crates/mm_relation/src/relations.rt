@@ -3,10 +3,9 @@ ghost use Rattle.std.specs.Prelude.{◌≡◌, ◌<◌, List, Some, length, slic
 ghost use Rattle.mm_relation.specs.State.{RelationState, linked_keys};
 
 use crate::linked_keys::LinkedKeys;
-use crate::numbers::{ColumnNumber, TableNumber};
 use crate::relation::Relation;
 use part_raw::TupleRef;
-use plain_tables::Value;
+use plain_tables::{ColumnNumber, TableNumber, Value};
 
 /// A list of relations: those that come before one of them, and that its links lead into.
 pub trait Relations {

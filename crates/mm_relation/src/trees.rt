@@ -11,13 +11,13 @@ ghost use Rattle.mm_relation.specs.State.{tree_of, HasColumn};
 ghost use Rattle.mm_relation.specs.Indexes.{shown_tree, tree_room, TreeAwaits, TreeGains, TreeHas, TreeLoses};
 
 use crate::linked_keys::LinkedKeys;
-use crate::numbers::ColumnNumber;
 use crate::order::ColumnOrder;
 use crate::row::Row;
 use crate::tree::{Tree, Walk};
 use mm_index::{OrderedIndex, Probe};
 use no_memory::NoMemory;
 use part_raw::{Partitions, TupleRef};
+use plain_tables::ColumnNumber;
 
 /// A declared tree: the rows in the order of one column.
 #[derive(Drop)]

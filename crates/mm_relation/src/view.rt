@@ -3,11 +3,10 @@ ghost use Rattle.std.specs.Prelude.{◌≡◌, Some, IsSome};
 ghost use Rattle.mm_relation.specs.Reading.{row_value, link_in};
 ghost use Rattle.mm_relation.specs.State.{linked_keys};
 
-use crate::numbers::{ColumnNumber, TableNumber};
 use crate::relations::Relations;
 use crate::row::{Cell, Row};
 use part_raw::TupleRef;
-use plain_tables::Value;
+use plain_tables::{ColumnNumber, TableNumber, Value};
 use std::marker::Model;
 
 /// A row that is lent, with the tables that its links lead into. It is a pair of references: nothing is copied.
