@@ -1,7 +1,7 @@
 -- All buckets joined: what one bucket that changes does to the bag of all entries.
-use Rattle.std.proofs.Common.{◌≡◌, ℕ, ◌+◌, ◌<◌, Bool, List, [], ◌∷◌, ◌++◌, length, get_or, refl, sym, ap, ◌∙◌, arith, set, suc, zero, inl, inr, ◌≢◌, false}
-use Rattle.std.specs.List.{count_by, sum_by, flat_map, filter, All, Contains}
-use Rattle.std.proofs.lemmas.List.Elements.{Contains-append_cases, filter-append}
+use Rattle.std.proofs.Common.{◌≡◌, ℕ, ◌+◌, ◌<◌, Bool, List, [], ◌∷◌, ◌++◌, length, get_or, refl, sym, ap, ◌∙◌, arith, set, suc, zero, ◌≢◌, false}
+use Rattle.std.specs.List.{count_by, sum_by, flat_map, filter, All}
+use Rattle.std.proofs.lemmas.List.Elements.{filter-append}
 use Rattle.std.proofs.lemmas.List.{append-nil}
 use Rattle.mm_index.proofs.Filtered.{filter_none}
 use Rattle.std.proofs.lemmas.List.Sums.{sum_by-cons, sum_by-append, sum_by-set}
@@ -43,27 +43,6 @@ module _ {A : Type 0} (bs : List (List A)) (i : ℕ) (inside : i < length bs) wh
     count = λ test.
         omega (arith, h.count test, count_by-cons test e new, count_by-cons test e (joined (set bs i new)), count_by-set test bs i new inside);
   }
-
-  pub joined-split : (kept moved : List A) → IsSameBag (get_or bs i []) (kept ++ moved) → IsSameBag (joined (set bs i kept ++ moved ∷ [])) (joined bs)
-  joined-split kept moved h = record {
-    count = λ test.
-        omega (arith, h.count test, count_by-append test kept moved, count_by-pushed test (set bs i kept) moved, count_by-set test bs i kept inside);
-  }
-
-  pub joined-fold : (last new : List A) → IsSameBag new (last ++ get_or bs i []) → IsSameBag (joined (set bs i new)) (joined (bs ++ last ∷ []))
-  joined-fold last new h = record {
-    count = λ test.
-        omega (arith, h.count test, count_by-append test last (get_or bs i []), count_by-pushed test bs last, count_by-set test bs i new inside);
-  }
-
--- a member of all is a member of one
-pub Contains-joined : {A : Type 0} (bs : List (List A)) (e : A) → Contains (joined bs) e → (i : ℕ) × (i < length bs) × Contains (get_or bs i []) e
-Contains-joined [] e h = absurd (omega (arith, h.1))
-Contains-joined (b ∷ bs) e h =
-    elim (Contains-append_cases b (joined bs) e h) [
-      | inl here ↦ (0, omega arith, here)
-      | inr rest ↦ let there = Contains-joined bs e rest in (suc there.0, (let l = there.1 in omega arith), there.2)
-    ]
 
 -- where a test passes elements of one bucket alone, it finds the same there as in all
 filter-none_joined : {A : Type 0} (test : A → Bool) (bs : List (List A)) → ((k : ℕ) → k < length bs → All (λ x. test x ≡ false) (get_or bs k [])) → filter test (joined bs) ≡ []

@@ -1,9 +1,8 @@
 -- The buckets at a level and a mark, through an insert, a remove, a split and a fold.
 use Rattle.std.proofs.Common.{◌≡◌, ◌≢◌, ℕ, ◌+◌, ◌-◌, ◌*◌, ◌%◌, ◌^◌, ◌<◌, ◌≤◌, inl, inr, List, [], ◌∷◌, ◌++◌, length, get_or, set, refl, sym, ap, ◌∙◌, arith, subst, lit<, add-one, replicate, ◌==◌, false}
 use Rattle.std.specs.Prelude.{map}
-use Rattle.std.specs.List.{All, Contains}
+use Rattle.std.specs.List.{All}
 use Rattle.std.proofs.lemmas.List.{length-set, length-append, get_or-replicate}
-use Rattle.std.proofs.lemmas.List.Elements.{All-contains}
 use Rattle.std.specs.Int.{IsPowerOfTwo}
 use Rattle.std.proofs.lemmas.Nat.{pow_pos, pow-add}
 use Rattle.std.proofs.lemmas.Bool.{cases_lt, ne_eqb}
@@ -12,7 +11,7 @@ use Rattle.mm_index.specs.Bag.{IsSameBag, with_hash}
 use Rattle.lin_hash.specs.Address.{bucket_of, bucket_by, IsPlaced, IsAddressed}
 use Rattle.lin_hash.proofs.Addresses.{bucket_by-lt}
 use Rattle.lin_hash.proofs.Buckets.{IsPlaced-added, IsPlaced-taken, IsPlaced-split, IsPlaced-fold, IsPlaced-up, IsPlaced-down}
-use Rattle.lin_hash.proofs.Joined.{joined, Contains-joined, filter-joined}
+use Rattle.lin_hash.proofs.Joined.{joined, filter-joined}
 
 pub double : (level : ℕ) → 4 * 2 ^ (level + 1) ≡ 2 * (4 * 2 ^ level)
 double level = let e : 2 ^ (level + 1) ≡ 2 ^ level * 2 = ap (λ n. 2 ^ n) (add-one level) ∙ pow-suc 2 level in omega arith
@@ -42,14 +41,6 @@ module _ {A : Type 0} (level mark : ℕ) (bs : List (List (ℕ × A))) (h : IsAd
       let within : mark < 4 * 2 ^ level = h.marked in
       let n : length bs ≡ 4 * 2 ^ level + mark = h.number in
       omega arith
-
-  -- an entry that is held stands in the bucket of its hash
-  pub Contains-bucket_of : (e : ℕ × A) (i : ℕ) → i ≡ bucket_of level mark e.0 → Contains (joined bs) e → Contains (get_or bs i []) e
-  Contains-bucket_of e i at held =
-      let there = Contains-joined bs e held in
-      let place : bucket_of level mark e.0 ≡ there.0 =
-      All-contains (λ d. bucket_of level mark d.0 ≡ there.0) (get_or bs there.0 []) e (h.placed.at there.0 there.1) there.2 in
-      rw (at ∙ place) there.2
 
   pub IsAddressed-added : (e : ℕ × A) (i : ℕ) (new : List (ℕ × A)) → i ≡ bucket_of level mark e.0 → new ≡ e ∷ get_or bs i [] → IsAddressed level mark (set bs i new)
   IsAddressed-added e i new at is = record {
@@ -141,13 +132,6 @@ module _ {A : Type 0} (level mark : ℕ) (bs : List (List (ℕ × A))) where
         placed = rw back (IsPlaced-down (4 * 2 ^ below) bs p q);
       }
 
-  -- the same where the code says it
-  pub IsSplit-undone : (top : ℕ) → top ≡ 4 * 2 ^ (level - 1) → mark ≡ 0 → 4 < length bs → IsAddressed level mark bs → IsSplit (level - 1) (top - 1) bs
-  IsSplit-undone top is z many h =
-      let n : length bs ≡ 4 * 2 ^ level + mark = h.number in
-      let rises : 0 < level = elim (cases_lt 0 level) [ inl l ↦ l | inr none ↦ let zero_level : level ≡ 0 = omega arith in absurd (let four : length bs ≡ 4 * 2 ^ 0 + mark = rw zero_level at n in omega arith) ] in
-      rw is (IsSplit-down (level - 1) (omega arith) z h)
-
 -- the last split is undone
 pub IsAddressed-fold : {A : Type 0} (level mark : ℕ) (bs : List (List (ℕ × A))) (last new : List (ℕ × A)) → IsSplit level mark (bs ++ last ∷ []) → IsSameBag new (last ++ get_or bs mark []) → IsAddressed level mark (set bs mark new)
 IsAddressed-fold level mark bs last new h bag =
@@ -172,14 +156,6 @@ IsAddressed-new {A} = record {
   number = refl;
   placed = record { at = λ i inside. none_in (λ e. bucket_by 4 0 e.0 ≡ i) (get_or (replicate 4 []) i []) (get_or-replicate 4 i [] [] inside) };
 }
-
--- there are fewer buckets than a machine word counts
-pub buckets_few : {A : Type 0} (level mark : ℕ) (bs : List (List (ℕ × A))) → IsAddressed level mark bs → length bs < 2 ^ 34
-buckets_few level mark bs h =
-    let n : length bs ≡ 4 * 2 ^ level + mark = h.number in
-    let m : mark < 4 * 2 ^ level = h.marked in
-    let p : 2 ^ level ≤ 2 ^ 30 = pow-le-pow_right (lit< tt) h.low in
-    omega arith
 
 -- a hash's entries all stand in its bucket
 another_hash : (m hash : ℕ) → m ≢ hash → (m == hash) ≡ false

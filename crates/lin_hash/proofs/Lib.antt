@@ -1,5 +1,12 @@
 pub mod Addresses
 pub mod Buckets
+pub mod Hung
 pub mod Joined
 pub mod Levels
+pub mod Linking
+pub mod ChainLemmas
 pub mod Moves
+pub mod Placed
+pub mod Rehung
+pub mod Taken
+pub mod Walks

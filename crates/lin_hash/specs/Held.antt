@@ -8,16 +8,22 @@ pub record HeldBuckets : Type 0 where
   pub room : ℕ
   pub buckets : ℕ
 
--- pairs of a hash and a reference, how many heads of buckets there are, in use and spare, and how many are in use
+-- pairs of a hash and a reference, for how many nodes and for how many heads of buckets there is memory, and how many
+-- heads are in use
 pub record HeldTable : Type 0 where
   pub entries : List (ℕ × TupleRef)
+  pub nodes : ℕ
   pub heads : ℕ
   pub buckets : ℕ
 
--- a table that may not be there yet: it is empty then, with four buckets to come and no head
+-- a table that may not be there yet: it is empty then, with four buckets to come, no node and no head
 abbrev pub table_entries : Option HeldTable → List (ℕ × TupleRef)
 table_entries None = []
 table_entries (Some t) = t.entries
+
+abbrev pub table_nodes : Option HeldTable → ℕ
+table_nodes None = 0
+table_nodes (Some t) = t.nodes
 
 abbrev pub table_heads : Option HeldTable → ℕ
 table_heads None = 0

@@ -1,18 +1,18 @@
-//! The index: a table of buckets, and the nodes that are kept for the next inserts.
+//! The index: a table of buckets, and how many inserts have their nodes.
 //!
 //! It counts the entries, so that the table knows when to split and when to fold, and sees to it that an insert finds its
-//! memory there: the room is the lesser of the spare nodes and of the entries that come to two a head, less those held.
+//! memory there: the room is the lesser of the nodes that were made sure of and of the entries that come to two a head, less
+//! those held.
 //! Where an entry stands is the table's matter. A new index has no table, and takes one with its first `reserve`.
 ghost use Rattle.std.specs.Prelude.{◌≡◌, ◌+◌, ◌*◌, ◌^◌, ◌<◌, ◌≤◌, [], ◌∷◌, length, Contains, OnOk};
 ghost use Rattle.mm_index.specs.Bag.{IsSameBag, with_hash};
-ghost use Rattle.lin_hash.specs.Held.{table_entries, table_heads, table_buckets};
-ghost use Rattle.lin_hash.specs.Chain.{IsAlone, entry_of};
+ghost use Rattle.lin_hash.specs.Held.{table_entries, table_nodes, table_heads, table_buckets};
 ghost use Rattle.lin_hash.specs.Rest.{chain_rest};
 
-use crate::bucket::Node;
+use crate::address::FIRST_BUCKETS;
 use crate::chain::Chain;
-use crate::spares::Spares;
-use crate::table::{FIRST_BUCKETS, Table};
+use crate::node::Link;
+use crate::table::Table;
 use mm_index::ExactIndex;
 use no_memory::NoMemory;
 use part_raw::TupleRef;
@@ -26,7 +26,7 @@ pub struct LinHash {
     alloc: Global,
     table: Option<Table>,
     len: usize,
-    spares: Spares,
+    spares: usize,
 }
 
 impl Model for LinHash {
@@ -56,7 +56,7 @@ impl LinHash {
             alloc,
             table: None,
             len: 0,
-            spares: Spares::new(),
+            spares: 0,
         }
     }
 
@@ -77,8 +77,8 @@ impl LinHash {
         ensures { IsSameBag (chain_rest result) (with_hash hash self.now.entries) }
     {
         match &self.table {
-            Some(table) => Chain::from_node(hash, table.first(hash)),
-            None => Chain::from_node(hash, None),
+            Some(table) => table.chain(hash),
+            None => Chain::new(hash, &[], Link::none()),
         }
     }
 }
@@ -89,7 +89,8 @@ impl ExactIndex for LinHash {
     ghost room = { λ h. h.room };
 
     /// Makes sure of memory for `n` inserts, until `release_spares`: for the nodes of all of them, and for as many heads of
-    /// buckets as the entries and `n` more ask for. After an error what was gained is kept.
+    /// buckets as the entries and `n` more ask for. There is never memory for 2^32 entries or more. After an error what was
+    /// gained is kept.
     fn reserve(&mut self, n: usize) -> Result<(), NoMemory>
         requires { n ≤ 2 ^ 32 }
         ensures entries { self.new.entries ≡ self.old.entries }
@@ -97,8 +98,9 @@ impl ExactIndex for LinHash {
         ensures room { self.old.room ≤ self.new.room }
         ensures buckets { self.new.buckets ≡ self.old.buckets }
     {
-        reserve_heads(&mut self.table, self.alloc, self.len + n)?;
-        self.spares.reserve(self.alloc, n)
+        reserve_memory(&mut self.table, self.alloc, self.len + n)?;
+        self.spares = self.spares.max(n);
+        Ok(())
     }
 
     /// Puts one pair in, and splits one bucket at most. Takes no memory.
@@ -112,11 +114,9 @@ impl ExactIndex for LinHash {
         ensures split { 2 * self.old.buckets < length self.new.entries → self.new.buckets ≡ self.old.buckets + 1 }
         ensures unsplit { length self.new.entries ≤ 2 * self.old.buckets → self.new.buckets ≡ self.old.buckets }
     {
-        let mut node = self.spares.take();
-        node.hash = hash;
-        node.reference = r;
+        self.spares -= 1;
         self.len += 1;
-        insert_node(&mut self.table, node, self.len);
+        insert_entry(&mut self.table, hash, r, self.len);
     }
 
     /// Takes one such pair out, and folds one bucket at most. Takes no memory and gives none back: the node is a spare one
@@ -133,8 +133,8 @@ impl ExactIndex for LinHash {
         ensures first { self.old.buckets ≤ 4 → self.new.buckets ≡ self.old.buckets }
     {
         self.len -= 1;
-        let node = remove_node(&mut self.table, hash, r, self.len);
-        self.spares.put(node);
+        self.spares += 1;
+        remove_entry(&mut self.table, hash, r, self.len);
     }
 
     /// Appends what `chain` gives. After an error `out` is as before.
@@ -154,25 +154,27 @@ impl ExactIndex for LinHash {
         self.len
     }
 
-    /// Frees the spare nodes and the spare heads.
+    /// Frees the spare nodes and the spare heads. The nodes in use move together for it.
     fn release_spares(&mut self)
         ensures entries { self.new.entries ≡ self.old.entries }
         ensures room { self.new.room ≡ 0 }
         ensures buckets { self.new.buckets ≡ self.old.buckets }
     {
-        self.spares.release();
+        self.spares = 0;
         if let Some(table) = &mut self.table {
             table.release_spares();
         }
     }
 }
 
-// Makes sure of the heads of the buckets of so many entries, and of the first four.
-fn reserve_heads(table: &mut Option<Table>, alloc: Global, entries: usize) -> Result<(), NoMemory>
-    requires { entries ≤ 2 ^ 33 }
+// Makes sure of the nodes and the heads of the buckets of so many entries, and of the first four.
+fn reserve_memory(table: &mut Option<Table>, alloc: Global, entries: usize) -> Result<(), NoMemory>
     ensures entries { table_entries table.new ≡ table_entries table.old }
+    ensures few { OnOk result (entries < 2 ^ 32) }
+    ensures nodes { OnOk result (entries ≤ table_nodes table.new) }
     ensures reserved { OnOk result (entries ≤ 2 * table_heads table.new) }
-    ensures heads { table_heads table.old ≤ table_heads table.new }
+    ensures more_nodes { table_nodes table.old ≤ table_nodes table.new }
+    ensures more_heads { table_heads table.old ≤ table_heads table.new }
     ensures buckets { table_buckets table.new ≡ table_buckets table.old }
 {
     match table {
@@ -186,34 +188,35 @@ fn reserve_heads(table: &mut Option<Table>, alloc: Global, entries: usize) -> Re
     }
 }
 
-// Puts a node into the table, which then has `len` entries.
-fn insert_node(table: &mut Option<Table>, node: Box<Node>, len: usize)
-    requires alone { IsAlone node.value }
-    requires room { length (table_entries table.old) < 2 * table_heads table.old }
+// Puts an entry into the table, which then has `len` of them.
+fn insert_entry(table: &mut Option<Table>, hash: u64, r: TupleRef, len: usize)
+    requires nodes { length (table_entries table.old) < table_nodes table.old }
+    requires heads { length (table_entries table.old) < 2 * table_heads table.old }
     requires counted { len ≡ length (table_entries table.old) + 1 }
     requires short { len ≤ 2 ^ 32 }
-    ensures entries { IsSameBag (table_entries table.new) (entry_of node.value ∷ table_entries table.old) }
+    ensures entries { IsSameBag (table_entries table.new) ((hash, r) ∷ table_entries table.old) }
+    ensures nodes { table_nodes table.old ≤ table_nodes table.new }
     ensures heads { table_heads table.old ≤ table_heads table.new }
     ensures split { 2 * table_buckets table.old < len → table_buckets table.new ≡ table_buckets table.old + 1 }
     ensures unsplit { len ≤ 2 * table_buckets table.old → table_buckets table.new ≡ table_buckets table.old }
 {
     match table {
-        Some(table) => table.insert(node, len),
+        Some(table) => table.insert(hash, r, len),
         None => unreachable!(),
     }
 }
 
-// Takes a node out of the table, which then has `len` entries.
-fn remove_node(table: &mut Option<Table>, hash: u64, r: TupleRef, len: usize) -> Box<Node>
+// Takes an entry out of the table, which then has `len` of them.
+fn remove_entry(table: &mut Option<Table>, hash: u64, r: TupleRef, len: usize)
     requires held { Contains (table_entries table.old) (hash, r) }
     requires counted { length (table_entries table.old) ≡ len + 1 }
     requires short { len < 2 ^ 32 }
     ensures entries { IsSameBag (table_entries table.old) ((hash, r) ∷ table_entries table.new) }
+    ensures nodes { table_nodes table.old ≤ table_nodes table.new }
     ensures heads { table_heads table.old ≤ table_heads table.new }
     ensures folded { 2 * len < table_buckets table.old → 4 < table_buckets table.old → table_buckets table.new + 1 ≡ table_buckets table.old }
     ensures unfolded { table_buckets table.old ≤ 2 * len → table_buckets table.new ≡ table_buckets table.old }
     ensures first { table_buckets table.old ≤ 4 → table_buckets table.new ≡ table_buckets table.old }
-    ensures alone { IsAlone result.value }
 {
     match table {
         Some(table) => table.remove(hash, r, len),

@@ -10,13 +10,14 @@
 //! What always holds:
 //! - each entry stands in the bucket of its hash, by the level and the mark (`table`);
 //! - there are at least four buckets, and at most twice as many entries as buckets (`index`);
-//! - each node stands in one bucket or among the spares, until it is freed (`bucket`).
+//! - each node in use stands in one bucket once, and each other on the spare chain (`chains`).
 #![tactic(auto)]
 
-mod bucket;
+mod address;
 mod chain;
+mod chains;
 mod index;
-mod spares;
+mod node;
 mod table;
 
 pub use chain::Chain;

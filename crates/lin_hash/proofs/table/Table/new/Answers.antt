@@ -1,8 +1,14 @@
-use Rattle.std.proofs.Common.{◌≡◌, [], replicate, ◌∙◌, ap, arith}
-use Rattle.lin_hash.proofs.Levels.{IsAddressed-new}
+use Rattle.std.proofs.Common.{◌≡◌, ◌∙◌, ap, replicate, arith}
+use Rattle.lin_hash.specs.Nodes.{no_link}
+use Rattle.lin_hash.proofs.Taken.{AreHung-new, AreSpare-new}
 use Rattle.lin_hash.proofs.table.Table.new.Goals as goal
 
 pub invariant_of-result : goal.invariant_of-result
 invariant_of-result c =
     let four : c.loop.counter ≡ 4 = omega arith in
-    rw (c.loop.invariant ∙ ap (λ n. replicate n []) four) IsAddressed-new
+    let heads : c.loop.heads.items ≡ replicate 4 no_link = c.loop.invariant ∙ ap (λ n. replicate n no_link) four in
+    record {
+      hung = rw (heads, c.new.ensures.items) AreHung-new;
+      spare = rw (c.none-2.ensures, c.new.ensures.items) AreSpare-new;
+      few = rw c.new.ensures.items (omega arith);
+    }

@@ -1,5 +1,6 @@
-use Rattle.std.proofs.Common.{◌≡◌, [], replicate}
+use Rattle.std.proofs.Common.{◌≡◌, replicate}
+use Rattle.lin_hash.specs.Nodes.{no_link}
 use Rattle.lin_hash.proofs.table.Table.new.Given as goal
 
 abbrev pub invariant-loop : goal.invariant-loop
-invariant-loop l = l.buckets.items ≡ replicate l.counter []
+invariant-loop l = l.heads.items ≡ replicate l.counter no_link

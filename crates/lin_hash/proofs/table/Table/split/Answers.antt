@@ -1,43 +1,19 @@
-use Rattle.std.proofs.Common.{◌<◌, ◌^◌, [], ◌++◌, ◌∙◌, ap, subst, arith, length}
+use Rattle.std.proofs.Common.{◌≡◌, ◌<◌, ◌^◌, [], length, get_or, None, ap, ◌∙◌, arith}
 use Rattle.std.proofs.lemmas.List.{get_or_default}
-use Rattle.mm_index.specs.Bag.{IsSameBag}
-use Rattle.lin_hash.proofs.Levels.{long_power, mark-inside, IsAddressed-split, IsAddressed-split_up}
-use Rattle.lin_hash.proofs.Joined.{joined-split}
+use Rattle.lin_hash.specs.Nodes.{leads_to, head_at}
+use Rattle.lin_hash.proofs.Rehung.{split-inside, split-chain, AreHung-raised}
 use Rattle.lin_hash.proofs.table.Table.split.Goals as goal
 
-pub split-moved-requires : goal.split-moved-requires
-split-moved-requires c = rw c.buckets_at-short.ensures (long_power c.self.inside.level)
-
-pub invariant_of-self : goal.invariant_of-self
-invariant_of-self c =
-    let l = mark-inside c.self.inside.level c.self.inside.mark c.self.inside.buckets.items c.self.invariant in
-    let was = c.index_mut.ensures.value ∙ get_or_default c.self.inside.buckets.items c.self.inside.mark c.index_mut.result.now [] l in
-    let bag = subst (λ b. IsSameBag b (c.split-moved.new.self ++ c.split-moved.result)) was c.split-moved.ensures.bag in
-    let few : length c.self.inside.buckets.items < 2 ^ 32 =
-    (let n = ap (λ t. t.buckets) c.self.view_is in omega (arith, n, c.requires.few, c.self.inside.buckets.ok.0)) in
-    rw c.push_reserved.ensures.items
-    (IsAddressed-split_up c.self.inside.level c.self.inside.mark c.self.inside.buckets.items c.self.invariant c.buckets_at-short.result c.len-upper.result c.buckets_at-short.ensures (omega (arith, c.len-upper.ensures, c.self.inside.buckets.ok.0)) c.split-moved.new.self c.split-moved.result bag c.split-moved.ensures.kept c.split-moved.ensures.moved c.if-self-short.true few)
-
-pub invariant_of-self-else-self-short : goal.invariant_of-self-else-self-short
-invariant_of-self-else-self-short c =
-    let l = mark-inside c.self.inside.level c.self.inside.mark c.self.inside.buckets.items c.self.invariant in
-    let was = c.index_mut.ensures.value ∙ get_or_default c.self.inside.buckets.items c.self.inside.mark c.index_mut.result.now [] l in
-    let bag = subst (λ b. IsSameBag b (c.split-moved.new.self ++ c.split-moved.result)) was c.split-moved.ensures.bag in
-    rw c.push_reserved.ensures.items
-    (IsAddressed-split c.self.inside.level c.self.inside.mark c.self.inside.buckets.items c.self.invariant c.buckets_at-short.result c.len-upper.result c.buckets_at-short.ensures (omega (arith, c.len-upper.ensures, c.self.inside.buckets.ok.0)) c.split-moved.new.self c.split-moved.result bag c.split-moved.ensures.kept c.split-moved.ensures.moved c.if-self-short.false)
-
-pub returns-then-self-short-clause-entries : goal.returns-then-self-short-clause-entries
-returns-then-self-short-clause-entries c =
-    let l = mark-inside c.self.inside.level c.self.inside.mark c.self.inside.buckets.items c.self.invariant in
-    let was = c.index_mut.ensures.value ∙ get_or_default c.self.inside.buckets.items c.self.inside.mark c.index_mut.result.now [] l in
-    let bag = subst (λ b. IsSameBag b (c.split-moved.new.self ++ c.split-moved.result)) was c.split-moved.ensures.bag in
-    rw (c.push_reserved.ensures.items, ← ap (λ t. t.entries) c.self.view_is)
-    (joined-split c.self.inside.buckets.items c.self.inside.mark l c.split-moved.new.self c.split-moved.result bag)
-
-pub returns-else-self-short-clause-entries : goal.returns-else-self-short-clause-entries
-returns-else-self-short-clause-entries c =
-    let l = mark-inside c.self.inside.level c.self.inside.mark c.self.inside.buckets.items c.self.invariant in
-    let was = c.index_mut.ensures.value ∙ get_or_default c.self.inside.buckets.items c.self.inside.mark c.index_mut.result.now [] l in
-    let bag = subst (λ b. IsSameBag b (c.split-moved.new.self ++ c.split-moved.result)) was c.split-moved.ensures.bag in
-    rw (c.push_reserved.ensures.items, ← ap (λ t. t.entries) c.self.view_is)
-    (joined-split c.self.inside.buckets.items c.self.inside.mark l c.split-moved.new.self c.split-moved.result bag)
+pub link_from-requires-clause-loose : goal.link_from-requires-clause-loose
+link_from-requires-clause-loose c =
+    let t = c.self.inside in
+    let h = c.self.invariant.hung in
+    let a = c.raised-self-inside.result in
+    let inside = split-inside t.address.level t.address.mark t.nodes.items t.heads.items h in
+    let first : c.replace-first.result ≡ head_at t.heads.items t.address.mark =
+    c.replace-first.ensures.value ∙ c.index_mut.ensures.value ∙ get_or_default t.heads.items t.address.mark _ _ inside in
+    let none : leads_to c.replace-first.new.dest ≡ None = ap leads_to (c.replace-first.ensures.after ∙ c.none.ensures) in
+    let last : leads_to c.none-2.result ≡ None = ap leads_to c.none-2.ensures in
+    let buckets = ap (λ v. v.buckets) c.self.view_is in
+    let few : length t.heads.items < 2 ^ 32 = omega (arith, buckets, c.requires.few, t.heads.ok.0) in
+    (get_or h.chains t.address.mark [], (rw (c.deref_mut.ensures.value, first) (split-chain t.address.level t.address.mark t.nodes.items t.heads.items h)), (rw (c.deref_mut.ensures.value, c.deref_mut-2.ensures.value, c.push_reserved.ensures.items) (AreHung-raised t.address.level t.address.mark t.nodes.items t.heads.items h c.replace-first.new.dest c.none-2.result none last a.level a.mark c.raised-self-inside.ensures.next c.raised-self-inside.ensures.doubled few)))

@@ -1,7 +1,7 @@
-use Rattle.std.proofs.Common.{◌≡◌, ◌-◌, ◌%◌, ◌^◌, ◌∙◌, ap, sym, arith}
+use Rattle.std.proofs.Common.{◌-◌, ◌%◌, ◌∙◌, ap, sym, arith}
 use Rattle.std.proofs.lemmas.Nat.{and_mask, pow_pos}
 use Rattle.std.specs.Int.Bits.{bit_and}
-use Rattle.lin_hash.proofs.bucket.remainder.Goals as goal
+use Rattle.lin_hash.proofs.address.remainder.Goals as goal
 
 pub overflow_sub-result : goal.overflow_sub-result
 overflow_sub-result c =

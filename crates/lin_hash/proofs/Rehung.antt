@@ -1,0 +1,178 @@
+-- What hangs on the buckets where a node leaves its chain, and where a bucket is split, is folded or is looked through.
+use Rattle.std.proofs.Common.{◌≡◌, ◌≢◌, ℕ, ◌+◌, ◌*◌, ◌%◌, ◌^◌, ◌<◌, ◌≤◌, true, false, cond, ◌==◌, List, [], ◌∷◌, ◌++◌, length, get_or, set, map, None, refl, sym, ap, ◌∙◌, arith, inl, inr}
+use Rattle.std.specs.List.{count_by, sum_by, filter, Contains}
+use Rattle.std.proofs.lemmas.Bool.{cases_lt}
+use Rattle.std.proofs.lemmas.List.{length-set, get_or-set_same, get_or-set_other, set-set}
+use Rattle.std.proofs.lemmas.List.Elements.{All-nil}
+use Rattle.std.proofs.lemmas.List.Sums.{get_or-le-sum_by, sum_by-cons, count_by-le-length}
+use Rattle.part_raw.specs.declared.tuple_ref.TupleRef.{TupleRef}
+use Rattle.mm_index.specs.Bag.{IsSameBag, with_hash}
+use Rattle.mm_index.proofs.Bags.{IsSameBag-trans, IsSameBag-sym, IsSameBag-from_same, IsSameBag-middle, IsSameBag-with_hash, Contains-with_hash, Contains-from_with_hash}
+use Rattle.mm_index.proofs.Refs.{Contains-same_refs}
+use Rattle.lin_hash.specs.Address.{bucket_by, bucket_of, IsAddressed}
+use Rattle.lin_hash.specs.declared.node.Link.{Link}
+use Rattle.lin_hash.specs.declared.node.Node.{Node}
+use Rattle.lin_hash.specs.Nodes.{leads_to, head_at, entries_of}
+use Rattle.lin_hash.specs.Chains.{Placed, place_of, entry_in, used_in, IsChain, AreChains, AreHung, HoldsEntry}
+use Rattle.lin_hash.proofs.Moves.{count_by-append, count_by-cons, IsSameBag-map}
+use Rattle.lin_hash.proofs.Joined.{joined, count_by-joined, count_by-set, count_by-pushed, joined-taken}
+use Rattle.lin_hash.proofs.Placed.{times_at, times_at-once, entries-placed, length-placed}
+use Rattle.lin_hash.proofs.Hung.{AreChains-change, AreChains-push}
+use Rattle.lin_hash.proofs.Buckets.{IsPlaced-set}
+use Rattle.lin_hash.proofs.Levels.{bucket_of-inside, mark-inside, with_hash-bucket, IsAddressed-taken, IsAddressed-split, IsAddressed-split_up}
+
+pub count_by-true : {A : Type 0} (xs : List A) → count_by (λ x. true) xs ≡ length xs
+count_by-true [] = refl
+count_by-true (x ∷ xs) = let rest = count_by-true xs in sum_by-cons (λ y. 1) x xs ∙ omega (arith, rest)
+
+-- the references under a hash, with their places or without
+with_hash-entries : (hash : ℕ) (es : List Placed) → with_hash hash (map entry_in es) ≡ map (λ y. y.0) (with_hash hash es)
+with_hash-entries hash [] = refl
+with_hash-entries hash (e ∷ es) =
+    elim (e.0 == hash) as (λ b. map (λ d. d.1) (cond b (entry_in e ∷ filter (λ d. d.0 == hash) (map entry_in es)) (filter (λ d. d.0 == hash) (map entry_in es))) ≡ map (λ y. y.0) (map (λ d. d.1) (cond b (e ∷ filter (λ d. d.0 == hash) es) (filter (λ d. d.0 == hash) es)))) [
+      | true ↦ ap (λ r. e.1.0 ∷ r) (with_hash-entries hash es)
+      | false ↦ with_hash-entries hash es
+    ]
+
+-- what is in one chain is in no other
+pub times_at-others : (p : ℕ) (chains : List (List Placed)) (b i : ℕ) → b < length chains → i < length chains → i ≢ b → times_at p (joined chains) ≤ 1 → 0 < times_at p (get_or chains b []) → times_at p (get_or chains i []) ≡ 0
+times_at-others p chains b i inside within apart most here =
+    let gone = count_by-set (λ e. place_of e == p) chains b [] inside in
+    let longer = length-set chains b [] in
+    let one : times_at p (get_or (set chains b []) i []) ≤ sum_by (times_at p) (set chains b []) = get_or-le-sum_by (times_at p) (set chains b []) i [] (omega (arith, longer)) in
+    let all = count_by-joined (λ e. place_of e == p) (set chains b []) in
+    let same : get_or (set chains b []) i [] ≡ get_or chains i [] = get_or-set_other chains b i [] [] apart in
+    let less : times_at p (get_or (set chains b []) i []) ≡ 0 = omega (arith, gone, one, all, most, here) in
+    rw same at less
+
+module _ (level mark : ℕ) (nodes : List Node) (heads : List Link) (h : AreHung level mark nodes heads []) where
+  -- a place stands once in all chains
+  pub times_at-most : (p : ℕ) → times_at p (joined h.chains) ≤ 1
+  times_at-most p = let held = h.held.count (λ d. place_of d == p) in let most = times_at-once (λ b. b) 0 nodes p in omega (arith, held, most)
+
+  -- no chain is longer than there are nodes
+  pub hung-short : (b : ℕ) → b < length h.chains → length (get_or h.chains b []) ≤ length nodes
+  hung-short b inside =
+      let one : count_by (λ e. true) (get_or h.chains b []) ≤ sum_by (count_by (λ e. true)) h.chains =
+      get_or-le-sum_by (count_by (λ e. true)) h.chains b [] inside in
+      let all = count_by-joined (λ e. true) h.chains in
+      let held = h.held.count (λ e. true) in
+      let most = count_by-le-length (λ e. true) (used_in nodes) in
+      let some = length-placed 0 nodes in
+      let each = count_by-true (get_or h.chains b []) in
+      omega (arith, one, all, held, most, some, each)
+
+  -- the bucket of a hash
+  module _ (hash b : ℕ) (at : b ≡ bucket_of level mark hash) where
+    pub hung-chain : IsChain nodes true (head_at heads b) (get_or h.chains b [])
+    hung-chain = h.linked.each b (bucket_of-inside level mark h.chains h.addressed hash b at)
+
+    pub hung-chain_short : length (get_or h.chains b []) ≤ length nodes
+    hung-chain_short = hung-short b (bucket_of-inside level mark h.chains h.addressed hash b at)
+
+    -- holds what the table holds under it
+    pub IsSameBag-hung : IsSameBag (with_hash hash (map entry_in (get_or h.chains b []))) (with_hash hash (entries_of nodes))
+    IsSameBag-hung =
+        let found = with_hash-bucket level mark h.chains h.addressed hash b at in
+        let here : with_hash hash (map entry_in (get_or h.chains b [])) ≡ with_hash hash (map entry_in (joined h.chains)) =
+        with_hash-entries hash (get_or h.chains b []) ∙ ap (map (λ y. y.0)) found ∙ sym (with_hash-entries hash (joined h.chains)) in
+        let held : IsSameBag (map entry_in (joined h.chains)) (map entry_in (used_in nodes)) = IsSameBag-map entry_in h.held in
+        IsSameBag-trans (IsSameBag-from_same _ _ here)
+        (IsSameBag-trans (IsSameBag-with_hash hash held) (IsSameBag-from_same _ _ (ap (with_hash hash) (entries-placed 0 nodes))))
+
+    pub HoldsEntry-hung : (r : TupleRef) → Contains (entries_of nodes) (hash, r) → HoldsEntry nodes (head_at heads b) hash r
+    HoldsEntry-hung r held =
+        let under = Contains-with_hash hash (entries_of nodes) r held in
+        let found = Contains-same_refs (with_hash hash (entries_of nodes)) (with_hash hash (map entry_in (get_or h.chains b []))) r (IsSameBag-sym IsSameBag-hung) under in
+        (get_or h.chains b [], hung-chain, hung-short b (bucket_of-inside level mark h.chains h.addressed hash b at), Contains-from_with_hash hash (map entry_in (get_or h.chains b [])) r found)
+
+  -- a node leaves its chain
+  pub AreHung-without : (b : ℕ) (x : Placed) (before after : List Placed) (q_nodes : List Node) (l : Link) → b < length h.chains → b ≡ bucket_of level mark x.0 → get_or h.chains b [] ≡ before ++ x ∷ after → used_in q_nodes ≡ used_in nodes → ((i : ℕ) → i < length h.chains → i ≢ b → IsChain q_nodes true (head_at heads i) (get_or h.chains i [])) → IsChain q_nodes true l (before ++ after) → AreHung level mark q_nodes (set heads b l) (x ∷ [])
+  AreHung-without b x before after q_nodes l inside at is same others new =
+      let bag : IsSameBag (get_or h.chains b []) (x ∷ (before ++ after)) = rw is (IsSameBag-middle before after x) in
+      record {
+        chains = set h.chains b (before ++ after);
+        linked = AreChains-change nodes q_nodes heads h.chains b l (before ++ after) inside h.linked others new;
+        held =
+            record {
+              count = λ test.
+                  let taken = (joined-taken h.chains b inside x (before ++ after) bag).count test in
+                  let held = h.held.count test in
+                  let kept : count_by test (used_in q_nodes) ≡ count_by test (used_in nodes) = ap (count_by test) same in
+                  omega (arith, taken, held, kept, count_by-append test (x ∷ []) (joined (set h.chains b (before ++ after))), count_by-cons test x [], count_by-cons test x (joined (set h.chains b (before ++ after))));
+            };
+        addressed = IsAddressed-taken level mark h.chains h.addressed x b (before ++ after) at bag;
+      }
+
+-- a bucket that was emptied, and its nodes are loose
+module _ (level mark : ℕ) (nodes : List Node) (heads : List Link) (h : AreHung level mark nodes heads []) where
+  emptied : IsAddressed level mark (set h.chains mark [])
+  emptied = record {
+    low = h.addressed.low;
+    marked = h.addressed.marked;
+    number = length-set h.chains mark [] ∙ h.addressed.number;
+    placed = IsPlaced-set (4 * 2 ^ level) mark h.chains mark [] (mark-inside level mark h.chains h.addressed) h.addressed.placed (All-nil (λ e. bucket_by (4 * 2 ^ level) mark e.0 ≡ mark));
+  }
+
+  pub split-inside : mark < length heads
+  split-inside = let m = mark-inside level mark h.chains h.addressed in let number = h.linked.number in omega (arith, m, number)
+
+  pub split-chain : IsChain nodes true (head_at heads mark) (get_or h.chains mark [])
+  split-chain = h.linked.each mark (mark-inside level mark h.chains h.addressed)
+
+  module _ (l k : Link) (l_none : leads_to l ≡ None) (k_none : leads_to k ≡ None) where
+    split-linked : AreChains nodes (set heads mark l ++ k ∷ []) (set h.chains mark [] ++ [] ∷ [])
+    split-linked =
+        AreChains-push nodes (set heads mark l) (set h.chains mark []) k k_none
+        (AreChains-change nodes nodes heads h.chains mark l [] (mark-inside level mark h.chains h.addressed) h.linked (λ i inside apart. h.linked.each i inside) l_none)
+
+    split-held : IsSameBag (get_or h.chains mark [] ++ joined (set h.chains mark [] ++ [] ∷ [])) (used_in nodes)
+    split-held = record {
+      count = λ test.
+          let held = h.held.count test in
+          let gone = count_by-set test h.chains mark [] (mark-inside level mark h.chains h.addressed) in
+          let more = count_by-pushed test (set h.chains mark []) [] in
+          omega (arith, held, gone, more, count_by-append test (get_or h.chains mark []) (joined (set h.chains mark [] ++ [] ∷ [])));
+    }
+
+    none_left : IsSameBag (get_or (set h.chains mark []) mark []) ([] ++ [])
+    none_left = IsSameBag-from_same _ _ (get_or-set_same h.chains mark [] [] (mark-inside level mark h.chains h.addressed))
+
+    split-upper : length (set h.chains mark []) ≡ length h.chains
+    split-upper = length-set h.chains mark []
+
+    -- the mark moves on
+    pub AreHung-split : mark + 1 < 4 * 2 ^ level → AreHung level (mark + 1) nodes (set heads mark l ++ k ∷ []) (get_or h.chains mark [])
+    AreHung-split next =
+        let up = IsAddressed-split level mark (set h.chains mark []) emptied (4 * 2 ^ level) (length (set h.chains mark [])) refl refl [] [] none_left (All-nil (λ e. e.0 % (2 * (4 * 2 ^ level)) ≢ length (set h.chains mark []))) (All-nil (λ e. e.0 % (2 * (4 * 2 ^ level)) ≡ length (set h.chains mark []))) (λ e. absurd (omega arith)) in
+        record {
+          chains = set h.chains mark [] ++ [] ∷ [];
+          linked = split-linked;
+          held = split-held;
+          addressed = rw (set-set h.chains mark [] []) at up;
+        }
+
+    -- the level rises
+    pub AreHung-split_up : mark + 1 ≡ 4 * 2 ^ level → length heads < 2 ^ 32 → AreHung (level + 1) 0 nodes (set heads mark l ++ k ∷ []) (get_or h.chains mark [])
+    AreHung-split_up whole few =
+        let number = h.linked.number in
+        let longer = split-upper in
+        let up = IsAddressed-split_up level mark (set h.chains mark []) emptied (4 * 2 ^ level) (length (set h.chains mark [])) refl refl [] [] none_left (All-nil (λ e. e.0 % (2 * (4 * 2 ^ level)) ≢ length (set h.chains mark []))) (All-nil (λ e. e.0 % (2 * (4 * 2 ^ level)) ≡ length (set h.chains mark []))) whole (omega (arith, number, longer, few)) in
+        record {
+          chains = set h.chains mark [] ++ [] ∷ [];
+          linked = split-linked;
+          held = split-held;
+          addressed = rw (set-set h.chains mark [] []) at up;
+        }
+
+    -- as the address says
+    pub AreHung-raised : (up on : ℕ) → (mark + 1 < 4 * 2 ^ level → (up ≡ level) × (on ≡ mark + 1)) → (mark + 1 ≡ 4 * 2 ^ level → (up ≡ level + 1) × (on ≡ 0)) → length heads < 2 ^ 32 → AreHung up on nodes (set heads mark l ++ k ∷ []) (get_or h.chains mark [])
+    AreHung-raised up on next doubled few =
+        let marked = h.addressed.marked in
+        elim (cases_lt (mark + 1) (4 * 2 ^ level)) [
+          | inl below ↦ let n = next below in rw (n.0, n.1) (AreHung-split below)
+          | inr from ↦
+              let whole : mark + 1 ≡ 4 * 2 ^ level = omega (arith, marked) in
+              let n = doubled whole in
+              rw (n.0, n.1) (AreHung-split_up whole few)
+        ]

@@ -1,0 +1,80 @@
+-- Chains of nodes, and which nodes hang on them.
+use Rattle.std.specs.Prelude.{◌≡◌, ◌+◌, ◌<◌, ◌≤◌, ℕ, Bool, true, false, List, [], ◌∷◌, ◌++◌, Option, Some, None, if◌then◌else◌, length, map, slice_index_or, Contains, not, flat_map}
+use Rattle.part_raw.specs.declared.tuple_ref.TupleRef.{TupleRef}
+use Rattle.mm_index.specs.Bag.{IsSameBag}
+use Rattle.lin_hash.specs.declared.node.Link.{Link}
+use Rattle.lin_hash.specs.declared.node.Node.{Node}
+use Rattle.lin_hash.specs.declared.chains.Position.{Position}
+use Rattle.lin_hash.specs.Address.{IsAddressed}
+use Rattle.lin_hash.specs.Nodes.{leads_to, head_at, node_at, next_at}
+
+-- a hash, a reference and the place of the node that has them
+abbrev pub Placed : Type 0
+Placed = ℕ × (TupleRef × ℕ)
+
+abbrev pub place_of : Placed → ℕ
+place_of e = e.1.1
+
+abbrev pub entry_in : Placed → ℕ × TupleRef
+entry_in e = (e.0, e.1.0)
+
+-- what the node at a place has
+abbrev pub placed_at : List Node → ℕ → Placed
+placed_at nodes place = ((node_at nodes place).hash, ((node_at nodes place).reference, place))
+
+-- the node at that place is there, has that hash and reference, and is in use or is not
+pub record Stands (nodes : List Node) (in_use : Bool) (e : Placed) : Type 0 where
+  pub inside : place_of e < length nodes
+  pub is : placed_at nodes (place_of e) ≡ e
+  pub used : (node_at nodes (place_of e)).in_use ≡ in_use
+
+-- from the link on these nodes hang behind one another
+abbrev pub IsChain : List Node → Bool → Link → List Placed → Type 0
+IsChain nodes in_use l [] = leads_to l ≡ None
+IsChain nodes in_use l (e ∷ es) =
+    (leads_to l ≡ Some (place_of e)) × Stands nodes in_use e × IsChain nodes in_use (next_at nodes (place_of e)) es
+
+-- the nodes that are in use (or by `not` those that are not), from the first on, which stands at that place
+abbrev pub placed_from : (Bool → Bool) → ℕ → List Node → List Placed
+placed_from chosen place [] = []
+placed_from chosen place (n ∷ nodes) =
+    if chosen n.in_use then (n.hash, (n.reference, place)) ∷ placed_from chosen (place + 1) nodes else placed_from chosen (place + 1) nodes
+
+abbrev pub used_in : List Node → List Placed
+used_in nodes = placed_from (λ b. b) 0 nodes
+
+abbrev pub unused_in : List Node → List Placed
+unused_in nodes = placed_from not 0 nodes
+
+-- each head leads to the chain of its bucket
+pub record AreChains (nodes : List Node) (heads : List Link) (chains : List (List Placed)) : Type 0 where
+  pub number : length heads ≡ length chains
+  pub each : (i : ℕ) → i < length chains → IsChain nodes true (head_at heads i) (slice_index_or chains i [])
+
+-- the nodes in use hang on the chains of the buckets of their hashes, each once, but for those that are loose
+pub record AreHung (level mark : ℕ) (nodes : List Node) (heads : List Link) (loose : List Placed) : Type 0 where
+  pub chains : List (List Placed)
+  pub linked : AreChains nodes heads chains
+  pub held : IsSameBag (loose ++ flat_map (λ c. c) chains) (used_in nodes)
+  pub addressed : IsAddressed level mark chains
+
+-- the nodes that are not in use hang on one chain, each once
+pub record AreSpare (nodes : List Node) (spare : Link) : Type 0 where
+  pub spares : List Placed
+  pub linked : IsChain nodes false spare spares
+  pub held : IsSameBag spares (unused_in nodes)
+
+-- the place of the last of them
+abbrev pub last_place : List Placed → Option ℕ
+last_place [] = None
+last_place (e ∷ []) = Some (place_of e)
+last_place (e ∷ f ∷ es) = last_place (f ∷ es)
+
+-- the chain from a link on holds that entry
+abbrev pub HoldsEntry : List Node → Link → ℕ → TupleRef → Type 0
+HoldsEntry nodes first hash r = (es : List Placed) × IsChain nodes true first es × (length es ≤ length nodes) × Contains (map entry_in es) (hash, r)
+
+-- in the chain from a link on a node with that entry stands at that place, behind that one
+abbrev pub StandsAt : List Node → Link → ℕ → TupleRef → Position → Type 0
+StandsAt nodes first hash r at =
+    (before : List Placed) × (after : List Placed) × IsChain nodes true first (before ++ (hash, (r, at.place)) ∷ after) × (at.behind ≡ last_place before)

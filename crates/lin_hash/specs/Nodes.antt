@@ -1,0 +1,60 @@
+-- Links and nodes, as they are read.
+use Rattle.std.specs.Prelude.{◌==◌, ℕ, zero, suc, [], ◌∷◌, false, List, Option, Some, None, if◌then◌else◌, slice_index_or, slice_set, map, filter}
+use Rattle.part_raw.specs.declared.tuple_ref.TupleRef.{TupleRef}
+use Rattle.lin_hash.specs.declared.node.Link.{Link}
+use Rattle.lin_hash.specs.declared.node.Node.{Node}
+
+-- the place that a link leads to, if there is one
+abbrev pub leads_to : Link → Option ℕ
+leads_to l = if l.place == 4294967295 then None else Some l.place
+
+abbrev pub no_link : Link
+no_link = record { place = 4294967295 }
+
+abbrev pub link_to : ℕ → Link
+link_to place = record { place = place }
+
+abbrev pub head_at : List Link → ℕ → Link
+head_at heads bucket = slice_index_or heads bucket (record { place = 0 })
+
+abbrev pub node_at : List Node → ℕ → Node
+node_at nodes place =
+    slice_index_or nodes place (record { hash = 0; reference = record { part = 0; slot = 0 }; next = record { place = 0 }; in_use = false })
+
+abbrev pub next_at : List Node → ℕ → Link
+next_at nodes place = (node_at nodes place).next
+
+-- the same node with another link
+abbrev pub leading_to : Node → Link → Node
+leading_to n l = record n { next = l }
+
+-- the same node, where it is not in use any more
+abbrev pub freed_to : Node → Link → Node
+freed_to n l = record n { next = l; in_use = false }
+
+-- a node's own entry
+abbrev pub entry_of : Node → ℕ × TupleRef
+entry_of n = (n.hash, n.reference)
+
+-- the entries of the nodes in use, in the order of their places
+abbrev pub entries_of : List Node → List (ℕ × TupleRef)
+entries_of nodes = map entry_of (filter (λ n. n.in_use) nodes)
+
+-- what leads to a node leads to another place: the node before it, or the head of its bucket
+abbrev pub relinked_behind : List Node → Option ℕ → Link → List Node
+relinked_behind nodes None l = nodes
+relinked_behind nodes (Some place) l = slice_set nodes place (leading_to (node_at nodes place) l)
+
+abbrev pub relinked_head : List Link → ℕ → Option ℕ → Link → List Link
+relinked_head heads bucket None l = slice_set heads bucket l
+relinked_head heads bucket (Some place) l = heads
+
+-- the list at a place, or none where there is no place
+abbrev pub list_at : (ℕ → List (ℕ × TupleRef)) → Option ℕ → List (ℕ × TupleRef)
+list_at f None = []
+list_at f (Some place) = f place
+
+-- the entries of so many nodes at most, from a link on
+abbrev pub entries_from : ℕ → List Node → Link → List (ℕ × TupleRef)
+entries_from zero nodes l = []
+entries_from (suc n) nodes l = list_at (λ place. entry_of (node_at nodes place) ∷ entries_from n nodes (next_at nodes place)) (leads_to l)

@@ -1,0 +1,54 @@
+//! Nodes, which stand in one vector and are linked by their places there.
+//!
+//! A node has an entry and a link to the next node of its chain, or none. A link takes 32 bits, of which one value is kept
+//! for no place, so a table has 2^32 - 1 nodes at most. A node that is not in use has an entry that says nothing.
+ghost use Rattle.std.specs.Prelude.{◌≡◌, ◌<◌, ◌-◌, ◌^◌};
+ghost use Rattle.lin_hash.specs.Nodes.{leads_to, no_link, link_to};
+
+use part_raw::TupleRef;
+
+// How many places a link can name.
+pub const MOST_NODES: usize = 0xffff_ffff;
+
+/// The place of a node, or none.
+#[derive(Clone, Copy, Drop)]
+pub struct Link {
+    place: u32,
+}
+
+impl Link {
+    pub fn none() -> Link
+        ensures { result ≡ no_link }
+    {
+        Link { place: u32::MAX }
+    }
+
+    pub fn to(place: usize) -> Link
+        requires { place < 2 ^ 32 - 1 }
+        ensures { result ≡ link_to place }
+    {
+        Link {
+            place: place as u32,
+        }
+    }
+
+    // Where it leads.
+    pub fn place(self) -> Option<usize>
+        ensures { result ≡ leads_to self }
+    {
+        if self.place == u32::MAX {
+            None
+        } else {
+            Some(self.place as usize)
+        }
+    }
+}
+
+/// An entry, and the way to the next one.
+#[derive(Clone, Copy, Drop)]
+pub struct Node {
+    pub hash: u64,
+    pub reference: TupleRef,
+    pub next: Link,
+    pub in_use: bool,
+}
