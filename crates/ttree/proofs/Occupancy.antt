@@ -1,5 +1,5 @@
 -- How many nodes a T-tree of so many items has at most, and how many inserts are sure of a node by that.
-use Rattle.std.proofs.Common.{◌≡◌, ℕ, zero, suc, ◌+◌, ◌-◌, ◌*◌, ◌/◌, ◌<◌, ◌≤◌, max, min, length, ◌++◌, refl, ap, arith, length-append, inl, inr}
+use Rattle.std.proofs.Common.{◌≡◌, ℕ, zero, suc, ◌+◌, ◌-◌, ◌*◌, ◌<◌, ◌≤◌, max, min, length, ◌++◌, refl, ap, arith, length-append, inl, inr}
 use Rattle.std.proofs.Math.Nat.{mul-le-mul_left, mul-div-le}
 use Rattle.std.proofs.lemmas.Bool.{cases_lt}
 use Rattle.std.proofs.lemmas.Grind.{div_ceil_times}

@@ -1,4 +1,4 @@
-use Rattle.std.proofs.Common.{◌≡◌, ◌≤◌, ◌^◌, ◌∙◌, length, sym, ap, subst, lit<}
+use Rattle.std.proofs.Common.{◌≤◌, ◌^◌, ◌∙◌, length, sym, ap, subst, lit<}
 use Rattle.ttree_node.specs.Tree.{at, list, size, whole}
 use Rattle.ttree_node.specs.Editor.{position}
 use Rattle.ttree.specs.Shape.{IsTTree, ParentsAreFull}

@@ -1,4 +1,4 @@
-use Rattle.std.proofs.Common.{◌≡◌, ◌<◌, ◌≤◌, ◌+◌, ◌*◌, List, length, true, All, refl, sym, ap, subst, ◌∙◌, arith, Ordering}
+use Rattle.std.proofs.Common.{◌≡◌, ◌<◌, ◌≤◌, List, length, All, refl, sym, ap, subst, ◌∙◌, arith, Ordering}
 use Rattle.part_raw.specs.declared.tuple_ref.TupleRef.{TupleRef}
 use Rattle.mm_index.specs.Range.{NeverFalls}
 use Rattle.mm_index.proofs.Asked.{IsOnlyAsked-refl, IsOnlyAsked-trans, counted-mono}

@@ -1,10 +1,10 @@
-use Rattle.std.proofs.Common.{◌≡◌, ◌<◌, ◌≤◌, ◌+◌, ◌*◌, List, length, true, All, refl, sym, ap, subst, ◌∙◌, arith, Ordering}
+use Rattle.std.proofs.Common.{◌≡◌, ◌<◌, ◌≤◌, List, length, All, refl, sym, ap, subst, ◌∙◌, arith, Ordering}
 use Rattle.part_raw.specs.declared.tuple_ref.TupleRef.{TupleRef}
 use Rattle.mm_index.specs.Range.{NeverFalls}
 use Rattle.mm_index.proofs.Asked.{IsOnlyAsked-refl, IsOnlyAsked-trans, counted-mono}
 use Rattle.ttree_node.specs.Tree.{Tree, Zipper, Label, whole, left_of, right_of, items_of, has_left, has_right, is_node, height}
 use Rattle.ttree_node.specs.Editor.{position}
-use Rattle.ttree.specs.Searching.{taken, IsTurn, IsGap, IsGapIn}
+use Rattle.ttree.specs.Searching.{IsTurn, IsGap, IsGapIn}
 use Rattle.ttree.specs.declared.turn.Turn.TheVariants.{Left, Right, Here}
 use Rattle.ttree.proofs.Digits.{digits-le}
 use Rattle.ttree.proofs.Fitness.{node_high}

@@ -1,4 +1,4 @@
-use Rattle.std.proofs.Common.{◌+◌, length, arith, Ordering}
+use Rattle.std.proofs.Common.{arith}
 use Rattle.part_raw.specs.declared.tuple_ref.TupleRef.{TupleRef}
 use Rattle.ttree.specs.Searching.{taken}
 use Rattle.ttree.proofs.Narrowing.{above_at}

@@ -1,8 +1,6 @@
-use Rattle.std.proofs.Common.{◌≡◌, ◌∙◌, List, not, ap, subst, sym, lit<}
-use Rattle.std.specs.List.{All, Contains}
+use Rattle.std.proofs.Common.{◌∙◌, List, not, ap, subst, sym, lit<}
 use Rattle.part_raw.specs.declared.tuple_ref.TupleRef.{TupleRef}
-use Rattle.mm_index.specs.Order.{IsRising, insert_by}
-use Rattle.mm_index.specs.Range.{NeverFalls}
+use Rattle.mm_index.specs.Order.{IsRising}
 use Rattle.mm_index.proofs.Placed.{IsRising-insert_by}
 use Rattle.ttree.specs.Held.{items_of_tree}
 use Rattle.ttree.proofs.Ordered.{NeverFalls-by_order, at_none, insert_placed-by}

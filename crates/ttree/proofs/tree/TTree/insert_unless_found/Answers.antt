@@ -1,15 +1,14 @@
-use Rattle.std.proofs.Common.{◌≡◌, ◌∙◌, ◌+◌, List, length, Ordering, ap, subst, sym, lit<, arith}
+use Rattle.std.proofs.Common.{◌≡◌, ◌∙◌, List, length, ap, subst, sym, lit<, arith}
 use Rattle.std.specs.List.{All}
 use Rattle.part_raw.specs.declared.tuple_ref.TupleRef.{TupleRef}
 use Rattle.mm_index.specs.Range.{NeverFalls}
-use Rattle.ttree_node.specs.Tree.{Tree, Zipper, Label, list, size, whole, is_root}
+use Rattle.ttree_node.specs.Tree.{list, size}
 use Rattle.ttree_node.specs.Seen.{tree_of, shown}
 use Rattle.ttree_node.specs.TreeWithSpares.{TreeWithSpares}
 use Rattle.ttree.specs.Held.{items_of_tree}
-use Rattle.ttree.specs.Room.{nodes_of, nodes_at}
-use Rattle.ttree.specs.Shape.{IsTTree, ParentsAreFull}
+use Rattle.ttree.specs.Shape.{IsTTree}
 use Rattle.ttree.proofs.Heights.{list_bound}
-use Rattle.ttree.proofs.Occupancy.{few_nodes, spare_in_room, room_after_insert, room_after_remove}
+use Rattle.ttree.proofs.Occupancy.{few_nodes, spare_in_room}
 use Rattle.ttree.proofs.tree.TTree.insert_unless_found.Goals as goal
 
 pub insert_unless_found-found-requires : goal.insert_unless_found-found-requires

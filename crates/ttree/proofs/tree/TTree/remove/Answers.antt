@@ -2,7 +2,7 @@ use Rattle.std.proofs.Common.{◌≡◌, ◌∙◌, List, length, ap, subst, sym
 use Rattle.part_raw.specs.declared.tuple_ref.TupleRef.{TupleRef}
 use Rattle.mm_index.specs.Order.{IsRising, remove_by}
 use Rattle.mm_index.proofs.Placed.{IsRising-remove_by}
-use Rattle.ttree_node.specs.Tree.{Tree, Label, list, size}
+use Rattle.ttree_node.specs.Tree.{list}
 use Rattle.ttree_node.specs.Seen.{tree_of, shown}
 use Rattle.ttree_node.specs.TreeWithSpares.{TreeWithSpares}
 use Rattle.ttree.specs.Held.{items_of_tree}
