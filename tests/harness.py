@@ -67,3 +67,13 @@ def rows():
     """The rows: streams beside the answers that they must have, by name."""
     for stream in sorted(ROWS.glob("*.in")):
         yield stream.stem, stream.read_bytes(), stream.with_suffix(".out").read_bytes()
+
+
+def crate_tests(ending):
+    """The tests of the crates whose names end so: for each the binary that was built, and its name."""
+    for binary in sorted((ROOT / "crates").glob("*/out/*_tests")):
+        listed = subprocess.run([binary, "--list"], capture_output=True, text=True, check=True).stdout
+        for line in listed.splitlines():
+            name = line.removesuffix(": test")
+            if name.endswith(ending):
+                yield binary, name

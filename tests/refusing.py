@@ -1,33 +1,29 @@
 """Runs of a program in which one call for memory finds none."""
 
 import os
-import pathlib
 import subprocess
-import tempfile
 
-from harness import SECONDS, TESTS, Ended
+import preloading
+from harness import SECONDS, Ended
 
 MOST_CALLS = 100_000
 
 
 class Refuser:
-    """The library that refuses one call for memory, built into a temporary folder."""
+    """The library that refuses one call for memory."""
 
     def __init__(self):
-        self.room = tempfile.TemporaryDirectory(prefix="mmdb-tests-")
-        self.library = pathlib.Path(self.room.name) / "refuse_nth.so"
-        words = ["cc", "-O1", "-shared", "-fPIC", "-fno-builtin", "-o", self.library, TESTS / "refuse_nth.c"]
-        subprocess.run(words, check=True)
+        self.library = preloading.Library("refuse_nth")
 
     def close(self):
-        self.room.cleanup()
+        self.library.close()
 
     def run(self, command, stream, nth):
         """Runs a command with its nth call for memory refused. Gives how it ended, and whether it made that call."""
         hears, tells = os.pipe()
         with os.fdopen(hears, "rb") as heard:
             try:
-                how = {"LD_PRELOAD": str(self.library), "REFUSE_NTH": str(nth), "REFUSE_TOLD": str(tells)}
+                how = {"LD_PRELOAD": str(self.library.path), "REFUSE_NTH": str(nth), "REFUSE_TOLD": str(tells)}
                 ran = subprocess.run(
                     command,
                     input=stream,

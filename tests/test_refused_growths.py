@@ -1,6 +1,5 @@
 """Each call for memory refused in turn, in the program and in the crates' own tests that are written for it."""
 
-import subprocess
 import unittest
 
 import harness
@@ -84,9 +83,6 @@ def crate_test(binary, name):
     return lambda test: test.check_test(binary, name)
 
 
-for binary in sorted((harness.ROOT / "crates").glob("*/out/*_tests")):
-    listed = subprocess.run([binary, "--list"], capture_output=True, text=True, check=True).stdout
-    for line in listed.splitlines():
-        name = line.removesuffix(": test")
-        if name.endswith("_under_refusal"):
-            setattr(Crates, f"test_crate_{binary.parent.parent.name}_{name.replace('::', '_')}", crate_test(binary, name))
+for binary, name in harness.crate_tests("_under_refusal"):
+    crate = binary.parent.parent.name
+    setattr(Crates, f"test_crate_{crate}_{name.replace('::', '_')}", crate_test(binary, name))

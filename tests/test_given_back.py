@@ -1,0 +1,67 @@
+"""What the stores and the indexes hold of memory, counted from outside: all is given back in the end, and what isn't in
+use where a test releases it. The crates' tests whose names end in `_are_given_back` name the moments."""
+
+import os
+import re
+import subprocess
+import unittest
+
+import harness
+import preloading
+
+MOMENT = re.compile(r"\[held (\d+)\]\nheld: (.+)")
+BOOKS = 1_000
+ENTRY = 16
+
+
+def moments_of(counter, binary, name):
+    """Runs a test, and gives the bytes that it held at each moment that it named."""
+    ran = subprocess.run(
+        [binary, name],
+        capture_output=True,
+        text=True,
+        timeout=harness.SECONDS,
+        check=True,
+        env={**os.environ, "LD_PRELOAD": str(counter.path)},
+    )
+    return {moment: int(held) for held, moment in MOMENT.findall(ran.stdout)}
+
+
+class GivenBack(unittest.TestCase):
+    """A store of books under an ordered and a hash index fills with 1,000 books and empties, twice."""
+
+    @classmethod
+    def setUpClass(cls):
+        counter = preloading.Library("count_held")
+        cls.addClassCleanup(counter.close)
+        tests = list(harness.crate_tests("_are_given_back"))
+        cls.held = {name.rpartition("::")[2]: moments_of(counter, binary, name) for binary, name in tests}
+
+    def each(self):
+        self.assertGreater(len(self.held), 0, "no crate's tests were built")
+        for name, held in self.held.items():
+            with self.subTest(name):
+                yield held
+
+    def test_all_is_given_back_in_the_end(self):
+        for held in self.each():
+            self.assertEqual(held["dropped"], held["nothing"])
+
+    def test_what_was_reserved_is_given_back_once_released(self):
+        for held in self.each():
+            self.assertGreater(held["reserved"], held["full"])
+            self.assertEqual(held["released"], held["full"])
+
+    def test_no_more_is_held_the_second_time(self):
+        for held in self.each():
+            self.assertEqual(held["emptied again"], held["emptied"])
+
+    def test_a_store_keeps_its_partitions(self):
+        for held in self.each():
+            self.assertGreater(held["emptied"], held["nothing"])
+
+    def test_no_node_is_held_once_all_are_out(self):
+        """The plain indexes hold nothing then. A tree has no node left, and a hash the heads of its buckets alone."""
+        plain = self.held["plain_indexes_are_given_back"]["emptied"]
+        self.assertEqual(self.held["t_tree_nodes_are_given_back"]["emptied"], plain)
+        self.assertLess(self.held["hash_nodes_are_given_back"]["emptied"], plain + BOOKS * ENTRY)
