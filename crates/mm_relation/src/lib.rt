@@ -41,6 +41,7 @@ pub use linked_keys::LinkedKeys;
 pub use mm_index::Probe;
 pub use numbers::DeclaredIndex;
 pub use part_raw::TupleRef;
+pub use plain_tables::{ColumnNumber, TableNumber};
 pub use refusal::RowRefusal;
 pub use relation::Relation;
 pub use relations::Relations;
