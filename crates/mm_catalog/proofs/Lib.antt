@@ -1,0 +1,9 @@
+pub mod Lists
+pub mod Tables
+pub mod Outlines
+pub mod Back
+pub mod Declared
+pub mod Empty
+pub mod Finding
+pub mod Created
+pub mod Aimed

@@ -1,0 +1,104 @@
+-- Lists, by what they have at each place.
+use Rattle.std.proofs.Common.{◌≡◌, ◌≢◌, ℕ, zero, suc, ◌<◌, ◌≤◌, List, [], ◌∷◌, Some, refl, sym, ap, subst, ◌∙◌, arith, length, map, set, take, drop, get_or, ◌++◌}
+use Rattle.std.specs.List.{All, slice_get, zip}
+use Rattle.std.proofs.Math.Seq.{take-append_seam}
+use Rattle.std.proofs.lemmas.Option.{none-some, same_Some, get_or_from_slice_get, slice_get_within}
+
+-- lists that have the same at each place are one
+pub same_by_get : {A : Type 0} (xs ys : List A) → ((i : ℕ) → slice_get xs i ≡ slice_get ys i) → xs ≡ ys
+same_by_get [] [] e = refl
+same_by_get [] (y ∷ ys) e = absurd (none-some y (e 0))
+same_by_get (x ∷ xs) [] e = absurd (none-some x (sym (e 0)))
+same_by_get (x ∷ xs) (y ∷ ys) e =
+    ap (λ z. z ∷ xs) (same_Some x y (e 0)) ∙ ap (λ zs. y ∷ zs) (same_by_get xs ys (λ i. e (suc i)))
+
+pub get-set_same : {A : Type 0} (xs : List A) (i : ℕ) (x : A) → i < length xs → slice_get (set xs i x) i ≡ Some x
+get-set_same [] i x h = absurd (omega arith)
+get-set_same (y ∷ ys) zero x h = refl
+get-set_same (y ∷ ys) (suc i) x h = get-set_same ys i x (omega arith)
+
+pub get-set_other : {A : Type 0} (xs : List A) (i j : ℕ) (x : A) → j ≢ i → slice_get (set xs i x) j ≡ slice_get xs j
+get-set_other [] i j x h = refl
+get-set_other (y ∷ ys) zero zero x h = absurd (h refl)
+get-set_other (y ∷ ys) zero (suc j) x h = refl
+get-set_other (y ∷ ys) (suc i) zero x h = refl
+get-set_other (y ∷ ys) (suc i) (suc j) x h = get-set_other ys i j x (λ e. h (ap suc e))
+
+pub get-zip : {A B : Type 0} (xs : List A) (ys : List B) (i : ℕ) (x : A) (y : B) → slice_get xs i ≡ Some x → slice_get ys i ≡ Some y → slice_get (zip xs ys) i ≡ Some (x, y)
+get-zip [] ys i x y e f = absurd (none-some x e)
+get-zip (a ∷ xs) [] i x y e f = absurd (none-some y f)
+get-zip (a ∷ xs) (b ∷ ys) zero x y e f = ap (λ a. Some (a, b)) (same_Some a x e) ∙ ap (λ b. Some (x, b)) (same_Some b y f)
+get-zip (a ∷ xs) (b ∷ ys) (suc i) x y e f = get-zip xs ys i x y e f
+
+pub length-zip : {A B : Type 0} (xs : List A) (ys : List B) → length xs ≡ length ys → length (zip xs ys) ≡ length ys
+length-zip [] ys e = e
+length-zip (x ∷ xs) [] e = refl
+length-zip (x ∷ xs) (y ∷ ys) e = let rest = length-zip xs ys (omega arith) in omega (arith, rest)
+
+pub get-take : {A : Type 0} (xs : List A) (n i : ℕ) → i < n → slice_get (take n xs) i ≡ slice_get xs i
+get-take [] zero i h = absurd (omega arith)
+get-take [] (suc n) i h = refl
+get-take (x ∷ xs) zero i h = absurd (omega arith)
+get-take (x ∷ xs) (suc n) zero h = refl
+get-take (x ∷ xs) (suc n) (suc i) h = get-take xs n i (omega arith)
+
+-- what holds of each element holds of the one at a place
+pub All-get : {A : Type 0} (P : A → Type 0) (xs : List A) (i : ℕ) (x : A) → All P xs → slice_get xs i ≡ Some x → P x
+All-get P xs i x all at = subst P (get_or_from_slice_get xs i x x at) (all i x (slice_get_within xs i x at))
+
+-- what stands at a place that is there
+pub get_within : {A : Type 0} (xs : List A) (i : ℕ) → i < length xs → (x : A) × (slice_get xs i ≡ Some x)
+get_within [] i h = absurd (omega arith)
+get_within (x ∷ xs) zero h = (x, refl)
+get_within (x ∷ xs) (suc i) h = get_within xs i (omega arith)
+
+-- two lists, side by side, under tests that tell each place alike
+pub map-zip : {A B C : Type 0} (f g : A × B → C) (xs : List A) (ys : List B) → ((i : ℕ) (a : A) (b : B) → slice_get xs i ≡ Some a → slice_get ys i ≡ Some b → g (a, b) ≡ f (a, b)) → map g (zip xs ys) ≡ map f (zip xs ys)
+map-zip f g [] ys same = refl
+map-zip f g (a ∷ xs) [] same = refl
+map-zip f g (a ∷ xs) (b ∷ ys) same =
+    ap (λ z. z ∷ map g (zip xs ys)) (same 0 a b refl refl) ∙ ap (λ zs. f (a, b) ∷ zs) (map-zip f g xs ys (λ i. same (suc i)))
+
+-- two lists, side by side, of which one changes at one place, under tests that tell the other places alike
+pub map-zip-set : {A B C : Type 0} (f g : A × B → C) (xs : List A) (ys : List B) (n : ℕ) (x : A) (y : B) → length xs ≡ length ys → slice_get xs n ≡ Some x → ((i : ℕ) (a : A) (b : B) → i ≢ n → slice_get xs i ≡ Some a → slice_get ys i ≡ Some b → g (a, b) ≡ f (a, b)) → map g (zip xs (set ys n y)) ≡ set (map f (zip xs ys)) n (g (x, y))
+map-zip-set f g [] ys n x y e at others = absurd (none-some x at)
+map-zip-set f g (a ∷ xs) [] n x y e at others = absurd (omega arith)
+map-zip-set f g (a ∷ xs) (b ∷ ys) zero x y e at others =
+    ap (λ a. g (a, y) ∷ map g (zip xs ys)) (same_Some a x at) ∙ ap (λ zs. g (x, y) ∷ zs) (map-zip f g xs ys (λ i a b p q. others (suc i) a b (omega arith) p q))
+map-zip-set f g (a ∷ xs) (b ∷ ys) (suc n) x y e at others =
+    ap (λ z. z ∷ map g (zip xs (set ys n y))) (others 0 a b (omega arith) refl refl)
+    ∙ ap (λ zs. f (a, b) ∷ zs) (map-zip-set f g xs ys n x y (omega arith) at (λ i a b h p q. others (suc i) a b (omega arith) p q))
+
+-- the first behind the first n
+pub first_behind : {A : Type 0} (xs : List A) (n : ℕ) (d : A) → n < length xs → slice_get xs n ≡ Some (get_or (drop n xs) 0 d)
+first_behind [] n d h = absurd (omega arith)
+first_behind (x ∷ xs) zero d h = refl
+first_behind (x ∷ xs) (suc n) d h = first_behind xs n d (omega arith)
+
+pub set_first_behind : {A : Type 0} (xs : List A) (n : ℕ) (x : A) → n < length xs → take n xs ++ set (drop n xs) 0 x ≡ set xs n x
+set_first_behind [] n x h = absurd (omega arith)
+set_first_behind (y ∷ ys) zero x h = refl
+set_first_behind (y ∷ ys) (suc n) x h = ap (λ zs. y ∷ zs) (set_first_behind ys n x (omega arith))
+
+-- a list that is written back whole
+pub whole : {A : Type 0} (xs ys : List A) (n : ℕ) → length xs ≡ n → take n (xs ++ ys) ≡ xs
+whole xs ys n e = ap (λ m. take m (xs ++ ys)) (sym e) ∙ take-append_seam xs ys
+
+-- two lists that each gain one more
+pub zip-push : {A B : Type 0} (xs : List A) (ys : List B) (x : A) (y : B) → length xs ≡ length ys → zip (xs ++ x ∷ []) (ys ++ y ∷ []) ≡ zip xs ys ++ (x, y) ∷ []
+zip-push [] [] x y e = refl
+zip-push [] (b ∷ ys) x y e = absurd (omega arith)
+zip-push (a ∷ xs) [] x y e = absurd (omega arith)
+zip-push (a ∷ xs) (b ∷ ys) x y e = ap (λ zs. (a, b) ∷ zs) (zip-push xs ys x y (omega arith))
+
+pub get-front : {A : Type 0} (xs ys : List A) (i : ℕ) → i < length xs → slice_get (xs ++ ys) i ≡ slice_get xs i
+get-front [] ys i h = absurd (omega arith)
+get-front (x ∷ xs) ys zero h = refl
+get-front (x ∷ xs) ys (suc i) h = get-front xs ys i (omega arith)
+
+-- behind the others stands the last
+pub get-last : {A : Type 0} (xs : List A) (y : A) (i : ℕ) (z : A) → length xs ≤ i → slice_get (xs ++ y ∷ []) i ≡ Some z → y ≡ z
+get-last [] y zero z h e = same_Some y z e
+get-last [] y (suc i) z h e = absurd (none-some z e)
+get-last (x ∷ xs) y zero z h e = absurd (omega arith)
+get-last (x ∷ xs) y (suc i) z h e = get-last xs y i z (omega arith) e

@@ -1,0 +1,53 @@
+use Rattle.std.proofs.Common.{◌≡◌, ◌<◌, ◌++◌, List, Some, length, map, take, drop, sym, ap, subst, arith}
+use Rattle.std.specs.Prelude.{OnOk}
+use Rattle.std.specs.List.{slice_get}
+use Rattle.std.specs.String.{string_bytes}
+use Rattle.plain_tables.specs.declared.resolved.Resolved.TheVariants as resolved
+use Rattle.mm_relation.specs.State.{RelationState}
+use Rattle.mm_catalog.specs.State.{CatalogState}
+use Rattle.mm_catalog.specs.Seen.{database_of}
+use Rattle.plain_tables.specs.ResolvedLaws.{IsMeant}
+use Rattle.mm_catalog.specs.Consistent.{IsConsistent}
+use Rattle.mm_catalog.specs.Changes.{IsCurrentAt, IsDone}
+use Rattle.mm_catalog.proofs.Lists.{whole}
+use Rattle.mm_catalog.proofs.Declared.{there_at, column_at, current_at, indexed_consistent, indexed_done}
+use Rattle.mm_catalog.proofs.catalog.Catalog.add_index.Goals as goal
+
+pub declare-requires-clause-there : goal.declare-requires-clause-there
+declare-requires-clause-there c =
+    let s : CatalogState = record { limits = c.self.inside.limits; names = map string_bytes c.self.inside.names.keys; relations = c.self.inside.relations.items } in
+    let meant : IsMeant s.limits (database_of s) (resolved.Index c.args.table c.args.column c.args.kind) = rw (← c.self.view_is) at c.requires in
+    subst (λ (rs : List RelationState). c.args.table.0 < length rs) (sym c.as_mut_slice.ensures.value) (there_at s c.self.invariant c.args.table.0 meant.0 meant.1)
+
+pub declare-requires-clause-column : goal.declare-requires-clause-column
+declare-requires-clause-column c =
+    let s : CatalogState = record { limits = c.self.inside.limits; names = map string_bytes c.self.inside.names.keys; relations = c.self.inside.relations.items } in
+    let meant : IsMeant s.limits (database_of s) (resolved.Index c.args.table c.args.column c.args.kind) = rw (← c.self.view_is) at c.requires in
+    subst (λ (rs : List RelationState). (t : RelationState) → slice_get rs c.args.table.0 ≡ Some t → c.args.column.0 < length t.targets) (sym c.as_mut_slice.ensures.value)
+    (column_at s c.self.invariant c.args.table.0 c.args.column.0 meant.0 meant.1 meant.2.on_column)
+
+pub declare-requires-clause-current : goal.declare-requires-clause-current
+declare-requires-clause-current c =
+    let s : CatalogState = record { limits = c.self.inside.limits; names = map string_bytes c.self.inside.names.keys; relations = c.self.inside.relations.items } in
+    subst (λ rs. IsCurrentAt rs c.args.table.0) (sym c.as_mut_slice.ensures.value) (current_at s c.self.invariant c.args.table.0)
+
+pub invariant_of-self : goal.invariant_of-self
+invariant_of-self c =
+    let s : CatalogState = record { limits = c.self.inside.limits; names = map string_bytes c.self.inside.names.keys; relations = c.self.inside.relations.items } in
+    let meant : IsMeant s.limits (database_of s) (resolved.Index c.args.table c.args.column c.args.kind) = rw (← c.self.view_is) at c.requires in
+    let back : take c.self.inside.relations.len (c.declare.new.relations ++ drop (length c.declare.new.relations) c.self.inside.relations.items) ≡ c.declare.new.relations =
+    whole c.declare.new.relations (drop (length c.declare.new.relations) c.self.inside.relations.items) c.self.inside.relations.len (omega (arith, c.declare.auto.relations, ap length c.as_mut_slice.ensures.value, c.self.inside.relations.ok.0)) in
+    subst (λ rs. IsConsistent (record s { relations = rs })) (sym back)
+    (indexed_consistent s c.self.invariant c.args.table c.args.column c.args.kind c.declare.new.relations c.declare.result meant
+    (rw c.as_mut_slice.ensures.value at c.declare.ensures.declared) (rw c.as_mut_slice.ensures.value at c.declare.ensures.unchanged))
+
+pub returns-clause-done : goal.returns-clause-done
+returns-clause-done c =
+    let s : CatalogState = record { limits = c.self.inside.limits; names = map string_bytes c.self.inside.names.keys; relations = c.self.inside.relations.items } in
+    let meant : IsMeant s.limits (database_of s) (resolved.Index c.args.table c.args.column c.args.kind) = rw (← c.self.view_is) at c.requires in
+    let back : take c.self.inside.relations.len (c.declare.new.relations ++ drop (length c.declare.new.relations) c.self.inside.relations.items) ≡ c.declare.new.relations =
+    whole c.declare.new.relations (drop (length c.declare.new.relations) c.self.inside.relations.items) c.self.inside.relations.len (omega (arith, c.declare.auto.relations, ap length c.as_mut_slice.ensures.value, c.self.inside.relations.ok.0)) in
+    rw (← c.self.view_is)
+    (subst (λ rs. OnOk c.declare.result (IsDone s (record s { relations = rs }) (resolved.Index c.args.table c.args.column c.args.kind))) (sym back)
+    (indexed_done s c.self.invariant c.args.table c.args.column c.args.kind c.declare.new.relations c.declare.result meant
+    (rw c.as_mut_slice.ensures.value at c.declare.ensures.declared)))

@@ -1,0 +1,33 @@
+-- What a catalog keeps.
+use Rattle.std.specs.Prelude.{◌≡◌, ℕ, ◌≤◌, List, Some, length, map, slice_get}
+use Rattle.std.specs.List.{All}
+use Rattle.std.specs.FinMap as finite
+use Rattle.part_raw.specs.declared.tuple_ref.TupleRef.{TupleRef}
+use Rattle.plain_tables.specs.References.{IsSound}
+use Rattle.mm_relation.specs.declared.row.Row.{Row}
+use Rattle.mm_relation.specs.State.{RelationState, IsKept, IsCurrent, linked_keys}
+use Rattle.mm_catalog.specs.State.{CatalogState}
+use Rattle.mm_catalog.specs.Seen.{database_of}
+use Rattle.mm_catalog.specs.Linked.{target_of, links_to, HasLinksOrNulls}
+
+-- A relation among the others, under these names: it keeps what a relation keeps, its links lead into the tables that
+-- its columns refer to, its rows have links or nulls there, and it is current under the keys that they lead to.
+pub record IsAmong (names : List (List ℕ)) (relations : List RelationState) (s : RelationState) : Type 0 where
+  pub kept : IsKept s
+  pub targets : s.targets ≡ map (target_of names) s.schema.columns
+  pub linked : (r : TupleRef) (row : Row) → finite.get s.rows r ≡ Some row → HasLinksOrNulls s.targets row
+  pub current : IsCurrent (linked_keys s.targets relations) s
+
+-- each row's number of referrers is the number of links that name it
+abbrev pub AreCounted : List RelationState → Type 0
+AreCounted relations =
+    (table : ℕ) (s : RelationState) (r : TupleRef) (row : Row) → slice_get relations table ≡ Some s → finite.get s.rows r ≡ Some row → row.referrers ≡ links_to relations table r
+
+-- Each relation has a name, the database is sound, and each relation stands rightly among the others. The limit is none
+-- that a relation cannot keep, and each row's referrers are counted.
+pub record IsConsistent (c : CatalogState) : Type 0 where
+  pub named : length c.names ≡ length c.relations
+  pub rows : c.limits.rows ≤ 16777216
+  pub sound : IsSound c.limits (database_of c)
+  pub each : All (IsAmong c.names c.relations) c.relations
+  pub counted : AreCounted c.relations

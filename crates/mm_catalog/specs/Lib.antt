@@ -1,0 +1,6 @@
+pub mod State
+pub mod Seen
+pub mod Linked
+pub mod Consistent
+pub mod Changes
+pub mod Created

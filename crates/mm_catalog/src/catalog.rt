@@ -1,0 +1,122 @@
+//! The tables, and what they are called.
+ghost use Rattle.std.specs.Prelude.{◌≡◌, ◌<◌, ◌≤◌, [], Some, OnOk, OnErr, length, slice_get};
+ghost use Rattle.std.specs.Option.{option_map};
+
+use crate::create::aimed;
+use crate::declare::{declare, undeclare};
+use indexmap::IndexSet;
+use mm_relation::{Relation, Relations};
+use no_memory::NoMemory;
+use plain_tables::{ColumnNumber, IndexKind, Limits, Schema, TableNumber, Text};
+use std::alloc::Global;
+use std::marker::Model;
+
+/// Tables by name, in the order of their declaration, each a relation.
+#[derive(Drop)]
+pub struct Catalog {
+    pub(crate) limits: Limits,
+    names: IndexSet<String>,
+    relations: Vec<Relation>,
+}
+
+impl Model for Catalog {
+    ghost use Rattle.std.specs.Prelude.{map};
+    ghost use Rattle.std.specs.String.{string_bytes};
+    ghost use Rattle.mm_catalog.specs.State.{CatalogState, catalog_code};
+    ghost use Rattle.mm_catalog.specs.Consistent.{IsConsistent};
+    ghost use Rattle.plain_tables.specs.contracts.command.Limits.{the_row as limits_row};
+    ghost use Rattle.mm_relation.specs.contracts.relation.Relation.{the_row as relation_row};
+
+    ghost Value = { CatalogState };
+
+    ghost coded = { catalog_code limits_row.coded relation_row.coded };
+
+    ghost view = { λ c. record { limits = c.limits; names = map string_bytes c.names.keys; relations = c.relations.items } };
+
+    ghost invariant = { λ c. IsConsistent (record { limits = c.limits; names = map string_bytes c.names.keys; relations = c.relations.items }) };
+}
+
+impl Catalog {
+    ghost use Rattle.plain_tables.specs.declared.resolved.Resolved.TheVariants as resolved;
+    ghost use Rattle.plain_tables.specs.ResolvedLaws.{IsMeant};
+    ghost use Rattle.mm_catalog.specs.Seen.{database_of};
+    ghost use Rattle.mm_catalog.specs.Changes.{IsDone};
+
+    /// A catalog of no tables, under these limits. It takes no memory.
+    pub fn new(alloc: Global, limits: Limits) -> Catalog
+        requires { limits.rows ≤ 16777216 }
+        ensures empty { database_of result ≡ [] }
+        ensures limits { result.limits ≡ limits }
+    {
+        Catalog {
+            limits,
+            names: IndexSet::new(alloc),
+            relations: Vec::new(alloc),
+        }
+    }
+
+    /// The limits that it was made under.
+    pub fn limits(&self) -> Limits
+        ensures { result ≡ self.now.limits }
+    {
+        self.limits
+    }
+
+    /// How many tables there are.
+    pub fn table_count(&self) -> usize
+        ensures { result ≡ length (database_of self.now) }
+    {
+        self.relations.len()
+    }
+
+    /// The name of a table.
+    pub fn table_name(&self, table: TableNumber) -> &str
+        requires { table.0 < length (database_of self.now) }
+        ensures { option_map (λ t. t.name) (slice_get (database_of self.now) table.0) ≡ Some result.now }
+    {
+        self.names.as_slice()[table.0].as_str()
+    }
+
+    /// Declares a table, which stands last. Its links lead into the tables that its columns refer to.
+    pub fn create(&mut self, name: Text, schema: Schema) -> Result<(), NoMemory>
+        requires { IsMeant self.old.limits (database_of self.old) (resolved.Table name schema) }
+        ensures done { OnOk result (IsDone self.old self.new (resolved.Table name schema)) }
+        ensures unchanged { OnErr result (self.new ≡ self.old) }
+    {
+        self.relations.reserve(1)?;
+        let relation = aimed(*self.relations.allocator(), schema, &self.names)?;
+        self.names.insert(name.into_string())?;
+        self.relations.push_reserved(relation);
+        Ok(())
+    }
+
+    /// Declares an index of a table over the rows that are there.
+    pub fn add_index(
+        &mut self,
+        table: TableNumber,
+        column: ColumnNumber,
+        kind: IndexKind,
+    ) -> Result<(), NoMemory>
+        requires { IsMeant self.old.limits (database_of self.old) (resolved.Index table column kind) }
+        ensures done { OnOk result (IsDone self.old self.new (resolved.Index table column kind)) }
+        ensures unchanged { OnErr result (self.new ≡ self.old) }
+    {
+        declare(self.relations.as_mut_slice(), table, column, kind)
+    }
+
+    /// Drops an index of a table. It takes no memory.
+    pub fn drop_index(&mut self, table: TableNumber, column: ColumnNumber, kind: IndexKind)
+        requires { IsMeant self.old.limits (database_of self.old) (resolved.DropIndex table column kind) }
+        ensures { IsDone self.old self.new (resolved.DropIndex table column kind) }
+    {
+        undeclare(self.relations.as_mut_slice(), table, column, kind)
+    }
+}
+
+impl Relations for Catalog {
+    ghost tables = { λ c. c.relations };
+
+    fn at(&self, table: TableNumber) -> &Relation {
+        &self.relations[table.0]
+    }
+}

@@ -1,0 +1,59 @@
+//! A relation whose links lead into the tables that its columns refer to.
+ghost use Rattle.std.specs.Prelude.{◌≡◌, ◌<◌, IfOk, length, map, option_copied};
+ghost use Rattle.std.specs.String.{string_bytes};
+ghost use Rattle.plain_tables.specs.References as plain;
+ghost use Rattle.mm_relation.specs.State.{IsKept};
+ghost use Rattle.mm_catalog.specs.Linked.{target_of};
+ghost use Rattle.mm_catalog.specs.Created.{aimed_relation, with_leads, leads_at};
+
+use indexmap::IndexSet;
+use mm_relation::Relation;
+use mm_relation::laws::a_relation_is_kept;
+use no_memory::NoMemory;
+use plain_tables::{ColKind, Column, ColumnNumber, Schema, TableNumber, Text};
+use std::alloc::Global;
+
+// The name of the table that a column refers to.
+fn referred(column: &Column) -> Option<&Text>
+    ensures { option_copied result ≡ plain.referred column.now.kind }
+{
+    match &column.kind {
+        ColKind::Int | ColKind::Text => None,
+        ColKind::Ref(table) => Some(table),
+        ColKind::RefOrNull(table) => Some(table),
+    }
+}
+
+// The number of the table that a column refers to.
+fn target(names: &IndexSet<String>, column: &Column) -> Option<usize>
+    ensures { result ≡ target_of (map string_bytes names.now.keys) column.now }
+{
+    let name = referred(column)?;
+    names.get_index_of(name.as_str())
+}
+
+// Tells a relation where the links of a column lead.
+#[tactic(auto, using(crate::proofs::Aimed::leads_of))]
+fn aim(relation: &mut Relation, column: ColumnNumber, names: &IndexSet<String>)
+    requires target { column.0 < length relation.old.targets }
+    requires column { column.0 < length relation.old.schema.columns }
+    ensures { relation.new ≡ with_leads relation.old column.0 (leads_at (map string_bytes names.now.keys) relation.old column.0) }
+{
+    let leads = target(names, &relation.schema().columns.as_slice()[column.0]);
+    if let Some(table) = leads {
+        relation.set_target(column, TableNumber(table));
+    }
+}
+
+// A relation of these columns, whose links lead into the tables of these names.
+pub fn aimed(alloc: Global, schema: Schema, names: &IndexSet<String>) -> Result<Relation, NoMemory>
+    ensures made { IfOk result (λ r. r ≡ aimed_relation (map string_bytes names.now.keys) schema) }
+    ensures kept { IfOk result IsKept }
+{
+    let mut relation = Relation::new(alloc, schema)?;
+    for column in 0..relation.schema().columns.len() {
+        aim(&mut relation, ColumnNumber(column), names);
+    }
+    a_relation_is_kept(&relation);
+    Ok(relation)
+}

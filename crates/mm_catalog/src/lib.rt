@@ -1,0 +1,25 @@
+//! Tables by name over relations, with references between them.
+//!
+//! ```text
+//!  names      0 dept      1 emp            the same number names both
+//!  relations  dept's  ◀── emp's            links lead into relations before
+//! ```
+//!
+//! A catalog is the one type that is seen as a database of plain tables. Each call says by the definitions of
+//! plain_tables what it does to that database, and asks that its command be one of it.
+//!
+//! It does not care how a relation keeps its rows and indexes, how a command is spelled, nor what it answers.
+//!
+//! - There are as many names as relations, and the database is sound.
+//! - A relation's links lead into the tables that its columns refer to, and it is current under the keys there.
+//! - Each row's number of referrers is the number of links that name it.
+//! - What finds no memory finds none before the first change.
+#![tactic(auto)]
+
+mod before;
+mod catalog;
+mod create;
+mod declare;
+pub mod laws;
+
+pub use catalog::Catalog;
