@@ -13,3 +13,4 @@ pub mod Dropping
 pub mod Listing
 pub mod Declared
 pub mod Same
+pub mod SetColumns
