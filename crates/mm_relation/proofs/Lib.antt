@@ -14,3 +14,4 @@ pub mod Listing
 pub mod Declared
 pub mod Same
 pub mod Searches
+pub mod SetColumns

@@ -24,21 +24,6 @@ use Rattle.mm_relation.proofs.KeyOrder.{keyed_again, keyed_without, bag_without,
 use Rattle.mm_relation.proofs.Changing.{awaits, served_with, served_without}
 use Rattle.mm_relation.proofs.Setting.{with_cells-key, row_with}
 
--- the room that a row leaves as it goes, and takes as it comes
-pub room_left : (keys : Keys) (rows now : Tuples Row) (r : TupleRef) (old mid new : Indexes) → Lose keys rows r old mid → Gain keys now r mid new → (n : ℕ) → HaveRoom (n + 1) old → HaveRoom n new
-room_left keys rows now r old mid new loses gains n room = record {
-  trees = λ k d l.
-      let before : n + 1 ≤ tree_room (get_or old.trees k d) = room.trees k d (omega (arith, loses.tree_count, gains.tree_count, l)) in
-      let out : tree_room (get_or old.trees k d) ≤ tree_room (get_or mid.trees k d) = (loses.trees k d (omega (arith, loses.tree_count, gains.tree_count, l))).room in
-      let back : tree_room (get_or mid.trees k d) ≤ tree_room (get_or new.trees k d) + 1 = (gains.trees k d (omega (arith, gains.tree_count, l))).room in
-      omega arith;
-  hashes = λ k d l.
-      let before : 1 ≤ hash_room (get_or old.hashes k d) = room.hashes k d (omega (arith, loses.hash_count, gains.hash_count, l)) in
-      let out : hash_room (get_or old.hashes k d) + 1 ≤ hash_room (get_or mid.hashes k d) = (loses.hashes k d (omega (arith, loses.hash_count, gains.hash_count, l))).room in
-      let back : hash_room (get_or mid.hashes k d) ≤ hash_room (get_or new.hashes k d) + 1 = (gains.hashes k d (omega (arith, gains.hash_count, l))).room in
-      omega arith;
-}
-
 module _ (keys : Keys) (rows : Tuples Row) (list : List TupleRef) (all : Indexes) (r : TupleRef) (t : Row) (sets : List (ColumnNumber × Cell)) (keyed : IsKeyed rows list) (read : CanRead keys rows all) (serves : Serve keys rows list all) (can : CanSet keys rows sets) (found : get rows r ≡ Some t) where
   held : IsSome (get rows r)
   held = ap is_some found

@@ -63,7 +63,7 @@ Contains-same_entries : (xs ys : List (ℕ × TupleRef)) (x : ℕ × TupleRef) �
 Contains-same_entries xs ys x bag h = Contains-same_bag same_entry Decides-same_entry xs ys x bag h
 
 -- what holds of each element through a map
-from_mapped : {A B : Type 0} (P : B → Type 0) (f : A → B) (xs : List A) → All P (map f xs) → (k : ℕ) (d : A) → k < length xs → P (f (get_or xs k d))
+pub from_mapped : {A B : Type 0} (P : B → Type 0) (f : A → B) (xs : List A) → All P (map f xs) → (k : ℕ) (d : A) → k < length xs → P (f (get_or xs k d))
 from_mapped P f xs h k d l =
     subst P (get_or-map f xs k d (f d) l) (h k (f d) (let n : length (map f xs) ≡ length xs = length-map xs f in omega arith))
 
@@ -143,6 +143,28 @@ module _ (keys : Keys) (rows : Tuples Row) where
 
     pub all_agree : (all : Indexes) → Serve keys rows refs all → Serve keys others refs all
     all_agree all serves = record { trees = λ k d l. tree_agrees _ (serves.trees k d l); hashes = λ k d l. hash_agrees _ (serves.hashes k d l) }
+
+  -- rows that have the same values in one column, and the same keys, serve its index alike
+  module _ (others : Tuples Row) (refs : List TupleRef) where
+    pub tree_agrees_in : (t : ℕ × List TupleRef) → ((q : TupleRef) → value_at keys t.0 others q ≡ value_at keys t.0 rows q) → ((q : TupleRef) → key_at others q ≡ key_at rows q) → TreeServes keys rows refs t → TreeServes keys others refs t
+    tree_agrees_in t values same_keys serves = record {
+      bag = serves.bag;
+      rising = IsRising-agree (column_cmp keys t.0 rows) (column_cmp keys t.0 others) t.1
+          (λ p q hp hq.
+          let vp : value_at keys t.0 others p ≡ value_at keys t.0 rows p = values p in
+          let vq : value_at keys t.0 others q ≡ value_at keys t.0 rows q = values q in
+          let kp : key_at others p ≡ key_at rows p = same_keys p in
+          let kq : key_at others q ≡ key_at rows q = same_keys q in
+          rw (vp, vq, kp, kq) refl)
+          serves.rising;
+    }
+
+    pub hash_agrees_in : (h : ℕ × List (ℕ × TupleRef)) → ((q : TupleRef) → value_at keys h.0 others q ≡ value_at keys h.0 rows q) → HashServes keys rows refs h → HashServes keys others refs h
+    hash_agrees_in h values serves =
+        subst (IsSameBag h.1)
+        (map_alike (λ r. (hash_at keys h.0 rows r, r)) (λ r. (hash_at keys h.0 others r, r)) refs
+        (λ q hq. ap (λ o. (hash_of_value o, q)) (sym (values q))))
+        serves
 
   -- all indexes together
   module _ (differ : KeysDiffer rows) (refs : List TupleRef) (old new : Indexes) (serves : Serve keys rows refs old) where

@@ -5,6 +5,7 @@ pub mod Indexes
 pub mod Agreement
 pub mod Seen
 pub mod Settings
+pub mod Resetting
 pub mod Changes
 pub mod Searching
 pub mod Declaring

@@ -1,5 +1,6 @@
 -- Cells that are set in rows.
-use Rattle.std.specs.Prelude.{◌≡◌, ℕ, zero, suc, ◌-◌, ◌<◌, ◌++◌, slice_set, [], ◌∷◌, List, IsSome, All, Contains}
+use Rattle.std.specs.List.{list_any}
+use Rattle.std.specs.Prelude.{Bool, ◌==◌, ◌≡◌, ℕ, zero, suc, ◌-◌, ◌<◌, ◌++◌, slice_set, [], ◌∷◌, List, IsSome, All, Contains}
 use Rattle.std.specs.Option.{option_map}
 use Rattle.std.specs.FinMap as finite
 use Rattle.part_raw.specs.declared.tuple_ref.TupleRef.{TupleRef}
@@ -38,3 +39,7 @@ pile (suc n) sets = piled sets (pile n sets)
 -- these cells lie on top
 abbrev pub IsPiled : List (ColumnNumber × Cell) → List Cell → Type 0
 IsPiled sets copies = (under : List Cell) × (copies ≡ piled sets under)
+
+-- whether one of these cells is set in this column
+abbrev pub sets_column : List (ColumnNumber × Cell) → ℕ → Bool
+sets_column sets column = list_any (λ s. s.0.0 == column) sets

@@ -125,9 +125,9 @@ fn change_row<R: LinkedKeys>(
     ensures room { (n : ℕ) → HaveRoom (n + 1) indexes.old → HaveRoom n indexes.new }
     ensures left { (under : List Cell) → copies.old.items ≡ piled sets.now under → copies.new.items ≡ under }
 {
-    indexes.unlist(rows, links, r);
+    indexes.unlist_set(rows, links, r, sets);
     write_cells(rows.get_mut(r), sets, copies);
-    indexes.list(rows, links, r);
+    indexes.list_set(rows, links, r, sets);
 }
 
 // Sets cells in each of these rows, with the copies that were made for them. It takes no memory.

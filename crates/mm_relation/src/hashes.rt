@@ -59,7 +59,12 @@ pub fn list_in_hash<R: LinkedKeys>(on: &mut HashOn, rows: &Partitions<Row>, othe
 }
 
 // Takes a row's reference out of one.
-fn unlist_from_hash<R: LinkedKeys>(on: &mut HashOn, rows: &Partitions<Row>, others: &R, r: TupleRef)
+pub fn unlist_from_hash<R: LinkedKeys>(
+    on: &mut HashOn,
+    rows: &Partitions<Row>,
+    others: &R,
+    r: TupleRef,
+)
     requires { HashHas (R.keys others.now) rows.now.tuples r on.old }
     ensures { HashLoses (R.keys others.now) rows.now.tuples r on.old on.new }
 {

@@ -31,6 +31,7 @@ mod referring;
 mod refusal;
 mod relation;
 mod relations;
+mod resetting;
 mod row;
 mod tree;
 mod trees;

@@ -56,7 +56,12 @@ pub fn list_in_tree<R: LinkedKeys>(on: &mut TreeOn, rows: &Partitions<Row>, othe
 }
 
 // Takes a row's reference out of one.
-fn unlist_from_tree<R: LinkedKeys>(on: &mut TreeOn, rows: &Partitions<Row>, others: &R, r: TupleRef)
+pub fn unlist_from_tree<R: LinkedKeys>(
+    on: &mut TreeOn,
+    rows: &Partitions<Row>,
+    others: &R,
+    r: TupleRef,
+)
     requires keys_differ { KeysDiffer rows.now.tuples }
     requires has { TreeHas (R.keys others.now) rows.now.tuples r on.old }
     ensures { TreeLoses (R.keys others.now) rows.now.tuples r on.old on.new }
