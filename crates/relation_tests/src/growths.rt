@@ -9,7 +9,7 @@ use crate::worked::{Wanted, nth_row};
 use std::alloc::Global;
 use std::process::Abort;
 
-// So many rows that the trees have several nodes.
+// So many rows that each tree has more than one node.
 const ROWS: u32 = 40;
 
 // The first rows, as they came in or changed.
