@@ -40,8 +40,8 @@ pub served_length : (keys : Keys) (rows : Tuples Row) (refs : List TupleRef) (co
 served_length keys rows refs column [] has serve = cc
 served_length keys rows refs column (t ∷ trees) has serve =
     elim (cases_Bool (t.0 == column)) [
-      inl e ↦ rw e (length-same_bag t.1 refs (serve 0 t (omega arith)).bag)
-    | inr f ↦ rw f (served_length keys rows refs column trees (rw f at has) (λ k d l. serve (suc k) d (omega (arith, l))))
+      | inl e ↦ rw e (length-same_bag t.1 refs (serve 0 t (omega arith)).bag)
+      | inr f ↦ rw f (served_length keys rows refs column trees (rw f at has) (λ k d l. serve (suc k) d (omega (arith, l))))
     ]
 
 -- a column with a tree that is not the key's has a declared one
