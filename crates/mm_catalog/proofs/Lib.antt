@@ -7,3 +7,7 @@ pub mod Empty
 pub mod Finding
 pub mod Created
 pub mod Aimed
+pub mod Rising
+pub mod Keyed
+pub mod Shown
+pub mod Counting
