@@ -3,14 +3,17 @@ ghost use Rattle.std.specs.Prelude.{[], ◌∷◌};
 
 use mm_relation::{Relation, Relations, TableNumber};
 
-/// Where no column links anywhere.
-pub struct NoTables;
+/// A list of tables. Where no column links anywhere it is empty.
+#[derive(Clone, Copy)]
+pub struct Tables<'a> {
+    pub tables: &'a [Relation],
+}
 
-impl Relations for NoTables {
-    ghost tables = { λ _. [] };
+impl<'a> Relations for Tables<'a> {
+    ghost tables = { λ t. t.tables.now };
 
-    fn at(&self, _table: TableNumber) -> &Relation {
-        unreachable!()
+    fn at(&self, table: TableNumber) -> &Relation {
+        &self.tables[table.0]
     }
 }
 

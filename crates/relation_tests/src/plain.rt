@@ -6,7 +6,7 @@ ghost use Rattle.plain_tables.specs.declared.value.Value.{Value};
 ghost use Rattle.mm_relation.specs.declared.row.Cell.{Cell};
 ghost use Rattle.mm_relation.specs.Reading.{Keys, cell_value};
 
-use crate::beside::NoTables;
+use crate::beside::Tables;
 use crate::seen::{row_with, value_of};
 use crate::worked::{Wanted, Worked, nth_changed, nth_key};
 use mm_relation::{Cell, ColumnNumber, Relation, RowRefusal, TupleRef};
@@ -19,11 +19,12 @@ use std::process::Abort;
 /// A relation of a key, a size, a shade and a name.
 #[derive(Drop)]
 pub struct Plain {
+    others: Tables<'static>,
     pub relation: Relation,
 }
 
 impl Model for Plain {
-    ghost use Rattle.std.specs.Prelude.{◌≡◌, [], length};
+    ghost use Rattle.std.specs.Prelude.{◌≡◌, length};
     ghost use Rattle.mm_relation.specs.State.{RelationState, IsCurrent, linked_keys};
     ghost use Rattle.mm_relation.specs.contracts.relation.Relation.{the_row as relation_row};
 
@@ -33,7 +34,7 @@ impl Model for Plain {
 
     ghost view = { λ p. p.relation };
 
-    ghost invariant = { λ p. IsCurrent (linked_keys p.relation.targets []) p.relation × (length p.relation.targets ≡ 4) };
+    ghost invariant = { λ p. IsCurrent (linked_keys p.relation.targets p.others.tables.now) p.relation × (length p.relation.targets ≡ 4) };
 }
 
 fn column(alloc: Global, name: &str, kind: ColKind) -> Result<Column, NoMemory> {
@@ -120,14 +121,17 @@ impl Plain {
     pub fn new(alloc: Global) -> Result<Plain, NoMemory> {
         let columns = columns(alloc)?;
         let relation = Relation::new(alloc, Schema { columns })?;
-        Ok(Plain { relation })
+        Ok(Plain {
+            others: Tables { tables: &[] },
+            relation,
+        })
     }
 
     pub fn add_index(&mut self, column: usize, kind: IndexKind) -> Result<(), NoMemory>
         requires { column < 4 }
     {
         self.relation
-            .add_index(&NoTables, ColumnNumber(column), kind)
+            .add_index(&self.others, ColumnNumber(column), kind)
     }
 
     pub fn drop_index(&mut self, column: usize, kind: IndexKind) {
@@ -139,7 +143,7 @@ impl Plain {
             return Err(RowRefusal::NoMemory);
         };
         self.relation
-            .insert_row(&NoTables, Value::Int(row.key), cells)
+            .insert_row(&self.others, Value::Int(row.key), cells)
     }
 
     /// Takes a row in, and lets so many links name it.
@@ -157,7 +161,7 @@ impl Plain {
     /// Takes out the row with this key, which is there.
     pub fn remove(&mut self, rt: &impl Abort, key: i64) {
         let r = row_with(rt, &self.relation, key);
-        self.relation.remove_row(&NoTables, r);
+        self.relation.remove_row(&self.others, r);
     }
 
     /// Changes these rows, which are there.
@@ -170,7 +174,7 @@ impl Plain {
         let rs = rows_of(rt, alloc, &self.relation, wanted)?;
         let sets = sets_of(alloc, &nth_changed(0))?;
         self.relation
-            .change_rows(alloc, &NoTables, rs.as_slice(), sets.as_slice())
+            .change_rows(alloc, &self.others, rs.as_slice(), sets.as_slice())
     }
 
     /// So many links more name the row with this key, which is there.
@@ -194,6 +198,6 @@ impl Plain {
         requires { column < 4 }
     {
         let r = row_with(rt, &self.relation, key);
-        value_of(&self.relation, &NoTables, r, column)
+        value_of(&self.relation, &self.others, r, column)
     }
 }
