@@ -65,15 +65,18 @@ class Watch:
 
 
 def below(process):
-    """The processes below one."""
-    for listed in pathlib.Path(f"/proc/{process}/task").glob("*/children"):
-        try:
-            children = listed.read_text().split()
-        except OSError:
-            continue
-        for child in children:
-            yield child
-            yield from below(child)
+    """The processes below one, and none where it has ended meanwhile."""
+    for child in children_of(process):
+        yield child
+        yield from below(child)
+
+
+def children_of(process):
+    try:
+        listed = [*pathlib.Path(f"/proc/{process}/task").glob("*/children")]
+        return [child for thread in listed for child in thread.read_text().split()]
+    except OSError:
+        return []
 
 
 def of_process(process):
