@@ -116,7 +116,8 @@ class Runs(Copies):
         told = self.top / "told"
         path = self.put_toolchain(f"#!/bin/sh\necho $$ >>'{told}'; exec sleep 100\n")
         for number in (signal.SIGINT, signal.SIGTERM):
-            with subprocess.Popen([self.top / "run"], stderr=subprocess.DEVNULL, env={"PATH": path}, start_new_session=True) as running:
+            heeding = ["env", f"--default-signal={number.name.removeprefix('SIG')}", self.top / "run"]
+            with subprocess.Popen(heeding, stderr=subprocess.DEVNULL, env={"PATH": path}, start_new_session=True) as running:
                 while not told.is_file() and running.poll() is None:
                     time.sleep(0.02)
                 running.send_signal(number)

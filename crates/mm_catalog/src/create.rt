@@ -25,7 +25,7 @@ fn referred(column: &Column) -> Option<&Text>
 }
 
 // The number of the table that a column refers to.
-fn target(names: &IndexSet<String>, column: &Column) -> Option<usize>
+fn number_referred(names: &IndexSet<String>, column: &Column) -> Option<usize>
     ensures { result ≡ target_of (map string_bytes names.now.keys) column.now }
 {
     let name = referred(column)?;
@@ -39,7 +39,7 @@ fn aim(relation: &mut Relation, column: ColumnNumber, names: &IndexSet<String>)
     requires column { column.0 < length relation.old.schema.columns }
     ensures { relation.new ≡ with_leads relation.old column.0 (leads_at (map string_bytes names.now.keys) relation.old column.0) }
 {
-    let leads = target(names, &relation.schema().columns.as_slice()[column.0]);
+    let leads = number_referred(names, &relation.schema().columns.as_slice()[column.0]);
     if let Some(table) = leads {
         relation.set_target(column, TableNumber(table));
     }

@@ -4,7 +4,7 @@ use Rattle.std.specs.Option.{option_and_then}
 use Rattle.std.specs.Str.{bytes_eq}
 use Rattle.std.specs.String.{string_bytes}
 use Rattle.mm_catalog.proofs.Aimed.{key_found}
-use Rattle.mm_catalog.proofs.create.target.Goals as goal
+use Rattle.mm_catalog.proofs.create.number_referred.Goals as goal
 
 pub returns : goal.returns
 returns c =
