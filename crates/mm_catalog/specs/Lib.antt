@@ -4,3 +4,4 @@ pub mod Linked
 pub mod Consistent
 pub mod Changes
 pub mod Created
+pub mod Recounted

@@ -1,0 +1,34 @@
+-- Relations whose rows are counted anew as links come and go.
+use Rattle.std.specs.Prelude.{◌≡◌, ◌≢◌, ℕ, ◌<◌, List, Some, length, slice_get}
+use Rattle.std.specs.Option.{option_map}
+use Rattle.std.specs.FinMap as finite
+use Rattle.part_raw.specs.declared.tuple_ref.TupleRef.{TupleRef}
+use Rattle.mm_relation.specs.declared.row.Row.{Row}
+use Rattle.mm_relation.specs.Changes.{KeepsSchema, with_referrers}
+use Rattle.mm_relation.specs.Reading.{key_at}
+use Rattle.mm_relation.specs.State.{RelationState}
+
+-- the rows differ in their numbers of referrers at most, and nothing else differs
+pub record IsRecounted (old new : RelationState) : Type 0 where
+  pub rows : (r : TupleRef) → option_map (with_referrers 0) (finite.get new.rows r) ≡ option_map (with_referrers 0) (finite.get old.rows r)
+  pub same : new ≡ record old { rows = new.rows }
+
+-- as many relations, and each is the old one but for numbers of referrers
+pub record AreRecounted (old new : List RelationState) : Type 0 where
+  pub count : length new ≡ length old
+  pub each : (k : ℕ) (s t : RelationState) → slice_get old k ≡ Some s → slice_get new k ≡ Some t → IsRecounted s t
+
+-- each row has so many referrers
+abbrev pub HaveReferrers : List RelationState → (ℕ → TupleRef → ℕ) → Type 0
+HaveReferrers relations count =
+    (table : ℕ) (s : RelationState) (r : TupleRef) (row : Row) → slice_get relations table ≡ Some s → finite.get s.rows r ≡ Some row → row.referrers ≡ count table r
+
+-- The relation of a number is another one over the same columns, in which each row that has referrers keeps its key. All
+-- others are recounted at most.
+pub record IsRewritten (old new : List RelationState) (n : ℕ) (before after : RelationState) : Type 0 where
+  pub there : slice_get old n ≡ Some before
+  pub here : slice_get new n ≡ Some after
+  pub count : length new ≡ length old
+  pub others : (k : ℕ) (s t : RelationState) → k ≢ n → slice_get old k ≡ Some s → slice_get new k ≡ Some t → IsRecounted s t
+  pub keeps : KeepsSchema before after
+  pub keys : (r : TupleRef) (row : Row) → finite.get before.rows r ≡ Some row → 0 < row.referrers → key_at after.rows r ≡ key_at before.rows r
