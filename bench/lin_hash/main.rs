@@ -1,4 +1,9 @@
 //! Times the linear hash beside Rust's `HashMap`.
+
+#[path = "../random.rs"]
+mod random;
+
+use random::Random;
 use std::collections::HashMap;
 use std::hash::{BuildHasher, BuildHasherDefault, Hasher};
 use std::hint::black_box;
@@ -9,7 +14,7 @@ const SIZES: [(usize, usize); 3] = [(1_000, 2_000), (30_000, 100), (1_000_000, 7
 
 /// The long chains: entries, hashes, removals and rounds.
 const CHAINED: usize = 1_000_000;
-const CHAINS: u64 = 10;
+const CHAINS: usize = 10;
 const CHAINED_REMOVALS: usize = 100;
 const CHAINED_ROUNDS: usize = 3;
 
@@ -48,31 +53,6 @@ impl Hasher for Itself {
     }
 }
 
-/// Numbers that look random: xorshift from a fixed seed. None comes twice before all have come.
-struct Random(u64);
-
-impl Random {
-    fn next(&mut self) -> u64 {
-        self.0 ^= self.0 << 13;
-        self.0 ^= self.0 >> 7;
-        self.0 ^= self.0 << 17;
-        self.0
-    }
-
-    fn below(&mut self, limit: usize) -> usize {
-        ((u128::from(self.next()) * limit as u128) >> 64) as usize
-    }
-
-    /// The numbers below `count`, shuffled.
-    fn shuffled(&mut self, count: usize) -> Vec<u32> {
-        let mut numbers: Vec<u32> = (0..count as u32).collect();
-        for last in (1..count).rev() {
-            numbers.swap(last, self.below(last + 1));
-        }
-        numbers
-    }
-}
-
 /// The same work for all: the hash of each reference, and the orders of the phases.
 struct Work {
     hashes: Vec<u64>,
@@ -93,13 +73,13 @@ impl Work {
 
     fn distinct(count: usize) -> Work {
         let mut random = Random(0x9E37_79B9_7F4A_7C15);
-        let hashes = (0..count).map(|_| random.next()).collect();
+        let hashes = random.by_ref().take(count).collect();
         Work::new(random, hashes, count)
     }
 
     fn chained() -> Work {
         let mut random = Random(0x9E37_79B9_7F4A_7C15);
-        let few: Vec<u64> = (0..CHAINS).map(|_| random.next()).collect();
+        let few: Vec<u64> = random.by_ref().take(CHAINS).collect();
         let hashes = (0..CHAINED).map(|number| few[number % few.len()]).collect();
         Work::new(random, hashes, CHAINED_REMOVALS)
     }

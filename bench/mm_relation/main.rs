@@ -1,5 +1,10 @@
 //! Times the rows of one table beside a plain Rust program. With the words `WHO INDEXES COUNT` one of them runs once, at
 //! so many rows, for a profiler: `relation` or `plain`, and `none`, `tree`, `hash` or `both`.
+
+#[path = "../random.rs"]
+mod random;
+
+use random::Random;
 use std::collections::{BTreeMap, BTreeSet, HashMap};
 use std::time::Instant;
 
@@ -59,26 +64,7 @@ fn taken() -> usize {
     info.uordblks + info.hblkhd
 }
 
-/// Numbers that look random: xorshift from a fixed seed.
-struct Random(u64);
-
 impl Random {
-    fn below(&mut self, limit: usize) -> usize {
-        self.0 ^= self.0 << 13;
-        self.0 ^= self.0 >> 7;
-        self.0 ^= self.0 << 17;
-        ((u128::from(self.0) * limit as u128) >> 64) as usize
-    }
-
-    /// The numbers below `count`, shuffled.
-    fn shuffled(&mut self, count: usize) -> Vec<u32> {
-        let mut numbers: Vec<u32> = (0..count as u32).collect();
-        for last in (1..count).rev() {
-            numbers.swap(last, self.below(last + 1));
-        }
-        numbers
-    }
-
     /// A row whose number is shared with about one other, and whose text is mostly its own.
     fn line(&mut self, key: u32, count: usize) -> Line {
         Line {

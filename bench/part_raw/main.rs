@@ -1,6 +1,11 @@
 //! Times the partition store: rows of 64 bytes are put, read in random order, and sought by their keys. The words are the
 //! numbers of rows.
 
+#[path = "../random.rs"]
+mod random;
+
+use random::Random;
+
 const ROUNDS: usize = 9;
 
 /// What `part_raw_bench` answers: nanoseconds for each phase, and what it met.
@@ -16,27 +21,6 @@ struct Times {
 
 unsafe extern "C" {
     fn part_raw_bench(keys: *const u64, keys_len: usize, places: *const u32, places_len: usize, order: *const u32, order_len: usize, times: *mut Times) -> bool;
-}
-
-/// Numbers that look random: xorshift from a fixed seed.
-struct Random(u64);
-
-impl Random {
-    fn below(&mut self, limit: usize) -> usize {
-        self.0 ^= self.0 << 13;
-        self.0 ^= self.0 >> 7;
-        self.0 ^= self.0 << 17;
-        ((u128::from(self.0) * limit as u128) >> 64) as usize
-    }
-
-    /// The numbers below `count`, shuffled.
-    fn shuffled(&mut self, count: usize) -> Vec<u32> {
-        let mut numbers: Vec<u32> = (0..count as u32).collect();
-        for last in (1..count).rev() {
-            numbers.swap(last, self.below(last + 1));
-        }
-        numbers
-    }
 }
 
 /// The keys in the order in which they are put, where each stands there, and the order in which they are read and sought.

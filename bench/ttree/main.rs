@@ -1,5 +1,10 @@
 //! Times the T-tree beside Rust's `BTreeMap`. With the words `find WHO TIMES` it only
 //! seeks, that often, for a profiler.
+
+#[path = "../random.rs"]
+mod random;
+
+use random::Random;
 use std::cell::Cell;
 use std::cmp::Ordering;
 use std::collections::BTreeMap;
@@ -115,27 +120,6 @@ struct Work {
     inserted: Vec<u32>,
     sought: Vec<u32>,
     removed: Vec<u32>,
-}
-
-/// Numbers that look random: xorshift from a fixed seed.
-struct Random(u64);
-
-impl Random {
-    fn below(&mut self, limit: usize) -> usize {
-        self.0 ^= self.0 << 13;
-        self.0 ^= self.0 >> 7;
-        self.0 ^= self.0 << 17;
-        ((u128::from(self.0) * limit as u128) >> 64) as usize
-    }
-
-    /// The numbers below `count`, shuffled.
-    fn shuffled(&mut self, count: usize) -> Vec<u32> {
-        let mut numbers: Vec<u32> = (0..count as u32).collect();
-        for last in (1..count).rev() {
-            numbers.swap(last, self.below(last + 1));
-        }
-        numbers
-    }
 }
 
 impl Work {
