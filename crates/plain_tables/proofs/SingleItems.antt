@@ -94,7 +94,7 @@ pub value-one : IsOneItem value_symbols
 value-one line v w m n free free' made made' = literal-and line v w m n made made'
 
 -- the first word of a kind
-abbrev kind_word : ColKind → List ℕ
+abbrev pub kind_word : ColKind → List ℕ
 kind_word kind.Int = codes "int"
 kind_word kind.Text = codes "text"
 kind_word (kind.Ref table) = codes "ref"
