@@ -93,7 +93,7 @@ fn index(alloc: Global, line: &[u8]) -> Result<Command, ParseRefusal>
     })
 }
 
-// nothing
+// the end of the line
 fn tables(line: &[u8]) -> Result<Command, ParseRefusal>
     ensures command { IfOk result (λ c. Completes (codes "tables") line.now c) }
     ensures syntax { IsErrOf result ParseRefusal.Syntax → (c : Command) → Completes (codes "tables") line.now c → ⊥ }
