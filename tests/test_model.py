@@ -16,6 +16,7 @@ COLUMNS = ["id", "n", "m", "k"]
 SIGNS = ["=", "<>", "<", "<=", ">", ">="]
 NO_SIGNS = ["< >", "==", "=<", "!="]
 NOISE = ["", " ", "\t", "#", "# ok", "tables", "table", "select * from", "insert t", "é", "(", "'", "--1", "- 1", "1-2", "\r"]
+LATER = ["drop table t", "index t n tree", "drop index u n hash", "tables", "table t (id ref u)", "table w (id int, t ref t null)"]
 FRONT = b"table t (id int, n int, m text)\ntable u (id text, n int)\n"
 
 
@@ -31,7 +32,7 @@ def value(draw):
     luck = draw.random()
     if luck < 0.6:
         return integer(draw)
-    return draw.choice(NUMBERS) if luck < 0.65 else rarely(draw, TEXTS, LONG_TEXTS)
+    return draw.choice([*NUMBERS, "null"]) if luck < 0.65 else rarely(draw, TEXTS, LONG_TEXTS)
 
 
 def column(draw):
@@ -90,7 +91,7 @@ def command(draw):
         return f"delete {name}{conditions(draw)}"
     if kind == "select":
         return f"select {items(draw)} from {name}{conditions(draw)}"
-    return draw.choice(NOISE)
+    return rarely(draw, NOISE, LATER, 0.2)
 
 
 def line(draw):

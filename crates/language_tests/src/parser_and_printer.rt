@@ -1,7 +1,7 @@
 //! Worked lines, and calls that find memory and that don't.
 
 use mm_lang::{ParseRefusal, parse, print};
-use plain_tables::{ColKind, Column, Command, NoMemory, Schema, Sequence, Text};
+use plain_tables::NoMemory;
 use std::alloc::Global;
 use std::test::Fail;
 
@@ -10,7 +10,17 @@ const SPELLINGS: &str = "\
 table t (id int) => table t (id int)\n\
 table t(id int,name text) => table t (id int, name text)\n\
 \x20\ttable\tT_1(id int\t,table_ text ,_ int)   => table T_1 (id int, table_ text, _ int)\n\
+table emp(id int,dept ref dept null) => table emp (id int, dept ref dept null)\n\
+table t ( a ref b , c\tref\td\tnull,e text,f ref t) => table t (a ref b, c ref d null, e text, f ref t)\n\
+table t (a ref unull, ref_ ref null_ null) => table t (a ref unull, ref_ ref null_ null)\n\
+\x20drop  table\temp  => drop table emp\n\
+index emp dept tree => index emp dept tree\n\
+index\temp  trees hash\t => index emp trees hash\n\
+drop index emp dept hash => drop index emp dept hash\n\
+\tdrop index Tree hash_ tree => drop index Tree hash_ tree\n\
+\x20tables\t => tables\n\
 insert t (2) => insert t (2)\n\
+insert t(null,'null' , null) => insert t (null, 'null', null)\n\
 insert t(1,-2,  3 ) => insert t (1, -2, 3)\n\
 insert t (-9223372036854775808) => insert t (-9223372036854775808)\n\
 insert t (9223372036854775807) => insert t (9223372036854775807)\n\
@@ -31,6 +41,8 @@ select * from t where x>'a' => select * from t where x > 'a'\n\
 update t set a=1 => update t set a = 1\n\
 update t set a=-1 where t.b>='' => update t set a = -1 where t.b >= ''\n\
 update t set a = 'x',b=2 where t.a='y'and b>-1 => update t set a = 'x', b = 2 where t.a = 'y' and b > -1\n\
+update t set a=null,b=1 where c=null and d<>null => update t set a = null, b = 1 where c = null and d <> null\n\
+select * from t where a<null and b=null => select * from t where a < null and b = null\n\
 delete t => delete t\n\
 delete t where id = 3 => delete t where id = 3";
 
@@ -40,20 +52,6 @@ fn spelled(alloc: Global, line: &str) -> Result<String, ParseRefusal> {
     Ok(text?)
 }
 
-// table t (b ref u), which no line spells yet
-fn printed_reference(alloc: Global) -> Result<String, NoMemory> {
-    let kind = ColKind::Ref(Text::from_str(alloc, "u")?);
-    let name = Text::from_str(alloc, "b")?;
-    let columns = vec![in alloc; Column { name, kind }]?;
-    let command = Command::Table {
-        name: Text::from_str(alloc, "t")?,
-        schema: Schema {
-            columns: Sequence::from_vec(columns),
-        },
-    };
-    print(alloc, &command)
-}
-
 #[test]
 fn commands_are_read_and_printed(rt: HostRuntime) -> Result<(), Fail> {
     for row in SPELLINGS.split('\n') {
@@ -61,10 +59,6 @@ fn commands_are_read_and_printed(rt: HostRuntime) -> Result<(), Fail> {
         let text = spelled(rt.alloc(), line)?;
         assert_eq!(rt; text.as_str(), want, "at {line}");
     }
-    assert_eq!(rt;
-        printed_reference(rt.alloc())?.as_str(),
-        "table t (b ref u)"
-    );
     Ok(())
 }
 
@@ -78,6 +72,14 @@ fn parts(alloc: Global, line: &str) -> Result<String, NoMemory> {
 const PARTS: &str = "\
 table t (a int, b text) => Ok(Table { name: Text { text: \"t\" }, schema: Schema { columns: Sequence { items: [\
 Column { name: Text { text: \"a\" }, kind: Int }, Column { name: Text { text: \"b\" }, kind: Text }] } } })|\
+table t (a ref u, b ref t null) => Ok(Table { name: Text { text: \"t\" }, schema: Schema { columns: Sequence { items: [\
+Column { name: Text { text: \"a\" }, kind: Ref(Text { text: \"u\" }) }, \
+Column { name: Text { text: \"b\" }, kind: RefOrNull(Text { text: \"t\" }) }] } } })|\
+drop table t => Ok(DropTable { table: Text { text: \"t\" } })|\
+index t a tree => Ok(Index { table: Text { text: \"t\" }, column: Text { text: \"a\" }, kind: Tree })|\
+drop index t a hash => Ok(DropIndex { table: Text { text: \"t\" }, column: Text { text: \"a\" }, kind: Hash })|\
+tables => Ok(Tables)|\
+insert t (null) => Ok(Insert { table: Text { text: \"t\" }, values: Sequence { items: [Null] } })|\
 insert t (-1, 'it''s') => Ok(Insert { table: Text { text: \"t\" }, values: Sequence { items: [Int(-1), \
 Text(Text { text: \"it's\" })] } })|\
 update t set a = -1 where t.b >= '' => Ok(Update { table: Text { text: \"t\" }, settings: Sequence { items: [\
@@ -103,7 +105,9 @@ const MISSPELLINGS: &str = "\
 \x20\t|\
 #|\
 Tables|\
-tables|\
+tables t|\
+tables,|\
+tables 1|\
 table|\
 table t|\
 table t ()|\
@@ -111,7 +115,21 @@ table t (id int|\
 table t (id int,)|\
 table t (id int) x|\
 table t (id)|\
-table t (id ref u)|\
+table t (id ref)|\
+table t (id ref null)|\
+table t (id ref null null)|\
+table t (id ref u null null)|\
+table t (id ref u, null)|\
+table t (id ref u text)|\
+table t (id ref u.a)|\
+table t (id ref 'u')|\
+table t (id ref u 'null')|\
+table t (id ref u Null)|\
+table t (id Ref u)|\
+table t (id refu)|\
+table t (id null)|\
+table t (id int null)|\
+table t (ref ref u)|\
 table t (id 'int')|\
 table t (int int)|\
 table t (t.id int)|\
@@ -134,7 +152,12 @@ insert t (-)|\
 insert t (+1)|\
 insert t (1.0)|\
 insert t (a)|\
-insert t (null)|\
+insert t (Null)|\
+insert t (-null)|\
+insert t (null null)|\
+insert t (null 1)|\
+insert t (nullx)|\
+insert null (1)|\
 insert t (9223372036854775808)|\
 insert t (-9223372036854775809)|\
 insert t (18446744073709551617)|\
@@ -176,6 +199,9 @@ select * from t where a = 1, b = 2|\
 select * from t where 1 = a|\
 select * from t where a = b|\
 select * from t where a|\
+select * from t where null = a|\
+select * from t where a null|\
+select null from t|\
 select * from t and a = 1|\
 update t|\
 update t set|\
@@ -186,11 +212,46 @@ update t set t.a = 1|\
 update t set a = 1,|\
 update t set a = 1 and b = 2|\
 update set a = 1|\
+update t set null = 1|\
+update t set a = null null|\
 delete|\
 delete from t|\
 delete t t|\
 delete where a = 1|\
-drop table t|\
+drop|\
+drop t|\
+drop table|\
+drop table table|\
+drop table t u|\
+drop table t, u|\
+drop table t.a|\
+drop table 't'|\
+drop tables t|\
+drop tables|\
+droptable t|\
+Drop table t|\
+drop index|\
+drop index t|\
+drop index t a|\
+drop index t tree|\
+drop index t.a tree|\
+drop index t a b|\
+drop index t a tree hash|\
+drop index t (a) tree|\
+index|\
+index t|\
+index t a|\
+index t a int|\
+index t a Tree|\
+index t a 'tree'|\
+index t a treehash|\
+index t a tree x|\
+index t, a tree|\
+index t tree a|\
+index t a b tree|\
+index null a tree|\
+index table t a tree|\
+indext a tree|\
 insert t ('a\nb')";
 
 #[test]
@@ -203,14 +264,19 @@ fn parse_reads_the_parts_of_a_command(rt: HostRuntime) -> Result<(), Fail> {
     Ok(())
 }
 
-// A list that grows, and texts in settings and conditions.
-const LINE: &str =
-    "update t set a = 1, b = 2, c = 3, d = 4, e = 'it''s' where t.b = 'x' and c = 'y'";
+// A list that grows, and texts in settings and conditions; references; two names.
+const LINES: [&str; 3] = [
+    "update t set a = 1, b = 2, c = 3, d = 4, e = 'it''s' where t.b = 'x' and c = 'y'",
+    "table t (a int, b ref u null, c ref v)",
+    "drop index t a tree",
+];
 
 #[test]
 fn parse_and_print_under_refusal(rt: HostRuntime) {
-    match spelled(rt.alloc(), LINE) {
-        Ok(text) => assert_eq!(rt; text.as_str(), LINE),
-        Err(refusal) => assert_eq!(rt; refusal, ParseRefusal::NoMemory),
+    for line in LINES {
+        match spelled(rt.alloc(), line) {
+            Ok(text) => assert_eq!(rt; text.as_str(), line),
+            Err(refusal) => assert_eq!(rt; refusal, ParseRefusal::NoMemory),
+        }
     }
 }

@@ -9,19 +9,20 @@ use Rattle.std.proofs.lemmas.Str.{IsUtf8-from_ascii}
 use Rattle.std.proofs.lemmas.Str.Ascii.{IsAscii-nil, IsAscii-cons}
 use lib.Chars.{codes}
 use Rattle.plain_tables.specs.Names.{IsName, is_name, is_word, is_word_character, is_letter}
-use Rattle.plain_tables.specs.Spelling.{Symbol, Name, Kind, Literal, Sign, Operator, operator_text, IsSymbol, value_symbols, column_symbols, name_symbols, setting_symbols, condition_symbols}
+use Rattle.plain_tables.specs.Spelling.{Symbol, Name, Literal, Sign, Operator, operator_text, IsSymbol, value_symbols, kind_symbols, column_symbols, name_symbols, setting_symbols, condition_symbols}
 use Rattle.plain_tables.specs.Reading.{begins_run, lexeme, after_lexeme}
 use Rattle.plain_tables.specs.declared.value.Value.{Value}
 use Rattle.plain_tables.specs.declared.value.Value.TheVariants as value
 use Rattle.plain_tables.specs.declared.schema.ColKind.{ColKind}
+use Rattle.plain_tables.specs.declared.schema.ColKind.TheVariants as kind
 use Rattle.plain_tables.specs.declared.condition.Op.{Op}
 use Rattle.plain_tables.specs.declared.condition.Op.TheVariants as op
 use Rattle.plain_tables.specs.declared.condition.ColName.{ColName}
-use Rattle.plain_tables.proofs.Lexemes.{AllPass, IsRun, word-run, letter-word, integer-run, length-lexeme}
+use Rattle.plain_tables.proofs.Lexemes.{AllPass, IsRun, word-run, letter-word, symbol-run, integer-run, length-lexeme}
 use Rattle.plain_tables.proofs.Integers.{Literal-only}
 use Rattle.plain_tables.proofs.FirstWords.{different}
-use Rattle.plain_tables.proofs.SingleItems.{kind-one, operator-one, whole_name}
-use Rattle.mm_lang.specs.Parsing.{Reads, IsOfText, BeginsWith, BeginsWithNone}
+use Rattle.plain_tables.proofs.SingleItems.{kind_word, operator-one, whole_name}
+use Rattle.mm_lang.specs.Parsing.{Reads, IsOfText, EndsItem, BeginsWith, BeginsWithNone}
 use Rattle.mm_lang.proofs.Utf8.{of_text-after, literal-utf8}
 
 -- ---- comparisons
@@ -93,21 +94,23 @@ pub reads-of_text : (line : List ℕ) (symbols : List Symbol) (rest : List ℕ) 
 reads-of_text line [] rest of e = subst IsOfText e of
 reads-of_text line (x ∷ xs) rest of (is, reads) = reads-of_text (after_lexeme line) xs rest (of_text-after line of) reads
 
--- ---- words and signs that are no dot, and others
+-- ---- words and signs that end an item, and others
 
 pub not-word : (characters word other : List ℕ) → bytes_eq word other ≡ false → characters ≡ word → characters ≢ other
 not-word characters word other test e f = different word other test (sym e ∙ f)
 
-operator-test : (o : Op) → bytes_eq (operator_text o) (codes ".") ≡ false
-operator-test op.Eq = refl
-operator-test op.Ne = refl
-operator-test op.Lt = refl
-operator-test op.Le = refl
-operator-test op.Gt = refl
-operator-test op.Ge = refl
+pub word-ends_item : (characters word : List ℕ) → bytes_eq word (codes ".") ≡ false → bytes_eq word (codes "null") ≡ false
+    → characters ≡ word → EndsItem characters
+word-ends_item characters word no_dot no_null e =
+    (not-word characters word (codes ".") no_dot e, not-word characters word (codes "null") no_null e)
 
-operator-no_dot : (o : Op) (characters : List ℕ) → characters ≡ operator_text o → characters ≢ codes "."
-operator-no_dot o characters e = not-word characters (operator_text o) (codes ".") (operator-test o) e
+operator-ends_item : (o : Op) (characters : List ℕ) → characters ≡ operator_text o → EndsItem characters
+operator-ends_item op.Eq characters e = word-ends_item characters (operator_text op.Eq) refl refl e
+operator-ends_item op.Ne characters e = word-ends_item characters (operator_text op.Ne) refl refl e
+operator-ends_item op.Lt characters e = word-ends_item characters (operator_text op.Lt) refl refl e
+operator-ends_item op.Le characters e = word-ends_item characters (operator_text op.Le) refl refl e
+operator-ends_item op.Gt characters e = word-ends_item characters (operator_text op.Gt) refl refl e
+operator-ends_item op.Ge characters e = word-ends_item characters (operator_text op.Ge) refl refl e
 
 -- ---- values
 
@@ -122,39 +125,129 @@ pub begins-no_value : (line : List ℕ) → (IsOfText line → (v : Value) → I
     → BeginsWithNone value_symbols line
 begins-no_value line not = record { none = λ of y other reads free. not of y reads.0 }
 
+-- ---- kinds of columns
+
+kind-first : (line : List ℕ) (k : ColKind) (rest : List ℕ) → Reads line (kind_symbols k) rest → lexeme line ≡ kind_word k
+kind-first line kind.Int rest reads = reads.0
+kind-first line kind.Text rest reads = reads.0
+kind-first line (kind.Ref t) rest reads = reads.0
+kind-first line (kind.RefOrNull t) rest reads = reads.0
+
+-- a line that begins with a kind's first word begins with no kind of another
+other-kind : (line word : List ℕ) (k : ColKind) (rest : List ℕ) → lexeme line ≡ word → bytes_eq word (kind_word k) ≡ false
+    → Reads line (kind_symbols k) rest → ⊥
+other-kind line word k rest e test reads = different word (kind_word k) test (sym e ∙ kind-first line k rest reads)
+
+pub begins-int : (line rest : List ℕ) → lexeme line ≡ codes "int" → rest ≡ after_lexeme line → BeginsWith kind_symbols line kind.Int rest
+begins-int line rest e f = record { found = (e, sym f); only = λ y other reads free. int-only line rest e f y other reads }
+  where
+    int-only : (line rest : List ℕ) → lexeme line ≡ codes "int" → rest ≡ after_lexeme line → (k : ColKind) (other : List ℕ)
+        → Reads line (kind_symbols k) other → (k ≡ kind.Int) × (other ≡ rest)
+    int-only line rest e f kind.Int other reads = (refl, sym reads.1 ∙ sym f)
+    int-only line rest e f k other reads = absurd (other-kind line (codes "int") k other e refl reads)
+
+pub begins-text : (line rest : List ℕ) → lexeme line ≡ codes "text" → rest ≡ after_lexeme line → BeginsWith kind_symbols line kind.Text rest
+begins-text line rest e f = record { found = (e, sym f); only = λ y other reads free. text-only line rest e f y other reads }
+  where
+    text-only : (line rest : List ℕ) → lexeme line ≡ codes "text" → rest ≡ after_lexeme line → (k : ColKind) (other : List ℕ)
+        → Reads line (kind_symbols k) other → (k ≡ kind.Text) × (other ≡ rest)
+    text-only line rest e f kind.Text other reads = (refl, sym reads.1 ∙ sym f)
+    text-only line rest e f k other reads = absurd (other-kind line (codes "text") k other e refl reads)
+
+-- The line is a `ref`, the name of a table, and what stands behind it.
+pub record IsReference (line table rest : List ℕ) : Type 0 where
+  pub begins : lexeme line ≡ codes "ref"
+  pub is : IsName (lexeme (after_lexeme line))
+  pub named : table ≡ lexeme (after_lexeme line)
+  pub behind : rest ≡ after_lexeme (after_lexeme line)
+
+reference-only : (line table rest : List ℕ) → IsReference line table rest → lexeme rest ≢ codes "null" → (k : ColKind) (other : List ℕ)
+    → Reads line (kind_symbols k) other → (k ≡ kind.Ref table) × (other ≡ rest)
+reference-only line table rest is no_null (kind.Ref t) other reads =
+    (ap kind.Ref (sym reads.1.0.0 ∙ sym is.named), sym reads.1.1 ∙ sym is.behind)
+reference-only line table rest is no_null (kind.RefOrNull t) other reads = absurd (no_null (ap lexeme is.behind ∙ reads.1.1.0))
+reference-only line table rest is no_null k other reads = absurd (other-kind line (codes "ref") k other is.begins refl reads)
+
+pub begins-reference : (line table rest : List ℕ) → IsReference line table rest → lexeme rest ≢ codes "null"
+    → BeginsWith kind_symbols line (kind.Ref table) rest
+begins-reference line table rest is no_null = record {
+  found = (is.begins, ((sym is.named, subst IsName (sym is.named) is.is), sym is.behind));
+  only = λ y other reads free. reference-only line table rest is no_null y other reads;
+}
+
+or_null-only : (line table rest behind : List ℕ) → IsReference line table rest → lexeme rest ≡ codes "null" → behind ≡ after_lexeme rest
+    → (k : ColKind) (other : List ℕ) → Reads line (kind_symbols k) other → EndsItem (lexeme other)
+    → (k ≡ kind.RefOrNull table) × (other ≡ behind)
+or_null-only line table rest behind is null f (kind.Ref t) other reads ends =
+    absurd (ends.1 (ap lexeme (sym reads.1.1 ∙ sym is.behind) ∙ null))
+or_null-only line table rest behind is null f (kind.RefOrNull t) other reads ends =
+    (ap kind.RefOrNull (sym reads.1.0.0 ∙ sym is.named), sym reads.1.1.1 ∙ (ap after_lexeme (sym is.behind) ∙ sym f))
+or_null-only line table rest behind is null f k other reads ends = absurd (other-kind line (codes "ref") k other is.begins refl reads)
+
+pub begins-reference_or_null : (line table rest behind : List ℕ) → IsReference line table rest → lexeme rest ≡ codes "null"
+    → behind ≡ after_lexeme rest → BeginsWith kind_symbols line (kind.RefOrNull table) behind
+begins-reference_or_null line table rest behind is null f = record {
+  found = (
+    is.begins,
+    ((sym is.named, subst IsName (sym is.named) is.is), (ap lexeme (sym is.behind) ∙ null, ap after_lexeme (sym is.behind) ∙ sym f)),
+  );
+  only = λ y other reads free. or_null-only line table rest behind is null f y other reads free;
+}
+
+no-kind : (line : List ℕ) → lexeme line ≢ codes "int" → lexeme line ≢ codes "text" → lexeme line ≢ codes "ref" → (k : ColKind) (other : List ℕ)
+    → Reads line (kind_symbols k) other → ⊥
+no-kind line no_int no_text no_ref kind.Int other reads = no_int reads.0
+no-kind line no_int no_text no_ref kind.Text other reads = no_text reads.0
+no-kind line no_int no_text no_ref (kind.Ref t) other reads = no_ref reads.0
+no-kind line no_int no_text no_ref (kind.RefOrNull t) other reads = no_ref reads.0
+
+pub begins-no_kind : (line : List ℕ) → lexeme line ≢ codes "int" → lexeme line ≢ codes "text" → lexeme line ≢ codes "ref"
+    → BeginsWithNone kind_symbols line
+begins-no_kind line no_int no_text no_ref = record { none = λ of y other reads free. no-kind line no_int no_text no_ref y other reads }
+
+no-referred : (line : List ℕ) → lexeme line ≢ codes "int" → lexeme line ≢ codes "text" → (IsName (lexeme (after_lexeme line)) → ⊥)
+    → (k : ColKind) (other : List ℕ) → Reads line (kind_symbols k) other → ⊥
+no-referred line no_int no_text not kind.Int other reads = no_int reads.0
+no-referred line no_int no_text not kind.Text other reads = no_text reads.0
+no-referred line no_int no_text not (kind.Ref t) other reads = no-name (after_lexeme line) t not reads.1.0
+no-referred line no_int no_text not (kind.RefOrNull t) other reads = no-name (after_lexeme line) t not reads.1.0
+
+pub begins-no_referred : (line : List ℕ) → lexeme line ≢ codes "int" → lexeme line ≢ codes "text"
+    → (IsName (lexeme (after_lexeme line)) → ⊥) → BeginsWithNone kind_symbols line
+begins-no_referred line no_int no_text not = record { none = λ of y other reads free. no-referred line no_int no_text not y other reads }
+
 -- ---- columns
 
-pub begins-column : (line : List ℕ) (name : List ℕ) (kind : ColKind) (rest : List ℕ) → IsName (lexeme line) → name ≡ lexeme line
-    → IsSymbol (lexeme (after_lexeme line)) (Kind kind) → rest ≡ after_lexeme (after_lexeme line)
-    → BeginsWith column_symbols line (record { name = name; kind = kind }) rest
-begins-column line name kind rest is e k f = record {
-  found = ((sym e, subst IsName (sym e) is), (k, sym f));
+pub begins-column : (line name : List ℕ) (k : ColKind) (rest : List ℕ) → IsName (lexeme line) → name ≡ lexeme line
+    → BeginsWith kind_symbols (after_lexeme line) k rest → BeginsWith column_symbols line (record { name = name; kind = k }) rest
+begins-column line name k rest is e begins = record {
+  found = ((sym e, subst IsName (sym e) is), begins.found);
   only = λ y other reads free.
       let same : y.name ≡ name = sym reads.0.0 ∙ sym e in
-      let kinds : y.kind ≡ kind = kind-one (lexeme (after_lexeme line)) y.kind kind reads.1.0 k in
-      ((λ i. record { name = same i; kind = kinds i }), sym reads.1.1 ∙ sym f);
+      let kinds : (y.kind ≡ k) × (other ≡ rest) = begins.only y.kind other reads.1 free in
+      ((λ i. record { name = same i; kind = kinds.0 i }), kinds.1);
 }
 
 pub begins-no_column : (line : List ℕ) → (IsName (lexeme line) → ⊥) → BeginsWithNone column_symbols line
 begins-no_column line not = record { none = λ of y other reads free. no-name line y.name not reads.0 }
 
-pub begins-no_kind : (line : List ℕ) → ((k : ColKind) → IsSymbol (lexeme (after_lexeme line)) (Kind k) → ⊥) → BeginsWithNone column_symbols line
-begins-no_kind line not = record { none = λ of y other reads free. not y.kind reads.1.0 }
+pub begins-no_column_kind : (line : List ℕ) → BeginsWithNone kind_symbols (after_lexeme line) → BeginsWithNone column_symbols line
+begins-no_column_kind line not = record { none = λ of y other reads free. not.none (of_text-after line of) y.kind other reads.1 free }
 
 -- ---- names of columns
 
 bare-only : (line name rest : List ℕ) → name ≡ lexeme line → rest ≡ after_lexeme line → lexeme rest ≢ codes "."
-    → (table : Option (List ℕ)) (column other : List ℕ) → Reads line (whole_name table column) other → lexeme other ≢ codes "."
+    → (table : Option (List ℕ)) (column other : List ℕ) → Reads line (whole_name table column) other
     → (table ≡ None) × (column ≡ name) × (other ≡ rest)
-bare-only line name rest e f free None column other reads not = (refl, sym reads.0.0 ∙ sym e, sym reads.1 ∙ sym f)
-bare-only line name rest e f free (Some t) column other reads not = absurd (free (ap lexeme f ∙ reads.1.0))
+bare-only line name rest e f free None column other reads = (refl, sym reads.0.0 ∙ sym e, sym reads.1 ∙ sym f)
+bare-only line name rest e f free (Some t) column other reads = absurd (free (ap lexeme f ∙ reads.1.0))
 
 pub begins-bare : (line name rest : List ℕ) → IsName (lexeme line) → name ≡ lexeme line → rest ≡ after_lexeme line
     → lexeme rest ≢ codes "." → BeginsWith name_symbols line (record { table = None; column = name }) rest
 begins-bare line name rest is e f free = record {
   found = ((sym e, subst IsName (sym e) is), sym f);
   only = λ y other reads not.
-      let parts : (y.table ≡ None) × (y.column ≡ name) × (other ≡ rest) = bare-only line name rest e f free y.table y.column other reads not in
+      let parts : (y.table ≡ None) × (y.column ≡ name) × (other ≡ rest) = bare-only line name rest e f free y.table y.column other reads in
       ((λ i. record { table = parts.0 i; column = parts.1 i }), parts.2);
 }
 
@@ -174,7 +267,7 @@ begins-dotted line table column rest is e dot is' f g = record {
   found = ((sym e, subst IsName (sym e) is), (dot, ((sym f, subst IsName (sym f) is'), sym g)));
   only = λ y other reads not.
       let parts : (y.table ≡ Some table) × (y.column ≡ column) × (other ≡ rest) =
-      dotted-only line table column rest e dot f g y.table y.column other reads not in
+      dotted-only line table column rest e dot f g y.table y.column other reads not.0 in
       ((λ i. record { table = parts.0 i; column = parts.1 i }), parts.2);
 }
 
@@ -193,7 +286,7 @@ no-second line dot not (Some t) c other reads free = no-name (after_lexeme (afte
 pub begins-no_column_of_table : (line : List ℕ) → lexeme (after_lexeme line) ≡ codes "." → (IsName (lexeme (after_lexeme (after_lexeme line))) → ⊥)
     → BeginsWithNone name_symbols line
 begins-no_column_of_table line dot not = record {
-  none = λ of y other reads free. no-second line dot not y.table y.column other reads free;
+  none = λ of y other reads free. no-second line dot not y.table y.column other reads free.0;
 }
 
 -- ---- settings
@@ -234,7 +327,7 @@ begins-condition line mid rest column o v named e value = record {
   only = λ y other reads free.
       let parts : (m : List ℕ) × Reads line (name_symbols y.column) m × Reads m (compared y.op y.value) other =
       reads-split line (name_symbols y.column) (compared y.op y.value) other reads in
-      let names : (y.column ≡ column) × (parts.0 ≡ mid) = named.only y.column parts.0 parts.1 (operator-no_dot y.op (lexeme parts.0) parts.2.0) in
+      let names : (y.column ≡ column) × (parts.0 ≡ mid) = named.only y.column parts.0 parts.1 (operator-ends_item y.op (lexeme parts.0) parts.2.0) in
       let ops : y.op ≡ o = operator-one y.op o (sym parts.2.0 ∙ (ap lexeme names.1 ∙ e)) in
       let tail : Reads (after_lexeme mid) (value_symbols y.value) other =
       subst (λ l. Reads (after_lexeme l) (value_symbols y.value) other) names.1 parts.2.1 in
@@ -247,7 +340,7 @@ begins-no_condition line not = record {
   none = λ of y other reads free.
       let parts : (m : List ℕ) × Reads line (name_symbols y.column) m × Reads m (compared y.op y.value) other =
       reads-split line (name_symbols y.column) (compared y.op y.value) other reads in
-      not.none of y.column parts.0 parts.1 (operator-no_dot y.op (lexeme parts.0) parts.2.0);
+      not.none of y.column parts.0 parts.1 (operator-ends_item y.op (lexeme parts.0) parts.2.0);
 }
 
 -- what stands behind the column of a condition
@@ -256,7 +349,7 @@ behind-column : (line mid : List ℕ) (column : ColName) → BeginsWith name_sym
 behind-column line mid column named y o v other reads =
     let parts : (m : List ℕ) × Reads line (name_symbols y) m × Reads m (compared o v) other =
     reads-split line (name_symbols y) (compared o v) other reads in
-    let names : (y ≡ column) × (parts.0 ≡ mid) = named.only y parts.0 parts.1 (operator-no_dot o (lexeme parts.0) parts.2.0) in
+    let names : (y ≡ column) × (parts.0 ≡ mid) = named.only y parts.0 parts.1 (operator-ends_item o (lexeme parts.0) parts.2.0) in
     subst (λ l. Reads l (compared o v) other) names.1 parts.2
 
 pub begins-no_operator : (line mid : List ℕ) (column : ColName) → BeginsWith name_symbols line column mid
@@ -275,7 +368,8 @@ begins-no_compared line mid column named not = record {
 
 -- Where the characters of the first symbol spell no value, if they are UTF-8, it is none.
 value-utf8 : (line : List ℕ) (v : Value) → IsOfText line → IsSymbol (lexeme line) (Literal v) → IsUtf8 (lexeme line)
-value-utf8 line value.Null of is = elim is [ ]
+value-utf8 line value.Null of is =
+    IsUtf8-from_ascii (lexeme line) (run-is_ascii (lexeme line) (symbol-run (lexeme line) (Literal value.Null) tt tt is))
 value-utf8 line (value.Int z) of is = IsUtf8-from_ascii (lexeme line) (run-is_ascii (lexeme line) (integer-run (lexeme line) z is))
 value-utf8 line (value.Text text) of is = literal-utf8 line text of is
 

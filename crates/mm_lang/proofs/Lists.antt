@@ -1,9 +1,8 @@
 -- Lists: how far a list has been read from the front of a line.
 use Rattle.std.proofs.Common.{◌≡◌, ◌≢◌, ℕ, ◌<◌, List, [], ◌∷◌, ◌++◌, length, map, refl, sym, ◌∙◌, ap, arith, append_assoc, subst}
-use lib.Chars.{codes}
 use Rattle.plain_tables.specs.Spelling.{Symbol, separated_by, IsSymbol}
 use Rattle.plain_tables.specs.Reading.{lexeme, after_lexeme}
-use Rattle.mm_lang.specs.Parsing.{Reads, ReadsList, IsOfText, BeginsWith, BeginsWithNone, BeginsWithList, BeginsWithNoList}
+use Rattle.mm_lang.specs.Parsing.{Reads, ReadsList, IsOfText, EndsItem, BeginsWith, BeginsWithNone, BeginsWithList, BeginsWithNoList}
 use Rattle.mm_lang.proofs.Fronts.{reads-append, reads-split, reads-of_text}
 use Rattle.mm_lang.proofs.Utf8.{of_text-after}
 
@@ -54,7 +53,7 @@ spelled-list symbols between word is line (x ∷ y ∷ xs) rest some reads =
 pub record HasRead {X : Type 0} (symbols : X → List Symbol) (between line : List ℕ) (items : List X) (rest : List ℕ) : Type 0 where
   pub of_text : IsOfText line → IsOfText rest
   pub found : (zs : List X) (other : List ℕ) → ReadsList symbols between rest zs other → ReadsList symbols between line (items ++ zs) other
-  pub only : (ys : List X) (other : List ℕ) → ReadsList symbols between line ys other → lexeme other ≢ codes "." → lexeme other ≢ between
+  pub only : (ys : List X) (other : List ℕ) → ReadsList symbols between line ys other → EndsItem (lexeme other) → lexeme other ≢ between
       → (zs : List X) × (ys ≡ items ++ zs) × ReadsList symbols between rest zs other
 
 pub has_read-none : {X : Type 0} (symbols : X → List Symbol) (between line : List ℕ) → HasRead symbols between line [] line
@@ -70,15 +69,15 @@ data Tail {X : Type 0} (symbols : X → List Symbol) (between behind : List ℕ)
   GoesOn : (ws : List X) → zs ≡ x ∷ ws → lexeme behind ≡ between → ReadsList symbols between (after_lexeme behind) ws other
       → Tail symbols between behind x zs other
 
-first-item : {X : Type 0} (symbols : X → List Symbol) (between rest : List ℕ) (x : X) (behind : List ℕ) → between ≢ codes "."
+first-item : {X : Type 0} (symbols : X → List Symbol) (between rest : List ℕ) (x : X) (behind : List ℕ) → EndsItem between
     → BeginsWith symbols rest x behind → (zs : List X) (other : List ℕ) → ReadsList symbols between rest zs other
-    → lexeme other ≢ codes "." → Tail symbols between behind x zs other
-first-item symbols between rest x behind dot begins [] other reads free = elim reads [ ]
-first-item symbols between rest x behind dot begins (z ∷ []) other reads free =
+    → EndsItem (lexeme other) → Tail symbols between behind x zs other
+first-item symbols between rest x behind ends begins [] other reads free = elim reads [ ]
+first-item symbols between rest x behind ends begins (z ∷ []) other reads free =
     let parts : (z ≡ x) × (other ≡ behind) = begins.only z other reads free in
     Ends (ap (λ y. y ∷ []) parts.0) parts.1
-first-item symbols between rest x behind dot begins (z ∷ w ∷ ws) other (mid, first, e, others) free =
-    let parts : (z ≡ x) × (mid ≡ behind) = begins.only z mid first (λ is. dot (sym e ∙ is)) in
+first-item symbols between rest x behind ends begins (z ∷ w ∷ ws) other (mid, first, e, others) free =
+    let parts : (z ≡ x) × (mid ≡ behind) = begins.only z mid first (subst EndsItem (sym e) ends) in
     GoesOn (w ∷ ws) (ap (λ y. y ∷ w ∷ ws) parts.0) (ap lexeme (sym parts.1) ∙ e)
     (subst (λ l. ReadsList symbols between (after_lexeme l) (w ∷ ws) other) parts.1 others)
 
@@ -104,22 +103,22 @@ further-tail symbols between items x behind sep ys zs other e end (Ends f same) 
 further-tail symbols between items x behind sep ys zs other e end (GoesOn ws f g others) = (ws, one_later items x ys zs ws e f, others)
 
 further-only : {X : Type 0} (symbols : X → List Symbol) (between : List ℕ) (items : List X) (rest : List ℕ) (x : X) (behind : List ℕ)
-    → between ≢ codes "." → BeginsWith symbols rest x behind → lexeme behind ≡ between → (ys : List X) (other : List ℕ)
-    → lexeme other ≢ codes "." → lexeme other ≢ between → Others symbols between items rest ys other
+    → EndsItem between → BeginsWith symbols rest x behind → lexeme behind ≡ between → (ys : List X) (other : List ℕ)
+    → EndsItem (lexeme other) → lexeme other ≢ between → Others symbols between items rest ys other
     → Others symbols between (items ++ x ∷ []) (after_lexeme behind) ys other
-further-only symbols between items rest x behind dot begins sep ys other free end (zs, e, reads) =
-    further-tail symbols between items x behind sep ys zs other e end (first-item symbols between rest x behind dot begins zs other reads free)
+further-only symbols between items rest x behind ends begins sep ys other free end (zs, e, reads) =
+    further-tail symbols between items x behind sep ys zs other e end (first-item symbols between rest x behind ends begins zs other reads free)
 
 pub has_read-further : {X : Type 0} (symbols : X → List Symbol) (between line : List ℕ) (items : List X) (rest : List ℕ) (x : X) (behind : List ℕ)
-    → between ≢ codes "." → HasRead symbols between line items rest → BeginsWith symbols rest x behind → lexeme behind ≡ between
+    → EndsItem between → HasRead symbols between line items rest → BeginsWith symbols rest x behind → lexeme behind ≡ between
     → HasRead symbols between line (items ++ x ∷ []) (after_lexeme behind)
-has_read-further symbols between line items rest x behind dot read begins sep = record {
+has_read-further symbols between line items rest x behind ends read begins sep = record {
   of_text = λ of. of_text-after behind (reads-of_text rest (symbols x) behind (read.of_text of) begins.found);
   found = λ zs other reads.
       subst (λ l. ReadsList symbols between line l other) (sym (append_assoc items (x ∷ []) zs))
       (read.found (x ∷ zs) other (put-first symbols between rest x behind begins.found sep zs other reads));
   only = λ ys other reads free end.
-      further-only symbols between items rest x behind dot begins sep ys other free end (read.only ys other reads free end);
+      further-only symbols between items rest x behind ends begins sep ys other free end (read.only ys other reads free end);
 }
 
 -- ---- the last item
@@ -131,32 +130,32 @@ last-tail symbols between items x behind end ys zs other e (Ends f same) = (e �
 last-tail symbols between items x behind end ys zs other e (GoesOn ws f g others) = absurd (end g)
 
 last-only : {X : Type 0} (symbols : X → List Symbol) (between : List ℕ) (items : List X) (rest : List ℕ) (x : X) (behind : List ℕ)
-    → between ≢ codes "." → BeginsWith symbols rest x behind → lexeme behind ≢ between → (ys : List X) (other : List ℕ)
-    → lexeme other ≢ codes "." → Others symbols between items rest ys other → (ys ≡ items ++ x ∷ []) × (other ≡ behind)
-last-only symbols between items rest x behind dot begins end ys other free (zs, e, reads) =
-    last-tail symbols between items x behind end ys zs other e (first-item symbols between rest x behind dot begins zs other reads free)
+    → EndsItem between → BeginsWith symbols rest x behind → lexeme behind ≢ between → (ys : List X) (other : List ℕ)
+    → EndsItem (lexeme other) → Others symbols between items rest ys other → (ys ≡ items ++ x ∷ []) × (other ≡ behind)
+last-only symbols between items rest x behind ends begins end ys other free (zs, e, reads) =
+    last-tail symbols between items x behind end ys zs other e (first-item symbols between rest x behind ends begins zs other reads free)
 
 pub has_read-last : {X : Type 0} (symbols : X → List Symbol) (between line : List ℕ) (items : List X) (rest : List ℕ) (x : X) (behind : List ℕ)
-    → between ≢ codes "." → HasRead symbols between line items rest → BeginsWith symbols rest x behind → lexeme behind ≢ between
+    → EndsItem between → HasRead symbols between line items rest → BeginsWith symbols rest x behind → lexeme behind ≢ between
     → BeginsWithList symbols between line (items ++ x ∷ []) behind
-has_read-last symbols between line items rest x behind dot read begins end = record {
+has_read-last symbols between line items rest x behind ends read begins end = record {
   found = read.found (x ∷ []) behind begins.found;
   only = λ ys other reads free last.
-      last-only symbols between items rest x behind dot begins end ys other free (read.only ys other reads free last);
+      last-only symbols between items rest x behind ends begins end ys other free (read.only ys other reads free last);
 }
 
 -- ---- no item
 
-no-first : {X : Type 0} (symbols : X → List Symbol) (between rest : List ℕ) → between ≢ codes "." → IsOfText rest → BeginsWithNone symbols rest
-    → (zs : List X) (other : List ℕ) → lexeme other ≢ codes "." → ReadsList symbols between rest zs other → ⊥
-no-first symbols between rest dot of not [] other free reads = reads
-no-first symbols between rest dot of not (z ∷ []) other free reads = not.none of z other reads free
-no-first symbols between rest dot of not (z ∷ w ∷ ws) other free (mid, first, e, others) = not.none of z mid first (λ is. dot (sym e ∙ is))
+no-first : {X : Type 0} (symbols : X → List Symbol) (between rest : List ℕ) → EndsItem between → IsOfText rest → BeginsWithNone symbols rest
+    → (zs : List X) (other : List ℕ) → EndsItem (lexeme other) → ReadsList symbols between rest zs other → ⊥
+no-first symbols between rest ends of not [] other free reads = reads
+no-first symbols between rest ends of not (z ∷ []) other free reads = not.none of z other reads free
+no-first symbols between rest ends of not (z ∷ w ∷ ws) other free (mid, first, e, others) = not.none of z mid first (subst EndsItem (sym e) ends)
 
-pub has_read-no_item : {X : Type 0} (symbols : X → List Symbol) (between line : List ℕ) (items : List X) (rest : List ℕ) → between ≢ codes "."
+pub has_read-no_item : {X : Type 0} (symbols : X → List Symbol) (between line : List ℕ) (items : List X) (rest : List ℕ) → EndsItem between
     → HasRead symbols between line items rest → BeginsWithNone symbols rest → BeginsWithNoList symbols between line
-has_read-no_item symbols between line items rest dot read not = record {
+has_read-no_item symbols between line items rest ends read not = record {
   none = λ of ys other reads free end.
       let others : Others symbols between items rest ys other = read.only ys other reads free end in
-      no-first symbols between rest dot (read.of_text of) not others.0 other free others.2;
+      no-first symbols between rest ends (read.of_text of) not others.0 other free others.2;
 }

@@ -3,21 +3,22 @@ use Rattle.std.proofs.Common.{◌≡◌, ◌≢◌, ℕ, ◌<◌, List, [], ◌�
 use Rattle.std.specs.Str.{bytes_eq}
 use lib.Chars.{codes}
 use Rattle.plain_tables.specs.Names.{IsName}
-use Rattle.plain_tables.specs.Spelling.{Symbol, Keyword, Name, Sign, Open, Close, Comma, separated, column_symbols, value_symbols, name_symbols, setting_symbols, condition_symbols, items_symbols, where_symbols, NamesSomething}
+use Rattle.plain_tables.specs.Spelling.{Symbol, Keyword, Name, Sign, Open, Close, Comma, separated, column_symbols, index_word, index_symbols, value_symbols, name_symbols, setting_symbols, condition_symbols, items_symbols, where_symbols, NamesSomething}
 use Rattle.plain_tables.specs.Reading.{lexeme, after_lexeme}
 use Rattle.plain_tables.specs.declared.value.Value.{Value}
 use Rattle.plain_tables.specs.declared.schema.Column.{Column}
 use Rattle.plain_tables.specs.declared.schema.Schema.{Schema}
+use Rattle.plain_tables.specs.declared.schema.IndexKind.{IndexKind}
 use Rattle.plain_tables.specs.declared.condition.ColName.{ColName}
 use Rattle.plain_tables.specs.declared.condition.Cond.{Cond}
 use Rattle.plain_tables.specs.declared.command.Setting.{Setting}
 use Rattle.plain_tables.specs.declared.command.Items.{Items}
 use Rattle.plain_tables.specs.declared.command.Items.TheVariants as items
 use Rattle.plain_tables.specs.declared.command.Command.{Command}
-use Rattle.plain_tables.specs.declared.command.Command.TheVariants.{Table, Insert, Update, Delete, Select}
+use Rattle.plain_tables.specs.declared.command.Command.TheVariants.{Table, DropTable, Index, DropIndex, Insert, Update, Delete, Select, Tables}
 use Rattle.plain_tables.proofs.FirstWords.{different, first_word, behind_word, split-word}
-use Rattle.mm_lang.specs.Parsing.{Reads, IsWhole, ReadsList, IsOfText, BeginsWithList, BeginsWithNoList, NameSomething, BeginsWithItems, BeginsWithNoItems, IsNameAndList, IsWhere, Completes}
-use Rattle.mm_lang.proofs.Fronts.{reads-append, reads-split, not-word, no-first}
+use Rattle.mm_lang.specs.Parsing.{Reads, IsWhole, ReadsList, IsOfText, EndsItem, BeginsWithList, BeginsWithNoList, NameSomething, BeginsWithItems, BeginsWithNoItems, IsNameAndList, IsWhere, Completes}
+use Rattle.mm_lang.proofs.Fronts.{no-name, reads-append, reads-split, not-word, word-ends_item, no-first}
 use Rattle.mm_lang.proofs.Lists.{list-some, list-first, list-spelled, spelled-list}
 use Rattle.mm_lang.proofs.Utf8.{of_text-after}
 
@@ -53,7 +54,7 @@ no-conditions line front word f not of conditions is =
     where-behind line conditions is word in
     not.none (subst IsOfText (sym f) (of_text-after line of)) conditions parts.0
     (subst (λ l. ReadsList condition_symbols (codes "and") l conditions parts.0) (sym f) parts.1)
-    (not-word (lexeme parts.0) [] (codes ".") refl parts.2) (not-word (lexeme parts.0) [] (codes "and") refl parts.2)
+    (word-ends_item (lexeme parts.0) [] refl refl parts.2) (not-word (lexeme parts.0) [] (codes "and") refl parts.2)
 
 pub more-behind_conditions : (line front : List ℕ) (found : List Cond) (behind : List ℕ) → lexeme line ≡ codes "where" → front ≡ after_lexeme line
     → BeginsWithList condition_symbols (codes "and") front found behind → lexeme behind ≢ []
@@ -63,7 +64,7 @@ more-behind_conditions line front found behind word f list more conditions is =
     where-behind line conditions is word in
     let same : (conditions ≡ found) × (parts.0 ≡ behind) =
     list.only conditions parts.0 (subst (λ l. ReadsList condition_symbols (codes "and") l conditions parts.0) (sym f) parts.1)
-    (not-word (lexeme parts.0) [] (codes ".") refl parts.2) (not-word (lexeme parts.0) [] (codes "and") refl parts.2) in
+    (word-ends_item (lexeme parts.0) [] refl refl parts.2) (not-word (lexeme parts.0) [] (codes "and") refl parts.2) in
     more (ap lexeme (sym same.1) ∙ parts.2)
 
 where-begins : (line : List ℕ) (conditions : List Cond) → IsWhere line conditions → (lexeme line ≡ []) ⊎ (lexeme line ≡ codes "where")
@@ -74,6 +75,10 @@ either-not : (characters word : List ℕ) → bytes_eq [] word ≡ false → byt
     → (characters ≡ []) ⊎ (characters ≡ codes "where") → characters ≢ word
 either-not characters word test test' (inl e) = not-word characters [] word test e
 either-not characters word test test' (inr e) = not-word characters (codes "where") word test' e
+
+either-ends_item : (characters : List ℕ) → (characters ≡ []) ⊎ (characters ≡ codes "where") → EndsItem characters
+either-ends_item characters (inl e) = word-ends_item characters [] refl refl e
+either-ends_item characters (inr e) = word-ends_item characters (codes "where") refl refl e
 
 -- ---- the first word
 
@@ -127,7 +132,7 @@ pub no-list : {X : Type 0} (symbols : X → List Symbol) (line front : List ℕ)
 no-list symbols line front f not of name xs is =
     not.none (subst IsOfText (sym f) (of_text-after (after_lexeme line) (of_text-after line of))) xs is.rest
     (subst (λ l. ReadsList symbols (codes ",") l xs is.rest) (sym f) is.listed)
-    (not-word (lexeme is.rest) (codes ")") (codes ".") refl is.closes) (not-word (lexeme is.rest) (codes ")") (codes ",") refl is.closes)
+    (word-ends_item (lexeme is.rest) (codes ")") refl refl is.closes) (not-word (lexeme is.rest) (codes ")") (codes ",") refl is.closes)
 
 -- ---- table and insert
 
@@ -153,6 +158,110 @@ pub insert-only : (line : List ℕ) → ((table : List ℕ) (values : List Value
 insert-only line not (Insert table values) completes =
     not table values (list-named value_symbols line table values completes.some (behind-first line (Insert table values) completes))
 insert-only line not command completes = other-word line (codes "insert") command refl completes
+
+-- ---- a name alone, and an index
+
+pub name-whole : (line name rest : List ℕ) → IsName (lexeme line) → name ≡ lexeme line → rest ≡ after_lexeme line → lexeme rest ≡ []
+    → IsWhole line (Name name ∷ [])
+name-whole line name rest is e f end = (rest, ((sym e, subst IsName (sym e) is), sym f), end)
+
+pub no-whole_name : (line : List ℕ) → (IsName (lexeme line) → ⊥) → (name : List ℕ) → IsWhole line (Name name ∷ []) → ⊥
+no-whole_name line not name is = no-name line name not is.1.0
+
+pub more-behind_name : (line rest : List ℕ) → rest ≡ after_lexeme line → lexeme rest ≢ [] → (name : List ℕ) → IsWhole line (Name name ∷ []) → ⊥
+more-behind_name line rest f more name is = more (ap lexeme (f ∙ is.1.1) ∙ is.2)
+
+pub index-whole : (line table behind_table column behind_column rest : List ℕ) (k : IndexKind) → IsName (lexeme line) → table ≡ lexeme line
+    → behind_table ≡ after_lexeme line → IsName (lexeme behind_table) → column ≡ lexeme behind_table → behind_column ≡ after_lexeme behind_table
+    → lexeme behind_column ≡ index_word k → rest ≡ after_lexeme behind_column → lexeme rest ≡ [] → IsWhole line (index_symbols table column k)
+index-whole line table behind_table column behind_column rest k is e f is' e' f' word g end =
+    let word_behind : Reads (after_lexeme behind_table) (Keyword (index_word k) ∷ []) rest =
+    subst (λ l. Reads l (Keyword (index_word k) ∷ []) rest) f' (word, sym g) in
+    let behind : Reads (after_lexeme line) (Name column ∷ Keyword (index_word k) ∷ []) rest =
+    subst (λ l. Reads l (Name column ∷ Keyword (index_word k) ∷ []) rest) f ((sym e', subst IsName (sym e') is'), word_behind) in
+    (rest, ((sym e, subst IsName (sym e) is), behind), end)
+
+pub no-table_of_index : (line : List ℕ) → (IsName (lexeme line) → ⊥) → (table column : List ℕ) (k : IndexKind)
+    → IsWhole line (index_symbols table column k) → ⊥
+no-table_of_index line not table column k is = no-name line table not is.1.0
+
+pub no-column_of_index : (line behind_table : List ℕ) → behind_table ≡ after_lexeme line → (IsName (lexeme behind_table) → ⊥)
+    → (table column : List ℕ) (k : IndexKind) → IsWhole line (index_symbols table column k) → ⊥
+no-column_of_index line behind_table f not table column k is =
+    no-name (after_lexeme line) column (subst (λ l. IsName (lexeme l) → ⊥) f not) is.1.1.0
+
+pub no-kind_of_index : (line behind_table behind_column : List ℕ) → behind_table ≡ after_lexeme line → behind_column ≡ after_lexeme behind_table
+    → ((k : IndexKind) → lexeme behind_column ≢ index_word k)
+    → (table column : List ℕ) (k : IndexKind) → IsWhole line (index_symbols table column k) → ⊥
+no-kind_of_index line behind_table behind_column f g not table column k is =
+    not k (ap lexeme (g ∙ ap after_lexeme f) ∙ is.1.1.1.0)
+
+pub more-behind_index : (line behind_table behind_column rest : List ℕ) → behind_table ≡ after_lexeme line
+    → behind_column ≡ after_lexeme behind_table → rest ≡ after_lexeme behind_column → lexeme rest ≢ []
+    → (table column : List ℕ) (k : IndexKind) → IsWhole line (index_symbols table column k) → ⊥
+more-behind_index line behind_table behind_column rest f g h more table column k is =
+    let last : rest ≡ after_lexeme (after_lexeme (after_lexeme line)) = h ∙ ap after_lexeme (g ∙ ap after_lexeme f) in
+    more (ap lexeme (last ∙ is.1.1.1.1) ∙ is.2)
+
+-- ---- index, drop and tables
+
+pub index-completed : (line table column : List ℕ) (k : IndexKind) → IsWhole line (index_symbols table column k)
+    → Completes (codes "index") line (Index table column k)
+index-completed line table column k is = completed line (Index table column k) tt is
+
+pub index-only : (line : List ℕ) → ((table column : List ℕ) (k : IndexKind) → IsWhole line (index_symbols table column k) → ⊥)
+    → (command : Command) → Completes (codes "index") line command → ⊥
+index-only line not (Index table column k) completes = not table column k (behind-first line (Index table column k) completes)
+index-only line not command completes = other-word line (codes "index") command refl completes
+
+pub drop-table-completed : (line front table : List ℕ) → lexeme line ≡ codes "table" → front ≡ after_lexeme line
+    → IsWhole front (Name table ∷ []) → Completes (codes "drop") line (DropTable table)
+drop-table-completed line front table word f is =
+    let behind : IsWhole (after_lexeme line) (Name table ∷ []) = subst (λ l. IsWhole l (Name table ∷ [])) f is in
+    completed line (DropTable table) tt (behind.0, (word, behind.1), behind.2)
+
+pub drop-index-completed : (line front table column : List ℕ) (k : IndexKind) → lexeme line ≡ codes "index" → front ≡ after_lexeme line
+    → IsWhole front (index_symbols table column k) → Completes (codes "drop") line (DropIndex table column k)
+drop-index-completed line front table column k word f is =
+    let behind : IsWhole (after_lexeme line) (index_symbols table column k) = subst (λ l. IsWhole l (index_symbols table column k)) f is in
+    completed line (DropIndex table column k) tt (behind.0, (word, behind.1), behind.2)
+
+pub drop-table-only : (line front : List ℕ) → lexeme line ≡ codes "table" → front ≡ after_lexeme line
+    → ((table : List ℕ) → IsWhole front (Name table ∷ []) → ⊥) → (command : Command) → Completes (codes "drop") line command → ⊥
+drop-table-only line front word f not (DropTable table) completes =
+    let made : IsWhole line (behind_word (DropTable table)) = behind-first line (DropTable table) completes in
+    not table (subst (λ l. IsWhole l (Name table ∷ [])) (sym f) (made.0, made.1.1, made.2))
+drop-table-only line front word f not (DropIndex table column k) completes =
+    let made : IsWhole line (behind_word (DropIndex table column k)) = behind-first line (DropIndex table column k) completes in
+    different (codes "table") (codes "index") refl (sym word ∙ made.1.0)
+drop-table-only line front word f not command completes = other-word line (codes "drop") command refl completes
+
+pub drop-index-only : (line front : List ℕ) → lexeme line ≡ codes "index" → front ≡ after_lexeme line
+    → ((table column : List ℕ) (k : IndexKind) → IsWhole front (index_symbols table column k) → ⊥)
+    → (command : Command) → Completes (codes "drop") line command → ⊥
+drop-index-only line front word f not (DropTable table) completes =
+    let made : IsWhole line (behind_word (DropTable table)) = behind-first line (DropTable table) completes in
+    different (codes "index") (codes "table") refl (sym word ∙ made.1.0)
+drop-index-only line front word f not (DropIndex table column k) completes =
+    let made : IsWhole line (behind_word (DropIndex table column k)) = behind-first line (DropIndex table column k) completes in
+    not table column k (subst (λ l. IsWhole l (index_symbols table column k)) (sym f) (made.0, made.1.1, made.2))
+drop-index-only line front word f not command completes = other-word line (codes "drop") command refl completes
+
+pub drop-neither : (line : List ℕ) → lexeme line ≢ codes "table" → lexeme line ≢ codes "index"
+    → (command : Command) → Completes (codes "drop") line command → ⊥
+drop-neither line no_table no_index (DropTable table) completes =
+    let made : IsWhole line (behind_word (DropTable table)) = behind-first line (DropTable table) completes in no_table made.1.0
+drop-neither line no_table no_index (DropIndex table column k) completes =
+    let made : IsWhole line (behind_word (DropIndex table column k)) = behind-first line (DropIndex table column k) completes in no_index made.1.0
+drop-neither line no_table no_index command completes = other-word line (codes "drop") command refl completes
+
+pub tables-completed : (line : List ℕ) → lexeme line ≡ [] → Completes (codes "tables") line Tables
+tables-completed line end = completed line Tables tt (line, refl, end)
+
+pub tables-only : (line : List ℕ) → lexeme line ≢ [] → (command : Command) → Completes (codes "tables") line command → ⊥
+tables-only line more Tables completes =
+    let made : IsWhole line [] = behind-first line Tables completes in more (ap lexeme made.1 ∙ made.2)
+tables-only line more command completes = other-word line (codes "tables") command refl completes
 
 -- ---- update
 
@@ -202,7 +311,7 @@ pub no-settings : (line front : List ℕ) → front ≡ after_lexeme (after_lexe
 no-settings line front f not of table settings conditions is =
     not.none (subst IsOfText (sym f) (of_text-after (after_lexeme line) (of_text-after line of))) settings is.rest
     (subst (λ l. ReadsList setting_symbols (codes ",") l settings is.rest) (sym f) is.listed)
-    (either-not (lexeme is.rest) (codes ".") refl refl (where-begins is.rest conditions is.tail))
+    (either-ends_item (lexeme is.rest) (where-begins is.rest conditions is.tail))
     (either-not (lexeme is.rest) (codes ",") refl refl (where-begins is.rest conditions is.tail))
 
 pub no-tail_of_update : (line front : List ℕ) (found : List Setting) (behind : List ℕ) → front ≡ after_lexeme (after_lexeme line)
@@ -211,7 +320,7 @@ pub no-tail_of_update : (line front : List ℕ) (found : List Setting) (behind :
 no-tail_of_update line front found behind f list not table settings conditions is =
     let same : (settings ≡ found) × (is.rest ≡ behind) =
     list.only settings is.rest (subst (λ l. ReadsList setting_symbols (codes ",") l settings is.rest) (sym f) is.listed)
-    (either-not (lexeme is.rest) (codes ".") refl refl (where-begins is.rest conditions is.tail))
+    (either-ends_item (lexeme is.rest) (where-begins is.rest conditions is.tail))
     (either-not (lexeme is.rest) (codes ",") refl refl (where-begins is.rest conditions is.tail)) in
     not conditions (subst (λ l. IsWhere l conditions) same.1 is.tail)
 
@@ -343,7 +452,7 @@ named-items line names found rest star same list = subst (λ l. BeginsWithItems 
     named-only line names rest star list (items.Named ys) other some reads begins =
         let parts : (ys ≡ names) × (other ≡ rest) =
         list.only ys other (spelled-comma name_symbols line ys other some reads)
-        (not-word (lexeme other) (codes "from") (codes ".") refl begins) (not-word (lexeme other) (codes "from") (codes ",") refl begins) in
+        (word-ends_item (lexeme other) (codes "from") refl refl begins) (not-word (lexeme other) (codes "from") (codes ",") refl begins) in
         (ap items.Named parts.0, parts.1)
 
 pub neither-items : (line : List ℕ) → lexeme line ≢ codes "*" → BeginsWithNoList name_symbols (codes ",") line → BeginsWithNoItems line
@@ -356,4 +465,4 @@ neither-items line star not = record {
     no-others line star not of items.All other some reads begins = star reads.0
     no-others line star not of (items.Named names) other some reads begins =
         not.none of names other (spelled-comma name_symbols line names other some reads)
-        (not-word (lexeme other) (codes "from") (codes ".") refl begins) (not-word (lexeme other) (codes "from") (codes ",") refl begins)
+        (word-ends_item (lexeme other) (codes "from") refl refl begins) (not-word (lexeme other) (codes "from") (codes ",") refl begins)

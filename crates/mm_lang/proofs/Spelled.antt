@@ -5,17 +5,21 @@ use Rattle.std.specs.List.{AllByRecursion, Contains, list_any}
 use Rattle.std.specs.Str.{bytes_eq}
 use Rattle.std.proofs.lemmas.List.Folds.{list_any_at}
 use lib.Chars.{codes}
-use Rattle.plain_tables.specs.Spelling.{Symbol, Keyword, Literal, Sign, Close, Comma, Operator, separated_by, symbols_of, column_symbols, value_symbols, name_symbols, setting_symbols, condition_symbols, items_symbols, where_symbols, IsSymbol, IsMadeOf, Spells}
+use Rattle.plain_tables.specs.Spelling.{Symbol, Keyword, Literal, Sign, Close, Comma, Operator, separated_by, symbols_of, kind_symbols, column_symbols, index_symbols, value_symbols, name_symbols, setting_symbols, condition_symbols, items_symbols, where_symbols, IsSymbol, IsMadeOf, Spells}
 use Rattle.plain_tables.specs.Reading.{lexeme, after_lexeme}
+use Rattle.plain_tables.specs.declared.schema.ColKind.{ColKind}
+use Rattle.plain_tables.specs.declared.schema.ColKind.TheVariants as kind
+use Rattle.plain_tables.specs.declared.schema.IndexKind.{IndexKind}
 use Rattle.plain_tables.specs.declared.condition.Cond.{Cond}
 use Rattle.plain_tables.specs.declared.command.Items.{Items}
 use Rattle.plain_tables.specs.declared.command.Items.TheVariants as items
 use Rattle.plain_tables.specs.declared.command.Command.{Command}
-use Rattle.plain_tables.specs.declared.command.Command.TheVariants.{Table, Insert, Update, Delete, Select}
+use Rattle.plain_tables.specs.declared.command.Command.TheVariants.{Table, DropTable, Index, DropIndex, Insert, Update, Delete, Select, Tables}
 use Rattle.plain_tables.proofs.Lexemes.{IsWellFormed, lexeme-of_made, made-from_lexeme, blanks-no_lexeme, no_lexeme-blanks}
 use Rattle.plain_tables.proofs.Separated.{all-append}
 use Rattle.plain_tables.proofs.FirstWords.{first_word, behind_word, split-word}
 use Rattle.plain_tables.proofs.SingleItems.{whole_name}
+use Rattle.plain_tables.proofs.WellFormed.{index_word-word}
 use Rattle.mm_lang.specs.Parsing.{Reads, IsWhole, Completes}
 use Rattle.mm_lang.proofs.Fronts.{same-bytes, other-bytes}
 
@@ -23,6 +27,15 @@ use Rattle.mm_lang.proofs.Fronts.{same-bytes, other-bytes}
 
 abbrev AreWellFormed : List Symbol → Type 0
 AreWellFormed symbols = AllByRecursion IsWellFormed symbols
+
+kind-well : (k : ColKind) → AreWellFormed (kind_symbols k)
+kind-well kind.Int = (refl, tt)
+kind-well kind.Text = (refl, tt)
+kind-well (kind.Ref table) = (refl, (tt, tt))
+kind-well (kind.RefOrNull table) = (refl, (tt, (refl, tt)))
+
+index-well : (table column : List ℕ) (k : IndexKind) → AreWellFormed (index_symbols table column k)
+index-well table column k = (tt, (tt, (index_word-word k, tt)))
 
 whole-well : (table : Option (List ℕ)) (column : List ℕ) → AreWellFormed (whole_name table column)
 whole-well None column = (tt, tt)
@@ -57,10 +70,13 @@ command-well (Table name schema) = (
     (
       tt,
       all-append IsWellFormed _ (Sign Close ∷ [])
-          (separated-well column_symbols (Sign Comma) tt (λ column. (tt, (tt, tt))) schema.columns) (tt, tt),
+          (separated-well column_symbols (Sign Comma) tt (λ column. (tt, kind-well column.kind)) schema.columns) (tt, tt),
     ),
   ),
 )
+command-well (DropTable table) = (refl, (refl, (tt, tt)))
+command-well (Index table column k) = (refl, index-well table column k)
+command-well (DropIndex table column k) = (refl, (refl, index-well table column k))
 command-well (Insert table values) = (
   refl,
   (
@@ -86,6 +102,7 @@ command-well (Update table settings conditions) = (
 command-well (Delete table conditions) = (refl, (tt, where-well conditions))
 command-well (Select items table conditions) =
     (refl, all-append IsWellFormed (items_symbols items) _ (items-well items) (refl, (tt, where-well conditions)))
+command-well Tables = (refl, tt)
 
 -- ---- the line by its lexemes
 
@@ -130,17 +147,23 @@ not-spelled line word rest e f not command spells =
     not command (subst (λ w. Completes w rest command) (sym parts.0 ∙ e) (subst (λ r. Completes (first_word command) r command) (sym f) parts.1))
 
 known-word : (command : Command) (word : List ℕ) → word ≡ first_word command → word ≢ codes "insert" → word ≢ codes "select"
-    → word ≢ codes "update" → word ≢ codes "delete" → word ≢ codes "table" → ⊥
-known-word (Table name schema) word e no_insert no_select no_update no_delete no_table = no_table e
-known-word (Insert table values) word e no_insert no_select no_update no_delete no_table = no_insert e
-known-word (Update table settings conditions) word e no_insert no_select no_update no_delete no_table = no_update e
-known-word (Delete table conditions) word e no_insert no_select no_update no_delete no_table = no_delete e
-known-word (Select items table conditions) word e no_insert no_select no_update no_delete no_table = no_select e
+    → word ≢ codes "update" → word ≢ codes "delete" → word ≢ codes "table" → word ≢ codes "drop" → word ≢ codes "index"
+    → word ≢ codes "tables" → ⊥
+known-word (Table name schema) word e insert select update delete table drop index tables = table e
+known-word (DropTable t) word e insert select update delete table drop index tables = drop e
+known-word (Index t c k) word e insert select update delete table drop index tables = index e
+known-word (DropIndex t c k) word e insert select update delete table drop index tables = drop e
+known-word (Insert t values) word e insert select update delete table drop index tables = insert e
+known-word (Update t settings conditions) word e insert select update delete table drop index tables = update e
+known-word (Delete t conditions) word e insert select update delete table drop index tables = delete e
+known-word (Select items t conditions) word e insert select update delete table drop index tables = select e
+known-word Tables word e insert select update delete table drop index tables = tables e
 
 pub unknown-word : (line : List ℕ) → lexeme line ≢ codes "insert" → lexeme line ≢ codes "select" → lexeme line ≢ codes "update"
-    → lexeme line ≢ codes "delete" → lexeme line ≢ codes "table" → (command : Command) → Spells line command → ⊥
-unknown-word line no_insert no_select no_update no_delete no_table command spells =
-    known-word command (lexeme line) (spelled-completes line command spells).0 no_insert no_select no_update no_delete no_table
+    → lexeme line ≢ codes "delete" → lexeme line ≢ codes "table" → lexeme line ≢ codes "drop" → lexeme line ≢ codes "index"
+    → lexeme line ≢ codes "tables" → (command : Command) → Spells line command → ⊥
+unknown-word line insert select update delete table drop index tables command spells =
+    known-word command (lexeme line) (spelled-completes line command spells).0 insert select update delete table drop index tables
 
 -- ---- the tests of the parser
 

@@ -19,19 +19,23 @@ Reads line (symbol ∷ symbols) rest = IsSymbol (lexeme line) symbol × Reads (a
 abbrev pub IsWhole : List ℕ → List Symbol → Type 0
 IsWhole line symbols = (rest : List ℕ) × Reads line symbols rest × (lexeme rest ≡ [])
 
--- The line begins with the symbols of this item, and, but before a dot, of no other of its sort: a column's bare name
--- with a dot behind it may be the name of a table.
+-- These characters, behind an item, end it. A dot or a null may not: a column's bare name with a dot behind it may be the
+-- name of a table, and a null goes on with a reference.
+abbrev pub EndsItem : List ℕ → Type 0
+EndsItem characters = (characters ≢ codes ".") × (characters ≢ codes "null")
+
+-- The line begins with the symbols of this item, and, where it ends, of no other of its sort.
 pub record BeginsWith {X : Type 0} (symbols : X → List Symbol) (line : List ℕ) (x : X) (rest : List ℕ) : Type 0 where
   pub found : Reads line (symbols x) rest
-  pub only : (y : X) (other : List ℕ) → Reads line (symbols y) other → lexeme other ≢ codes "." → (y ≡ x) × (other ≡ rest)
+  pub only : (y : X) (other : List ℕ) → Reads line (symbols y) other → EndsItem (lexeme other) → (y ≡ x) × (other ≡ rest)
 
 -- The line is the end of a text.
 abbrev pub IsOfText : List ℕ → Type 0
 IsOfText line = (front : List ℕ) × IsUtf8 (front ++ line)
 
--- The line, which is of a text, begins with no item of this sort, but perhaps before a dot.
+-- The line, which is of a text, begins with no item of this sort that ends.
 pub record BeginsWithNone {X : Type 0} (symbols : X → List Symbol) (line : List ℕ) : Type 0 where
-  pub none : IsOfText line → (y : X) (other : List ℕ) → Reads line (symbols y) other → lexeme other ≢ codes "." → ⊥
+  pub none : IsOfText line → (y : X) (other : List ℕ) → Reads line (symbols y) other → EndsItem (lexeme other) → ⊥
 
 -- The line begins with these items, one or more, with this word or sign between two of them.
 abbrev pub ReadsList : {X : Type 0} → (X → List Symbol) → List ℕ → List ℕ → List X → List ℕ → Type 0
@@ -41,16 +45,16 @@ ReadsList symbols between line (x ∷ y ∷ xs) rest =
     (behind : List ℕ) × Reads line (symbols x) behind × (lexeme behind ≡ between)
     × ReadsList symbols between (after_lexeme behind) (y ∷ xs) rest
 
--- The line begins with this list, and, but before a dot or one more separator, with no other.
+-- The line begins with this list, and, where its last item ends and no separator follows, with no other.
 pub record BeginsWithList {X : Type 0} (symbols : X → List Symbol) (between line : List ℕ) (xs : List X) (rest : List ℕ) : Type 0 where
   pub found : ReadsList symbols between line xs rest
-  pub only : (ys : List X) (other : List ℕ) → ReadsList symbols between line ys other → lexeme other ≢ codes "."
+  pub only : (ys : List X) (other : List ℕ) → ReadsList symbols between line ys other → EndsItem (lexeme other)
       → lexeme other ≢ between → (ys ≡ xs) × (other ≡ rest)
 
--- The line, which is of a text, begins with no list of these items, but perhaps before a dot or one more separator.
+-- The line, which is of a text, begins with no list of these items of which the last ends with no separator behind it.
 pub record BeginsWithNoList {X : Type 0} (symbols : X → List Symbol) (between line : List ℕ) : Type 0 where
   pub none : IsOfText line → (ys : List X) (other : List ℕ) → ReadsList symbols between line ys other
-      → lexeme other ≢ codes "." → lexeme other ≢ between → ⊥
+      → EndsItem (lexeme other) → lexeme other ≢ between → ⊥
 
 -- all columns, or one or more that are named
 abbrev pub NameSomething : Items → Type 0

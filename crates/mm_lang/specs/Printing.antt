@@ -2,8 +2,11 @@
 use Rattle.std.specs.Prelude.{◌≡◌, ℕ, List, [], ◌∷◌, ◌++◌, Bool, true, false, IsTrue, Option, Some, None, refl}
 use Rattle.std.specs.List.{flat_map}
 use Rattle.std.specs.Option.{option_map_or}
-use Rattle.plain_tables.specs.Spelling.{Symbol, Keyword, Name, Literal, Sign, Open, Dot, Operator, gap, spaced, name_symbols, condition_symbols}
+use Rattle.plain_tables.specs.Spelling.{Symbol, Keyword, Name, Literal, Sign, Open, Dot, Operator, gap, spaced, kind_symbols, column_symbols, name_symbols, condition_symbols}
 use Rattle.plain_tables.specs.declared.value.Value.{Value}
+use Rattle.plain_tables.specs.declared.schema.ColKind.{ColKind}
+use Rattle.plain_tables.specs.declared.schema.ColKind.TheVariants as kind
+use Rattle.plain_tables.specs.declared.schema.Column.{Column}
 use Rattle.plain_tables.specs.declared.condition.Op.{Op}
 use Rattle.plain_tables.specs.declared.condition.ColName.{ColName}
 use Rattle.plain_tables.specs.declared.condition.Cond.{Cond}
@@ -36,6 +39,22 @@ IsFree symbols = BeginsFree symbols × EndsFree symbols
 abbrev pub joined : {X : Type 0} → (X → List Symbol) → List ℕ → List X → List ℕ
 joined symbols between [] = []
 joined symbols between (x ∷ xs) = spaced (symbols x) ++ flat_map (λ y. between ++ spaced (symbols y)) xs
+
+-- Law: a kind of columns is free, and so is a column.
+pub kind_symbols-free : (k : ColKind) → IsFree (kind_symbols k)
+kind_symbols-free kind.Int = (refl, refl)
+kind_symbols-free kind.Text = (refl, refl)
+kind_symbols-free (kind.Ref table) = (refl, refl)
+kind_symbols-free (kind.RefOrNull table) = (refl, refl)
+
+columned-free : (name : List ℕ) (k : ColKind) → IsFree (Name name ∷ kind_symbols k)
+columned-free name kind.Int = (refl, refl)
+columned-free name kind.Text = (refl, refl)
+columned-free name (kind.Ref table) = (refl, refl)
+columned-free name (kind.RefOrNull table) = (refl, refl)
+
+pub column_symbols-free : (column : Column) → IsFree (column_symbols column)
+column_symbols-free column = columned-free column.name column.kind
 
 -- Law: a column's name is free.
 named-free : (table : Option (List ℕ)) (column : List ℕ)

@@ -1,17 +1,17 @@
-//! The items of a list: values, columns, names of columns, settings and conditions.
+//! The items of a list: values, columns and their kinds, names of columns, settings and conditions.
 
-ghost use Rattle.std.specs.Prelude.{◌≡◌, ◌≢◌, ◌<◌, ◌++◌, List, length, codes, IfOk, IsErrOf, OnOk, refl};
+ghost use Rattle.std.specs.Prelude.{◌≡◌, ◌<◌, ◌++◌, List, length, IfOk, IsErrOf, OnOk, refl};
 ghost use Rattle.std.specs.Str.{IsUtf8};
 ghost use Rattle.std.specs.String.{string_bytes};
-ghost use Rattle.plain_tables.specs.Spelling.{Symbol, Literal, IsSymbol, column_symbols, value_symbols, name_symbols, setting_symbols, condition_symbols, spaced, operator_text, kind_text};
+ghost use Rattle.plain_tables.specs.Spelling.{Symbol, Literal, IsSymbol, kind_symbols, column_symbols, value_symbols, name_symbols, setting_symbols, condition_symbols, spaced, operator_text};
 ghost use Rattle.plain_tables.specs.declared.value.Value.{Value};
-ghost use Rattle.mm_lang.specs.Parsing.{BeginsWith, BeginsWithNone, BeginsWithList, BeginsWithNoList};
-ghost use Rattle.mm_lang.specs.Printing.{IsFree, joined, name_symbols-free, condition_symbols-free};
+ghost use Rattle.mm_lang.specs.Parsing.{EndsItem, BeginsWith, BeginsWithNone, BeginsWithList, BeginsWithNoList};
+ghost use Rattle.mm_lang.specs.Printing.{IsFree, joined, kind_symbols-free, column_symbols-free, name_symbols-free, condition_symbols-free};
 
 use crate::ParseRefusal;
 use crate::lexemes::split_lexeme;
 use crate::numbers::{integer, push_integer};
-use crate::symbols::{after, expect, kind, name, operator};
+use crate::symbols::{after, expect, name, operator};
 use crate::texts::{push_text, text};
 use plain_tables::{ColKind, ColName, Column, Cond, NoMemory, Op, Setting, Value};
 use std::alloc::Global;
@@ -38,6 +38,9 @@ fn value(alloc: Global, characters: &[u8]) -> Result<Value, ParseRefusal>
     ensures value { IfOk result (λ v. IsSymbol characters.now (Literal v)) }
     ensures syntax { IsErrOf result ParseRefusal.Syntax → IsUtf8 characters.now → (v : Value) → IsSymbol characters.now (Literal v) → ⊥ }
 {
+    if characters == b"null".as_slice() {
+        return Ok(Value::Null);
+    }
     match integer(characters) {
         Some(number) => Ok(Value::Int(number)),
         None => Ok(Value::Text(text(alloc, characters)?)),
@@ -64,41 +67,59 @@ impl Item for Value {
     }
 }
 
-// Writes the kind of a column.
-fn push_kind(line: &mut String, kind: &ColKind) -> Result<(), NoMemory>
-    ensures { OnOk result (string_bytes line.new ≡ string_bytes line.old ++ kind_text kind.now) }
-{
-    match kind {
-        ColKind::Int => line.push_str("int")?,
-        ColKind::Text => line.push_str("text")?,
-        ColKind::Ref(table) => {
-            line.push_str("ref ")?;
-            line.push_str(table.as_str())?;
+impl Item for ColKind {
+    ghost symbols = { kind_symbols };
+
+    ghost free = { kind_symbols-free };
+
+    fn read(alloc: Global, line: &[u8]) -> Result<(ColKind, &[u8]), ParseRefusal> {
+        if let Some(rest) = after(line, b"int") {
+            return Ok((ColKind::Int, rest));
         }
-        ColKind::RefOrNull(table) => {
-            line.push_str("ref ")?;
-            line.push_str(table.as_str())?;
-            line.push_str(" null")?;
+        if let Some(rest) = after(line, b"text") {
+            return Ok((ColKind::Text, rest));
+        }
+        let front = expect(line, b"ref")?;
+        let (table, rest) = name(alloc, front)?;
+        match after(rest, b"null") {
+            Some(behind) => Ok((ColKind::RefOrNull(table), behind)),
+            None => Ok((ColKind::Ref(table), rest)),
         }
     }
-    Ok(())
+
+    fn push_to(&self, line: &mut String) -> Result<(), NoMemory> {
+        match self {
+            ColKind::Int => line.push_str("int")?,
+            ColKind::Text => line.push_str("text")?,
+            ColKind::Ref(table) => {
+                line.push_str("ref ")?;
+                line.push_str(table.as_str())?;
+            }
+            ColKind::RefOrNull(table) => {
+                line.push_str("ref ")?;
+                line.push_str(table.as_str())?;
+                line.push_str(" null")?;
+            }
+        }
+        Ok(())
+    }
 }
 
 impl Item for Column {
     ghost symbols = { column_symbols };
 
-    ghost free = { λ c. (refl, refl) };
+    ghost free = { column_symbols-free };
 
     fn read(alloc: Global, line: &[u8]) -> Result<(Column, &[u8]), ParseRefusal> {
         let (name, line) = name(alloc, line)?;
-        let (kind, line) = kind(line)?;
+        let (kind, line) = ColKind::read(alloc, line)?;
         Ok((Column { name, kind }, line))
     }
 
     fn push_to(&self, line: &mut String) -> Result<(), NoMemory> {
         line.push_str(self.name.as_str())?;
         line.push_str(" ")?;
-        push_kind(line, &self.kind)
+        self.kind.push_to(line)
     }
 }
 
@@ -201,7 +222,7 @@ pub fn list<'a, T: Item>(
     between: &[u8],
 ) -> Result<(Vec<T>, &'a [u8]), ParseRefusal>
     requires some { 0 < length between.now }
-    requires no_dot { between.now ≢ codes "." }
+    requires ends_item { EndsItem between.now }
     ensures items { IfOk result (λ r. BeginsWithList T.symbols between.now line.now r.0.items r.1.now) }
     ensures syntax { IsErrOf result ParseRefusal.Syntax → BeginsWithNoList T.symbols between.now line.now }
 {

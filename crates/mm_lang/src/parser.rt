@@ -1,17 +1,18 @@
 //! A function for each production of the grammar.
 
-ghost use Rattle.std.specs.Prelude.{◌≡◌, ◌≢◌, ℕ, List, [], codes, IfOk, IsErrOf, MatchResult};
-ghost use Rattle.plain_tables.specs.Spelling.{Spells};
+ghost use Rattle.std.specs.Prelude.{◌≡◌, ◌≢◌, ℕ, List, [], ◌∷◌, codes, IfOk, IsErrOf, MatchResult};
+ghost use Rattle.plain_tables.specs.Spelling.{Name, Spells, index_symbols};
 ghost use Rattle.plain_tables.specs.Reading.{lexeme};
 ghost use Rattle.plain_tables.specs.declared.command.Command.{Command};
 ghost use Rattle.plain_tables.specs.declared.condition.Cond.{Cond};
-ghost use Rattle.mm_lang.specs.Parsing.{Completes, IsOfText, IsNameAndList, IsWhere, BeginsWithItems, BeginsWithNoItems};
+ghost use Rattle.plain_tables.specs.declared.schema.IndexKind.{IndexKind};
+ghost use Rattle.mm_lang.specs.Parsing.{Completes, IsOfText, IsWhole, IsNameAndList, IsWhere, BeginsWithItems, BeginsWithNoItems};
 
 use crate::ParseRefusal;
 use crate::items::{Item, list};
 use crate::lexemes::split_lexeme;
-use crate::symbols::{after, expect, name};
-use plain_tables::{Command, Cond, Items, Schema, Sequence, Text};
+use crate::symbols::{after, expect, index_kind, name};
+use plain_tables::{Command, Cond, IndexKind, Items, Schema, Sequence, Text};
 use std::alloc::Global;
 
 /// The command that a line spells.
@@ -36,6 +37,12 @@ pub fn parse(alloc: Global, line: &str) -> Result<Command, ParseRefusal>
         delete(alloc, rest)
     } else if word == b"table".as_slice() {
         table(alloc, rest)
+    } else if word == b"drop".as_slice() {
+        drop_command(alloc, rest)
+    } else if word == b"index".as_slice() {
+        index(alloc, rest)
+    } else if word == b"tables".as_slice() {
+        tables(rest)
     } else {
         Err(ParseRefusal::Syntax)
     }
@@ -53,6 +60,46 @@ fn table(alloc: Global, line: &[u8]) -> Result<Command, ParseRefusal>
             columns: Sequence::from_vec(columns),
         },
     })
+}
+
+// table NAME, or index NAME NAME KIND
+fn drop_command(alloc: Global, line: &[u8]) -> Result<Command, ParseRefusal>
+    ensures command { IfOk result (λ c. Completes (codes "drop") line.now c) }
+    ensures syntax { IsErrOf result ParseRefusal.Syntax → (c : Command) → Completes (codes "drop") line.now c → ⊥ }
+{
+    if let Some(front) = after(line, b"table") {
+        let table = only_name(alloc, front)?;
+        return Ok(Command::DropTable { table });
+    }
+    let front = expect(line, b"index")?;
+    let (table, column, kind) = index_parts(alloc, front)?;
+    Ok(Command::DropIndex {
+        table,
+        column,
+        kind,
+    })
+}
+
+// NAME NAME KIND
+fn index(alloc: Global, line: &[u8]) -> Result<Command, ParseRefusal>
+    ensures command { IfOk result (λ c. Completes (codes "index") line.now c) }
+    ensures syntax { IsErrOf result ParseRefusal.Syntax → (c : Command) → Completes (codes "index") line.now c → ⊥ }
+{
+    let (table, column, kind) = index_parts(alloc, line)?;
+    Ok(Command::Index {
+        table,
+        column,
+        kind,
+    })
+}
+
+// the end of the line
+fn tables(line: &[u8]) -> Result<Command, ParseRefusal>
+    ensures command { IfOk result (λ c. Completes (codes "tables") line.now c) }
+    ensures syntax { IsErrOf result ParseRefusal.Syntax → (c : Command) → Completes (codes "tables") line.now c → ⊥ }
+{
+    end(line)?;
+    Ok(Command::Tables)
 }
 
 // NAME ( VALUE {, VALUE} )
@@ -138,6 +185,28 @@ fn conditions(alloc: Global, line: &[u8]) -> Result<Vec<Cond>, ParseRefusal>
     let (conditions, rest) = list(alloc, front, b"and")?;
     end(rest)?;
     Ok(conditions)
+}
+
+// NAME, and the end of the line
+fn only_name(alloc: Global, line: &[u8]) -> Result<Text, ParseRefusal>
+    ensures name { IfOk result (λ name. IsWhole line.now (Name name ∷ [])) }
+    ensures syntax { IsErrOf result ParseRefusal.Syntax → (name : List ℕ) → IsWhole line.now (Name name ∷ []) → ⊥ }
+{
+    let (name, rest) = name(alloc, line)?;
+    end(rest)?;
+    Ok(name)
+}
+
+// NAME NAME KIND, an index, and the end of the line
+fn index_parts(alloc: Global, line: &[u8]) -> Result<(Text, Text, IndexKind), ParseRefusal>
+    ensures parts { IfOk result (λ r. IsWhole line.now (index_symbols r.0 r.1 r.2)) }
+    ensures syntax { IsErrOf result ParseRefusal.Syntax → (table column : List ℕ) (k : IndexKind) → IsWhole line.now (index_symbols table column k) → ⊥ }
+{
+    let (table, behind_table) = name(alloc, line)?;
+    let (column, behind_column) = name(alloc, behind_table)?;
+    let (kind, rest) = index_kind(behind_column)?;
+    end(rest)?;
+    Ok((table, column, kind))
 }
 
 // NAME ( ITEM {, ITEM} )

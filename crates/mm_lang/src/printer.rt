@@ -2,12 +2,12 @@
 
 ghost use Rattle.std.specs.Prelude.{◌≡◌, ◌++◌, ◌∷◌, [], map, IfOk, OnOk};
 ghost use Rattle.std.specs.String.{string_bytes};
-ghost use Rattle.plain_tables.specs.Spelling.{Sign, Open, Close, separated, items_symbols, where_symbols, symbols_of, spaced, canonical_spelling};
+ghost use Rattle.plain_tables.specs.Spelling.{Sign, Open, Close, separated, index_word, index_symbols, items_symbols, where_symbols, symbols_of, spaced, canonical_spelling};
 ghost use Rattle.plain_tables.specs.declared.command.Command.TheVariants as command;
 ghost use Rattle.mm_lang.specs.Printing.{behind};
 
 use crate::items::{Item, push_list};
-use plain_tables::{Command, Cond, Items, NoMemory, Setting, Text};
+use plain_tables::{Command, Cond, IndexKind, Items, NoMemory, Setting, Text};
 use std::alloc::Global;
 
 /// The canonical spelling of a command.
@@ -29,6 +29,17 @@ fn push_command(line: &mut String, command: &Command) -> Result<(), NoMemory>
         Command::Table { name, schema } => {
             push_name_and_list(line, "table ", name, schema.columns.as_slice())
         }
+        Command::DropTable { table } => push_drop_table(line, table),
+        Command::Index {
+            table,
+            column,
+            kind,
+        } => push_index(line, "index ", table, column, *kind),
+        Command::DropIndex {
+            table,
+            column,
+            kind,
+        } => push_index(line, "drop index ", table, column, *kind),
         Command::Insert { table, values } => {
             push_name_and_list(line, "insert ", table, values.as_slice())
         }
@@ -43,6 +54,10 @@ fn push_command(line: &mut String, command: &Command) -> Result<(), NoMemory>
             table,
             conditions,
         } => push_select(line, items, table, conditions.as_slice()),
+        Command::Tables => {
+            line.push_str("tables")?;
+            Ok(())
+        }
     }
 }
 
@@ -60,6 +75,43 @@ fn push_name_and_list<T: Item>(
     line.push_str(" (")?;
     push_list(line, items, ", ")?;
     line.push_str(")")?;
+    Ok(())
+}
+
+fn push_drop_table(line: &mut String, table: &Text) -> Result<(), NoMemory>
+    ensures { OnOk result (string_bytes line.new ≡ string_bytes line.old ++ spaced (symbols_of (command.DropTable table.now))) }
+{
+    line.push_str("drop table ")?;
+    line.push_str(table.as_str())?;
+    Ok(())
+}
+
+// The word for a kind of index.
+fn index_str(kind: IndexKind) -> &'static str
+    ensures { result.now ≡ index_word kind }
+{
+    match kind {
+        IndexKind::Tree => "tree",
+        IndexKind::Hash => "hash",
+    }
+}
+
+// WORD NAME NAME KIND
+fn push_index(
+    line: &mut String,
+    word: &str,
+    table: &Text,
+    column: &Text,
+    kind: IndexKind,
+) -> Result<(), NoMemory>
+    ensures { OnOk result (string_bytes line.new ≡ string_bytes line.old ++ (word.now ++ spaced (index_symbols table.now column.now kind))) }
+{
+    line.push_str(word)?;
+    line.push_str(table.as_str())?;
+    line.push_str(" ")?;
+    line.push_str(column.as_str())?;
+    line.push_str(" ")?;
+    line.push_str(index_str(kind))?;
     Ok(())
 }
 

@@ -1,17 +1,17 @@
-//! Symbols of one lexeme: keywords, signs, names, operators and kinds of columns.
+//! Symbols of one lexeme: keywords, signs, names, operators and kinds of indexes.
 
 ghost use Rattle.std.specs.Prelude.{◌≡◌, ◌≢◌, IfOk, IsErrOf, MatchOption, MatchResult};
 ghost use Rattle.std.specs.List.{list_any, list_all};
 ghost use Rattle.std.specs.Str.{bytes_eq};
 ghost use Rattle.plain_tables.specs.Names.{IsName, is_name, is_word, is_word_character, is_reserved};
-ghost use Rattle.plain_tables.specs.Spelling.{IsSymbol, Kind, operator_text};
+ghost use Rattle.plain_tables.specs.Spelling.{operator_text, index_word};
 ghost use Rattle.plain_tables.specs.Reading.{lexeme, after_lexeme};
 ghost use Rattle.plain_tables.specs.declared.condition.Op.{Op};
-ghost use Rattle.plain_tables.specs.declared.schema.ColKind.{ColKind};
+ghost use Rattle.plain_tables.specs.declared.schema.IndexKind.{IndexKind};
 
 use crate::ParseRefusal;
 use crate::lexemes::{is_letter_byte, is_word_byte, split_lexeme};
-use plain_tables::{ColKind, Op, Text};
+use plain_tables::{IndexKind, Op, Text};
 use std::alloc::Global;
 
 // The words that name no table and no column.
@@ -140,16 +140,24 @@ pub fn operator(line: &[u8]) -> Result<(Op, &[u8]), ParseRefusal>
     }
 }
 
-/// The kind of a column at the front, and what stands behind it.
-pub fn kind(line: &[u8]) -> Result<(ColKind, &[u8]), ParseRefusal>
-    ensures { MatchResult result (λ r. IsSymbol (lexeme line.now) (Kind r.0) × (r.1.now ≡ after_lexeme line.now)) (λ _. (k : ColKind) → IsSymbol (lexeme line.now) (Kind k) → ⊥) }
+// The kind of an index that these characters are.
+fn index_kind_of(characters: &[u8]) -> Option<IndexKind>
+    ensures { MatchOption result ((k : IndexKind) → characters.now ≢ index_word k) (λ k. characters.now ≡ index_word k) }
+{
+    match characters {
+        b"tree" => Some(IndexKind::Tree),
+        b"hash" => Some(IndexKind::Hash),
+        _ => None,
+    }
+}
+
+/// The kind of an index at the front, and what stands behind it.
+pub fn index_kind(line: &[u8]) -> Result<(IndexKind, &[u8]), ParseRefusal>
+    ensures { MatchResult result (λ r. (lexeme line.now ≡ index_word r.0) × (r.1.now ≡ after_lexeme line.now)) (λ _. (k : IndexKind) → lexeme line.now ≢ index_word k) }
 {
     let (characters, rest) = split_lexeme(line);
-    if characters == b"int".as_slice() {
-        Ok((ColKind::Int, rest))
-    } else if characters == b"text".as_slice() {
-        Ok((ColKind::Text, rest))
-    } else {
-        Err(ParseRefusal::Syntax)
+    match index_kind_of(characters) {
+        Some(kind) => Ok((kind, rest)),
+        None => Err(ParseRefusal::Syntax),
     }
 }

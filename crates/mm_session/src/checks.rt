@@ -1,9 +1,10 @@
 //! The checks of commands on one table, each by itself.
 
-ghost use Rattle.std.specs.Prelude.{◌≡◌, ◌==◌, false, nat_lt, not, map, slice_get};
+ghost use Rattle.std.specs.Prelude.{◌≡◌, ◌==◌, false, nat_lt, not, map, slice_get, is_some};
 ghost use Rattle.std.specs.List.{list_any};
 ghost use Rattle.std.specs.Str.{bytes_eq};
 ghost use Rattle.plain_tables.specs.Effects.{repeats, has_mistake as has_mistake_so, is_of_kind as is_of_kind_so, is_long as is_long_so};
+ghost use Rattle.plain_tables.specs.References.{referred};
 ghost use Rattle.mm_session.specs.Resolved.{is_mistaken as is_mistaken_so, has_mistaken_test as has_mistaken_test_so, has_mistaken_setting as has_mistaken_setting_so};
 
 use crate::conditions::Test;
@@ -26,6 +27,13 @@ fn is_of_kind(value: &Value, kind: &ColKind) -> bool
         (value, kind),
         (Value::Int(_), ColKind::Int) | (Value::Text(_), ColKind::Text)
     )
+}
+
+/// Whether a column of that kind refers to a table.
+pub fn is_reference(kind: &ColKind) -> bool
+    ensures { result ≡ is_some (referred kind.now) }
+{
+    matches!(kind, ColKind::Ref(_) | ColKind::RefOrNull(_))
 }
 
 // Whether a value is none for the column at that place.

@@ -5,6 +5,7 @@ ghost use Rattle.std.specs.List.{list_any};
 ghost use Rattle.std.specs.Str.{bytes_eq};
 ghost use Rattle.plain_tables.specs.Databases.{is_named, table_named};
 ghost use Rattle.plain_tables.specs.Effects.{column_names, repeats, table_checks, effect_of, Done};
+ghost use Rattle.plain_tables.specs.References.{referred};
 ghost use Rattle.plain_tables.specs.AnswerText.{answer_text};
 ghost use Rattle.plain_tables.specs.declared.command.Limits.{Limits};
 ghost use Rattle.mm_session.specs.Answered.{first_refusal, DoesAll, DoesNothing};
@@ -13,6 +14,7 @@ ghost use Rattle.plain_tables.specs.Spelling.{NamesSomething};
 ghost use Rattle.plain_tables.specs.declared.command.Command.TheVariants as command;
 
 use crate::answer::Answer;
+use crate::checks::is_reference;
 use crate::delete::delete;
 use crate::select::select;
 use crate::table::{Row, StoredTable};
@@ -62,6 +64,13 @@ fn repeats_name(columns: &[Column]) -> bool
     false
 }
 
+// Whether a column refers to a table.
+fn has_reference(columns: &[Column]) -> bool
+    ensures { result ≡ list_any (λ c. is_some (referred c.kind)) columns.now }
+{
+    columns.iter().any(|column| is_reference(&column.kind))
+}
+
 impl Tables {
     /// No tables. It takes no memory.
     pub fn new(alloc: Global) -> Tables
@@ -103,6 +112,9 @@ impl Tables {
     fn refusal_of_new(&self, name: &Text, schema: &Schema) -> Option<Refusal>
         ensures { result ≡ first_refusal (table_checks name.now schema.now self.now) }
     {
+        if has_reference(schema.columns.as_slice()) {
+            return Some(Refusal::NotACommand);
+        }
         if self.has_table(name) {
             return Some(Refusal::TableExists);
         }
@@ -234,6 +246,11 @@ impl Tables {
                 table,
                 conditions,
             } => self.select(&items, &table, conditions.as_slice(), answer),
+            // Not done yet.
+            Command::DropTable { .. } => Err(Refusal::NotACommand),
+            Command::Index { .. } => Err(Refusal::NotACommand),
+            Command::DropIndex { .. } => Err(Refusal::NotACommand),
+            Command::Tables => Err(Refusal::NotACommand),
         }
     }
 }

@@ -134,6 +134,9 @@ resolved_plain : (tables : Database) (c : Command) → resolved_of (plain tables
 resolved_plain tables (command.Table name schema) =
     same_checks (table_checks (plain tables) name schema) (table_checks tables name schema) (resolved.Table name schema)
     (table_checks_plain tables name schema)
+resolved_plain tables (command.DropTable name) = refl
+resolved_plain tables (command.Index name column k) = refl
+resolved_plain tables (command.DropIndex name column k) = refl
 resolved_plain tables (command.Insert name row) =
     numbered_plain name tables (λ n t. meaning (insert_checks tables t row) (resolved.Insert n row))
     (λ n t. meaning (insert_checks (plain tables) t row) (resolved.Insert n row))
@@ -163,6 +166,7 @@ resolved_plain tables (command.Select its name conditions) =
     (λ n t. same_checks (select_checks (plain tables) (unindexed t) its conditions) (select_checks tables t its conditions)
     (resolved.Select (shown_of (own_columns t) its) n (tests_of (own_columns t) conditions))
     (rw (conditions_plain tables (own_columns t) conditions) refl))
+resolved_plain tables command.Tables = refl
 
 pub resolved_alike : ResolvedAlike
 resolved_alike tables others c alike =

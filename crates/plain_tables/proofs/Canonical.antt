@@ -6,13 +6,12 @@ use Rattle.std.specs.List.{AllByRecursion}
 use Rattle.std.specs.Fmt.{decimal, signed_decimal}
 use Rattle.std.specs.Str.Parse.{IsNumeral, digits_value}
 use Rattle.std.proofs.lemmas.Fmt.{decimal_is_IsNumeral}
-use Rattle.plain_tables.specs.Spelling.{Mark, Open, Close, Comma, Dot, Star, Operator, Symbol, Keyword, Name, Kind, Literal, Sign, symbols_of, AreBlanks, IsInteger, IsSymbol, goes_on_with, EndsBefore, IsMadeOf, NamesSomething, IsSpellable, symbol_text, gap, spaced, canonical_spelling, CanonicalSpells}
+use Rattle.plain_tables.specs.Spelling.{Mark, Open, Close, Comma, Dot, Star, Operator, Symbol, Keyword, Name, Literal, Sign, symbols_of, AreBlanks, IsInteger, IsSymbol, goes_on_with, EndsBefore, IsMadeOf, NamesSomething, IsSpellable, symbol_text, gap, spaced, canonical_spelling, CanonicalSpells}
 use Rattle.plain_tables.specs.declared.value.Value.TheVariants as value
-use Rattle.plain_tables.specs.declared.schema.ColKind.TheVariants as kind
 use Rattle.plain_tables.specs.declared.condition.Op.TheVariants as op
 use Rattle.plain_tables.specs.declared.command.Items.TheVariants as items
 use Rattle.plain_tables.specs.declared.command.Command.{Command}
-use Rattle.plain_tables.specs.declared.command.Command.TheVariants.{Table, Insert, Update, Delete, Select}
+use Rattle.plain_tables.specs.declared.command.Command.TheVariants.{Table, DropTable, Index, DropIndex, Insert, Update, Delete, Select, Tables}
 use Rattle.plain_tables.proofs.Separated.{all-each}
 use Rattle.plain_tables.proofs.WellFormed.{IsSpellableSymbol, command-spellable, made-no_line_feed}
 
@@ -32,11 +31,7 @@ integer-text (negsuc n) fits =
 symbol-text : (symbol : Symbol) → IsSpellableSymbol symbol → HasText symbol
 symbol-text (Keyword word) can = refl
 symbol-text (Name name) can = (refl, can)
-symbol-text (Kind kind.Int) can = refl
-symbol-text (Kind kind.Text) can = refl
-symbol-text (Kind (kind.Ref t)) can = elim can [ ]
-symbol-text (Kind (kind.RefOrNull t)) can = elim can [ ]
-symbol-text (Literal value.Null) can = elim can [ ]
+symbol-text (Literal value.Null) can = refl
 symbol-text (Literal (value.Int z)) can = integer-text z can
 symbol-text (Literal (value.Text text)) can = refl
 symbol-text (Sign mark) can = refl
@@ -77,10 +72,6 @@ gap-ends (Name name) (Sign Close) rest = refl
 gap-ends (Name name) (Sign Comma) rest = refl
 gap-ends (Name name) (Sign Dot) rest = refl
 gap-ends (Name name) next rest = refl
-gap-ends (Kind k) (Sign Close) rest = refl
-gap-ends (Kind k) (Sign Comma) rest = refl
-gap-ends (Kind k) (Sign Dot) rest = refl
-gap-ends (Kind k) next rest = refl
 gap-ends (Literal value.Null) (Sign Close) rest = refl
 gap-ends (Literal value.Null) (Sign Comma) rest = refl
 gap-ends (Literal value.Null) (Sign Dot) rest = refl
@@ -133,11 +124,15 @@ spaced-made blanks (symbol ∷ next ∷ symbols) are all =
 
 names-something : (command : Command) → IsSpellable command → NamesSomething command
 names-something (Table name schema) can = can.1
+names-something (DropTable table) can = tt
+names-something (Index table column k) can = tt
+names-something (DropIndex table column k) can = tt
 names-something (Insert table values) can = can.1
 names-something (Update table settings conditions) can = can.1
 names-something (Delete table conditions) can = tt
 names-something (Select items.All table conditions) can = tt
 names-something (Select (items.Named names) table conditions) can = can.0.0
+names-something Tables can = tt
 
 -- Law: the canonical spelling of a command that can be spelled spells it.
 pub canonical-spells : CanonicalSpells

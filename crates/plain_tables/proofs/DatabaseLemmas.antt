@@ -17,7 +17,8 @@ use Rattle.plain_tables.specs.Tables.{Table, Row, key_cmp}
 use Rattle.plain_tables.specs.Databases.{Database, IsWellFormed, IsWellFormedTable, is_named, table_named, with_table, FitsColumns, IsDeclarable}
 use Rattle.plain_tables.specs.Queries.{JoinedColumn, joined_columns, meets_all}
 use Rattle.plain_tables.specs.Effects.{repeats, column_names, table_checks, insert_checks, update_checks, delete_checks, select_checks, has_mistaken_condition, mistakes, setting_name, set_in, new_table, grown_by, updated, without, effect_of}
-use Rattle.plain_tables.specs.Spelling.{IsSpellable, IsSpellableKind, IsSpellableColumn}
+use Rattle.plain_tables.specs.References.{referred}
+use Rattle.plain_tables.specs.Spelling.{IsSpellable, IsSpellableColumn}
 use Rattle.plain_tables.specs.declared.schema.Schema.{Schema}
 use Rattle.plain_tables.specs.declared.schema.Column.{Column}
 use Rattle.plain_tables.specs.declared.schema.ColKind.{ColKind}
@@ -28,7 +29,7 @@ use Rattle.plain_tables.specs.declared.command.Limits.{Limits}
 use Rattle.plain_tables.specs.declared.command.Command.{Command}
 use Rattle.plain_tables.specs.declared.command.Command.TheVariants as command
 use Rattle.plain_tables.proofs.EffectLemmas.{checked_satisfies, on_table_satisfies}
-use Rattle.plain_tables.proofs.ListLemmas.{AllPairs-nil, AllPairs-set_alike, fails_where_not_found}
+use Rattle.plain_tables.proofs.ListLemmas.{AllPairs-nil, AllPairs-set_alike, fails_where_none, fails_where_not_found}
 use Rattle.plain_tables.proofs.QueryLemmas.{without_and_met}
 use Rattle.plain_tables.proofs.RowLemmas.{with_row-rises, length-with_row, All-with_row, fits_columns, map_rises}
 use Rattle.plain_tables.proofs.UpdateLemmas.{IsApt, settings_apt, set_in_fits, set_in_key}
@@ -63,16 +64,16 @@ no_tables_are_well_formed limits = record {
 
 -- ---- a new table
 
-declarable : (k : ColKind) → IsSpellableKind k → IsDeclarable k
+declarable : (k : ColKind) → is_some (referred k) ≡ false → IsDeclarable k
 declarable kind.Int h = tt
 declarable kind.Text h = tt
-declarable (kind.Ref table) h = h
-declarable (kind.RefOrNull table) h = h
+declarable (kind.Ref table) h = cc
+declarable (kind.RefOrNull table) h = cc
 
 new_table_well_formed : (limits : Limits) (name : List ℕ) (schema : Schema) → IsName name → 0 < length schema.columns
-    → AllByRecursion IsSpellableColumn schema.columns → repeats bytes_eq (column_names schema.columns) ≡ false → length schema.columns ≤ 16
+    → AllByRecursion IsSpellableColumn schema.columns → list_any (λ c. is_some (referred c.kind)) schema.columns ≡ false → repeats bytes_eq (column_names schema.columns) ≡ false → length schema.columns ≤ 16
     → IsWellFormedTable limits (new_table name schema)
-new_table_well_formed limits name schema named some columns apart few =
+new_table_well_formed limits name schema named some columns plain apart few =
     let all = All-from_recursion IsSpellableColumn schema.columns columns in
     record {
       named = named;
@@ -80,7 +81,8 @@ new_table_well_formed limits name schema named some columns apart few =
       columns_apart = columns_differ schema.columns apart;
       some_column = some;
       few_columns = few;
-      kinds = All-weaker IsSpellableColumn (λ c. IsDeclarable c.kind) (λ c s. declarable c.kind s.1) schema.columns all;
+      kinds = All-weaker (λ c. is_some (referred c.kind) ≡ false) (λ c. IsDeclarable c.kind) (λ c plain. declarable c.kind plain) schema.columns
+          (fails_where_none (λ c. is_some (referred c.kind)) schema.columns plain);
       no_index = refl;
       rows_fit = All-nil (FitsColumns schema.columns);
       rows_rise = AllPairs-nil (λ r s. key_cmp r s ≡ Less);
@@ -105,10 +107,10 @@ table_keeps : (limits : Limits) (tables : Database) (name : List ℕ) (schema : 
 table_keeps limits tables name schema spelled well =
     checked_satisfies (λ e. IsWellFormed limits e.database) tables (table_checks name schema tables) _ (λ r. well)
     (λ passed.
-    let few = or_parts (nat_lt 16 (length schema.columns)) (nat_le 64 (length tables)) passed.1.1.0 in
+    let few = or_parts (nat_lt 16 (length schema.columns)) (nat_le 64 (length tables)) passed.1.1.1.0 in
     with_new_table limits tables (new_table name schema) well
-    (new_table_well_formed limits name schema spelled.0 spelled.1 spelled.2 passed.1.0 (ltb-false 16 (length schema.columns) few.0))
-    passed.0 (leb-false 64 (length tables) few.1))
+    (new_table_well_formed limits name schema spelled.0 spelled.1 spelled.2 passed.0 passed.1.1.0 (ltb-false 16 (length schema.columns) few.0))
+    passed.1.0 (leb-false 64 (length tables) few.1))
 
 -- ---- a row more
 
@@ -241,6 +243,9 @@ delete_keeps limits tables name conditions well =
 pub effect_keeps : (limits : Limits) (tables : Database) (c : Command) → IsSpellable c → IsWellFormed limits tables
     → IsWellFormed limits (effect_of limits tables c).database
 effect_keeps limits tables (command.Table name schema) spelled well = table_keeps limits tables name schema spelled well
+effect_keeps limits tables (command.DropTable name) spelled well = well
+effect_keeps limits tables (command.Index name column k) spelled well = well
+effect_keeps limits tables (command.DropIndex name column k) spelled well = well
 effect_keeps limits tables (command.Insert name row) spelled well = insert_keeps limits tables name row spelled well
 effect_keeps limits tables (command.Update name settings conditions) spelled well =
     update_keeps limits tables name settings conditions spelled well
@@ -249,3 +254,4 @@ effect_keeps limits tables (command.Select items name conditions) spelled well =
     on_table_satisfies (λ e. IsWellFormed limits e.database) name tables _ (λ r. well)
     (λ table there. checked_satisfies (λ e. IsWellFormed limits e.database) tables (select_checks (table ∷ []) items conditions) _ (λ r. well)
     (λ passed. well))
+effect_keeps limits tables command.Tables spelled well = well

@@ -49,6 +49,9 @@ command_keeps : (limits : Limits) (tables : Database) (c : Command) → KeepsOnE
 command_keeps limits tables (command.Table name schema) =
     checked_satisfies (KeepsOnError tables) tables (table_checks name schema tables) _ (refusal_keeps tables)
     (λ passed. record { kept = λ words same. absurd (ok_is_no_error _ words same) })
+command_keeps limits tables (command.DropTable name) = refusal_keeps tables NotACommand
+command_keeps limits tables (command.Index name column k) = refusal_keeps tables NotACommand
+command_keeps limits tables (command.DropIndex name column k) = refusal_keeps tables NotACommand
 command_keeps limits tables (command.Insert name row) =
     on_table_satisfies (KeepsOnError tables) name tables _ (refusal_keeps tables)
     (λ table there. checked_satisfies (KeepsOnError tables) tables (insert_checks limits table row) _ (refusal_keeps tables)
@@ -65,6 +68,7 @@ command_keeps limits tables (command.Select items name conditions) =
     on_table_satisfies (KeepsOnError tables) name tables _ (refusal_keeps tables)
     (λ table there. checked_satisfies (KeepsOnError tables) tables (select_checks (table ∷ []) items conditions) _ (refusal_keeps tables)
     (λ passed. record { kept = λ words same. refl }))
+command_keeps limits tables command.Tables = refusal_keeps tables NotACommand
 
 line_keeps : (limits : Limits) (tables : Database) (line : List ℕ) (e : Effect) → IsEffect limits tables line e → KeepsOnError tables e
 line_keeps limits tables line e (too_long h) = refusal_keeps tables LineTooLong

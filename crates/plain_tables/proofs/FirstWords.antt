@@ -1,13 +1,13 @@
--- First words: each command has a keyword of its own in front.
+-- First words: each command has a keyword in front.
 use Rattle.std.proofs.Common.{◌≡◌, ◌≢◌, ℕ, List, [], ◌∷◌, ◌++◌, map, true, false, refl, subst, IsTrue}
 use Rattle.std.specs.Str.{bytes_eq}
 use Rattle.std.proofs.lemmas.Slice.Eq.{bytes_eq-Decides}
 use lib.Chars.{codes}
 use Rattle.plain_tables.specs.Names.{is_word}
-use Rattle.plain_tables.specs.Spelling.{Symbol, Keyword, Name, Sign, Open, Close, separated, symbols_of, column_symbols, value_symbols, setting_symbols, items_symbols, where_symbols, IsMadeOf, Spells}
+use Rattle.plain_tables.specs.Spelling.{Symbol, Keyword, Name, Sign, Open, Close, separated, symbols_of, column_symbols, index_symbols, value_symbols, setting_symbols, items_symbols, where_symbols, IsMadeOf, Spells}
 use Rattle.plain_tables.specs.Reading.{lexeme, after_lexeme}
 use Rattle.plain_tables.specs.declared.command.Command.{Command}
-use Rattle.plain_tables.specs.declared.command.Command.TheVariants.{Table, Insert, Update, Delete, Select}
+use Rattle.plain_tables.specs.declared.command.Command.TheVariants.{Table, DropTable, Index, DropIndex, Insert, Update, Delete, Select, Tables}
 use Rattle.plain_tables.proofs.Lexemes.{lexeme-of_made}
 
 -- Words that a comparison tells apart are different.
@@ -16,25 +16,37 @@ different word other test e = let same : bytes_eq word other ≡ true = (bytes_e
 
 abbrev pub first_word : Command → List ℕ
 first_word (Table name schema) = codes "table"
+first_word (DropTable table) = codes "drop"
+first_word (Index table column k) = codes "index"
+first_word (DropIndex table column k) = codes "drop"
 first_word (Insert table values) = codes "insert"
 first_word (Update table settings conditions) = codes "update"
 first_word (Delete table conditions) = codes "delete"
 first_word (Select items table conditions) = codes "select"
+first_word Tables = codes "tables"
 
 abbrev pub behind_word : Command → List Symbol
 behind_word (Table name schema) = Name name ∷ Sign Open ∷ separated (map column_symbols schema.columns) ++ Sign Close ∷ []
+behind_word (DropTable table) = Keyword (codes "table") ∷ Name table ∷ []
+behind_word (Index table column k) = index_symbols table column k
+behind_word (DropIndex table column k) = Keyword (codes "index") ∷ index_symbols table column k
 behind_word (Insert table values) = Name table ∷ Sign Open ∷ separated (map value_symbols values) ++ Sign Close ∷ []
 behind_word (Update table settings conditions) =
     Name table ∷ Keyword (codes "set") ∷ separated (map setting_symbols settings) ++ where_symbols conditions
 behind_word (Delete table conditions) = Name table ∷ where_symbols conditions
 behind_word (Select items table conditions) = items_symbols items ++ Keyword (codes "from") ∷ Name table ∷ where_symbols conditions
+behind_word Tables = []
 
 pub split-word : (command : Command) → (symbols_of command ≡ Keyword (first_word command) ∷ behind_word command) × IsTrue (is_word (first_word command))
 split-word (Table name schema) = (refl, refl)
+split-word (DropTable table) = (refl, refl)
+split-word (Index table column k) = (refl, refl)
+split-word (DropIndex table column k) = (refl, refl)
 split-word (Insert table values) = (refl, refl)
 split-word (Update table settings conditions) = (refl, refl)
 split-word (Delete table conditions) = (refl, refl)
 split-word (Select items table conditions) = (refl, refl)
+split-word Tables = (refl, refl)
 
 -- A line that spells a command begins with the command's first word, and what follows makes up the rest of it.
 pub spells-word : (line : List ℕ) (command : Command) → Spells line command

@@ -81,6 +81,9 @@ table_bare limits tables name schema =
 
 effect_bare : (limits : Limits) (tables : Database) (c : Command) → effect_of limits (map unindexed tables) c ≡ bare (effect_of limits tables c)
 effect_bare limits tables (command.Table name schema) = table_bare limits tables name schema
+effect_bare limits tables (command.DropTable name) = refl
+effect_bare limits tables (command.Index name column k) = refl
+effect_bare limits tables (command.DropIndex name column k) = refl
 effect_bare limits tables (command.Insert name row) =
     on_table_bare name tables _ _ (λ t. changed_bare tables (insert_checks limits t row) name _ _)
 effect_bare limits tables (command.Update name settings conditions) =
@@ -89,6 +92,7 @@ effect_bare limits tables (command.Delete name conditions) =
     on_table_bare name tables _ _ (λ t. changed_bare tables (delete_checks t conditions) name _ _)
 effect_bare limits tables (command.Select items name conditions) =
     on_table_bare name tables _ _ (λ t. checked_bare tables (select_checks (t ∷ []) items conditions) _)
+effect_bare limits tables command.Tables = refl
 
 pub indexes_are_not_read : IndexesAreNotRead
 indexes_are_not_read limits tables others c alike =

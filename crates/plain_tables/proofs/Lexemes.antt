@@ -12,9 +12,8 @@ use Rattle.std.proofs.lemmas.List.{take-append-drop}
 use Rattle.std.proofs.lemmas.Bool.{and_parts, or_parts}
 use Rattle.std.proofs.lemmas.Bool.Decides.{nat_tests}
 use Rattle.plain_tables.specs.Names.{is_word, is_word_character, is_letter}
-use Rattle.plain_tables.specs.Spelling.{Mark, Open, Close, Comma, Dot, Star, Operator, mark_text, doubled, text_literal, Symbol, Keyword, Name, Kind, Literal, Sign, IsInteger, AreBlanks, is_blank, IsSymbol, EndsBefore, IsMadeOf, goes_on_with}
+use Rattle.plain_tables.specs.Spelling.{Mark, Open, Close, Comma, Dot, Star, Operator, mark_text, doubled, text_literal, Symbol, Keyword, Name, Literal, Sign, IsInteger, AreBlanks, is_blank, IsSymbol, EndsBefore, IsMadeOf, goes_on_with}
 use Rattle.plain_tables.specs.declared.value.Value.TheVariants as value
-use Rattle.plain_tables.specs.declared.schema.ColKind.TheVariants as kind
 use Rattle.plain_tables.specs.declared.condition.Op.TheVariants as op
 use Rattle.plain_tables.specs.Reading.{behind_blanks, begins_run, is_operator, operator_length, length_behind, lexeme_length, lexeme, after_lexeme}
 use Rattle.plain_tables.proofs.Texts.{NoMarkFirst, text_length-literal, behind_text-free}
@@ -105,7 +104,6 @@ integer-run characters z (fits, (digits, numeral, inr (e, value))) = rw e (refl,
 abbrev pub IsWellFormed : Symbol → Type 0
 IsWellFormed (Keyword word) = IsTrue (is_word word)
 IsWellFormed (Name name) = Unit {0}
-IsWellFormed (Kind kind) = Unit {0}
 IsWellFormed (Literal value) = Unit {0}
 IsWellFormed (Sign mark) = Unit {0}
 
@@ -113,7 +111,6 @@ IsWellFormed (Sign mark) = Unit {0}
 abbrev pub IsWordOrNumber : Symbol → Type 0
 IsWordOrNumber (Keyword word) = Unit {0}
 IsWordOrNumber (Name name) = Unit {0}
-IsWordOrNumber (Kind kind) = Unit {0}
 IsWordOrNumber (Literal value.Null) = Unit {0}
 IsWordOrNumber (Literal (value.Int z)) = Unit {0}
 IsWordOrNumber (Literal (value.Text text)) = ⊥
@@ -125,11 +122,7 @@ symbol-run characters (Keyword word) plain well is = rw is (word-run word well)
 symbol-run characters (Name name) plain well is =
     let word : is_word name ≡ true = (and_parts (is_word name) _ is.1).0 in
     rw is.0 (word-run name word)
-symbol-run characters (Kind kind.Int) plain well is = rw is (word-run (codes "int") refl)
-symbol-run characters (Kind kind.Text) plain well is = rw is (word-run (codes "text") refl)
-symbol-run characters (Kind (kind.Ref table)) plain well is = elim is [ ]
-symbol-run characters (Kind (kind.RefOrNull table)) plain well is = elim is [ ]
-symbol-run characters (Literal value.Null) plain well is = elim is [ ]
+symbol-run characters (Literal value.Null) plain well is = rw is (word-run (codes "null") refl)
 symbol-run characters (Literal (value.Int z)) plain well is = integer-run characters z is
 symbol-run characters (Literal (value.Text text)) plain well is = elim plain [ ]
 symbol-run characters (Sign mark) plain well is = elim plain [ ]
@@ -152,8 +145,7 @@ HasShape characters symbol = HasRun characters symbol ⊎ (HasText characters sy
 symbol-shape : (characters : List ℕ) (symbol : Symbol) → IsWellFormed symbol → IsSymbol characters symbol → HasShape characters symbol
 symbol-shape characters (Keyword word) well is = inl (symbol-run characters (Keyword word) tt well is, λ c. refl)
 symbol-shape characters (Name name) well is = inl (symbol-run characters (Name name) tt well is, λ c. refl)
-symbol-shape characters (Kind k) well is = inl (symbol-run characters (Kind k) tt well is, λ c. refl)
-symbol-shape characters (Literal value.Null) well is = elim is [ ]
+symbol-shape characters (Literal value.Null) well is = inl (symbol-run characters (Literal value.Null) tt well is, λ c. refl)
 symbol-shape characters (Literal (value.Int z)) well is = inl (symbol-run characters (Literal (value.Int z)) tt well is, λ c. refl)
 symbol-shape characters (Literal (value.Text text)) well is = inr (inl (text, is, λ c. refl))
 symbol-shape characters (Sign mark) well is = inr (inr (mark, is, λ c. refl))

@@ -1,7 +1,9 @@
 -- Lists: two lists of items at the front of a line are one, and one rest follows them.
-use Rattle.std.proofs.Common.{◌≡◌, ℕ, ◌<◌, List, [], ◌∷◌, ◌++◌, length, map, false, sym, ◌∙◌, arith, subst}
+use Rattle.std.proofs.Common.{◌≡◌, ℕ, ◌<◌, List, [], ◌∷◌, ◌++◌, length, map, true, false, refl, sym, ◌∙◌, arith, subst}
 use Rattle.std.specs.Str.{bytes_eq}
-use Rattle.plain_tables.specs.Spelling.{Mark, Dot, mark_text, Symbol, Sign, separated_by, IsSymbol, IsMadeOf}
+use lib.Chars.{codes}
+use Rattle.plain_tables.specs.Names.{is_word}
+use Rattle.plain_tables.specs.Spelling.{Mark, Dot, mark_text, Symbol, Keyword, Sign, separated_by, IsSymbol, IsMadeOf}
 use Rattle.plain_tables.specs.Reading.{lexeme, after_lexeme}
 use Rattle.plain_tables.proofs.Lexemes.{IsWellFormed, lexeme-of_made, blanks-no_lexeme}
 use Rattle.plain_tables.proofs.Separated.{separated_by-more}
@@ -23,6 +25,9 @@ IsFixed symbol text = IsWellFormed symbol × ((characters : List ℕ) → IsSymb
 pub sign-fixed : (mark : Mark) → IsFixed (Sign mark) (mark_text mark)
 sign-fixed mark = (tt, λ characters is. is)
 
+pub word-fixed : (word : List ℕ) → is_word word ≡ true → IsFixed (Keyword word) word
+word-fixed word is = (is, λ characters same. same)
+
 pub fixed-no_fixed : (symbol other : Symbol) (text text' : List ℕ) → IsFixed symbol text → IsFixed other text'
     → bytes_eq text text' ≡ false → (others : List Symbol) → NeverBegins symbol (other ∷ others)
 fixed-no_fixed symbol other text text' fixed fixed' not others line more made made' =
@@ -41,19 +46,39 @@ fixed-no_end symbol text fixed not line more made blanks =
 abbrev pub HaveOneRest : List Symbol → List Symbol → Type 0
 HaveOneRest m n = (rest : List ℕ) × IsMadeOf rest m × IsMadeOf rest n
 
--- Two items at the front of a line, with no dot behind them, are one, and one rest follows them.
+-- Neither a dot nor a null stands behind an item: the one would go on with a column's name, the other with a reference.
+pub record EndsItem (more : List Symbol) : Type 0 where
+  pub no_dot : NeverBegins (Sign Dot) more
+  pub no_null : NeverBegins (Keyword (codes "null")) more
+
+-- a fixed symbol that is neither
+pub fixed-ends_item : (symbol : Symbol) (text : List ℕ) → IsFixed symbol text → bytes_eq (codes ".") text ≡ false
+    → bytes_eq (codes "null") text ≡ false → (more : List Symbol) → EndsItem (symbol ∷ more)
+fixed-ends_item symbol text fixed no_dot no_null more = record {
+  no_dot = fixed-no_fixed (Sign Dot) symbol (codes ".") text (sign-fixed Dot) fixed no_dot more;
+  no_null = fixed-no_fixed (Keyword (codes "null")) symbol (codes "null") text (word-fixed (codes "null") refl) fixed no_null more;
+}
+
+-- the end of the line
+pub nothing-ends_item : EndsItem []
+nothing-ends_item = record {
+  no_dot = fixed-no_end (Sign Dot) (codes ".") (sign-fixed Dot) refl;
+  no_null = fixed-no_end (Keyword (codes "null")) (codes "null") (word-fixed (codes "null") refl) refl;
+}
+
+-- Two items at the front of a line that end there are one, and one rest follows them.
 abbrev pub IsOneItem : {X : Type 0} → (X → List Symbol) → Type 0
-IsOneItem {X} symbols = (line : List ℕ) (x y : X) (m n : List Symbol) → NeverBegins (Sign Dot) m → NeverBegins (Sign Dot) n
+IsOneItem {X} symbols = (line : List ℕ) (x y : X) (m n : List Symbol) → EndsItem m → EndsItem n
     → IsMadeOf line (symbols x ++ m) → IsMadeOf line (symbols y ++ n) → (x ≡ y) × HaveOneRest m n
 
--- What stands between items is a fixed symbol, and no dot.
+-- What stands between items is a fixed symbol that ends an item.
 pub record IsBetween (between : Symbol) : Type 0 where
   pub well : IsWellFormed between
-  pub no_dot : (more : List Symbol) → NeverBegins (Sign Dot) (between ∷ more)
+  pub ends_item : (more : List Symbol) → EndsItem (between ∷ more)
 
--- Neither a dot nor a further item follows a list.
+-- What follows a list ends an item, and no further item follows.
 pub record Ends (between : Symbol) (more : List Symbol) : Type 0 where
-  pub no_dot : NeverBegins (Sign Dot) more
+  pub ends_item : EndsItem more
   pub no_more : NeverBegins between more
 
 -- the symbols of a list, and what follows it
@@ -72,23 +97,23 @@ pub list-one : {X : Type 0} (between : Symbol) (symbols : X → List Symbol) →
 list-one between symbols is one line [] ys m n some some' ends ends' made made' = absurd (omega arith)
 list-one between symbols is one line (x ∷ xs) [] m n some some' ends ends' made made' = absurd (omega arith)
 list-one between symbols is one line (x ∷ []) (y ∷ []) m n some some' ends ends' made made' =
-    let both : (x ≡ y) × HaveOneRest m n = one line x y m n ends.no_dot ends'.no_dot made made' in
+    let both : (x ≡ y) × HaveOneRest m n = one line x y m n ends.ends_item ends'.ends_item made made' in
     ((λ i. both.0 i ∷ []), both.1)
 list-one between symbols is one line (x ∷ []) (y ∷ z ∷ ys) m n some some' ends ends' made made' =
     let more : List Symbol = list_and between symbols (z ∷ ys) n in
     let both : (x ≡ y) × HaveOneRest m (between ∷ more) =
-    one line x y m (between ∷ more) ends.no_dot (is.no_dot more) made (made-more between symbols line y z ys n made') in
+    one line x y m (between ∷ more) ends.ends_item (is.ends_item more) made (made-more between symbols line y z ys n made') in
     absurd (ends.no_more both.1.0 more both.1.2 both.1.1)
 list-one between symbols is one line (x ∷ z ∷ xs) (y ∷ []) m n some some' ends ends' made made' =
     let more : List Symbol = list_and between symbols (z ∷ xs) m in
     let both : (x ≡ y) × HaveOneRest (between ∷ more) n =
-    one line x y (between ∷ more) n (is.no_dot more) ends'.no_dot (made-more between symbols line x z xs m made) made' in
+    one line x y (between ∷ more) n (is.ends_item more) ends'.ends_item (made-more between symbols line x z xs m made) made' in
     absurd (ends'.no_more both.1.0 more both.1.1 both.1.2)
 list-one between symbols is one line (x ∷ z ∷ xs) (y ∷ w ∷ ys) m n some some' ends ends' made made' =
     let more : List Symbol = list_and between symbols (z ∷ xs) m in
     let more' : List Symbol = list_and between symbols (w ∷ ys) n in
     let both : (x ≡ y) × HaveOneRest (between ∷ more) (between ∷ more') =
-    one line x y (between ∷ more) (between ∷ more') (is.no_dot more) (is.no_dot more')
+    one line x y (between ∷ more) (between ∷ more') (is.ends_item more) (is.ends_item more')
     (made-more between symbols line x z xs m made) (made-more between symbols line y w ys n made') in
     let others : (z ∷ xs ≡ w ∷ ys) × HaveOneRest m n =
     list-one between symbols is one (after_lexeme both.1.0) (z ∷ xs) (w ∷ ys) m n (omega arith) (omega arith) ends ends'

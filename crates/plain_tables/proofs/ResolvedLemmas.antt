@@ -24,7 +24,7 @@ use Rattle.plain_tables.specs.declared.value.Value.TheVariants as value
 use Rattle.plain_tables.specs.declared.condition.ColName.{ColName}
 use Rattle.plain_tables.specs.declared.condition.Cond.{Cond}
 use Rattle.plain_tables.specs.declared.refusal.Refusal.{Refusal}
-use Rattle.plain_tables.specs.declared.refusal.Refusal.TheVariants.{NoSuchTable}
+use Rattle.plain_tables.specs.declared.refusal.Refusal.TheVariants.{NotACommand, NoSuchTable}
 use Rattle.plain_tables.specs.declared.schema.ColKind.{ColKind}
 use Rattle.plain_tables.specs.declared.schema.ColKind.TheVariants as kind
 use Rattle.plain_tables.specs.declared.schema.Column.{Column}
@@ -258,6 +258,9 @@ pub resolved_are_meant : ResolvedAreMeant
 resolved_are_meant limits tables (command.Table name schema) r given h =
     let passed = passes_checks (table_checks tables name schema) (resolved.Table name schema) r h in
     subst (IsMeant limits tables) passed.1 (declarable limits tables name schema given passed.0)
+resolved_are_meant limits tables (command.DropTable name) r given h = absurd (not_Ok NotACommand r h)
+resolved_are_meant limits tables (command.Index name column k) r given h = absurd (not_Ok NotACommand r h)
+resolved_are_meant limits tables (command.DropIndex name column k) r given h = absurd (not_Ok NotACommand r h)
 resolved_are_meant limits tables (command.Insert name row) r given h =
     numbered_satisfies (IsMeant limits tables) name tables (λ table. insert_checks tables table row) (λ n table. resolved.Insert n row) r h
     (λ n table there passed. (
@@ -293,6 +296,7 @@ resolved_are_meant limits tables (command.Select its name conditions) r given h 
     numbered_satisfies (IsMeant limits tables) name tables (λ table. select_checks tables table its conditions)
     (λ n table. resolved.Select (shown_of (own_columns table) its) n (tests_of (own_columns table) conditions)) r h
     (λ n table there passed. (table, there, (shown_meant table its, tests_meant tables table conditions passed.1.1.0)))
+resolved_are_meant limits tables command.Tables r given h = absurd (not_Ok NotACommand r h)
 
 pub commands_keep_sound : CommandsKeepSound
 commands_keep_sound limits tables c r given h sound =

@@ -1,39 +1,24 @@
--- Single items: two names, values, columns, settings or conditions at the front of a line are one.
-use Rattle.std.proofs.Common.{◌≡◌, ℕ, List, [], ◌∷◌, ◌++◌, Option, Some, None, ◌⊎◌, inl, inr, false, refl, sym, ◌∙◌, ap, append_assoc, subst}
+-- Single items: two names, values, columns, settings, conditions or indexes at the front of a line are one.
+use Rattle.std.proofs.Common.{◌≡◌, ℕ, List, [], ◌∷◌, ◌++◌, Option, Some, None, false, refl, sym, ◌∙◌, ap, append_assoc, subst}
 use Rattle.std.specs.Str.{bytes_eq}
 use lib.Chars.{codes}
-use Rattle.plain_tables.specs.Spelling.{Dot, Symbol, Name, Kind, Literal, Sign, Operator, operator_text, column_symbols, value_symbols, name_symbols, setting_symbols, condition_symbols, IsSymbol, IsMadeOf}
+use Rattle.plain_tables.specs.Spelling.{Dot, Symbol, Keyword, Name, Literal, Sign, Operator, operator_text, kind_symbols, column_symbols, index_word, index_symbols, value_symbols, name_symbols, setting_symbols, condition_symbols, IsSymbol, IsMadeOf}
 use Rattle.plain_tables.specs.Reading.{lexeme, after_lexeme}
 use Rattle.plain_tables.specs.declared.value.Value.{Value}
 use Rattle.plain_tables.specs.declared.schema.ColKind.{ColKind}
 use Rattle.plain_tables.specs.declared.schema.ColKind.TheVariants as kind
+use Rattle.plain_tables.specs.declared.schema.IndexKind.{IndexKind}
+use Rattle.plain_tables.specs.declared.schema.IndexKind.TheVariants as index
 use Rattle.plain_tables.specs.declared.condition.Op.{Op}
 use Rattle.plain_tables.specs.declared.condition.Op.TheVariants as op
 use Rattle.plain_tables.specs.declared.condition.Cond.{Cond}
 use Rattle.plain_tables.proofs.Lexemes.{IsWellFormed, lexeme-of_made}
 use Rattle.plain_tables.proofs.Integers.{Literal-only}
 use Rattle.plain_tables.proofs.FirstWords.{different}
-use Rattle.plain_tables.proofs.Lists.{NeverBegins, HaveOneRest, IsOneItem, sign-fixed, fixed-no_fixed}
+use Rattle.plain_tables.proofs.WellFormed.{index_word-word}
+use Rattle.plain_tables.proofs.Lists.{NeverBegins, HaveOneRest, EndsItem, fixed-ends_item, IsOneItem, sign-fixed}
 
--- ---- kinds of columns and operators
-
--- the kinds that characters can be
-pub kind-only : (characters : List ℕ) (k : ColKind) → IsSymbol characters (Kind k)
-    → ((characters ≡ codes "int") × (k ≡ kind.Int)) ⊎ ((characters ≡ codes "text") × (k ≡ kind.Text))
-kind-only characters kind.Int is = inl (is, refl)
-kind-only characters kind.Text is = inr (is, refl)
-kind-only characters (kind.Ref t) is = elim is [ ]
-kind-only characters (kind.RefOrNull t) is = elim is [ ]
-
-pub kind-one : (characters : List ℕ) (j k : ColKind) → IsSymbol characters (Kind j) → IsSymbol characters (Kind k) → j ≡ k
-kind-one characters kind.Int kind.Int is is' = refl
-kind-one characters kind.Text kind.Text is is' = refl
-kind-one characters kind.Int kind.Text is is' = absurd (different (codes "int") (codes "text") refl (sym is ∙ is'))
-kind-one characters kind.Text kind.Int is is' = absurd (different (codes "text") (codes "int") refl (sym is ∙ is'))
-kind-one characters (kind.Ref t) k is is' = elim is [ ]
-kind-one characters (kind.RefOrNull t) k is is' = elim is [ ]
-kind-one characters j (kind.Ref t) is is' = elim is' [ ]
-kind-one characters j (kind.RefOrNull t) is is' = elim is' [ ]
+-- ---- operators
 
 pub operator-one : (o p : Op) → operator_text o ≡ operator_text p → o ≡ p
 operator-one op.Eq op.Eq e = refl
@@ -44,9 +29,9 @@ operator-one op.Gt op.Gt e = refl
 operator-one op.Ge op.Ge e = refl
 operator-one o p e = absurd (different (operator_text o) (operator_text p) refl e)
 
-dot-no_operator : (o : Op) (more : List Symbol) → NeverBegins (Sign Dot) (Sign (Operator o) ∷ more)
-dot-no_operator o more =
-    fixed-no_fixed (Sign Dot) (Sign (Operator o)) (codes ".") (operator_text o) (sign-fixed Dot) (sign-fixed (Operator o)) (no_dot o) more
+operator-ends_item : (o : Op) (more : List Symbol) → EndsItem (Sign (Operator o) ∷ more)
+operator-ends_item o more =
+    fixed-ends_item (Sign (Operator o)) (operator_text o) (sign-fixed (Operator o)) (no_dot o) (no_null o) more
   where
     no_dot : (o : Op) → bytes_eq (codes ".") (operator_text o) ≡ false
     no_dot op.Eq = refl
@@ -55,6 +40,14 @@ dot-no_operator o more =
     no_dot op.Le = refl
     no_dot op.Gt = refl
     no_dot op.Ge = refl
+
+    no_null : (o : Op) → bytes_eq (codes "null") (operator_text o) ≡ false
+    no_null op.Eq = refl
+    no_null op.Ne = refl
+    no_null op.Lt = refl
+    no_null op.Le = refl
+    no_null op.Gt = refl
+    no_null op.Ge = refl
 
 -- ---- one symbol more
 
@@ -67,7 +60,7 @@ behind-one symbol other well well' line m n made made' =
     let second : IsSymbol (lexeme line) other × IsMadeOf (after_lexeme line) n = lexeme-of_made line other n well' made' in
     (first.0, second.0, first.1, second.1)
 
--- Two names at the front of a line are one, and one rest follows them; so are two literals, two kinds and two operators.
+-- Two names at the front of a line are one, and one rest follows them; so are two literals and two operators.
 pub name-and : (line name name' : List ℕ) (m n : List Symbol) → IsMadeOf line (Name name ∷ m) → IsMadeOf line (Name name' ∷ n)
     → (name ≡ name') × HaveOneRest m n
 name-and line name name' m n made made' =
@@ -81,13 +74,6 @@ literal-and line v w m n made made' =
     let both : IsSymbol (lexeme line) (Literal v) × IsSymbol (lexeme line) (Literal w) × IsMadeOf (after_lexeme line) m × IsMadeOf (after_lexeme line) n =
     behind-one (Literal v) (Literal w) tt tt line m n made made' in
     (Literal-only (lexeme line) w v both.1 both.0, (after_lexeme line, both.2, both.3))
-
-kind-and : (line : List ℕ) (j k : ColKind) (m n : List Symbol) → IsMadeOf line (Kind j ∷ m) → IsMadeOf line (Kind k ∷ n)
-    → (j ≡ k) × HaveOneRest m n
-kind-and line j k m n made made' =
-    let both : IsSymbol (lexeme line) (Kind j) × IsSymbol (lexeme line) (Kind k) × IsMadeOf (after_lexeme line) m × IsMadeOf (after_lexeme line) n =
-    behind-one (Kind j) (Kind k) tt tt line m n made made' in
-    (kind-one (lexeme line) j k both.0 both.1, (after_lexeme line, both.2, both.3))
 
 operator-and : (line : List ℕ) (o p : Op) (m n : List Symbol) → IsMadeOf line (Sign (Operator o) ∷ m) → IsMadeOf line (Sign (Operator p) ∷ n)
     → (o ≡ p) × HaveOneRest m n
@@ -107,11 +93,54 @@ fixed-and symbol well line m n made made' =
 pub value-one : IsOneItem value_symbols
 value-one line v w m n free free' made made' = literal-and line v w m n made made'
 
+-- the first word of a kind
+abbrev pub kind_word : ColKind → List ℕ
+kind_word kind.Int = codes "int"
+kind_word kind.Text = codes "text"
+kind_word (kind.Ref table) = codes "ref"
+kind_word (kind.RefOrNull table) = codes "ref"
+
+kind-first : (line : List ℕ) (k : ColKind) (m : List Symbol) → IsMadeOf line (kind_symbols k ++ m) → lexeme line ≡ kind_word k
+kind-first line kind.Int m made = (lexeme-of_made line (Keyword (codes "int")) m refl made).0
+kind-first line kind.Text m made = (lexeme-of_made line (Keyword (codes "text")) m refl made).0
+kind-first line (kind.Ref t) m made = (lexeme-of_made line (Keyword (codes "ref")) (Name t ∷ m) refl made).0
+kind-first line (kind.RefOrNull t) m made = (lexeme-of_made line (Keyword (codes "ref")) (Name t ∷ Keyword (codes "null") ∷ m) refl made).0
+
+kinds-differ : (line : List ℕ) (j k : ColKind) (m n : List Symbol) → bytes_eq (kind_word j) (kind_word k) ≡ false
+    → IsMadeOf line (kind_symbols j ++ m) → IsMadeOf line (kind_symbols k ++ n) → ⊥
+kinds-differ line j k m n differ made made' =
+    different (kind_word j) (kind_word k) differ (sym (kind-first line j m made) ∙ kind-first line k n made')
+
+-- the tables of two references
+reference-and : (line s t : List ℕ) (m n : List Symbol) → IsMadeOf line (Keyword (codes "ref") ∷ Name s ∷ m)
+    → IsMadeOf line (Keyword (codes "ref") ∷ Name t ∷ n) → (s ≡ t) × HaveOneRest m n
+reference-and line s t m n made made' =
+    let behind : HaveOneRest (Name s ∷ m) (Name t ∷ n) = fixed-and (Keyword (codes "ref")) refl line (Name s ∷ m) (Name t ∷ n) made made' in
+    name-and behind.0 s t m n behind.1 behind.2
+
+kind-one : IsOneItem kind_symbols
+kind-one line kind.Int kind.Int m n free free' made made' = (refl, fixed-and (Keyword (codes "int")) refl line m n made made')
+kind-one line kind.Text kind.Text m n free free' made made' = (refl, fixed-and (Keyword (codes "text")) refl line m n made made')
+kind-one line (kind.Ref s) (kind.Ref t) m n free free' made made' =
+    let both : (s ≡ t) × HaveOneRest m n = reference-and line s t m n made made' in
+    (ap kind.Ref both.0, both.1)
+kind-one line (kind.Ref s) (kind.RefOrNull t) m n free free' made made' =
+    let both : (s ≡ t) × HaveOneRest m (Keyword (codes "null") ∷ n) = reference-and line s t m (Keyword (codes "null") ∷ n) made made' in
+    absurd (free.no_null both.1.0 n both.1.2 both.1.1)
+kind-one line (kind.RefOrNull s) (kind.Ref t) m n free free' made made' =
+    let both : (s ≡ t) × HaveOneRest (Keyword (codes "null") ∷ m) n = reference-and line s t (Keyword (codes "null") ∷ m) n made made' in
+    absurd (free'.no_null both.1.0 m both.1.1 both.1.2)
+kind-one line (kind.RefOrNull s) (kind.RefOrNull t) m n free free' made made' =
+    let null : Symbol = Keyword (codes "null") in
+    let both : (s ≡ t) × HaveOneRest (null ∷ m) (null ∷ n) = reference-and line s t (null ∷ m) (null ∷ n) made made' in
+    (ap kind.RefOrNull both.0, fixed-and null refl both.1.0 m n both.1.1 both.1.2)
+kind-one line j k m n free free' made made' = absurd (kinds-differ line j k m n refl made made')
+
 pub column-one : IsOneItem column_symbols
 column-one line c d m n free free' made made' =
-    let names : (c.name ≡ d.name) × HaveOneRest (Kind c.kind ∷ m) (Kind d.kind ∷ n) =
-    name-and line c.name d.name (Kind c.kind ∷ m) (Kind d.kind ∷ n) made made' in
-    let kinds : (c.kind ≡ d.kind) × HaveOneRest m n = kind-and names.1.0 c.kind d.kind m n names.1.1 names.1.2 in
+    let names : (c.name ≡ d.name) × HaveOneRest (kind_symbols c.kind ++ m) (kind_symbols d.kind ++ n) =
+    name-and line c.name d.name (kind_symbols c.kind ++ m) (kind_symbols d.kind ++ n) made made' in
+    let kinds : (c.kind ≡ d.kind) × HaveOneRest m n = kind-one names.1.0 c.kind d.kind m n free free' names.1.1 names.1.2 in
     ((λ i. record { name = names.0 i; kind = kinds.0 i }), kinds.1)
 
 pub setting-one : IsOneItem setting_symbols
@@ -154,7 +183,7 @@ whole-one line (Some s) (Some t) c d m n free free' made made' =
 pub name-one : IsOneItem name_symbols
 name-one line x y m n free free' made made' =
     let both : (x.table ≡ y.table) × (x.column ≡ y.column) × HaveOneRest m n =
-    whole-one line x.table y.table x.column y.column m n free free' made made' in
+    whole-one line x.table y.table x.column y.column m n free.no_dot free'.no_dot made made' in
     ((λ i. record { table = both.0 i; column = both.1 i }), both.2)
 
 -- what a condition says of its column
@@ -168,9 +197,29 @@ condition-more line c more made = subst (λ ss. IsMadeOf line ss) (append_assoc 
 pub condition-one : IsOneItem condition_symbols
 condition-one line c d m n free free' made made' =
     let names : (c.column ≡ d.column) × HaveOneRest (comparison c m) (comparison d n) =
-    name-one line c.column d.column (comparison c m) (comparison d n) (dot-no_operator c.op (Literal c.value ∷ m))
-    (dot-no_operator d.op (Literal d.value ∷ n)) (condition-more line c m made) (condition-more line d n made') in
+    name-one line c.column d.column (comparison c m) (comparison d n) (operator-ends_item c.op (Literal c.value ∷ m))
+    (operator-ends_item d.op (Literal d.value ∷ n)) (condition-more line c m made) (condition-more line d n made') in
     let operators : (c.op ≡ d.op) × HaveOneRest (Literal c.value ∷ m) (Literal d.value ∷ n) =
     operator-and names.1.0 c.op d.op (Literal c.value ∷ m) (Literal d.value ∷ n) names.1.1 names.1.2 in
     let values : (c.value ≡ d.value) × HaveOneRest m n = literal-and operators.1.0 c.value d.value m n operators.1.1 operators.1.2 in
     ((λ i. record { column = names.0 i; op = operators.0 i; value = values.0 i }), values.1)
+
+-- ---- indexes
+
+index_word-one : (j k : IndexKind) → index_word j ≡ index_word k → j ≡ k
+index_word-one index.Tree index.Tree e = refl
+index_word-one index.Hash index.Hash e = refl
+index_word-one j k e = absurd (different (index_word j) (index_word k) refl e)
+
+pub index-one : (line table table' column column' : List ℕ) (j k : IndexKind) → IsMadeOf line (index_symbols table column j)
+    → IsMadeOf line (index_symbols table' column' k) → (table ≡ table') × (column ≡ column') × (j ≡ k)
+index-one line table table' column column' j k made made' =
+    let first : Symbol = Keyword (index_word j) in
+    let second : Symbol = Keyword (index_word k) in
+    let tables : (table ≡ table') × HaveOneRest (Name column ∷ first ∷ []) (Name column' ∷ second ∷ []) =
+    name-and line table table' (Name column ∷ first ∷ []) (Name column' ∷ second ∷ []) made made' in
+    let columns : (column ≡ column') × HaveOneRest (first ∷ []) (second ∷ []) =
+    name-and tables.1.0 column column' (first ∷ []) (second ∷ []) tables.1.1 tables.1.2 in
+    let words : (lexeme columns.1.0 ≡ index_word j) × (lexeme columns.1.0 ≡ index_word k) × IsMadeOf (after_lexeme columns.1.0) [] × IsMadeOf (after_lexeme columns.1.0) [] =
+    behind-one first second (index_word-word j) (index_word-word k) columns.1.0 [] [] columns.1.1 columns.1.2 in
+    (tables.0, columns.0, index_word-one j k (sym words.0 ∙ words.1))

@@ -4,7 +4,7 @@ use Rattle.std.specs.Prelude.{IfSome}
 use Rattle.std.specs.List.{AllByRecursion}
 use lib.Chars.{codes}
 use Rattle.plain_tables.specs.Names.{IsName}
-use Rattle.plain_tables.specs.Spelling.{Close, Comma, Symbol, Keyword, Name, Kind, Sign, Operator, Literal, separated, column_symbols, value_symbols, name_symbols, setting_symbols, condition_symbols, where_symbols, symbols_of, IsSymbol, IsMadeOf, NamesSomething, IsSpellableKind, IsSpellableColumn, IsSpellableValue, IsSpellableName, IsSpellableSetting, IsSpellableCondition, IsSpellable, SpelledIsSpellable}
+use Rattle.plain_tables.specs.Spelling.{Close, Comma, Symbol, Keyword, Name, Sign, Operator, Literal, separated, kind_symbols, column_symbols, value_symbols, name_symbols, setting_symbols, condition_symbols, where_symbols, symbols_of, IsSymbol, IsMadeOf, NamesSomething, IsSpellableKind, IsSpellableColumn, IsSpellableValue, IsSpellableName, IsSpellableSetting, IsSpellableCondition, IsSpellable, SpelledIsSpellable}
 use Rattle.plain_tables.specs.declared.value.Value.{Value}
 use Rattle.plain_tables.specs.declared.value.Value.TheVariants as value
 use Rattle.plain_tables.specs.declared.schema.ColKind.{ColKind}
@@ -15,7 +15,7 @@ use Rattle.plain_tables.specs.declared.condition.Cond.{Cond}
 use Rattle.plain_tables.specs.declared.command.Setting.{Setting}
 use Rattle.plain_tables.specs.declared.command.Items.TheVariants as items
 use Rattle.plain_tables.specs.declared.command.Command.{Command}
-use Rattle.plain_tables.specs.declared.command.Command.TheVariants.{Table, Insert, Update, Delete, Select}
+use Rattle.plain_tables.specs.declared.command.Command.TheVariants.{Table, DropTable, Index, DropIndex, Insert, Update, Delete, Select, Tables}
 use Rattle.plain_tables.proofs.Separated.{all-left, all-right, separated-each}
 use Rattle.plain_tables.proofs.LineFeeds.{HasNoFeed, contains-no_feed, literal-feed}
 
@@ -34,17 +34,17 @@ made-each (symbol ∷ symbols) line free (blanks, characters, rest, are, is, end
 
 -- ---- items
 
-kind-each : (k : ColKind) → HasCharacters (Kind k) → IsSpellableKind k
-kind-each kind.Int has = tt
-kind-each kind.Text has = tt
-kind-each (kind.Ref t) has = has.1
-kind-each (kind.RefOrNull t) has = has.1
+kind-each : (k : ColKind) → HaveCharacters (kind_symbols k) → IsSpellableKind k
+kind-each kind.Int all = tt
+kind-each kind.Text all = tt
+kind-each (kind.Ref t) all = all.1.0.1.1
+kind-each (kind.RefOrNull t) all = all.1.0.1.1
 
 column-each : (column : Column) → HaveCharacters (column_symbols column) → IsSpellableColumn column
-column-each column all = (all.0.1.1, kind-each column.kind all.1.0)
+column-each column all = (all.0.1.1, kind-each column.kind all.1)
 
 literal-each : (v : Value) → HasCharacters (Literal v) → IsSpellableValue v
-literal-each value.Null has = has.1
+literal-each value.Null has = tt
 literal-each (value.Int z) has = has.1.0
 literal-each (value.Text text) has = literal-feed text (subst HasNoFeed has.1 has.2)
 
@@ -91,6 +91,9 @@ from-each table conditions all = (all.1.0.1.1, where-each conditions all.1.1)
 symbols-spellable : (c : Command) → NamesSomething c → HaveCharacters (symbols_of c) → IsSpellable c
 symbols-spellable (Table name schema) some all =
     (all.1.0.1.1, some, (listed-each column_symbols IsSpellableColumn column-each schema.columns (Sign Close ∷ []) all.1.1.1).0)
+symbols-spellable (DropTable table) some all = all.1.1.0.1.1
+symbols-spellable (Index table column k) some all = (all.1.0.1.1, all.1.1.0.1.1)
+symbols-spellable (DropIndex table column k) some all = (all.1.1.0.1.1, all.1.1.1.0.1.1)
 symbols-spellable (Insert table values) some all =
     (all.1.0.1.1, some, (listed-each value_symbols IsSpellableValue value-each values (Sign Close ∷ []) all.1.1.1).0)
 symbols-spellable (Update table settings conditions) some all =
@@ -106,6 +109,7 @@ symbols-spellable (Select (items.Named names) table conditions) some all =
     listed-each name_symbols IsSpellableName name-each names (Keyword (codes "from") ∷ Name table ∷ where_symbols conditions) all.1 in
     let parts : IsName table × AllByRecursion IsSpellableCondition conditions = from-each table conditions list.1 in
     ((some, list.0), parts.0, parts.1)
+symbols-spellable Tables some all = tt
 
 -- Law: what a line spells can be spelled.
 pub spelled-spellable : SpelledIsSpellable

@@ -3,58 +3,56 @@ use Rattle.std.proofs.Common.{◌≡◌, ℕ, ◌<◌, List, [], ◌∷◌, ◌+
 use Rattle.std.specs.Str.{bytes_eq}
 use lib.Chars.{codes}
 use Rattle.plain_tables.specs.Names.{is_word, IsName}
-use Rattle.plain_tables.specs.Spelling.{Close, Comma, Dot, Open, Star, Symbol, Keyword, Name, Sign, IsSymbol, column_symbols, value_symbols, name_symbols, setting_symbols, condition_symbols, where_symbols, items_symbols, IsMadeOf, NamesSomething, Spells, SpellsAtMostOne}
+use Rattle.plain_tables.specs.Spelling.{Close, Comma, Dot, Open, Star, Symbol, Keyword, Name, Sign, IsSymbol, column_symbols, index_symbols, value_symbols, name_symbols, setting_symbols, condition_symbols, where_symbols, items_symbols, IsMadeOf, NamesSomething, Spells, SpellsAtMostOne}
 use Rattle.plain_tables.specs.Reading.{lexeme, after_lexeme}
+use Rattle.plain_tables.specs.declared.schema.IndexKind.{IndexKind}
 use Rattle.plain_tables.specs.declared.condition.ColName.{ColName}
 use Rattle.plain_tables.specs.declared.condition.Cond.{Cond}
 use Rattle.plain_tables.specs.declared.command.Setting.{Setting}
 use Rattle.plain_tables.specs.declared.command.Items.{Items}
 use Rattle.plain_tables.specs.declared.command.Items.TheVariants as items
 use Rattle.plain_tables.specs.declared.command.Command.{Command}
-use Rattle.plain_tables.specs.declared.command.Command.TheVariants.{Table, Insert, Update, Delete, Select}
+use Rattle.plain_tables.specs.declared.command.Command.TheVariants.{Table, DropTable, Index, DropIndex, Insert, Update, Delete, Select, Tables}
 use Rattle.plain_tables.proofs.Lexemes.{lexeme-of_made}
 use Rattle.plain_tables.proofs.FirstWords.{first_word, different, spells-word}
-use Rattle.plain_tables.proofs.Lists.{NeverBegins, sign-lexeme, IsFixed, sign-fixed, fixed-no_fixed, fixed-no_end, HaveOneRest, IsOneItem, IsBetween, Ends, list_and, made-more, list-one}
-use Rattle.plain_tables.proofs.SingleItems.{whole_name, name-and, fixed-and, value-one, column-one, setting-one, name-one, condition-one}
+use Rattle.plain_tables.proofs.Lists.{NeverBegins, sign-lexeme, IsFixed, sign-fixed, word-fixed, fixed-no_fixed, fixed-no_end, HaveOneRest, fixed-ends_item, nothing-ends_item, IsOneItem, IsBetween, Ends, list_and, made-more, list-one}
+use Rattle.plain_tables.proofs.SingleItems.{whole_name, name-and, fixed-and, value-one, column-one, setting-one, name-one, condition-one, index-one}
 
 -- ---- what ends a list
 
-word-fixed : (word : List ℕ) → is_word word ≡ true → IsFixed (Keyword word) word
-word-fixed word is = (is, λ characters same. same)
-
 pub comma-between : IsBetween (Sign Comma)
-comma-between = record { well = tt; no_dot = fixed-no_fixed (Sign Dot) (Sign Comma) _ _ (sign-fixed Dot) (sign-fixed Comma) refl }
+comma-between = record { well = tt; ends_item = fixed-ends_item (Sign Comma) (codes ",") (sign-fixed Comma) refl refl }
 
 pub and-between : IsBetween (Keyword (codes "and"))
 and-between = record {
   well = refl;
-  no_dot = fixed-no_fixed (Sign Dot) (Keyword (codes "and")) _ _ (sign-fixed Dot) (word-fixed (codes "and") refl) refl;
+  ends_item = fixed-ends_item (Keyword (codes "and")) (codes "and") (word-fixed (codes "and") refl) refl refl;
 }
 
 -- a closing parenthesis, and the words from and where, end a list with commas
 close-ends : (more : List Symbol) → Ends (Sign Comma) (Sign Close ∷ more)
 close-ends more = record {
-  no_dot = fixed-no_fixed (Sign Dot) (Sign Close) _ _ (sign-fixed Dot) (sign-fixed Close) refl more;
+  ends_item = fixed-ends_item (Sign Close) (codes ")") (sign-fixed Close) refl refl more;
   no_more = fixed-no_fixed (Sign Comma) (Sign Close) _ _ (sign-fixed Comma) (sign-fixed Close) refl more;
 }
 
-word-ends : (word : List ℕ) → is_word word ≡ true → bytes_eq (codes ".") word ≡ false → bytes_eq (codes ",") word ≡ false
-    → (more : List Symbol) → Ends (Sign Comma) (Keyword word ∷ more)
-word-ends word is no_dot no_comma more = record {
-  no_dot = fixed-no_fixed (Sign Dot) (Keyword word) _ _ (sign-fixed Dot) (word-fixed word is) no_dot more;
+word-ends : (word : List ℕ) → is_word word ≡ true → bytes_eq (codes ".") word ≡ false → bytes_eq (codes "null") word ≡ false
+    → bytes_eq (codes ",") word ≡ false → (more : List Symbol) → Ends (Sign Comma) (Keyword word ∷ more)
+word-ends word is no_dot no_null no_comma more = record {
+  ends_item = fixed-ends_item (Keyword word) word (word-fixed word is) no_dot no_null more;
   no_more = fixed-no_fixed (Sign Comma) (Keyword word) _ _ (sign-fixed Comma) (word-fixed word is) no_comma more;
 }
 
 -- the end of the line ends any list
 end-ends : (between : Symbol) (text : List ℕ) → IsFixed between text → bytes_eq text [] ≡ false → Ends between []
 end-ends between text fixed some = record {
-  no_dot = fixed-no_end (Sign Dot) (codes ".") (sign-fixed Dot) refl;
+  ends_item = nothing-ends_item;
   no_more = fixed-no_end between text fixed some;
 }
 
 where-ends : (conditions : List Cond) → Ends (Sign Comma) (where_symbols conditions)
 where-ends [] = end-ends (Sign Comma) (codes ",") (sign-fixed Comma) refl
-where-ends (condition ∷ conditions) = word-ends (codes "where") refl refl refl _
+where-ends (condition ∷ conditions) = word-ends (codes "where") refl refl refl refl _
 
 -- ---- conditions
 
@@ -176,12 +174,34 @@ select-one : (line : List ℕ) (i j : Items) (name name' : List ℕ) (cs ds : Li
     → (i ≡ j) × (name ≡ name') × (cs ≡ ds)
 select-one line i j name name' cs ds has has' made made' =
     let items : (i ≡ j) × HaveOneRest (from_symbols name cs) (from_symbols name' ds) =
-    items-one line i j (from_symbols name cs) (from_symbols name' ds) has has' (word-ends (codes "from") refl refl refl _)
-    (word-ends (codes "from") refl refl refl _) made made' in
+    items-one line i j (from_symbols name cs) (from_symbols name' ds) has has' (word-ends (codes "from") refl refl refl refl _)
+    (word-ends (codes "from") refl refl refl refl _) made made' in
     let tables : HaveOneRest (Name name ∷ where_symbols cs) (Name name' ∷ where_symbols ds) =
     fixed-and (Keyword (codes "from")) refl items.1.0 (Name name ∷ where_symbols cs) (Name name' ∷ where_symbols ds) items.1.1 items.1.2 in
     let others : (name ≡ name') × (cs ≡ ds) = name-where-one tables.0 name name' cs ds tables.1 tables.2 in
     (items.0, others.0, others.1)
+
+-- what stands behind a drop
+drop-table-one : (line table table' : List ℕ) → IsMadeOf line (Keyword (codes "table") ∷ Name table ∷ [])
+    → IsMadeOf line (Keyword (codes "table") ∷ Name table' ∷ []) → table ≡ table'
+drop-table-one line table table' made made' =
+    let names : HaveOneRest (Name table ∷ []) (Name table' ∷ []) =
+    fixed-and (Keyword (codes "table")) refl line (Name table ∷ []) (Name table' ∷ []) made made' in
+    (name-and names.0 table table' [] [] names.1 names.2).0
+
+drop-index-one : (line table table' column column' : List ℕ) (j k : IndexKind) → IsMadeOf line (Keyword (codes "index") ∷ index_symbols table column j)
+    → IsMadeOf line (Keyword (codes "index") ∷ index_symbols table' column' k) → (table ≡ table') × (column ≡ column') × (j ≡ k)
+drop-index-one line table table' column column' j k made made' =
+    let parts : HaveOneRest (index_symbols table column j) (index_symbols table' column' k) =
+    fixed-and (Keyword (codes "index")) refl line (index_symbols table column j) (index_symbols table' column' k) made made' in
+    index-one parts.0 table table' column column' j k parts.1 parts.2
+
+-- no line drops a table and an index
+table-no_index : (line table table' column : List ℕ) (k : IndexKind) → Spells line (DropTable table) → Spells line (DropIndex table' column k) → ⊥
+table-no_index line table table' column k spells spells' =
+    fixed-no_fixed (Keyword (codes "table")) (Keyword (codes "index")) (codes "table") (codes "index") (word-fixed (codes "table") refl)
+    (word-fixed (codes "index") refl) refl (index_symbols table' column k) (after_lexeme line) (Name table ∷ [])
+    (spells-word line (DropTable table) spells).1 (spells-word line (DropIndex table' column k) spells').1
 
 -- ---- commands
 
@@ -197,6 +217,25 @@ spells-one line (Table name schema) (Table name' schema') spells spells' =
     in_parentheses-one column_symbols column-one (after_lexeme line) name name' schema.columns schema'.columns spells.1 spells'.1
     (spells-word line (Table name schema) spells).1 (spells-word line (Table name' schema') spells').1 in
     λ i. Table (both.0 i) (record { columns = both.1 i })
+spells-one line (DropTable table) (DropTable table') spells spells' =
+    ap DropTable
+    (drop-table-one (after_lexeme line) table table'
+    (spells-word line (DropTable table) spells).1 (spells-word line (DropTable table') spells').1)
+spells-one line (DropTable table) (DropIndex table' column k) spells spells' =
+    absurd (table-no_index line table table' column k spells spells')
+spells-one line (DropIndex table column k) (DropTable table') spells spells' =
+    absurd (table-no_index line table' table column k spells' spells)
+spells-one line (Index table column j) (Index table' column' k) spells spells' =
+    let all : (table ≡ table') × (column ≡ column') × (j ≡ k) =
+    index-one (after_lexeme line) table table' column column' j k
+    (spells-word line (Index table column j) spells).1 (spells-word line (Index table' column' k) spells').1 in
+    λ i. Index (all.0 i) (all.1 i) (all.2 i)
+spells-one line (DropIndex table column j) (DropIndex table' column' k) spells spells' =
+    let all : (table ≡ table') × (column ≡ column') × (j ≡ k) =
+    drop-index-one (after_lexeme line) table table' column column' j k
+    (spells-word line (DropIndex table column j) spells).1 (spells-word line (DropIndex table' column' k) spells').1 in
+    λ i. DropIndex (all.0 i) (all.1 i) (all.2 i)
+spells-one line Tables Tables spells spells' = refl
 spells-one line (Insert table values) (Insert table' values') spells spells' =
     let both : (table ≡ table') × (values ≡ values') =
     in_parentheses-one value_symbols value-one (after_lexeme line) table table' values values' spells.1 spells'.1

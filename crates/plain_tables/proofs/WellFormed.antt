@@ -4,31 +4,50 @@ use Rattle.std.specs.Prelude.{IfSome}
 use Rattle.std.specs.List.{AllByRecursion, Contains}
 use lib.Chars.{codes}
 use Rattle.plain_tables.specs.Names.{is_word, IsName}
-use Rattle.plain_tables.specs.Spelling.{Comma, Symbol, Keyword, Name, Kind, Literal, Sign, Close, separated_by, column_symbols, value_symbols, name_symbols, setting_symbols, condition_symbols, where_symbols, items_symbols, symbols_of, is_blank, IsSymbol, IsMadeOf, IsSpellableKind, IsSpellableColumn, IsSpellableValue, IsSpellableName, IsSpellableSetting, IsSpellableCondition, AreSpellableItems, IsSpellable}
+use Rattle.plain_tables.specs.Spelling.{Comma, Symbol, Keyword, Name, Literal, Sign, Close, separated_by, kind_symbols, column_symbols, index_word, index_symbols, value_symbols, name_symbols, setting_symbols, condition_symbols, where_symbols, items_symbols, symbols_of, is_blank, IsSymbol, IsMadeOf, IsSpellableKind, IsSpellableColumn, IsSpellableValue, IsSpellableName, IsSpellableSetting, IsSpellableCondition, AreSpellableItems, IsSpellable}
 use Rattle.plain_tables.specs.declared.value.Value.TheVariants as value
+use Rattle.plain_tables.specs.declared.schema.ColKind.{ColKind}
+use Rattle.plain_tables.specs.declared.schema.ColKind.TheVariants as kind
+use Rattle.plain_tables.specs.declared.schema.Column.{Column}
+use Rattle.plain_tables.specs.declared.schema.IndexKind.{IndexKind}
+use Rattle.plain_tables.specs.declared.schema.IndexKind.TheVariants as index
 use Rattle.plain_tables.specs.declared.condition.ColName.{ColName}
 use Rattle.plain_tables.specs.declared.condition.Cond.{Cond}
 use Rattle.plain_tables.specs.declared.command.Items.{Items}
 use Rattle.plain_tables.specs.declared.command.Items.TheVariants as items
 use Rattle.plain_tables.specs.declared.command.Command.{Command}
-use Rattle.plain_tables.specs.declared.command.Command.TheVariants.{Table, Insert, Update, Delete, Select}
+use Rattle.plain_tables.specs.declared.command.Command.TheVariants.{Table, DropTable, Index, DropIndex, Insert, Update, Delete, Select, Tables}
 use Rattle.plain_tables.proofs.Lexemes.{symbol-run}
 use Rattle.plain_tables.proofs.Separated.{all-append, separated-all}
 use Rattle.plain_tables.proofs.LineFeeds.{HasNoFeed, contains-feed, passing-no_feed, run-no_feed, mark-no_feed, literal-no_feed}
 
 -- ---- symbols that can be spelled
 
--- A keyword is a word, a name is one, a kind is that of integers or of texts, an integer has 64 bits, a text has no line
--- feed, and no value is null.
+-- A keyword is a word, a name is one, an integer has 64 bits, and a text has no line feed.
 abbrev pub IsSpellableSymbol : Symbol → Type 0
 IsSpellableSymbol (Keyword word) = IsTrue (is_word word)
 IsSpellableSymbol (Name name) = IsName name
-IsSpellableSymbol (Kind kind) = IsSpellableKind kind
 IsSpellableSymbol (Literal v) = IsSpellableValue v
 IsSpellableSymbol (Sign mark) = Unit {0}
 
 abbrev pub AreSpellableSymbols : List Symbol → Type 0
 AreSpellableSymbols symbols = AllByRecursion IsSpellableSymbol symbols
+
+kind-spellable : (k : ColKind) → IsSpellableKind k → AreSpellableSymbols (kind_symbols k)
+kind-spellable kind.Int is = (refl, tt)
+kind-spellable kind.Text is = (refl, tt)
+kind-spellable (kind.Ref table) is = (refl, (is, tt))
+kind-spellable (kind.RefOrNull table) is = (refl, (is, (refl, tt)))
+
+column-spellable : (column : Column) → IsSpellableColumn column → AreSpellableSymbols (column_symbols column)
+column-spellable column is = (is.0, kind-spellable column.kind is.1)
+
+pub index_word-word : (k : IndexKind) → IsTrue (is_word (index_word k))
+index_word-word index.Tree = refl
+index_word-word index.Hash = refl
+
+index-spellable : (table column : List ℕ) (k : IndexKind) → IsName table → IsName column → AreSpellableSymbols (index_symbols table column k)
+index-spellable table column k named columned = (named, (columned, (index_word-word k, tt)))
 
 name-at : (table : Option (List ℕ)) (column : List ℕ) → IfSome table IsName → IsName column
     → AreSpellableSymbols (name_symbols (record { table = table; column = column }))
@@ -65,10 +84,13 @@ command-spellable (Table name schema) is = (
     (
       tt,
       all-append IsSpellableSymbol _ (Sign Close ∷ [])
-          (listed-spellable column_symbols IsSpellableColumn (λ column has. (has.0, (has.1, tt))) schema.columns is.2) (tt, tt),
+          (listed-spellable column_symbols IsSpellableColumn column-spellable schema.columns is.2) (tt, tt),
     ),
   ),
 )
+command-spellable (DropTable table) is = (refl, (refl, (is, tt)))
+command-spellable (Index table column k) is = (refl, index-spellable table column k is.0 is.1)
+command-spellable (DropIndex table column k) is = (refl, (refl, index-spellable table column k is.0 is.1))
 command-spellable (Insert table values) is = (
   refl,
   (
@@ -98,6 +120,7 @@ command-spellable (Select items table conditions) is = (
   all-append IsSpellableSymbol (items_symbols items) _
       (items-spellable items is.0) (refl, (is.1, where-spellable conditions is.2)),
 )
+command-spellable Tables is = (refl, tt)
 
 -- ---- line feeds
 
@@ -105,8 +128,7 @@ pub symbol-no_feed : (characters : List ℕ) (symbol : Symbol) → IsSpellableSy
 symbol-no_feed characters (Sign mark) can is = rw is (mark-no_feed mark)
 symbol-no_feed characters (Keyword word) can is = run-no_feed characters (symbol-run characters (Keyword word) tt can is)
 symbol-no_feed characters (Name name) can is = run-no_feed characters (symbol-run characters (Name name) tt tt is)
-symbol-no_feed characters (Kind k) can is = run-no_feed characters (symbol-run characters (Kind k) tt tt is)
-symbol-no_feed characters (Literal value.Null) can is = elim can [ ]
+symbol-no_feed characters (Literal value.Null) can is = run-no_feed characters (symbol-run characters (Literal value.Null) tt tt is)
 symbol-no_feed characters (Literal (value.Int z)) can is = run-no_feed characters (symbol-run characters (Literal (value.Int z)) tt tt is)
 symbol-no_feed characters (Literal (value.Text text)) can is = rw is (literal-no_feed text can)
 

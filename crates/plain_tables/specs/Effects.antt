@@ -6,12 +6,13 @@ use Rattle.std.specs.Str.{bytes_eq}
 use Rattle.plain_tables.specs.Tables.{Table, Row, has_key_of, with_row}
 use Rattle.plain_tables.specs.Databases.{Database, table_named, with_table}
 use Rattle.plain_tables.specs.Queries.{JoinedColumn, joined_columns, fits_one, column_meant, place_meant, places_meant, meets_all, filtered, named_items, headings, selected}
+use Rattle.plain_tables.specs.References.{referred}
 use Rattle.plain_tables.specs.declared.value.Value.{Value}
 use Rattle.plain_tables.specs.declared.value.Value.TheVariants as value
 use Rattle.plain_tables.specs.declared.condition.ColName.{ColName}
 use Rattle.plain_tables.specs.declared.condition.Cond.{Cond}
 use Rattle.plain_tables.specs.declared.refusal.Refusal.{Refusal}
-use Rattle.plain_tables.specs.declared.refusal.Refusal.TheVariants.{NoSuchTable, TableExists, ColumnNamedTwice, TooMany, KeyExists, TableFull, WrongNumberOfValues, NoSuchColumn, WrongType, KeyCannotBeSet, TextTooLong}
+use Rattle.plain_tables.specs.declared.refusal.Refusal.TheVariants.{NotACommand, NoSuchTable, TableExists, ColumnNamedTwice, TooMany, KeyExists, TableFull, WrongNumberOfValues, NoSuchColumn, WrongType, KeyCannotBeSet, TextTooLong}
 use Rattle.plain_tables.specs.declared.schema.Schema.{Schema}
 use Rattle.plain_tables.specs.declared.schema.Column.{Column}
 use Rattle.plain_tables.specs.declared.schema.ColKind.{ColKind}
@@ -104,10 +105,12 @@ has_mistaken_condition columns conditions = list_any (λ c. mistakes columns c.c
 
 -- ---- table and insert
 
--- a new name, no column named twice, at most 16 columns, and fewer than 64 tables so far
+-- No column refers to a table, since references aren't done yet; a new name, no column named twice, at most 16 columns, and
+-- fewer than 64 tables so far.
 abbrev pub table_checks : List ℕ → Schema → Database → List Check
 table_checks name schema tables =
-    record { refuses = is_some (table_named name tables); refusal = TableExists }
+    record { refuses = list_any (λ c. is_some (referred c.kind)) schema.columns; refusal = NotACommand }
+    ∷ record { refuses = is_some (table_named name tables); refusal = TableExists }
     ∷ record { refuses = repeats bytes_eq (column_names schema.columns); refusal = ColumnNamedTwice }
     ∷ record { refuses = nat_lt 16 (length schema.columns) || nat_le 64 (length tables); refusal = TooMany }
     ∷ []
@@ -197,12 +200,20 @@ select_checks tables items conditions =
 
 -- ---- all commands
 
--- A table that is declared stands last. Every other command is on the table that it names: an insert adds a row, an update
--- and a delete answer how many rows met the conditions, and a select changes nothing.
+-- a command that isn't done yet
+abbrev pub not_done : Database → Effect
+not_done tables = record { database = tables; outcome = Refused NotACommand }
+
+-- A table that is declared stands last. An insert, an update, a delete and a select are on the table that they name: an
+-- insert adds a row, an update and a delete answer how many rows met the conditions, and a select changes nothing. The
+-- other commands aren't done yet.
 abbrev pub effect_of : Limits → Database → Command → Effect
 effect_of limits tables (command.Table name schema) =
     checked tables (table_checks name schema tables)
     (record { database = tables ++ new_table name schema ∷ []; outcome = Done })
+effect_of limits tables (command.DropTable name) = not_done tables
+effect_of limits tables (command.Index name column k) = not_done tables
+effect_of limits tables (command.DropIndex name column k) = not_done tables
 effect_of limits tables (command.Insert name row) =
     on_table name tables (λ table. checked tables (insert_checks limits table row)
     (record { database = with_table name (grown_by row table) tables; outcome = Changed 1 }))
@@ -215,3 +226,4 @@ effect_of limits tables (command.Delete name conditions) =
 effect_of limits tables (command.Select items name conditions) =
     on_table name tables (λ table. checked tables (select_checks (table ∷ []) items conditions)
     (record { database = tables; outcome = Rows (headings (joined_columns (table ∷ [])) items) (selected (table ∷ []) items conditions) }))
+effect_of limits tables command.Tables = not_done tables

@@ -15,7 +15,7 @@ use Rattle.plain_tables.specs.declared.condition.Op.TheVariants as op
 use Rattle.plain_tables.specs.declared.condition.Cond.{Cond}
 use Rattle.plain_tables.specs.declared.condition.ColName.{ColName}
 use Rattle.plain_tables.specs.declared.refusal.Refusal.{Refusal}
-use Rattle.plain_tables.specs.declared.refusal.Refusal.TheVariants.{NoSuchTable, TableExists, ColumnNamedTwice, TooMany, WrongNumberOfValues, NoSuchColumn, WrongType, KeyCannotBeSet, TextTooLong}
+use Rattle.plain_tables.specs.declared.refusal.Refusal.TheVariants.{NotACommand, NoSuchTable, TableExists, ColumnNamedTwice, TooMany, WrongNumberOfValues, NoSuchColumn, WrongType, KeyCannotBeSet, TextTooLong}
 use Rattle.plain_tables.specs.declared.schema.Schema.{Schema}
 use Rattle.plain_tables.specs.declared.schema.Column.{Column}
 use Rattle.plain_tables.specs.declared.command.Items.{Items}
@@ -148,9 +148,13 @@ select_checks tables table its conditions =
 
 -- ---- all commands
 
--- what a command means of these tables, or why it is refused before a row is looked at
+-- What a command means of these tables, or why it is refused before a row is looked at. Those that are refused as no command
+-- aren't done yet.
 abbrev pub resolved_of : Database → Command → Result Resolved Refusal
 resolved_of tables (command.Table name schema) = meaning (table_checks tables name schema) (resolved.Table name schema)
+resolved_of tables (command.DropTable name) = Err NotACommand
+resolved_of tables (command.Index name column k) = Err NotACommand
+resolved_of tables (command.DropIndex name column k) = Err NotACommand
 resolved_of tables (command.Insert name row) =
     on_numbered name tables (λ n table. meaning (insert_checks tables table row) (resolved.Insert n row))
 resolved_of tables (command.Update name settings conditions) =
@@ -162,3 +166,4 @@ resolved_of tables (command.Delete name conditions) =
 resolved_of tables (command.Select its name conditions) =
     on_numbered name tables (λ n table. meaning (select_checks tables table its conditions)
     (resolved.Select (shown_of (own_columns table) its) n (tests_of (own_columns table) conditions)))
+resolved_of tables command.Tables = Err NotACommand

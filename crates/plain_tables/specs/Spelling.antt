@@ -15,6 +15,8 @@ use Rattle.plain_tables.specs.declared.value.Value.TheVariants as value
 use Rattle.plain_tables.specs.declared.schema.ColKind.{ColKind}
 use Rattle.plain_tables.specs.declared.schema.ColKind.TheVariants as kind
 use Rattle.plain_tables.specs.declared.schema.Column.{Column}
+use Rattle.plain_tables.specs.declared.schema.IndexKind.{IndexKind}
+use Rattle.plain_tables.specs.declared.schema.IndexKind.TheVariants as index
 use Rattle.plain_tables.specs.declared.condition.Op.{Op}
 use Rattle.plain_tables.specs.declared.condition.Op.TheVariants as op
 use Rattle.plain_tables.specs.declared.condition.ColName.{ColName}
@@ -23,7 +25,7 @@ use Rattle.plain_tables.specs.declared.command.Setting.{Setting}
 use Rattle.plain_tables.specs.declared.command.Items.{Items}
 use Rattle.plain_tables.specs.declared.command.Items.TheVariants as items
 use Rattle.plain_tables.specs.declared.command.Command.{Command}
-use Rattle.plain_tables.specs.declared.command.Command.TheVariants.{Table, Insert, Update, Delete, Select}
+use Rattle.plain_tables.specs.declared.command.Command.TheVariants.{Table, DropTable, Index, DropIndex, Insert, Update, Delete, Select, Tables}
 
 -- ---- the symbols of a command
 
@@ -36,11 +38,10 @@ pub data Mark : Type 0 where
   Star : Mark
   Operator : Op → Mark
 
--- A symbol is a keyword, a name, the word for a kind of column, a value, or a sign.
+-- A symbol is a keyword, a name, a value, or a sign.
 pub data Symbol : Type 0 where
   Keyword : List ℕ → Symbol
   Name : List ℕ → Symbol
-  Kind : ColKind → Symbol
   Literal : Value → Symbol
   Sign : Mark → Symbol
 
@@ -54,9 +55,25 @@ separated_by between (part ∷ next ∷ parts) = part ++ between ∷ separated_b
 abbrev pub separated : List (List Symbol) → List Symbol
 separated parts = separated_by (Sign Comma) parts
 
+-- int, text, ref NAME, or ref NAME null
+abbrev pub kind_symbols : ColKind → List Symbol
+kind_symbols kind.Int = Keyword (codes "int") ∷ []
+kind_symbols kind.Text = Keyword (codes "text") ∷ []
+kind_symbols (kind.Ref table) = Keyword (codes "ref") ∷ Name table ∷ []
+kind_symbols (kind.RefOrNull table) = Keyword (codes "ref") ∷ Name table ∷ Keyword (codes "null") ∷ []
+
 -- NAME KIND
 abbrev pub column_symbols : Column → List Symbol
-column_symbols column = Name column.name ∷ Kind column.kind ∷ []
+column_symbols column = Name column.name ∷ kind_symbols column.kind
+
+-- the words for the kinds of an index
+abbrev pub index_word : IndexKind → List ℕ
+index_word index.Tree = codes "tree"
+index_word index.Hash = codes "hash"
+
+-- NAME NAME KIND, a table, a column of it, and a kind of index
+abbrev pub index_symbols : List ℕ → List ℕ → IndexKind → List Symbol
+index_symbols table column k = Name table ∷ Name column ∷ Keyword (index_word k) ∷ []
 
 -- VALUE
 abbrev pub value_symbols : Value → List Symbol
@@ -86,13 +103,20 @@ items_symbols items.All = Sign Star ∷ []
 items_symbols (items.Named names) = separated (map name_symbols names)
 
 -- table NAME ( NAME KIND {, NAME KIND} )
+-- drop table NAME
+-- index NAME NAME KIND
+-- drop index NAME NAME KIND
 -- insert NAME ( VALUE {, VALUE} )
 -- update NAME set NAME = VALUE {, NAME = VALUE} [where ..]
 -- delete NAME [where ..]
 -- select ITEMS from NAME [where ..]
+-- tables
 abbrev pub symbols_of : Command → List Symbol
 symbols_of (Table name schema) =
     Keyword (codes "table") ∷ Name name ∷ Sign Open ∷ separated (map column_symbols schema.columns) ++ Sign Close ∷ []
+symbols_of (DropTable table) = Keyword (codes "drop") ∷ Keyword (codes "table") ∷ Name table ∷ []
+symbols_of (Index table column k) = Keyword (codes "index") ∷ index_symbols table column k
+symbols_of (DropIndex table column k) = Keyword (codes "drop") ∷ Keyword (codes "index") ∷ index_symbols table column k
 symbols_of (Insert table values) =
     Keyword (codes "insert") ∷ Name table ∷ Sign Open ∷ separated (map value_symbols values) ++ Sign Close ∷ []
 symbols_of (Update table settings conditions) =
@@ -100,6 +124,7 @@ symbols_of (Update table settings conditions) =
 symbols_of (Delete table conditions) = Keyword (codes "delete") ∷ Name table ∷ where_symbols conditions
 symbols_of (Select items table conditions) =
     Keyword (codes "select") ∷ items_symbols items ++ Keyword (codes "from") ∷ Name table ∷ where_symbols conditions
+symbols_of Tables = Keyword (codes "tables") ∷ []
 
 -- ---- the characters of a symbol
 
@@ -137,15 +162,11 @@ mark_text Dot = codes "."
 mark_text Star = codes "*"
 mark_text (Operator operator) = operator_text operator
 
--- These characters are this symbol. There are columns of integers and of texts alone, and null is spelled by nothing.
+-- These characters are this symbol.
 abbrev pub IsSymbol : List ℕ → Symbol → Type 0
 IsSymbol characters (Keyword word) = characters ≡ word
 IsSymbol characters (Name name) = (characters ≡ name) × IsName name
-IsSymbol characters (Kind kind.Int) = characters ≡ codes "int"
-IsSymbol characters (Kind kind.Text) = characters ≡ codes "text"
-IsSymbol characters (Kind (kind.Ref table)) = ⊥
-IsSymbol characters (Kind (kind.RefOrNull table)) = ⊥
-IsSymbol characters (Literal value.Null) = ⊥
+IsSymbol characters (Literal value.Null) = characters ≡ codes "null"
 IsSymbol characters (Literal (value.Int z)) = IsInteger characters z
 IsSymbol characters (Literal (value.Text text)) = characters ≡ text_literal text
 IsSymbol characters (Sign mark) = characters ≡ mark_text mark
@@ -155,7 +176,6 @@ IsSymbol characters (Sign mark) = characters ≡ mark_text mark
 abbrev pub goes_on_with : Symbol → ℕ → Bool
 goes_on_with (Keyword word) c = is_word_character c
 goes_on_with (Name name) c = is_word_character c
-goes_on_with (Kind k) c = is_word_character c
 goes_on_with (Literal value.Null) c = is_word_character c
 goes_on_with (Literal (value.Int z)) c = is_word_character c
 goes_on_with (Literal (value.Text text)) c = c == 39
@@ -189,11 +209,15 @@ IsMadeOf line (symbol ∷ symbols) =
 -- A command's list of columns, values, settings or named items has something in it. That of its conditions may be empty.
 abbrev pub NamesSomething : Command → Type 0
 NamesSomething (Table name schema) = 0 < length schema.columns
+NamesSomething (DropTable table) = Unit {0}
+NamesSomething (Index table column k) = Unit {0}
+NamesSomething (DropIndex table column k) = Unit {0}
 NamesSomething (Insert table values) = 0 < length values
 NamesSomething (Update table settings conditions) = 0 < length settings
 NamesSomething (Delete table conditions) = Unit {0}
 NamesSomething (Select items.All table conditions) = Unit {0}
 NamesSomething (Select (items.Named names) table conditions) = 0 < length names
+NamesSomething Tables = Unit {0}
 
 -- A line spells a command where it has no line feed in it and is made of the command's symbols, and no list of the command
 -- is empty that must not be.
@@ -202,20 +226,20 @@ Spells line command = ¬ (Contains line 10) × NamesSomething command × IsMadeO
 
 -- ---- what can be spelled, and the one canonical spelling
 
--- the kinds that a command can spell: those of integers and of texts
+-- integers, texts, or references to a table by a name
 abbrev pub IsSpellableKind : ColKind → Type 0
 IsSpellableKind kind.Int = Unit {0}
 IsSpellableKind kind.Text = Unit {0}
-IsSpellableKind (kind.Ref table) = ⊥
-IsSpellableKind (kind.RefOrNull table) = ⊥
+IsSpellableKind (kind.Ref table) = IsName table
+IsSpellableKind (kind.RefOrNull table) = IsName table
 
 -- a name, and a kind that can be spelled
 abbrev pub IsSpellableColumn : Column → Type 0
 IsSpellableColumn column = IsName column.name × IsSpellableKind column.kind
 
--- an integer of 64 bits, or a text with no line feed; not null
+-- null, an integer of 64 bits, or a text with no line feed
 abbrev pub IsSpellableValue : Value → Type 0
-IsSpellableValue value.Null = ⊥
+IsSpellableValue value.Null = Unit {0}
 IsSpellableValue (value.Int z) = FitsSigned w64 z
 IsSpellableValue (value.Text text) = ¬ (Contains text 10)
 
@@ -236,11 +260,14 @@ abbrev pub AreSpellableItems : Items → Type 0
 AreSpellableItems items.All = Unit {0}
 AreSpellableItems (items.Named names) = (0 < length names) × AllByRecursion IsSpellableName names
 
--- A command can be spelled where its names are names, its lists but that of the conditions aren't empty, its columns
--- are of integers or texts, its integers have 64 bits, no text of it holds a line feed, and no value of it is null.
+-- A command can be spelled where its names are names, its lists but that of the conditions aren't empty, its integers have
+-- 64 bits, and no text of it holds a line feed.
 abbrev pub IsSpellable : Command → Type 0
 IsSpellable (Table name schema) =
     IsName name × (0 < length schema.columns) × AllByRecursion IsSpellableColumn schema.columns
+IsSpellable (DropTable table) = IsName table
+IsSpellable (Index table column k) = IsName table × IsName column
+IsSpellable (DropIndex table column k) = IsName table × IsName column
 IsSpellable (Insert table values) = IsName table × (0 < length values) × AllByRecursion IsSpellableValue values
 IsSpellable (Update table settings conditions) =
     IsName table × (0 < length settings) × AllByRecursion IsSpellableSetting settings
@@ -248,19 +275,12 @@ IsSpellable (Update table settings conditions) =
 IsSpellable (Delete table conditions) = IsName table × AllByRecursion IsSpellableCondition conditions
 IsSpellable (Select items table conditions) =
     AreSpellableItems items × IsName table × AllByRecursion IsSpellableCondition conditions
-
--- the words for a kind of column; those for references stand in no command that can be spelled
-abbrev pub kind_text : ColKind → List ℕ
-kind_text kind.Int = codes "int"
-kind_text kind.Text = codes "text"
-kind_text (kind.Ref table) = codes "ref " ++ table
-kind_text (kind.RefOrNull table) = codes "ref " ++ table ++ codes " null"
+IsSpellable Tables = Unit {0}
 
 -- The characters of a symbol in the canonical spelling. Numbers have no zeros in front, and 0 has no sign.
 abbrev pub symbol_text : Symbol → List ℕ
 symbol_text (Keyword word) = word
 symbol_text (Name name) = name
-symbol_text (Kind k) = kind_text k
 symbol_text (Literal value.Null) = codes "null"
 symbol_text (Literal (value.Int z)) = signed_decimal z
 symbol_text (Literal (value.Text text)) = text_literal text

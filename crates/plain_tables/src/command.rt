@@ -1,6 +1,6 @@
 //! What a command line asks for, and the limits under which it is done.
 
-use crate::{ColName, Cond, Schema, Sequence, Text, Value};
+use crate::{ColName, Cond, IndexKind, Schema, Sequence, Text, Value};
 
 /// A command of the language. Each has one variant.
 #[derive(Debug, Drop)]
@@ -9,6 +9,22 @@ pub enum Command {
     Table {
         name: Text,
         schema: Schema,
+    },
+    /// `drop table NAME`: the table is gone.
+    DropTable {
+        table: Text,
+    },
+    /// `index NAME NAME ..`: one declared index more, on this column of this table.
+    Index {
+        table: Text,
+        column: Text,
+        kind: IndexKind,
+    },
+    /// `drop index NAME NAME ..`: one declared index less.
+    DropIndex {
+        table: Text,
+        column: Text,
+        kind: IndexKind,
     },
     /// `insert NAME ( .. )`: one row more.
     Insert {
@@ -32,6 +48,8 @@ pub enum Command {
         table: Text,
         conditions: Sequence<Cond>,
     },
+    /// `tables`: what tables there are.
+    Tables,
 }
 
 /// What an update puts into a column.

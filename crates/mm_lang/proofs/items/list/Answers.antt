@@ -9,7 +9,7 @@ use Rattle.mm_lang.proofs.items.list.Goals as goal
 pub returns-in_err-item-clause-syntax : goal.returns-in_err-item-clause-syntax
 returns-in_err-item-clause-syntax g c = λ syntax.
     let p = err_from_is_err_and c.from_residual.result c.from_residual.ensures.1 in
-    has_read-no_item g.T.Item.symbols c.args.between.now c.args.line.now c.loop-items.items.items c.loop-items.rest.now c.requires.no_dot
+    has_read-no_item g.T.Item.symbols c.args.between.now c.args.line.now c.loop-items.items.items c.loop-items.rest.now c.requires.ends_item
     c.loop-items.invariant (c.in_err-item.ensures.syntax (ap Err (same-error c.from_residual.result p.0 _ _ p.1 p.2 syntax)))
 
 pub loop-items-smaller : goal.loop-items-smaller
@@ -27,10 +27,10 @@ pub loop-items-preserved : goal.loop-items-preserved
 loop-items-preserved g c =
     rw (c.in_ok-push.ensures.items, c.in-Some.ensures.1)
     (has_read-further g.T.Item.symbols c.args.between.now c.args.line.now c.loop-items.items.items c.loop-items.rest.now c.in_ok-item.item
-    c.in_ok-item.behind.now c.requires.no_dot c.loop-items.invariant c.in_ok-item.ensures.item c.in-Some.ensures.0)
+    c.in_ok-item.behind.now c.requires.ends_item c.loop-items.invariant c.in_ok-item.ensures.item c.in-Some.ensures.0)
 
 pub returns-in-None-clause-items : goal.returns-in-None-clause-items
 returns-in-None-clause-items g c =
     rw c.in_ok-push.ensures.items
     (has_read-last g.T.Item.symbols c.args.between.now c.args.line.now c.loop-items.items.items c.loop-items.rest.now c.in_ok-item.item
-    c.in_ok-item.behind.now c.requires.no_dot c.loop-items.invariant c.in_ok-item.ensures.item c.in-None.ensures)
+    c.in_ok-item.behind.now c.requires.ends_item c.loop-items.invariant c.in_ok-item.ensures.item c.in-None.ensures)

@@ -109,11 +109,74 @@ returns-then-eq-5-clause-syntax c = λ syntax.
     not-spelled c.args.line.now (codes "table") c.split_lexeme.result.1.now word rest
     (c.table.ensures.syntax syntax (subst IsOfText (sym rest) (of_text-after c.args.line.now ([], c.utf8.line))))
 
-pub returns-else-eq-5-clause-syntax : goal.returns-else-eq-5-clause-syntax
-returns-else-eq-5-clause-syntax c = λ _.
+pub returns-then-eq-6-clause-command : goal.returns-then-eq-6-clause-command
+returns-then-eq-6-clause-command c =
+    let word : lexeme c.args.line.now ≡ codes "drop" =
+    lexeme-is _ _ _ _ _ c.eq-else-eq-5.result c.as_bytes-bytes.ensures.value c.split_lexeme.ensures.lexeme c.if-eq-6.true c.eq-else-eq-5.ensures c.as_slice-else-eq-5.ensures in
+    let rest : c.split_lexeme.result.1.now ≡ after_lexeme c.args.line.now =
+    c.split_lexeme.ensures.after ∙ ap after_lexeme c.as_bytes-bytes.ensures.value in
+    IfOk-weaker c.drop_command.result (Completes (codes "drop") c.split_lexeme.result.1.now) (Spells c.args.line.now)
+    (λ command. spelled c.args.line.now (codes "drop") c.split_lexeme.result.1.now command
+    (no-feed c.args.line.now _ c.contains.result c.as_bytes-bytes.ensures.value c.if-contains.false c.contains.ensures.value) word rest)
+    c.drop_command.ensures.command
+
+pub returns-then-eq-6-clause-syntax : goal.returns-then-eq-6-clause-syntax
+returns-then-eq-6-clause-syntax c = λ syntax.
+    let word : lexeme c.args.line.now ≡ codes "drop" =
+    lexeme-is _ _ _ _ _ c.eq-else-eq-5.result c.as_bytes-bytes.ensures.value c.split_lexeme.ensures.lexeme c.if-eq-6.true c.eq-else-eq-5.ensures c.as_slice-else-eq-5.ensures in
+    let rest : c.split_lexeme.result.1.now ≡ after_lexeme c.args.line.now =
+    c.split_lexeme.ensures.after ∙ ap after_lexeme c.as_bytes-bytes.ensures.value in
+    not-spelled c.args.line.now (codes "drop") c.split_lexeme.result.1.now word rest
+    (c.drop_command.ensures.syntax syntax)
+
+pub returns-then-eq-7-clause-command : goal.returns-then-eq-7-clause-command
+returns-then-eq-7-clause-command c =
+    let word : lexeme c.args.line.now ≡ codes "index" =
+    lexeme-is _ _ _ _ _ c.eq-else-eq-6.result c.as_bytes-bytes.ensures.value c.split_lexeme.ensures.lexeme c.if-eq-7.true c.eq-else-eq-6.ensures c.as_slice-else-eq-6.ensures in
+    let rest : c.split_lexeme.result.1.now ≡ after_lexeme c.args.line.now =
+    c.split_lexeme.ensures.after ∙ ap after_lexeme c.as_bytes-bytes.ensures.value in
+    IfOk-weaker c.index.result (Completes (codes "index") c.split_lexeme.result.1.now) (Spells c.args.line.now)
+    (λ command. spelled c.args.line.now (codes "index") c.split_lexeme.result.1.now command
+    (no-feed c.args.line.now _ c.contains.result c.as_bytes-bytes.ensures.value c.if-contains.false c.contains.ensures.value) word rest)
+    c.index.ensures.command
+
+pub returns-then-eq-7-clause-syntax : goal.returns-then-eq-7-clause-syntax
+returns-then-eq-7-clause-syntax c = λ syntax.
+    let word : lexeme c.args.line.now ≡ codes "index" =
+    lexeme-is _ _ _ _ _ c.eq-else-eq-6.result c.as_bytes-bytes.ensures.value c.split_lexeme.ensures.lexeme c.if-eq-7.true c.eq-else-eq-6.ensures c.as_slice-else-eq-6.ensures in
+    let rest : c.split_lexeme.result.1.now ≡ after_lexeme c.args.line.now =
+    c.split_lexeme.ensures.after ∙ ap after_lexeme c.as_bytes-bytes.ensures.value in
+    not-spelled c.args.line.now (codes "index") c.split_lexeme.result.1.now word rest
+    (c.index.ensures.syntax syntax)
+
+pub returns-then-eq-8-clause-command : goal.returns-then-eq-8-clause-command
+returns-then-eq-8-clause-command c =
+    let word : lexeme c.args.line.now ≡ codes "tables" =
+    lexeme-is _ _ _ _ _ c.eq-else-eq-7.result c.as_bytes-bytes.ensures.value c.split_lexeme.ensures.lexeme c.if-eq-8.true c.eq-else-eq-7.ensures c.as_slice-else-eq-7.ensures in
+    let rest : c.split_lexeme.result.1.now ≡ after_lexeme c.args.line.now =
+    c.split_lexeme.ensures.after ∙ ap after_lexeme c.as_bytes-bytes.ensures.value in
+    IfOk-weaker c.tables.result (Completes (codes "tables") c.split_lexeme.result.1.now) (Spells c.args.line.now)
+    (λ command. spelled c.args.line.now (codes "tables") c.split_lexeme.result.1.now command
+    (no-feed c.args.line.now _ c.contains.result c.as_bytes-bytes.ensures.value c.if-contains.false c.contains.ensures.value) word rest)
+    c.tables.ensures.command
+
+pub returns-then-eq-8-clause-syntax : goal.returns-then-eq-8-clause-syntax
+returns-then-eq-8-clause-syntax c = λ syntax.
+    let word : lexeme c.args.line.now ≡ codes "tables" =
+    lexeme-is _ _ _ _ _ c.eq-else-eq-7.result c.as_bytes-bytes.ensures.value c.split_lexeme.ensures.lexeme c.if-eq-8.true c.eq-else-eq-7.ensures c.as_slice-else-eq-7.ensures in
+    let rest : c.split_lexeme.result.1.now ≡ after_lexeme c.args.line.now =
+    c.split_lexeme.ensures.after ∙ ap after_lexeme c.as_bytes-bytes.ensures.value in
+    not-spelled c.args.line.now (codes "tables") c.split_lexeme.result.1.now word rest
+    (c.tables.ensures.syntax syntax)
+
+pub returns-else-eq-8-clause-syntax : goal.returns-else-eq-8-clause-syntax
+returns-else-eq-8-clause-syntax c = λ _.
     unknown-word c.args.line.now
     (lexeme-is_not _ _ _ _ _ c.eq.result c.as_bytes-bytes.ensures.value c.split_lexeme.ensures.lexeme c.if-eq.false c.eq.ensures c.as_slice.ensures)
     (lexeme-is_not _ _ _ _ _ c.eq-else-eq.result c.as_bytes-bytes.ensures.value c.split_lexeme.ensures.lexeme c.if-eq-2.false c.eq-else-eq.ensures c.as_slice-else-eq.ensures)
     (lexeme-is_not _ _ _ _ _ c.eq-else-eq-2.result c.as_bytes-bytes.ensures.value c.split_lexeme.ensures.lexeme c.if-eq-3.false c.eq-else-eq-2.ensures c.as_slice-else-eq-2.ensures)
     (lexeme-is_not _ _ _ _ _ c.eq-else-eq-3.result c.as_bytes-bytes.ensures.value c.split_lexeme.ensures.lexeme c.if-eq-4.false c.eq-else-eq-3.ensures c.as_slice-else-eq-3.ensures)
     (lexeme-is_not _ _ _ _ _ c.eq-else-eq-4.result c.as_bytes-bytes.ensures.value c.split_lexeme.ensures.lexeme c.if-eq-5.false c.eq-else-eq-4.ensures c.as_slice-else-eq-4.ensures)
+    (lexeme-is_not _ _ _ _ _ c.eq-else-eq-5.result c.as_bytes-bytes.ensures.value c.split_lexeme.ensures.lexeme c.if-eq-6.false c.eq-else-eq-5.ensures c.as_slice-else-eq-5.ensures)
+    (lexeme-is_not _ _ _ _ _ c.eq-else-eq-6.result c.as_bytes-bytes.ensures.value c.split_lexeme.ensures.lexeme c.if-eq-7.false c.eq-else-eq-6.ensures c.as_slice-else-eq-6.ensures)
+    (lexeme-is_not _ _ _ _ _ c.eq-else-eq-7.result c.as_bytes-bytes.ensures.value c.split_lexeme.ensures.lexeme c.if-eq-8.false c.eq-else-eq-7.ensures c.as_slice-else-eq-7.ensures)

@@ -3,16 +3,16 @@ use Rattle.plain_tables.specs.Effects.{Done, Changed}
 use Rattle.mm_session.proofs.AnswerLemmas.{does_all, answer_text-one}
 use Rattle.mm_session.proofs.tables.Tables.execute.Goals as goal
 
-pub returns-in_ok-push-in-Table-clause-ok : goal.returns-in_ok-push-in-Table-clause-ok
-returns-in_ok-push-in-Table-clause-ok c =
+pub returns-in-Table-clause-ok : goal.returns-in-Table-clause-ok
+returns-in-Table-clause-ok c =
     rw c.in-Table.is (does_all c.create.result _ c.create.new.self Done c.args.answer.now c.push.new.self
     (c.create.ensures.ok c.args.limits) c.in_ok-push-in-Table.ensures)
 
-pub returns-in_ok-push-in-Table-clause-err : goal.returns-in_ok-push-in-Table-clause-err
-returns-in_ok-push-in-Table-clause-err c = rw c.in-Table.is (c.create.ensures.err c.args.limits)
+pub returns-in-Table-clause-err : goal.returns-in-Table-clause-err
+returns-in-Table-clause-err c = rw c.in-Table.is (c.create.ensures.err c.args.limits)
 
-pub returns-in_ok-push-in-Insert-clause-ok : goal.returns-in_ok-push-in-Insert-clause-ok
-returns-in_ok-push-in-Insert-clause-ok c =
+pub returns-in-Insert-clause-ok : goal.returns-in-Insert-clause-ok
+returns-in-Insert-clause-ok c =
     rw c.in-Insert.is (does_all c.insert.result _ c.insert.new.self (Changed 1) c.args.answer.now c.push-in-Insert.new.self
     c.insert.ensures.ok (c.in_ok-push-in-Insert.ensures ∙ ap (λ text. c.args.answer.now ++ text) (sym answer_text-one)))
 
