@@ -1,5 +1,6 @@
 //! The making of a relation, and what is declared of one.
-ghost use Rattle.std.specs.Prelude.{◌≡◌, ◌<◌, IfOk, OnOk, OnErr, length, position};
+ghost use Rattle.std.specs.Prelude.{◌≡◌, ◌<◌, Some, IfOk, OnOk, OnErr, length, position, slice_get};
+ghost use Rattle.std.specs.Option.{option_map};
 ghost use Rattle.mm_relation.specs.Declaring.{is_index, without_first};
 
 use crate::indexes::Indexes;
@@ -59,6 +60,14 @@ impl Relation {
                 hashes: Sequence::new(alloc),
             },
         })
+    }
+
+    /// The table that the links of a column lead into. None where they lead nowhere.
+    pub fn target(&self, column: ColumnNumber) -> Option<TableNumber>
+        requires { column.0 < length self.now.targets }
+        ensures { slice_get self.now.targets column.0 ≡ Some (option_map (λ t. t.0) result) }
+    {
+        self.targets[column.0].map(TableNumber)
     }
 
     /// Tells into which table the links of a column lead.
