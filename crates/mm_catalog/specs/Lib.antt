@@ -3,5 +3,6 @@ pub mod Seen
 pub mod Linked
 pub mod Consistent
 pub mod Changes
+pub mod Picked
 pub mod Created
 pub mod Recounted
