@@ -6,3 +6,4 @@ pub mod Changes
 pub mod Picked
 pub mod Created
 pub mod Recounted
+pub mod Lowered

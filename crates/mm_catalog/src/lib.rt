@@ -21,5 +21,6 @@ mod catalog;
 mod create;
 mod declare;
 pub mod laws;
+mod lowering;
 
 pub use catalog::Catalog;
