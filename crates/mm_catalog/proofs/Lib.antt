@@ -11,3 +11,6 @@ pub mod Rising
 pub mod Keyed
 pub mod Shown
 pub mod Counting
+pub mod Recounting
+pub mod LinksHeld
+pub mod Elsewhere
