@@ -12,3 +12,6 @@ pub mod Keyed
 pub mod Shown
 pub mod Counting
 pub mod Fewer
+pub mod Recounting
+pub mod LinksHeld
+pub mod Elsewhere
