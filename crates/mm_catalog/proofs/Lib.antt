@@ -15,3 +15,4 @@ pub mod Fewer
 pub mod Recounting
 pub mod LinksHeld
 pub mod Elsewhere
+pub mod Removing

@@ -7,3 +7,4 @@ pub mod Picked
 pub mod Created
 pub mod Recounted
 pub mod Lowered
+pub mod Deleted

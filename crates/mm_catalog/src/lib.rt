@@ -20,6 +20,7 @@ mod before;
 mod catalog;
 mod create;
 mod declare;
+mod delete;
 pub mod laws;
 mod lowering;
 
