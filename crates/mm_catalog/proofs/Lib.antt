@@ -16,3 +16,7 @@ pub mod Recounting
 pub mod LinksHeld
 pub mod Elsewhere
 pub mod Removing
+pub mod Anywhere
+pub mod References
+pub mod Shrunk
+pub mod Deleting
