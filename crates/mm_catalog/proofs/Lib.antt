@@ -11,3 +11,12 @@ pub mod Rising
 pub mod Keyed
 pub mod Shown
 pub mod Counting
+pub mod Fewer
+pub mod Recounting
+pub mod LinksHeld
+pub mod Elsewhere
+pub mod Removing
+pub mod Anywhere
+pub mod References
+pub mod Shrunk
+pub mod Deleting
