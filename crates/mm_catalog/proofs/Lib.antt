@@ -11,3 +11,8 @@ pub mod Rising
 pub mod Keyed
 pub mod Shown
 pub mod Counting
+pub mod Fewer
+pub mod Recounting
+pub mod LinksHeld
+pub mod Elsewhere
+pub mod Removing

@@ -3,5 +3,8 @@ pub mod Seen
 pub mod Linked
 pub mod Consistent
 pub mod Changes
+pub mod Picked
 pub mod Created
 pub mod Recounted
+pub mod Lowered
+pub mod Deleted

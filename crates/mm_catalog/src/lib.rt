@@ -20,6 +20,8 @@ mod before;
 mod catalog;
 mod create;
 mod declare;
+mod delete;
 pub mod laws;
+mod lowering;
 
 pub use catalog::Catalog;
