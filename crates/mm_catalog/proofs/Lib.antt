@@ -16,3 +16,9 @@ pub mod Recounting
 pub mod LinksHeld
 pub mod Elsewhere
 pub mod Removing
+pub mod Gone
+pub mod Renumbering
+pub mod Renumbered
+pub mod Unlinking
+pub mod Dropped
+pub mod Dropping
