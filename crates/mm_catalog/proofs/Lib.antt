@@ -20,3 +20,9 @@ pub mod Anywhere
 pub mod References
 pub mod Shrunk
 pub mod Deleting
+pub mod Gone
+pub mod Renumbering
+pub mod Renumbered
+pub mod Unlinking
+pub mod Dropped
+pub mod Dropping

@@ -8,3 +8,4 @@ pub mod Created
 pub mod Recounted
 pub mod Lowered
 pub mod Deleted
+pub mod Dropped

@@ -6,6 +6,7 @@ ghost use Rattle.std.specs.Option.{option_map};
 use crate::create::aimed;
 use crate::declare::{declare, undeclare};
 use crate::delete::delete;
+use crate::removal::{renumber_behind, unlink};
 use indexmap::IndexSet;
 use mm_relation::{Relation, Relations};
 use no_memory::NoMemory;
@@ -129,6 +130,17 @@ impl Catalog {
         ensures unchanged { OnErr result (self.new ≡ self.old) }
     {
         delete(self.relations.as_mut_slice(), table, rows)
+    }
+
+    /// Drops a table, which no column refers to. Those behind it move up. It takes no memory.
+    pub fn drop_table(&mut self, table: TableNumber)
+        requires { IsMeant self.old.limits (database_of self.old) (resolved.DropTable table) }
+        ensures { IsDone self.old self.new (resolved.DropTable table) }
+    {
+        unlink(self.relations.as_mut_slice(), table);
+        self.relations.remove(table.0);
+        self.names.shift_remove_index(table.0);
+        renumber_behind(self.relations.as_mut_slice(), table);
     }
 }
 

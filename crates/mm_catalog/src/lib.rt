@@ -23,5 +23,6 @@ mod declare;
 mod delete;
 pub mod laws;
 mod lowering;
+mod removal;
 
 pub use catalog::Catalog;

@@ -1,0 +1,169 @@
+-- A table that goes from a catalog: first the links of its rows, then the table, then the numbers of those behind it.
+use Rattle.std.proofs.Common.{◌≡◌, ◌≢◌, ℕ, zero, suc, ◌-◌, ◌<◌, ◌≤◌, false, List, [], ◌∷◌, ◌++◌, Option, Some, None, refl, sym, ap, ◌∙◌, subst, arith, length, map, take, drop, get_or, length-append, inl, inr}
+use Rattle.std.specs.List.{All, slice_get, remove, count_by}
+use Rattle.std.specs.Option.{option_and_then, option_map}
+use Rattle.std.specs.FinMap as finite
+use Rattle.std.proofs.lemmas.Bool.{cases_lt}
+use Rattle.std.proofs.lemmas.List.{map-append, length-take, length-drop, take-append-drop}
+use Rattle.std.proofs.lemmas.List.Edits.{length-remove}
+use Rattle.std.proofs.lemmas.List.Elements.{All-append, All-take, All-drop}
+use Rattle.std.proofs.lemmas.List.Folds.{map_fixed}
+use Rattle.std.proofs.lemmas.Option.{same_Some, slice_get_past, slice_get_within, slice_get-get_or}
+use Rattle.part_raw.specs.declared.tuple_ref.TupleRef.{TupleRef}
+use Rattle.plain_tables.specs.Tables.{Table}
+use Rattle.plain_tables.specs.References.{is_table_referenced, IsSound}
+use Rattle.plain_tables.specs.ResolvedLaws.{IsMeant}
+use Rattle.plain_tables.specs.declared.numbers.TableNumber.{TableNumber}
+use Rattle.plain_tables.specs.declared.resolved.Resolved.TheVariants as resolved
+use Rattle.plain_tables.proofs.SoundLemmas.{done_keeps_sound}
+use Rattle.mm_relation.specs.declared.row.Row.{Row}
+use Rattle.mm_relation.specs.State.{RelationState, IsKept}
+use Rattle.mm_catalog.specs.State.{CatalogState}
+use Rattle.mm_catalog.specs.Seen.{database_of, table_of}
+use Rattle.mm_catalog.specs.Linked.{target_at, relation_links, links, links_to, is_link_to}
+use Rattle.mm_catalog.specs.Consistent.{IsConsistent}
+use Rattle.mm_catalog.specs.Changes.{IsDone}
+use Rattle.mm_catalog.specs.Recounted.{IsRecounted, AreRecounted}
+use Rattle.mm_catalog.specs.Lowered.{HaveAtLeast}
+use Rattle.mm_catalog.specs.Dropped.{moved_up, renumbered, IsUnlinked}
+use Rattle.mm_catalog.proofs.Lists.{get_within, get-front, get-take}
+use Rattle.mm_catalog.proofs.Outlines.{LeadBack}
+use Rattle.mm_catalog.proofs.Back.{lead_back}
+use Rattle.mm_catalog.proofs.Declared.{there_at, table_at}
+use Rattle.mm_catalog.proofs.Elsewhere.{relation_leads}
+use Rattle.mm_catalog.proofs.Fewer.{IsRecounted-refl, counted_lowered}
+use Rattle.mm_catalog.proofs.Gone.{moved_up-before, moved_back-before, get-removed}
+use Rattle.mm_catalog.proofs.Renumbered.{less_one, count-less_one}
+use Rattle.mm_catalog.proofs.Dropped.{database_left, consistent_left}
+
+-- what stands behind a list of as many elements as are left out
+get-past : {A : Type 0} (xs ys : List A) (n k : ℕ) → length xs ≡ n → n ≤ k → slice_get (xs ++ drop n ys) k ≡ slice_get ys k
+get-past [] ys zero k e h = refl
+get-past [] ys (suc n) k e h = absurd (omega arith)
+get-past (x ∷ xs) ys zero k e h = absurd (omega arith)
+get-past (x ∷ xs) ys (suc n) zero e h = absurd (omega arith)
+get-past (x ∷ xs) [] (suc n) (suc k) e h = slice_get_past (xs ++ []) k (omega (arith, length-append xs []))
+get-past (x ∷ xs) (y ∷ ys) (suc n) (suc k) e h = get-past xs ys n k (omega arith) (omega arith)
+
+get-taken : {A : Type 0} (xs : List A) (n k : ℕ) (x : A) → slice_get (take n xs) k ≡ Some x → (k < n) × (slice_get xs k ≡ Some x)
+get-taken xs n k x at =
+    let within : k < n = omega (arith, slice_get_within (take n xs) k x at, length-take n xs) in
+    (within, sym (get-take xs n k within) ∙ at)
+
+-- links that lead before the one that goes lead where they led
+stays : (n : ℕ) (target : Option ℕ) → ((t : ℕ) → target ≡ Some t → t ≤ n) → option_map (moved_up n) target ≡ target
+stays n None back = refl
+stays n (Some t) back = ap (λ m. Some m) (moved_up-before n t (back t refl))
+
+targets_stay : (n : ℕ) (targets : List (Option ℕ)) → LeadBack targets n → map (option_map (moved_up n)) targets ≡ targets
+targets_stay n targets back = map_fixed (option_map (moved_up n)) targets (λ k d l.
+    stays n (get_or targets k d) (λ t e. omega (arith, back k t (ap (option_and_then (λ (o : Option ℕ). o)) (slice_get-get_or targets k d l) ∙ e))))
+
+module _ (c : CatalogState) (ok : IsConsistent c) (number : TableNumber) (meant : IsMeant c.limits (database_of c) (resolved.DropTable number)) where
+  abbrev n : ℕ
+  n = number.0
+
+  pub within : n < length c.relations
+  within = there_at c ok n meant.0 meant.1
+
+  pub all_kept : All IsKept c.relations
+  all_kept = λ k d l. (ok.each k d l).kept
+
+  -- each row that its links name has as many referrers at least
+  pub enough : (s : RelationState) → slice_get c.relations n ≡ Some s → HaveAtLeast (take n c.relations) (λ table r. count_by (is_link_to table r) (relation_links s))
+  unfolding links_to links
+  enough s there table t r row at e =
+      let old = get-taken c.relations n table t at in
+      let had = ok.counted table t r row old.1 e in
+      omega (arith, had, count-less_one relation_links (is_link_to table r) c.relations n s there)
+
+  unreferred : (name : List ℕ) → slice_get c.names n ≡ Some name → is_table_referenced (database_of c) name ≡ false
+  unfolding table_of
+  unreferred name called =
+      let s = get_within c.relations n within in
+      let same : meant.0.name ≡ name = ap (λ (t : Table). t.name) (table_at c ok n name s.0 meant.0 called s.1 meant.1) in
+      subst (λ other. is_table_referenced (database_of c) other ≡ false) same meant.2
+
+  module _ (unlinked : List RelationState) (h : IsUnlinked c.relations unlinked n) where
+    front_length : length h.front ≡ n
+    front_length = omega (arith, h.lowered.recounted.count, length-take n c.relations, within)
+
+    get-before : (k : ℕ) → k < n → slice_get unlinked k ≡ slice_get h.front k
+    get-before k below = ap (λ rs. slice_get rs k) h.list ∙ get-front h.front (drop n c.relations) k (omega (arith, below, front_length))
+
+    get-behind : (k : ℕ) → n ≤ k → slice_get unlinked k ≡ slice_get c.relations k
+    get-behind k past = ap (λ rs. slice_get rs k) h.list ∙ get-past h.front c.relations n k front_length past
+
+    length-unlinked : length unlinked ≡ length c.relations
+    length-unlinked =
+        let whole : length unlinked ≡ length (h.front ++ drop n c.relations) = ap (λ (rs : List RelationState). length rs) h.list in
+        omega (arith, whole, length-append h.front (drop n c.relations), front_length, length-drop n c.relations, within)
+
+    recounted : AreRecounted c.relations unlinked
+    recounted = record {
+      count = length-unlinked;
+      each = λ k s t at here. elim (cases_lt k n) [
+        | inl below ↦ h.lowered.recounted.each k s t (get-take c.relations n k below ∙ at) (sym (get-before k below) ∙ here)
+        | inr past ↦ subst (IsRecounted s) (same_Some s t (sym at ∙ sym (get-behind k past) ∙ here)) (IsRecounted-refl s)
+      ];
+    }
+
+    kept_unlinked : All IsKept unlinked
+    kept_unlinked = subst (All IsKept) (sym h.list) (All-append IsKept h.front (drop n c.relations) h.lowered.kept (All-drop IsKept n c.relations all_kept))
+
+    fewer : (k : ℕ) (t : RelationState) (r : TupleRef) (row : Row) → k ≢ n → slice_get unlinked k ≡ Some t → finite.get t.rows r ≡ Some row → row.referrers ≡ links_to c.relations k r - count_by (is_link_to k r) (relation_links h.relation)
+    fewer k t r row other at e = elim (cases_lt k n) [
+      | inl below ↦
+          counted_lowered (take n c.relations) h.front (λ table q. count_by (is_link_to table q) (relation_links h.relation)) (links_to c.relations) h.lowered
+          (λ table s q had there held. ok.counted table s q had (get-taken c.relations n table s there).1 held)
+          k t r row (sym (get-before k below) ∙ at) e
+      | inr past ↦
+          let had = ok.counted k t r row (sym (get-behind k past) ∙ at) e in
+          omega (arith, had, relation_leads h.relation n (lead_back c ok n h.relation h.there) k r past)
+    ]
+
+    -- ---- without it
+
+    abbrev others : List RelationState
+    others = remove unlinked n
+
+    pub wide_others : All (λ (s : RelationState). length s.targets ≡ length s.schema.columns) others
+    wide_others =
+        let kept : All IsKept others =
+        All-append IsKept (take n unlinked) (drop (suc n) unlinked) (All-take IsKept n unlinked kept_unlinked) (All-drop IsKept (suc n) unlinked kept_unlinked) in
+        λ k d l. (kept k d l).width
+
+    pub within_others : n ≤ length others
+    within_others = omega (arith, length-remove unlinked n (omega (arith, within, length-unlinked)), within, length-unlinked)
+
+    before_stays : (k : ℕ) (s : RelationState) → slice_get (take n others) k ≡ Some s → renumbered n s ≡ s
+    before_stays k s at =
+        let there = get-taken others n k s at in
+        let here : slice_get unlinked k ≡ Some s = ap (slice_get unlinked) (sym (moved_back-before n k there.0)) ∙ sym (get-removed unlinked n k) ∙ there.1 in
+        let old = get_within c.relations k (omega (arith, there.0, within)) in
+        let targets : s.targets ≡ old.0.targets = ap (λ (r : RelationState). r.targets) (recounted.each k old.0 s old.1 here).same in
+        let back : LeadBack s.targets n = λ column t e.
+        omega (arith, there.0, lead_back c ok k old.0 old.1 column t (subst (λ ts. target_at ts column ≡ Some t) targets e)) in
+        ap (λ ts. record s { targets = ts }) (targets_stay n s.targets back)
+
+    all_told : take n others ++ map (renumbered n) (drop n others) ≡ less_one unlinked n
+    all_told =
+        ap (λ front. front ++ map (renumbered n) (drop n others))
+        (sym (map_fixed (renumbered n) (take n others) (λ k d l. before_stays k (get_or (take n others) k d) (slice_get-get_or (take n others) k d l))))
+        ∙ sym (map-append (renumbered n) (take n others) (drop n others)) ∙ ap (map (renumbered n)) (take-append-drop n others)
+
+    -- what is done, and that it stays consistent
+    pub record IsDropped (new : CatalogState) : Type 0 where
+      pub done : IsDone c new (resolved.DropTable number)
+      pub consistent : IsConsistent new
+
+    pub table_dropped : (names : List (List ℕ)) (relations : List RelationState) → names ≡ remove c.names n → relations ≡ take n others ++ map (renumbered n) (drop n others) → IsDropped (record c { names = names; relations = relations })
+    table_dropped names relations less told =
+        let name = get_within c.names n (omega (arith, within, ok.named)) in
+        let database = database_left c ok n name.0 name.1 (unreferred name.0 name.1) unlinked h.relation h.there recounted kept_unlinked fewer in
+        let sound = subst (IsSound c.limits) (sym database) (done_keeps_sound c.limits (database_of c) (resolved.DropTable number) ok.sound meant) in
+        subst IsDropped (λ i. record c { names = sym less i; relations = sym (told ∙ all_told) i })
+        (record {
+          done = record { database = database; limits = refl };
+          consistent = consistent_left c ok n name.0 name.1 (unreferred name.0 name.1) unlinked h.relation h.there recounted kept_unlinked fewer sound;
+        })

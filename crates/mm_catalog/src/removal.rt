@@ -1,0 +1,96 @@
+//! A relation that goes from among others: the rows that its links name, and the numbers of those behind it.
+ghost use Rattle.std.specs.Prelude.{◌≡◌, ◌<◌, ◌≤◌, ◌++◌, Some, All, length, slice_get, map, take, drop, count_by};
+ghost use Rattle.std.specs.declared.cmp.Ordering.TheVariants.{Equal};
+ghost use Rattle.mm_relation.specs.State.{RelationState, IsKept, IsCurrent, linked_keys};
+ghost use Rattle.mm_catalog.specs.Linked.{is_link_to, relation_links};
+ghost use Rattle.mm_catalog.specs.Lowered.{HaveAtLeast, AreLowered};
+ghost use Rattle.mm_catalog.specs.Changes.{IsCurrentAt};
+ghost use Rattle.mm_catalog.specs.Dropped.{with_column_moved, renumbered, IsUnlinked};
+
+use crate::lowering::lower_links;
+use mm_relation::laws::a_relation_is_kept;
+use mm_relation::{ColumnNumber, Probe, Relation, TableNumber, TupleRef};
+use std::cmp::Ordering;
+
+// A probe with all rows in its range.
+#[derive(Drop)]
+struct AllRows {
+    asked: u64,
+}
+
+impl Probe for AllRows {
+    ghost can_place = { λ _ _. Unit {0} };
+
+    ghost place = { λ _ _. Equal };
+
+    ghost asked = { λ p. p.asked };
+
+    fn place(&mut self, _r: TupleRef) -> Ordering {
+        self.asked = self.asked.saturating_add(1);
+        Ordering::Equal
+    }
+
+    fn asked(&self) -> u64 {
+        self.asked
+    }
+}
+
+// The rows that the links of a relation name have fewer referrers, as many as there are such links.
+fn lower_all(before: &mut [Relation], relation: &Relation)
+    requires kept { All IsKept before.old }
+    requires current { IsCurrent (linked_keys relation.now.targets before.old) relation.now }
+    requires enough { HaveAtLeast before.old (λ table r. count_by (is_link_to table r) (relation_links relation.now)) }
+    ensures { AreLowered before.old before.new (λ table r. count_by (is_link_to table r) (relation_links relation.now)) }
+{
+    a_relation_is_kept(relation);
+    for r in relation.walk_column(ColumnNumber(0), &mut AllRows { asked: 0 }) {
+        lower_links(before, relation, r);
+    }
+}
+
+/// The rows that the links of the relation of this number name have fewer referrers, as many as there are such links. It
+/// takes no memory.
+pub fn unlink(relations: &mut [Relation], table: TableNumber)
+    requires there { table.0 < length relations.old }
+    requires kept { All IsKept relations.old }
+    requires current { IsCurrentAt relations.old table.0 }
+    requires enough { (s : RelationState) → slice_get relations.old table.0 ≡ Some s → HaveAtLeast (take table.0 relations.old) (λ n r. count_by (is_link_to n r) (relation_links s)) }
+    ensures { IsUnlinked relations.old relations.new table.0 }
+{
+    let (before, rest) = relations.split_at_mut(table.0);
+    lower_all(before, &rest[0]);
+}
+
+// Tells a relation where the links of a column lead, now that a table is gone.
+fn renumber_column(relation: &mut Relation, column: ColumnNumber, gone: TableNumber)
+    requires { column.0 < length relation.old.targets }
+    ensures { relation.new ≡ with_column_moved gone.0 column.0 relation.old }
+{
+    if let Some(table) = relation.target(column) {
+        if table.0 > gone.0 {
+            relation.set_target(column, TableNumber(table.0 - 1));
+        }
+    }
+}
+
+// Tells a relation where its links lead, now that a table is gone.
+fn renumber(relation: &mut Relation, gone: TableNumber)
+    requires { length relation.old.targets ≡ length relation.old.schema.columns }
+    ensures { relation.new ≡ renumbered gone.0 relation.old }
+{
+    for column in 0..relation.schema().columns.len() {
+        renumber_column(relation, ColumnNumber(column), gone);
+    }
+}
+
+/// Tells the relations from this number on where their links lead, now that the one that had the number is gone.
+pub fn renumber_behind(relations: &mut [Relation], gone: TableNumber)
+    requires there { gone.0 ≤ length relations.old }
+    requires wide { All (λ s. length s.targets ≡ length s.schema.columns) relations.old }
+    ensures { relations.new ≡ take gone.0 relations.old ++ map (renumbered gone.0) (drop gone.0 relations.old) }
+{
+    let (_, behind) = relations.split_at_mut(gone.0);
+    for relation in behind.iter_mut() {
+        renumber(relation, gone);
+    }
+}
