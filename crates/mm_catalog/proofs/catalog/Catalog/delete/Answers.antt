@@ -1,9 +1,8 @@
 use Rattle.std.proofs.Common.{◌≡◌, ◌<◌, ◌++◌, Bool, List, length, map, take, drop, sym, ap, subst, arith}
 use Rattle.std.specs.List.{count_by, slice_get}
-use Rattle.std.specs.Prelude.{IfErr, OnOk, Some}
+use Rattle.std.specs.Prelude.{OnOk, Some}
 use Rattle.std.specs.String.{string_bytes}
 use Rattle.plain_tables.specs.Doing as doing
-use Rattle.plain_tables.specs.Effects.{Refused}
 use Rattle.plain_tables.specs.Tables.{Row}
 use Rattle.mm_relation.specs.State.{RelationState}
 use Rattle.mm_catalog.specs.State.{CatalogState}
