@@ -11,3 +11,5 @@ pub mod Rising
 pub mod Keyed
 pub mod Shown
 pub mod Counting
+pub mod Raising
+pub mod CellRows
