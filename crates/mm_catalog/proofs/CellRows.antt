@@ -19,8 +19,25 @@ use Rattle.mm_relation.specs.State.{RelationState, IsReadable, linked_keys}
 use Rattle.mm_catalog.specs.Seen.{or_null, row_values}
 use Rattle.mm_catalog.specs.Linked.{Linked, target_at, link_at, row_links, HasLinksOrNulls}
 use Rattle.mm_catalog.specs.Raised.{IsHeldIn}
-use Rattle.mm_catalog.specs.Cells.{target_in, read_in, IsCellOf, AreFirstCells, AreCellsOf}
+use Rattle.mm_catalog.specs.Cells.{target_in, read_in, IsCellOf, NamesNone, AreFirstCells, AreCellsOf}
 use Rattle.mm_catalog.proofs.Lists.{same_by_get, get_within, get-front, get-last}
+
+-- ---- the cell of a value
+
+pub linked_cell : (relations : List RelationState) (target : Option ℕ) (value : Value) (table : ℕ) (s : RelationState) (to : TupleRef) → target ≡ Some table → slice_get relations table ≡ Some s → key_at s.rows to ≡ Some value → IsCellOf relations target value (Link to)
+linked_cell relations target value table s to leads there named = record {
+  read =
+      ap (λ o. read_in relations o (Link to)) leads ∙ ap (option_and_then (λ (t : RelationState). key_at t.rows to)) there ∙ named;
+  linked = λ v _ e. cc;
+}
+
+pub names_none : (relations : List RelationState) (target : Option ℕ) (value : Value) (table : ℕ) (s : RelationState) → target ≡ Some table → slice_get relations table ≡ Some s → value ≢ Null → ((r : TupleRef) → key_at s.rows r ≢ Some value) → NamesNone relations target value
+names_none relations target value table s leads there some absent = record {
+  some = some;
+  relation = s;
+  there = ap (target_in relations) leads ∙ there;
+  absent = λ h. absent h.0 h.1;
+}
 
 -- ---- cells that are made one by one
 
@@ -93,7 +110,7 @@ module _ (relations : List RelationState) (targets : List (Option ℕ)) (key : V
       same_by_get (map shown (range_with_len 0 (length targets))) (key ∷ values) (λ i. elim (cases_lt i (length targets)) [
         | inl below ↦
             let value = get_within (key ∷ values) i (omega (arith, below, wide)) in
-            slice_get-map shown (range_with_len 0 (length targets)) i ∙ ap (option_map shown) (range_at 0 (length targets) i below)
+            slice_get-map shown (range_with_len 0 (length targets)) i ∙ ap (option_map shown) (range_at 0 (length targets) i i below (omega arith))
             ∙ ap (λ o. Some (or_null o)) (shown_at i value.0 value.1) ∙ sym value.1
         | inr above ↦
             slice_get_past (map shown (range_with_len 0 (length targets))) i (omega (arith, above, length-map (range_with_len 0 (length targets)) shown, length-range_with_len 0 (length targets)))
@@ -103,10 +120,10 @@ module _ (relations : List RelationState) (targets : List (Option ℕ)) (key : V
       shown : ℕ → Value
       shown = λ column. or_null (row_value keys column row)
 
-      range_at : (a n i : ℕ) → i < n → slice_get (range_with_len a n) i ≡ Some (a + i)
-      range_at a zero i h = absurd (omega arith)
-      range_at a (suc n) zero h = ap (λ k. Some k) (omega arith)
-      range_at a (suc n) (suc i) h = range_at (a + 1) n i (omega arith) ∙ ap (λ k. Some k) (omega arith)
+      range_at : (a n i k : ℕ) → i < n → a + i ≡ k → slice_get (range_with_len a n) i ≡ Some k
+      range_at a zero i k h e = absurd (omega arith)
+      range_at a (suc n) zero k h e = ap (λ m. Some m) (omega (arith, e))
+      range_at a (suc n) (suc i) k h e = range_at (a + 1) n i k (omega arith) (omega (arith, e))
 
   -- a column of the row
   value_behind : (column : ℕ) (cell : Cell) → slice_get cells (column - 1) ≡ Some cell → (value : Value) × (slice_get values (column - 1) ≡ Some value)
