@@ -1,15 +1,14 @@
 -- The cells of rows, of which those in reference columns are links.
-use Rattle.std.specs.Prelude.{◌≡◌, ◌≢◌, ◌⊎◌, ℕ, ◌+◌, List, Option, Some, None, IsSome, Result, length, slice_get}
+use Rattle.std.specs.Prelude.{◌≡◌, ◌≢◌, ◌⊎◌, ℕ, ◌+◌, List, Option, Some, None, IsSome, length, slice_get}
 use Rattle.std.specs.Option.{option_and_then}
-use Rattle.part_raw.specs.declared.tuple_ref.TupleRef.{TupleRef}
 use Rattle.plain_tables.specs.declared.value.Value.{Value}
 use Rattle.plain_tables.specs.declared.value.Value.TheVariants.{Null}
 use Rattle.plain_tables.specs.declared.refusal.Refusal.{Refusal}
 use Rattle.plain_tables.specs.declared.refusal.Refusal.TheVariants.{NoReferencedRow, NoMemory}
 use Rattle.mm_relation.specs.declared.row.Cell.{Cell}
 use Rattle.mm_relation.specs.declared.row.Cell.TheVariants.{Held, Link}
-use Rattle.mm_relation.specs.Reading.{cell_value, key_at}
-use Rattle.mm_relation.specs.State.{RelationState, HasKey, linked_keys}
+use Rattle.mm_relation.specs.Reading.{key_at}
+use Rattle.mm_relation.specs.State.{RelationState, HasKey}
 use Rattle.mm_catalog.specs.Linked.{target_at}
 
 -- the relation that the links of a column lead into, if they lead into one
