@@ -13,3 +13,5 @@ pub mod Shown
 pub mod Counting
 pub mod Raising
 pub mod CellRows
+pub mod Referenced
+pub mod Bounded
