@@ -11,6 +11,9 @@ pub mod Rising
 pub mod Keyed
 pub mod Shown
 pub mod Counting
+pub mod Recounting
+pub mod LinksHeld
+pub mod Elsewhere
 pub mod Raising
 pub mod CellRows
 pub mod Referenced
