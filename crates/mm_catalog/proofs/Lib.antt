@@ -18,3 +18,6 @@ pub mod Raising
 pub mod CellRows
 pub mod Referenced
 pub mod Bounded
+pub mod Checked
+pub mod Taking
+pub mod Inserted

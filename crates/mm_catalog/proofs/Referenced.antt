@@ -150,7 +150,7 @@ module _ (c : CatalogState) (ok : IsConsistent c) where
       ap (λ o. option_map_or (λ (t : Table). has_key_of (v ∷ []) t.rows) o false) (table_found name i e ∙ database-get c ok.named i called.0 u called.1 there)
 
   module _ (n : ℕ) (s : RelationState) (there : slice_get c.relations n ≡ Some s) (k : ℕ) (column : Column) (at : slice_get s.schema.columns k ≡ Some column) (value : Value) where
-    target_here : target_at s.targets k ≡ target_of c.names column
+    pub target_here : target_at s.targets k ≡ target_of c.names column
     target_here =
         ap (λ targets. target_at targets k) (among_at c ok n s there).targets
         ∙ ap (option_and_then (λ t. t)) (slice_get-map (target_of c.names) s.schema.columns k ∙ ap (option_map (target_of c.names)) at)

@@ -7,3 +7,4 @@ pub mod Created
 pub mod Recounted
 pub mod Raised
 pub mod Cells
+pub mod Inserted

@@ -21,6 +21,7 @@ mod catalog;
 mod cells;
 mod create;
 mod declare;
+mod insert;
 pub mod laws;
 mod referrers;
 
