@@ -1,16 +1,16 @@
 -- A catalog into which a row comes: what it shows, that it stays consistent, and why one does not come.
-use Rattle.std.proofs.Common.{◌≡◌, ◌≢◌, ℕ, zero, suc, ◌+◌, ◌<◌, ◌≤◌, ◌&&◌, ◌==◌, ◌⊎◌, Bool, false, cond, List, [], ◌∷◌, ◌++◌, Option, Some, None, IsSome, is_some, refl, sym, ap, ◌∙◌, subst, arith, length, map, take, drop, set, get_or, length-take, zero-add, inl, inr}
-use Rattle.std.specs.List.{All, count_by, slice_get, flat_map, filter_map, range_with_len}
+use Rattle.std.proofs.Common.{◌≡◌, ◌≢◌, ℕ, suc, ◌+◌, ◌<◌, ◌≤◌, ◌==◌, ◌⊎◌, Bool, false, cond, List, [], ◌∷◌, ◌++◌, Option, Some, None, refl, sym, ap, ◌∙◌, subst, arith, length, map, take, drop, set, get_or, length-take, zero-add, inl, inr}
+use Rattle.std.specs.List.{All, count_by, slice_get, flat_map, range_with_len}
 use Rattle.std.specs.Prelude.{Result, Ok, Err, OnOk, OnErr, IfErr}
 use Rattle.std.specs.Option.{option_and_then, option_map_or}
 use Rattle.std.specs.Ordering.{is_eq}
-use Rattle.std.specs.FinMap.{get, insert}
+use Rattle.std.specs.FinMap.{get}
 use Rattle.std.proofs.lemmas.Bool.{and_left, and_right, cases_eq, cases_lt, ne_eqb}
 use Rattle.std.proofs.lemmas.List.Sums.{sum_by-cons}
 use Rattle.std.proofs.lemmas.Option.{none-some, same_Some, slice_get_within, slice_get-get_or}
 use Rattle.part_raw.specs.TupleRefs.{ref_cmp}
 use Rattle.part_raw.specs.declared.tuple_ref.TupleRef.{TupleRef}
-use Rattle.part_raw.proofs.Tuples.{get-insert_same, get-insert_other, held_tuple, same_ref_other}
+use Rattle.part_raw.proofs.Tuples.{get-insert_same, get-insert_other, same_ref_other}
 use Rattle.part_raw.proofs.Lookup.{same_or_other}
 use Rattle.plain_tables.specs.Tables.{Table, with_row}
 use Rattle.plain_tables.specs.Doing.{done}
@@ -27,11 +27,10 @@ use Rattle.plain_tables.proofs.SoundLemmas.{done_keeps_sound}
 use Rattle.mm_relation.specs.declared.row.Row.{Row}
 use Rattle.mm_relation.specs.declared.row.Cell.{Cell}
 use Rattle.mm_relation.specs.Changes.{new_row}
-use Rattle.mm_relation.specs.Reading.{Keys, key_at, link_in}
-use Rattle.mm_relation.specs.State.{RelationState, IsKept, linked_keys}
+use Rattle.mm_relation.specs.State.{RelationState, linked_keys}
 use Rattle.mm_catalog.specs.State.{CatalogState}
 use Rattle.mm_catalog.specs.Seen.{database_of, table_of, rows_of, row_values, plain_index}
-use Rattle.mm_catalog.specs.Linked.{Linked, target_at, link_at, row_links, relation_links, links, links_to, is_link_to, HasLinksOrNulls}
+use Rattle.mm_catalog.specs.Linked.{Linked, link_at, row_links, relation_links, links, links_to, is_link_to, HasLinksOrNulls}
 use Rattle.mm_catalog.specs.Consistent.{IsConsistent, AreCounted}
 use Rattle.mm_catalog.specs.Changes.{HasEffect, IsRefusedFor}
 use Rattle.mm_catalog.specs.Recounted.{HaveReferrers, IsRewritten}
@@ -41,8 +40,7 @@ use Rattle.mm_catalog.specs.Inserted.{CanComeIn, IsKeptOut, no_memory, key_there
 use Rattle.mm_catalog.proofs.Lists.{get-take}
 use Rattle.mm_catalog.proofs.Outlines.{keys_before}
 use Rattle.mm_catalog.proofs.Back.{lead_back}
-use Rattle.mm_catalog.proofs.Declared.{among_at, there_at, named_at, table_at}
-use Rattle.mm_catalog.proofs.Tables.{database-get}
+use Rattle.mm_catalog.proofs.Declared.{among_at, named_at, table_at}
 use Rattle.mm_catalog.proofs.Counting.{links_inserted}
 use Rattle.mm_catalog.proofs.Shown.{rows_inserted}
 use Rattle.mm_catalog.proofs.LinksHeld.{link_held}
@@ -242,9 +240,6 @@ module _ (c : CatalogState) (ok : IsConsistent c) (n : TableNumber) (key : Value
         (current_beside_old c ok n.0 new b a rewritten taken.current) linked_now counted_now sound_now;
   }
 
-split_of : (values : List Value) (key : Value) (rest : List Value) → values ≡ key ∷ rest → (P : List Value → Type 0) → P (key ∷ rest) → P values
-split_of values key rest e P h = subst P (sym e) h
-
 module _ (c : CatalogState) (ok : IsConsistent c) (n : TableNumber) (values : List Value) (meant : IsMeant c.limits (database_of c) (resolved.Insert n values)) where
   pub grown_from : (relations : List RelationState) → IsInsertedAt c.relations relations n.0 c.limits.rows values → IsGrown c relations n values
   grown_from relations h =
@@ -256,24 +251,21 @@ module _ (c : CatalogState) (ok : IsConsistent c) (n : TableNumber) (values : Li
 
   -- ---- a row that did not come
 
-  kept_out : (key : Value) (rest : List Value) (s : RelationState) (there : slice_get c.relations n.0 ≡ Some s) → length (key ∷ rest) ≡ length s.schema.columns → (refusal : Refusal) → IsKeptOut (take n.0 c.relations) s c.limits.rows key rest refusal → (refusal ≡ NoMemory) ⊎ ((done c.limits (database_of c) (resolved.Insert n (key ∷ rest))).outcome ≡ Refused refusal)
-  kept_out key rest s there wide refusal why =
-      let name = named_at c ok n.0 (slice_get_within c.relations n.0 s there) in
-      elim why [
-        | no_memory ↦ inl refl
-        | key_there h ↦ inr (key_refuses c ok n s there name.0 name.1 key rest h)
-        | none_named fresh none ↦ inr (reference_refuses c ok n s there name.0 name.1 key rest fresh wide none)
-        | full fresh cells are above ↦ inr (full_refuses c ok n s there name.0 name.1 key rest fresh cells are above)
-      ]
+  kept_out : (key : Value) (rest : List Value) (s : RelationState) (there : slice_get c.relations n.0 ≡ Some s) (called : List ℕ) (named : slice_get c.names n.0 ≡ Some called) → length (key ∷ rest) ≡ length s.schema.columns → (refusal : Refusal) → IsKeptOut (take n.0 c.relations) s c.limits.rows key rest refusal → (refusal ≡ NoMemory) ⊎ ((done c.limits (database_of c) (resolved.Insert n (key ∷ rest))).outcome ≡ Refused refusal)
+  kept_out key rest s there called named columns refusal no_memory = inl refl
+  kept_out key rest s there called named columns refusal (key_there h) = inr (key_refuses c ok n s there called named key rest h)
+  kept_out key rest s there called named columns refusal (none_named fresh none) = inr (reference_refuses c ok n s there called named key rest fresh columns none)
+  kept_out key rest s there called named columns refusal (full fresh cells are above) = inr (full_refuses c ok n s there called named key rest fresh cells are above)
 
   pub refused_from : (relations : List RelationState) (refusal : Refusal) → IsRefusedAt c.relations n.0 c.limits.rows values refusal → relations ≡ c.relations → IsRefusedFor c (record c { relations = relations }) (done c.limits (database_of c) (resolved.Insert n values)) refusal
   refused_from relations refusal h same =
       let e = h.row.split in
-      let wide : length (h.row.key ∷ h.row.rest) ≡ length h.relation.schema.columns =
+      let name = named_at c ok n.0 (slice_get_within c.relations n.0 h.relation h.there) in
+      let columns : length (h.row.key ∷ h.row.rest) ≡ length h.relation.schema.columns =
       ap length (sym e) ∙ values_width c ok n values meant h.relation h.there ∙ (among_at c ok n.0 h.relation h.there).kept.width in
       (ap (λ rs. record c { relations = rs }) same,
       subst (λ vs. (refusal ≡ NoMemory) ⊎ ((done c.limits (database_of c) (resolved.Insert n vs)).outcome ≡ Refused refusal)) (sym e)
-      (kept_out h.row.key h.row.rest h.relation h.there wide refusal h.row.why))
+      (kept_out h.row.key h.row.rest h.relation h.there name.0 name.1 columns refusal h.row.why))
 
   -- ---- the answer
 

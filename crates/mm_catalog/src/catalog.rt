@@ -1,13 +1,16 @@
 //! The tables, and what they are called.
-ghost use Rattle.std.specs.Prelude.{◌≡◌, ◌<◌, ◌≤◌, [], Some, OnOk, OnErr, length, slice_get};
+ghost use Rattle.std.specs.Prelude.{◌≡◌, ◌<◌, ◌≤◌, [], Some, IfErr, OnOk, OnErr, length, slice_get};
 ghost use Rattle.std.specs.Option.{option_map};
 
 use crate::create::aimed;
 use crate::declare::{declare, undeclare};
+use crate::insert::insert;
 use indexmap::IndexSet;
 use mm_relation::{Relation, Relations};
 use no_memory::NoMemory;
-use plain_tables::{ColumnNumber, IndexKind, Limits, Schema, TableNumber, Text};
+use plain_tables::{
+    ColumnNumber, IndexKind, Limits, Refusal, Schema, Sequence, TableNumber, Text, Value,
+};
 use std::alloc::Global;
 use std::marker::Model;
 
@@ -40,7 +43,8 @@ impl Catalog {
     ghost use Rattle.plain_tables.specs.declared.resolved.Resolved.TheVariants as resolved;
     ghost use Rattle.plain_tables.specs.ResolvedLaws.{IsMeant};
     ghost use Rattle.mm_catalog.specs.Seen.{database_of};
-    ghost use Rattle.mm_catalog.specs.Changes.{IsDone};
+    ghost use Rattle.plain_tables.specs.Doing.{done};
+    ghost use Rattle.mm_catalog.specs.Changes.{IsDone, HasEffect, IsRefusedFor};
 
     /// A catalog of no tables, under these limits. It takes no memory.
     pub fn new(alloc: Global, limits: Limits) -> Catalog
@@ -110,6 +114,22 @@ impl Catalog {
         ensures { IsDone self.old self.new (resolved.DropIndex table column kind) }
     {
         undeclare(self.relations.as_mut_slice(), table, column, kind)
+    }
+
+    /// Puts a row into a table. KeyExists comes before NoReferencedRow, and that before TableFull.
+    pub fn insert(&mut self, table: TableNumber, values: Sequence<Value>) -> Result<(), Refusal>
+        requires { IsMeant self.old.limits (database_of self.old) (resolved.Insert table values) }
+        ensures inserted { OnOk result (HasEffect self.old self.new (done self.old.limits (database_of self.old) (resolved.Insert table values)) 1) }
+        ensures refused { IfErr result (IsRefusedFor self.old self.new (done self.old.limits (database_of self.old) (resolved.Insert table values))) }
+    {
+        let alloc = *self.relations.allocator();
+        insert(
+            alloc,
+            self.relations.as_mut_slice(),
+            self.limits,
+            table,
+            values,
+        )
     }
 }
 
