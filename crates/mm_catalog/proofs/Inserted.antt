@@ -262,10 +262,11 @@ module _ (c : CatalogState) (ok : IsConsistent c) (n : TableNumber) (values : Li
       let e = h.row.split in
       let name = named_at c ok n.0 (slice_get_within c.relations n.0 h.relation h.there) in
       let columns : length (h.row.key ∷ h.row.rest) ≡ length h.relation.schema.columns =
-      ap length (sym e) ∙ values_width c ok n values meant h.relation h.there ∙ (among_at c ok n.0 h.relation h.there).kept.width in
-      (ap (λ rs. record c { relations = rs }) same,
-      subst (λ vs. (refusal ≡ NoMemory) ⊎ ((done c.limits (database_of c) (resolved.Insert n vs)).outcome ≡ Refused refusal)) (sym e)
-      (kept_out h.row.key h.row.rest h.relation h.there name.0 name.1 columns refusal h.row.why))
+      ap length (sym e) ∙ values_width c ok n values meant h.relation h.there ∙ (among_at c ok n.0 h.relation h.there).kept.width in (
+        ap (λ rs. record c { relations = rs }) same,
+        subst (λ vs. (refusal ≡ NoMemory) ⊎ ((done c.limits (database_of c) (resolved.Insert n vs)).outcome ≡ Refused refusal)) (sym e)
+            (kept_out h.row.key h.row.rest h.relation h.there name.0 name.1 columns refusal h.row.why),
+      )
 
   -- ---- the answer
 
