@@ -26,3 +26,10 @@ pub mod Renumbered
 pub mod Unlinking
 pub mod Dropped
 pub mod Dropping
+pub mod Raising
+pub mod CellRows
+pub mod Referenced
+pub mod Bounded
+pub mod Checked
+pub mod Taking
+pub mod Inserted

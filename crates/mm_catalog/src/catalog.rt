@@ -6,12 +6,15 @@ ghost use Rattle.std.specs.Option.{option_map};
 use crate::create::aimed;
 use crate::declare::{declare, undeclare};
 use crate::delete::delete;
+use crate::insert::insert;
 use crate::removal::{renumber_behind, unlink};
 use indexmap::IndexSet;
 use mm_relation::{Relation, Relations};
 use no_memory::NoMemory;
 use part_raw::TupleRef;
-use plain_tables::{ColumnNumber, IndexKind, Limits, Refusal, Schema, TableNumber, Text};
+use plain_tables::{
+    ColumnNumber, IndexKind, Limits, Refusal, Schema, Sequence, TableNumber, Text, Value,
+};
 use std::alloc::Global;
 use std::marker::Model;
 
@@ -45,9 +48,10 @@ impl Catalog {
     ghost use Rattle.plain_tables.specs.ResolvedLaws.{IsMeant};
     ghost use Rattle.mm_catalog.specs.Seen.{database_of};
     ghost use Rattle.plain_tables.specs.Doing as doing;
+    ghost use Rattle.plain_tables.specs.Doing.{done};
     ghost use Rattle.plain_tables.specs.Effects.{Refused};
     ghost use Rattle.plain_tables.specs.Tables.{Row};
-    ghost use Rattle.mm_catalog.specs.Changes.{IsDone, HasEffect};
+    ghost use Rattle.mm_catalog.specs.Changes.{IsDone, HasEffect, IsRefusedFor};
     ghost use Rattle.mm_catalog.specs.Picked.{ArePicked, HoldsRows};
 
     /// A catalog of no tables, under these limits. It takes no memory.
@@ -141,6 +145,22 @@ impl Catalog {
         self.relations.remove(table.0);
         self.names.shift_remove_index(table.0);
         renumber_behind(self.relations.as_mut_slice(), table);
+    }
+
+    /// Puts a row into a table. KeyExists comes before NoReferencedRow, and that before TableFull.
+    pub fn insert(&mut self, table: TableNumber, values: Sequence<Value>) -> Result<(), Refusal>
+        requires { IsMeant self.old.limits (database_of self.old) (resolved.Insert table values) }
+        ensures inserted { OnOk result (HasEffect self.old self.new (done self.old.limits (database_of self.old) (resolved.Insert table values)) 1) }
+        ensures refused { IfErr result (IsRefusedFor self.old self.new (done self.old.limits (database_of self.old) (resolved.Insert table values))) }
+    {
+        let alloc = *self.relations.allocator();
+        insert(
+            alloc,
+            self.relations.as_mut_slice(),
+            self.limits,
+            table,
+            values,
+        )
     }
 }
 
