@@ -1,5 +1,5 @@
 -- What resolved commands leave: of other tables, of rows that aren't picked, of a database that they are refused of.
-use Rattle.std.proofs.Common.{◌≡◌, ◌≢◌, ◌<◌, ℕ, zero, suc, true, false, not, length, map, set, get_or, arith, List, [], ◌∷◌, refl, sym, ap, ◌∙◌, subst, Option, Some}
+use Rattle.std.proofs.Common.{◌≡◌, ◌≢◌, ◌<◌, ℕ, zero, suc, true, false, not, length, map, set, get_or, arith, List, [], ◌∷◌, refl, sym, ap, ◌∙◌, subst, Some}
 use Rattle.std.specs.Prelude.{pos, ◌==◌}
 use Rattle.std.specs.List.{All, list_any, slice_get}
 use Rattle.std.proofs.lemmas.Bool.{or_parts, eqb-false, cond-true, cond-false}

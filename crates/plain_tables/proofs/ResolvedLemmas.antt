@@ -6,7 +6,7 @@ use Rattle.std.specs.Option.{is_some, option_map, option_map_or, option_and_then
 use Rattle.std.specs.Result.{result_ok}
 use Rattle.std.specs.Str.{bytes_eq}
 use Rattle.std.specs.declared.cmp.Ordering.TheVariants.{Less}
-use Rattle.std.proofs.lemmas.Bool.{cases_Bool, or_parts, or_from, not-false, both_ways, false≢true, eqb-true, eq-eqb, ne_eqb, ltb-false, leb-false}
+use Rattle.std.proofs.lemmas.Bool.{cases_Bool, or_parts, or_from, not-false, both_ways, false≢true, eqb-true, ne_eqb, ltb-false, leb-false}
 use Rattle.std.proofs.lemmas.List.Elements.{All-nil, All-cons, All-head, All-tail, All-map, All-weaker}
 use Rattle.std.proofs.lemmas.List.Folds.{find_at, list_any_none}
 use Rattle.std.proofs.lemmas.Option.{none-some, same_Some, slice_get-get_or, slice_get-map}

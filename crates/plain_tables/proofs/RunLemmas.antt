@@ -1,19 +1,16 @@
 -- Each line, and so each run, keeps a database sound, and changes nothing where its answer is an error.
 use Rattle.std.proofs.Common.{◌≡◌, ℕ, List, [], ◌∷◌, ◌++◌, arith, refl, sym, ap, subst, get_or}
 use lib.Chars.{codes}
-use Rattle.plain_tables.specs.Tables.{Table}
 use Rattle.plain_tables.specs.Databases.{Database}
 use Rattle.plain_tables.specs.Effects.{Effect, Outcome, Done, Changed, Rows, Listed, Refused}
 use Rattle.plain_tables.specs.References.{IsSound}
 use Rattle.plain_tables.specs.AnswerText.{answer_text}
-use Rattle.plain_tables.specs.Commands.{effect_of}
 use Rattle.plain_tables.specs.ResolvedLaws.{KeepsIfRefused}
 use Rattle.plain_tables.specs.Division.{last_line}
 use Rattle.plain_tables.specs.Runs.{IsEffect, too_long, not_utf8, not_a_command, command, Answers, silent, effect, no_memory, AnswersAll, RunsStaySound, without_return, refused}
 use Rattle.plain_tables.specs.declared.refusal.Refusal.{Refusal}
 use Rattle.plain_tables.specs.declared.refusal.Refusal.TheVariants.{LineTooLong, NotUtf8, NotACommand}
 use Rattle.plain_tables.specs.declared.command.Limits.{Limits}
-use Rattle.plain_tables.specs.declared.command.Command.{Command}
 use Rattle.plain_tables.proofs.ChangeLemmas.{refused_keeps}
 use Rattle.plain_tables.proofs.EffectLemmas.{effect_satisfies}
 use Rattle.plain_tables.proofs.GivenLemmas.{spellable_are_given}

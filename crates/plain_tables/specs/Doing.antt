@@ -1,5 +1,5 @@
 -- Doing: what a resolved command does to a database, with the checks that look at rows.
-use Rattle.std.specs.Prelude.{ℕ, List, [], ◌∷◌, ◌++◌, Bool, true, false, not, ◌==◌, ◌&&◌, nat_le, length, map, if◌then◌else◌, None, slice_get, slice_set, remove}
+use Rattle.std.specs.Prelude.{ℕ, List, [], ◌∷◌, ◌++◌, Bool, not, nat_le, length, map, if◌then◌else◌, None, slice_get, slice_set, remove}
 use Rattle.std.specs.List.{list_any, list_all, filter, filter_map}
 use Rattle.std.specs.Option.{option_and_then, option_map, option_map_or}
 use Rattle.plain_tables.specs.Tables.{Table, Row, has_key_of}
