@@ -35,8 +35,9 @@ use Rattle.plain_tables.specs.declared.command.Command.TheVariants as command
 use Rattle.plain_tables.specs.declared.numbers.TableNumber.{TableNumber}
 use Rattle.plain_tables.specs.declared.resolved.Resolved.{Resolved}
 use Rattle.plain_tables.specs.declared.resolved.Resolved.TheVariants as resolved
+use Rattle.plain_tables.proofs.ListLemmas.{is_some-option_map}
 use Rattle.plain_tables.proofs.ResolvedLemmas.{none_shown}
-use Rattle.plain_tables.proofs.IndexLemmas.{bare, named_unindexed, place_unindexed, some_unindexed, found_bare, checked_as}
+use Rattle.plain_tables.proofs.IndexLemmas.{bare, named_unindexed, place_unindexed, found_bare, checked_as}
 
 -- the tables with no index declared
 abbrev plain : Database → Database
@@ -98,7 +99,7 @@ referred_plain : (tables : Database) (found : Option (List ℕ))
     → option_map_or (λ name. is_some (table_named name (plain tables))) found true
     ≡ option_map_or (λ name. is_some (table_named name tables)) found true
 referred_plain tables None = refl
-referred_plain tables (Some name) = ap is_some (named_unindexed name tables) ∙ some_unindexed (table_named name tables)
+referred_plain tables (Some name) = ap is_some (named_unindexed name tables) ∙ is_some-option_map unindexed (table_named name tables)
 
 -- ---- commands resolved
 
@@ -129,7 +130,7 @@ table_checks_plain tables name schema =
     (λ c. ap not (referred_plain tables (referred c.kind))) schema.columns
     in
     let there : is_some (table_named name (plain tables)) ≡ is_some (table_named name tables) =
-    ap is_some (named_unindexed name tables) ∙ some_unindexed (table_named name tables)
+    ap is_some (named_unindexed name tables) ∙ is_some-option_map unindexed (table_named name tables)
     in
     rw (into, there, length-map tables unindexed) refl
 

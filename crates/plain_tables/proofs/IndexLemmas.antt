@@ -1,7 +1,7 @@
 -- Tables with no index declared: what is found of them, and effects on them.
 use Rattle.std.proofs.Common.{◌≡◌, ◌+◌, ℕ, map, List, [], ◌∷◌, inl, inr, ap, ◌∙◌, refl, Option, Some, None}
 use Rattle.std.specs.List.{position_or_len}
-use Rattle.std.specs.Option.{is_some, option_map, option_map_or}
+use Rattle.std.specs.Option.{option_map, option_map_or}
 use Rattle.std.proofs.lemmas.Bool.{cases_Bool}
 use Rattle.plain_tables.specs.Tables.{Table}
 use Rattle.plain_tables.specs.Databases.{Database, is_named, table_named}
@@ -20,10 +20,6 @@ pub place_unindexed : (name : List ℕ) (tables : Database) → position_or_len 
 place_unindexed name [] = refl
 place_unindexed name (t ∷ tables) =
     elim (cases_Bool (is_named name t)) [ inl e ↦ rw e refl | inr f ↦ rw f (ap (λ n. 1 + n) (place_unindexed name tables)) ]
-
-pub some_unindexed : (found : Option Table) → is_some (option_map unindexed found) ≡ is_some found
-some_unindexed None = refl
-some_unindexed (Some t) = refl
 
 -- ---- effects
 
