@@ -1,8 +1,9 @@
--- Declared indexes: no command is resolved by them, and no resolved command reads them.
-use Rattle.std.proofs.Common.{◌≡◌, ℕ, suc, Bool, false, true, not, map, set, take, drop, List, [], ◌∷◌, ◌++◌, refl, sym, ap, ◌∙◌, Option, Some, None}
-use Rattle.std.specs.Prelude.{Result, Err, zip, ◌||◌, ◌&&◌}
+-- Declared indexes: of the commands that aren't on them none is resolved by them, and none but a listing reads them.
+use Rattle.std.proofs.Common.{◌≡◌, ℕ, suc, Bool, false, true, not, map, set, take, drop, List, [], ◌∷◌, ◌++◌, refl, sym, ap, ◌∙◌, subst, Option, Some, None}
+use Rattle.std.specs.Prelude.{Result, Ok, Err, zip, ◌||◌, ◌&&◌}
 use Rattle.std.specs.List.{list_any, list_all, slice_get, remove}
 use Rattle.std.specs.Option.{is_some, option_map, option_map_or, option_and_then}
+use Rattle.std.proofs.lemmas.Bool.{false≢true}
 use Rattle.std.proofs.lemmas.List.{length-map, map-set, map_push, map-append, take-map, drop-map}
 use Rattle.std.proofs.lemmas.List.Folds.{flat_map-map}
 use Rattle.std.proofs.lemmas.Option.{slice_get-map}
@@ -11,12 +12,13 @@ use Rattle.plain_tables.specs.Tables.{Table, Row, has_key_of}
 use Rattle.plain_tables.specs.Databases.{Database, table_named}
 use Rattle.plain_tables.specs.Queries.{JoinedColumn, column_meant}
 use Rattle.plain_tables.specs.Effects.{Effect, Check, Outcome, Refused, Done, checked, setting_name, grown_by, new_table}
-use Rattle.plain_tables.specs.QueryLaws.{unindexed}
-use Rattle.plain_tables.specs.References.{Reference, referred, own_type, key_type, type_of, has_type, is_typed, references, table_references, is_held, is_to, is_referenced, refers_into}
-use Rattle.plain_tables.specs.Resolving.{meaning, number_of, on_numbered, own_columns, tests_of, assignments_of, shown_of, asks_order, mistypes, is_mistyped, has_mistyped, table_checks, insert_checks, update_checks, delete_checks, select_checks, resolved_of}
+use Rattle.plain_tables.specs.References.{Reference, referred, own_type, key_type, type_of, has_type, is_typed, references, table_references, is_held, is_to, is_referenced, refers_into, refers_to, is_table_referenced}
+use Rattle.plain_tables.specs.Resolving.{meaning, number_of, on_numbered, own_columns, tests_of, assignments_of, shown_of, asks_order, mistypes, is_mistyped, has_mistyped, table_checks, drop_checks, insert_checks, update_checks, delete_checks, select_checks, resolved_of}
 use Rattle.plain_tables.specs.Doing as doing
 use Rattle.plain_tables.specs.Doing.{on_table, passes_all, assigned_references, updated, picked, without, with_index, without_index, done}
-use Rattle.plain_tables.specs.ResolvedLaws.{ResolvedAlike, DoneAlike}
+use Rattle.plain_tables.specs.ResolvedLaws.{unindexed, is_on_indexes, shows_indexes, ResolvedAlike, AreDoneAlike, DoneAlike}
+use Rattle.plain_tables.specs.Commands.{effect_of_resolved, effect_of}
+use Rattle.plain_tables.specs.CommandLaws.{IndexesAreNotRead}
 use Rattle.plain_tables.specs.declared.value.Value.{Value}
 use Rattle.plain_tables.specs.declared.value.Value.TheVariants as value
 use Rattle.plain_tables.specs.declared.condition.Cond.{Cond}
@@ -33,7 +35,9 @@ use Rattle.plain_tables.specs.declared.command.Command.TheVariants as command
 use Rattle.plain_tables.specs.declared.numbers.TableNumber.{TableNumber}
 use Rattle.plain_tables.specs.declared.resolved.Resolved.{Resolved}
 use Rattle.plain_tables.specs.declared.resolved.Resolved.TheVariants as resolved
-use Rattle.plain_tables.proofs.IndexLemmas.{bare, named_unindexed, place_unindexed, some_unindexed, found_bare, checked_as}
+use Rattle.plain_tables.proofs.ListLemmas.{is_some-option_map}
+use Rattle.plain_tables.proofs.ResolvedLemmas.{none_shown}
+use Rattle.plain_tables.proofs.IndexLemmas.{bare, named_unindexed, place_unindexed, found_bare, checked_as}
 
 -- the tables with no index declared
 abbrev plain : Database → Database
@@ -95,7 +99,7 @@ referred_plain : (tables : Database) (found : Option (List ℕ))
     → option_map_or (λ name. is_some (table_named name (plain tables))) found true
     ≡ option_map_or (λ name. is_some (table_named name tables)) found true
 referred_plain tables None = refl
-referred_plain tables (Some name) = ap is_some (named_unindexed name tables) ∙ some_unindexed (table_named name tables)
+referred_plain tables (Some name) = ap is_some (named_unindexed name tables) ∙ is_some-option_map unindexed (table_named name tables)
 
 -- ---- commands resolved
 
@@ -126,23 +130,32 @@ table_checks_plain tables name schema =
     (λ c. ap not (referred_plain tables (referred c.kind))) schema.columns
     in
     let there : is_some (table_named name (plain tables)) ≡ is_some (table_named name tables) =
-    ap is_some (named_unindexed name tables) ∙ some_unindexed (table_named name tables)
+    ap is_some (named_unindexed name tables) ∙ is_some-option_map unindexed (table_named name tables)
     in
     rw (into, there, length-map tables unindexed) refl
 
-resolved_plain : (tables : Database) (c : Command) → resolved_of (plain tables) c ≡ resolved_of tables c
-resolved_plain tables (command.Table name schema) =
+-- the same columns refer to a table
+referring_plain : (tables : Database) (name : List ℕ) → is_table_referenced (plain tables) name ≡ is_table_referenced tables name
+referring_plain [] name = refl
+referring_plain (t ∷ tables) name = ap (λ b. list_any (refers_to name) t.columns || b) (referring_plain tables name)
+
+resolved_plain : (tables : Database) (c : Command) → is_on_indexes c ≡ false → resolved_of (plain tables) c ≡ resolved_of tables c
+resolved_plain tables (command.Table name schema) other =
     same_checks (table_checks (plain tables) name schema) (table_checks tables name schema) (resolved.Table name schema)
     (table_checks_plain tables name schema)
-resolved_plain tables (command.DropTable name) = refl
-resolved_plain tables (command.Index name column k) = refl
-resolved_plain tables (command.DropIndex name column k) = refl
-resolved_plain tables (command.Insert name row) =
+resolved_plain tables (command.DropTable name) other =
+    numbered_plain name tables (λ n t. meaning (drop_checks tables t) (resolved.DropTable n))
+    (λ n t. meaning (drop_checks (plain tables) t) (resolved.DropTable n))
+    (λ n t. same_checks (drop_checks (plain tables) (unindexed t)) (drop_checks tables t) (resolved.DropTable n)
+    (rw (referring_plain tables t.name) refl))
+resolved_plain tables (command.Index name column k) other = absurd (false≢true (sym other))
+resolved_plain tables (command.DropIndex name column k) other = absurd (false≢true (sym other))
+resolved_plain tables (command.Insert name row) other =
     numbered_plain name tables (λ n t. meaning (insert_checks tables t row) (resolved.Insert n row))
     (λ n t. meaning (insert_checks (plain tables) t row) (resolved.Insert n row))
     (λ n t. same_checks (insert_checks (plain tables) (unindexed t) row) (insert_checks tables t row) (resolved.Insert n row)
     (rw (row_plain tables t.columns row) refl))
-resolved_plain tables (command.Update name settings conditions) =
+resolved_plain tables (command.Update name settings conditions) other =
     numbered_plain name tables
     (λ n t. meaning (update_checks tables t settings conditions)
     (resolved.Update n (assignments_of (own_columns t) settings) (tests_of (own_columns t) conditions)))
@@ -151,13 +164,13 @@ resolved_plain tables (command.Update name settings conditions) =
     (λ n t. same_checks (update_checks (plain tables) (unindexed t) settings conditions) (update_checks tables t settings conditions)
     (resolved.Update n (assignments_of (own_columns t) settings) (tests_of (own_columns t) conditions))
     (rw (settings_plain tables (own_columns t) settings, conditions_plain tables (own_columns t) conditions) refl))
-resolved_plain tables (command.Delete name conditions) =
+resolved_plain tables (command.Delete name conditions) other =
     numbered_plain name tables
     (λ n t. meaning (delete_checks tables t conditions) (resolved.Delete n (tests_of (own_columns t) conditions)))
     (λ n t. meaning (delete_checks (plain tables) t conditions) (resolved.Delete n (tests_of (own_columns t) conditions)))
     (λ n t. same_checks (delete_checks (plain tables) (unindexed t) conditions) (delete_checks tables t conditions)
     (resolved.Delete n (tests_of (own_columns t) conditions)) (rw (conditions_plain tables (own_columns t) conditions) refl))
-resolved_plain tables (command.Select its name conditions) =
+resolved_plain tables (command.Select its name conditions) other =
     numbered_plain name tables
     (λ n t. meaning (select_checks tables t its conditions)
     (resolved.Select (shown_of (own_columns t) its) n (tests_of (own_columns t) conditions)))
@@ -166,11 +179,11 @@ resolved_plain tables (command.Select its name conditions) =
     (λ n t. same_checks (select_checks (plain tables) (unindexed t) its conditions) (select_checks tables t its conditions)
     (resolved.Select (shown_of (own_columns t) its) n (tests_of (own_columns t) conditions))
     (rw (conditions_plain tables (own_columns t) conditions) refl))
-resolved_plain tables command.Tables = refl
+resolved_plain tables command.Tables other = refl
 
 pub resolved_alike : ResolvedAlike
-resolved_alike tables others c alike =
-    sym (resolved_plain tables c) ∙ ap (λ d. resolved_of d c) alike ∙ resolved_plain others c
+resolved_alike tables others c other alike =
+    sym (resolved_plain tables c other) ∙ ap (λ d. resolved_of d c) alike ∙ resolved_plain others c other
 
 -- ---- rows that are named
 
@@ -249,47 +262,61 @@ indexes_changed tables n old new o same =
     (map-set unindexed (plain tables) n old ∙ ap (λ d. set d n (unindexed old)) (unindexed_twice tables)
     ∙ ap (set (plain tables) n) same ∙ sym (map-set unindexed tables n new))
 
-done_plain : (limits : Limits) (tables : Database) (r : Resolved) → bare (done limits (plain tables) r) ≡ bare (done limits tables r)
-done_plain limits tables (resolved.Table name schema) =
+done_plain : (limits : Limits) (tables : Database) (r : Resolved) → shows_indexes r ≡ false → bare (done limits (plain tables) r) ≡ bare (done limits tables r)
+done_plain limits tables (resolved.Table name schema) other =
     ap (λ d. left_with Done (plain d)) (sym (map_push unindexed tables (new_table name schema)))
     ∙ bare_twice (done limits tables (resolved.Table name schema))
-done_plain limits tables (resolved.DropTable n) =
+done_plain limits tables (resolved.DropTable n) other =
     ap (λ d. left_with Done (plain d)) (removed_plain tables n.0)
     ∙ bare_twice (done limits tables (resolved.DropTable n))
-done_plain limits tables (resolved.Index n column k) =
+done_plain limits tables (resolved.Index n column k) other =
     reindexed n tables _ _ (λ t. indexes_changed tables n.0 (with_index column k (unindexed t)) (with_index column k t) Done refl)
-done_plain limits tables (resolved.DropIndex n column k) =
+done_plain limits tables (resolved.DropIndex n column k) other =
     reindexed n tables _ _ (λ t. indexes_changed tables n.0 (without_index column k (unindexed t)) (without_index column k t) Done refl)
-done_plain limits tables (resolved.Insert n row) =
+done_plain limits tables (resolved.Insert n row) other =
     let same : done limits (plain tables) (resolved.Insert n row) ≡ bare (done limits tables (resolved.Insert n row)) =
     on_table_plain n tables _ _
     (λ t. changed_plain tables (doing.insert_checks limits tables t row) (doing.insert_checks limits (plain tables) (unindexed t) row) n.0
     (grown_by row t) _ (rw (all_held_plain tables (references t.columns row)) refl))
     in
     ap bare same ∙ bare_twice (done limits tables (resolved.Insert n row))
-done_plain limits tables (resolved.Update n assignments tests) =
+done_plain limits tables (resolved.Update n assignments tests) other =
     let same : done limits (plain tables) (resolved.Update n assignments tests) ≡ bare (done limits tables (resolved.Update n assignments tests)) =
     on_table_plain n tables _ _
     (λ t. changed_plain tables (doing.update_checks tables t assignments) (doing.update_checks (plain tables) (unindexed t) assignments) n.0
     (updated assignments (passes_all tests) t) _ (rw (all_held_plain tables (assigned_references t assignments)) refl))
     in
     ap bare same ∙ bare_twice (done limits tables (resolved.Update n assignments tests))
-done_plain limits tables (resolved.Delete n tests) =
+done_plain limits tables (resolved.Delete n tests) other =
     let same : done limits (plain tables) (resolved.Delete n tests) ≡ bare (done limits tables (resolved.Delete n tests)) =
     on_table_plain n tables _ _
     (λ t. changed_plain tables (doing.delete_checks tables t (passes_all tests)) (doing.delete_checks (plain tables) (unindexed t) (passes_all tests)) n.0
     (without (passes_all tests) t) _ (rw (referenced_plain tables t.name (picked (passes_all tests) t)) refl))
     in
     ap bare same ∙ bare_twice (done limits tables (resolved.Delete n tests))
-done_plain limits tables (resolved.Select its n tests) =
+done_plain limits tables (resolved.Select its n tests) other =
     let same : done limits (plain tables) (resolved.Select its n tests) ≡ bare (done limits tables (resolved.Select its n tests)) =
     on_table_plain n tables _ _ (λ t. refl)
     in
     ap bare same ∙ bare_twice (done limits tables (resolved.Select its n tests))
+done_plain limits tables resolved.Tables other = absurd (false≢true (sym other))
 
 pub done_alike : DoneAlike
-done_alike limits tables others r alike =
+done_alike limits tables others r other alike =
     let same : bare (done limits tables r) ≡ bare (done limits others r) =
-    sym (done_plain limits tables r) ∙ ap (λ d. bare (done limits d r)) alike ∙ done_plain limits others r
+    sym (done_plain limits tables r other) ∙ ap (λ d. bare (done limits d r)) alike ∙ done_plain limits others r other
     in
     record { answered = ap (λ (e : Effect). e.outcome) same; left = ap (λ (e : Effect). e.database) same }
+
+-- ---- effects
+
+effects_alike : (limits : Limits) (tables others : Database) (found : Result Resolved Refusal)
+    → ((r : Resolved) → found ≡ Ok r → shows_indexes r ≡ false) → plain tables ≡ plain others
+    → AreDoneAlike (effect_of_resolved limits tables found) (effect_of_resolved limits others found)
+effects_alike limits tables others (Ok r) hidden alike = done_alike limits tables others r (hidden r refl) alike
+effects_alike limits tables others (Err why) hidden alike = record { answered = refl; left = alike }
+
+pub indexes_are_not_read : IndexesAreNotRead
+indexes_are_not_read limits tables others c off other alike =
+    subst (λ found. AreDoneAlike (effect_of limits tables c) (effect_of_resolved limits others found)) (resolved_alike tables others c off alike)
+    (effects_alike limits tables others (resolved_of tables c) (λ r h. none_shown tables c r other h) alike)

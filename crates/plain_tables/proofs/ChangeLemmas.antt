@@ -1,5 +1,5 @@
 -- What resolved commands leave: of other tables, of rows that aren't picked, of a database that they are refused of.
-use Rattle.std.proofs.Common.{◌≡◌, ◌≢◌, ◌<◌, ℕ, zero, suc, true, false, not, length, map, set, get_or, arith, List, [], ◌∷◌, refl, sym, ap, ◌∙◌, subst, Option, Some}
+use Rattle.std.proofs.Common.{◌≡◌, ◌≢◌, ◌<◌, ℕ, zero, suc, true, false, not, length, map, set, get_or, arith, List, [], ◌∷◌, refl, sym, ap, ◌∙◌, subst, Some}
 use Rattle.std.specs.Prelude.{pos, ◌==◌}
 use Rattle.std.specs.List.{All, list_any, slice_get}
 use Rattle.std.proofs.lemmas.Bool.{or_parts, eqb-false, cond-true, cond-false}
@@ -10,26 +10,27 @@ use Rattle.std.proofs.lemmas.Option.{none-some, same_Some, slice_get-get_or}
 use Rattle.plain_tables.specs.Tables.{Table, Row}
 use Rattle.plain_tables.specs.Databases.{Database}
 use Rattle.plain_tables.specs.Queries.{value_at, full_name}
-use Rattle.plain_tables.specs.Effects.{Done, Changed, Rows, Refused, grown_by}
+use Rattle.plain_tables.specs.Effects.{Done, Changed, Rows, Listed, Refused, grown_by}
 use Rattle.plain_tables.specs.References.{IsRowOf}
 use Rattle.plain_tables.specs.Resolving.{own_columns}
-use Rattle.plain_tables.specs.Doing.{passes_all, assigned, insert_checks, update_checks, delete_checks, updated, picked, without, shown_values, headings}
-use Rattle.plain_tables.specs.ResolvedLaws.{rowless, ChangesRowsOf, OwnRowsChange, KeepsIfRefused, RefusedKeeps, RefusedUpdateKeeps, RefusedDeleteKeeps, UpdateKeepsUnpicked, is_to_column, assigns_twice, HasAssigned, UpdateSetsPicked, DeletesThePicked, SelectsRows, ShownFitHeadings, IsShown}
+use Rattle.plain_tables.specs.Doing.{passes_all, assigned, insert_checks, update_checks, delete_checks, updated, picked, without, shown_values, headings, done}
+use Rattle.plain_tables.specs.ResolvedLaws.{rows_table, rowless, ChangesRowsOf, OwnRowsChange, KeepsIfRefused, RefusedKeeps, RefusedUpdateKeeps, RefusedDeleteKeeps, UpdateKeepsUnpicked, is_to_column, assigns_twice, HasAssigned, UpdateSetsPicked, DeletesThePicked, SelectsRows, ShownFitHeadings, IsShown}
 use Rattle.plain_tables.specs.Runs.{refused}
 use Rattle.plain_tables.specs.declared.value.Value.TheVariants as value
 use Rattle.plain_tables.specs.declared.schema.Column.{Column}
 use Rattle.plain_tables.specs.declared.refusal.Refusal.{Refusal}
+use Rattle.plain_tables.specs.declared.command.Limits.{Limits}
 use Rattle.plain_tables.specs.declared.numbers.ColumnNumber.{ColumnNumber}
 use Rattle.plain_tables.specs.declared.numbers.TableNumber.{TableNumber}
 use Rattle.plain_tables.specs.declared.resolved.Assignment.{Assignment}
 use Rattle.plain_tables.specs.declared.resolved.Shown.{Shown}
 use Rattle.plain_tables.specs.declared.resolved.Shown.TheVariants as shown
+use Rattle.plain_tables.specs.declared.resolved.Resolved.{Resolved}
 use Rattle.plain_tables.specs.declared.resolved.Resolved.TheVariants as resolved
+use Rattle.plain_tables.proofs.ColumnLemmas.{any_column, length_of_one}
 use Rattle.plain_tables.proofs.EffectLemmas.{checked_satisfies}
 use Rattle.plain_tables.proofs.ListLemmas.{AllZip-map, filter_every, filter_others, filter_again}
-use Rattle.plain_tables.proofs.SettingLemmas.{any_column}
 use Rattle.plain_tables.proofs.SoundLemmas.{of_table_satisfies}
-use Rattle.plain_tables.proofs.UpdateLemmas.{length_of_one}
 
 -- ---- the tables that are left
 
@@ -47,44 +48,40 @@ slice_get_other (x ∷ xs) zero (suc k) new other = refl
 slice_get_other (x ∷ xs) (suc n) zero new other = refl
 slice_get_other (x ∷ xs) (suc n) (suc k) new other = slice_get_other xs n k new (λ e. other (ap suc e))
 
-nothing_changes : (n : TableNumber) (tables : Database) → ChangesRowsOf n tables tables
-nothing_changes n tables = record { all_but_rows = refl; others = λ k other. refl }
-
-rows_change : (n : TableNumber) (tables : Database) (old new : Table) → slice_get tables n.0 ≡ Some old → rowless new ≡ rowless old
-    → ChangesRowsOf n tables (set tables n.0 new)
-rows_change n tables old new there same = record {
-  all_but_rows = map_set_alike rowless tables n.0 old new there same;
-  others = λ k other. slice_get_other tables n.0 k new other;
-}
-
-same_table : (n m : TableNumber) (tables left : Database) → ◌≡◌ {A = Option TableNumber} (Some n) (Some m) → ChangesRowsOf n tables left
-    → ChangesRowsOf m tables left
-same_table n m tables left same h = subst (λ k. ChangesRowsOf k tables left) (same_Some n m same) h
+-- A command on the rows of a table leaves the tables as they are, or with a table that differs in rows in the place of that one.
+pub rows_satisfy : (P : Database → Type 0) (limits : Limits) (tables : Database) (r : Resolved) (n : TableNumber) → rows_table r ≡ Some n → P tables
+    → ((old new : Table) → slice_get tables n.0 ≡ Some old → record new { rows = old.rows } ≡ old → P (set tables n.0 new))
+    → P (done limits tables r).database
+rows_satisfy P limits tables (resolved.Table name schema) m is old new = absurd (none-some m is)
+rows_satisfy P limits tables (resolved.DropTable n) m is old new = absurd (none-some m is)
+rows_satisfy P limits tables (resolved.Index n column k) m is old new = absurd (none-some m is)
+rows_satisfy P limits tables (resolved.DropIndex n column k) m is old new = absurd (none-some m is)
+rows_satisfy P limits tables (resolved.Insert n row) m is old new =
+    let same : m ≡ n = sym (same_Some n m is) in
+    of_table_satisfies (λ e. P e.database) n tables _ (λ r. old)
+    (λ table there. checked_satisfies (λ e. P e.database) tables (insert_checks limits tables table row) _ (λ r. old)
+    (λ passed. (rw same at new) table (grown_by row table) there refl))
+rows_satisfy P limits tables (resolved.Update n assignments tests) m is old new =
+    let same : m ≡ n = sym (same_Some n m is) in
+    of_table_satisfies (λ e. P e.database) n tables _ (λ r. old)
+    (λ table there. checked_satisfies (λ e. P e.database) tables (update_checks tables table assignments) _ (λ r. old)
+    (λ passed. (rw same at new) table (updated assignments (passes_all tests) table) there refl))
+rows_satisfy P limits tables (resolved.Delete n tests) m is old new =
+    let same : m ≡ n = sym (same_Some n m is) in
+    of_table_satisfies (λ e. P e.database) n tables _ (λ r. old)
+    (λ table there. checked_satisfies (λ e. P e.database) tables (delete_checks tables table (passes_all tests)) _ (λ r. old)
+    (λ passed. (rw same at new) table (without (passes_all tests) table) there refl))
+rows_satisfy P limits tables (resolved.Select its n tests) m is old new =
+    of_table_satisfies (λ e. P e.database) n tables _ (λ r. old) (λ table there. old)
+rows_satisfy P limits tables resolved.Tables m is old new = absurd (none-some m is)
 
 pub own_rows_change : OwnRowsChange
-own_rows_change limits tables (resolved.Table name schema) m is = absurd (none-some m is)
-own_rows_change limits tables (resolved.DropTable n) m is = absurd (none-some m is)
-own_rows_change limits tables (resolved.Index n column k) m is = absurd (none-some m is)
-own_rows_change limits tables (resolved.DropIndex n column k) m is = absurd (none-some m is)
-own_rows_change limits tables (resolved.Insert n row) m is =
-    same_table n m tables _ is
-    (of_table_satisfies (λ e. ChangesRowsOf n tables e.database) n tables _ (λ r. nothing_changes n tables)
-    (λ table there. checked_satisfies (λ e. ChangesRowsOf n tables e.database) tables (insert_checks limits tables table row) _
-    (λ r. nothing_changes n tables) (λ passed. rows_change n tables table (grown_by row table) there refl)))
-own_rows_change limits tables (resolved.Update n assignments tests) m is =
-    same_table n m tables _ is
-    (of_table_satisfies (λ e. ChangesRowsOf n tables e.database) n tables _ (λ r. nothing_changes n tables)
-    (λ table there. checked_satisfies (λ e. ChangesRowsOf n tables e.database) tables (update_checks tables table assignments) _
-    (λ r. nothing_changes n tables) (λ passed. rows_change n tables table (updated assignments (passes_all tests) table) there refl)))
-own_rows_change limits tables (resolved.Delete n tests) m is =
-    same_table n m tables _ is
-    (of_table_satisfies (λ e. ChangesRowsOf n tables e.database) n tables _ (λ r. nothing_changes n tables)
-    (λ table there. checked_satisfies (λ e. ChangesRowsOf n tables e.database) tables (delete_checks tables table (passes_all tests)) _
-    (λ r. nothing_changes n tables) (λ passed. rows_change n tables table (without (passes_all tests) table) there refl)))
-own_rows_change limits tables (resolved.Select its n tests) m is =
-    same_table n m tables _ is
-    (of_table_satisfies (λ e. ChangesRowsOf n tables e.database) n tables _ (λ r. nothing_changes n tables)
-    (λ table there. nothing_changes n tables))
+own_rows_change limits tables r n is =
+    rows_satisfy (ChangesRowsOf n tables) limits tables r n is (record { all_but_rows = refl; others = λ k other. refl })
+    (λ old new there same. record {
+      all_but_rows = map_set_alike rowless tables n.0 old new there (ap rowless same);
+      others = λ k other. slice_get_other tables n.0 k new other;
+    })
 
 -- ---- refusals
 
@@ -96,6 +93,9 @@ not_changed n why same = cc
 
 not_rows : (names : List (List ℕ)) (rows : List Row) (why : Refusal) → Rows names rows ≡ Refused why → ⊥
 not_rows names rows why same = cc
+
+not_listed : (tables : Database) (why : Refusal) → Listed tables ≡ Refused why → ⊥
+not_listed tables why same = cc
 
 refusal_keeps : (tables : Database) (r : Refusal) → KeepsIfRefused tables (refused tables r)
 refusal_keeps tables r why same = refl
@@ -127,6 +127,7 @@ refused_keeps limits tables (resolved.Update n assignments tests) = refused_upda
 refused_keeps limits tables (resolved.Delete n tests) = refused_delete_keeps tables n (passes_all tests)
 refused_keeps limits tables (resolved.Select its n tests) =
     of_table_satisfies (KeepsIfRefused tables) n tables _ (refusal_keeps tables) (λ table there why same. absurd (not_rows _ _ why same))
+refused_keeps limits tables resolved.Tables = λ why same. absurd (not_listed tables why same)
 
 -- ---- update
 
@@ -200,7 +201,7 @@ row_length tables (c ∷ columns) [] h = absurd h
 row_length tables (c ∷ columns) (v ∷ row) h = ap suc (row_length tables columns row h.1)
 
 -- columns that are there have a heading each
-headings_length : (table : Table) (columns : List ColumnNumber) → All (λ c. c.0 < length table.columns) columns
+pub headings_length : (table : Table) (columns : List ColumnNumber) → All (λ c. c.0 < length table.columns) columns
     → length (headings table (shown.Columns columns)) ≡ length columns
 headings_length table [] within = refl
 headings_length table (c ∷ columns) within =

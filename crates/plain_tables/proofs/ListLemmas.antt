@@ -192,21 +192,6 @@ found_where_some p (x ∷ xs) h =
 
 -- ---- options
 
--- one element more in both lists or in neither
-same_length-cons : {X Y : Type 0} (a : Option X) (b : Option Y) (xs : List X) (ys : List Y) → is_some a ≡ is_some b
-    → length xs ≡ length ys → length (cons_option a xs) ≡ length (cons_option b ys)
-same_length-cons None None xs ys same h = h
-same_length-cons None (Some b) xs ys same h = cc
-same_length-cons (Some a) None xs ys same h = cc
-same_length-cons (Some a) (Some b) xs ys same h = ap suc h
-
--- lists of what two functions give, which give something of the same elements
-pub length-filter_map : {X Y Z : Type 0} (f : X → Option Y) (g : X → Option Z) → ((x : X) → is_some (f x) ≡ is_some (g x)) → (xs : List X)
-    → length (filter_map f xs) ≡ length (filter_map g xs)
-length-filter_map f g same [] = refl
-length-filter_map f g same (x ∷ xs) =
-    same_length-cons (f x) (g x) (filter_map f xs) (filter_map g xs) (same x) (length-filter_map f g same xs)
-
 pub is_some-option_map : {X Y : Type 0} (f : X → Y) (o : Option X) → is_some (option_map f o) ≡ is_some o
 is_some-option_map f None = refl
 is_some-option_map f (Some x) = refl

@@ -6,7 +6,7 @@ use Rattle.std.specs.Option.{is_some, option_map, option_map_or, option_and_then
 use Rattle.std.specs.Result.{result_ok}
 use Rattle.std.specs.Str.{bytes_eq}
 use Rattle.std.specs.declared.cmp.Ordering.TheVariants.{Less}
-use Rattle.std.proofs.lemmas.Bool.{cases_Bool, or_parts, or_from, not-false, both_ways, false≢true, eqb-true, eq-eqb, ne_eqb, ltb-false, leb-false}
+use Rattle.std.proofs.lemmas.Bool.{cases_Bool, or_parts, or_from, not-false, both_ways, false≢true, eqb-true, ne_eqb, ltb-false, leb-false}
 use Rattle.std.proofs.lemmas.List.Elements.{All-nil, All-cons, All-head, All-tail, All-map, All-weaker}
 use Rattle.std.proofs.lemmas.List.Folds.{find_at, list_any_none}
 use Rattle.std.proofs.lemmas.Option.{none-some, same_Some, slice_get-get_or, slice_get-map}
@@ -16,34 +16,38 @@ use Rattle.plain_tables.specs.Tables.{Table, key_cmp}
 use Rattle.plain_tables.specs.Databases.{Database, is_named, table_named}
 use Rattle.plain_tables.specs.Queries.{JoinedColumn, column_meant, place_meant, places_meant}
 use Rattle.plain_tables.specs.Effects.{Check, repeats, is_long, setting_name}
-use Rattle.plain_tables.specs.References.{referred, own_type, is_typed, refers_into, IsKeyTree}
-use Rattle.plain_tables.specs.Resolving.{meaning, column_number, number_of, on_numbered, own_columns, tests_of, assignments_of, shown_of, asks_order, mistypes, is_mistyped, table_checks, insert_checks, update_checks, delete_checks, select_checks}
-use Rattle.plain_tables.specs.ResolvedLaws.{HasWidth, IsGiven, IsStorable, IsOfColumn, IsDeclarable, IsAssignable, is_to_column, assigns_twice, AreTests, IsShown, IsMeant, ResolvedAreMeant, CommandsKeepSound}
+use Rattle.plain_tables.specs.References.{referred, own_type, is_typed, refers_into, is_index, all_indexes, IsKeyTree, IsSound}
+use Rattle.plain_tables.specs.Resolving.{meaning, column_number, number_of, on_numbered, own_columns, on_column, tests_of, assignments_of, shown_of, asks_order, mistypes, is_mistyped, table_checks, drop_checks, index_checks, drop_index_checks, insert_checks, update_checks, delete_checks, select_checks, resolved_of}
+use Rattle.plain_tables.specs.ResolvedLaws.{HasWidth, IsGiven, IsStorable, IsOfColumn, IsDeclarable, IsIndexable, IsAssignable, is_to_column, assigns_twice, AreTests, IsShown, IsMeant, ResolvedAreMeant, CommandsKeepSound, shows_indexes, rows_table}
+use Rattle.plain_tables.specs.CommandLaws.{EffectsKeepSound, table_of, is_on_rows, is_listing}
 use Rattle.plain_tables.specs.declared.value.Value.{Value}
 use Rattle.plain_tables.specs.declared.value.Value.TheVariants as value
 use Rattle.plain_tables.specs.declared.condition.ColName.{ColName}
 use Rattle.plain_tables.specs.declared.condition.Cond.{Cond}
 use Rattle.plain_tables.specs.declared.refusal.Refusal.{Refusal}
-use Rattle.plain_tables.specs.declared.refusal.Refusal.TheVariants.{NotACommand, NoSuchTable}
+use Rattle.plain_tables.specs.declared.refusal.Refusal.TheVariants.{NoSuchTable, NoSuchColumn}
 use Rattle.plain_tables.specs.declared.schema.ColKind.{ColKind}
 use Rattle.plain_tables.specs.declared.schema.ColKind.TheVariants as kind
 use Rattle.plain_tables.specs.declared.schema.Column.{Column}
 use Rattle.plain_tables.specs.declared.schema.Schema.{Schema}
 use Rattle.plain_tables.specs.declared.schema.IndexKind.{IndexKind}
+use Rattle.plain_tables.specs.declared.schema.IndexKind.TheVariants as index
 use Rattle.plain_tables.specs.declared.command.Items.{Items}
 use Rattle.plain_tables.specs.declared.command.Items.TheVariants as items
 use Rattle.plain_tables.specs.declared.command.Setting.{Setting}
 use Rattle.plain_tables.specs.declared.command.Limits.{Limits}
+use Rattle.plain_tables.specs.declared.command.Command.{Command}
 use Rattle.plain_tables.specs.declared.command.Command.TheVariants as command
+use Rattle.plain_tables.specs.declared.numbers.ColumnNumber.{ColumnNumber}
 use Rattle.plain_tables.specs.declared.numbers.TableNumber.{TableNumber}
 use Rattle.plain_tables.specs.declared.resolved.Assignment.{Assignment}
 use Rattle.plain_tables.specs.declared.resolved.Resolved.{Resolved}
 use Rattle.plain_tables.specs.declared.resolved.Resolved.TheVariants as resolved
-use Rattle.plain_tables.proofs.DatabaseLemmas.{columns_differ}
+use Rattle.plain_tables.proofs.ColumnLemmas.{any_column, joined, columns_of_one, length_of_one, column_at_place, column_within, named_there, first_behind_key}
+use Rattle.plain_tables.proofs.EffectLemmas.{effect_satisfies}
 use Rattle.plain_tables.proofs.ListLemmas.{AllPairs-nil, fails_where_none}
-use Rattle.plain_tables.proofs.SettingLemmas.{any_column, named_at}
+use Rattle.plain_tables.proofs.NameLemmas.{columns_differ}
 use Rattle.plain_tables.proofs.SoundLemmas.{done_keeps_sound}
-use Rattle.plain_tables.proofs.UpdateLemmas.{joined, columns_of_one, length_of_one, column_at_place, first_behind_key}
 
 -- ---- checks
 
@@ -68,18 +72,47 @@ table_found : (found : Option Table) (means : Table → Result Resolved Refusal)
 table_found None means q h = absurd (not_Ok NoSuchTable q h)
 table_found (Some table) means q h = (table, refl, h)
 
+-- a command on the table of a name means what it means of the table that is found
+numbered_found : (name : List ℕ) (tables : Database) (means : TableNumber → Table → Result Resolved Refusal) (q : Resolved)
+    → on_numbered name tables means ≡ Ok q
+    → (table : Table) × (slice_get tables (number_of name tables).0 ≡ Some table) × (means (number_of name tables) table ≡ Ok q)
+numbered_found name tables means q h =
+    let found = table_found (table_named name tables) (means (number_of name tables)) q h in
+    (found.0, sym (find_at (is_named name) tables) ∙ found.1, found.2)
+
 -- What holds of the command that a table gives behind checks, where they pass, holds of the command on the table of a name.
 numbered_satisfies : (P : Resolved → Type 0) (name : List ℕ) (tables : Database) (checks : Table → List Check)
     (gives : TableNumber → Table → Resolved) (q : Resolved)
     → on_numbered name tables (λ n table. meaning (checks table) (gives n table)) ≡ Ok q
-    → ((n : TableNumber) (table : Table) → slice_get tables n.0 ≡ Some table → AllByRecursion (λ c. c.refuses ≡ false) (checks table)
-    → P (gives n table))
+    → ((table : Table) → slice_get tables (number_of name tables).0 ≡ Some table → AllByRecursion (λ c. c.refuses ≡ false) (checks table)
+    → P (gives (number_of name tables) table))
     → P q
 numbered_satisfies P name tables checks gives q h holds =
+    let found = numbered_found name tables (λ n table. meaning (checks table) (gives n table)) q h in
+    let passed = passes_checks (checks found.0) (gives (number_of name tables) found.0) q found.2 in
+    subst P passed.1 (holds found.0 found.1 passed.0)
+
+column_found : (found : Option ℕ) (means : ColumnNumber → Result Resolved Refusal) (q : Resolved)
+    → option_map_or (λ place. means (column_number place)) found (Err NoSuchColumn) ≡ Ok q
+    → (place : ℕ) × (found ≡ Some place) × (means (column_number place) ≡ Ok q)
+column_found None means q h = absurd (not_Ok NoSuchColumn q h)
+column_found (Some place) means q h = (place, refl, h)
+
+-- the same of a command on a column of the table
+column_satisfies : (P : Resolved → Type 0) (name column : List ℕ) (tables : Database) (checks : Table → ColumnNumber → List Check)
+    (gives : TableNumber → ColumnNumber → Resolved) (q : Resolved)
+    → on_numbered name tables (λ n table. on_column column table (λ c. meaning (checks table c) (gives n c))) ≡ Ok q
+    → ((table : Table) (c : ColumnNumber) → slice_get tables (number_of name tables).0 ≡ Some table → c.0 < length table.columns
+    → AllByRecursion (λ k. k.refuses ≡ false) (checks table c) → P (gives (number_of name tables) c))
+    → P q
+column_satisfies P name column tables checks gives q h holds =
     let n : TableNumber = number_of name tables in
-    let found = table_found (table_named name tables) (λ table. meaning (checks table) (gives n table)) q h in
-    let passed = passes_checks (checks found.0) (gives n found.0) q found.2 in
-    subst P passed.1 (holds n found.0 (sym (find_at (is_named name) tables) ∙ found.1) passed.0)
+    let found = numbered_found name tables (λ m table. on_column column table (λ c. meaning (checks table c) (gives m c))) q h in
+    let own : ColName = record { table = None; column = column } in
+    let there = column_found (place_meant (own_columns found.0) own) (λ c. meaning (checks found.0 c) (gives n c)) q found.2 in
+    let c : ColumnNumber = column_number there.0 in
+    let passed = passes_checks (checks found.0 c) (gives n c) q there.2 in
+    subst P passed.1 (holds found.0 c found.1 (column_within found.0 own there.0 there.1) passed.0)
 
 -- ---- what an option gives
 
@@ -160,12 +193,6 @@ assignments_meant tables table (s ∷ settings) right short behind widths =
 
 -- Settings of different names are assignments to different columns: two of one column would have its name.
 
--- a setting that means a column has its name
-named_there : (columns : List JoinedColumn) (s : Setting) (place : ℕ) → place_meant columns (setting_name s) ≡ Some place
-    → s.column ≡ (get_or columns place any_column).column.name
-named_there columns s place meant =
-    named_at columns s place (rw meant (eq-eqb place place refl))
-
 each_apart : (columns : List JoinedColumn) (s : Setting) (place : ℕ) → place_meant columns (setting_name s) ≡ Some place
     → (settings : List Setting) → list_any (bytes_eq s.column) (map (λ t. t.column) settings) ≡ false
     → All (λ a. is_to_column place a ≡ false) (assignments_of columns settings)
@@ -206,11 +233,9 @@ places_within : (table : Table) (names : List ColName) → All (λ place. place 
 places_within table [] = All-nil (λ place. place < length table.columns)
 places_within table (name ∷ names) =
     one_more (λ place. place < length table.columns) (place_meant (own_columns table) name) (places_meant (own_columns table) names)
-    (λ place meant.
-    let below = (column_at_place (own_columns table) name place meant).0 in let same = length_of_one table in omega arith)
-    (places_within table names)
+    (λ place meant. column_within table name place meant) (places_within table names)
 
-shown_meant : (table : Table) (its : Items) → IsShown table (shown_of (own_columns table) its)
+pub shown_meant : (table : Table) (its : Items) → IsShown table (shown_of (own_columns table) its)
 shown_meant table items.All = tt
 shown_meant table (items.Named names) =
     All-map (λ c. c.0 < length table.columns) column_number (places_meant (own_columns table) names) (places_within table names)
@@ -252,18 +277,36 @@ declarable limits tables name schema given passed =
       has_room = leb-false 64 (length tables) few.1;
     }
 
+-- ---- an index to be declared
+
+indexable : (table : Table) (c : ColumnNumber) (k : IndexKind) → c.0 < length table.columns
+    → list_any (is_index c k) (all_indexes table) ≡ false → IsIndexable c k table
+indexable table c k within none =
+    let parts = or_parts (is_index c k (0, index.Tree)) (list_any (is_index c k) table.indexes) none in
+    record {
+      on_column = within;
+      undeclared = parts.1;
+      no_key_tree = λ own. both_ways (is_index c k (0, index.Tree)) parts.0 (rw (own.0, own.1) refl);
+    }
+
 -- ---- every command
 
 pub resolved_are_meant : ResolvedAreMeant
 resolved_are_meant limits tables (command.Table name schema) r given h =
     let passed = passes_checks (table_checks tables name schema) (resolved.Table name schema) r h in
     subst (IsMeant limits tables) passed.1 (declarable limits tables name schema given passed.0)
-resolved_are_meant limits tables (command.DropTable name) r given h = absurd (not_Ok NotACommand r h)
-resolved_are_meant limits tables (command.Index name column k) r given h = absurd (not_Ok NotACommand r h)
-resolved_are_meant limits tables (command.DropIndex name column k) r given h = absurd (not_Ok NotACommand r h)
+resolved_are_meant limits tables (command.DropTable name) r given h =
+    numbered_satisfies (IsMeant limits tables) name tables (λ table. drop_checks tables table) (λ n table. resolved.DropTable n) r h
+    (λ table there passed. (table, there, passed.0))
+resolved_are_meant limits tables (command.Index name column k) r given h =
+    column_satisfies (IsMeant limits tables) name column tables (λ table c. index_checks table c k) (λ n c. resolved.Index n c k) r h
+    (λ table c there within passed. (table, there, indexable table c k within passed.0))
+resolved_are_meant limits tables (command.DropIndex name column k) r given h =
+    column_satisfies (IsMeant limits tables) name column tables (λ table c. drop_index_checks table c k) (λ n c. resolved.DropIndex n c k) r h
+    (λ table c there within passed. (table, there, tt))
 resolved_are_meant limits tables (command.Insert name row) r given h =
     numbered_satisfies (IsMeant limits tables) name tables (λ table. insert_checks tables table row) (λ n table. resolved.Insert n row) r h
-    (λ n table there passed. (
+    (λ table there passed. (
       table,
       there,
       record {
@@ -275,7 +318,7 @@ resolved_are_meant limits tables (command.Insert name row) r given h =
 resolved_are_meant limits tables (command.Update name settings conditions) r given h =
     numbered_satisfies (IsMeant limits tables) name tables (λ table. update_checks tables table settings conditions)
     (λ n table. resolved.Update n (assignments_of (own_columns table) settings) (tests_of (own_columns table) conditions)) r h
-    (λ n table there passed.
+    (λ table there passed.
     let typed = or_parts (list_any (λ s. mistypes tables (own_columns table) (setting_name s) s.value) settings)
     (list_any (is_mistyped tables (own_columns table)) conditions) passed.1.1.0 in (
       table,
@@ -291,13 +334,71 @@ resolved_are_meant limits tables (command.Update name settings conditions) r giv
 resolved_are_meant limits tables (command.Delete name conditions) r given h =
     numbered_satisfies (IsMeant limits tables) name tables (λ table. delete_checks tables table conditions)
     (λ n table. resolved.Delete n (tests_of (own_columns table) conditions)) r h
-    (λ n table there passed. (table, there, tests_meant tables table conditions passed.1.0))
+    (λ table there passed. (table, there, tests_meant tables table conditions passed.1.0))
 resolved_are_meant limits tables (command.Select its name conditions) r given h =
     numbered_satisfies (IsMeant limits tables) name tables (λ table. select_checks tables table its conditions)
     (λ n table. resolved.Select (shown_of (own_columns table) its) n (tests_of (own_columns table) conditions)) r h
-    (λ n table there passed. (table, there, (shown_meant table its, tests_meant tables table conditions passed.1.1.0)))
-resolved_are_meant limits tables command.Tables r given h = absurd (not_Ok NotACommand r h)
+    (λ table there passed. (table, there, (shown_meant table its, tests_meant tables table conditions passed.1.1.0)))
+resolved_are_meant limits tables command.Tables r given h = subst (IsMeant limits tables) (same_Ok resolved.Tables r h) tt
 
 pub commands_keep_sound : CommandsKeepSound
 commands_keep_sound limits tables c r given h sound =
     done_keeps_sound limits tables r sound (resolved_are_meant limits tables c r given h)
+
+pub effects_keep_sound : EffectsKeepSound
+effects_keep_sound limits tables c given sound =
+    effect_satisfies (λ e. IsSound limits e.database) limits tables c (λ why. sound)
+    (λ r h. commands_keep_sound limits tables c r given h sound)
+
+-- a command on rows is resolved to one on the rows of its table
+pub own_rows : (tables : Database) (c : Command) (r : Resolved) → is_on_rows c ≡ true → resolved_of tables c ≡ Ok r
+    → rows_table r ≡ Some (number_of (table_of c) tables)
+own_rows tables (command.Table name schema) r on h = absurd (false≢true on)
+own_rows tables (command.DropTable name) r on h = absurd (false≢true on)
+own_rows tables (command.Index name column k) r on h = absurd (false≢true on)
+own_rows tables (command.DropIndex name column k) r on h = absurd (false≢true on)
+own_rows tables (command.Insert name row) r on h =
+    numbered_satisfies (λ q. rows_table q ≡ Some (number_of name tables)) name tables (λ table. insert_checks tables table row)
+    (λ n table. resolved.Insert n row) r h (λ table there passed. refl)
+own_rows tables (command.Update name settings conditions) r on h =
+    numbered_satisfies (λ q. rows_table q ≡ Some (number_of name tables)) name tables (λ table. update_checks tables table settings conditions)
+    (λ n table. resolved.Update n (assignments_of (own_columns table) settings) (tests_of (own_columns table) conditions)) r h
+    (λ table there passed. refl)
+own_rows tables (command.Delete name conditions) r on h =
+    numbered_satisfies (λ q. rows_table q ≡ Some (number_of name tables)) name tables (λ table. delete_checks tables table conditions)
+    (λ n table. resolved.Delete n (tests_of (own_columns table) conditions)) r h (λ table there passed. refl)
+own_rows tables (command.Select its name conditions) r on h =
+    numbered_satisfies (λ q. rows_table q ≡ Some (number_of name tables)) name tables (λ table. select_checks tables table its conditions)
+    (λ n table. resolved.Select (shown_of (own_columns table) its) n (tests_of (own_columns table) conditions)) r h
+    (λ table there passed. refl)
+own_rows tables command.Tables r on h = absurd (false≢true on)
+
+-- no command but a listing is resolved to one that shows indexes
+pub none_shown : (tables : Database) (c : Command) (r : Resolved) → is_listing c ≡ false → resolved_of tables c ≡ Ok r → shows_indexes r ≡ false
+none_shown tables (command.Table name schema) r other h =
+    let passed = passes_checks (table_checks tables name schema) (resolved.Table name schema) r h in
+    subst (λ q. shows_indexes q ≡ false) passed.1 refl
+none_shown tables (command.DropTable name) r other h =
+    numbered_satisfies (λ q. shows_indexes q ≡ false) name tables (λ table. drop_checks tables table) (λ n table. resolved.DropTable n) r h
+    (λ table there passed. refl)
+none_shown tables (command.Index name column k) r other h =
+    column_satisfies (λ q. shows_indexes q ≡ false) name column tables (λ table c. index_checks table c k) (λ n c. resolved.Index n c k) r h
+    (λ table c there within passed. refl)
+none_shown tables (command.DropIndex name column k) r other h =
+    column_satisfies (λ q. shows_indexes q ≡ false) name column tables (λ table c. drop_index_checks table c k) (λ n c. resolved.DropIndex n c k) r h
+    (λ table c there within passed. refl)
+none_shown tables (command.Insert name row) r other h =
+    numbered_satisfies (λ q. shows_indexes q ≡ false) name tables (λ table. insert_checks tables table row)
+    (λ n table. resolved.Insert n row) r h (λ table there passed. refl)
+none_shown tables (command.Update name settings conditions) r other h =
+    numbered_satisfies (λ q. shows_indexes q ≡ false) name tables (λ table. update_checks tables table settings conditions)
+    (λ n table. resolved.Update n (assignments_of (own_columns table) settings) (tests_of (own_columns table) conditions)) r h
+    (λ table there passed. refl)
+none_shown tables (command.Delete name conditions) r other h =
+    numbered_satisfies (λ q. shows_indexes q ≡ false) name tables (λ table. delete_checks tables table conditions)
+    (λ n table. resolved.Delete n (tests_of (own_columns table) conditions)) r h (λ table there passed. refl)
+none_shown tables (command.Select its name conditions) r other h =
+    numbered_satisfies (λ q. shows_indexes q ≡ false) name tables (λ table. select_checks tables table its conditions)
+    (λ n table. resolved.Select (shown_of (own_columns table) its) n (tests_of (own_columns table) conditions)) r h
+    (λ table there passed. refl)
+none_shown tables command.Tables r other h = absurd (false≢true (sym other))

@@ -1,25 +1,16 @@
 -- Rows of a table: that they still rise, and are at most one more, where a row is put in.
-use Rattle.std.proofs.Common.{◌≡◌, ◌+◌, ◌<◌, ◌≤◌, ℕ, zero, suc, true, false, length, take, set, get_or, map, arith, List, [], ◌∷◌, length-append, refl}
-use Rattle.std.specs.Prelude.{not}
-use Rattle.std.specs.List.{All, filter, list_any, AllByRecursion}
+use Rattle.std.proofs.Common.{◌≡◌, ◌+◌, ◌<◌, ◌≤◌, ℕ, zero, suc, true, false, length, take, set, map, arith, List, [], ◌∷◌, length-append, refl}
+use Rattle.std.specs.List.{All, filter}
 use Rattle.std.specs.declared.cmp.Ordering.{Ordering}
 use Rattle.std.specs.declared.cmp.Ordering.TheVariants.{Less, Equal, Greater}
 use Rattle.std.specs.Ordering.{is_lt}
 use Rattle.std.specs.Cmp.{IsTotalOrder, on_total}
-use Rattle.std.proofs.lemmas.Bool.{or_parts, not-false, ltb-false}
 use Rattle.std.proofs.lemmas.Cmp.{lists_total}
 use Rattle.std.proofs.lemmas.List.Elements.{All-cons, All-filter, All-append, All-weaker, filter_passes}
 use Rattle.std.proofs.lemmas.List.Kept.{AllPairs-cons, AllPairs-filter}
 use Rattle.plain_tables.specs.Values.{value_cmp_total}
 use Rattle.plain_tables.specs.Tables.{Row, key_cmp, AreRising, with_row}
-use Rattle.plain_tables.specs.Databases.{FitsColumns, IsOfKind}
-use Rattle.plain_tables.specs.Effects.{is_of_kind, has_mistake, is_long}
-use Rattle.plain_tables.specs.Spelling.{IsSpellableValue}
 use Rattle.plain_tables.specs.declared.value.Value.{Value}
-use Rattle.plain_tables.specs.declared.value.Value.TheVariants as value
-use Rattle.plain_tables.specs.declared.schema.ColKind.{ColKind}
-use Rattle.plain_tables.specs.declared.schema.ColKind.TheVariants as kind
-use Rattle.plain_tables.specs.declared.schema.Column.{Column}
 use Rattle.plain_tables.proofs.ListLemmas.{AllPairs-append, AllPairs-map, length-filter_apart}
 
 -- ---- the order of rows
@@ -79,46 +70,13 @@ All-with_row P row rows h all =
     (All-filter (λ r. is_lt (key_cmp r row)) P rows all)
     (All-cons P row (above row rows) h (All-filter (λ r. is_lt (key_cmp row r)) P rows all))
 
--- ---- the values of a row
-
-fits_kind : (v : Value) (k : ColKind) → is_of_kind v k ≡ true → is_long v ≡ false → IsSpellableValue v → IsOfKind k v
-fits_kind (value.Int z) kind.Int same short h = h
-fits_kind (value.Text text) kind.Text same short h = ltb-false 1024 (length text) short
-fits_kind v k same short h = absurd (cc)
-
--- a value that isn't of another kind, and isn't long, is of its column's kind
-pub value_fits : (k : ColKind) (v : Value) → not (is_of_kind v k) ≡ false → is_long v ≡ false → IsSpellableValue v → IsOfKind k v
-value_fits k v same short h = fits_kind v k (not-false (is_of_kind v k) same) short h
-
--- as many values as columns, none of them of another kind or long
-pub fits_columns : (columns : List Column) (row : Row) → length row ≡ length columns → has_mistake columns row ≡ false
-    → list_any is_long row ≡ false → AllByRecursion IsSpellableValue row → FitsColumns columns row
-fits_columns [] [] same kinds short values = tt
-fits_columns [] (v ∷ row) same kinds short values = absurd (omega arith)
-fits_columns (c ∷ columns) [] same kinds short values = absurd (omega arith)
-fits_columns (c ∷ columns) (v ∷ row) same kinds short values =
-    let kind_parts = or_parts (not (is_of_kind v c.kind)) (has_mistake columns row) kinds in
-    let short_parts = or_parts (is_long v) (list_any is_long row) short in (
-      value_fits c.kind v kind_parts.0 short_parts.0 values.0,
-      fits_columns columns row (omega arith) kind_parts.1 short_parts.1 values.1,
-    )
-
--- a value of its column's kind in the place of another
-pub fits_set : (columns : List Column) (row : Row) (place : ℕ) (v : Value)
-    → ((d : Column) → IsOfKind (get_or columns place d).kind v) → FitsColumns columns row → FitsColumns columns (set row place v)
-fits_set [] [] place v h fits = tt
-fits_set [] (x ∷ row) place v h fits = absurd fits
-fits_set (c ∷ columns) [] place v h fits = absurd fits
-fits_set (c ∷ columns) (x ∷ row) zero v h fits = (h c, fits.1)
-fits_set (c ∷ columns) (x ∷ row) (suc place) v h fits = (fits.0, fits_set columns row place v h fits.1)
+-- ---- rows changed, none of them in its key
 
 -- a value in another place than the first leaves the key
 pub key_stays : (row : Row) (place : ℕ) (v : Value) → 0 < place → take 1 (set row place v) ≡ take 1 row
 key_stays [] place v h = refl
 key_stays (x ∷ row) zero v h = absurd (omega arith)
 key_stays (x ∷ row) (suc place) v h = refl
-
--- ---- rows changed, none of them in its key
 
 pub map_rises : (f : Row → Row) (rows : List Row) → ((row : Row) → take 1 (f row) ≡ take 1 row) → AreRising rows → AreRising (map f rows)
 map_rises f rows same rise =

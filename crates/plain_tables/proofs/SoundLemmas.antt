@@ -18,8 +18,8 @@ use Rattle.std.proofs.lemmas.Option.{slice_get_within, get_or_from_slice_get, sa
 use Rattle.plain_tables.specs.Tables.{Table, Row, AreRising, key_cmp, has_key_of, with_row}
 use Rattle.plain_tables.specs.Databases.{Database, is_named, table_named}
 use Rattle.plain_tables.specs.Effects.{Effect, new_table, grown_by}
-use Rattle.plain_tables.specs.References.{Reference, reference_of, references, table_references, is_held, is_to, is_referenced, is_typed, refers_into, refers_to, CanHold, IsRowOf, IsKeyTree, IsSoundTable, IsSound}
-use Rattle.plain_tables.specs.Doing.{on_table, passes_all, assigned, assigned_references, insert_checks, update_checks, delete_checks, updated, picked, without, is_kind, is_index, with_index, without_index, done}
+use Rattle.plain_tables.specs.References.{Reference, reference_of, references, table_references, is_held, is_to, is_referenced, is_typed, refers_into, refers_to, is_kind, is_index, CanHold, IsRowOf, IsKeyTree, IsSoundTable, IsSound}
+use Rattle.plain_tables.specs.Doing.{on_table, passes_all, assigned, assigned_references, insert_checks, update_checks, delete_checks, updated, picked, without, with_index, without_index, done}
 use Rattle.plain_tables.specs.ResolvedLaws.{OfTable, IsIndexable, IsInsertable, IsAssignable, AreAssignable, DoneKeepsSound, UpdateKeepsSound, DeleteKeepsSound}
 use Rattle.plain_tables.specs.declared.value.Value.{Value}
 use Rattle.plain_tables.specs.declared.refusal.Refusal.{Refusal}
@@ -33,10 +33,10 @@ use Rattle.plain_tables.specs.declared.numbers.TableNumber.{TableNumber}
 use Rattle.plain_tables.specs.declared.resolved.Assignment.{Assignment}
 use Rattle.plain_tables.specs.declared.resolved.Resolved.TheVariants as resolved
 use Rattle.plain_tables.specs.Runs.{refused}
-use Rattle.plain_tables.proofs.DatabaseLemmas.{differs}
 use Rattle.plain_tables.proofs.EffectLemmas.{checked_satisfies}
 use Rattle.plain_tables.proofs.HeldLemmas.{StaysHeld, KeepsKey, keeps_itself, held_stays, RowsFit, rows_stay, row_held, row_stays, row_set, can_hold, can_still_hold}
 use Rattle.plain_tables.proofs.ListLemmas.{AllPairs-nil, AllPairs-set_alike, All-at, All-remove, All-cons_option, All-from_list_all, AllZip-set, any_of_two, fails_where_none, fails_where_not_found, option_map_or_satisfies}
+use Rattle.plain_tables.proofs.NameLemmas.{differs}
 use Rattle.plain_tables.proofs.ReferLemmas.{HasShape, has_own_shape, RefersElsewhere, refer_back_alike, refer_back_more, held_with_more, refer_back_removed, all_held_removed}
 use Rattle.plain_tables.proofs.RowLemmas.{key_cmp_total, with_row-rises, length-with_row, All-with_row, map_rises, key_stays}
 
@@ -411,3 +411,4 @@ done_keeps_sound limits tables (resolved.Update n assignments tests) sound (tabl
 done_keeps_sound limits tables (resolved.Delete n tests) sound meant = delete_keeps_sound limits tables n (passes_all tests) sound
 done_keeps_sound limits tables (resolved.Select its n tests) sound meant =
     of_table_satisfies (λ e. IsSound limits e.database) n tables _ (λ r. sound) (λ table there. sound)
+done_keeps_sound limits tables resolved.Tables sound meant = sound

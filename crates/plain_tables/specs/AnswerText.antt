@@ -1,12 +1,18 @@
 -- Answer text: the bytes of each answer. Each of its lines ends with a line feed.
-use Rattle.std.specs.Prelude.{ℕ, List, [], ◌∷◌, ◌++◌, length, Some}
+use Rattle.std.specs.Prelude.{ℕ, List, [], ◌∷◌, ◌++◌, length, Some, slice_get}
+use Rattle.std.specs.List.{flat_map, filter_map}
+use Rattle.std.specs.Option.{option_map}
 use Rattle.std.specs.Fmt.{decimal}
 use lib.Chars.{codes}
 use Rattle.plain_tables.specs.Refusals.{number_of, text_of}
 use Rattle.plain_tables.specs.Csv.{block_text}
-use Rattle.plain_tables.specs.Effects.{Outcome, Done, Changed, Rows, Refused}
+use Rattle.plain_tables.specs.Tables.{Table}
+use Rattle.plain_tables.specs.Spelling.{canonical_spelling}
+use Rattle.plain_tables.specs.Effects.{Outcome, Done, Changed, Rows, Listed, Refused}
 use Rattle.plain_tables.specs.declared.refusal.Refusal.{Refusal}
 use Rattle.plain_tables.specs.declared.refusal.Refusal.TheVariants as refusal
+use Rattle.plain_tables.specs.declared.command.Command.{Command}
+use Rattle.plain_tables.specs.declared.command.Command.TheVariants as command
 
 -- a text with a line feed behind it
 abbrev pub text_line : List ℕ → List ℕ
@@ -24,10 +30,22 @@ record_part other = []
 abbrev pub refusal_text : Refusal → List ℕ
 refusal_text r = text_line (codes "error " ++ (decimal (number_of r) ++ (codes " " ++ (text_of r ++ record_part r))))
 
--- ok; ok and how many rows changed; rows, how many there are, and below that the names and the rows as CSV; or the refusal
+-- the commands that declare a table and its indexes
+abbrev pub declarations : Table → List Command
+declarations table =
+    command.Table table.name (record { columns = table.columns })
+    ∷ filter_map (λ i. option_map (λ c. command.Index table.name c.name i.1) (slice_get table.columns i.0)) table.indexes
+
+-- these for all tables, each spelled on a line of its own
+abbrev pub declaration_lines : List Table → List ℕ
+declaration_lines tables = flat_map (λ c. text_line (canonical_spelling c)) (flat_map declarations tables)
+
+-- ok; ok and how many rows changed; rows, how many there are, and below that the names and the rows as CSV; what declares
+-- the tables, and below that ok and how many there are; or the refusal
 abbrev pub answer_text : Outcome → List ℕ
 answer_text Done = text_line (codes "ok")
 answer_text (Changed n) = text_line (codes "ok " ++ decimal n)
 answer_text (Rows names rows) =
     text_line (codes "rows " ++ decimal (length rows)) ++ block_text names rows
+answer_text (Listed tables) = declaration_lines tables ++ text_line (codes "ok " ++ decimal (length tables))
 answer_text (Refused r) = refusal_text r

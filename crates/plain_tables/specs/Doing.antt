@@ -1,16 +1,16 @@
 -- Doing: what a resolved command does to a database, with the checks that look at rows.
-use Rattle.std.specs.Prelude.{ℕ, List, [], ◌∷◌, ◌++◌, Bool, true, false, not, ◌==◌, ◌&&◌, nat_le, length, map, if◌then◌else◌, None, slice_get, slice_set, remove}
+use Rattle.std.specs.Prelude.{ℕ, List, [], ◌∷◌, ◌++◌, Bool, not, nat_le, length, map, if◌then◌else◌, None, slice_get, slice_set, remove}
 use Rattle.std.specs.List.{list_any, list_all, filter, filter_map}
 use Rattle.std.specs.Option.{option_and_then, option_map, option_map_or}
 use Rattle.plain_tables.specs.Tables.{Table, Row, has_key_of}
 use Rattle.plain_tables.specs.Databases.{Database}
 use Rattle.plain_tables.specs.Queries.{full_name, value_at, stands}
-use Rattle.plain_tables.specs.Effects.{Check, Effect, Done, Changed, Rows, Refused, checked, new_table, grown_by}
+use Rattle.plain_tables.specs.Effects.{Check, Effect, Done, Changed, Rows, Listed, Refused, checked, new_table, grown_by}
 use Rattle.plain_tables.specs.References.{Reference, reference_of, references, is_held, is_referenced}
+pub use Rattle.plain_tables.specs.References.{is_kind, is_index}
 use Rattle.plain_tables.specs.Resolving.{own_columns}
 use Rattle.plain_tables.specs.declared.refusal.Refusal.TheVariants.{NoSuchTable, KeyExists, NoReferencedRow, TableFull, RowIsReferenced}
 use Rattle.plain_tables.specs.declared.schema.IndexKind.{IndexKind}
-use Rattle.plain_tables.specs.declared.schema.IndexKind.TheVariants as index
 use Rattle.plain_tables.specs.declared.command.Limits.{Limits}
 use Rattle.plain_tables.specs.declared.numbers.ColumnNumber.{ColumnNumber}
 use Rattle.plain_tables.specs.declared.numbers.TableNumber.{TableNumber}
@@ -113,16 +113,6 @@ headings table (shown.Columns columns) = filter_map (λ c. option_map full_name 
 
 -- ---- declared indexes
 
--- the kinds are one
-abbrev pub is_kind : IndexKind → IndexKind → Bool
-is_kind index.Tree index.Tree = true
-is_kind index.Hash index.Hash = true
-is_kind k l = false
-
--- the declarations are one
-abbrev pub is_index : ColumnNumber → IndexKind → ℕ × IndexKind → Bool
-is_index column k i = (i.0 == column.0) && is_kind k i.1
-
 -- the table with one declared index more, the last, or with one less
 abbrev pub with_index : ColumnNumber → IndexKind → Table → Table
 with_index column k table = record table { indexes = table.indexes ++ (column.0, k) ∷ [] }
@@ -133,7 +123,7 @@ without_index column k table = record table { indexes = filter (λ i. not (is_in
 -- ---- all commands
 
 -- A table that is declared stands last. An insert adds a row, an update and a delete answer how many rows passed the tests,
--- and a select changes nothing.
+-- and a select and a listing of the tables change nothing.
 abbrev pub done : Limits → Database → Resolved → Effect
 done limits tables (resolved.Table name schema) =
     record { database = tables ++ new_table name schema ∷ []; outcome = Done }
@@ -149,3 +139,4 @@ done limits tables (resolved.Update n assignments tests) = update tables n assig
 done limits tables (resolved.Delete n tests) = delete tables n (passes_all tests)
 done limits tables (resolved.Select its n tests) =
     on_table n tables (λ table. record { database = tables; outcome = Rows (headings table its) (map (shown_values its) (picked (passes_all tests) table)) })
+done limits tables resolved.Tables = record { database = tables; outcome = Listed tables }

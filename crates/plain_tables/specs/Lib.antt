@@ -1,4 +1,6 @@
 pub mod AnswerText
+pub mod CommandLaws
+pub mod Commands
 pub mod Csv
 pub mod Databases
 pub mod Division
@@ -7,7 +9,6 @@ pub mod Effects
 pub mod Hashes
 pub mod Names
 pub mod Queries
-pub mod QueryLaws
 pub mod Reading
 pub mod References
 pub mod Refusals

@@ -1,10 +1,10 @@
--- Queries: rows of joined tables, asked by conditions and projected.
+-- Queries: the columns that a command names, and how the values in them stand to those of conditions.
 --
 -- The tables of a command are joined in the order in which it names them. A row of joined tables is the values of a
 -- row of each, one after another.
 use Rattle.std.specs.Prelude.{ℕ, pos, List, [], ◌∷◌, ◌++◌, Bool, false, true, not, ◌&&◌, ◌==◌, map, length, Option, None, if◌then◌else◌, slice_index_or}
-use Rattle.std.specs.List.{filter, find, position, flat_map, filter_map, list_all}
-use Rattle.std.specs.Option.{option_map, option_map_or}
+use Rattle.std.specs.List.{filter, find, position, flat_map, filter_map}
+use Rattle.std.specs.Option.{option_map_or}
 use Rattle.std.specs.Str.{bytes_eq}
 use Rattle.std.specs.Ordering.{is_eq, is_lt, is_le, is_gt, is_ge}
 use Rattle.std.specs.declared.cmp.Ordering.{Ordering}
@@ -16,7 +16,6 @@ use Rattle.plain_tables.specs.declared.schema.Column.{Column}
 use Rattle.plain_tables.specs.declared.condition.Op.{Op}
 use Rattle.plain_tables.specs.declared.condition.Op.TheVariants as op
 use Rattle.plain_tables.specs.declared.condition.ColName.{ColName}
-use Rattle.plain_tables.specs.declared.condition.Cond.{Cond}
 use Rattle.plain_tables.specs.declared.command.Items.{Items}
 use Rattle.plain_tables.specs.declared.command.Items.TheVariants as items
 
@@ -30,12 +29,6 @@ pub record JoinedColumn : Type 0 where
 -- the columns of joined tables: those of the first, then those of the second, and so on
 abbrev pub joined_columns : List Table → List JoinedColumn
 joined_columns tables = flat_map (λ t. map (λ c. record { table = t.name; column = c }) t.columns) tables
-
--- Product: for each row of the first table, in order, each row of the product of the others behind it. The product of no
--- tables is one row, of no values.
-abbrev pub product : List Table → List Row
-product [] = [] ∷ []
-product (table ∷ tables) = flat_map (λ row. map (λ others. row ++ others) (product tables)) table.rows
 
 -- ---- the columns that a command names
 
@@ -87,21 +80,6 @@ stands operator v value.Null = stands_to_null operator v
 stands operator value.Null w = false
 stands operator v w = are_ordered operator (value_cmp v w)
 
--- Condition: the row's value in the column stands to the value of the condition as the operator says. If the name means no
--- column, no row meets it.
-abbrev pub meets : List JoinedColumn → Row → Cond → Bool
-meets columns row condition =
-    option_map_or (λ place. stands condition.op (value_at row place) condition.value)
-    (place_meant columns condition.column) false
-
--- whether a row meets every condition
-abbrev pub meets_all : List JoinedColumn → List Cond → Row → Bool
-meets_all columns conditions row = list_all (meets columns row) conditions
-
--- Filter: the rows that meet every condition, in their order.
-abbrev pub filtered : List JoinedColumn → List Cond → List Row → List Row
-filtered columns conditions rows = filter (meets_all columns conditions) rows
-
 -- ---- items
 
 -- the columns that are named as items; where all are meant, none is named
@@ -109,21 +87,6 @@ abbrev pub named_items : Items → List ColName
 named_items items.All = []
 named_items (items.Named names) = names
 
--- Projection: all values of the row, or those in the columns named, in that order.
-abbrev pub projected : List JoinedColumn → Items → Row → Row
-projected columns items.All row = row
-projected columns (items.Named names) row = map (value_at row) (places_meant columns names)
-
 -- the name of a column behind its table's
 abbrev pub full_name : JoinedColumn → List ℕ
 full_name joined = joined.table ++ 46 ∷ joined.column.name
-
--- the names above the values: the full names of all columns, or of the columns named, in that order
-abbrev pub headings : List JoinedColumn → Items → List (List ℕ)
-headings columns items.All = map full_name columns
-headings columns (items.Named names) = filter_map (λ name. option_map full_name (column_meant columns name)) names
-
--- Select: the projection of the filter of the product.
-abbrev pub selected : List Table → Items → List Cond → List Row
-selected tables items conditions =
-    let columns = joined_columns tables in map (projected columns items) (filtered columns conditions (product tables))

@@ -1,5 +1,5 @@
 -- References: the tables that columns refer to, and the rows that their values name.
-use Rattle.std.specs.Prelude.{◌≡◌, ◌≢◌, ℕ, ◌<◌, ◌≤◌, List, [], ◌∷◌, ◌++◌, Bool, false, true, ◌&&◌, length, Option, Some, None, is_some, IsSome, IsTrue, FitsSigned, slice_get, zip}
+use Rattle.std.specs.Prelude.{◌≡◌, ◌≢◌, ℕ, ◌<◌, ◌≤◌, List, [], ◌∷◌, ◌++◌, Bool, false, true, ◌&&◌, ◌==◌, length, Option, Some, None, is_some, IsSome, IsTrue, FitsSigned, slice_get, zip}
 use Rattle.std.specs.Int.{w64}
 use Rattle.std.specs.List.{All, AllPairs, filter_map, flat_map, list_any}
 use Rattle.std.specs.Option.{option_and_then, option_map, option_map_or}
@@ -18,6 +18,7 @@ use Rattle.plain_tables.specs.declared.schema.Column.{Column}
 use Rattle.plain_tables.specs.declared.schema.IndexKind.{IndexKind}
 use Rattle.plain_tables.specs.declared.schema.IndexKind.TheVariants as index
 use Rattle.plain_tables.specs.declared.command.Limits.{Limits}
+use Rattle.plain_tables.specs.declared.numbers.ColumnNumber.{ColumnNumber}
 
 -- ---- the types of columns
 
@@ -103,7 +104,23 @@ refers_to name column = option_map_or (bytes_eq name) (referred column.kind) fal
 abbrev pub is_table_referenced : Database → List ℕ → Bool
 is_table_referenced tables name = list_any (λ t. list_any (refers_to name) t.columns) tables
 
--- ---- well-formed databases
+-- ---- indexes
+
+-- the kinds are one
+abbrev pub is_kind : IndexKind → IndexKind → Bool
+is_kind index.Tree index.Tree = true
+is_kind index.Hash index.Hash = true
+is_kind k l = false
+
+-- the declarations are one
+abbrev pub is_index : ColumnNumber → IndexKind → ℕ × IndexKind → Bool
+is_index column k i = (i.0 == column.0) && is_kind k i.1
+
+-- the indexes that a table has: the tree on its key, and those that are declared
+abbrev pub all_indexes : Table → List (ℕ × IndexKind)
+all_indexes table = (0, index.Tree) ∷ table.indexes
+
+-- ---- sound databases
 
 -- An integer column holds integers of 64 bits, a text column texts of at most 1,024 bytes. A reference column holds keys of
 -- the table that it refers to, and nulls where they can stand.

@@ -1,17 +1,16 @@
--- Laws of resolved commands: that they keep databases sound, what they leave and show, and that no declared index plays a
--- part.
-use Rattle.std.specs.Prelude.{◌≡◌, ◌≢◌, ◌+◌, ◌==◌, ℕ, ◌<◌, ◌≤◌, List, [], Bool, not, length, map, Ok, Option, Some, None, is_some, IsTrue, IsFalse, FitsSigned, slice_get}
+-- Laws of resolved commands: that they keep databases sound, what they leave and show, and which declared indexes play no
+-- part in.
+use Rattle.std.specs.Prelude.{◌≡◌, ◌≢◌, ◌+◌, ◌==◌, ℕ, ◌<◌, ◌≤◌, List, [], Bool, true, false, not, length, map, Ok, Option, Some, None, is_some, IsTrue, IsFalse, FitsSigned, slice_get}
 use Rattle.std.specs.Int.{w64}
 use Rattle.std.specs.List.{All, AllZip, Contains, list_any}
 use Rattle.plain_tables.specs.Names.{IsName}
 use Rattle.plain_tables.specs.Tables.{Table, Row}
 use Rattle.plain_tables.specs.Databases.{Database, table_named}
 use Rattle.plain_tables.specs.Queries.{value_at}
-use Rattle.plain_tables.specs.QueryLaws.{unindexed, AreDoneAlike}
 use Rattle.plain_tables.specs.Effects.{Effect, Rows, Refused, repeats, new_table}
-use Rattle.plain_tables.specs.References.{RefersInto, is_typed, is_table_referenced, IsRowOf, IsKeyTree, IsSoundTable, IsSound}
+use Rattle.plain_tables.specs.References.{RefersInto, is_typed, is_table_referenced, is_index, IsRowOf, IsKeyTree, IsSoundTable, IsSound}
 use Rattle.plain_tables.specs.Resolving.{has_mistyped, resolved_of}
-use Rattle.plain_tables.specs.Doing.{passes_all, updated, picked, update, without, delete, shown_values, headings, is_index, done}
+use Rattle.plain_tables.specs.Doing.{passes_all, updated, picked, update, without, delete, shown_values, headings, done}
 use Rattle.plain_tables.specs.Spelling.{IsSpellable}
 use Rattle.plain_tables.specs.declared.value.Value.{Value}
 use Rattle.plain_tables.specs.declared.value.Value.TheVariants as value
@@ -125,6 +124,7 @@ IsMeant limits tables (resolved.Update n assignments tests) =
     OfTable n tables (λ table. AreAssignable tables assignments table × AreTests tables table tests)
 IsMeant limits tables (resolved.Delete n tests) = OfTable n tables (λ table. AreTests tables table tests)
 IsMeant limits tables (resolved.Select its n tests) = OfTable n tables (λ table. IsShown table its × AreTests tables table tests)
+IsMeant limits tables resolved.Tables = Unit {0}
 
 -- ---- databases stay sound
 
@@ -160,15 +160,36 @@ CommandsKeepSound =
 
 -- ---- declared indexes
 
--- of databases that are alike but for the declared indexes each command is resolved alike
+-- the table with no index declared
+abbrev pub unindexed : Table → Table
+unindexed table = record table { indexes = [] }
+
+-- whether a command declares an index or drops one
+abbrev pub is_on_indexes : Command → Bool
+is_on_indexes (command.Index name column k) = true
+is_on_indexes (command.DropIndex name column k) = true
+is_on_indexes c = false
+
+-- whether a resolved command shows the declared indexes
+abbrev pub shows_indexes : Resolved → Bool
+shows_indexes resolved.Tables = true
+shows_indexes r = false
+
+-- Of databases that are alike but for the declared indexes each command is resolved alike, but for those on indexes.
 abbrev pub ResolvedAlike : Type 0
 ResolvedAlike =
-    (tables others : Database) (c : Command) → map unindexed tables ≡ map unindexed others → resolved_of tables c ≡ resolved_of others c
+    (tables others : Database) (c : Command) → IsFalse (is_on_indexes c) → map unindexed tables ≡ map unindexed others
+    → resolved_of tables c ≡ resolved_of others c
 
--- and each resolved command is answered alike, and they stay alike
+-- two effects that have one answer, and leave databases that are alike but for the declared indexes
+pub record AreDoneAlike (e f : Effect) : Type 0 where
+  pub answered : e.outcome ≡ f.outcome
+  pub left : map unindexed e.database ≡ map unindexed f.database
+
+-- Each resolved command that doesn't show the indexes is answered alike, and they stay alike.
 abbrev pub DoneAlike : Type 0
 DoneAlike =
-    (limits : Limits) (tables others : Database) (r : Resolved) → map unindexed tables ≡ map unindexed others
+    (limits : Limits) (tables others : Database) (r : Resolved) → IsFalse (shows_indexes r) → map unindexed tables ≡ map unindexed others
     → AreDoneAlike (done limits tables r) (done limits others r)
 
 -- ---- the tables that a command leaves

@@ -1,5 +1,5 @@
 -- Resolving: what a command means with numbers in the place of names, and the checks that need no row.
-use Rattle.std.specs.Prelude.{ℕ, List, [], ◌∷◌, ◌++◌, Bool, true, false, ◌||◌, ◌&&◌, not, ◌==◌, nat_lt, nat_le, length, map, if◌then◌else◌, is_some, Result, Ok, Err, zip, take}
+use Rattle.std.specs.Prelude.{ℕ, List, [], ◌∷◌, ◌++◌, Bool, true, false, ◌||◌, ◌&&◌, not, ◌==◌, nat_lt, nat_le, length, map, if◌then◌else◌, is_some, Result, Ok, Err, None, zip, take}
 use Rattle.std.specs.List.{list_any, position_or_len, filter_map}
 use Rattle.std.specs.Option.{option_map, option_map_or}
 use Rattle.std.specs.Str.{bytes_eq}
@@ -8,16 +8,17 @@ use Rattle.plain_tables.specs.Tables.{Table, Row}
 use Rattle.plain_tables.specs.Databases.{Database, is_named, table_named}
 use Rattle.plain_tables.specs.Queries.{JoinedColumn, joined_columns, column_meant, place_meant, places_meant, named_items}
 use Rattle.plain_tables.specs.Effects.{Check, repeats, column_names, misses, is_long, setting_name, condition_names}
-use Rattle.plain_tables.specs.References.{referred, is_typed, refers_into}
+use Rattle.plain_tables.specs.References.{referred, is_typed, refers_into, is_table_referenced, is_index, all_indexes}
 use Rattle.plain_tables.specs.declared.value.Value.{Value}
 use Rattle.plain_tables.specs.declared.condition.Op.{Op}
 use Rattle.plain_tables.specs.declared.condition.Op.TheVariants as op
 use Rattle.plain_tables.specs.declared.condition.Cond.{Cond}
 use Rattle.plain_tables.specs.declared.condition.ColName.{ColName}
 use Rattle.plain_tables.specs.declared.refusal.Refusal.{Refusal}
-use Rattle.plain_tables.specs.declared.refusal.Refusal.TheVariants.{NotACommand, NoSuchTable, TableExists, ColumnNamedTwice, TooMany, WrongNumberOfValues, NoSuchColumn, WrongType, KeyCannotBeSet, TextTooLong}
+use Rattle.plain_tables.specs.declared.refusal.Refusal.TheVariants.{NoSuchTable, TableExists, NoSuchColumn, ColumnNamedTwice, WrongType, KeyCannotBeSet, TooMany, NoSuchIndex, IndexExists, TableIsReferenced, WrongNumberOfValues, TextTooLong}
 use Rattle.plain_tables.specs.declared.schema.Schema.{Schema}
 use Rattle.plain_tables.specs.declared.schema.Column.{Column}
+use Rattle.plain_tables.specs.declared.schema.IndexKind.{IndexKind}
 use Rattle.plain_tables.specs.declared.command.Items.{Items}
 use Rattle.plain_tables.specs.declared.command.Items.TheVariants as items
 use Rattle.plain_tables.specs.declared.command.Setting.{Setting}
@@ -52,6 +53,11 @@ on_numbered name tables means = option_map_or (means (number_of name tables)) (t
 -- the columns that a command on one table can name
 abbrev pub own_columns : Table → List JoinedColumn
 own_columns table = joined_columns (table ∷ [])
+
+-- a command on the column of that name, by its number, refused where no column has it
+abbrev pub on_column : List ℕ → Table → (ColumnNumber → Result Resolved Refusal) → Result Resolved Refusal
+on_column name table means =
+    option_map_or (λ place. means (column_number place)) (place_meant (own_columns table) (record { table = None; column = name })) (Err NoSuchColumn)
 
 -- ---- conditions, settings and items by numbers
 
@@ -103,6 +109,22 @@ table_checks tables name schema =
     ∷ record { refuses = nat_lt 16 (length schema.columns) || nat_le 64 (length tables); refusal = TooMany }
     ∷ []
 
+-- ---- drop table
+
+-- no column refers to the table
+abbrev pub drop_checks : Database → Table → List Check
+drop_checks tables table = record { refuses = is_table_referenced tables table.name; refusal = TableIsReferenced } ∷ []
+
+-- ---- index, drop index
+
+-- the table has no such index, the tree on its key included
+abbrev pub index_checks : Table → ColumnNumber → IndexKind → List Check
+index_checks table column k = record { refuses = list_any (is_index column k) (all_indexes table); refusal = IndexExists } ∷ []
+
+-- such an index is declared, which the tree on the key isn't
+abbrev pub drop_index_checks : Table → ColumnNumber → IndexKind → List Check
+drop_index_checks table column k = record { refuses = not (list_any (is_index column k) table.indexes); refusal = NoSuchIndex } ∷ []
+
 -- ---- insert, update, delete, select
 
 -- one value for each column, of its type, and no text too long
@@ -148,13 +170,15 @@ select_checks tables table its conditions =
 
 -- ---- all commands
 
--- What a command means of these tables, or why it is refused before a row is looked at. Those that are refused as no command
--- aren't done yet.
+-- what a command means of these tables, or why it is refused before a row is looked at
 abbrev pub resolved_of : Database → Command → Result Resolved Refusal
 resolved_of tables (command.Table name schema) = meaning (table_checks tables name schema) (resolved.Table name schema)
-resolved_of tables (command.DropTable name) = Err NotACommand
-resolved_of tables (command.Index name column k) = Err NotACommand
-resolved_of tables (command.DropIndex name column k) = Err NotACommand
+resolved_of tables (command.DropTable name) =
+    on_numbered name tables (λ n table. meaning (drop_checks tables table) (resolved.DropTable n))
+resolved_of tables (command.Index name column k) =
+    on_numbered name tables (λ n table. on_column column table (λ c. meaning (index_checks table c k) (resolved.Index n c k)))
+resolved_of tables (command.DropIndex name column k) =
+    on_numbered name tables (λ n table. on_column column table (λ c. meaning (drop_index_checks table c k) (resolved.DropIndex n c k)))
 resolved_of tables (command.Insert name row) =
     on_numbered name tables (λ n table. meaning (insert_checks tables table row) (resolved.Insert n row))
 resolved_of tables (command.Update name settings conditions) =
@@ -166,4 +190,4 @@ resolved_of tables (command.Delete name conditions) =
 resolved_of tables (command.Select its name conditions) =
     on_numbered name tables (λ n table. meaning (select_checks tables table its conditions)
     (resolved.Select (shown_of (own_columns table) its) n (tests_of (own_columns table) conditions)))
-resolved_of tables command.Tables = Err NotACommand
+resolved_of tables command.Tables = Ok resolved.Tables

@@ -4,8 +4,10 @@ use Rattle.std.specs.Str.{IsUtf8}
 use Rattle.std.specs.List.{find}
 use Rattle.std.specs.Option.{option_map_or}
 use Rattle.plain_tables.specs.Spelling.{Spells, is_blank}
-use Rattle.plain_tables.specs.Databases.{Database, IsWellFormed}
-use Rattle.plain_tables.specs.Effects.{Effect, Refused, effect_of}
+use Rattle.plain_tables.specs.Databases.{Database}
+use Rattle.plain_tables.specs.Effects.{Effect, Refused}
+use Rattle.plain_tables.specs.References.{IsSound}
+use Rattle.plain_tables.specs.Commands.{effect_of}
 use Rattle.plain_tables.specs.AnswerText.{answer_text}
 use Rattle.plain_tables.specs.Division.{Divides, last_line}
 use Rattle.plain_tables.specs.declared.refusal.Refusal.{Refusal}
@@ -64,8 +66,8 @@ RunOf limits from stream finished answers after =
 
 -- ---- laws
 
--- every database that a run from a well-formed one reaches is well-formed
-abbrev pub RunsStayWellFormed : Type 0
-RunsStayWellFormed =
+-- every database that a run from a sound one reaches is sound
+abbrev pub RunsStaySound : Type 0
+RunsStaySound =
     (limits : Limits) (from : Database) (stream : List ℕ) (finished : Bool) (answers : List ℕ) (after : Database)
-    → IsWellFormed limits from → RunOf limits from stream finished answers after → IsWellFormed limits after
+    → IsSound limits from → RunOf limits from stream finished answers after → IsSound limits after

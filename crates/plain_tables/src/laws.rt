@@ -7,9 +7,9 @@ ghost use Rattle.plain_tables.specs.declared.value.Value.{Value};
 ghost use Rattle.plain_tables.specs.declared.command.Limits.{Limits};
 ghost use Rattle.plain_tables.specs.Values.{value_cmp};
 ghost use Rattle.plain_tables.specs.Hashes.{hash_of};
-ghost use Rattle.plain_tables.specs.Databases.{Database, IsWellFormed};
+ghost use Rattle.plain_tables.specs.Databases.{Database};
 ghost use Rattle.plain_tables.specs.Division.{EveryStreamDivides, LinesStayFirst, DividesInOneWay};
-ghost use Rattle.plain_tables.specs.Runs.{Answers, RunsStayWellFormed};
+ghost use Rattle.plain_tables.specs.Runs.{Answers, RunsStaySound};
 
 /// The order of values is total, and values that compare alike are one.
 pub fn values_are_ordered()
@@ -37,18 +37,13 @@ pub fn divides_in_one_way()
     ensures { DividesInOneWay }
 {}
 
-/// A database of no tables is well-formed.
-pub fn no_tables_are_well_formed()
-    ensures { (limits : Limits) → IsWellFormed limits [] }
-{}
-
 /// A line that is answered by an error leaves the database as it was.
 pub fn errors_change_nothing()
     ensures { (limits : Limits) (tables : Database) (line answer words : List ℕ) (after : Database)
         → Answers limits tables line answer after → answer ≡ codes "error " ++ words → after ≡ tables }
 {}
 
-/// Every database that a run from a well-formed one reaches is well-formed.
-pub fn runs_stay_well_formed()
-    ensures { RunsStayWellFormed }
+/// Every database that a run from a sound one reaches is sound.
+pub fn runs_stay_sound()
+    ensures { RunsStaySound }
 {}

@@ -48,6 +48,8 @@ pub enum Resolved {
         table: TableNumber,
         tests: Sequence<Test>,
     },
+    /// What tables there are.
+    Tables,
 }
 
 /// What an update puts into a column.

@@ -40,12 +40,12 @@ pub fn commands_keep_sound()
     ensures { CommandsKeepSound }
 {}
 
-/// No command is resolved by the declared indexes.
+/// No command but those on indexes is resolved by the declared ones.
 pub fn resolved_without_indexes()
     ensures { ResolvedAlike }
 {}
 
-/// No resolved command reads the declared indexes.
+/// No resolved command but a listing of the tables reads the declared indexes.
 pub fn done_without_indexes()
     ensures { DoneAlike }
 {}

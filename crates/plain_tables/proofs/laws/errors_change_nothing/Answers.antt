@@ -1,4 +1,4 @@
-use Rattle.plain_tables.proofs.EffectLemmas.{errors_change_nothing}
+use Rattle.plain_tables.proofs.RunLemmas.{errors_change_nothing}
 use Rattle.plain_tables.proofs.laws.errors_change_nothing.Goals as goal
 
 pub returns : goal.returns

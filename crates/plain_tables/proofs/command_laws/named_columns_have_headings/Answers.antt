@@ -1,5 +1,5 @@
 use Rattle.plain_tables.proofs.HeadingLemmas.{names_have_headings}
-use Rattle.plain_tables.proofs.query_laws.named_columns_have_headings.Goals as goal
+use Rattle.plain_tables.proofs.command_laws.named_columns_have_headings.Goals as goal
 
 pub returns : goal.returns
 returns c = names_have_headings
