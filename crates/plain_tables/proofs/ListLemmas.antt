@@ -1,7 +1,7 @@
 -- Lists: pairs of elements, the first that passes a test, and filters. What holds of what an option gives.
 use Rattle.std.proofs.Common.{◌≡◌, ◌≢◌, ℕ, zero, suc, ◌+◌, ◌<◌, ◌≤◌, Bool, true, false, length, arith, List, [], ◌∷◌, ◌++◌, sym, ap, ◌∙◌, inl, inr, get_or, set, take, drop, map, Some, None, Option, refl, subst, ◌⊎◌}
 use Rattle.std.specs.Prelude.{nat_lt, not}
-use Rattle.std.specs.List.{All, AllPairs, AllZip, filter, find, position, position_or_len, slice_get, list_any, list_all, flat_map, filter_map, cons_option, remove}
+use Rattle.std.specs.List.{All, AllPairs, AllZip, filter, find, position, position_or_len, slice_get, list_any, list_all, flat_map, cons_option, remove}
 use Rattle.std.specs.Option.{is_some, option_map, option_map_or}
 use Rattle.std.proofs.lemmas.Bool.{cases_Bool, cases_eq, or_parts, or_cases, or_right, and_parts, cond_both, false≢true, ltb-true}
 use Rattle.std.proofs.lemmas.List.{get_or-set_same, get_or-set_other, length-set}

@@ -1,5 +1,5 @@
--- Laws of resolved commands: that they keep databases sound, what they leave and show, and which declared indexes play no
--- part in.
+-- Laws of resolved commands: that they keep databases sound, what they leave and show, and in which of them declared
+-- indexes play no part.
 use Rattle.std.specs.Prelude.{◌≡◌, ◌≢◌, ◌+◌, ◌==◌, ℕ, ◌<◌, ◌≤◌, List, [], Bool, true, false, not, length, map, Ok, Option, Some, None, is_some, IsTrue, IsFalse, FitsSigned, slice_get}
 use Rattle.std.specs.Int.{w64}
 use Rattle.std.specs.List.{All, AllZip, Contains, list_any}
