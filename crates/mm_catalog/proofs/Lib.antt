@@ -11,3 +11,7 @@ pub mod Rising
 pub mod Keyed
 pub mod Shown
 pub mod Counting
+pub mod ResolveLists
+pub mod ResolveNames
+pub mod ResolveColumns
+pub mod ResolveNamed

@@ -21,5 +21,8 @@ mod catalog;
 mod create;
 mod declare;
 pub mod laws;
+mod named;
+mod scope;
+mod types;
 
 pub use catalog::Catalog;
