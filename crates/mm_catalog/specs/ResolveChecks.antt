@@ -4,12 +4,13 @@ use Rattle.std.specs.List.{list_any}
 use Rattle.std.specs.Option.{option_map_or}
 use Rattle.plain_tables.specs.Values.{is_null}
 use Rattle.plain_tables.specs.Databases.{Database}
+use Rattle.plain_tables.specs.Tables.{Row}
 use Rattle.plain_tables.specs.References.{is_typed}
-use Rattle.plain_tables.specs.Resolving.{asks_order}
+use Rattle.plain_tables.specs.Resolving.{asks_order, has_mistyped}
 use Rattle.plain_tables.specs.Effects.{Check, is_long, repeats}
 use Rattle.plain_tables.specs.declared.value.Value.{Value}
 use Rattle.plain_tables.specs.declared.refusal.Refusal.{Refusal}
-use Rattle.plain_tables.specs.declared.refusal.Refusal.TheVariants.{ColumnNamedTwice, TooMany, WrongType, KeyCannotBeSet, TextTooLong}
+use Rattle.plain_tables.specs.declared.refusal.Refusal.TheVariants.{ColumnNamedTwice, TooMany, WrongType, KeyCannotBeSet, TextTooLong, WrongNumberOfValues}
 use Rattle.plain_tables.specs.declared.schema.Column.{Column}
 use Rattle.plain_tables.specs.declared.resolved.Assignment.{Assignment}
 use Rattle.plain_tables.specs.declared.resolved.Shown.{Shown}
@@ -28,6 +29,14 @@ mistypes_at tables columns place v = option_map_or (λ c. not (is_typed tables v
 -- whether a test has a value that is none for its column, or asks how a null is ordered
 abbrev pub is_mistyped_test : Database → List Column → Test → Bool
 is_mistyped_test tables columns t = mistypes_at tables columns t.column.0 t.value || (is_null t.value && asks_order t.op)
+
+-- the checks of a row for a table of these columns
+abbrev pub row_checks : Database → List Column → Row → List Check
+row_checks tables columns row =
+    record { refuses = not (length row == length columns); refusal = WrongNumberOfValues }
+    ∷ record { refuses = has_mistyped tables columns row; refusal = WrongType }
+    ∷ record { refuses = list_any is_long row; refusal = TextTooLong }
+    ∷ []
 
 -- the checks of a delete whose conditions are these tests
 abbrev pub delete_rest : Database → List Column → List Test → List Check

@@ -18,10 +18,12 @@
 
 mod before;
 mod catalog;
+mod checks;
 mod create;
 mod declare;
 pub mod laws;
 mod named;
+mod resolve;
 mod scope;
 mod types;
 
