@@ -15,3 +15,4 @@ pub mod ResolveLists
 pub mod ResolveNames
 pub mod ResolveColumns
 pub mod ResolveNamed
+pub mod ResolveCommands
