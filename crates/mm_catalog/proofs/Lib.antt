@@ -12,7 +12,7 @@ pub mod Keyed
 pub mod Shown
 pub mod Counting
 pub mod ResolveLists
-pub mod ResolveNames
+pub mod ResolveTables
 pub mod ResolveColumns
 pub mod ResolveNamed
 pub mod ResolveCommands

@@ -1,22 +1,20 @@
 -- What a command means once the names in it are found and its checks are made.
-use Rattle.std.proofs.Common.{◌≡◌, ℕ, Bool, true, false, cond, List, [], ◌∷◌, ◌++◌, length, map, Some, None, refl, sym, ap, ◌∙◌, append-nil}
-use Rattle.std.specs.Prelude.{Result, Ok, Err, not, ◌||◌, ◌==◌, nat_lt}
+use Rattle.std.proofs.Common.{◌≡◌, ℕ, Bool, true, false, cond, List, [], ◌∷◌, ◌++◌, length, map, refl, sym, ap, ◌∙◌, append-nil}
+use Rattle.std.specs.Prelude.{Result, Ok, Err, ◌||◌, ◌==◌, nat_lt}
 use Rattle.std.specs.List.{list_any}
 use Rattle.std.specs.Option.{option_map_or}
 use Rattle.std.specs.Str.{bytes_eq}
 use Rattle.std.proofs.lemmas.List.Folds.{list_any-append}
 use Rattle.plain_tables.specs.Tables.{Table, Row}
-use Rattle.plain_tables.specs.Databases.{Database, table_named}
+use Rattle.plain_tables.specs.Databases.{Database}
 use Rattle.plain_tables.specs.Queries.{JoinedColumn, places_meant, named_items}
 use Rattle.plain_tables.specs.Effects.{Check, misses, repeats, condition_names, setting_name, is_long}
-use Rattle.plain_tables.specs.Resolving.{meaning, on_numbered, number_of, own_columns, resolved_of, tests_of, assignments_of, shown_of, mistypes, is_mistyped, table_checks, insert_checks}
-use Rattle.plain_tables.specs.declared.schema.Schema.{Schema}
+use Rattle.plain_tables.specs.Resolving.{meaning, on_numbered, number_of, own_columns, resolved_of, tests_of, assignments_of, shown_of, mistypes, is_mistyped, insert_checks}
 use Rattle.plain_tables.specs.declared.schema.Column.{Column}
 use Rattle.plain_tables.specs.declared.condition.Cond.{Cond}
 use Rattle.plain_tables.specs.declared.condition.ColName.{ColName}
 use Rattle.plain_tables.specs.declared.command.Items.{Items}
 use Rattle.plain_tables.specs.declared.command.Setting.{Setting}
-use Rattle.plain_tables.specs.declared.command.Command.{Command}
 use Rattle.plain_tables.specs.declared.command.Command.TheVariants as command
 use Rattle.plain_tables.specs.declared.numbers.TableNumber.{TableNumber}
 use Rattle.plain_tables.specs.declared.refusal.Refusal.{Refusal}
@@ -25,7 +23,7 @@ use Rattle.plain_tables.specs.declared.resolved.Resolved.{Resolved}
 use Rattle.plain_tables.specs.declared.resolved.Resolved.TheVariants as resolved
 use Rattle.mm_catalog.specs.declared.scope.Scope.{Scope}
 use Rattle.mm_catalog.specs.Resolve.{IsScopeOf, columns_of, in_table, shown_places}
-use Rattle.mm_catalog.specs.ResolveChecks.{verdict, row_checks, delete_rest, select_rest, update_rest, is_mistyped_test, mistypes_at}
+use Rattle.mm_catalog.specs.ResolveChecks.{verdict, row_checks, delete_rest, select_rest, update_rest}
 use Rattle.mm_catalog.proofs.ResolveNamed.{tests_mistyped, length-tests, assignments_mistyped, long_set, key_set, shown_places-are, length-shown}
 
 -- ---- checks

@@ -7,7 +7,6 @@ ghost use Rattle.mm_catalog.specs.Seen.{database_of};
 
 use crate::catalog::Catalog;
 use crate::checks::repeats_setting;
-use crate::named::{assignments, shown, tests};
 use plain_tables::{
     Command, Cond, Items, Refusal, Resolved, Schema, Sequence, Setting, Text, Value,
 };
@@ -65,8 +64,8 @@ impl Catalog {
     {
         let scope = self.scope(&table)?;
         let repeated = repeats_setting(settings.as_slice());
-        let assignments = assignments(&scope, settings)?;
-        let tests = tests(&scope, conditions)?;
+        let assignments = scope.assignments(settings)?;
+        let tests = scope.tests(conditions)?;
         if repeated {
             return Err(Refusal::ColumnNamedTwice);
         }
@@ -83,7 +82,7 @@ impl Catalog {
         ensures refused { IfErr result (λ e. e ≢ refusal.NoMemory → resolved_of (database_of self.now) (command.Delete table conditions) ≡ Err e) }
     {
         let scope = self.scope(&table)?;
-        let tests = tests(&scope, conditions)?;
+        let tests = scope.tests(conditions)?;
         self.check_delete(scope.columns, tests.as_slice())?;
         Ok(Resolved::Delete {
             table: scope.table,
@@ -101,8 +100,8 @@ impl Catalog {
         ensures refused { IfErr result (λ e. e ≢ refusal.NoMemory → resolved_of (database_of self.now) (command.Select items table conditions) ≡ Err e) }
     {
         let scope = self.scope(&table)?;
-        let shown = shown(&scope, items)?;
-        let tests = tests(&scope, conditions)?;
+        let shown = scope.shown(items)?;
+        let tests = scope.tests(conditions)?;
         self.check_select(scope.columns, &shown, tests.as_slice())?;
         Ok(Resolved::Select {
             shown,

@@ -1,6 +1,6 @@
 use Rattle.std.proofs.Common.{◌∙◌, ap, is_some}
 use Rattle.mm_catalog.specs.Seen.{database_of}
-use Rattle.mm_catalog.proofs.ResolveNames.{is_named_there}
+use Rattle.mm_catalog.proofs.ResolveTables.{is_named_there}
 use Rattle.mm_catalog.proofs.catalog.Catalog.has_table.Goals as goal
 
 pub returns : goal.returns

@@ -3,7 +3,7 @@ use Rattle.std.specs.List.{slice_get}
 use Rattle.std.specs.Option.{option_and_then}
 use Rattle.plain_tables.specs.References.{own_type}
 use Rattle.mm_catalog.specs.Seen.{database_of}
-use Rattle.mm_catalog.proofs.ResolveNames.{named_none, key_of}
+use Rattle.mm_catalog.proofs.ResolveTables.{named_none, key_of}
 use Rattle.mm_catalog.proofs.catalog.Catalog.key_type.Goals as goal
 
 pub returns-in_err-table : goal.returns-in_err-table

@@ -1,7 +1,7 @@
 use Rattle.std.proofs.Common.{◌≡◌, Some, ◌∙◌, sym, ap, is_some, option_copied}
 use Rattle.plain_tables.specs.References.{referred}
 use Rattle.mm_catalog.specs.Seen.{database_of}
-use Rattle.mm_catalog.proofs.ResolveNames.{is_named_there}
+use Rattle.mm_catalog.proofs.ResolveTables.{is_named_there}
 use Rattle.mm_catalog.proofs.catalog.Catalog.refers_into.Goals as goal
 
 pub returns-in-Some : goal.returns-in-Some

@@ -1,6 +1,6 @@
 use Rattle.std.proofs.Common.{◌∙◌, sym}
 use Rattle.mm_catalog.specs.Seen.{database_of}
-use Rattle.mm_catalog.proofs.ResolveNames.{scope_there, named_none}
+use Rattle.mm_catalog.proofs.ResolveTables.{scope_there, named_none}
 use Rattle.mm_catalog.proofs.catalog.Catalog.scope.Goals as goal
 
 pub returns-in_default-clause-missed : goal.returns-in_default-clause-missed
