@@ -1,10 +1,14 @@
 -- The place of the column that a name means.
-use Rattle.std.proofs.Common.{◌≡◌, ℕ, suc, ◌+◌, ◌<◌, Bool, true, false, cond, eqb, ltb, List, [], ◌∷◌, length, map, drop, Some, None, Option, is_some, refl, sym, ap, ◌∙◌, position, slice_get, arith, inl, inr}
+use Rattle.std.proofs.Common.{◌≡◌, ◌≢◌, get_or, ℕ, suc, ◌+◌, ◌<◌, ◌≤◌, Bool, true, false, cond, eqb, ltb, List, [], ◌∷◌, length, map, drop, Some, None, Option, is_some, refl, sym, ap, ◌∙◌, position, slice_get, arith, inl, inr}
 use Rattle.std.specs.Prelude.{not, ◌||◌}
-use Rattle.std.specs.List.{filter, list_any, position_or_len}
-use Rattle.std.proofs.lemmas.Bool.{eqb-true, ne_eqb, lt-ltb, le-ltb, cases_Bool, cases_eq, cases_lt}
+use Rattle.std.specs.Option.{option_map_or}
+use Rattle.std.specs.Str.{bytes_eq}
+use Rattle.std.proofs.lemmas.Slice.Eq.{bytes_eq-Decides}
+use Rattle.plain_tables.proofs.ListLemmas.{AllPairs-head, AllPairs-tail}
+use Rattle.std.specs.List.{AllPairs, filter, list_any, position_or_len}
+use Rattle.std.proofs.lemmas.Bool.{eqb-true, ne_eqb, lt-ltb, le-ltb, cases_Bool, and_parts, cases_eq, cases_lt}
 use Rattle.std.proofs.lemmas.Bool.Decides.{nat_tests}
-use Rattle.std.proofs.lemmas.List.Folds.{find_at}
+use Rattle.std.proofs.lemmas.List.Folds.{find_at, list_any_none}
 use Rattle.plain_tables.specs.Queries.{JoinedColumn, fits, fits_one, place_meant, column_meant}
 use Rattle.plain_tables.specs.declared.schema.Column.{Column}
 use Rattle.plain_tables.specs.declared.condition.ColName.{ColName}
@@ -24,12 +28,6 @@ count-map p f (x ∷ xs) =
 
 -- ---- how many pass
 
-one_more : (n : ℕ) → eqb (suc n) 1 ≡ eqb n 0
-one_more n = elim (cases_eq n 0) [
-  | inl same ↦ rw same refl
-  | inr other ↦ ne_eqb (suc n) 1 (λ e. other (omega arith)) ∙ sym (ne_eqb n 0 other)
-]
-
 ltb-suc : (m n : ℕ) → ltb (suc m) (suc n) ≡ ltb m n
 ltb-suc m n = elim (cases_lt m n) [
   | inl l ↦ lt-ltb (suc m) (suc n) (omega arith) ∙ sym (lt-ltb m n l)
@@ -43,18 +41,6 @@ count_none q (x ∷ xs) =
       | true ↦ grind (arith, nat_tests)
       | false ↦ count_none q xs
     ]
-
--- just one passes where none does behind the first that does
-count_one : {X : Type 0} (q : X → Bool) (xs : List X) (i : ℕ) → position_or_len q xs ≡ i → i < length xs
-    → eqb (length (filter q xs)) 1 ≡ not (list_any q (drop (suc i) xs))
-count_one q [] i h l = absurd (omega arith)
-count_one q (x ∷ xs) i h l =
-    elim (q x) as (λ b. cond (not b) (1 + position_or_len q xs) 0 ≡ i → eqb (length (cond b (x ∷ filter q xs) (filter q xs))) 1 ≡ not (list_any q (drop i xs))) [
-      | true ↦ λ k. rw (sym k) (one_more (length (filter q xs)) ∙ count_none q xs)
-      | false ↦ λ k.
-          let next : suc (position_or_len q xs) ≡ i = omega arith in
-          count_one q xs (position_or_len q xs) refl (omega arith) ∙ ap (λ j. not (list_any q (drop j xs))) next
-    ] h
 
 some_place : {X : Type 0} (q : X → Bool) (xs : List X) → ltb (position_or_len q xs) (length xs) ≡ list_any q xs
 some_place q [] = grind (arith, nat_tests)
@@ -84,29 +70,69 @@ one_then_some q xs one = elim (cases_Bool (list_any q xs)) [
 abbrev pub one_place : {X : Type 0} → (X → Bool) → List X → Option ℕ
 one_place q xs = cond (eqb (length (filter q xs)) 1) (position q xs) None
 
-pub one_place-found : {X : Type 0} (q : X → Bool) (xs : List X) (i : ℕ) → position q xs ≡ Some i → i < length xs → list_any q (drop (i + 1) xs) ≡ false → one_place q xs ≡ Some i
-one_place-found q xs i place l alone =
-    let next : suc i ≡ i + 1 = omega arith in
-    rw (count_one q xs i (position_or_len-position q xs i place) l, next, alone) place
-
-pub one_place-twice : {X : Type 0} (q : X → Bool) (xs : List X) (i : ℕ) → position q xs ≡ Some i → i < length xs → list_any q (drop (i + 1) xs) ≡ true → one_place q xs ≡ None
-one_place-twice q xs i place l again =
-    let next : suc i ≡ i + 1 = omega arith in
-    rw (count_one q xs i (position_or_len-position q xs i place) l, next, again) refl
-
-pub one_place-none : {X : Type 0} (q : X → Bool) (xs : List X) → position q xs ≡ None → one_place q xs ≡ None
-one_place-none q xs none = elim (eqb (length (filter q xs)) 1) as (λ b. cond b (position q xs) None ≡ None) [ true ↦ none | false ↦ refl ]
-
 pub is_some-one_place : {X : Type 0} (q : X → Bool) (xs : List X) → is_some (one_place q xs) ≡ eqb (length (filter q xs)) 1
 is_some-one_place q xs = elim (cases_Bool (eqb (length (filter q xs)) 1)) [
   | inl one ↦ rw one (is_some-position q xs ∙ one_then_some q xs one)
   | inr other ↦ rw other refl
 ]
 
+no_place : (o : Option ℕ) → is_some o ≡ false → o ≡ None
+no_place None h = refl
+no_place (Some i) h = cc
+
+one_place-few : {X : Type 0} (q : X → Bool) (xs : List X) → length (filter q xs) ≤ 1 → one_place q xs ≡ position q xs
+one_place-few q xs few = elim (cases_Bool (eqb (length (filter q xs)) 1)) [
+  | inl one ↦ rw one refl
+  | inr other ↦ rw other (sym (no_place (position q xs) (is_some-position q xs ∙ none_passes other)))
+] where
+  none_passes : eqb (length (filter q xs)) 1 ≡ false → list_any q xs ≡ false
+  none_passes other = elim (cases_Bool (list_any q xs)) [
+    | inl some ↦
+        let not_none : eqb (length (filter q xs)) 0 ≡ false = count_none q xs ∙ ap not some in
+        absurd (grind (arith, nat_tests))
+    | inr none ↦ none
+  ]
+
 -- ---- columns
 
-pub place_in_table : (table : List ℕ) (columns : List Column) (name : ColName) → place_meant (map (in_table table) columns) name ≡ one_place (λ c. fits name (in_table table c)) columns
-place_in_table table columns name = rw (count-map (fits name) (in_table table) columns, position-map (fits name) (in_table table) columns) refl
+abbrev pub AreApart : List Column → Type 0
+AreApart columns = AllPairs (λ c d. c.name ≢ d.name) columns
+
+-- a name that fits a column fits none of another name
+fits_apart : (table : List ℕ) (name : ColName) (c d : Column) → fits name (in_table table c) ≡ true → c.name ≢ d.name → fits name (in_table table d) ≡ false
+fits_apart table name c d h apart = elim (cases_Bool (fits name (in_table table d))) [
+  | inl both ↦
+      let own = option_map_or (λ t. bytes_eq t table) name.table true in
+      let first = (bytes_eq-Decides name.column c.name).0 (and_parts (bytes_eq name.column c.name) own h).0 in
+      let second = (bytes_eq-Decides name.column d.name).0 (and_parts (bytes_eq name.column d.name) own both).0 in
+      absurd (apart (sym first ∙ second))
+  | inr other ↦ other
+]
+
+none_left : {X : Type 0} (q : X → Bool) (xs : List X) → list_any q xs ≡ false → length (filter q xs) ≡ 0
+none_left q xs h = eqb-true (length (filter q xs)) 0 (count_none q xs ∙ ap not h)
+
+module _ (table : List ℕ) (name : ColName) where
+  abbrev fitting : Column → Bool
+  fitting c = fits name (in_table table c)
+
+  few_one : (c : Column) (cs : List Column) (b : Bool) → fitting c ≡ b → AreApart (c ∷ cs) → length (filter fitting cs) ≤ 1
+      → length (cond b (c ∷ filter fitting cs) (filter fitting cs)) ≤ 1
+  few_one c cs true e apart few =
+      let others = none_left fitting cs (list_any_none fitting cs (λ k d l. fits_apart table name c (get_or cs k d) e (AllPairs-head (λ p r. p.name ≢ r.name) c cs apart k d l))) in
+      omega arith
+  few_one c cs false e apart few = few
+
+  few : (columns : List Column) → AreApart columns → length (filter fitting columns) ≤ 1
+  few [] apart = omega arith
+  few (c ∷ cs) apart = few_one c cs (fitting c) refl apart (few cs (AllPairs-tail (λ p r. p.name ≢ r.name) c cs apart))
+
+-- The column that a name means is the first that it fits: where columns are apart it fits no other.
+pub place_first : (table : List ℕ) (columns : List Column) (name : ColName) → AreApart columns
+    → place_meant (map (in_table table) columns) name ≡ position (λ c. fits name (in_table table c)) columns
+place_first table columns name apart =
+    rw (count-map (fits name) (in_table table) columns, position-map (fits name) (in_table table) columns)
+    (one_place-few (fitting table name) columns (few table name columns apart))
 
 pub fits_one-is : (columns : List JoinedColumn) (name : ColName) → is_some (place_meant columns name) ≡ fits_one columns name
 fits_one-is columns name = is_some-one_place (fits name) columns

@@ -1,15 +1,15 @@
 //! The names in a command on one table.
-ghost use Rattle.std.specs.Prelude.{◌≡◌, true, position, IfOk, IfErr};
-ghost use Rattle.std.specs.List.{list_any};
+ghost use Rattle.std.specs.Prelude.{◌≡◌, ◌≢◌, true, IfOk, IfErr};
+ghost use Rattle.std.specs.List.{AllPairs};
 ghost use Rattle.std.specs.Option.{option_map_or};
 ghost use Rattle.std.specs.Str.{bytes_eq};
 ghost use Rattle.plain_tables.specs.declared.refusal.Refusal.TheVariants.{NoSuchTable};
 ghost use Rattle.plain_tables.specs.Databases.{table_named};
 ghost use Rattle.plain_tables.specs.Queries.{fits as fits_so, place_meant};
 ghost use Rattle.mm_catalog.specs.Seen.{database_of};
-ghost use Rattle.mm_catalog.specs.Resolve.{IsScopeOf, columns_of, in_table};
 
 use crate::catalog::Catalog;
+use crate::laws::a_catalog_is_consistent;
 use plain_tables::{Column, Refusal, TableNumber, Text};
 
 /// The table that a command is on, whose columns it can name.
@@ -18,15 +18,19 @@ pub struct Scope<'a> {
     pub table: TableNumber,
     pub name: &'a str,
     pub columns: &'a [Column],
+    ghost apart: { AllPairs (λ c d. c.name ≢ d.name) columns.now },
 }
 
 impl Catalog {
+    ghost use Rattle.mm_catalog.specs.Resolve.{IsScopeOf};
+
     /// What can be named in a command on the table of that name.
     pub(crate) fn scope<'a>(&'a self, name: &Text) -> Result<Scope<'a>, Refusal>
         ensures found { IfOk result (IsScopeOf (database_of self.now) name.now) }
         ensures refused { IfErr result (λ e. e ≡ NoSuchTable) }
         ensures missed { IfErr result (λ _. table_named name.now (database_of self.now) ≡ None) }
     {
+        a_catalog_is_consistent(self);
         let Some(table) = self.table_number(name) else {
             return Err(Refusal::NoSuchTable);
         };
@@ -39,6 +43,8 @@ impl Catalog {
 }
 
 impl<'a> Scope<'a> {
+    ghost use Rattle.mm_catalog.specs.Resolve.{columns_of, in_table};
+
     // Whether the table goes by the name before a column's, if one is written.
     fn is_own(&self, table: &Option<Text>) -> bool
         ensures { result ≡ option_map_or (λ name. bytes_eq name self.now.name.now) table.now true }
@@ -56,34 +62,14 @@ impl<'a> Scope<'a> {
         name.as_bytes() == column.name.as_bytes() && self.is_own(table)
     }
 
-    // The place of the first column that a name fits.
-    fn first_fit(&self, table: &Option<Text>, name: &Text) -> Option<usize>
-        ensures { result ≡ position (λ column. fits_so (record { table = table.now; column = name.now }) (in_table self.now.name.now column)) self.now.columns.now }
-    {
-        self.columns
-            .iter()
-            .position(|column| self.fits(column, table, name))
-    }
-
-    // Whether a name fits one of these columns.
-    fn fits_any(&self, columns: &[Column], table: &Option<Text>, name: &Text) -> bool
-        ensures { result ≡ list_any (λ column. fits_so (record { table = table.now; column = name.now }) (in_table self.now.name.now column)) columns.now }
-    {
-        columns.iter().any(|column| self.fits(column, table, name))
-    }
-
-    /// The place of the column that a name means, where it fits just one.
+    /// The place of the column that a name means, where it fits one. It fits no two, since the columns differ in their names.
     ///
     /// `table` is the name before the column's, if one is written.
     pub fn place(&self, table: &Option<Text>, name: &Text) -> Option<usize>
         ensures { result ≡ place_meant (columns_of self.now) (record { table = table.now; column = name.now }) }
     {
-        let Some(place) = self.first_fit(table, name) else {
-            return None;
-        };
-        if self.fits_any(&self.columns[place + 1..], table, name) {
-            return None;
-        }
-        Some(place)
+        self.columns
+            .iter()
+            .position(|column| self.fits(column, table, name))
     }
 }
