@@ -1,20 +1,20 @@
 -- The place of the column that a name means.
-use Rattle.std.proofs.Common.{◌≡◌, ◌≢◌, get_or, ℕ, suc, ◌+◌, ◌<◌, ◌≤◌, Bool, true, false, cond, eqb, ltb, List, [], ◌∷◌, length, map, drop, Some, None, Option, is_some, refl, sym, ap, ◌∙◌, position, slice_get, arith, inl, inr}
+use Rattle.std.proofs.Common.{◌≡◌, ◌≢◌, get_or, ℕ, suc, ◌≤◌, Bool, true, false, cond, eqb, List, [], ◌∷◌, length, map, Some, None, Option, is_some, refl, sym, ap, ◌∙◌, position, slice_get, arith, inl, inr}
 use Rattle.std.specs.Prelude.{not, ◌||◌}
 use Rattle.std.specs.Option.{option_map_or}
 use Rattle.std.specs.Str.{bytes_eq}
 use Rattle.std.proofs.lemmas.Slice.Eq.{bytes_eq-Decides}
 use Rattle.plain_tables.proofs.ListLemmas.{AllPairs-head, AllPairs-tail}
-use Rattle.std.specs.List.{AllPairs, filter, list_any, position_or_len}
-use Rattle.std.proofs.lemmas.Bool.{eqb-true, ne_eqb, lt-ltb, le-ltb, cases_Bool, and_parts, cases_eq, cases_lt}
+use Rattle.std.specs.List.{AllPairs, filter, list_any}
+use Rattle.std.proofs.lemmas.Bool.{eqb-true, cases_Bool, and_parts}
 use Rattle.std.proofs.lemmas.Bool.Decides.{nat_tests}
 use Rattle.std.proofs.lemmas.List.Folds.{find_at, list_any_none}
 use Rattle.plain_tables.specs.Queries.{JoinedColumn, fits, fits_one, place_meant, column_meant}
 use Rattle.plain_tables.specs.declared.schema.Column.{Column}
 use Rattle.plain_tables.specs.declared.condition.ColName.{ColName}
 use Rattle.mm_catalog.specs.Resolve.{in_table}
-use Rattle.mm_catalog.proofs.Finding.{position-map}
-use Rattle.mm_catalog.proofs.ResolveLists.{position_or_len-position}
+use Rattle.mm_catalog.proofs.Finding.{position-map, is_some-find}
+use Rattle.mm_catalog.proofs.ResolveLists.{position_or_len-position, is_some-found}
 
 -- ---- lists through a map
 
@@ -28,12 +28,6 @@ count-map p f (x ∷ xs) =
 
 -- ---- how many pass
 
-ltb-suc : (m n : ℕ) → ltb (suc m) (suc n) ≡ ltb m n
-ltb-suc m n = elim (cases_lt m n) [
-  | inl l ↦ lt-ltb (suc m) (suc n) (omega arith) ∙ sym (lt-ltb m n l)
-  | inr l ↦ le-ltb (suc m) (suc n) (omega arith) ∙ sym (le-ltb m n l)
-]
-
 count_none : {X : Type 0} (q : X → Bool) (xs : List X) → eqb (length (filter q xs)) 0 ≡ not (list_any q xs)
 count_none q [] = refl
 count_none q (x ∷ xs) =
@@ -42,20 +36,8 @@ count_none q (x ∷ xs) =
       | false ↦ count_none q xs
     ]
 
-some_place : {X : Type 0} (q : X → Bool) (xs : List X) → ltb (position_or_len q xs) (length xs) ≡ list_any q xs
-some_place q [] = grind (arith, nat_tests)
-some_place q (x ∷ xs) =
-    elim (q x) as (λ b. ltb (cond (not b) (1 + position_or_len q xs) 0) (suc (length xs)) ≡ (b || list_any q xs)) [
-      | true ↦ grind (arith, nat_tests)
-      | false ↦ let next : 1 + position_or_len q xs ≡ suc (position_or_len q xs) = omega arith in ap (λ k. ltb k (suc (length xs))) next ∙ ltb-suc (position_or_len q xs) (length xs) ∙ some_place q xs
-    ]
-
-is_some-cond : (b : Bool) (i : ℕ) → is_some (cond b (Some i) None) ≡ b
-is_some-cond true i = refl
-is_some-cond false i = refl
-
 is_some-position : {X : Type 0} (q : X → Bool) (xs : List X) → is_some (position q xs) ≡ list_any q xs
-is_some-position q xs = is_some-cond (ltb (position_or_len q xs) (length xs)) (position_or_len q xs) ∙ some_place q xs
+is_some-position q xs = sym (is_some-found q xs) ∙ is_some-find q xs
 
 one_then_some : {X : Type 0} (q : X → Bool) (xs : List X) → eqb (length (filter q xs)) 1 ≡ true → list_any q xs ≡ true
 one_then_some q xs one = elim (cases_Bool (list_any q xs)) [

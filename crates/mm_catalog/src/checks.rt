@@ -147,7 +147,8 @@ fn shown_columns(shown: &Shown) -> &[ColumnNumber]
 }
 
 impl Catalog {
-    fn refers_elsewhere(&self, columns: &[Column]) -> bool
+    // Whether a column refers to a table that isn't there.
+    fn refers_to_missing(&self, columns: &[Column]) -> bool
         ensures { result ≡ list_any (λ c. not (plain.refers_into (database_of self.now) c)) columns.now }
     {
         columns.iter().any(|column| !self.refers_into(column))
@@ -172,7 +173,7 @@ impl Catalog {
         ensures { result ≡ verdict (resolving.table_checks (database_of self.now) name.now schema.now) }
     {
         let columns = schema.columns.as_slice();
-        if self.refers_elsewhere(columns) {
+        if self.refers_to_missing(columns) {
             return Err(Refusal::NoSuchTable);
         }
         if self.has_table(name) {
