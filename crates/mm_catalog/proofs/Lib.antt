@@ -33,3 +33,8 @@ pub mod Bounded
 pub mod Checked
 pub mod Taking
 pub mod Inserted
+pub mod ResolveLists
+pub mod ResolveTables
+pub mod ResolveColumns
+pub mod ResolveNamed
+pub mod ResolveCommands

@@ -12,3 +12,5 @@ pub mod Dropped
 pub mod Raised
 pub mod Cells
 pub mod Inserted
+pub mod Resolve
+pub mod ResolveChecks

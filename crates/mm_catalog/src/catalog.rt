@@ -1,5 +1,5 @@
 //! The tables, and what they are called.
-ghost use Rattle.std.specs.Prelude.{◌≡◌, ◌≢◌, ◌<◌, ◌≤◌, Bool, [], Some, IfErr, OnOk, OnErr, length, slice_get};
+ghost use Rattle.std.specs.Prelude.{◌≡◌, ◌≢◌, ◌<◌, ◌≤◌, Bool, [], Some, IfErr, OnOk, OnErr, length, position, slice_get};
 ghost use Rattle.std.specs.List.{AllPairs};
 ghost use Rattle.std.specs.Option.{option_map};
 
@@ -13,7 +13,7 @@ use mm_relation::{Relation, Relations};
 use no_memory::NoMemory;
 use part_raw::TupleRef;
 use plain_tables::{
-    ColumnNumber, IndexKind, Limits, Refusal, Schema, Sequence, TableNumber, Text, Value,
+    Column, ColumnNumber, IndexKind, Limits, Refusal, Schema, Sequence, TableNumber, Text, Value,
 };
 use std::alloc::Global;
 use std::marker::Model;
@@ -53,6 +53,8 @@ impl Catalog {
     ghost use Rattle.plain_tables.specs.Tables.{Row};
     ghost use Rattle.mm_catalog.specs.Changes.{IsDone, HasEffect, IsRefusedFor};
     ghost use Rattle.mm_catalog.specs.Picked.{ArePicked, HoldsRows};
+    ghost use Rattle.plain_tables.specs.Databases.{is_named};
+    ghost use Rattle.mm_catalog.specs.Resolve.{table_number};
 
     /// A catalog of no tables, under these limits. It takes no memory.
     pub fn new(alloc: Global, limits: Limits) -> Catalog
@@ -87,6 +89,22 @@ impl Catalog {
         ensures { option_map (λ t. t.name) (slice_get (database_of self.now) table.0) ≡ Some result.now }
     {
         self.names.as_slice()[table.0].as_str()
+    }
+
+    /// The columns of a table.
+    pub(crate) fn columns(&self, table: TableNumber) -> &[Column]
+        requires { table.0 < length (database_of self.now) }
+        ensures { option_map (λ t. t.columns) (slice_get (database_of self.now) table.0) ≡ Some result.now }
+    {
+        self.relations[table.0].schema().columns.as_slice()
+    }
+
+    /// The number of the table of that name.
+    pub(crate) fn table_number(&self, name: &Text) -> Option<TableNumber>
+        ensures { result ≡ option_map table_number (position (is_named name.now) (database_of self.now)) }
+    {
+        let number = self.names.get_index_of(name.as_str())?;
+        Some(TableNumber(number))
     }
 
     /// Declares a table, which stands last. Its links lead into the tables that its columns refer to.

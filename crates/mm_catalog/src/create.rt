@@ -14,7 +14,7 @@ use plain_tables::{ColKind, Column, ColumnNumber, Schema, TableNumber, Text};
 use std::alloc::Global;
 
 // The name of the table that a column refers to.
-fn referred(column: &Column) -> Option<&Text>
+pub fn referred(column: &Column) -> Option<&Text>
     ensures { option_copied result ≡ plain.referred column.now.kind }
 {
     match &column.kind {

@@ -6,7 +6,8 @@
 //! ```
 //!
 //! A catalog is the one type that is seen as a database of plain tables. Each call says by the definitions of
-//! plain_tables what it does to that database, and asks that its command be one of it.
+//! plain_tables what it does to that database, and asks that its command be one of it. `Catalog::resolve` makes such a
+//! command of one by names, or tells why it is refused.
 //!
 //! It does not care how a relation keeps its rows and indexes, how a command is spelled, nor what it answers.
 //!
@@ -19,13 +20,18 @@
 mod before;
 mod catalog;
 mod cells;
+mod checks;
 mod create;
 mod declare;
 mod delete;
 mod insert;
 pub mod laws;
 mod lowering;
+mod named;
 mod referrers;
 mod removal;
+mod resolve;
+mod scope;
+mod types;
 
 pub use catalog::Catalog;

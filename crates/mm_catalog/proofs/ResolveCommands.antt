@@ -1,0 +1,230 @@
+-- What a command means once the names in it are found and its checks are made.
+use Rattle.std.proofs.Common.{◌≡◌, ℕ, Bool, true, false, cond, List, [], ◌∷◌, ◌++◌, length, map, refl, sym, ap, ◌∙◌, append-nil}
+use Rattle.std.specs.Prelude.{Result, Ok, Err, ◌||◌, ◌==◌, nat_lt}
+use Rattle.std.specs.List.{list_any}
+use Rattle.std.specs.Option.{option_map_or}
+use Rattle.std.specs.Str.{bytes_eq}
+use Rattle.std.proofs.lemmas.List.Folds.{list_any-append}
+use Rattle.plain_tables.specs.Tables.{Table, Row}
+use Rattle.plain_tables.specs.Databases.{Database}
+use Rattle.plain_tables.specs.Queries.{JoinedColumn, places_meant, named_items}
+use Rattle.plain_tables.specs.Effects.{Check, misses, repeats, condition_names, setting_name, is_long}
+use Rattle.plain_tables.specs.Resolving.{meaning, on_numbered, number_of, own_columns, resolved_of, tests_of, assignments_of, shown_of, mistypes, is_mistyped, insert_checks}
+use Rattle.plain_tables.specs.declared.schema.Column.{Column}
+use Rattle.plain_tables.specs.declared.condition.Cond.{Cond}
+use Rattle.plain_tables.specs.declared.condition.ColName.{ColName}
+use Rattle.plain_tables.specs.declared.command.Items.{Items}
+use Rattle.plain_tables.specs.declared.command.Setting.{Setting}
+use Rattle.plain_tables.specs.declared.command.Command.TheVariants as command
+use Rattle.plain_tables.specs.declared.numbers.TableNumber.{TableNumber}
+use Rattle.plain_tables.specs.declared.refusal.Refusal.{Refusal}
+use Rattle.plain_tables.specs.declared.refusal.Refusal.TheVariants.{NoSuchTable, NoSuchColumn, ColumnNamedTwice, TooMany, WrongType, KeyCannotBeSet, TextTooLong}
+use Rattle.plain_tables.specs.declared.resolved.Resolved.{Resolved}
+use Rattle.plain_tables.specs.declared.resolved.Resolved.TheVariants as resolved
+use Rattle.mm_catalog.specs.declared.scope.Scope.{Scope}
+use Rattle.mm_catalog.specs.Resolve.{IsScopeOf, columns_of, in_table, shown_places}
+use Rattle.mm_catalog.specs.ResolveChecks.{verdict, row_checks, delete_rest, select_rest, update_rest}
+use Rattle.mm_catalog.proofs.ResolveNamed.{tests_mistyped, length-tests, assignments_mistyped, long_set, key_set, shown_places-are, length-shown}
+
+-- ---- checks
+
+pub meaning_ok : (checks : List Check) (r : Resolved) → verdict checks ≡ Ok tt → meaning checks r ≡ Ok r
+meaning_ok [] r h = refl
+meaning_ok (check ∷ checks) r h =
+    elim (check.refuses) as (λ b. cond b (Err check.refusal) (verdict checks) ≡ Ok tt → cond b (Err check.refusal) (meaning checks r) ≡ Ok r) [
+      | true ↦ λ e. cc
+      | false ↦ λ e. meaning_ok checks r e
+    ] h
+
+pub meaning_err : (checks : List Check) (r : Resolved) (refusal : Refusal) → verdict checks ≡ Err refusal → meaning checks r ≡ Err refusal
+meaning_err [] r refusal h = cc
+meaning_err (check ∷ checks) r refusal h =
+    elim (check.refuses) as (λ b. cond b (Err check.refusal) (verdict checks) ≡ Err refusal → cond b (Err check.refusal) (meaning checks r) ≡ Err refusal) [
+      | true ↦ λ e. let same : check.refusal ≡ refusal = cc in ap (λ x. Err x) same
+      | false ↦ λ e. meaning_err checks r refusal e
+    ] h
+
+-- ---- names
+
+misses-append : (columns : List JoinedColumn) (names others : List ColName) → misses columns (names ++ others) ≡ (misses columns names || misses columns others)
+misses-append columns names others = list_any-append _ names others
+
+-- one that is missed is missed among more
+first_missed : (columns : List JoinedColumn) (names others : List ColName) → misses columns names ≡ true → misses columns (names ++ others) ≡ true
+first_missed columns names others h = misses-append columns names others ∙ ap (λ b. b || misses columns others) h
+
+rest_missed : (columns : List JoinedColumn) (names others : List ColName) (b : Bool) → misses columns names ≡ false → misses columns others ≡ b → misses columns (names ++ others) ≡ b
+rest_missed columns names others b h rest = misses-append columns names others ∙ ap (λ a. a || misses columns others) h ∙ rest
+
+-- ---- the scope of a command
+
+module _ (tables : Database) (name : List ℕ) (scope : Scope) (h : IsScopeOf tables name scope) where
+  in_scope : (means : TableNumber → Table → Result Resolved Refusal) → on_numbered name tables means ≡ means scope.table h.table
+  in_scope means = ap (λ o. option_map_or (means (number_of name tables)) o (Err NoSuchTable)) h.found ∙ ap (λ n. means n h.table) h.number
+
+  own_columns-are : own_columns h.table ≡ columns_of scope
+  own_columns-are =
+      append-nil (map (in_table h.table.name) h.table.columns) ∙ ap (λ own. map (in_table own) h.table.columns) h.called ∙ ap (map (in_table scope.name.now)) h.columns
+
+  abbrev columns : List JoinedColumn
+  columns = columns_of scope
+
+  -- ---- insert
+
+  module _ (row : Row) where
+    insert_is : resolved_of tables (command.Insert name row) ≡ meaning (row_checks tables scope.columns.now row) (resolved.Insert scope.table row)
+    insert_is =
+        in_scope (λ n table. meaning (insert_checks tables table row) (resolved.Insert n row))
+        ∙ ap (λ (cs : List Column). meaning (row_checks tables cs row) (resolved.Insert scope.table row)) h.columns
+
+    pub insert_meant : verdict (row_checks tables scope.columns.now row) ≡ Ok tt → resolved_of tables (command.Insert name row) ≡ Ok (resolved.Insert scope.table row)
+    insert_meant ok = insert_is ∙ meaning_ok (row_checks tables scope.columns.now row) (resolved.Insert scope.table row) ok
+
+    pub insert_refused : (e : Refusal) → verdict (row_checks tables scope.columns.now row) ≡ Err e → resolved_of tables (command.Insert name row) ≡ Err e
+    insert_refused e err = insert_is ∙ meaning_err (row_checks tables scope.columns.now row) (resolved.Insert scope.table row) e err
+
+  -- ---- delete
+
+  module _ (conditions : List Cond) where
+    abbrev delete_on : List JoinedColumn → List Check
+    delete_on cs =
+        record { refuses = misses cs (condition_names conditions); refusal = NoSuchColumn }
+        ∷ record { refuses = list_any (is_mistyped tables cs) conditions; refusal = WrongType }
+        ∷ record { refuses = nat_lt 8 (length conditions); refusal = TooMany }
+        ∷ []
+
+    delete_is : resolved_of tables (command.Delete name conditions) ≡ meaning (delete_on columns) (resolved.Delete scope.table (tests_of columns conditions))
+    delete_is =
+        in_scope (λ n table. meaning (delete_on (own_columns table)) (resolved.Delete n (tests_of (own_columns table) conditions)))
+        ∙ ap (λ cs. meaning (delete_on cs) (resolved.Delete scope.table (tests_of cs conditions))) own_columns-are
+
+    delete_named : misses columns (condition_names conditions) ≡ false → verdict (delete_on columns) ≡ verdict (delete_rest tables scope.columns.now (tests_of columns conditions))
+    delete_named named =
+        rw (named, tests_mistyped tables scope.name.now scope.columns.now conditions named, sym (length-tests columns conditions named)) refl
+
+    pub delete_missed : misses columns (condition_names conditions) ≡ true → resolved_of tables (command.Delete name conditions) ≡ Err NoSuchColumn
+    delete_missed missed = delete_is ∙ rw missed refl
+
+    pub delete_meant : misses columns (condition_names conditions) ≡ false → verdict (delete_rest tables scope.columns.now (tests_of columns conditions)) ≡ Ok tt
+        → resolved_of tables (command.Delete name conditions) ≡ Ok (resolved.Delete scope.table (tests_of columns conditions))
+    delete_meant named ok = delete_is ∙ meaning_ok (delete_on columns) (resolved.Delete scope.table (tests_of columns conditions)) (delete_named named ∙ ok)
+
+    pub delete_refused : misses columns (condition_names conditions) ≡ false → (e : Refusal) → verdict (delete_rest tables scope.columns.now (tests_of columns conditions)) ≡ Err e
+        → resolved_of tables (command.Delete name conditions) ≡ Err e
+    delete_refused named e err = delete_is ∙ meaning_err (delete_on columns) (resolved.Delete scope.table (tests_of columns conditions)) e (delete_named named ∙ err)
+
+  -- ---- select
+
+  module _ (its : Items) (conditions : List Cond) where
+    abbrev select_names : List ColName
+    select_names = named_items its ++ condition_names conditions
+
+    abbrev select_on : List JoinedColumn → List Check
+    select_on cs =
+        record { refuses = misses cs select_names; refusal = NoSuchColumn }
+        ∷ record { refuses = repeats (λ p q. p == q) (places_meant cs (named_items its)); refusal = ColumnNamedTwice }
+        ∷ record { refuses = list_any (is_mistyped tables cs) conditions; refusal = WrongType }
+        ∷ record { refuses = nat_lt 16 (length (named_items its)) || nat_lt 8 (length conditions); refusal = TooMany }
+        ∷ []
+
+    abbrev selection : Resolved
+    selection = resolved.Select (shown_of columns its) scope.table (tests_of columns conditions)
+
+    select_is : resolved_of tables (command.Select its name conditions) ≡ meaning (select_on columns) selection
+    select_is =
+        in_scope (λ n table. meaning (select_on (own_columns table)) (resolved.Select (shown_of (own_columns table) its) n (tests_of (own_columns table) conditions)))
+        ∙ ap (λ cs. meaning (select_on cs) (resolved.Select (shown_of cs its) scope.table (tests_of cs conditions))) own_columns-are
+
+    select_missed : misses columns select_names ≡ true → resolved_of tables (command.Select its name conditions) ≡ Err NoSuchColumn
+    select_missed missed = select_is ∙ rw missed refl
+
+    pub items_missed : misses columns (named_items its) ≡ true → resolved_of tables (command.Select its name conditions) ≡ Err NoSuchColumn
+    items_missed missed = select_missed (first_missed columns (named_items its) (condition_names conditions) missed)
+
+    module _ (items_named : misses columns (named_items its) ≡ false) where
+      pub conditions_missed : misses columns (condition_names conditions) ≡ true → resolved_of tables (command.Select its name conditions) ≡ Err NoSuchColumn
+      conditions_missed missed = select_missed (rest_missed columns (named_items its) (condition_names conditions) true items_named missed)
+
+      module _ (named : misses columns (condition_names conditions) ≡ false) where
+        many_items : length (named_items its) ≡ length (shown_places (shown_of columns its))
+        many_items = sym (ap length (shown_places-are columns its) ∙ length-shown columns its items_named)
+
+        select_named : verdict (select_on columns) ≡ verdict (select_rest tables scope.columns.now (shown_of columns its) (tests_of columns conditions))
+        select_named =
+            rw (
+              rest_missed columns (named_items its) (condition_names conditions) false items_named named,
+              sym (shown_places-are columns its),
+              tests_mistyped tables scope.name.now scope.columns.now conditions named,
+              many_items,
+              sym (length-tests columns conditions named),
+            ) refl
+
+        pub select_meant : verdict (select_rest tables scope.columns.now (shown_of columns its) (tests_of columns conditions)) ≡ Ok tt
+            → resolved_of tables (command.Select its name conditions) ≡ Ok selection
+        select_meant ok = select_is ∙ meaning_ok (select_on columns) selection (select_named ∙ ok)
+
+        pub select_refused : (e : Refusal) → verdict (select_rest tables scope.columns.now (shown_of columns its) (tests_of columns conditions)) ≡ Err e
+            → resolved_of tables (command.Select its name conditions) ≡ Err e
+        select_refused e err = select_is ∙ meaning_err (select_on columns) selection e (select_named ∙ err)
+
+  -- ---- update
+
+  module _ (settings : List Setting) (conditions : List Cond) where
+    abbrev update_names : List ColName
+    update_names = map setting_name settings ++ condition_names conditions
+
+    abbrev update_on : List JoinedColumn → List Check
+    update_on cs =
+        record { refuses = misses cs update_names; refusal = NoSuchColumn }
+        ∷ record { refuses = repeats bytes_eq (map (λ s. s.column) settings); refusal = ColumnNamedTwice }
+        ∷ record { refuses = list_any (λ s. mistypes tables cs (setting_name s) s.value) settings || list_any (is_mistyped tables cs) conditions; refusal = WrongType }
+        ∷ record { refuses = list_any (λ s. is_long s.value) settings; refusal = TextTooLong }
+        ∷ record { refuses = list_any (λ place. place == 0) (places_meant cs (map setting_name settings)); refusal = KeyCannotBeSet }
+        ∷ record { refuses = nat_lt 8 (length conditions); refusal = TooMany }
+        ∷ []
+
+    abbrev change : Resolved
+    change = resolved.Update scope.table (assignments_of columns settings) (tests_of columns conditions)
+
+    update_is : resolved_of tables (command.Update name settings conditions) ≡ meaning (update_on columns) change
+    update_is =
+        in_scope (λ n table. meaning (update_on (own_columns table)) (resolved.Update n (assignments_of (own_columns table) settings) (tests_of (own_columns table) conditions)))
+        ∙ ap (λ cs. meaning (update_on cs) (resolved.Update scope.table (assignments_of cs settings) (tests_of cs conditions))) own_columns-are
+
+    update_missed : misses columns update_names ≡ true → resolved_of tables (command.Update name settings conditions) ≡ Err NoSuchColumn
+    update_missed missed = update_is ∙ rw missed refl
+
+    pub settings_missed : misses columns (map setting_name settings) ≡ true → resolved_of tables (command.Update name settings conditions) ≡ Err NoSuchColumn
+    settings_missed missed = update_missed (first_missed columns (map setting_name settings) (condition_names conditions) missed)
+
+    module _ (settings_named : misses columns (map setting_name settings) ≡ false) where
+      pub tests_missed : misses columns (condition_names conditions) ≡ true → resolved_of tables (command.Update name settings conditions) ≡ Err NoSuchColumn
+      tests_missed missed = update_missed (rest_missed columns (map setting_name settings) (condition_names conditions) true settings_named missed)
+
+      module _ (named : misses columns (condition_names conditions) ≡ false) where
+        all_named : misses columns update_names ≡ false
+        all_named = rest_missed columns (map setting_name settings) (condition_names conditions) false settings_named named
+
+        pub set_twice : repeats bytes_eq (map (λ s. s.column) settings) ≡ true → resolved_of tables (command.Update name settings conditions) ≡ Err ColumnNamedTwice
+        set_twice twice = update_is ∙ rw (all_named, twice) refl
+
+        module _ (once : repeats bytes_eq (map (λ s. s.column) settings) ≡ false) where
+          update_named : verdict (update_on columns) ≡ verdict (update_rest tables scope.columns.now (assignments_of columns settings) (tests_of columns conditions))
+          update_named =
+              rw (
+                all_named,
+                once,
+                assignments_mistyped tables scope.name.now scope.columns.now settings settings_named,
+                tests_mistyped tables scope.name.now scope.columns.now conditions named,
+                long_set columns settings settings_named,
+                key_set columns settings,
+                sym (length-tests columns conditions named),
+              ) refl
+
+          pub update_meant : verdict (update_rest tables scope.columns.now (assignments_of columns settings) (tests_of columns conditions)) ≡ Ok tt
+              → resolved_of tables (command.Update name settings conditions) ≡ Ok change
+          update_meant ok = update_is ∙ meaning_ok (update_on columns) change (update_named ∙ ok)
+
+          pub update_refused : (e : Refusal) → verdict (update_rest tables scope.columns.now (assignments_of columns settings) (tests_of columns conditions)) ≡ Err e
+              → resolved_of tables (command.Update name settings conditions) ≡ Err e
+          update_refused e err = update_is ∙ meaning_err (update_on columns) change e (update_named ∙ err)

@@ -1,0 +1,77 @@
+-- Tables by their names.
+use Rattle.std.proofs.Common.{◌≡◌, ◌≢◌, subst, ℕ, ◌<◌, List, length, Some, None, is_some, sym, ap, ◌∙◌, position, slice_get, arith}
+use Rattle.std.specs.List.{AllPairs, zip}
+use Rattle.std.specs.Option.{option_map, option_and_then}
+use Rattle.std.specs.Str.{bytes_eq}
+use Rattle.std.proofs.lemmas.Option.{slice_get_within, same_Some}
+use Rattle.std.proofs.lemmas.Slice.Zip.{firsts-zip}
+use Rattle.plain_tables.specs.Tables.{Table}
+use Rattle.plain_tables.specs.Databases.{Database, is_named, table_named}
+use Rattle.plain_tables.specs.declared.numbers.TableNumber.{TableNumber}
+use Rattle.plain_tables.specs.declared.schema.Column.{Column}
+use Rattle.plain_tables.specs.References.{key_type, own_type, IsSoundTable}
+use Rattle.mm_relation.specs.State.{RelationState}
+use Rattle.mm_catalog.specs.State.{CatalogState}
+use Rattle.mm_catalog.specs.Consistent.{IsConsistent}
+use Rattle.mm_catalog.specs.Seen.{database_of, table_of}
+use Rattle.mm_catalog.specs.Resolve.{IsScopeOf, table_number}
+use Rattle.mm_catalog.specs.declared.scope.Scope.{Scope}
+use Rattle.mm_catalog.proofs.Finding.{position-map}
+use Rattle.mm_catalog.proofs.Lists.{get_within, All-get}
+use Rattle.mm_catalog.proofs.Tables.{database-get}
+use Rattle.mm_catalog.proofs.ResolveLists.{position_or_len-position, position-within, found_at, none_found, is_some-found, is_some-map, option_map-Some, option_map-None}
+
+-- a table has the name that its number has
+pub named_position : (c : CatalogState) (name : List ℕ) → length c.names ≡ length c.relations → position (is_named name) (database_of c) ≡ position (λ n. bytes_eq n name) c.names
+unfolding database_of table_of
+named_position c name named =
+    position-map (is_named name) (λ (t : List ℕ × RelationState). table_of c.relations t.0 t.1) (zip c.names c.relations)
+    ∙ sym (position-map (λ n. bytes_eq n name) (λ (t : List ℕ × RelationState). t.0) (zip c.names c.relations))
+    ∙ ap (position (λ n. bytes_eq n name)) (firsts-zip c.names c.relations (sym named))
+
+module _ (tables : Database) (name : List ℕ) where
+  -- the table of that name is there
+  named_there : (n : ℕ) → position (is_named name) tables ≡ Some n → (table : Table) × (table_named name tables ≡ Some table) × (slice_get tables n ≡ Some table)
+  named_there n h =
+      let there = get_within tables n (position-within (is_named name) tables n h) in
+      (there.0, found_at (is_named name) tables n h ∙ there.1, there.1)
+
+  pub scope_there : (scope : Scope) → option_map table_number (position (is_named name) tables) ≡ Some scope.table
+      → option_map (λ (t : Table). t.name) (slice_get tables scope.table.0) ≡ Some scope.name.now
+      → option_map (λ (t : Table). t.columns) (slice_get tables scope.table.0) ≡ Some scope.columns.now → IsScopeOf tables name scope
+  scope_there scope h called columns =
+      let found = option_map-Some table_number (position (is_named name) tables) scope.table h in
+      let there = named_there found.0 found.1 in
+      let at : slice_get tables scope.table.0 ≡ Some there.0 = ap (λ (t : TableNumber). slice_get tables t.0) (sym found.2) ∙ there.2 in
+      record {
+        table = there.0;
+        found = there.1;
+        number = ap table_number (position_or_len-position (is_named name) tables found.0 found.1) ∙ found.2;
+        called = same_Some there.0.name scope.name.now (ap (option_map (λ (t : Table). t.name)) (sym at) ∙ called);
+        columns = same_Some there.0.columns scope.columns.now (ap (option_map (λ (t : Table). t.columns)) (sym at) ∙ columns);
+      }
+
+  pub named_none : option_map table_number (position (is_named name) tables) ≡ None → table_named name tables ≡ None
+  named_none h = none_found (is_named name) tables (option_map-None table_number (position (is_named name) tables) h)
+
+  pub is_named_there : is_some (option_map table_number (position (is_named name) tables)) ≡ is_some (table_named name tables)
+  is_named_there = is_some-map table_number (position (is_named name) tables) ∙ sym (is_some-found (is_named name) tables)
+
+-- a table has the columns of its relation
+pub database-columns : (c : CatalogState) → length c.names ≡ length c.relations → (n : ℕ) (s : RelationState) → slice_get c.relations n ≡ Some s → option_map (λ (t : Table). t.columns) (slice_get (database_of c) n) ≡ Some s.schema.columns
+unfolding table_of
+database-columns c named n s e =
+    let within : n < length c.names = omega (arith, named, slice_get_within c.relations n s e) in
+    let name = get_within c.names n within in
+    ap (option_map (λ (t : Table). t.columns)) (database-get c named n name.0 s name.1 e)
+
+-- the type of the keys of the table of that name is its first column's
+pub key_of : (tables : Database) (name : List ℕ) (table : TableNumber) (columns : List Column) → option_map table_number (position (is_named name) tables) ≡ Some table
+    → option_map (λ (t : Table). t.columns) (slice_get tables table.0) ≡ Some columns
+    → option_and_then key_type (table_named name tables) ≡ option_and_then (λ c. own_type c.kind) (slice_get columns 0)
+key_of tables name table columns h e =
+    let found = option_map-Some table_number (position (is_named name) tables) table h in
+    let there = named_there tables name found.0 found.1 in
+    let at : slice_get tables table.0 ≡ Some there.0 = ap (λ (t : TableNumber). slice_get tables t.0) (sym found.2) ∙ there.2 in
+    ap (option_and_then key_type) there.1
+    ∙ ap (λ cs. option_and_then (λ c. own_type c.kind) (slice_get cs 0)) (same_Some there.0.columns columns (ap (option_map (λ (t : Table). t.columns)) (sym at) ∙ e))

@@ -1,0 +1,112 @@
+//! Commands by the numbers of tables and columns.
+ghost use Rattle.std.specs.Prelude.{◌≡◌, ◌≢◌, Ok, Err, IfOk, IfErr};
+ghost use Rattle.plain_tables.specs.declared.refusal.Refusal.TheVariants as refusal;
+ghost use Rattle.plain_tables.specs.declared.command.Command.TheVariants as command;
+ghost use Rattle.plain_tables.specs.Resolving.{resolved_of};
+ghost use Rattle.mm_catalog.specs.Seen.{database_of};
+
+use crate::catalog::Catalog;
+use crate::checks::repeats_setting;
+use plain_tables::{
+    Command, Cond, Items, Refusal, Resolved, Schema, Sequence, Setting, Text, Value,
+};
+
+impl Catalog {
+    /// What a command means of these tables, with numbers in the place of names. It is refused where a check that needs no
+    /// row refuses it, by the first that does, or where there is no memory.
+    pub fn resolve(&self, command: Command) -> Result<Resolved, Refusal>
+        ensures meant { IfOk result (λ r. resolved_of (database_of self.now) command ≡ Ok r) }
+        ensures refused { IfErr result (λ e. e ≢ refusal.NoMemory → resolved_of (database_of self.now) command ≡ Err e) }
+    {
+        match command {
+            Command::Table { name, schema } => self.resolve_table(name, schema),
+            Command::Insert { table, values } => self.resolve_insert(table, values),
+            Command::Update {
+                table,
+                settings,
+                conditions,
+            } => self.resolve_update(table, settings, conditions),
+            Command::Delete { table, conditions } => self.resolve_delete(table, conditions),
+            Command::Select {
+                items,
+                table,
+                conditions,
+            } => self.resolve_select(items, table, conditions),
+        }
+    }
+
+    fn resolve_table(&self, name: Text, schema: Schema) -> Result<Resolved, Refusal>
+        ensures { result ≡ resolved_of (database_of self.now) (command.Table name schema) }
+    {
+        self.check_table(&name, &schema)?;
+        Ok(Resolved::Table { name, schema })
+    }
+
+    fn resolve_insert(&self, table: Text, values: Sequence<Value>) -> Result<Resolved, Refusal>
+        ensures { result ≡ resolved_of (database_of self.now) (command.Insert table values) }
+    {
+        let scope = self.scope(&table)?;
+        self.check_row(scope.columns, values.as_slice())?;
+        Ok(Resolved::Insert {
+            table: scope.table,
+            values,
+        })
+    }
+
+    fn resolve_update(
+        &self,
+        table: Text,
+        settings: Sequence<Setting>,
+        conditions: Sequence<Cond>,
+    ) -> Result<Resolved, Refusal>
+        ensures meant { IfOk result (λ r. resolved_of (database_of self.now) (command.Update table settings conditions) ≡ Ok r) }
+        ensures refused { IfErr result (λ e. e ≢ refusal.NoMemory → resolved_of (database_of self.now) (command.Update table settings conditions) ≡ Err e) }
+    {
+        let scope = self.scope(&table)?;
+        let repeated = repeats_setting(settings.as_slice());
+        let assignments = scope.assignments(settings)?;
+        let tests = scope.tests(conditions)?;
+        if repeated {
+            return Err(Refusal::ColumnNamedTwice);
+        }
+        self.check_update(scope.columns, assignments.as_slice(), tests.as_slice())?;
+        Ok(Resolved::Update {
+            table: scope.table,
+            assignments,
+            tests,
+        })
+    }
+
+    fn resolve_delete(&self, table: Text, conditions: Sequence<Cond>) -> Result<Resolved, Refusal>
+        ensures meant { IfOk result (λ r. resolved_of (database_of self.now) (command.Delete table conditions) ≡ Ok r) }
+        ensures refused { IfErr result (λ e. e ≢ refusal.NoMemory → resolved_of (database_of self.now) (command.Delete table conditions) ≡ Err e) }
+    {
+        let scope = self.scope(&table)?;
+        let tests = scope.tests(conditions)?;
+        self.check_delete(scope.columns, tests.as_slice())?;
+        Ok(Resolved::Delete {
+            table: scope.table,
+            tests,
+        })
+    }
+
+    fn resolve_select(
+        &self,
+        items: Items,
+        table: Text,
+        conditions: Sequence<Cond>,
+    ) -> Result<Resolved, Refusal>
+        ensures meant { IfOk result (λ r. resolved_of (database_of self.now) (command.Select items table conditions) ≡ Ok r) }
+        ensures refused { IfErr result (λ e. e ≢ refusal.NoMemory → resolved_of (database_of self.now) (command.Select items table conditions) ≡ Err e) }
+    {
+        let scope = self.scope(&table)?;
+        let shown = scope.shown(items)?;
+        let tests = scope.tests(conditions)?;
+        self.check_select(scope.columns, &shown, tests.as_slice())?;
+        Ok(Resolved::Select {
+            shown,
+            table: scope.table,
+            tests,
+        })
+    }
+}
