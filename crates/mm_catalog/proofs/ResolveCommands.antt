@@ -1,29 +1,35 @@
 -- What a command means once the names in it are found and its checks are made.
-use Rattle.std.proofs.Common.{◌≡◌, ℕ, Bool, true, false, cond, List, [], ◌∷◌, ◌++◌, length, map, refl, sym, ap, ◌∙◌, append-nil}
-use Rattle.std.specs.Prelude.{Result, Ok, Err, ◌||◌, ◌==◌, nat_lt}
+use Rattle.std.proofs.Common.{◌≡◌, ℕ, Bool, true, false, cond, List, [], ◌∷◌, ◌++◌, Some, None, length, map, refl, sym, ap, ◌∙◌, append-nil}
+use Rattle.std.specs.Prelude.{Result, Ok, Err, not, ◌||◌, ◌==◌, nat_lt}
 use Rattle.std.specs.List.{list_any}
 use Rattle.std.specs.Option.{option_map_or}
 use Rattle.std.specs.Str.{bytes_eq}
 use Rattle.std.proofs.lemmas.List.Folds.{list_any-append}
 use Rattle.plain_tables.specs.Tables.{Table, Row}
 use Rattle.plain_tables.specs.Databases.{Database}
-use Rattle.plain_tables.specs.Queries.{JoinedColumn, places_meant, named_items}
+use Rattle.plain_tables.specs.Queries.{JoinedColumn, place_meant, places_meant, named_items}
 use Rattle.plain_tables.specs.Effects.{Check, misses, repeats, condition_names, setting_name, is_long}
-use Rattle.plain_tables.specs.Resolving.{meaning, on_numbered, number_of, own_columns, resolved_of, tests_of, assignments_of, shown_of, mistypes, is_mistyped, insert_checks}
+use Rattle.plain_tables.specs.Resolving.{meaning, on_numbered, on_column, column_number, drop_checks, index_checks, drop_index_checks, number_of, own_columns, resolved_of, tests_of, assignments_of, shown_of, mistypes, is_mistyped, insert_checks}
+use Rattle.plain_tables.specs.References.{is_table_referenced, is_index}
 use Rattle.plain_tables.specs.declared.schema.Column.{Column}
+use Rattle.plain_tables.specs.declared.schema.IndexKind.{IndexKind}
+use Rattle.plain_tables.specs.declared.schema.IndexKind.TheVariants as index
 use Rattle.plain_tables.specs.declared.condition.Cond.{Cond}
 use Rattle.plain_tables.specs.declared.condition.ColName.{ColName}
 use Rattle.plain_tables.specs.declared.command.Items.{Items}
 use Rattle.plain_tables.specs.declared.command.Setting.{Setting}
 use Rattle.plain_tables.specs.declared.command.Command.TheVariants as command
+use Rattle.plain_tables.specs.declared.numbers.ColumnNumber.{ColumnNumber}
 use Rattle.plain_tables.specs.declared.numbers.TableNumber.{TableNumber}
 use Rattle.plain_tables.specs.declared.refusal.Refusal.{Refusal}
-use Rattle.plain_tables.specs.declared.refusal.Refusal.TheVariants.{NoSuchTable, NoSuchColumn, ColumnNamedTwice, TooMany, WrongType, KeyCannotBeSet, TextTooLong}
+use Rattle.plain_tables.specs.declared.refusal.Refusal.TheVariants.{NoSuchTable, NoSuchColumn, NoSuchIndex, IndexExists, TableIsReferenced, ColumnNamedTwice, TooMany, WrongType, KeyCannotBeSet, TextTooLong}
 use Rattle.plain_tables.specs.declared.resolved.Resolved.{Resolved}
 use Rattle.plain_tables.specs.declared.resolved.Resolved.TheVariants as resolved
 use Rattle.mm_catalog.specs.declared.scope.Scope.{Scope}
-use Rattle.mm_catalog.specs.Resolve.{IsScopeOf, columns_of, in_table, shown_places}
+use Rattle.mm_catalog.specs.Seen.{plain_index}
+use Rattle.mm_catalog.specs.Resolve.{IsScopeOf, bare, columns_of, in_table, shown_places}
 use Rattle.mm_catalog.specs.ResolveChecks.{verdict, row_checks, delete_rest, select_rest, update_rest}
+use Rattle.mm_catalog.proofs.Finding.{list_any-map}
 use Rattle.mm_catalog.proofs.ResolveNamed.{tests_mistyped, length-tests, assignments_mistyped, long_set, key_set, shown_places-are, length-shown}
 
 -- ---- checks
@@ -68,6 +74,61 @@ module _ (tables : Database) (name : List ℕ) (scope : Scope) (h : IsScopeOf ta
 
   abbrev columns : List JoinedColumn
   columns = columns_of scope
+
+  -- ---- drop table
+
+  pub drop_is : resolved_of tables (command.DropTable name) ≡ meaning (record { refuses = is_table_referenced tables scope.name.now; refusal = TableIsReferenced } ∷ []) (resolved.DropTable scope.table)
+  drop_is =
+      in_scope (λ n table. meaning (drop_checks tables table) (resolved.DropTable n))
+      ∙ ap (λ (own : List ℕ). meaning (record { refuses = is_table_referenced tables own; refusal = TableIsReferenced } ∷ []) (resolved.DropTable scope.table)) h.called
+
+  -- ---- index and drop index
+
+  module _ (column : List ℕ) (k : IndexKind) where
+    abbrev declared : List (ℕ × IndexKind)
+    declared = map plain_index scope.declared.now
+
+    abbrev index_on : List (ℕ × IndexKind) → ℕ → Result Resolved Refusal
+    index_on own place =
+        meaning (record { refuses = list_any (is_index (column_number place) k) ((0, index.Tree) ∷ own); refusal = IndexExists } ∷ []) (resolved.Index scope.table (column_number place) k)
+
+    abbrev drop_index_on : List (ℕ × IndexKind) → ℕ → Result Resolved Refusal
+    drop_index_on own place =
+        meaning (record { refuses = not (list_any (is_index (column_number place) k) own); refusal = NoSuchIndex } ∷ []) (resolved.DropIndex scope.table (column_number place) k)
+
+    pub index_is : resolved_of tables (command.Index name column k) ≡ option_map_or (index_on declared) (place_meant columns (bare column)) (Err NoSuchColumn)
+    index_is =
+        in_scope (λ n table. on_column column table (λ c. meaning (index_checks table c k) (resolved.Index n c k)))
+        ∙ ap (λ cs. option_map_or (index_on h.table.indexes) (place_meant cs (bare column)) (Err NoSuchColumn)) own_columns-are
+        ∙ ap (λ own. option_map_or (index_on own) (place_meant columns (bare column)) (Err NoSuchColumn)) h.indexes
+
+    pub drop_index_is : resolved_of tables (command.DropIndex name column k) ≡ option_map_or (drop_index_on declared) (place_meant columns (bare column)) (Err NoSuchColumn)
+    drop_index_is =
+        in_scope (λ n table. on_column column table (λ c. meaning (drop_index_checks table c k) (resolved.DropIndex n c k)))
+        ∙ ap (λ cs. option_map_or (drop_index_on h.table.indexes) (place_meant cs (bare column)) (Err NoSuchColumn)) own_columns-are
+        ∙ ap (λ own. option_map_or (drop_index_on own) (place_meant columns (bare column)) (Err NoSuchColumn)) h.indexes
+
+    -- no such column
+    pub index_missed : place_meant columns (bare column) ≡ None → resolved_of tables (command.Index name column k) ≡ Err NoSuchColumn
+    index_missed none = index_is ∙ ap (λ o. option_map_or (index_on declared) o (Err NoSuchColumn)) none
+
+    pub drop_index_missed : place_meant columns (bare column) ≡ None → resolved_of tables (command.DropIndex name column k) ≡ Err NoSuchColumn
+    drop_index_missed none = drop_index_is ∙ ap (λ o. option_map_or (drop_index_on declared) o (Err NoSuchColumn)) none
+
+    module _ (c : ColumnNumber) (found : place_meant columns (bare column) ≡ Some c.0) (b : Bool) where
+      pub index_found : (is_index c k (0, index.Tree) || list_any (λ d. is_index c k (plain_index d)) scope.declared.now) ≡ b
+          → resolved_of tables (command.Index name column k) ≡ cond b (Err IndexExists) (Ok (resolved.Index scope.table c k))
+      index_found is =
+          index_is ∙ ap (λ o. option_map_or (index_on declared) o (Err NoSuchColumn)) found
+          ∙ ap (λ x. cond (is_index c k (0, index.Tree) || x) (Err IndexExists) (Ok (resolved.Index scope.table c k))) (list_any-map (is_index c k) plain_index scope.declared.now)
+          ∙ ap (λ x. cond x (Err IndexExists) (Ok (resolved.Index scope.table c k))) is
+
+      pub drop_index_found : not (list_any (λ d. is_index c k (plain_index d)) scope.declared.now) ≡ b
+          → resolved_of tables (command.DropIndex name column k) ≡ cond b (Err NoSuchIndex) (Ok (resolved.DropIndex scope.table c k))
+      drop_index_found is =
+          drop_index_is ∙ ap (λ o. option_map_or (drop_index_on declared) o (Err NoSuchColumn)) found
+          ∙ ap (λ x. cond (not x) (Err NoSuchIndex) (Ok (resolved.DropIndex scope.table c k))) (list_any-map (is_index c k) plain_index scope.declared.now)
+          ∙ ap (λ x. cond x (Err NoSuchIndex) (Ok (resolved.DropIndex scope.table c k))) is
 
   -- ---- insert
 

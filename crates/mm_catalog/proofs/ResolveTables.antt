@@ -1,6 +1,7 @@
 -- Tables by their names.
-use Rattle.std.proofs.Common.{◌≡◌, ◌≢◌, subst, ℕ, ◌<◌, List, length, Some, None, is_some, sym, ap, ◌∙◌, position, slice_get, arith}
-use Rattle.std.specs.List.{AllPairs, zip}
+use Rattle.std.specs.Prelude.{Bool, ◌||◌, [], ◌∷◌, refl}
+use Rattle.std.proofs.Common.{◌≡◌, ℕ, ◌<◌, List, length, map, Some, None, is_some, sym, ap, ◌∙◌, position, slice_get, arith}
+use Rattle.std.specs.List.{list_any, zip}
 use Rattle.std.specs.Option.{option_map, option_and_then}
 use Rattle.std.specs.Str.{bytes_eq}
 use Rattle.std.proofs.lemmas.Option.{slice_get_within, same_Some}
@@ -9,15 +10,14 @@ use Rattle.plain_tables.specs.Tables.{Table}
 use Rattle.plain_tables.specs.Databases.{Database, is_named, table_named}
 use Rattle.plain_tables.specs.declared.numbers.TableNumber.{TableNumber}
 use Rattle.plain_tables.specs.declared.schema.Column.{Column}
-use Rattle.plain_tables.specs.References.{key_type, own_type, IsSoundTable}
+use Rattle.plain_tables.specs.References.{key_type, own_type}
 use Rattle.mm_relation.specs.State.{RelationState}
 use Rattle.mm_catalog.specs.State.{CatalogState}
-use Rattle.mm_catalog.specs.Consistent.{IsConsistent}
-use Rattle.mm_catalog.specs.Seen.{database_of, table_of}
+use Rattle.mm_catalog.specs.Seen.{database_of, table_of, plain_index}
 use Rattle.mm_catalog.specs.Resolve.{IsScopeOf, table_number}
 use Rattle.mm_catalog.specs.declared.scope.Scope.{Scope}
-use Rattle.mm_catalog.proofs.Finding.{position-map}
-use Rattle.mm_catalog.proofs.Lists.{get_within, All-get}
+use Rattle.mm_catalog.proofs.Finding.{position-map, list_any-map}
+use Rattle.mm_catalog.proofs.Lists.{get_within}
 use Rattle.mm_catalog.proofs.Tables.{database-get}
 use Rattle.mm_catalog.proofs.ResolveLists.{position_or_len-position, position-within, found_at, none_found, is_some-found, is_some-map, option_map-Some, option_map-None}
 
@@ -38,8 +38,9 @@ module _ (tables : Database) (name : List ℕ) where
 
   pub scope_there : (scope : Scope) → option_map table_number (position (is_named name) tables) ≡ Some scope.table
       → option_map (λ (t : Table). t.name) (slice_get tables scope.table.0) ≡ Some scope.name.now
-      → option_map (λ (t : Table). t.columns) (slice_get tables scope.table.0) ≡ Some scope.columns.now → IsScopeOf tables name scope
-  scope_there scope h called columns =
+      → option_map (λ (t : Table). t.columns) (slice_get tables scope.table.0) ≡ Some scope.columns.now
+      → option_map (λ (t : Table). t.indexes) (slice_get tables scope.table.0) ≡ Some (map plain_index scope.declared.now) → IsScopeOf tables name scope
+  scope_there scope h called columns indexes =
       let found = option_map-Some table_number (position (is_named name) tables) scope.table h in
       let there = named_there found.0 found.1 in
       let at : slice_get tables scope.table.0 ≡ Some there.0 = ap (λ (t : TableNumber). slice_get tables t.0) (sym found.2) ∙ there.2 in
@@ -49,6 +50,7 @@ module _ (tables : Database) (name : List ℕ) where
         number = ap table_number (position_or_len-position (is_named name) tables found.0 found.1) ∙ found.2;
         called = same_Some there.0.name scope.name.now (ap (option_map (λ (t : Table). t.name)) (sym at) ∙ called);
         columns = same_Some there.0.columns scope.columns.now (ap (option_map (λ (t : Table). t.columns)) (sym at) ∙ columns);
+        indexes = same_Some there.0.indexes (map plain_index scope.declared.now) (ap (option_map (λ (t : Table). t.indexes)) (sym at) ∙ indexes);
       }
 
   pub named_none : option_map table_number (position (is_named name) tables) ≡ None → table_named name tables ≡ None
@@ -64,6 +66,28 @@ database-columns c named n s e =
     let within : n < length c.names = omega (arith, named, slice_get_within c.relations n s e) in
     let name = get_within c.names n within in
     ap (option_map (λ (t : Table). t.columns)) (database-get c named n name.0 s name.1 e)
+
+-- and its indexes
+pub database-indexes : (c : CatalogState) → length c.names ≡ length c.relations → (n : ℕ) (s : RelationState) → slice_get c.relations n ≡ Some s
+    → option_map (λ (t : Table). t.indexes) (slice_get (database_of c) n) ≡ Some (map plain_index s.declared)
+unfolding table_of
+database-indexes c named n s e =
+    let within : n < length c.names = omega (arith, named, slice_get_within c.relations n s e) in
+    let name = get_within c.names n within in
+    ap (option_map (λ (t : Table). t.indexes)) (database-get c named n name.0 s name.1 e)
+
+-- whether a column of some table refers to one is told by the columns of the relations
+pub database-any : (c : CatalogState) → length c.names ≡ length c.relations → (test : List Column → Bool) → list_any (λ (t : Table). test t.columns) (database_of c) ≡ list_any (λ (s : RelationState). test s.schema.columns) c.relations
+unfolding database_of table_of
+database-any c named test =
+    list_any-map (λ (t : Table). test t.columns) (λ (t : List ℕ × RelationState). table_of c.relations t.0 t.1) (zip c.names c.relations)
+    ∙ any_second c.names c.relations named
+  where
+  any_second : (names : List (List ℕ)) (relations : List RelationState) → length names ≡ length relations → list_any (λ (t : List ℕ × RelationState). test t.1.schema.columns) (zip names relations) ≡ list_any (λ (s : RelationState). test s.schema.columns) relations
+  any_second [] [] h = refl
+  any_second [] (s ∷ ss) h = cc
+  any_second (n ∷ ns) [] h = cc
+  any_second (n ∷ ns) (s ∷ ss) h = ap (λ b. test s.schema.columns || b) (any_second ns ss (omega (arith, h)))
 
 -- the type of the keys of the table of that name is its first column's
 pub key_of : (tables : Database) (name : List ℕ) (table : TableNumber) (columns : List Column) → option_map table_number (position (is_named name) tables) ≡ Some table

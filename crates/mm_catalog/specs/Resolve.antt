@@ -1,5 +1,5 @@
 -- What a command names of a catalog: a table, and columns of it.
-use Rattle.std.specs.Prelude.{◌≡◌, ℕ, List, [], Option, Some, map}
+use Rattle.std.specs.Prelude.{◌≡◌, ℕ, List, [], Option, Some, None, map}
 use Rattle.std.specs.Option.{option_map}
 use Rattle.plain_tables.specs.Tables.{Table}
 use Rattle.plain_tables.specs.Databases.{Database, table_named}
@@ -8,6 +8,8 @@ use Rattle.plain_tables.specs.Effects.{setting_name}
 use Rattle.plain_tables.specs.Resolving.{column_number, number_of}
 use Rattle.plain_tables.specs.declared.numbers.TableNumber.{TableNumber}
 use Rattle.plain_tables.specs.declared.schema.Column.{Column}
+use Rattle.mm_catalog.specs.Seen.{plain_index}
+use Rattle.plain_tables.specs.declared.condition.ColName.{ColName}
 use Rattle.plain_tables.specs.declared.condition.Cond.{Cond}
 use Rattle.plain_tables.specs.declared.command.Setting.{Setting}
 use Rattle.plain_tables.specs.declared.resolved.Assignment.{Assignment}
@@ -28,13 +30,18 @@ in_table name column = record { table = name; column = column }
 abbrev pub columns_of : Scope → List JoinedColumn
 columns_of scope = map (in_table scope.name.now) scope.columns.now
 
--- The scope of the commands on the table of that name: the table's number, its name and its columns.
+-- a column's name with no table's before it
+abbrev pub bare : List ℕ → ColName
+bare name = record { table = None; column = name }
+
+-- The scope of the commands on the table of that name: the table's number, its name, its columns and its declared indexes.
 pub record IsScopeOf (tables : Database) (name : List ℕ) (scope : Scope) : Type 0 where
   pub table : Table
   pub found : table_named name tables ≡ Some table
   pub number : number_of name tables ≡ scope.table
   pub called : table.name ≡ scope.name.now
   pub columns : table.columns ≡ scope.columns.now
+  pub indexes : table.indexes ≡ map plain_index scope.declared.now
 
 -- a condition on the column at a place, and a setting of it
 abbrev pub test_at : Cond → ℕ → Test

@@ -1,15 +1,15 @@
 //! The tables, and what they are called.
-ghost use Rattle.std.specs.Prelude.{◌≡◌, ◌≢◌, ◌<◌, ◌≤◌, Bool, [], Some, IfErr, OnOk, OnErr, length, position, slice_get};
+ghost use Rattle.std.specs.Prelude.{◌≡◌, ◌≢◌, ◌<◌, ◌≤◌, Bool, [], Some, IfErr, OnOk, OnErr, length, map, position, slice_get};
 ghost use Rattle.std.specs.List.{AllPairs};
 ghost use Rattle.std.specs.Option.{option_map};
 
-use crate::create::aimed;
+use crate::create::{aimed, any_refers_to};
 use crate::declare::{declare, undeclare};
 use crate::delete::delete;
 use crate::insert::insert;
 use crate::removal::{renumber_behind, unlink};
 use indexmap::IndexSet;
-use mm_relation::{Relation, Relations};
+use mm_relation::{DeclaredIndex, Relation, Relations};
 use no_memory::NoMemory;
 use part_raw::TupleRef;
 use plain_tables::{
@@ -46,7 +46,8 @@ impl Model for Catalog {
 impl Catalog {
     ghost use Rattle.plain_tables.specs.declared.resolved.Resolved.TheVariants as resolved;
     ghost use Rattle.plain_tables.specs.ResolvedLaws.{IsMeant};
-    ghost use Rattle.mm_catalog.specs.Seen.{database_of};
+    ghost use Rattle.mm_catalog.specs.Seen.{database_of, plain_index};
+    ghost use Rattle.plain_tables.specs.References as plain;
     ghost use Rattle.plain_tables.specs.Doing as doing;
     ghost use Rattle.plain_tables.specs.Doing.{done};
     ghost use Rattle.plain_tables.specs.Effects.{Refused};
@@ -97,6 +98,21 @@ impl Catalog {
         ensures { option_map (λ t. t.columns) (slice_get (database_of self.now) table.0) ≡ Some result.now }
     {
         self.relations[table.0].schema().columns.as_slice()
+    }
+
+    /// The declared indexes of a table.
+    pub(crate) fn declared(&self, table: TableNumber) -> &[DeclaredIndex]
+        requires { table.0 < length (database_of self.now) }
+        ensures { option_map (λ t. t.indexes) (slice_get (database_of self.now) table.0) ≡ Some (map plain_index result.now) }
+    {
+        self.relations[table.0].declared()
+    }
+
+    /// Whether a column of some table refers to the table of that name.
+    pub(crate) fn is_table_referenced(&self, name: &str) -> bool
+        ensures { result ≡ plain.is_table_referenced (database_of self.now) name.now }
+    {
+        any_refers_to(self.relations.as_slice(), name)
     }
 
     /// The number of the table of that name.

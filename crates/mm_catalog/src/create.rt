@@ -1,5 +1,6 @@
 //! A relation whose links lead into the tables that its columns refer to.
 ghost use Rattle.std.specs.Prelude.{◌≡◌, ◌<◌, IfOk, length, map, option_copied};
+ghost use Rattle.std.specs.List.{list_any};
 ghost use Rattle.std.specs.String.{string_bytes};
 ghost use Rattle.plain_tables.specs.References as plain;
 ghost use Rattle.mm_relation.specs.State.{IsKept};
@@ -22,6 +23,25 @@ pub fn referred(column: &Column) -> Option<&Text>
         ColKind::Ref(table) => Some(table),
         ColKind::RefOrNull(table) => Some(table),
     }
+}
+
+// Whether one of these columns refers to the table of that name.
+fn refers_to(columns: &[Column], name: &str) -> bool
+    ensures { result ≡ list_any (plain.refers_to name.now) columns.now }
+{
+    columns.iter().any(|column| match referred(column) {
+        Some(table) => name.as_bytes() == table.as_bytes(),
+        None => false,
+    })
+}
+
+/// Whether a column of one of these relations refers to the table of that name.
+pub fn any_refers_to(relations: &[Relation], name: &str) -> bool
+    ensures { result ≡ list_any (λ s. list_any (plain.refers_to name.now) s.schema.columns) relations.now }
+{
+    relations
+        .iter()
+        .any(|relation| refers_to(relation.schema().columns.as_slice(), name))
 }
 
 // The number of the table that a column refers to.

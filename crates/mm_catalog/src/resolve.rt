@@ -8,7 +8,7 @@ ghost use Rattle.mm_catalog.specs.Seen.{database_of};
 use crate::catalog::Catalog;
 use crate::checks::repeats_setting;
 use plain_tables::{
-    Command, Cond, Items, Refusal, Resolved, Schema, Sequence, Setting, Text, Value,
+    Command, Cond, IndexKind, Items, Refusal, Resolved, Schema, Sequence, Setting, Text, Value,
 };
 
 impl Catalog {
@@ -20,6 +20,17 @@ impl Catalog {
     {
         match command {
             Command::Table { name, schema } => self.resolve_table(name, schema),
+            Command::DropTable { table } => self.resolve_drop_table(table),
+            Command::Index {
+                table,
+                column,
+                kind,
+            } => self.resolve_index(table, column, kind),
+            Command::DropIndex {
+                table,
+                column,
+                kind,
+            } => self.resolve_drop_index(table, column, kind),
             Command::Insert { table, values } => self.resolve_insert(table, values),
             Command::Update {
                 table,
@@ -32,6 +43,7 @@ impl Catalog {
                 table,
                 conditions,
             } => self.resolve_select(items, table, conditions),
+            Command::Tables => Ok(Resolved::Tables),
         }
     }
 
@@ -40,6 +52,56 @@ impl Catalog {
     {
         self.check_table(&name, &schema)?;
         Ok(Resolved::Table { name, schema })
+    }
+
+    fn resolve_drop_table(&self, table: Text) -> Result<Resolved, Refusal>
+        ensures { result ≡ resolved_of (database_of self.now) (command.DropTable table) }
+    {
+        let scope = self.scope(&table)?;
+        if self.is_table_referenced(scope.name) {
+            return Err(Refusal::TableIsReferenced);
+        }
+        Ok(Resolved::DropTable { table: scope.table })
+    }
+
+    fn resolve_index(
+        &self,
+        table: Text,
+        column: Text,
+        kind: IndexKind,
+    ) -> Result<Resolved, Refusal>
+        ensures { result ≡ resolved_of (database_of self.now) (command.Index table column kind) }
+    {
+        let scope = self.scope(&table)?;
+        let column = scope.own_column(&column)?;
+        if scope.has_index(column, kind) {
+            return Err(Refusal::IndexExists);
+        }
+        Ok(Resolved::Index {
+            table: scope.table,
+            column,
+            kind,
+        })
+    }
+
+    fn resolve_drop_index(
+        &self,
+        table: Text,
+        column: Text,
+        kind: IndexKind,
+    ) -> Result<Resolved, Refusal>
+        ensures { result ≡ resolved_of (database_of self.now) (command.DropIndex table column kind) }
+    {
+        let scope = self.scope(&table)?;
+        let column = scope.own_column(&column)?;
+        if !scope.declares(column, kind) {
+            return Err(Refusal::NoSuchIndex);
+        }
+        Ok(Resolved::DropIndex {
+            table: scope.table,
+            column,
+            kind,
+        })
     }
 
     fn resolve_insert(&self, table: Text, values: Sequence<Value>) -> Result<Resolved, Refusal>

@@ -9,4 +9,4 @@ returns-in_default-clause-missed c = named_none (database_of c.args.self.now) c.
 pub returns-clause-found : goal.returns-clause-found
 returns-clause-found c =
     scope_there (database_of c.args.self.now) c.args.name.now _
-    (sym c.table_number.ensures ∙ c.in-Some.is) c.table_name.ensures c.columns.ensures
+    (sym c.table_number.ensures ∙ c.in-Some.is) c.table_name.ensures c.columns.ensures c.declared.ensures

@@ -1,0 +1,22 @@
+use Rattle.std.proofs.Common.{rules, ◌≡◌, ◌∙◌, true, false, sym, ap}
+use Rattle.std.specs.Prelude.{Err, not}
+use Rattle.mm_catalog.specs.Seen.{database_of}
+use Rattle.mm_catalog.proofs.ResolveCommands.{drop_index_missed, drop_index_found}
+use Rattle.mm_catalog.proofs.catalog.Catalog.resolve_drop_index.Goals as goal
+
+pub returns-in_err-column : goal.returns-in_err-column
+returns-in_err-column c =
+    let is : c.from_residual-in_err-column.result ≡ Err c.in_err-column.field-0.0 = search rules in
+    is
+    ∙ ap (λ e. Err e) c.in_err-column.ensures.refused
+    ∙ sym (drop_index_missed (database_of c.args.self.now) c.args.table c.in_ok-scope.scope c.in_ok-scope.ensures.found c.args.column c.args.kind c.in_err-column.ensures.missed)
+
+pub returns-then-not-declares : goal.returns-then-not-declares
+returns-then-not-declares c =
+    sym (drop_index_found (database_of c.args.self.now) c.args.table c.in_ok-scope.scope c.in_ok-scope.ensures.found c.args.column c.args.kind c.in_ok-column.column c.in_ok-column.ensures.found true
+    (ap not (sym c.declares.ensures ∙ c.if-not-declares.true)))
+
+pub returns : goal.returns
+returns c =
+    sym (drop_index_found (database_of c.args.self.now) c.args.table c.in_ok-scope.scope c.in_ok-scope.ensures.found c.args.column c.args.kind c.in_ok-column.column c.in_ok-column.ensures.found false
+    (ap not (sym c.declares.ensures ∙ c.if-not-declares.false)))
