@@ -4,6 +4,7 @@ use Rattle.std.specs.List.{All, count_by, slice_get, flat_map, range_with_len}
 use Rattle.std.specs.Prelude.{Result, Ok, Err, OnOk, OnErr, IfErr}
 use Rattle.std.specs.Option.{option_and_then, option_map_or}
 use Rattle.std.specs.Ordering.{is_eq}
+use Rattle.std.specs.FinMap as finite
 use Rattle.std.specs.FinMap.{get}
 use Rattle.std.proofs.lemmas.Bool.{and_left, and_right, cases_eq, cases_lt, ne_eqb}
 use Rattle.std.proofs.lemmas.List.Sums.{sum_by-cons}
@@ -27,7 +28,7 @@ use Rattle.plain_tables.proofs.SoundLemmas.{done_keeps_sound}
 use Rattle.mm_relation.specs.declared.row.Row.{Row}
 use Rattle.mm_relation.specs.declared.row.Cell.{Cell}
 use Rattle.mm_relation.specs.Changes.{new_row}
-use Rattle.mm_relation.specs.State.{RelationState, linked_keys}
+use Rattle.mm_relation.specs.State.{RelationState, HasKey, linked_keys}
 use Rattle.mm_catalog.specs.State.{CatalogState}
 use Rattle.mm_catalog.specs.Seen.{database_of, table_of, rows_of, row_values, plain_index}
 use Rattle.mm_catalog.specs.Linked.{Linked, link_at, row_links, relation_links, links, links_to, is_link_to, HasLinksOrNulls}
@@ -36,7 +37,7 @@ use Rattle.mm_catalog.specs.Changes.{HasEffect, IsRefusedFor}
 use Rattle.mm_catalog.specs.Recounted.{HaveReferrers, IsRewritten}
 use Rattle.mm_catalog.specs.Raised.{HaveRoom}
 use Rattle.mm_catalog.specs.Cells.{AreCellsOf}
-use Rattle.mm_catalog.specs.Inserted.{CanComeIn, IsKeptOut, no_memory, key_there, none_named, full, IsTakenIn, IsInsertedAt, IsRefusedAt}
+use Rattle.mm_catalog.specs.Inserted.{IsKeptOut, no_memory, key_there, none_named, full, IsTakenIn, IsInsertedAt, IsRefusedAt}
 use Rattle.mm_catalog.proofs.Lists.{get-take}
 use Rattle.mm_catalog.proofs.Outlines.{keys_before}
 use Rattle.mm_catalog.proofs.Back.{lead_back}
@@ -129,7 +130,7 @@ pub record IsGrown (c : CatalogState) (relations : List RelationState) (n : Tabl
   pub effect : HasEffect c (record c { relations = relations }) (done c.limits (database_of c) (resolved.Insert n values)) 1
   pub consistent : IsConsistent (record c { relations = relations })
 
-module _ (c : CatalogState) (ok : IsConsistent c) (n : TableNumber) (key : Value) (rest : List Value) (meant : IsMeant c.limits (database_of c) (resolved.Insert n (key ∷ rest))) (b a : RelationState) (front : List RelationState) (cells : List Cell) (there : slice_get c.relations n.0 ≡ Some b) (row : CanComeIn (take n.0 c.relations) b c.limits.rows (key ∷ rest) key cells) (are : AreCellsOf (take n.0 c.relations) b.targets rest cells) (taken : IsTakenIn (take n.0 c.relations) front b a (new_row key cells)) where
+module _ (c : CatalogState) (ok : IsConsistent c) (n : TableNumber) (key : Value) (rest : List Value) (meant : IsMeant c.limits (database_of c) (resolved.Insert n (key ∷ rest))) (b a : RelationState) (front : List RelationState) (cells : List Cell) (there : slice_get c.relations n.0 ≡ Some b) (fresh : HasKey b.rows key → ⊥) (are : AreCellsOf (take n.0 c.relations) b.targets rest cells) (room : finite.len b.rows < c.limits.rows) (taken : IsTakenIn (take n.0 c.relations) front b a (new_row key cells)) where
   abbrev values : List Value
   values = key ∷ rest
 
@@ -173,7 +174,7 @@ module _ (c : CatalogState) (ok : IsConsistent c) (n : TableNumber) (key : Value
   rows_now : rows_of (linked_keys a.targets c.relations) a ≡ with_row values (rows_of (linked_keys b.targets c.relations) b)
   rows_now =
       (λ i. rows_of (linked_keys (taken.inserted.keeps.targets i) c.relations) (record a { schema = taken.inserted.keeps.schema i }))
-      ∙ rows_inserted b a (among_at c ok n.0 b there).kept taken.kept taken.r t taken.inserted row.fresh (linked_keys b.targets c.relations) (some_column c ok n.0 b there)
+      ∙ rows_inserted b a (among_at c ok n.0 b there).kept taken.kept taken.r t taken.inserted fresh (linked_keys b.targets c.relations) (some_column c ok n.0 b there)
       ∙ ap (λ v. with_row v (rows_of (linked_keys b.targets c.relations) b)) values_here
 
   table_now : table_of c.relations name.0 a ≡ grown_by values (table_of c.relations name.0 b)
@@ -186,7 +187,7 @@ module _ (c : CatalogState) (ok : IsConsistent c) (n : TableNumber) (key : Value
   }
 
   effect_is : done c.limits (database_of c) (resolved.Insert n values) ≡ record { database = set (database_of c) n.0 (grown_by values (table_of c.relations name.0 b)); outcome = Changed 1 }
-  effect_is = nothing_refuses c ok n b there name.0 name.1 key rest row.fresh cells are row.room
+  effect_is = nothing_refuses c ok n b there name.0 name.1 key rest fresh cells are room
 
   database_now : database_of (record c { relations = new }) ≡ (done c.limits (database_of c) (resolved.Insert n values)).database
   database_now =
@@ -213,7 +214,7 @@ module _ (c : CatalogState) (ok : IsConsistent c) (n : TableNumber) (key : Value
 
   counts : (table : ℕ) (r : TupleRef) → table < n.0 → count table r + count_by (is_link_to table r) (relation_links b) ≡ links_to c.relations table r + count_by (is_link_to table r) (relation_links a)
   counts table r below =
-      omega (arith, links_inserted b a (among_at c ok n.0 b there).kept taken.kept taken.r t taken.inserted row.fresh (is_link_to table r))
+      omega (arith, links_inserted b a (among_at c ok n.0 b there).kept taken.kept taken.r t taken.inserted fresh (is_link_to table r))
 
   own : (r : TupleRef) (u : Row) → get a.rows r ≡ Some u → u.referrers ≡ links_to c.relations n.0 r
   own r u found = elim (same_or_other r taken.r) [
@@ -244,10 +245,9 @@ module _ (c : CatalogState) (ok : IsConsistent c) (n : TableNumber) (values : Li
   pub grown_from : (relations : List RelationState) → IsInsertedAt c.relations relations n.0 c.limits.rows values → IsGrown c relations n values
   grown_from relations h =
       let e = h.row.split in
-      let row : CanComeIn (take n.0 c.relations) h.before c.limits.rows (h.key ∷ h.row.rest) h.key h.cells = record { rest = h.row.rest; split = refl; fresh = h.row.fresh; cells = h.row.cells; room = h.row.room } in
       subst (λ rs. IsGrown c rs n values) (sym h.list)
       (subst (IsGrown c (h.front ++ set (drop n.0 c.relations) 0 h.after) n) (sym e)
-      (grown_now c ok n h.key h.row.rest (subst (λ vs. IsMeant c.limits (database_of c) (resolved.Insert n vs)) e meant) h.before h.after h.front h.cells h.there row h.row.cells h.taken))
+      (grown_now c ok n h.key h.row.rest (subst (λ vs. IsMeant c.limits (database_of c) (resolved.Insert n vs)) e meant) h.before h.after h.front h.cells h.there h.row.fresh h.row.cells h.row.room h.taken))
 
   -- ---- a row that did not come
 

@@ -181,7 +181,8 @@ impl Catalog {
         renumber_behind(self.relations.as_mut_slice(), table);
     }
 
-    /// Puts a row into a table. KeyExists comes before NoReferencedRow, and that before TableFull.
+    /// Puts a row into a table. The answer is 41 where a row with its key is there, else 42 where a reference of it names
+    /// no row, else 43 where the table is full, and 90 where no memory is found. All is then as before.
     pub fn insert(&mut self, table: TableNumber, values: Sequence<Value>) -> Result<(), Refusal>
         requires { IsMeant self.old.limits (database_of self.old) (resolved.Insert table values) }
         ensures inserted { OnOk result (HasEffect self.old self.new (done self.old.limits (database_of self.old) (resolved.Insert table values)) 1) }

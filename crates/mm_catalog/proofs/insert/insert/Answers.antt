@@ -1,4 +1,4 @@
-use Rattle.std.proofs.Common.{◌≡◌, ◌+◌, ◌++◌, Some, length, get_or, set, sym, ap, ◌∙◌, subst, arith}
+use Rattle.std.proofs.Common.{◌≡◌, ◌+◌, ◌++◌, Some, length, get_or, set, sym, ap, subst, arith}
 use Rattle.std.specs.List.{slice_get}
 use Rattle.std.proofs.lemmas.Result.{err_from_is_err_and}
 use Rattle.plain_tables.specs.declared.refusal.Refusal.TheVariants.{NoMemory}
@@ -7,7 +7,7 @@ use Rattle.mm_relation.specs.State.{RelationState, IsCurrent, linked_keys}
 use Rattle.mm_catalog.specs.Inserted.{CanComeIn, CannotComeIn, no_memory, IsTakenIn, IsRefusedAt}
 use Rattle.mm_catalog.specs.Raised.{HaveRoom}
 use Rattle.mm_catalog.proofs.CellRows.{cells_readable, cells_held}
-use Rattle.mm_catalog.proofs.Lists.{first_behind}
+use Rattle.mm_catalog.proofs.Taking.{split_here}
 use Rattle.mm_catalog.proofs.insert.insert.Goals as goal
 
 pub returns-in_err-key-clause-refused : goal.returns-in_err-key-clause-refused
@@ -15,8 +15,7 @@ returns-in_err-key-clause-refused c =
     let n = c.args.table.0 in
     let d = c.index-rest-0.result in
     let s : RelationState = get_or c.split_at_mut-before.result.1.now 0 d in
-    let at : slice_get c.args.relations.now n ≡ Some s =
-    first_behind c.args.relations.now n d c.requires.there ∙ ap (λ rs. Some (get_or rs 0 d)) (sym c.split_at_mut-before.ensures.back) in
+    let at : slice_get c.args.relations.now n ≡ Some s = split_here c.args.relations.now c.split_at_mut-before.result.1.now n d c.requires.there c.split_at_mut-before.ensures.back in
     let refusal = c.in_err-key.field-0.0 in
     let out : IsRefusedAt c.args.relations.now n c.args.limits.rows c.args.values refusal = record {
       relation = s;
@@ -31,8 +30,7 @@ take_in-requires-clause-readable c =
     let n = c.args.table.0 in
     let d = c.index-rest-0.result in
     let s : RelationState = get_or c.split_at_mut-before.result.1.now 0 d in
-    let at : slice_get c.args.relations.now n ≡ Some s =
-    first_behind c.args.relations.now n d c.requires.there ∙ ap (λ rs. Some (get_or rs 0 d)) (sym c.split_at_mut-before.ensures.back) in
+    let at : slice_get c.args.relations.now n ≡ Some s = split_here c.args.relations.now c.split_at_mut-before.result.1.now n d c.requires.there c.split_at_mut-before.ensures.back in
     let row = c.in_ok-key.ensures.row in
     let wide : length s.targets ≡ length row.rest + 1 = omega (arith, c.requires.width s at, ap length row.split) in
     cells_readable c.split_at_mut-before.result.0.now s.targets c.in_ok-key.key row.rest c.in_ok-key.cells row.cells wide
@@ -42,8 +40,7 @@ take_in-requires-clause-current c =
     let n = c.args.table.0 in
     let d = c.index-rest-0.result in
     let s : RelationState = get_or c.split_at_mut-before.result.1.now 0 d in
-    let at : slice_get c.args.relations.now n ≡ Some s =
-    first_behind c.args.relations.now n d c.requires.there ∙ ap (λ rs. Some (get_or rs 0 d)) (sym c.split_at_mut-before.ensures.back) in
+    let at : slice_get c.args.relations.now n ≡ Some s = split_here c.args.relations.now c.split_at_mut-before.result.1.now n d c.requires.there c.split_at_mut-before.ensures.back in
     subst (λ rs. IsCurrent (linked_keys s.targets rs) s) (sym c.split_at_mut-before.ensures.front) (c.requires.current s at)
 
 pub take_in-requires-clause-links : goal.take_in-requires-clause-links
@@ -51,8 +48,7 @@ take_in-requires-clause-links c =
     let n = c.args.table.0 in
     let d = c.index-rest-0.result in
     let s : RelationState = get_or c.split_at_mut-before.result.1.now 0 d in
-    let at : slice_get c.args.relations.now n ≡ Some s =
-    first_behind c.args.relations.now n d c.requires.there ∙ ap (λ rs. Some (get_or rs 0 d)) (sym c.split_at_mut-before.ensures.back) in
+    let at : slice_get c.args.relations.now n ≡ Some s = split_here c.args.relations.now c.split_at_mut-before.result.1.now n d c.requires.there c.split_at_mut-before.ensures.back in
     let row = c.in_ok-key.ensures.row in
     let wide : length s.targets ≡ length row.rest + 1 = omega (arith, c.requires.width s at, ap length row.split) in
     cells_held c.split_at_mut-before.result.0.now s.targets c.in_ok-key.key row.rest c.in_ok-key.cells row.cells wide
@@ -62,8 +58,7 @@ take_in-requires-clause-room c =
     let n = c.args.table.0 in
     let d = c.index-rest-0.result in
     let s : RelationState = get_or c.split_at_mut-before.result.1.now 0 d in
-    let at : slice_get c.args.relations.now n ≡ Some s =
-    first_behind c.args.relations.now n d c.requires.there ∙ ap (λ rs. Some (get_or rs 0 d)) (sym c.split_at_mut-before.ensures.back) in
+    let at : slice_get c.args.relations.now n ≡ Some s = split_here c.args.relations.now c.split_at_mut-before.result.1.now n d c.requires.there c.split_at_mut-before.ensures.back in
     subst (λ rs. HaveRoom rs (length s.targets)) (sym c.split_at_mut-before.ensures.front) (c.requires.room s at)
 
 pub returns-in_err-take_in-clause-refused : goal.returns-in_err-take_in-clause-refused
@@ -71,8 +66,7 @@ returns-in_err-take_in-clause-refused c =
     let n = c.args.table.0 in
     let d = c.index-rest-0.result in
     let s : RelationState = get_or c.split_at_mut-before.result.1.now 0 d in
-    let at : slice_get c.args.relations.now n ≡ Some s =
-    first_behind c.args.relations.now n d c.requires.there ∙ ap (λ rs. Some (get_or rs 0 d)) (sym c.split_at_mut-before.ensures.back) in
+    let at : slice_get c.args.relations.now n ≡ Some s = split_here c.args.relations.now c.split_at_mut-before.result.1.now n d c.requires.there c.split_at_mut-before.ensures.back in
     let row = c.in_ok-key.ensures.row in
     let out : IsRefusedAt c.args.relations.now n c.args.limits.rows c.args.values NoMemory = record {
       relation = s;
@@ -87,8 +81,7 @@ returns-clause-inserted c =
     let n = c.args.table.0 in
     let d = c.index-rest-0.result in
     let s : RelationState = get_or c.split_at_mut-before.result.1.now 0 d in
-    let at : slice_get c.args.relations.now n ≡ Some s =
-    first_behind c.args.relations.now n d c.requires.there ∙ ap (λ rs. Some (get_or rs 0 d)) (sym c.split_at_mut-before.ensures.back) in
+    let at : slice_get c.args.relations.now n ≡ Some s = split_here c.args.relations.now c.split_at_mut-before.result.1.now n d c.requires.there c.split_at_mut-before.ensures.back in
     let key = c.in_ok-key.key in
     let cells = c.in_ok-key.cells in
     record {
