@@ -1,6 +1,9 @@
 -- What the calls of a catalog do to it.
-use Rattle.std.specs.Prelude.{◌≡◌, ℕ, List, Some, slice_get, slice_set, take}
+use Rattle.std.specs.Prelude.{◌≡◌, ◌⊎◌, ℕ, List, Some, Result, Ok, Err, slice_get, slice_set, take}
 use Rattle.plain_tables.specs.Doing.{done}
+use Rattle.plain_tables.specs.Effects.{Effect, Changed, Refused}
+use Rattle.plain_tables.specs.declared.refusal.Refusal.{Refusal}
+use Rattle.plain_tables.specs.declared.refusal.Refusal.TheVariants.{NoMemory}
 use Rattle.plain_tables.specs.declared.resolved.Resolved.{Resolved}
 use Rattle.mm_relation.specs.State.{RelationState, IsKept, IsCurrent, linked_keys}
 use Rattle.mm_catalog.specs.State.{CatalogState}
@@ -10,6 +13,21 @@ use Rattle.mm_catalog.specs.Seen.{database_of}
 pub record IsDone (old new : CatalogState) (r : Resolved) : Type 0 where
   pub database : database_of new ≡ (done old.limits (database_of old) r).database
   pub limits : new.limits ≡ old.limits
+
+-- the database is what the effect leaves, under the same limits, and the effect changed so many rows
+pub record HasEffect (old new : CatalogState) (effect : Effect) (count : ℕ) : Type 0 where
+  pub database : database_of new ≡ effect.database
+  pub limits : new.limits ≡ old.limits
+  pub outcome : effect.outcome ≡ Changed count
+
+-- nothing has changed: no memory was found, or the effect is this refusal
+abbrev pub IsRefusedFor : CatalogState → CatalogState → Effect → Refusal → Type 0
+IsRefusedFor old new effect refusal = (new ≡ old) × ((refusal ≡ NoMemory) ⊎ (effect.outcome ≡ Refused refusal))
+
+-- what a call of this effect answers: how many rows changed, or why none did
+abbrev pub IsAnswered : CatalogState → CatalogState → Effect → Result ℕ Refusal → Type 0
+IsAnswered old new effect (Ok count) = HasEffect old new effect count
+IsAnswered old new effect (Err refusal) = IsRefusedFor old new effect refusal
 
 -- The relation of a number is changed so, and no other. It keeps what it keeps, and is current beside those before it.
 pub record IsChangedAt (old new : List RelationState) (n : ℕ) (change : RelationState → RelationState → Type 0) : Type 0 where
