@@ -14,3 +14,5 @@ pub mod Counting
 pub mod Recounting
 pub mod LinksHeld
 pub mod Elsewhere
+pub mod Raising
+pub mod CellRows

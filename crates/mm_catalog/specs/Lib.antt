@@ -5,3 +5,5 @@ pub mod Consistent
 pub mod Changes
 pub mod Created
 pub mod Recounted
+pub mod Raised
+pub mod Cells

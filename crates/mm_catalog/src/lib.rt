@@ -18,8 +18,10 @@
 
 mod before;
 mod catalog;
+mod cells;
 mod create;
 mod declare;
 pub mod laws;
+mod referrers;
 
 pub use catalog::Catalog;
