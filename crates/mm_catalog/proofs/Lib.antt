@@ -11,8 +11,10 @@ pub mod Rising
 pub mod Keyed
 pub mod Shown
 pub mod Counting
+pub mod Fewer
 pub mod Recounting
 pub mod LinksHeld
 pub mod Elsewhere
 pub mod Raising
 pub mod CellRows
+pub mod Removing

@@ -3,7 +3,10 @@ pub mod Seen
 pub mod Linked
 pub mod Consistent
 pub mod Changes
+pub mod Picked
 pub mod Created
 pub mod Recounted
 pub mod Raised
 pub mod Cells
+pub mod Lowered
+pub mod Deleted

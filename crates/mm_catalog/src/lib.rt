@@ -21,7 +21,9 @@ mod catalog;
 mod cells;
 mod create;
 mod declare;
+mod delete;
 pub mod laws;
 mod referrers;
+mod lowering;
 
 pub use catalog::Catalog;

@@ -1,0 +1,48 @@
+-- What a delete does to relations.
+use Rattle.std.specs.Prelude.{◌≡◌, ℕ, ◌+◌, ◌<◌, ◌++◌, List, Some, None, All, Any, Contains, count_by, drop, length, slice_get, slice_set, take}
+use Rattle.std.specs.FinMap as finite
+use Rattle.part_raw.specs.declared.tuple_ref.TupleRef.{TupleRef}
+use Rattle.mm_relation.specs.declared.row.Row.{Row}
+use Rattle.mm_relation.specs.Changes.{KeepsSchema}
+use Rattle.mm_relation.specs.State.{RelationState, IsKept, IsCurrent, linked_keys}
+use Rattle.mm_catalog.specs.Linked.{is_link_to, relation_links}
+use Rattle.mm_catalog.specs.Lowered.{AreLowered}
+
+-- links name this row
+abbrev pub IsReferenced : RelationState → TupleRef → Type 0
+IsReferenced s r = (row : Row) × (finite.get s.rows r ≡ Some row) × (0 < row.referrers)
+
+-- no link does
+abbrev pub IsFree : RelationState → TupleRef → Type 0
+IsFree s r = (row : Row) → finite.get s.rows r ≡ Some row → row.referrers ≡ 0
+
+-- these rows less, and no other differs
+pub record AreRemoved (old new : RelationState) (refs : List TupleRef) : Type 0 where
+  pub gone : (r : TupleRef) → Contains refs r → finite.get new.rows r ≡ None
+  pub others : (r : TupleRef) → (Contains refs r → ⊥) → finite.get new.rows r ≡ finite.get old.rows r
+  pub keeps : KeepsSchema old new
+
+-- each row has so many referrers fewer as the one relation has links to it fewer than the other
+pub record AreUnlinked (old new : List RelationState) (before after : RelationState) : Type 0 where
+  pub fewer : ℕ → TupleRef → ℕ
+  pub lowered : AreLowered old new fewer
+  pub links : (table : ℕ) (r : TupleRef) → fewer table r + count_by (is_link_to table r) (relation_links after) ≡ count_by (is_link_to table r) (relation_links before)
+
+-- these rows of the relation of a number go, and the rows that they name lose the referrers
+pub record AreDeleted (old new : List RelationState) (n : ℕ) (refs : List TupleRef) : Type 0 where
+  pub front : List RelationState
+  pub before : RelationState
+  pub after : RelationState
+  pub there : slice_get old n ≡ Some before
+  pub list : new ≡ front ++ slice_set (drop n old) 0 after
+  pub unlinked : AreUnlinked (take n old) front before after
+  pub removed : AreRemoved before after refs
+  pub kept : IsKept after
+  pub current : IsCurrent (linked_keys before.targets (take n old)) after
+
+-- the relation of a number has this of each of these rows, or of some
+abbrev pub AllFree : List RelationState → ℕ → List TupleRef → Type 0
+AllFree relations n refs = (s : RelationState) → slice_get relations n ≡ Some s → All (IsFree s) refs
+
+abbrev pub AnyReferenced : List RelationState → ℕ → List TupleRef → Type 0
+AnyReferenced relations n refs = (s : RelationState) → slice_get relations n ≡ Some s → Any (IsReferenced s) refs
