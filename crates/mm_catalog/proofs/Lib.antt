@@ -18,3 +18,5 @@ pub mod Elsewhere
 pub mod Raising
 pub mod CellRows
 pub mod Removing
+pub mod More
+pub mod SetLinks

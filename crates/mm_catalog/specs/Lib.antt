@@ -10,3 +10,4 @@ pub mod Raised
 pub mod Cells
 pub mod Lowered
 pub mod Deleted
+pub mod Assigned

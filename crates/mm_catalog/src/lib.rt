@@ -24,6 +24,7 @@ mod declare;
 mod delete;
 pub mod laws;
 mod referrers;
+mod updating;
 mod lowering;
 
 pub use catalog::Catalog;
