@@ -20,3 +20,6 @@ pub mod CellRows
 pub mod Removing
 pub mod More
 pub mod SetLinks
+pub mod SetCells
+pub mod SumsApart
+pub mod RowSets

@@ -27,11 +27,19 @@ CellSet = ColumnNumber × Cell
 
 -- ---- the cells
 
+-- the cell that this assignment sets
+abbrev pub IsSetBy : List RelationState → List (Option ℕ) → Assignment → CellSet → Type 0
+IsSetBy relations targets a s = (s.0 ≡ a.column) × IsCellOf relations (target_at targets a.column.0) a.value s.1
+
+-- those of the first of these assignments
+abbrev pub AreFirstSetBy : List RelationState → List (Option ℕ) → List Assignment → List CellSet → Type 0
+AreFirstSetBy relations targets assignments sets =
+    (k : ℕ) (a : Assignment) (s : CellSet) → slice_get assignments k ≡ Some a → slice_get sets k ≡ Some s → IsSetBy relations targets a s
+
 -- the cells that these assignments set, one for each
 pub record AreSetBy (relations : List RelationState) (targets : List (Option ℕ)) (assignments : List Assignment) (sets : List CellSet) : Type 0 where
   pub count : length sets ≡ length assignments
-  pub each : (k : ℕ) (a : Assignment) (s : CellSet) → slice_get assignments k ≡ Some a → slice_get sets k ≡ Some s
-      → (s.0 ≡ a.column) × IsCellOf relations (target_at targets a.column.0) a.value s.1
+  pub each : AreFirstSetBy relations targets assignments sets
 
 -- one of the assignments names no row
 abbrev pub SomeAssignsNone : List RelationState → List (Option ℕ) → List Assignment → Type 0
