@@ -23,3 +23,4 @@ pub mod SetLinks
 pub mod SetCells
 pub mod SumsApart
 pub mod RowSets
+pub mod RelationSets
