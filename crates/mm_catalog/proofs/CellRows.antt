@@ -5,6 +5,7 @@ use Rattle.std.specs.Option.{option_and_then, option_map}
 use Rattle.std.specs.FinMap.{get}
 use Rattle.std.proofs.lemmas.Bool.{cases_eq, cases_lt, ne_eqb}
 use Rattle.std.proofs.lemmas.List.{length-map}
+use Rattle.std.proofs.lemmas.List.Elements.{All-cons, All-nil}
 use Rattle.std.proofs.lemmas.List.FromFn.{length-range_with_len}
 use Rattle.std.proofs.lemmas.Option.{none-some, same_Some, slice_get_within, slice_get_past, slice_get-map}
 use Rattle.part_raw.specs.declared.tuple_ref.TupleRef.{TupleRef}
@@ -21,6 +22,28 @@ use Rattle.mm_catalog.specs.Linked.{Linked, target_at, link_at, row_links, HasLi
 use Rattle.mm_catalog.specs.Raised.{IsHeldIn}
 use Rattle.mm_catalog.specs.Cells.{target_in, read_in, IsCellOf, NamesNone, AreFirstCells, AreCellsOf}
 use Rattle.mm_catalog.proofs.Lists.{same_by_get, get_within, get-front, get-last}
+
+-- ---- the links of a row
+
+pub All-filter_map : {A B : Type 0} (h : A → Option B) (P : B → Type 0) → ((x : A) (y : B) → h x ≡ Some y → P y) → (xs : List A) → All P (filter_map h xs)
+All-filter_map h P each [] = All-nil P
+All-filter_map h P each (x ∷ xs) =
+    let rest = All-filter_map h P each xs in
+    elim (h x) as (λ o. h x ≡ o → All P (cons_option o (filter_map h xs))) [
+      | None ↦ λ e. rest
+      | Some y ↦ λ e. All-cons P y (filter_map h xs) (each x y e) rest
+    ] refl
+
+-- the link in a column, by where it leads and the row that it names
+pub link_parts : (targets : List (Option ℕ)) (row : Row) (column : ℕ) (link : Linked) → link_at targets row column ≡ Some link → (target_at targets column ≡ Some link.0) × (link_in column row ≡ Some link.1)
+link_parts targets row column link e = parts (target_at targets column) (link_in column row) link e
+  where
+    parts : (o : Option ℕ) (p : Option TupleRef) (link : Linked) → option_and_then (λ table. option_map (λ to. (table, to)) p) o ≡ Some link → (o ≡ Some link.0) × (p ≡ Some link.1)
+    parts None p link e = absurd (none-some link e)
+    parts (Some table) None link e = absurd (none-some link e)
+    parts (Some table) (Some to) link e =
+        let same : (table, to) ≡ link = same_Some (table, to) link e in
+        (ap (λ (l : Linked). Some l.0) same, ap (λ (l : Linked). Some l.1) same)
 
 -- ---- the cell of a value
 
@@ -166,22 +189,7 @@ module _ (relations : List RelationState) (targets : List (Option ℕ)) (key : V
   -- the rows that its links name are there
   pub cells_held : All (IsHeldIn relations) (row_links targets row)
   unfolding row_links
-  cells_held = all_picked (link_at targets row) (IsHeldIn relations) (λ column link e. named column (target_at targets column) refl (link_in column row) refl link e) (range_with_len 0 (length targets))
-    where
-      all_picked : (h : ℕ → Option Linked) (P : Linked → Type 0) → ((column : ℕ) (link : Linked) → h column ≡ Some link → P link) → (columns : List ℕ) → All P (filter_map h columns)
-      all_picked h P each [] = λ k d l. absurd (omega arith)
-      all_picked h P each (column ∷ columns) =
-          let rest = all_picked h P each columns in
-          elim (h column) as (λ o. h column ≡ o → All P (cons_option o (filter_map h columns))) [
-            | None ↦ λ e. rest
-            | Some link ↦ λ e. both link (each column link e) (filter_map h columns) rest
-          ] refl
-        where
-          both : (link : Linked) → P link → (links : List Linked) → All P links → All P (link ∷ links)
-          both link here links rest zero d l = here
-          both link here links rest (suc k) d l = rest k d (omega arith)
-
-      named : (column : ℕ) (o : Option ℕ) → target_at targets column ≡ o → (p : Option TupleRef) → link_in column row ≡ p → (link : Linked) → option_and_then (λ table. option_map (λ to. (table, to)) p) o ≡ Some link → IsHeldIn relations link
-      named column None e p f link g = absurd (none-some link g)
-      named column (Some table) e None f link g = absurd (none-some link g)
-      named column (Some table) e (Some to) f link g = subst (IsHeldIn relations) (same_Some (table, to) link g) (held_link column table to e f)
+  cells_held =
+      All-filter_map (link_at targets row) (IsHeldIn relations)
+      (λ column link e. let parts = link_parts targets row column link e in held_link column link.0 link.1 parts.0 parts.1)
+      (range_with_len 0 (length targets))

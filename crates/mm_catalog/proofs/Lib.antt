@@ -24,3 +24,8 @@ pub mod SetCells
 pub mod SumsApart
 pub mod RowSets
 pub mod RelationSets
+pub mod Referenced
+pub mod Bounded
+pub mod Checked
+pub mod Taking
+pub mod Inserted

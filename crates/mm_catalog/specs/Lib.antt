@@ -11,3 +11,4 @@ pub mod Cells
 pub mod Lowered
 pub mod Deleted
 pub mod Assigned
+pub mod Inserted

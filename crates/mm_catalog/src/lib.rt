@@ -22,6 +22,7 @@ mod cells;
 mod create;
 mod declare;
 mod delete;
+mod insert;
 pub mod laws;
 mod referrers;
 mod updating;
