@@ -29,3 +29,7 @@ pub mod Bounded
 pub mod Checked
 pub mod Taking
 pub mod Inserted
+pub mod Anywhere
+pub mod References
+pub mod Shrunk
+pub mod Deleting

@@ -31,7 +31,7 @@ use Rattle.mm_catalog.proofs.Recounting.{key_recounted}
 
 -- ---- the links of a relation, row by row
 
-counted_by_row : {A B : Type 0} (test : B → Bool) (f : A → List B) (xs : List A) → count_by test (flat_map f xs) ≡ sum_by (λ x. count_by test (f x)) xs
+pub counted_by_row : {A B : Type 0} (test : B → Bool) (f : A → List B) (xs : List A) → count_by test (flat_map f xs) ≡ sum_by (λ x. count_by test (f x)) xs
 counted_by_row test f [] = refl
 counted_by_row test f (x ∷ xs) =
     sum_by-append (λ y. cond (test y) 1 0) (f x) (flat_map f xs)

@@ -28,7 +28,7 @@ fn link_at(
     Some((table, to))
 }
 
-// One referrer less for a row.
+/// One referrer less for a row. It takes no memory.
 pub fn lower(relations: &mut [Relation], table: TableNumber, r: TupleRef)
     requires kept { All IsKept relations.old }
     requires held { IsRowHeld relations.old (table.0, r) }
