@@ -33,3 +33,4 @@ pub mod Anywhere
 pub mod References
 pub mod Shrunk
 pub mod Deleting
+pub mod UpdateNeeds

@@ -9,6 +9,7 @@ use Rattle.std.proofs.lemmas.Bool.{cases_lt}
 use Rattle.std.proofs.lemmas.List.Elements.{All-contains, All-contains_itself}
 use Rattle.std.proofs.lemmas.List.Sums.{sum_by-append, sum_by-cons}
 use Rattle.std.proofs.lemmas.Simd.{map-map}
+use Rattle.std.proofs.lemmas.Option.{none-some, same_Some}
 use Rattle.part_raw.proofs.Tuples.{held_tuple}
 use Rattle.part_raw.specs.Store.{Tuples}
 use Rattle.part_raw.specs.declared.tuple_ref.TupleRef.{TupleRef}
@@ -28,7 +29,7 @@ use Rattle.mm_catalog.specs.Assigned.{CellSet, links_at, row_links_at, set_links
 use Rattle.mm_catalog.specs.Linked.{Linked, relation_links, row_links}
 use Rattle.mm_catalog.specs.Seen.{plain_index, row_values, rows_of, table_of, values_of}
 use Rattle.mm_catalog.proofs.Rising.{rising_same}
-use Rattle.mm_catalog.proofs.RowSets.{AreApart, row_links_set, values_set}
+use Rattle.mm_catalog.proofs.RowSets.{AreApart, with_cell, row_links_set, values_set}
 use Rattle.mm_catalog.proofs.SumsApart.{among_or_not, rising_apart, sum_changed, sum_shifted}
 
 -- a row that can be read has a cell for each column behind the key
@@ -59,6 +60,21 @@ module _ (b a : RelationState) (rs : List TupleRef) (sets : List CellSet) (chang
   keys_set r = elim (among_or_not rs r) [
     | inl h ↦ ap (option_and_then (λ (t : Row). Some t.key)) (changed.rows.changed r h) ∙ key_set (get b.rows r)
     | inr never ↦ ap (option_and_then (λ (t : Row). Some t.key)) (changed.rows.others r never)
+  ]
+
+  referrers_set : (cells : List CellSet) (t : Row) → (with_cells cells t).referrers ≡ t.referrers
+  referrers_set [] t = refl
+  referrers_set (s ∷ cells) t = referrers_set cells (with_cell s t)
+
+  some_set : (o : Option Row) (row : Row) → option_map (with_cells sets) o ≡ Some row → (old : Row) × (o ≡ Some old) × (row.referrers ≡ old.referrers)
+  some_set None row e = absurd (none-some row e)
+  some_set (Some old) row e = (old, refl, ap (λ (t : Row). t.referrers) (sym (same_Some (with_cells sets old) row e)) ∙ referrers_set sets old)
+
+  -- a row that is held was held, with as many referrers
+  pub row_was : (r : TupleRef) (row : Row) → get a.rows r ≡ Some row → (old : Row) × (get b.rows r ≡ Some old) × (row.referrers ≡ old.referrers)
+  row_was r row at = elim (among_or_not rs r) [
+    | inl h ↦ some_set (get b.rows r) row (sym (changed.rows.changed r h) ∙ at)
+    | inr never ↦ (row, sym (changed.rows.others r never) ∙ at, refl)
   ]
 
   held_set : (o : Option Row) → is_some (option_map (with_cells sets) o) ≡ is_some o
