@@ -34,3 +34,5 @@ pub mod References
 pub mod Shrunk
 pub mod Deleting
 pub mod UpdateNeeds
+pub mod UpdateRefused
+pub mod UpdateDone

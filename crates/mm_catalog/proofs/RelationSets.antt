@@ -26,10 +26,11 @@ use Rattle.mm_relation.specs.Settings.{with_cells}
 use Rattle.mm_relation.specs.State.{RelationState, IsCurrent, IsKept, linked_keys, no_keys}
 use Rattle.mm_relation.specs.declared.row.Row.{Row}
 use Rattle.mm_catalog.specs.Assigned.{CellSet, links_at, row_links_at, set_links}
-use Rattle.mm_catalog.specs.Linked.{Linked, relation_links, row_links}
+use Rattle.mm_catalog.specs.Cells.{IsLinkOrNull}
+use Rattle.mm_catalog.specs.Linked.{HasLinksOrNulls, Linked, relation_links, row_links, target_at}
 use Rattle.mm_catalog.specs.Seen.{plain_index, row_values, rows_of, table_of, values_of}
 use Rattle.mm_catalog.proofs.Rising.{rising_same}
-use Rattle.mm_catalog.proofs.RowSets.{AreApart, with_cell, row_links_set, values_set}
+use Rattle.mm_catalog.proofs.RowSets.{AreApart, with_cell, row_linked, row_links_set, values_set}
 use Rattle.mm_catalog.proofs.SumsApart.{among_or_not, rising_apart, sum_changed, sum_shifted}
 
 -- a row that can be read has a cell for each column behind the key
@@ -143,6 +144,18 @@ module _ (b a : RelationState) (rs : List TupleRef) (sets : List CellSet) (chang
             (λ r never. ap (λ o. count_by test (option_map_or (row_links b.targets) o [])) (changed.rows.others r never)) in
             let shifted = sum_shifted before after gone (count_by test (set_links b.targets sets)) rs links_shifted in
             omega (arith, listed, was_listed, lost, whole, shifted)
+
+      -- a row has links or nulls still
+      pub linked_set : All (λ s. IsLinkOrNull (target_at b.targets s.0.0) s.1) sets → ((r : TupleRef) (row : Row) → get b.rows r ≡ Some row → HasLinksOrNulls b.targets row) → (r : TupleRef) (row : Row) → get a.rows r ≡ Some row → HasLinksOrNulls a.targets row
+      linked_set linked before r row at =
+          subst (λ targets. HasLinksOrNulls targets row) (sym changed.keeps.targets)
+          (elim (among_or_not rs r) [
+            | inl h ↦
+                let old = held_at r h in
+                subst (HasLinksOrNulls b.targets) (same_Some (with_cells sets old.0) row (sym (set_at r old.0 h old.1) ∙ at))
+                (row_linked b.targets sets old.0 apart (wide r old.0 old.1) linked (before r old.0 old.1))
+            | inr never ↦ before r row (sym (changed.rows.others r never) ∙ at)
+          ])
 
       -- ---- what it shows
 

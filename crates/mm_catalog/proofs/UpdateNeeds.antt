@@ -85,7 +85,7 @@ few_below xs n apart below =
     within q l = Contains-range n q l
 
 -- a cell is read alike
-cell_read : (relations : List RelationState) (targets : List (Option ℕ)) (column : ℕ) (cell : Cell) → cell_value (linked_keys targets relations) column cell ≡ read_in relations (target_at targets column) cell
+pub cell_read : (relations : List RelationState) (targets : List (Option ℕ)) (column : ℕ) (cell : Cell) → cell_value (linked_keys targets relations) column cell ≡ read_in relations (target_at targets column) cell
 cell_read relations targets column (Held value) = refl
 cell_read relations targets column (Named to) = refl
 
