@@ -1,6 +1,6 @@
 -- Relations whose rows gain referrers, one after another.
-use Rattle.std.proofs.Common.{◌≡◌, ◌≢◌, ℕ, ◌<◌, ◌≤◌, ◌+◌, ◌*◌, Bool, cond, List, [], ◌∷◌, ◌++◌, Option, Some, None, IsSome, refl, sym, ap, ◌∙◌, subst, arith, length, set, take, inl, inr}
-use Rattle.std.specs.List.{All, slice_get, count_by}
+use Rattle.std.proofs.Common.{◌≡◌, ℕ, ◌+◌, ◌*◌, List, Some, IsSome, sym, ap, ◌∙◌, arith, set, inl, inr}
+use Rattle.std.specs.List.{All, slice_get}
 use Rattle.std.specs.FinMap as finite
 use Rattle.std.proofs.lemmas.Bool.{cases_eq}
 use Rattle.std.proofs.lemmas.List.Elements.{All-set}
@@ -11,9 +11,8 @@ use Rattle.part_raw.proofs.Tuples.{get-insert_same, get-insert_other, held_tuple
 use Rattle.mm_relation.specs.declared.row.Row.{Row}
 use Rattle.mm_relation.specs.Changes.{Refers, with_referrers}
 use Rattle.mm_relation.specs.State.{RelationState, IsKept}
-use Rattle.mm_catalog.specs.Linked.{Linked, is_link_to}
-use Rattle.mm_catalog.specs.Recounted.{AreRecounted, HaveReferrers}
-use Rattle.mm_catalog.specs.Raised.{HaveRoom}
+use Rattle.mm_catalog.specs.Linked.{is_link_to}
+use Rattle.mm_catalog.specs.Recounted.{HaveReferrers}
 use Rattle.mm_catalog.specs.Assigned.{AreRaisedTo}
 use Rattle.mm_catalog.proofs.Lists.{get_within, get-set_same, get-set_other}
 use Rattle.mm_catalog.proofs.Fewer.{AreRecounted-refl, AreRecounted-trans, AreRecounted-set, IsRecounted-refers, recounted_held, recounted_before, link_to_itself, link_to_table, link_to_row, one_if}

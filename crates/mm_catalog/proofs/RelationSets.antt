@@ -1,19 +1,18 @@
 -- A relation in some of whose rows cells are set: the order of its keys, its links, and what it shows.
-use Rattle.std.proofs.Common.{◌≡◌, ◌≢◌, ℕ, zero, suc, ◌+◌, ◌-◌, ◌*◌, ◌<◌, ◌≤◌, Bool, true, false, cond, List, [], ◌∷◌, Option, Some, None, IsSome, IsTrue, is_some, refl, sym, ap, ◌∙◌, subst, arith, length, map, get_or, inl, inr}
+use Rattle.std.proofs.Common.{◌≡◌, ◌≢◌, ℕ, suc, ◌+◌, ◌-◌, ◌*◌, ◌≤◌, Bool, true, false, cond, List, [], ◌∷◌, Option, Some, None, IsSome, IsTrue, is_some, refl, sym, ap, ◌∙◌, subst, arith, length, map, inl, inr}
 use Rattle.std.specs.List.{All, AllPairs, Contains, count_by, flat_map, slice_get, sum_by}
 use Rattle.std.specs.Option.{option_and_then, option_cmp, option_map, option_map_or}
 use Rattle.std.specs.Ordering.{then_cmp, on}
 use Rattle.std.specs.FinMap.{get}
 use Rattle.std.specs.declared.cmp.Ordering.TheVariants.{Less}
 use Rattle.std.proofs.lemmas.Bool.{cases_lt}
-use Rattle.std.proofs.lemmas.List.Elements.{All-contains, All-contains_itself}
+use Rattle.std.proofs.lemmas.List.Elements.{All-contains}
 use Rattle.std.proofs.lemmas.List.Sums.{sum_by-append, sum_by-cons}
 use Rattle.std.proofs.lemmas.Simd.{map-map}
 use Rattle.std.proofs.lemmas.Option.{none-some, same_Some}
 use Rattle.part_raw.proofs.Tuples.{held_tuple}
-use Rattle.part_raw.specs.Store.{Tuples}
 use Rattle.part_raw.specs.declared.tuple_ref.TupleRef.{TupleRef}
-use Rattle.plain_tables.specs.Doing.{assigned, updated}
+use Rattle.plain_tables.specs.Doing.{assigned}
 use Rattle.plain_tables.specs.Tables as plain
 use Rattle.plain_tables.specs.Values.{value_cmp}
 use Rattle.plain_tables.specs.declared.resolved.Assignment.{Assignment}
@@ -23,12 +22,12 @@ use Rattle.mm_relation.specs.Changes.{IsChanged}
 use Rattle.mm_relation.specs.Order.{column_cmp, column_cmp_total}
 use Rattle.mm_relation.specs.Reading.{Keys, cell_value, key_at, row_value, value_at}
 use Rattle.mm_relation.specs.Settings.{with_cells}
-use Rattle.mm_relation.specs.State.{RelationState, IsCurrent, IsKept, linked_keys, no_keys}
+use Rattle.mm_relation.specs.State.{RelationState, IsCurrent, IsKept, no_keys}
 use Rattle.mm_relation.specs.declared.row.Row.{Row}
 use Rattle.mm_catalog.specs.Assigned.{CellSet, links_at, row_links_at, set_links}
 use Rattle.mm_catalog.specs.Cells.{IsLinkOrNull}
 use Rattle.mm_catalog.specs.Linked.{HasLinksOrNulls, Linked, relation_links, row_links, target_at}
-use Rattle.mm_catalog.specs.Seen.{plain_index, row_values, rows_of, table_of, values_of}
+use Rattle.mm_catalog.specs.Seen.{row_values, rows_of, values_of}
 use Rattle.mm_catalog.proofs.Rising.{rising_same}
 use Rattle.mm_catalog.proofs.RowSets.{AreApart, with_cell, row_linked, row_links_set, values_set}
 use Rattle.mm_catalog.proofs.SumsApart.{among_or_not, rising_apart, sum_changed, sum_shifted}

@@ -1,6 +1,6 @@
 -- The links that cells are, and those that rows have where cells are set, one after another.
-use Rattle.std.proofs.Common.{◌≡◌, ℕ, zero, suc, ◌+◌, ◌*◌, ◌<◌, ◌≤◌, ◌^◌, Bool, cond, List, [], ◌∷◌, ◌++◌, Option, Some, None, IsSome, refl, sym, ap, ◌∙◌, subst, arith, length, map, take, get_or, drop, append-nil, append_assoc}
-use Rattle.std.specs.List.{All, Contains, cons_option, count_by, filter_map, flat_map, slice_get}
+use Rattle.std.proofs.Common.{◌≡◌, ℕ, zero, suc, ◌+◌, ◌*◌, ◌<◌, ◌≤◌, Bool, cond, List, [], ◌∷◌, ◌++◌, Option, Some, None, refl, sym, ap, ◌∙◌, subst, arith, length, map, take, get_or, drop, append-nil, append_assoc}
+use Rattle.std.specs.List.{All, cons_option, count_by, filter_map, flat_map}
 use Rattle.std.specs.Option.{option_map, option_map_or}
 use Rattle.std.specs.FinMap as finite
 use Rattle.std.proofs.Math.Nat.{mul-add, mul-le-mul_left}
@@ -10,13 +10,12 @@ use Rattle.std.proofs.lemmas.List.Elements.{filter_map-append}
 use Rattle.std.proofs.lemmas.List.Sums.{count_by-le-length, sum_by-append, sum_by-cons}
 use Rattle.std.proofs.lemmas.Option.{slice_get_within}
 use Rattle.part_raw.specs.declared.tuple_ref.TupleRef.{TupleRef}
-use Rattle.plain_tables.specs.declared.numbers.ColumnNumber.{ColumnNumber}
 use Rattle.mm_relation.specs.declared.row.Row.{Row}
 use Rattle.mm_relation.specs.State.{RelationState}
 use Rattle.mm_catalog.specs.declared.updating.Link.{Link}
 use Rattle.mm_catalog.specs.Linked.{Linked, is_link_to, link_at}
 use Rattle.mm_catalog.specs.Lowered.{HaveAtLeast, AreLowered}
-use Rattle.mm_catalog.specs.Raised.{HaveRoom, IsHeldIn}
+use Rattle.mm_catalog.specs.Raised.{HaveRoom}
 use Rattle.mm_catalog.specs.Assigned.{AreRaisedTo, CellSet, linked_of, links_at, row_links_at, set_link, set_links}
 use Rattle.mm_catalog.proofs.Lists.{get_within}
 use Rattle.mm_catalog.proofs.Fewer.{AreLowered-same, AreLowered-trans, one_if, recounted_before}

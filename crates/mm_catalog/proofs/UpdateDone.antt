@@ -1,12 +1,12 @@
 -- A catalog of which rows of one table are updated: what it shows, and that it stays consistent.
-use Rattle.std.proofs.Common.{◌≡◌, ◌≢◌, ℕ, zero, suc, ◌+◌, ◌<◌, ◌≤◌, ◌==◌, Bool, true, false, not, cond, IsTrue, List, [], ◌∷◌, Option, Some, None, IsSome, refl, sym, ap, ◌∙◌, subst, arith, length, map, set, take, filter, get_or, inl, inr}
-use Rattle.std.specs.List.{All, AllPairs, Contains, cons_option, filter_map, list_all, list_any, slice_get}
+use Rattle.std.proofs.Common.{◌≡◌, ◌≢◌, ℕ, zero, suc, ◌+◌, ◌<◌, ◌≤◌, Bool, true, false, cond, List, [], ◌∷◌, Option, Some, None, refl, sym, ap, ◌∙◌, subst, arith, length, map, set, take, get_or, inl, inr}
+use Rattle.std.specs.List.{All, AllPairs, cons_option, filter_map, list_all, list_any, slice_get}
 use Rattle.std.specs.Option.{option_and_then}
 use Rattle.std.specs.Prelude.{◌⊎◌, Result, Ok, Err, IfErr, OnErr, OnOk}
 use Rattle.std.specs.FinMap.{get}
 use Rattle.std.proofs.lemmas.Bool.{and_from, and_left, and_right, eq-eqb, or_parts, true≢false}
 use Rattle.std.proofs.lemmas.List.Elements.{All-cons}
-use Rattle.std.proofs.lemmas.Option.{get_or_from_slice_get, same_Some, slice_get-get_or, slice_get_within}
+use Rattle.std.proofs.lemmas.Option.{same_Some, slice_get-get_or, slice_get_within}
 use Rattle.part_raw.specs.declared.tuple_ref.TupleRef.{TupleRef}
 use Rattle.plain_tables.proofs.SoundLemmas.{update_keeps_sound}
 use Rattle.plain_tables.specs.Databases.{Database}
@@ -22,11 +22,11 @@ use Rattle.plain_tables.specs.declared.resolved.Assignment.{Assignment}
 use Rattle.plain_tables.specs.declared.schema.Column.{Column}
 use Rattle.mm_relation.specs.Reading.{Keys, cell_value}
 use Rattle.mm_relation.specs.State.{RelationState, IsKept, linked_keys}
-use Rattle.mm_catalog.specs.Assigned.{AreNotSet, AreSetBy, AreToColumns, CellSet, IsNotUpdated, IsUpdated}
+use Rattle.mm_catalog.specs.Assigned.{AreNotSet, AreToColumns, CellSet, IsNotUpdated, IsUpdated}
 use Rattle.mm_catalog.specs.Cells.{IsCellOf, IsLinkOrNull, NamesNone}
 use Rattle.mm_catalog.specs.Changes.{HasEffect}
 use Rattle.mm_catalog.specs.Consistent.{IsConsistent}
-use Rattle.mm_catalog.specs.Linked.{target_at, target_of}
+use Rattle.mm_catalog.specs.Linked.{target_at}
 use Rattle.mm_catalog.specs.Picked.{ArePicked, HoldsRows}
 use Rattle.mm_catalog.specs.Seen.{database_of, plain_index, rows_of, table_of}
 use Rattle.mm_catalog.specs.State.{CatalogState}
@@ -117,16 +117,16 @@ module _ (c : CatalogState) (ok : IsConsistent c) (n : TableNumber) (assignments
   unfolding table_of
   refused_with s there why (inl none) = inl none
   refused_with s there why (inr (is, missing)) = inr (λ picks.
-    let k = missing.0 in
-    let a = missing.1 in
-    let name = named_at c ok n.0 (slice_get_within c.relations n.0 s there) in
-    let at = database-get c ok.named n.0 name.0 s name.1 there in
-    let column = (column_of s there k a missing.2).1 in
-    let lost = reference_missing c ok n.0 s there a.column.0 column.0 column.1 a.value (subst (λ t. NamesNone (take n.0 c.relations) t a.value) (target_here c ok n.0 s there a.column.0 column.0 column.1 a.value) missing.3) in
-    refused_there (database_of c) n assignments picks (table_of c.relations name.0 s) at
-    (one_missing (database_of c) (λ x. option_and_then (λ col. reference_of col x.value) (slice_get s.schema.columns x.column.0)) assignments k a lost.0 missing.2
-    (ap (option_and_then (λ col. reference_of col a.value)) column.1 ∙ lost.1) lost.2)
-    ∙ ap (λ r. Refused r) (sym is))
+      let k = missing.0 in
+      let a = missing.1 in
+      let name = named_at c ok n.0 (slice_get_within c.relations n.0 s there) in
+      let at = database-get c ok.named n.0 name.0 s name.1 there in
+      let column = (column_of s there k a missing.2).1 in
+      let lost = reference_missing c ok n.0 s there a.column.0 column.0 column.1 a.value (subst (λ t. NamesNone (take n.0 c.relations) t a.value) (target_here c ok n.0 s there a.column.0 column.0 column.1 a.value) missing.3) in
+      refused_there (database_of c) n assignments picks (table_of c.relations name.0 s) at
+      (one_missing (database_of c) (λ x. option_and_then (λ col. reference_of col x.value) (slice_get s.schema.columns x.column.0)) assignments k a lost.0 missing.2
+      (ap (option_and_then (λ col. reference_of col a.value)) column.1 ∙ lost.1) lost.2)
+      ∙ ap (λ r. Refused r) (sym is))
 
   module _ (rs : List TupleRef) (held : HoldsRows c n.0 rs) (once : AllPairs (λ q r. q ≢ r) rs) (relations : List RelationState) (u : IsUpdated c.relations relations n.0 rs assignments) where
     abbrev b : RelationState
@@ -162,10 +162,11 @@ module _ (c : CatalogState) (ok : IsConsistent c) (n : TableNumber) (assignments
     -- each cell is read as its value
     read_as : (k : ℕ) (x : Assignment) (s : CellSet) → slice_get assignments k ≡ Some x → slice_get u.sets k ≡ Some s → (s.0 ≡ x.column) × (cell_value keys s.0.0 s.1 ≡ Some x.value)
     read_as k x s at here =
-        let is = u.cells.each k x s at here in
-        (is.0,
-        ap (λ column. cell_value keys column.0 s.1) is.0 ∙ ap (λ ks. cell_value ks x.column.0 s.1) (sym same_keys)
-        ∙ cell_read front b.targets x.column.0 s.1 ∙ is.1.read)
+        let is = u.cells.each k x s at here in (
+          is.0,
+          ap (λ column. cell_value keys column.0 s.1) is.0 ∙ ap (λ ks. cell_value ks x.column.0 s.1) (sym same_keys)
+              ∙ cell_read front b.targets x.column.0 s.1 ∙ is.1.read,
+        )
 
     linked_sets : All (λ s. IsLinkOrNull (target_at b.targets s.0.0) s.1) u.sets
     linked_sets k d l =

@@ -1,5 +1,5 @@
 -- What an update asks of the relations among which it sets rows.
-use Rattle.std.proofs.Common.{◌≡◌, ◌≢◌, ℕ, zero, suc, ◌+◌, ◌-◌, ◌*◌, ◌<◌, ◌≤◌, Bool, List, [], ◌∷◌, ◌++◌, Option, Some, None, IsSome, is_some, refl, sym, ap, ◌∙◌, subst, arith, length, map, set, take, drop, get_or, length-take, inl, inr}
+use Rattle.std.proofs.Common.{◌≡◌, ◌≢◌, ℕ, zero, suc, ◌+◌, ◌-◌, ◌*◌, ◌<◌, ◌≤◌, Bool, List, [], ◌∷◌, ◌++◌, Option, Some, None, IsSome, is_some, refl, sym, ap, ◌∙◌, subst, arith, length, map, set, take, drop, get_or, length-take}
 use Rattle.std.specs.Bool.{Decides}
 use Rattle.std.specs.List.{All, AllPairs, Contains, cons_option, count_by, filter_map, flat_map, range_with_len, slice_get}
 use Rattle.std.specs.Option.{option_and_then, option_map, option_map_or}
@@ -18,7 +18,7 @@ use Rattle.part_raw.proofs.Tuples.{held_tuple}
 use Rattle.part_raw.specs.declared.tuple_ref.TupleRef.{TupleRef}
 use Rattle.plain_tables.specs.declared.resolved.Assignment.{Assignment}
 use Rattle.mm_relation.proofs.Setting.{no_more}
-use Rattle.mm_relation.specs.Changes.{IsChanged, KeepsSchema}
+use Rattle.mm_relation.specs.Changes.{IsChanged}
 use Rattle.mm_relation.specs.Reading.{cell_value, key_at, link_of}
 use Rattle.mm_relation.specs.State.{RelationState, IsCurrent, IsKept, linked_keys}
 use Rattle.mm_relation.specs.declared.row.Cell.{Cell}

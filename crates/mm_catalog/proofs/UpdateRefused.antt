@@ -1,5 +1,5 @@
 -- Why an update sets no rows.
-use Rattle.std.proofs.Common.{◌≡◌, ℕ, List, Some, sym, subst, take, inl}
+use Rattle.std.proofs.Common.{◌≡◌, ℕ, List, Some, subst, take, inl}
 use Rattle.std.specs.List.{slice_get}
 use Rattle.std.specs.Prelude.{Result, Ok, Err, IfErr}
 use Rattle.plain_tables.specs.declared.refusal.Refusal.{Refusal}

@@ -24,8 +24,8 @@ mod declare;
 mod delete;
 mod insert;
 pub mod laws;
+mod lowering;
 mod referrers;
 mod updating;
-mod lowering;
 
 pub use catalog::Catalog;

@@ -53,10 +53,7 @@ fn sets_of(
 }
 
 // Puts a cell behind the others.
-fn push_set(
-    sets: &mut Vec<(ColumnNumber, Cell)>,
-    set: (ColumnNumber, Cell),
-) -> Result<(), NoMemory>
+fn push_set(sets: &mut Vec<(ColumnNumber, Cell)>, set: (ColumnNumber, Cell)) -> Result<(), NoMemory>
     ensures { OnOk result (sets.new.items ≡ sets.old.items ++ set ∷ []) }
 {
     sets.push(set)?;
@@ -140,12 +137,7 @@ fn raise_by(before: &mut [Relation], link: Link, n: u64)
 }
 
 // So many links more name each row that these cells link to.
-fn raise_sets(
-    before: &mut [Relation],
-    relation: &Relation,
-    sets: &[(ColumnNumber, Cell)],
-    n: u64,
-)
+fn raise_sets(before: &mut [Relation], relation: &Relation, sets: &[(ColumnNumber, Cell)], n: u64)
     requires kept { All IsKept before.old }
     requires columns { All (λ s. s.0.0 < length relation.now.targets) sets.now }
     requires held { All (IsHeldIn before.old) (set_links relation.now.targets sets.now) }

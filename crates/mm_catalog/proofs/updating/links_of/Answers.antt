@@ -1,5 +1,4 @@
 use Rattle.std.proofs.Common.{◌<◌, ◌++◌, List, length, map, get_or, sym, ap, ◌∙◌, arith}
-use Rattle.std.proofs.lemmas.List.Elements.{All-get_or}
 use Rattle.part_raw.proofs.Tuples.{held_tuple}
 use Rattle.mm_catalog.specs.Assigned.{linked_of, row_links_at}
 use Rattle.mm_catalog.specs.Linked.{Linked}

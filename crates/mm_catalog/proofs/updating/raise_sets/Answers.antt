@@ -1,8 +1,6 @@
-use Rattle.std.proofs.Common.{◌≡◌, ◌<◌, ◌*◌, Some, length, take, get_or, sym, ap, ◌∙◌, subst, arith}
-use Rattle.std.specs.List.{count_by}
+use Rattle.std.proofs.Common.{◌≡◌, ◌<◌, Some, length, get_or, sym, ap, ◌∙◌, arith}
 use Rattle.std.specs.Option.{option_map}
-use Rattle.mm_catalog.specs.Assigned.{AreRaisedTo, linked_of, set_link, set_links}
-use Rattle.mm_catalog.specs.Linked.{is_link_to}
+use Rattle.mm_catalog.specs.Assigned.{linked_of, set_link}
 use Rattle.mm_catalog.specs.Raised.{IsHeldIn}
 use Rattle.mm_catalog.proofs.Fewer.{held_still}
 use Rattle.mm_catalog.proofs.More.{AreRaisedTo-none, AreRaisedTo-same}

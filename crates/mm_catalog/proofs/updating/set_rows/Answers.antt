@@ -1,10 +1,10 @@
-use Rattle.std.proofs.Common.{rules, ◌≡◌, ℕ, ◌*◌, ◌<◌, ◌++◌, List, Option, Some, IsSome, length, map, set, take, drop, get_or, sym, ap, ◌∙◌, subst, inl, inr, refl}
+use Rattle.std.proofs.Common.{rules, ◌≡◌, ℕ, ◌*◌, ◌<◌, ◌++◌, List, Option, Some, IsSome, length, map, set, take, drop, get_or, sym, ap, ◌∙◌, subst}
 use Rattle.std.specs.List.{All, count_by, slice_get}
 use Rattle.std.specs.Prelude.{IfErr}
 use Rattle.plain_tables.specs.declared.refusal.Refusal.TheVariants.{NoMemory}
 use Rattle.mm_relation.specs.Changes.{IsChanged}
 use Rattle.mm_relation.specs.Reading.{cell_value}
-use Rattle.mm_relation.specs.State.{RelationState, IsCurrent, linked_keys}
+use Rattle.mm_relation.specs.State.{RelationState, linked_keys}
 use Rattle.mm_catalog.specs.Assigned.{AreNotSet, AreRaisedTo, CellSet, IsUpdated, linked_of, links_at, set_links}
 use Rattle.mm_catalog.specs.Linked.{is_link_to}
 use Rattle.mm_catalog.specs.Lowered.{AreLowered, HaveAtLeast}
@@ -33,15 +33,12 @@ pub returns-in_err-sets-clause-refused : goal.returns-in_err-sets-clause-refused
 returns-in_err-sets-clause-refused c =
     let relations = c.args.relations.now in
     let n = c.args.table.0 in
-    let front = c.split_at_mut-before.result.0.now in
     let rest = c.split_at_mut-before.result.1.now in
     let d = c.index-rest-0.result in
     let s : RelationState = get_or rest 0 d in
-    let k = c.requires.consistent in
     let at : slice_get relations n ≡ Some s =
     first_behind relations n d c.requires.there ∙ ap (λ rs. Some (get_or rs 0 d)) (sym c.split_at_mut-before.ensures.back) in
-    let there : slice_get k.0.relations n ≡ Some s = ap (λ rs. slice_get rs n) k.1 ∙ at in
-    let same : front ≡ take n k.0.relations = c.split_at_mut-before.ensures.front ∙ ap (take n) (sym k.1) in
+    let front = c.split_at_mut-before.result.0.now in
     let why : IfErr c.from_residual.result (AreNotSet front s.targets c.args.assignments) = search rules in
     not_set relations n s c.args.assignments at c.from_residual.result front c.split_at_mut-before.ensures.front why
 
@@ -49,15 +46,11 @@ pub links_of-requires-clause-held : goal.links_of-requires-clause-held
 links_of-requires-clause-held c =
     let relations = c.args.relations.now in
     let n = c.args.table.0 in
-    let front = c.split_at_mut-before.result.0.now in
     let rest = c.split_at_mut-before.result.1.now in
     let d = c.index-rest-0.result in
     let s : RelationState = get_or rest 0 d in
-    let k = c.requires.consistent in
     let at : slice_get relations n ≡ Some s =
     first_behind relations n d c.requires.there ∙ ap (λ rs. Some (get_or rs 0 d)) (sym c.split_at_mut-before.ensures.back) in
-    let there : slice_get k.0.relations n ≡ Some s = ap (λ rs. slice_get rs n) k.1 ∙ at in
-    let same : front ≡ take n k.0.relations = c.split_at_mut-before.ensures.front ∙ ap (take n) (sym k.1) in
     c.requires.held s at
 
 pub links_of-requires-clause-columns : goal.links_of-requires-clause-columns
@@ -82,15 +75,11 @@ pub returns-in_err-links-clause-refused : goal.returns-in_err-links-clause-refus
 returns-in_err-links-clause-refused c =
     let relations = c.args.relations.now in
     let n = c.args.table.0 in
-    let front = c.split_at_mut-before.result.0.now in
     let rest = c.split_at_mut-before.result.1.now in
     let d = c.index-rest-0.result in
     let s : RelationState = get_or rest 0 d in
-    let k = c.requires.consistent in
     let at : slice_get relations n ≡ Some s =
     first_behind relations n d c.requires.there ∙ ap (λ rs. Some (get_or rs 0 d)) (sym c.split_at_mut-before.ensures.back) in
-    let there : slice_get k.0.relations n ≡ Some s = ap (λ rs. slice_get rs n) k.1 ∙ at in
-    let same : front ≡ take n k.0.relations = c.split_at_mut-before.ensures.front ∙ ap (take n) (sym k.1) in
     let why : IfErr c.from_residual-in_err-links.result (λ e. e ≡ NoMemory) = search rules in
     no_memory relations n s c.args.assignments at c.from_residual-in_err-links.result why
 
@@ -98,15 +87,11 @@ pub change_rows-requires-clause-held : goal.change_rows-requires-clause-held
 change_rows-requires-clause-held c =
     let relations = c.args.relations.now in
     let n = c.args.table.0 in
-    let front = c.split_at_mut-before.result.0.now in
     let rest = c.split_at_mut-before.result.1.now in
     let d = c.index-rest-0.result in
     let s : RelationState = get_or rest 0 d in
-    let k = c.requires.consistent in
     let at : slice_get relations n ≡ Some s =
     first_behind relations n d c.requires.there ∙ ap (λ rs. Some (get_or rs 0 d)) (sym c.split_at_mut-before.ensures.back) in
-    let there : slice_get k.0.relations n ≡ Some s = ap (λ rs. slice_get rs n) k.1 ∙ at in
-    let same : front ≡ take n k.0.relations = c.split_at_mut-before.ensures.front ∙ ap (take n) (sym k.1) in
     c.requires.held s at
 
 pub change_rows-requires-clause-columns : goal.change_rows-requires-clause-columns
@@ -182,15 +167,11 @@ pub returns-in_err-change_rows-clause-refused : goal.returns-in_err-change_rows-
 returns-in_err-change_rows-clause-refused c =
     let relations = c.args.relations.now in
     let n = c.args.table.0 in
-    let front = c.split_at_mut-before.result.0.now in
     let rest = c.split_at_mut-before.result.1.now in
     let d = c.index-rest-0.result in
     let s : RelationState = get_or rest 0 d in
-    let k = c.requires.consistent in
     let at : slice_get relations n ≡ Some s =
     first_behind relations n d c.requires.there ∙ ap (λ rs. Some (get_or rs 0 d)) (sym c.split_at_mut-before.ensures.back) in
-    let there : slice_get k.0.relations n ≡ Some s = ap (λ rs. slice_get rs n) k.1 ∙ at in
-    let same : front ≡ take n k.0.relations = c.split_at_mut-before.ensures.front ∙ ap (take n) (sym k.1) in
     let why : IfErr c.from_residual-in_err-change_rows.result (λ e. e ≡ NoMemory) = search rules in
     no_memory relations n s c.args.assignments at c.from_residual-in_err-change_rows.result why
 

@@ -1,14 +1,12 @@
-use Rattle.std.proofs.Common.{◌≡◌, ◌++◌, ◌∷◌, [], Some, length, refl, sym, ap, ◌∙◌, subst, arith}
+use Rattle.std.proofs.Common.{◌≡◌, Some, length, refl, sym, ap, ◌∙◌, subst, arith}
 use Rattle.std.specs.List.{slice_get}
 use Rattle.std.specs.Prelude.{IfSome}
 use Rattle.std.proofs.lemmas.Iterator.Adapters.{YieldsList-from_vec}
 use Rattle.std.proofs.lemmas.Iterator.Consumers.{YieldsList-turn}
 use Rattle.std.proofs.lemmas.List.{length_push}
 use Rattle.std.proofs.lemmas.Option.{slice_get_read}
-use Rattle.plain_tables.specs.declared.resolved.Assignment.{Assignment}
 use Rattle.mm_catalog.specs.Assigned.{AreFirstSetBy, CellSet, IsSetBy}
 use Rattle.mm_catalog.specs.Cells.{IsCellOf}
-use Rattle.mm_catalog.specs.Linked.{target_at}
 use Rattle.mm_catalog.proofs.SetCells.{sets_more}
 use Rattle.mm_catalog.proofs.updating.sets_of.Goals as goal
 
@@ -27,9 +25,10 @@ loop-column-preserved c =
     ∙ slice_get_read v.items (length v.items) (length c.loop-column.yielded) a refl turn.0 turn.1 in
     let cell : IsCellOf before c.target_number-target.result a.value c.in_ok-cell.cell =
     subst (λ o. IfSome o (IsCellOf before c.target_number-target.result a.value)) c.in_ok-cell.ensures.ok_part c.cell_of.ensures.cell in
-    let is : IsSetBy before targets a set =
-    (refl,
-    subst (λ t. IsCellOf before t a.value c.in_ok-cell.cell) c.target_number-target.ensures cell) in
+    let is : IsSetBy before targets a set = (
+      refl,
+      subst (λ t. IsCellOf before t a.value c.in_ok-cell.cell) c.target_number-target.ensures cell,
+    ) in
     let pushed = c.in_ok-push_set.ensures in
     record {
       can_next = tt;
