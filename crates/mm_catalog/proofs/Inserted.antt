@@ -1,16 +1,17 @@
 -- A catalog into which a row comes: what it shows, that it stays consistent, and why one does not come.
-use Rattle.std.proofs.Common.{◌≡◌, ◌≢◌, ℕ, zero, suc, ◌+◌, ◌<◌, ◌≤◌, ◌&&◌, ◌==◌, ◌⊎◌, Bool, false, cond, List, [], ◌∷◌, ◌++◌, Option, Some, None, IsSome, is_some, refl, sym, ap, ◌∙◌, subst, arith, length, map, take, drop, set, get_or, length-take, zero-add, inl, inr}
-use Rattle.std.specs.List.{All, count_by, slice_get, flat_map, filter_map, range_with_len}
+use Rattle.std.proofs.Common.{◌≡◌, ◌≢◌, ℕ, suc, ◌+◌, ◌<◌, ◌≤◌, ◌==◌, ◌⊎◌, Bool, false, cond, List, [], ◌∷◌, ◌++◌, Option, Some, None, refl, sym, ap, ◌∙◌, subst, arith, length, map, take, drop, set, get_or, length-take, zero-add, inl, inr}
+use Rattle.std.specs.List.{All, count_by, slice_get, flat_map, range_with_len}
 use Rattle.std.specs.Prelude.{Result, Ok, Err, OnOk, OnErr, IfErr}
 use Rattle.std.specs.Option.{option_and_then, option_map_or}
 use Rattle.std.specs.Ordering.{is_eq}
-use Rattle.std.specs.FinMap.{get, insert}
+use Rattle.std.specs.FinMap as finite
+use Rattle.std.specs.FinMap.{get}
 use Rattle.std.proofs.lemmas.Bool.{and_left, and_right, cases_eq, cases_lt, ne_eqb}
 use Rattle.std.proofs.lemmas.List.Sums.{sum_by-cons}
 use Rattle.std.proofs.lemmas.Option.{none-some, same_Some, slice_get_within, slice_get-get_or}
 use Rattle.part_raw.specs.TupleRefs.{ref_cmp}
 use Rattle.part_raw.specs.declared.tuple_ref.TupleRef.{TupleRef}
-use Rattle.part_raw.proofs.Tuples.{get-insert_same, get-insert_other, held_tuple, same_ref_other}
+use Rattle.part_raw.proofs.Tuples.{get-insert_same, get-insert_other, same_ref_other}
 use Rattle.part_raw.proofs.Lookup.{same_or_other}
 use Rattle.plain_tables.specs.Tables.{Table, with_row}
 use Rattle.plain_tables.specs.Doing.{done}
@@ -27,22 +28,20 @@ use Rattle.plain_tables.proofs.SoundLemmas.{done_keeps_sound}
 use Rattle.mm_relation.specs.declared.row.Row.{Row}
 use Rattle.mm_relation.specs.declared.row.Cell.{Cell}
 use Rattle.mm_relation.specs.Changes.{new_row}
-use Rattle.mm_relation.specs.Reading.{Keys, key_at, link_in}
-use Rattle.mm_relation.specs.State.{RelationState, IsKept, linked_keys}
+use Rattle.mm_relation.specs.State.{RelationState, HasKey, linked_keys}
 use Rattle.mm_catalog.specs.State.{CatalogState}
 use Rattle.mm_catalog.specs.Seen.{database_of, table_of, rows_of, row_values, plain_index}
-use Rattle.mm_catalog.specs.Linked.{Linked, target_at, link_at, row_links, relation_links, links, links_to, is_link_to, HasLinksOrNulls}
+use Rattle.mm_catalog.specs.Linked.{Linked, link_at, row_links, relation_links, links, links_to, is_link_to, HasLinksOrNulls}
 use Rattle.mm_catalog.specs.Consistent.{IsConsistent, AreCounted}
 use Rattle.mm_catalog.specs.Changes.{HasEffect, IsRefusedFor}
 use Rattle.mm_catalog.specs.Recounted.{HaveReferrers, IsRewritten}
 use Rattle.mm_catalog.specs.Raised.{HaveRoom}
 use Rattle.mm_catalog.specs.Cells.{AreCellsOf}
-use Rattle.mm_catalog.specs.Inserted.{CanComeIn, IsKeptOut, no_memory, key_there, none_named, full, IsTakenIn, IsInsertedAt, IsRefusedAt}
+use Rattle.mm_catalog.specs.Inserted.{IsKeptOut, no_memory, key_there, none_named, full, IsTakenIn, IsInsertedAt, IsRefusedAt}
 use Rattle.mm_catalog.proofs.Lists.{get-take}
 use Rattle.mm_catalog.proofs.Outlines.{keys_before}
 use Rattle.mm_catalog.proofs.Back.{lead_back}
-use Rattle.mm_catalog.proofs.Declared.{among_at, there_at, named_at, table_at}
-use Rattle.mm_catalog.proofs.Tables.{database-get}
+use Rattle.mm_catalog.proofs.Declared.{among_at, named_at, table_at}
 use Rattle.mm_catalog.proofs.Counting.{links_inserted}
 use Rattle.mm_catalog.proofs.Shown.{rows_inserted}
 use Rattle.mm_catalog.proofs.LinksHeld.{link_held}
@@ -131,7 +130,7 @@ pub record IsGrown (c : CatalogState) (relations : List RelationState) (n : Tabl
   pub effect : HasEffect c (record c { relations = relations }) (done c.limits (database_of c) (resolved.Insert n values)) 1
   pub consistent : IsConsistent (record c { relations = relations })
 
-module _ (c : CatalogState) (ok : IsConsistent c) (n : TableNumber) (key : Value) (rest : List Value) (meant : IsMeant c.limits (database_of c) (resolved.Insert n (key ∷ rest))) (b a : RelationState) (front : List RelationState) (cells : List Cell) (there : slice_get c.relations n.0 ≡ Some b) (row : CanComeIn (take n.0 c.relations) b c.limits.rows (key ∷ rest) key cells) (are : AreCellsOf (take n.0 c.relations) b.targets rest cells) (taken : IsTakenIn (take n.0 c.relations) front b a (new_row key cells)) where
+module _ (c : CatalogState) (ok : IsConsistent c) (n : TableNumber) (key : Value) (rest : List Value) (meant : IsMeant c.limits (database_of c) (resolved.Insert n (key ∷ rest))) (b a : RelationState) (front : List RelationState) (cells : List Cell) (there : slice_get c.relations n.0 ≡ Some b) (fresh : HasKey b.rows key → ⊥) (are : AreCellsOf (take n.0 c.relations) b.targets rest cells) (room : finite.len b.rows < c.limits.rows) (taken : IsTakenIn (take n.0 c.relations) front b a (new_row key cells)) where
   abbrev values : List Value
   values = key ∷ rest
 
@@ -175,7 +174,7 @@ module _ (c : CatalogState) (ok : IsConsistent c) (n : TableNumber) (key : Value
   rows_now : rows_of (linked_keys a.targets c.relations) a ≡ with_row values (rows_of (linked_keys b.targets c.relations) b)
   rows_now =
       (λ i. rows_of (linked_keys (taken.inserted.keeps.targets i) c.relations) (record a { schema = taken.inserted.keeps.schema i }))
-      ∙ rows_inserted b a (among_at c ok n.0 b there).kept taken.kept taken.r t taken.inserted row.fresh (linked_keys b.targets c.relations) (some_column c ok n.0 b there)
+      ∙ rows_inserted b a (among_at c ok n.0 b there).kept taken.kept taken.r t taken.inserted fresh (linked_keys b.targets c.relations) (some_column c ok n.0 b there)
       ∙ ap (λ v. with_row v (rows_of (linked_keys b.targets c.relations) b)) values_here
 
   table_now : table_of c.relations name.0 a ≡ grown_by values (table_of c.relations name.0 b)
@@ -188,7 +187,7 @@ module _ (c : CatalogState) (ok : IsConsistent c) (n : TableNumber) (key : Value
   }
 
   effect_is : done c.limits (database_of c) (resolved.Insert n values) ≡ record { database = set (database_of c) n.0 (grown_by values (table_of c.relations name.0 b)); outcome = Changed 1 }
-  effect_is = nothing_refuses c ok n b there name.0 name.1 key rest row.fresh cells are row.room
+  effect_is = nothing_refuses c ok n b there name.0 name.1 key rest fresh cells are room
 
   database_now : database_of (record c { relations = new }) ≡ (done c.limits (database_of c) (resolved.Insert n values)).database
   database_now =
@@ -215,7 +214,7 @@ module _ (c : CatalogState) (ok : IsConsistent c) (n : TableNumber) (key : Value
 
   counts : (table : ℕ) (r : TupleRef) → table < n.0 → count table r + count_by (is_link_to table r) (relation_links b) ≡ links_to c.relations table r + count_by (is_link_to table r) (relation_links a)
   counts table r below =
-      omega (arith, links_inserted b a (among_at c ok n.0 b there).kept taken.kept taken.r t taken.inserted row.fresh (is_link_to table r))
+      omega (arith, links_inserted b a (among_at c ok n.0 b there).kept taken.kept taken.r t taken.inserted fresh (is_link_to table r))
 
   own : (r : TupleRef) (u : Row) → get a.rows r ≡ Some u → u.referrers ≡ links_to c.relations n.0 r
   own r u found = elim (same_or_other r taken.r) [
@@ -242,38 +241,32 @@ module _ (c : CatalogState) (ok : IsConsistent c) (n : TableNumber) (key : Value
         (current_beside_old c ok n.0 new b a rewritten taken.current) linked_now counted_now sound_now;
   }
 
-split_of : (values : List Value) (key : Value) (rest : List Value) → values ≡ key ∷ rest → (P : List Value → Type 0) → P (key ∷ rest) → P values
-split_of values key rest e P h = subst P (sym e) h
-
 module _ (c : CatalogState) (ok : IsConsistent c) (n : TableNumber) (values : List Value) (meant : IsMeant c.limits (database_of c) (resolved.Insert n values)) where
   pub grown_from : (relations : List RelationState) → IsInsertedAt c.relations relations n.0 c.limits.rows values → IsGrown c relations n values
   grown_from relations h =
       let e = h.row.split in
-      let row : CanComeIn (take n.0 c.relations) h.before c.limits.rows (h.key ∷ h.row.rest) h.key h.cells = record { rest = h.row.rest; split = refl; fresh = h.row.fresh; cells = h.row.cells; room = h.row.room } in
       subst (λ rs. IsGrown c rs n values) (sym h.list)
       (subst (IsGrown c (h.front ++ set (drop n.0 c.relations) 0 h.after) n) (sym e)
-      (grown_now c ok n h.key h.row.rest (subst (λ vs. IsMeant c.limits (database_of c) (resolved.Insert n vs)) e meant) h.before h.after h.front h.cells h.there row h.row.cells h.taken))
+      (grown_now c ok n h.key h.row.rest (subst (λ vs. IsMeant c.limits (database_of c) (resolved.Insert n vs)) e meant) h.before h.after h.front h.cells h.there h.row.fresh h.row.cells h.row.room h.taken))
 
   -- ---- a row that did not come
 
-  kept_out : (key : Value) (rest : List Value) (s : RelationState) (there : slice_get c.relations n.0 ≡ Some s) → length (key ∷ rest) ≡ length s.schema.columns → (refusal : Refusal) → IsKeptOut (take n.0 c.relations) s c.limits.rows key rest refusal → (refusal ≡ NoMemory) ⊎ ((done c.limits (database_of c) (resolved.Insert n (key ∷ rest))).outcome ≡ Refused refusal)
-  kept_out key rest s there wide refusal why =
-      let name = named_at c ok n.0 (slice_get_within c.relations n.0 s there) in
-      elim why [
-        | no_memory ↦ inl refl
-        | key_there h ↦ inr (key_refuses c ok n s there name.0 name.1 key rest h)
-        | none_named fresh none ↦ inr (reference_refuses c ok n s there name.0 name.1 key rest fresh wide none)
-        | full fresh cells are above ↦ inr (full_refuses c ok n s there name.0 name.1 key rest fresh cells are above)
-      ]
+  kept_out : (key : Value) (rest : List Value) (s : RelationState) (there : slice_get c.relations n.0 ≡ Some s) (called : List ℕ) (named : slice_get c.names n.0 ≡ Some called) → length (key ∷ rest) ≡ length s.schema.columns → (refusal : Refusal) → IsKeptOut (take n.0 c.relations) s c.limits.rows key rest refusal → (refusal ≡ NoMemory) ⊎ ((done c.limits (database_of c) (resolved.Insert n (key ∷ rest))).outcome ≡ Refused refusal)
+  kept_out key rest s there called named columns refusal no_memory = inl refl
+  kept_out key rest s there called named columns refusal (key_there h) = inr (key_refuses c ok n s there called named key rest h)
+  kept_out key rest s there called named columns refusal (none_named fresh none) = inr (reference_refuses c ok n s there called named key rest fresh columns none)
+  kept_out key rest s there called named columns refusal (full fresh cells are above) = inr (full_refuses c ok n s there called named key rest fresh cells are above)
 
   pub refused_from : (relations : List RelationState) (refusal : Refusal) → IsRefusedAt c.relations n.0 c.limits.rows values refusal → relations ≡ c.relations → IsRefusedFor c (record c { relations = relations }) (done c.limits (database_of c) (resolved.Insert n values)) refusal
   refused_from relations refusal h same =
       let e = h.row.split in
-      let wide : length (h.row.key ∷ h.row.rest) ≡ length h.relation.schema.columns =
-      ap length (sym e) ∙ values_width c ok n values meant h.relation h.there ∙ (among_at c ok n.0 h.relation h.there).kept.width in
-      (ap (λ rs. record c { relations = rs }) same,
-      subst (λ vs. (refusal ≡ NoMemory) ⊎ ((done c.limits (database_of c) (resolved.Insert n vs)).outcome ≡ Refused refusal)) (sym e)
-      (kept_out h.row.key h.row.rest h.relation h.there wide refusal h.row.why))
+      let name = named_at c ok n.0 (slice_get_within c.relations n.0 h.relation h.there) in
+      let columns : length (h.row.key ∷ h.row.rest) ≡ length h.relation.schema.columns =
+      ap length (sym e) ∙ values_width c ok n values meant h.relation h.there ∙ (among_at c ok n.0 h.relation h.there).kept.width in (
+        ap (λ rs. record c { relations = rs }) same,
+        subst (λ vs. (refusal ≡ NoMemory) ⊎ ((done c.limits (database_of c) (resolved.Insert n vs)).outcome ≡ Refused refusal)) (sym e)
+            (kept_out h.row.key h.row.rest h.relation h.there name.0 name.1 columns refusal h.row.why),
+      )
 
   -- ---- the answer
 

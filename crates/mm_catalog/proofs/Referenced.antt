@@ -149,6 +149,14 @@ module _ (c : CatalogState) (ok : IsConsistent c) where
       let called = get_within c.names i (omega (arith, ok.named, slice_get_within c.relations i u there)) in
       ap (λ o. option_map_or (λ (t : Table). has_key_of (v ∷ []) t.rows) o false) (table_found name i e ∙ database-get c ok.named i called.0 u called.1 there)
 
+  held_by_key : (name : List ℕ) (i : ℕ) (u : RelationState) (v : Value) → position (has_name name) c.names ≡ Some i → slice_get c.relations i ≡ Some u → HasKey u.rows v → is_held (database_of c) (name, v) ≡ true
+  held_by_key name i u v e there h =
+      held_is name i u v e there ∙ key_shown u (among_at c ok i u there).kept (linked_keys u.targets c.relations) (some_column i u there) v [] h
+
+  not_held : (name : List ℕ) (i : ℕ) (u : RelationState) (v : Value) → position (has_name name) c.names ≡ Some i → slice_get c.relations i ≡ Some u → (HasKey u.rows v → ⊥) → is_held (database_of c) (name, v) ≡ false
+  not_held name i u v e there h =
+      held_is name i u v e there ∙ no_key_shown u (among_at c ok i u there).kept (linked_keys u.targets c.relations) (some_column i u there) v [] h
+
   module _ (n : ℕ) (s : RelationState) (there : slice_get c.relations n ≡ Some s) (k : ℕ) (column : Column) (at : slice_get s.schema.columns k ≡ Some column) (value : Value) where
     pub target_here : target_at s.targets k ≡ target_of c.names column
     target_here =
@@ -190,8 +198,7 @@ module _ (c : CatalogState) (ok : IsConsistent c) where
         let u = relation_at i.0 leads in
         let key = key_there i.0 u.0 cell by.0 leads u.2 is in
         let same : ref ≡ (ref.0, value) = λ j. (ref.0, by.2 j) in
-        ap (is_held (database_of c)) same ∙ held_is ref.0 i.0 u.0 value i.1 u.1
-        ∙ key_shown u.0 (among_at c ok i.0 u.0 u.1).kept (linked_keys u.0.targets c.relations) (some_column i.0 u.0 u.1) value [] key
+        ap (is_held (database_of c)) same ∙ held_by_key ref.0 i.0 u.0 value i.1 u.1 key
 
     reference_some : (v : Value) (o : Option (List ℕ)) → referred column.kind ≡ o → v ≢ Null → reference_of column v ≡ option_map (λ name. (name, v)) o
     reference_some Null o e some = absurd (some refl)
@@ -216,6 +223,5 @@ module _ (c : CatalogState) (ok : IsConsistent c) where
         let absent : HasKey u.0.rows value → ⊥ = subst (λ (r : RelationState). HasKey r.rows value → ⊥) same none.absent in (
           (name.0, value),
           reference_some value (Some name.0) name.1 none.some,
-          held_is name.0 i.0 u.0 value name.2 u.1
-              ∙ no_key_shown u.0 (among_at c ok i.0 u.0 u.1).kept (linked_keys u.0.targets c.relations) (some_column i.0 u.0 u.1) value [] absent,
+          not_held name.0 i.0 u.0 value name.2 u.1 absent,
         )

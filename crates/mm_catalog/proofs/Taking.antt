@@ -1,10 +1,9 @@
 -- The steps by which a row comes into a relation.
-use Rattle.std.proofs.Common.{◌≡◌, ◌≢◌, ◌<◌, ◌⊎◌, Bool, true, false, List, [], ◌∷◌, Option, Some, None, refl, sym, ap, ◌∙◌, subst, arith, length, get_or, remove, inl, inr}
+use Rattle.std.proofs.Common.{◌≡◌, ◌≢◌, ◌<◌, true, false, List, [], ◌∷◌, Option, Some, None, sym, ap, ◌∙◌, subst, arith, length, get_or, remove, inl, inr, drop, ℕ}
 use Rattle.std.specs.Prelude.{IfSome, IfNone, is_some}
-use Rattle.std.specs.List.{All}
+use Rattle.std.specs.List.{slice_get}
 use Rattle.std.specs.FinMap.{get}
 use Rattle.std.proofs.lemmas.Bool.{false≢true}
-use Rattle.std.proofs.lemmas.Option.{same_Some}
 use Rattle.part_raw.specs.declared.tuple_ref.TupleRef.{TupleRef}
 use Rattle.part_raw.specs.Store.{Tuples}
 use Rattle.part_raw.proofs.Tuples.{get-insert_same}
@@ -15,7 +14,8 @@ use Rattle.mm_relation.specs.Changes.{IsInserted}
 use Rattle.mm_relation.specs.Reading.{key_at}
 use Rattle.mm_relation.specs.State.{RelationState, HasKey}
 use Rattle.mm_catalog.specs.Cells.{AreRefused}
-use Rattle.mm_catalog.specs.Inserted.{IsKeptOut, no_memory, none_named, CannotComeIn}
+use Rattle.mm_catalog.proofs.Lists.{first_behind}
+use Rattle.mm_catalog.specs.Inserted.{IsKeptOut, no_memory, none_named}
 
 -- a list by its first element and the others
 pub split_first : (values : List Value) (key : Value) (rest : List Value) → 0 < length values → key ≡ get_or values 0 key → rest ≡ remove values 0 → values ≡ key ∷ rest
@@ -38,3 +38,7 @@ kept_out_by_cells relations s most key rest refusal fresh (inr h) = subst (IsKep
 -- the row that came in is held
 pub row_here : (old new : RelationState) (r : TupleRef) (row : Row) → IsInserted old new r row → get new.rows r ≡ Some row
 row_here old new r row h = ap (λ m. get m r) h.rows ∙ get-insert_same old.rows r row
+
+-- the relation of a number, where the list is split at it
+pub split_here : (old back : List RelationState) (n : ℕ) (d : RelationState) → n < length old → back ≡ drop n old → slice_get old n ≡ Some (get_or back 0 d)
+split_here old back n d within e = first_behind old n d within ∙ ap (λ rs. Some (get_or rs 0 d)) (sym e)

@@ -6,6 +6,7 @@ ghost use Rattle.std.specs.Option.{option_map};
 use crate::create::aimed;
 use crate::declare::{declare, undeclare};
 use crate::delete::delete;
+use crate::insert::insert;
 use crate::updating::set_rows;
 use indexmap::IndexSet;
 use mm_relation::{Relation, Relations};
@@ -13,6 +14,7 @@ use no_memory::NoMemory;
 use part_raw::TupleRef;
 use plain_tables::{
     Assignment, ColumnNumber, IndexKind, Limits, Refusal, Schema, Sequence, TableNumber, Text,
+    Value,
 };
 use std::alloc::Global;
 use std::marker::Model;
@@ -49,7 +51,8 @@ impl Catalog {
     ghost use Rattle.plain_tables.specs.Doing as doing;
     ghost use Rattle.plain_tables.specs.Effects.{Refused};
     ghost use Rattle.plain_tables.specs.Tables.{Row};
-    ghost use Rattle.mm_catalog.specs.Changes.{IsDone, HasEffect};
+    ghost use Rattle.plain_tables.specs.Doing.{done};
+    ghost use Rattle.mm_catalog.specs.Changes.{IsDone, HasEffect, IsRefusedFor};
     ghost use Rattle.mm_catalog.specs.Picked.{ArePicked, HoldsRows};
 
     /// A catalog of no tables, under these limits. It takes no memory.
@@ -120,6 +123,23 @@ impl Catalog {
         ensures { IsDone self.old self.new (resolved.DropIndex table column kind) }
     {
         undeclare(self.relations.as_mut_slice(), table, column, kind)
+    }
+
+    /// Puts a row into a table. The answer is 41 where a row with its key is there, else 42 where a reference of it names
+    /// no row, else 43 where the table is full, and 90 where no memory is found. All is then as before.
+    pub fn insert(&mut self, table: TableNumber, values: Sequence<Value>) -> Result<(), Refusal>
+        requires { IsMeant self.old.limits (database_of self.old) (resolved.Insert table values) }
+        ensures inserted { OnOk result (HasEffect self.old self.new (done self.old.limits (database_of self.old) (resolved.Insert table values)) 1) }
+        ensures refused { IfErr result (IsRefusedFor self.old self.new (done self.old.limits (database_of self.old) (resolved.Insert table values))) }
+    {
+        let alloc = *self.relations.allocator();
+        insert(
+            alloc,
+            self.relations.as_mut_slice(),
+            self.limits,
+            table,
+            values,
+        )
     }
 
     /// Takes rows out of a table. Where a row of some table refers to one of them, it takes out none. It takes no memory.

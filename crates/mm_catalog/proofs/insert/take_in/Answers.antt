@@ -1,12 +1,9 @@
-use Rattle.std.proofs.Common.{◌≡◌, Some, sym, ap, ◌∙◌, subst, is_some}
+use Rattle.std.proofs.Common.{◌≡◌, sym, ap, ◌∙◌, subst, is_some}
 use Rattle.std.specs.List.{All}
-use Rattle.std.specs.FinMap.{get}
 use Rattle.std.proofs.lemmas.Option.{same_Some}
-use Rattle.mm_relation.specs.declared.row.Row.{Row}
 use Rattle.mm_relation.specs.Changes.{new_row}
 use Rattle.mm_catalog.specs.Linked.{row_links}
 use Rattle.mm_catalog.specs.Raised.{IsHeldIn, AreRaised}
-use Rattle.mm_catalog.specs.Inserted.{IsTakenIn}
 use Rattle.mm_catalog.proofs.Taking.{row_here}
 use Rattle.mm_catalog.proofs.insert.take_in.Goals as goal
 
