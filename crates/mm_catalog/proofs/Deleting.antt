@@ -1,23 +1,20 @@
 -- A catalog of which rows of one table are deleted: what it shows, and that it stays consistent.
-use Rattle.std.proofs.Common.{◌≡◌, ◌≢◌, ℕ, ◌<◌, ◌≤◌, ◌+◌, ◌-◌, Bool, true, false, not, cond, IsTrue, List, [], ◌∷◌, ◌++◌, Some, None, IsSome, is_some, refl, sym, ap, ◌∙◌, subst, arith, length, map, set, take, drop, filter, get_or, length-take}
-use Rattle.std.specs.List.{All, AllPairs, Any, Contains, count_by, flat_map, list_any, slice_get, sum_by}
+use Rattle.std.proofs.Common.{◌≡◌, ◌≢◌, ℕ, ◌<◌, ◌≤◌, ◌-◌, Bool, true, false, not, IsTrue, List, [], ◌++◌, Some, IsSome, is_some, refl, sym, ap, ◌∙◌, subst, arith, length, map, set, take, drop, filter, get_or, length-take}
+use Rattle.std.specs.List.{All, AllPairs, Any, Contains, count_by, list_any, slice_get}
 use Rattle.std.specs.Option.{option_and_then, option_map_or}
 use Rattle.std.specs.Ordering.{is_eq}
-use Rattle.std.specs.declared.cmp.Ordering.{Ordering}
-use Rattle.std.specs.declared.cmp.Ordering.TheVariants.{Less, Equal, Greater}
 use Rattle.std.specs.Prelude.{Result, Ok, Err, IfErr, OnOk, OnErr}
 use Rattle.std.specs.FinMap.{get}
-use Rattle.std.proofs.lemmas.Bool.{false≢true}
 use Rattle.std.proofs.lemmas.Cmp.{eq_by_cmp_equiv}
 use Rattle.std.proofs.lemmas.List.Elements.{All-contains, Contains-get_or}
 use Rattle.std.proofs.lemmas.List.Folds.{Any-from_list_any, list_any-from_Any, list_any_none}
 use Rattle.std.proofs.lemmas.List.Sums.{get_or-le-sum_by}
-use Rattle.std.proofs.lemmas.Option.{none-some, same_Some, slice_get_within, get_or_from_slice_get}
+use Rattle.std.proofs.lemmas.Option.{none-some, slice_get_within, get_or_from_slice_get}
 use Rattle.part_raw.specs.declared.tuple_ref.TupleRef.{TupleRef}
 use Rattle.part_raw.proofs.Tuples.{held_tuple}
 use Rattle.mm_index.proofs.Members.{Contains-filter, Contains-from_filter, Contains-map, Contains-from_map}
-use Rattle.plain_tables.specs.Doing.{delete, delete_checks, on_table, picked, without}
-use Rattle.plain_tables.specs.Effects.{Changed, Refused, checked}
+use Rattle.plain_tables.specs.Doing.{delete, picked, without}
+use Rattle.plain_tables.specs.Effects.{Changed, Refused}
 use Rattle.plain_tables.specs.Databases.{Database}
 use Rattle.plain_tables.specs.References.{IsSound, is_referenced}
 use Rattle.plain_tables.specs.Tables.{Table, key_cmp}
@@ -37,11 +34,11 @@ use Rattle.mm_catalog.specs.Seen.{database_of, table_of, rows_of, row_values, va
 use Rattle.mm_catalog.specs.Linked.{Linked, is_link_to, links, links_to, relation_links, HasLinksOrNulls}
 use Rattle.mm_catalog.specs.Consistent.{IsConsistent, AreCounted}
 use Rattle.mm_catalog.specs.Changes.{HasEffect}
-use Rattle.mm_catalog.specs.Picked.{ArePicked, seen_values}
+use Rattle.mm_catalog.specs.Picked.{ArePicked}
 use Rattle.mm_catalog.specs.Recounted.{HaveReferrers, IsRewritten}
 use Rattle.mm_catalog.specs.Lowered.{HaveAtLeast}
 use Rattle.mm_catalog.specs.Deleted.{AreDeleted, AreRemoved, AreUnlinked, AllFree, AnyReferenced, IsFree, IsReferenced}
-use Rattle.mm_catalog.proofs.Lists.{All-get, get_within, get-take}
+use Rattle.mm_catalog.proofs.Lists.{get_within, get-take}
 use Rattle.mm_catalog.proofs.Declared.{among_at, named_at}
 use Rattle.mm_catalog.proofs.Elsewhere.{rewritten_from, kept_from, counted_from, current_beside_old, consistent_rewritten, database_rewritten}
 use Rattle.mm_catalog.proofs.Fewer.{counted_lowered}
@@ -108,12 +105,13 @@ module _ (c : CatalogState) (ok : IsConsistent c) where
         (among_at c ok n.0 s there).kept.keyed.keys_differ.apart q r hq hr alike
 
     pub choice_picks : PicksThese keys s refs choice
-    choice_picks r here =
-        (λ h. list_any-from_Any (λ q. is_eq (key_cmp (seen r) (seen q))) refs
-        (h.0, r, h.1, h.2, (eq_by_cmp_equiv key_cmp_total).refl (seen r)),
-        λ e. let found = Any-from_list_any (λ q. is_eq (key_cmp (seen r) (seen q))) refs e in
-        let member : Contains refs found.1 = (found.0, found.2, found.3) in
-        subst (Contains refs) (sym (same_key r found.1 here (All-contains (λ q. IsSome (get s.rows q)) refs found.1 held member) found.4)) member)
+    choice_picks r here = (
+      λ h. list_any-from_Any (λ q. is_eq (key_cmp (seen r) (seen q))) refs
+          (h.0, r, h.1, h.2, (eq_by_cmp_equiv key_cmp_total).refl (seen r)),
+      λ e. let found = Any-from_list_any (λ q. is_eq (key_cmp (seen r) (seen q))) refs e in
+          let member : Contains refs found.1 = (found.0, found.2, found.3) in
+          subst (Contains refs) (sym (same_key r found.1 here (All-contains (λ q. IsSome (get s.rows q)) refs found.1 held member) found.4)) member,
+    )
 
     -- ---- whether a row that is picked is referenced
 
@@ -149,9 +147,13 @@ module _ (c : CatalogState) (ok : IsConsistent c) where
           let member : Contains refs r = (found.0, found.2, found.3) in
           let listed : Contains (map seen s.by_key) (seen r) = Contains-map seen s.by_key r ((among_at c ok n.0 s there).kept.keyed.lists.listed r here) in
           let inside = Contains-filter picks (map seen s.by_key) (seen r) listed ((picking r here).0 member) in
-          list_any-from_Any (is_referenced (database_of c) name) (filter picks (map seen s.by_key))
-          (inside.0, seen r, inside.1, inside.2,
-          ap (is_referenced (database_of c) name) (seen_row r row at) ∙ referenced c ok n.0 name s r row named there at found.4.2)
+          list_any-from_Any (is_referenced (database_of c) name) (filter picks (map seen s.by_key)) (
+            inside.0,
+            seen r,
+            inside.1,
+            inside.2,
+            ap (is_referenced (database_of c) name) (seen_row r row at) ∙ referenced c ok n.0 name s r row named there at found.4.2,
+          )
 
       pub refused_with : Any (IsReferenced s) refs → (delete (database_of c) n picks).outcome ≡ Refused RowIsReferenced
       refused_with found = ap (λ e. e.outcome) (refused_there (database_of c) n picks table table_there (some_referenced found))

@@ -1,13 +1,13 @@
 -- Which rows of a catalog are referenced: those that links name.
 use Rattle.std.proofs.Common.{◌≡◌, ◌≢◌, ℕ, zero, suc, ◌<◌, ◌+◌, ◌-◌, ◌==◌, ◌&&◌, Bool, true, false, cond, IsTrue, List, [], ◌∷◌, Option, Some, None, IsSome, is_some, refl, sym, ap, ◌∙◌, subst, arith, length, map, take, get_or, inl, inr}
-use Rattle.std.specs.List.{All, AllPairs, filter_map, find, flat_map, list_any, position, range_with_len, slice_get, zip}
+use Rattle.std.specs.List.{All, list_any, position, range_with_len, slice_get, zip}
 use Rattle.std.specs.Option.{option_and_then, option_map, option_map_or}
 use Rattle.std.specs.Ordering.{is_eq, ordering_then}
 use Rattle.std.specs.declared.cmp.Ordering.{Ordering}
 use Rattle.std.specs.declared.cmp.Ordering.TheVariants.{Less, Equal, Greater}
 use Rattle.std.specs.Str.{bytes_eq}
 use Rattle.std.specs.FinMap.{get}
-use Rattle.std.proofs.lemmas.Bool.{false≢true, cases_lt, cases_order, eq-eqb, eqb-true}
+use Rattle.std.proofs.lemmas.Bool.{false≢true, cases_order, eq-eqb, eqb-true}
 use Rattle.std.proofs.lemmas.List.Quantifiers.{position-Some}
 use Rattle.std.proofs.lemmas.Option.{none-some, same_Some, slice_get-map, slice_get_within, slice_get-get_or, get_or_from_slice_get}
 use Rattle.std.proofs.lemmas.Slice.Eq.{bytes_eq-Decides}
@@ -29,12 +29,12 @@ use Rattle.mm_relation.specs.declared.row.Row.{Row}
 use Rattle.mm_relation.specs.declared.row.Cell.{Cell}
 use Rattle.mm_relation.specs.declared.row.Cell.TheVariants.{Held, Link}
 use Rattle.mm_relation.specs.Reading.{Keys, cell_value, key_at, link_in, link_of, row_value}
-use Rattle.mm_relation.specs.State.{RelationState, IsKept, linked_keys}
+use Rattle.mm_relation.specs.State.{RelationState, linked_keys}
 use Rattle.mm_relation.proofs.Serving.{from_mapped}
 use Rattle.mm_catalog.specs.State.{CatalogState}
 use Rattle.mm_catalog.specs.Seen.{database_of, table_of, rows_of, values_of, row_values, or_null}
-use Rattle.mm_catalog.specs.Linked.{target_of, target_at, link_at, row_links, relation_links, links, is_link_to, links_to, HasLinksOrNulls}
-use Rattle.mm_catalog.specs.Consistent.{IsAmong, IsConsistent}
+use Rattle.mm_catalog.specs.Linked.{target_of, target_at, link_at, row_links, relation_links, links, is_link_to, links_to}
+use Rattle.mm_catalog.specs.Consistent.{IsConsistent}
 use Rattle.mm_catalog.proofs.Anywhere.{any_flat, any_filter_map, any_alike, any_zip, any_numbered, any_place, none_counted, some_counted, same_tests, and_alike}
 use Rattle.mm_catalog.proofs.Back.{RefersInto, refers_before, names-database}
 use Rattle.mm_catalog.proofs.Declared.{among_at, named_at}
