@@ -90,7 +90,7 @@ module _ (c : CatalogState) (ok : IsConsistent c) where
 
     -- ---- a choice that picks just these rows
 
-    abbrev choice : List Value → Bool
+    abbrev pub choice : List Value → Bool
     choice v = list_any (λ r. is_eq (key_cmp v (seen r))) refs
 
     same_key : (q r : TupleRef) → IsSome (get s.rows q) → IsSome (get s.rows r) → is_eq (key_cmp (seen q) (seen r)) ≡ true → q ≡ r
@@ -104,7 +104,7 @@ module _ (c : CatalogState) (ok : IsConsistent c) where
         ap (option_and_then (λ (x : Row). Some x.key)) t.1 ∙ ap (λ k. Some k) one ∙ sym (ap (option_and_then (λ (x : Row). Some x.key)) u.1) in
         (among_at c ok n.0 s there).kept.keyed.keys_differ.apart q r hq hr alike
 
-    choice_picks : PicksThese keys s refs choice
+    pub choice_picks : PicksThese keys s refs choice
     choice_picks r here = (
       λ h. list_any-from_Any (λ q. is_eq (key_cmp (seen r) (seen q))) refs
           (h.0, r, h.1, h.2, (eq_by_cmp_equiv key_cmp_total).refl (seen r)),

@@ -28,6 +28,12 @@ pub mod Dropped
 pub mod Dropping
 pub mod Raising
 pub mod CellRows
+pub mod More
+pub mod SetLinks
+pub mod SetCells
+pub mod SumsApart
+pub mod RowSets
+pub mod RelationSets
 pub mod Referenced
 pub mod Bounded
 pub mod Checked
@@ -38,3 +44,6 @@ pub mod ResolveTables
 pub mod ResolveColumns
 pub mod ResolveNamed
 pub mod ResolveCommands
+pub mod UpdateNeeds
+pub mod UpdateRefused
+pub mod UpdateDone

@@ -52,7 +52,7 @@ Contains-filter_map {A} {B} f (z ∷ xs) x y h e = elim (Contains-cons_cases z x
       ]
 ]
 
-Contains-range : (n k : ℕ) → k < n → Contains (range_with_len 0 n) k
+pub Contains-range : (n k : ℕ) → k < n → Contains (range_with_len 0 n) k
 Contains-range n k l =
     let at = get_or-range_with_len 0 n k k l in
     (k, omega (arith, l, length-range_with_len 0 n), omega (arith, at))

@@ -11,6 +11,7 @@ pub mod Deleted
 pub mod Dropped
 pub mod Raised
 pub mod Cells
+pub mod Assigned
 pub mod Inserted
 pub mod Resolve
 pub mod ResolveChecks

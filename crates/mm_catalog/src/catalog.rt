@@ -1,5 +1,5 @@
 //! The tables, and what they are called.
-ghost use Rattle.std.specs.Prelude.{◌≡◌, ◌≢◌, ◌<◌, ◌≤◌, Bool, [], Some, IfErr, OnOk, OnErr, length, map, position, slice_get};
+ghost use Rattle.std.specs.Prelude.{◌≡◌, ◌≢◌, ◌<◌, ◌≤◌, ◌⊎◌, Bool, [], Some, IfErr, OnOk, OnErr, length, map, position, slice_get};
 ghost use Rattle.std.specs.List.{AllPairs};
 ghost use Rattle.std.specs.Option.{option_map};
 
@@ -8,12 +8,14 @@ use crate::declare::{declare, undeclare};
 use crate::delete::delete;
 use crate::insert::insert;
 use crate::removal::{renumber_behind, unlink};
+use crate::updating::set_rows;
 use indexmap::IndexSet;
 use mm_relation::{DeclaredIndex, Relation, Relations};
 use no_memory::NoMemory;
 use part_raw::TupleRef;
 use plain_tables::{
-    Column, ColumnNumber, IndexKind, Limits, Refusal, Schema, Sequence, TableNumber, Text, Value,
+    Assignment, Column, ColumnNumber, IndexKind, Limits, Refusal, Schema, Sequence, TableNumber,
+    Text, Value,
 };
 use std::alloc::Global;
 use std::marker::Model;
@@ -45,7 +47,7 @@ impl Model for Catalog {
 
 impl Catalog {
     ghost use Rattle.plain_tables.specs.declared.resolved.Resolved.TheVariants as resolved;
-    ghost use Rattle.plain_tables.specs.ResolvedLaws.{IsMeant};
+    ghost use Rattle.plain_tables.specs.ResolvedLaws.{AreAssignable, IsMeant, OfTable};
     ghost use Rattle.mm_catalog.specs.Seen.{database_of, plain_index};
     ghost use Rattle.plain_tables.specs.References as plain;
     ghost use Rattle.plain_tables.specs.Doing as doing;
@@ -195,6 +197,31 @@ impl Catalog {
             self.limits,
             table,
             values,
+        )
+    }
+
+    /// Assigns values to rows of a table. Where a reference that is assigned names no row, whether a row is given or not, and
+    /// where no memory is found, nothing changes.
+    pub fn update(
+        &mut self,
+        table: TableNumber,
+        rows: &[TupleRef],
+        assignments: Sequence<Assignment>,
+    ) -> Result<(), Refusal>
+        requires meant { OfTable table (database_of self.old) (AreAssignable (database_of self.old) assignments) }
+        requires held { HoldsRows self.old table.0 rows.now }
+        requires once { AllPairs (λ q r. q ≢ r) rows.now }
+        ensures updated { OnOk result ((picks : Row → Bool) → ArePicked self.old table.0 rows.now picks → HasEffect self.old self.new (doing.update (database_of self.old) table assignments picks) (length rows.now)) }
+        ensures refused { IfErr result (λ refusal. (refusal ≡ Refusal.NoMemory) ⊎ ((picks : Row → Bool) → (doing.update (database_of self.old) table assignments picks).outcome ≡ Refused refusal)) }
+        ensures unchanged { OnErr result (self.new ≡ self.old) }
+    {
+        let alloc = *self.relations.allocator();
+        set_rows(
+            alloc,
+            self.relations.as_mut_slice(),
+            table,
+            rows,
+            assignments,
         )
     }
 }

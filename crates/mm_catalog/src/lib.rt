@@ -33,5 +33,6 @@ mod removal;
 mod resolve;
 mod scope;
 mod types;
+mod updating;
 
 pub use catalog::Catalog;

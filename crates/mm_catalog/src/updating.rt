@@ -1,0 +1,195 @@
+//! Values that are assigned to rows of one relation, among those that its links lead into.
+ghost use Rattle.std.specs.Prelude.{◌≡◌, ◌≢◌, ◌*◌, ◌<◌, ◌∷◌, ◌++◌, [], ℕ, Some, None, IsSome, IfSome, IfNone, IfOk, IfErr, OnOk, OnErr, All, cond, map, length, slice_get, count_by};
+ghost use Rattle.std.specs.List.{AllPairs};
+ghost use Rattle.std.specs.Option.{option_map};
+ghost use Rattle.std.specs.FinMap as finite;
+ghost use Rattle.mm_relation.specs.declared.row.Row.{Row};
+ghost use Rattle.mm_relation.specs.State.{RelationState, IsKept};
+ghost use Rattle.mm_catalog.specs.Linked.{is_link_to, link_at, target_at};
+ghost use Rattle.mm_catalog.specs.Raised.{IsHeldIn, HaveRoom};
+ghost use Rattle.mm_catalog.specs.Lowered.{HaveAtLeast, AreLowered};
+ghost use Rattle.mm_catalog.specs.Assigned as assigned;
+ghost use Rattle.mm_catalog.specs.Assigned.{AreConsistent, AreNotSet, AreRaisedTo, AreSetBy, AreToColumns, IsNotUpdated, IsUpdated, linked_of, links_at, row_links_at, set_links};
+
+use crate::before::Before;
+use crate::cells::cell_of;
+use crate::lowering::lower;
+use crate::referrers::target_number;
+use mm_relation::laws::a_relation_is_kept;
+use mm_relation::{Cell, Relation};
+use no_memory::NoMemory;
+use part_raw::TupleRef;
+use plain_tables::{Assignment, ColumnNumber, Refusal, Sequence, TableNumber};
+use std::alloc::Global;
+
+/// A link: the table that it leads into, and the row that it names.
+#[derive(Clone, Copy, Drop)]
+pub struct Link {
+    pub table: TableNumber,
+    pub to: TupleRef,
+}
+
+// ---- the cells
+
+// The cells that the assignments set.
+fn sets_of(
+    alloc: Global,
+    before: &[Relation],
+    relation: &Relation,
+    assignments: Sequence<Assignment>,
+) -> Result<Vec<(ColumnNumber, Cell)>, Refusal>
+    requires columns { All (λ a. a.column.0 < length relation.now.targets) assignments }
+    requires back { (column : ℕ) (table : ℕ) → target_at relation.now.targets column ≡ Some table → table < length before.now }
+    ensures sets { IfOk result (λ sets. AreSetBy before.now relation.now.targets assignments sets.items) }
+    ensures refused { IfErr result (AreNotSet before.now relation.now.targets assignments) }
+{
+    let mut sets = Vec::new(alloc);
+    for Assignment { column, value } in assignments.into_vec() {
+        let target = target_number(relation, column);
+        let cell = cell_of(before, target, value).ok_or(Refusal::NoReferencedRow { record: None })?;
+        push_set(&mut sets, (column, cell))?;
+    }
+    Ok(sets)
+}
+
+// Puts a cell behind the others.
+fn push_set(sets: &mut Vec<(ColumnNumber, Cell)>, set: (ColumnNumber, Cell)) -> Result<(), NoMemory>
+    ensures { OnOk result (sets.new.items ≡ sets.old.items ++ set ∷ []) }
+{
+    sets.push(set)?;
+    Ok(())
+}
+
+// ---- the links that go
+
+// The link that a row has in a column.
+fn link_in(relation: &Relation, r: TupleRef, column: ColumnNumber) -> Option<Link>
+    requires held { IsSome (finite.get relation.now.rows r) }
+    requires column { column.0 < length relation.now.targets }
+    ensures { (row : Row) → finite.get relation.now.rows r ≡ Some row → option_map linked_of result ≡ link_at relation.now.targets row column.0 }
+{
+    let table = relation.target(column)?;
+    let to = relation.row(r).link(column)?;
+    Some(Link { table, to })
+}
+
+// Puts the links that a row has where these cells are set behind the others.
+fn push_links(
+    links: &mut Vec<Link>,
+    relation: &Relation,
+    r: TupleRef,
+    sets: &[(ColumnNumber, Cell)],
+) -> Result<(), NoMemory>
+    requires held { IsSome (finite.get relation.now.rows r) }
+    requires columns { All (λ s. s.0.0 < length relation.now.targets) sets.now }
+    ensures { OnOk result ((row : Row) → finite.get relation.now.rows r ≡ Some row → map linked_of links.new.items ≡ map linked_of links.old.items ++ row_links_at relation.now.targets sets.now row) }
+{
+    for (column, _) in sets {
+        if let Some(link) = link_in(relation, r, *column) {
+            links.push(link)?;
+        }
+    }
+    Ok(())
+}
+
+// The links that these rows have where these cells are set.
+fn links_of(
+    alloc: Global,
+    relation: &Relation,
+    rows: &[TupleRef],
+    sets: &[(ColumnNumber, Cell)],
+) -> Result<Vec<Link>, NoMemory>
+    requires held { All (λ r. IsSome (finite.get relation.now.rows r)) rows.now }
+    requires columns { All (λ s. s.0.0 < length relation.now.targets) sets.now }
+    ensures { IfOk result (λ links. map linked_of links.items ≡ links_at relation.now sets.now rows.now) }
+{
+    let mut links = Vec::new(alloc);
+    for r in rows {
+        push_links(&mut links, relation, *r, sets)?;
+    }
+    Ok(links)
+}
+
+// ---- the numbers of referrers
+
+// The link that a cell is in a column.
+fn link_set(relation: &Relation, set: &(ColumnNumber, Cell)) -> Option<Link>
+    requires { set.now.0.0 < length relation.now.targets }
+    ensures { option_map linked_of result ≡ assigned.set_link relation.now.targets set.now }
+{
+    let table = relation.target(set.0)?;
+    match set.1 {
+        Cell::Held(_) => None,
+        Cell::Link { to } => Some(Link { table, to }),
+    }
+}
+
+// So many links more name the row that a link names.
+fn raise_by(before: &mut [Relation], link: Link, n: u64)
+    requires kept { All IsKept before.old }
+    requires held { IsHeldIn before.old (linked_of link) }
+    requires room { HaveRoom before.old n }
+    ensures { AreRaisedTo before.old before.new (λ t q. n * cond (is_link_to t q (linked_of link)) 1 0) }
+{
+    let relation = &mut before[link.table.0];
+    relation.add_referrers(link.to, n);
+    a_relation_is_kept(relation);
+}
+
+// So many links more name each row that these cells link to.
+fn raise_sets(before: &mut [Relation], relation: &Relation, sets: &[(ColumnNumber, Cell)], n: u64)
+    requires kept { All IsKept before.old }
+    requires columns { All (λ s. s.0.0 < length relation.now.targets) sets.now }
+    requires held { All (IsHeldIn before.old) (set_links relation.now.targets sets.now) }
+    requires room { HaveRoom before.old (n * length sets.now) }
+    ensures { AreRaisedTo before.old before.new (λ t q. n * count_by (is_link_to t q) (set_links relation.now.targets sets.now)) }
+{
+    for set in sets {
+        if let Some(link) = link_set(relation, set) {
+            raise_by(before, link, n);
+        }
+    }
+}
+
+// One link fewer names the row of each of these links.
+fn lower_all(before: &mut [Relation], links: &[Link])
+    requires kept { All IsKept before.old }
+    requires held { All (λ l. IsHeldIn before.old (linked_of l)) links.now }
+    requires enough { HaveAtLeast before.old (λ t q. count_by (is_link_to t q) (map linked_of links.now)) }
+    ensures { AreLowered before.old before.new (λ t q. count_by (is_link_to t q) (map linked_of links.now)) }
+{
+    for link in links {
+        lower(before, link.table, link.to);
+    }
+}
+
+// ---- the rows
+
+/// Assigns values to these rows of the relation of this number.
+pub fn set_rows(
+    alloc: Global,
+    relations: &mut [Relation],
+    table: TableNumber,
+    rows: &[TupleRef],
+    assignments: Sequence<Assignment>,
+) -> Result<(), Refusal>
+    requires there { table.0 < length relations.old }
+    requires consistent { AreConsistent relations.old }
+    requires columns { (s : RelationState) → slice_get relations.old table.0 ≡ Some s → AreToColumns (length s.targets) assignments }
+    requires held { (s : RelationState) → slice_get relations.old table.0 ≡ Some s → All (λ r. IsSome (finite.get s.rows r)) rows.now }
+    requires once { AllPairs (λ q r. q ≢ r) rows.now }
+    ensures updated { OnOk result (IsUpdated relations.old relations.new table.0 rows.now assignments) }
+    ensures unchanged { OnErr result (relations.new ≡ relations.old) }
+    ensures refused { IfErr result (IsNotUpdated relations.old table.0 assignments) }
+{
+    let (before, rest) = relations.split_at_mut(table.0);
+    let relation = &mut rest[0];
+    let sets = sets_of(alloc, before, relation, assignments)?;
+    let links = links_of(alloc, relation, rows, sets.as_slice())?;
+    let others = Before { relations: before };
+    relation.change_rows(alloc, &others, rows, sets.as_slice())?;
+    a_relation_is_kept(relation);
+    raise_sets(before, relation, sets.as_slice(), rows.len() as u64);
+    lower_all(before, links.as_slice());
+    Ok(())
+}
