@@ -1,6 +1,6 @@
 -- Tables by their names.
-use Rattle.std.proofs.Common.{◌≡◌, ◌≢◌, subst, ℕ, ◌<◌, List, length, Some, None, is_some, sym, ap, ◌∙◌, position, slice_get, arith}
-use Rattle.std.specs.List.{AllPairs, zip}
+use Rattle.std.proofs.Common.{◌≡◌, ℕ, ◌<◌, List, length, Some, None, is_some, sym, ap, ◌∙◌, position, slice_get, arith}
+use Rattle.std.specs.List.{zip}
 use Rattle.std.specs.Option.{option_map, option_and_then}
 use Rattle.std.specs.Str.{bytes_eq}
 use Rattle.std.proofs.lemmas.Option.{slice_get_within, same_Some}
@@ -9,15 +9,14 @@ use Rattle.plain_tables.specs.Tables.{Table}
 use Rattle.plain_tables.specs.Databases.{Database, is_named, table_named}
 use Rattle.plain_tables.specs.declared.numbers.TableNumber.{TableNumber}
 use Rattle.plain_tables.specs.declared.schema.Column.{Column}
-use Rattle.plain_tables.specs.References.{key_type, own_type, IsSoundTable}
+use Rattle.plain_tables.specs.References.{key_type, own_type}
 use Rattle.mm_relation.specs.State.{RelationState}
 use Rattle.mm_catalog.specs.State.{CatalogState}
-use Rattle.mm_catalog.specs.Consistent.{IsConsistent}
 use Rattle.mm_catalog.specs.Seen.{database_of, table_of}
 use Rattle.mm_catalog.specs.Resolve.{IsScopeOf, table_number}
 use Rattle.mm_catalog.specs.declared.scope.Scope.{Scope}
 use Rattle.mm_catalog.proofs.Finding.{position-map}
-use Rattle.mm_catalog.proofs.Lists.{get_within, All-get}
+use Rattle.mm_catalog.proofs.Lists.{get_within}
 use Rattle.mm_catalog.proofs.Tables.{database-get}
 use Rattle.mm_catalog.proofs.ResolveLists.{position_or_len-position, position-within, found_at, none_found, is_some-found, is_some-map, option_map-Some, option_map-None}
 
