@@ -1,5 +1,5 @@
 -- Relations whose rows lose referrers, one after another.
-use Rattle.std.proofs.Common.{◌≡◌, ◌≢◌, ℕ, zero, suc, ◌<◌, ◌≤◌, ◌+◌, ◌-◌, ◌==◌, ◌&&◌, Bool, true, false, cond, List, [], ◌∷◌, ◌++◌, Option, Some, None, IsSome, is_some, refl, sym, ap, ◌∙◌, subst, arith, length, length-set, set, eqb, add-zero, add-one, zero-add, inl, inr}
+use Rattle.std.proofs.Common.{◌≡◌, ◌≢◌, ℕ, zero, suc, ◌<◌, ◌≤◌, ◌+◌, ◌-◌, Bool, true, false, cond, List, [], ◌∷◌, ◌++◌, Option, Some, None, IsSome, is_some, refl, sym, ap, ◌∙◌, subst, arith, length, length-set, set, eqb, add-zero, add-one, zero-add, inl, inr}
 use Rattle.std.specs.List.{All, slice_get, range_with_len, filter_map, cons_option, count_by}
 use Rattle.std.specs.Option.{option_map, option_map_or}
 use Rattle.std.specs.Ordering.{is_eq}
@@ -12,7 +12,7 @@ use Rattle.part_raw.specs.declared.tuple_ref.TupleRef.{TupleRef}
 use Rattle.part_raw.specs.TupleRefs.{ref_cmp}
 use Rattle.part_raw.specs.Store.{Tuples}
 use Rattle.part_raw.proofs.Lookup.{same_or_other}
-use Rattle.part_raw.proofs.Tuples.{same_ref_self, same_ref_other, get-insert_same, get-insert_other, held_tuple, some_of}
+use Rattle.part_raw.proofs.Tuples.{same_ref_self, same_ref_other, get-insert_same, get-insert_other, held_tuple}
 use Rattle.mm_relation.specs.declared.row.Row.{Row}
 use Rattle.mm_relation.specs.Changes.{Refers, with_referrers}
 use Rattle.mm_relation.specs.State.{RelationState, IsKept}

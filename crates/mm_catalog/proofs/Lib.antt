@@ -22,3 +22,7 @@ pub mod Renumbered
 pub mod Unlinking
 pub mod Dropped
 pub mod Dropping
+pub mod Anywhere
+pub mod References
+pub mod Shrunk
+pub mod Deleting

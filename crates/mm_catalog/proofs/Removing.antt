@@ -1,10 +1,10 @@
 -- Rows that go out of a relation one after another, and the links that go with them.
-use Rattle.std.proofs.Common.{◌≡◌, ◌≢◌, ℕ, zero, suc, ◌<◌, ◌≤◌, ◌+◌, Bool, cond, List, [], ◌∷◌, ◌++◌, Option, Some, None, IsSome, is_some, refl, sym, ap, ◌∙◌, subst, arith, length, get_or, take, drop, zero-add, inl, inr}
+use Rattle.std.proofs.Common.{◌≡◌, ◌≢◌, ℕ, suc, ◌<◌, ◌≤◌, ◌+◌, Bool, cond, List, [], ◌∷◌, ◌++◌, Option, Some, None, IsSome, is_some, refl, sym, ap, ◌∙◌, subst, arith, length, get_or, take, drop, zero-add, inl, inr}
 use Rattle.std.specs.List.{All, AllPairs, Contains, count_by, flat_map, slice_get, sum_by}
 use Rattle.std.specs.Option.{option_and_then, option_map, option_map_or}
 use Rattle.std.specs.FinMap.{get, remove}
 use Rattle.std.proofs.lemmas.List.{take_more}
-use Rattle.std.proofs.lemmas.List.Elements.{All-get_or, Contains-get_or, Contains-push, Contains-push_cases, Contains-append_left}
+use Rattle.std.proofs.lemmas.List.Elements.{Contains-push, Contains-push_cases, Contains-append_left}
 use Rattle.std.proofs.lemmas.List.Sums.{get_or-le-sum_by, sum_by-append, sum_by-cons, sum_by-drop_more, sum_by-take-drop}
 use Rattle.std.proofs.lemmas.Option.{none-some, same_Some, slice_get_within}
 use Rattle.part_raw.specs.declared.tuple_ref.TupleRef.{TupleRef}
@@ -13,7 +13,7 @@ use Rattle.part_raw.proofs.Lookup.{same_or_other}
 use Rattle.part_raw.proofs.Tuples.{get-remove_same, get-remove_other, held_tuple}
 use Rattle.mm_index.proofs.Placed.{remove_by_member}
 use Rattle.mm_relation.specs.declared.row.Row.{Row}
-use Rattle.mm_relation.specs.Changes.{KeepsSchema, IsRemoved}
+use Rattle.mm_relation.specs.Changes.{IsRemoved}
 use Rattle.mm_relation.specs.Order.{column_cmp, column_cmp_strict}
 use Rattle.mm_relation.specs.Reading.{key_at, link_in, row_value, value_at}
 use Rattle.mm_relation.specs.State.{RelationState, IsKept, IsCurrent, linked_keys, no_keys}
@@ -31,7 +31,7 @@ use Rattle.mm_catalog.proofs.Recounting.{key_recounted}
 
 -- ---- the links of a relation, row by row
 
-counted_by_row : {A B : Type 0} (test : B → Bool) (f : A → List B) (xs : List A) → count_by test (flat_map f xs) ≡ sum_by (λ x. count_by test (f x)) xs
+pub counted_by_row : {A B : Type 0} (test : B → Bool) (f : A → List B) (xs : List A) → count_by test (flat_map f xs) ≡ sum_by (λ x. count_by test (f x)) xs
 counted_by_row test f [] = refl
 counted_by_row test f (x ∷ xs) =
     sum_by-append (λ y. cond (test y) 1 0) (f x) (flat_map f xs)

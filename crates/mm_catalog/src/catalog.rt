@@ -1,14 +1,17 @@
 //! The tables, and what they are called.
-ghost use Rattle.std.specs.Prelude.{◌≡◌, ◌<◌, ◌≤◌, [], Some, OnOk, OnErr, length, slice_get};
+ghost use Rattle.std.specs.Prelude.{◌≡◌, ◌≢◌, ◌<◌, ◌≤◌, Bool, [], Some, IfErr, OnOk, OnErr, length, slice_get};
+ghost use Rattle.std.specs.List.{AllPairs};
 ghost use Rattle.std.specs.Option.{option_map};
 
 use crate::create::aimed;
 use crate::declare::{declare, undeclare};
+use crate::delete::delete;
 use crate::removal::{renumber_behind, unlink};
 use indexmap::IndexSet;
 use mm_relation::{Relation, Relations};
 use no_memory::NoMemory;
-use plain_tables::{ColumnNumber, IndexKind, Limits, Schema, TableNumber, Text};
+use part_raw::TupleRef;
+use plain_tables::{ColumnNumber, IndexKind, Limits, Refusal, Schema, TableNumber, Text};
 use std::alloc::Global;
 use std::marker::Model;
 
@@ -41,7 +44,11 @@ impl Catalog {
     ghost use Rattle.plain_tables.specs.declared.resolved.Resolved.TheVariants as resolved;
     ghost use Rattle.plain_tables.specs.ResolvedLaws.{IsMeant};
     ghost use Rattle.mm_catalog.specs.Seen.{database_of};
-    ghost use Rattle.mm_catalog.specs.Changes.{IsDone};
+    ghost use Rattle.plain_tables.specs.Doing as doing;
+    ghost use Rattle.plain_tables.specs.Effects.{Refused};
+    ghost use Rattle.plain_tables.specs.Tables.{Row};
+    ghost use Rattle.mm_catalog.specs.Changes.{IsDone, HasEffect};
+    ghost use Rattle.mm_catalog.specs.Picked.{ArePicked, HoldsRows};
 
     /// A catalog of no tables, under these limits. It takes no memory.
     pub fn new(alloc: Global, limits: Limits) -> Catalog
@@ -122,6 +129,18 @@ impl Catalog {
         self.relations.remove(table.0);
         self.names.shift_remove_index(table.0);
         renumber_behind(self.relations.as_mut_slice(), table);
+    }
+
+    /// Takes rows out of a table. Where a row of some table refers to one of them, it takes out none. It takes no memory.
+    pub fn delete(&mut self, table: TableNumber, rows: &[TupleRef]) -> Result<(), Refusal>
+        requires there { table.0 < length (database_of self.old) }
+        requires held { HoldsRows self.old table.0 rows.now }
+        requires once { AllPairs (λ q r. q ≢ r) rows.now }
+        ensures deleted { OnOk result ((picks : Row → Bool) → ArePicked self.old table.0 rows.now picks → HasEffect self.old self.new (doing.delete (database_of self.old) table picks) (length rows.now)) }
+        ensures refused { IfErr result (λ refusal. (picks : Row → Bool) → ArePicked self.old table.0 rows.now picks → (doing.delete (database_of self.old) table picks).outcome ≡ Refused refusal) }
+        ensures unchanged { OnErr result (self.new ≡ self.old) }
+    {
+        delete(self.relations.as_mut_slice(), table, rows)
     }
 }
 

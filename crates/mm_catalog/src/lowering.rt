@@ -28,8 +28,8 @@ fn link_at(
     Some((table, to))
 }
 
-// One referrer less for a row.
-fn lower(relations: &mut [Relation], table: TableNumber, r: TupleRef)
+/// One referrer less for a row. It takes no memory.
+pub fn lower(relations: &mut [Relation], table: TableNumber, r: TupleRef)
     requires kept { All IsKept relations.old }
     requires held { IsRowHeld relations.old (table.0, r) }
     requires enough { HaveAtLeast relations.old (λ t q. cond (is_link_to t q (table.0, r)) 1 0) }

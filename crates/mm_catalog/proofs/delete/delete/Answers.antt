@@ -1,5 +1,5 @@
-use Rattle.std.proofs.Common.{◌≡◌, Some, ◌++◌, get_or, set, drop, sym, ap, ◌∙◌, subst}
-use Rattle.std.specs.List.{All, slice_get}
+use Rattle.std.proofs.Common.{Some, ◌++◌, get_or, set, sym, ap, ◌∙◌, subst}
+use Rattle.std.specs.List.{All}
 use Rattle.std.proofs.lemmas.Option.{same_Some, slice_get-get_or}
 use Rattle.mm_relation.specs.State.{RelationState, IsCurrent, linked_keys}
 use Rattle.mm_catalog.specs.Deleted.{AreUnlinked, IsFree}

@@ -1,4 +1,4 @@
-use Rattle.std.proofs.Common.{◌≡◌, ◌<◌, IsSome, get_or, length, sym, ap, subst}
+use Rattle.std.proofs.Common.{IsSome, get_or, sym, subst}
 use Rattle.std.specs.FinMap as finite
 use Rattle.std.proofs.lemmas.List.{get_or_default}
 use Rattle.part_raw.proofs.Tuples.{held_tuple}

@@ -1,10 +1,8 @@
-use Rattle.std.proofs.Common.{◌≡◌, ◌≤◌, Some, IsSome, cond, get_or, sym, ap, ◌∙◌, subst, arith}
+use Rattle.std.proofs.Common.{◌≡◌, ◌≤◌, Some, IsSome, cond, get_or, sym, ◌∙◌, subst}
 use Rattle.std.specs.List.{slice_get}
 use Rattle.std.specs.FinMap as finite
 use Rattle.std.proofs.lemmas.Option.{same_Some, slice_get-get_or, slice_get_within}
-use Rattle.mm_relation.specs.declared.row.Row.{Row}
 use Rattle.mm_relation.specs.State.{RelationState}
-use Rattle.mm_catalog.specs.Linked.{is_link_to}
 use Rattle.mm_catalog.proofs.Fewer.{link_to_itself, lowered_one}
 use Rattle.mm_catalog.proofs.lowering.lower.Goals as goal
 

@@ -1,10 +1,7 @@
-use Rattle.std.proofs.Common.{◌≡◌, ◌<◌, ℕ, Option, Some, None, length, sym, ap, ◌∙◌, arith}
-use Rattle.std.specs.List.{slice_get}
+use Rattle.std.proofs.Common.{◌≡◌, ◌<◌, length, sym, ap, ◌∙◌, arith}
 use Rattle.std.specs.Option.{option_map}
-use Rattle.std.specs.FinMap as finite
 use Rattle.part_raw.proofs.Tuples.{held_tuple}
 use Rattle.plain_tables.specs.declared.schema.Schema.{Schema}
-use Rattle.mm_catalog.specs.Linked.{link_at}
 use Rattle.mm_catalog.proofs.Fewer.{AreLowered-none, lowered_no_link, lowered_link, lowered_row, enough_next, held_still}
 use Rattle.mm_catalog.proofs.lowering.lower_links.Goals as goal
 use Rattle.mm_catalog.proofs.lowering.lower_links.Goals.{in-Some, in_default}

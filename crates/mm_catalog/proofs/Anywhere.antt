@@ -1,0 +1,88 @@
+-- Whether an element passes a test, in lists that are made of others.
+use Rattle.std.proofs.Common.{◌≡◌, ℕ, zero, suc, ◌<◌, ◌+◌, Bool, true, false, not, cond, ◌||◌, ◌&&◌, List, [], ◌∷◌, Option, Some, None, refl, sym, ap, ◌∙◌, subst, arith, length, map, add-zero}
+use Rattle.std.specs.List.{All, cons_option, count_by, filter_map, flat_map, list_any, position, prefix_len, range_with_len, slice_get, zip}
+use Rattle.std.specs.Option.{option_map_or}
+use Rattle.std.specs.Prelude.{nat_lt}
+use Rattle.std.proofs.lemmas.Bool.{false≢true, cond-true, lt-ltb, or_parts}
+use Rattle.std.proofs.lemmas.List.Folds.{list_any-append}
+use Rattle.std.proofs.lemmas.List.Sums.{sum_by-cons}
+
+pub any_flat : {A B : Type 0} (p : B → Bool) (f : A → List B) (xs : List A) → list_any p (flat_map f xs) ≡ list_any (λ x. list_any p (f x)) xs
+any_flat p f [] = refl
+any_flat p f (x ∷ xs) = list_any-append p (f x) (flat_map f xs) ∙ ap (λ b. list_any p (f x) || b) (any_flat p f xs)
+
+pub any_filter_map : {A B : Type 0} (p : B → Bool) (h : A → Option B) (xs : List A) → list_any p (filter_map h xs) ≡ list_any (λ x. option_map_or p (h x) false) xs
+any_filter_map p h [] = refl
+any_filter_map p h (x ∷ xs) = first (h x) (filter_map h xs) ∙ ap (λ b. option_map_or p (h x) false || b) (any_filter_map p h xs)
+  where
+    first : (o : Option _) (ys : List _) → list_any p (cons_option o ys) ≡ (option_map_or p o false || list_any p ys)
+    first None ys = refl
+    first (Some y) ys = refl
+
+pub any_alike : {A : Type 0} (f g : A → Bool) (xs : List A) → All (λ x. f x ≡ g x) xs → list_any f xs ≡ list_any g xs
+any_alike f g [] same = refl
+any_alike f g (x ∷ xs) same =
+    ap (λ b. b || list_any f xs) (same 0 x (omega arith)) ∙ ap (λ b. g x || b) (any_alike f g xs (λ k d l. same (suc k) d (omega arith)))
+
+-- side by side with others
+pub any_zip : {A B : Type 0} (f : A × B → Bool) (g : B → Bool) (xs : List A) (ys : List B) → length xs ≡ length ys → ((i : ℕ) (a : A) (b : B) → slice_get xs i ≡ Some a → slice_get ys i ≡ Some b → f (a, b) ≡ g b) → list_any f (zip xs ys) ≡ list_any g ys
+any_zip f g [] [] e same = refl
+any_zip f g [] (b ∷ ys) e same = absurd (omega arith)
+any_zip f g (a ∷ xs) [] e same = absurd (omega arith)
+any_zip f g (a ∷ xs) (b ∷ ys) e same =
+    ap (λ t. t || list_any f (zip xs ys)) (same 0 a b refl refl) ∙ ap (λ t. g b || t) (any_zip f g xs ys (omega arith) (λ i. same (suc i)))
+
+-- side by side with what is made of their numbers
+pub any_numbered : {A B : Type 0} (f : A × B → Bool) (g : ℕ → Bool) (make : ℕ → B) (xs : List A) (a : ℕ) → ((j : ℕ) (x : A) → slice_get xs j ≡ Some x → f (x, make (a + j)) ≡ g (a + j)) → list_any f (zip xs (map make (range_with_len a (length xs)))) ≡ list_any g (range_with_len a (length xs))
+any_numbered f g make [] a same = refl
+any_numbered f g make (x ∷ xs) a same =
+    let here : f (x, make a) ≡ g a = subst (λ i. f (x, make i) ≡ g i) (add-zero a) (same 0 x refl) in
+    ap (λ t. t || list_any f (zip xs (map make (range_with_len (a + 1) (length xs))))) here
+    ∙ ap (λ t. g a || t)
+    (any_numbered f g make xs (a + 1) (λ j y at. let further : a + suc j ≡ a + 1 + j = omega arith in subst (λ i. f (y, make i) ≡ g i) further (same (suc j) y at)))
+
+-- ---- none, or more
+
+pub none_counted : {A : Type 0} (p : A → Bool) (xs : List A) → list_any p xs ≡ false → count_by p xs ≡ 0
+none_counted p [] h = refl
+none_counted p (x ∷ xs) h =
+    let parts = or_parts (p x) (list_any p xs) h in
+    let one = sum_by-cons (λ y. cond (p y) 1 0) x xs in
+    let no : cond (p x) 1 0 ≡ zero = ap (λ b. cond b 1 0) parts.0 in
+    omega (arith, one, no, none_counted p xs parts.1)
+
+pub some_counted : {A : Type 0} (p : A → Bool) (xs : List A) → list_any p xs ≡ true → 0 < count_by p xs
+some_counted p [] h = absurd (false≢true h)
+some_counted p (x ∷ xs) h =
+    elim (p x) as (λ b. p x ≡ b → (b || list_any p xs) ≡ true → 0 < count_by p (x ∷ xs)) [
+      | true ↦ λ e f.
+          let one = sum_by-cons (λ y. cond (p y) 1 0) x xs in
+          let yes : cond (p x) 1 0 ≡ suc zero = ap (λ b. cond b 1 0) e in
+          omega (arith, one, yes)
+      | false ↦ λ e f. let one = sum_by-cons (λ y. cond (p y) 1 0) x xs in omega (arith, one, some_counted p xs f)
+    ] refl h
+
+-- where one passes, the first of them has a place
+place_within : {A : Type 0} (p : A → Bool) (xs : List A) → list_any p xs ≡ true → prefix_len (λ x. not (p x)) xs < length xs
+place_within p [] h = absurd (false≢true h)
+place_within p (x ∷ xs) h =
+    elim (p x) as (λ b. (b || list_any p xs) ≡ true → cond (not b) (1 + prefix_len (λ y. not (p y)) xs) 0 < suc (length xs)) [
+      | true ↦ λ e. omega arith
+      | false ↦ λ e. let rest = place_within p xs e in omega (arith, rest)
+    ] h
+
+pub any_place : {A : Type 0} (p : A → Bool) (xs : List A) → list_any p xs ≡ true → (t : ℕ) × (position p xs ≡ Some t)
+any_place p xs h =
+    let n = prefix_len (λ x. not (p x)) xs in
+    (n, cond-true (nat_lt n (length xs)) (Some n) None (lt-ltb n (length xs) (place_within p xs h)))
+
+-- ---- tests that say the same
+
+pub same_tests : (a b : Bool) → (a ≡ true → b ≡ true) → (b ≡ true → a ≡ true) → a ≡ b
+same_tests true b there back = sym (there refl)
+same_tests false true there back = back refl
+same_tests false false there back = refl
+
+pub and_alike : (b x y : Bool) → (b ≡ true → x ≡ y) → (b && x) ≡ (b && y)
+and_alike true x y same = same refl
+and_alike false x y same = refl

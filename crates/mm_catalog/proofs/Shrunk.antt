@@ -1,0 +1,131 @@
+-- The rows that a relation shows, where some go out.
+use Rattle.std.proofs.Common.{◌≡◌, ◌≢◌, ℕ, suc, Bool, true, false, not, cond, IsTrue, List, [], ◌∷◌, IsSome, refl, sym, ap, ◌∙◌, subst, arith, length, map, filter, get_or}
+use Rattle.std.specs.List.{All, AllPairs, Contains}
+use Rattle.std.specs.Option.{option_map_or}
+use Rattle.std.specs.Ordering.{eq_by_cmp, ordering_reverse}
+use Rattle.std.specs.Bool.{Decides}
+use Rattle.std.specs.declared.cmp.Ordering.TheVariants.{Less, Greater}
+use Rattle.std.specs.FinMap.{get}
+use Rattle.std.proofs.lemmas.Bool.{false_from_ne_true, false≢true, not-true}
+use Rattle.std.proofs.lemmas.Cmp.{eq_by_cmp_equiv}
+use Rattle.std.proofs.lemmas.List.Elements.{All-contains}
+use Rattle.std.proofs.lemmas.List.Kept.{AllPairs-filter}
+use Rattle.std.proofs.lemmas.Option.{none-some}
+use Rattle.part_raw.specs.declared.tuple_ref.TupleRef.{TupleRef}
+use Rattle.part_raw.specs.Store.{Tuples}
+use Rattle.part_raw.specs.TupleRefs.{ref_cmp}
+use Rattle.part_raw.proofs.Refs.{ref_cmp_total}
+use Rattle.part_raw.proofs.Tuples.{same_ref_self, same_ref_true, held_tuple}
+use Rattle.mm_index.proofs.Bags.{length-same_bag}
+use Rattle.mm_index.proofs.Distinct.{IsSameBag-from_members}
+use Rattle.mm_index.proofs.Listed.{IsRising-agree}
+use Rattle.mm_index.proofs.Members.{Contains-filter, Contains-from_filter}
+use Rattle.plain_tables.specs.declared.schema.Schema.{Schema}
+use Rattle.plain_tables.specs.declared.value.Value.{Value}
+use Rattle.mm_relation.specs.declared.row.Row.{Row}
+use Rattle.mm_relation.specs.Order.{column_cmp, column_cmp_total}
+use Rattle.mm_relation.specs.Reading.{Keys}
+use Rattle.mm_relation.specs.State.{RelationState, IsKept, no_keys}
+use Rattle.mm_catalog.specs.Seen.{row_values, values_of, rows_of}
+use Rattle.mm_catalog.specs.Deleted.{AreRemoved}
+use Rattle.mm_catalog.proofs.Rising.{rising_same}
+
+-- what is made of the elements that pass, where it is the same of those
+map_passing : {A B : Type 0} (f g : A → B) (p : A → Bool) (test : B → Bool) (xs : List A) → ((x : A) → Contains xs x → p x ≡ test (g x)) → ((x : A) → Contains xs x → p x ≡ true → f x ≡ g x) → map f (filter p xs) ≡ filter test (map g xs)
+map_passing f g p test [] told same = refl
+map_passing f g p test (x ∷ xs) told same =
+    let rest = map_passing f g p test xs (λ y h. told y (suc h.0, omega (arith, h.1), h.2)) (λ y h. same y (suc h.0, omega (arith, h.1), h.2)) in
+    let first : Contains (x ∷ xs) x = (0, omega arith, refl) in
+    elim (test (g x)) as (λ b. p x ≡ b → map f (cond (p x) (x ∷ filter p xs) (filter p xs)) ≡ cond b (g x ∷ filter test (map g xs)) (filter test (map g xs))) [
+      | true ↦ λ e.
+          ap (λ b. map f (cond b (x ∷ filter p xs) (filter p xs))) e
+          ∙ ap (λ y. y ∷ map f (filter p xs)) (same x first e) ∙ ap (λ ys. g x ∷ ys) rest
+      | false ↦ λ e. ap (λ b. map f (cond b (x ∷ filter p xs) (filter p xs))) e ∙ rest
+    ] (told x first)
+
+length-passing : {A B : Type 0} (g : A → B) (test : B → Bool) (xs : List A) → length (filter test (map g xs)) ≡ length (filter (λ x. test (g x)) xs)
+length-passing g test [] = refl
+length-passing g test (x ∷ xs) =
+    let rest = length-passing g test xs in
+    elim (test (g x)) as (λ b. length (cond b (g x ∷ filter test (map g xs)) (filter test (map g xs))) ≡ length (cond b (x ∷ filter (λ y. test (g y)) xs) (filter (λ y. test (g y)) xs))) [
+      | true ↦ omega (arith, rest)
+      | false ↦ rest
+    ]
+
+-- what rises repeats nothing
+not_below_itself : (rows : Tuples Row) (a : TupleRef) → column_cmp no_keys 0 rows a a ≡ Less → ⊥
+not_below_itself rows a e =
+    let g : Less ≡ Greater = sym e ∙ (column_cmp_total no_keys 0 rows).antisymm a a ∙ ap ordering_reverse e in absurd (cc)
+
+abbrev same_ref : TupleRef → TupleRef → Bool
+same_ref = eq_by_cmp ref_cmp
+
+decides : (a b : TupleRef) → Decides (same_ref a b) (a ≡ b)
+decides a b = (same_ref_true a b, λ e. subst (λ c. same_ref a c ≡ true) e (same_ref_self a))
+
+-- a row is picked by its values exactly where its reference is one of these
+abbrev pub PicksThese : Keys → RelationState → List TupleRef → (List Value → Bool) → Type 0
+PicksThese keys s refs picks =
+    (r : TupleRef) → IsSome (get s.rows r)
+    → (Contains refs r → IsTrue (picks (values_of keys (length s.schema.columns) s.rows r))) × (IsTrue (picks (values_of keys (length s.schema.columns) s.rows r)) → Contains refs r)
+
+module _ (keys : Keys) (old : RelationState) (kept : IsKept old) (refs : List TupleRef) (picks : List Value → Bool) (picked : PicksThese keys old refs picks) where
+  abbrev before : TupleRef → List Value
+  before = values_of keys (length old.schema.columns) old.rows
+
+  abbrev is_left : TupleRef → Bool
+  is_left q = not (picks (before q))
+
+  held_listed : (q : TupleRef) → Contains old.by_key q → IsSome (get old.rows q)
+  held_listed q h = All-contains (λ r. IsSome (get old.rows r)) old.by_key q kept.keyed.lists.held h
+
+  -- as many rows are picked as there are references
+  pub length_picked : All (λ r. IsSome (get old.rows r)) refs → AllPairs (λ q r. q ≢ r) refs → length (filter picks (rows_of keys old)) ≡ length refs
+  unfolding rows_of
+  length_picked held once =
+      length-passing before picks old.by_key
+      ∙ length-same_bag (filter (λ q. picks (before q)) old.by_key) refs
+      (IsSameBag-from_members same_ref decides (eq_by_cmp_equiv ref_cmp_total) (filter (λ q. picks (before q)) old.by_key) refs
+      (AllPairs-filter (λ q r. q ≢ r) (λ q. picks (before q)) old.by_key
+      (λ i j d l w e. not_below_itself old.rows (get_or old.by_key i d) (subst (λ r. column_cmp no_keys 0 old.rows (get_or old.by_key i d) r ≡ Less) (sym e) (kept.keyed.rising i j d l w))))
+      once
+      (λ q h. let parts = Contains-from_filter (λ x. picks (before x)) old.by_key q h in (picked q (held_listed q parts.0)).1 parts.1)
+      (λ q h. let there = All-contains (λ r. IsSome (get old.rows r)) refs q held h in
+      Contains-filter (λ x. picks (before x)) old.by_key q (kept.keyed.lists.listed q there) ((picked q there).0 h)))
+
+  module _ (new : RelationState) (now : IsKept new) (removed : AreRemoved old new refs) where
+    stays : (q : TupleRef) → IsSome (get new.rows q) → Contains refs q → ⊥
+    stays q held h = let found = held_tuple new.rows q held in none-some found.0 (sym (removed.gone q h) ∙ found.1)
+
+    left_in : (q : TupleRef) → Contains old.by_key q → is_left q ≡ true → get new.rows q ≡ get old.rows q
+    left_in q h e = removed.others q (λ there. false≢true (sym (not-true (picks (before q)) e) ∙ (picked q (held_listed q h)).0 there))
+
+    -- the keys that are left, in their order
+    keys_left : new.by_key ≡ filter is_left old.by_key
+    keys_left =
+        rising_same (column_cmp no_keys 0 new.rows) (column_cmp_total no_keys 0 new.rows) new.by_key (filter is_left old.by_key) now.keyed.rising
+        (IsRising-agree (column_cmp no_keys 0 old.rows) (column_cmp no_keys 0 new.rows) (filter is_left old.by_key)
+        (λ p q hp hq.
+        let fp = Contains-from_filter is_left old.by_key p hp in
+        let fq = Contains-from_filter is_left old.by_key q hq in
+        let ep : get new.rows p ≡ get old.rows p = left_in p fp.0 fp.1 in
+        let eq : get new.rows q ≡ get old.rows q = left_in q fq.0 fq.1 in
+        rw (ep, eq) refl)
+        (AllPairs-filter (λ a b. column_cmp no_keys 0 old.rows a b ≡ Less) is_left old.by_key kept.keyed.rising))
+        (λ q h.
+        let here = All-contains (λ r. IsSome (get new.rows r)) new.by_key q now.keyed.lists.held h in
+        let was : IsSome (get old.rows q) = subst IsSome (removed.others q (stays q here)) here in
+        Contains-filter is_left old.by_key q (kept.keyed.lists.listed q was)
+        (ap not (false_from_ne_true (picks (before q)) (λ e. stays q here ((picked q was).1 e)))))
+        (λ q h.
+        let from = Contains-from_filter is_left old.by_key q h in
+        now.keyed.lists.listed q (subst IsSome (sym (left_in q from.0 from.1)) (held_listed q from.0)))
+
+    -- the rows that are left
+    pub rows_left : rows_of keys new ≡ filter (λ v. not (picks v)) (rows_of keys old)
+    unfolding rows_of values_of
+    rows_left =
+        ap (λ (columns : ℕ). map (values_of keys columns new.rows) new.by_key) (ap (λ (schema : Schema). length schema.columns) removed.keeps.schema)
+        ∙ ap (map (values_of keys (length old.schema.columns) new.rows)) keys_left
+        ∙ map_passing (values_of keys (length old.schema.columns) new.rows) before is_left (λ v. not (picks v)) old.by_key (λ q h. refl)
+        (λ q h e. ap (λ o. option_map_or (row_values keys (length old.schema.columns)) o []) (left_in q h e))

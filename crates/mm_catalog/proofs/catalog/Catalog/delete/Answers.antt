@@ -1,0 +1,67 @@
+use Rattle.std.proofs.Common.{◌≡◌, ◌<◌, ◌++◌, Bool, List, length, map, take, drop, sym, ap, subst, arith}
+use Rattle.std.specs.List.{count_by, slice_get}
+use Rattle.std.specs.Prelude.{OnOk, Some}
+use Rattle.std.specs.String.{string_bytes}
+use Rattle.plain_tables.specs.Doing as doing
+use Rattle.plain_tables.specs.Tables.{Row}
+use Rattle.mm_relation.specs.State.{RelationState}
+use Rattle.mm_catalog.specs.State.{CatalogState}
+use Rattle.mm_catalog.specs.Seen.{database_of}
+use Rattle.mm_catalog.specs.Linked.{is_link_to, relation_links}
+use Rattle.mm_catalog.specs.Consistent.{IsConsistent}
+use Rattle.mm_catalog.specs.Changes.{IsCurrentAt, HasEffect}
+use Rattle.mm_catalog.specs.Picked.{ArePicked, HoldsRows}
+use Rattle.mm_catalog.specs.Lowered.{HaveAtLeast}
+use Rattle.mm_catalog.proofs.Lists.{whole}
+use Rattle.mm_catalog.proofs.Tables.{database-length}
+use Rattle.mm_catalog.proofs.Declared.{current_at}
+use Rattle.mm_catalog.proofs.Deleting.{enough_before, deleted_consistent, deleted_effect, deleted_refused}
+use Rattle.mm_catalog.proofs.catalog.Catalog.delete.Goals as goal
+
+pub delete-requires-clause-there : goal.delete-requires-clause-there
+delete-requires-clause-there c =
+    let s : CatalogState = record { limits = c.self.inside.limits; names = map string_bytes c.self.inside.names.keys; relations = c.self.inside.relations.items } in
+    let there : c.args.table.0 < length (database_of s) = rw (← c.self.view_is) at c.requires.there in
+    subst (λ (rs : List RelationState). c.args.table.0 < length rs) (sym c.as_mut_slice.ensures.value) (omega (arith, there, database-length s c.self.invariant.named))
+
+pub delete-requires-clause-current : goal.delete-requires-clause-current
+delete-requires-clause-current c =
+    let s : CatalogState = record { limits = c.self.inside.limits; names = map string_bytes c.self.inside.names.keys; relations = c.self.inside.relations.items } in
+    subst (λ rs. IsCurrentAt rs c.args.table.0) (sym c.as_mut_slice.ensures.value) (current_at s c.self.invariant c.args.table.0)
+
+pub delete-requires-clause-counted : goal.delete-requires-clause-counted
+delete-requires-clause-counted c =
+    let s : CatalogState = record { limits = c.self.inside.limits; names = map string_bytes c.self.inside.names.keys; relations = c.self.inside.relations.items } in
+    let n = c.args.table.0 in
+    subst (λ (rs : List RelationState). (t : RelationState) → slice_get rs n ≡ Some t → HaveAtLeast (take n rs) (λ table q. count_by (is_link_to table q) (relation_links t))) (sym c.as_mut_slice.ensures.value)
+    (enough_before s c.self.invariant n)
+
+pub invariant_of-self : goal.invariant_of-self
+invariant_of-self c =
+    let s : CatalogState = record { limits = c.self.inside.limits; names = map string_bytes c.self.inside.names.keys; relations = c.self.inside.relations.items } in
+    let held : HoldsRows s c.args.table.0 c.args.rows.now = rw (← c.self.view_is) at c.requires.held in
+    let back : take c.self.inside.relations.len (c.delete.new.relations ++ drop (length c.delete.new.relations) c.self.inside.relations.items) ≡ c.delete.new.relations =
+    whole c.delete.new.relations (drop (length c.delete.new.relations) c.self.inside.relations.items) c.self.inside.relations.len (omega (arith, c.delete.auto.relations, ap length c.as_mut_slice.ensures.value, c.self.inside.relations.ok.0)) in
+    subst (λ rs. IsConsistent (record s { relations = rs })) (sym back)
+    (deleted_consistent s c.self.invariant c.args.table c.args.rows.now c.delete.new.relations held c.requires.once c.delete.result
+    (rw c.as_mut_slice.ensures.value at c.delete.ensures.free) (rw c.as_mut_slice.ensures.value at c.delete.ensures.deleted) (rw c.as_mut_slice.ensures.value at c.delete.ensures.unchanged))
+
+pub returns-clause-deleted : goal.returns-clause-deleted
+returns-clause-deleted c =
+    let s : CatalogState = record { limits = c.self.inside.limits; names = map string_bytes c.self.inside.names.keys; relations = c.self.inside.relations.items } in
+    let held : HoldsRows s c.args.table.0 c.args.rows.now = rw (← c.self.view_is) at c.requires.held in
+    let back : take c.self.inside.relations.len (c.delete.new.relations ++ drop (length c.delete.new.relations) c.self.inside.relations.items) ≡ c.delete.new.relations =
+    whole c.delete.new.relations (drop (length c.delete.new.relations) c.self.inside.relations.items) c.self.inside.relations.len (omega (arith, c.delete.auto.relations, ap length c.as_mut_slice.ensures.value, c.self.inside.relations.ok.0)) in
+    rw (← c.self.view_is)
+    (subst (λ rs. OnOk c.delete.result ((picks : Row → Bool) → ArePicked s c.args.table.0 c.args.rows.now picks → HasEffect s (record s { relations = rs }) (doing.delete (database_of s) c.args.table picks) (length c.args.rows.now))) (sym back)
+    (deleted_effect s c.self.invariant c.args.table c.args.rows.now c.delete.new.relations held c.requires.once c.delete.result
+    (rw c.as_mut_slice.ensures.value at c.delete.ensures.free) (rw c.as_mut_slice.ensures.value at c.delete.ensures.deleted)))
+
+pub returns-clause-refused : goal.returns-clause-refused
+returns-clause-refused c =
+    let s : CatalogState = record { limits = c.self.inside.limits; names = map string_bytes c.self.inside.names.keys; relations = c.self.inside.relations.items } in
+    let held : HoldsRows s c.args.table.0 c.args.rows.now = rw (← c.self.view_is) at c.requires.held in
+    let there : c.args.table.0 < length (database_of s) = rw (← c.self.view_is) at c.requires.there in
+    rw (← c.self.view_is)
+    (deleted_refused s c.self.invariant c.args.table c.args.rows.now c.delete.new.relations held c.requires.once c.delete.result (omega (arith, there, database-length s c.self.invariant.named))
+    (rw c.as_mut_slice.ensures.value at c.delete.ensures.referenced))
