@@ -1,5 +1,5 @@
 -- The order of a relation's keys is told by its rows.
-use Rattle.std.proofs.Common.{◌≡◌, ◌≢◌, ℕ, List, Some, IsSome, refl, subst, get_or}
+use Rattle.std.proofs.Common.{◌≡◌, ◌≢◌, List, Some, IsSome, refl, subst, get_or}
 use Rattle.std.specs.List.{All}
 use Rattle.std.specs.Option.{option_cmp}
 use Rattle.std.specs.FinMap.{get, insert, remove}

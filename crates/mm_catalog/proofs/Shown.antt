@@ -1,6 +1,6 @@
 -- The rows that a relation shows, where one comes in or goes out.
-use Rattle.std.proofs.Common.{◌≡◌, ◌≢◌, ℕ, zero, suc, ◌<◌, Bool, true, false, not, cond, List, [], ◌∷◌, ◌++◌, Option, Some, None, IsSome, refl, sym, ap, ◌∙◌, subst, arith, length, map, filter, get_or, take}
-use Rattle.std.specs.List.{All, range_with_len}
+use Rattle.std.proofs.Common.{◌≡◌, ℕ, zero, suc, ◌<◌, Bool, true, false, cond, List, [], ◌∷◌, ◌++◌, Some, refl, sym, ap, ◌∙◌, arith, length, map, filter, get_or}
+use Rattle.std.specs.List.{All}
 use Rattle.std.specs.Option.{option_cmp, option_and_then, option_map_or}
 use Rattle.std.specs.Ordering.{is_lt, is_gt, ordering_then, ordering_reverse}
 use Rattle.std.specs.declared.cmp.Ordering.{Ordering}
@@ -17,8 +17,8 @@ use Rattle.plain_tables.specs.declared.value.Value.{Value}
 use Rattle.plain_tables.proofs.RowLemmas.{key_cmp_total}
 use Rattle.mm_relation.specs.declared.row.Row.{Row}
 use Rattle.mm_relation.specs.Changes.{IsInserted}
-use Rattle.mm_relation.specs.Reading.{Keys, row_value, value_at}
-use Rattle.mm_relation.specs.State.{RelationState, IsKept, HasKey, no_keys}
+use Rattle.mm_relation.specs.Reading.{Keys}
+use Rattle.mm_relation.specs.State.{RelationState, IsKept, HasKey}
 use Rattle.mm_relation.proofs.KeyOrder.{same_elsewhere}
 use Rattle.mm_catalog.specs.Seen.{row_values, values_of, rows_of}
 use Rattle.mm_catalog.proofs.Keyed.{place_beside, keys_inserted}

@@ -9,3 +9,6 @@ pub mod Recounted
 pub mod Lowered
 pub mod Deleted
 pub mod Dropped
+pub mod Raised
+pub mod Cells
+pub mod Inserted

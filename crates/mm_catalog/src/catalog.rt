@@ -6,12 +6,15 @@ ghost use Rattle.std.specs.Option.{option_map};
 use crate::create::aimed;
 use crate::declare::{declare, undeclare};
 use crate::delete::delete;
+use crate::insert::insert;
 use crate::removal::{renumber_behind, unlink};
 use indexmap::IndexSet;
 use mm_relation::{Relation, Relations};
 use no_memory::NoMemory;
 use part_raw::TupleRef;
-use plain_tables::{ColumnNumber, IndexKind, Limits, Refusal, Schema, TableNumber, Text};
+use plain_tables::{
+    ColumnNumber, IndexKind, Limits, Refusal, Schema, Sequence, TableNumber, Text, Value,
+};
 use std::alloc::Global;
 use std::marker::Model;
 
@@ -45,9 +48,10 @@ impl Catalog {
     ghost use Rattle.plain_tables.specs.ResolvedLaws.{IsMeant};
     ghost use Rattle.mm_catalog.specs.Seen.{database_of};
     ghost use Rattle.plain_tables.specs.Doing as doing;
+    ghost use Rattle.plain_tables.specs.Doing.{done};
     ghost use Rattle.plain_tables.specs.Effects.{Refused};
     ghost use Rattle.plain_tables.specs.Tables.{Row};
-    ghost use Rattle.mm_catalog.specs.Changes.{IsDone, HasEffect};
+    ghost use Rattle.mm_catalog.specs.Changes.{IsDone, HasEffect, IsRefusedFor};
     ghost use Rattle.mm_catalog.specs.Picked.{ArePicked, HoldsRows};
 
     /// A catalog of no tables, under these limits. It takes no memory.
@@ -120,6 +124,18 @@ impl Catalog {
         undeclare(self.relations.as_mut_slice(), table, column, kind)
     }
 
+    /// Takes rows out of a table. Where a row of some table refers to one of them, it takes out none. It takes no memory.
+    pub fn delete(&mut self, table: TableNumber, rows: &[TupleRef]) -> Result<(), Refusal>
+        requires there { table.0 < length (database_of self.old) }
+        requires held { HoldsRows self.old table.0 rows.now }
+        requires once { AllPairs (λ q r. q ≢ r) rows.now }
+        ensures deleted { OnOk result ((picks : Row → Bool) → ArePicked self.old table.0 rows.now picks → HasEffect self.old self.new (doing.delete (database_of self.old) table picks) (length rows.now)) }
+        ensures refused { IfErr result (λ refusal. (picks : Row → Bool) → ArePicked self.old table.0 rows.now picks → (doing.delete (database_of self.old) table picks).outcome ≡ Refused refusal) }
+        ensures unchanged { OnErr result (self.new ≡ self.old) }
+    {
+        delete(self.relations.as_mut_slice(), table, rows)
+    }
+
     /// Drops a table, which no column refers to. Those behind it move up. It takes no memory.
     pub fn drop_table(&mut self, table: TableNumber)
         requires { IsMeant self.old.limits (database_of self.old) (resolved.DropTable table) }
@@ -131,16 +147,20 @@ impl Catalog {
         renumber_behind(self.relations.as_mut_slice(), table);
     }
 
-    /// Takes rows out of a table. Where a row of some table refers to one of them, it takes out none. It takes no memory.
-    pub fn delete(&mut self, table: TableNumber, rows: &[TupleRef]) -> Result<(), Refusal>
-        requires there { table.0 < length (database_of self.old) }
-        requires held { HoldsRows self.old table.0 rows.now }
-        requires once { AllPairs (λ q r. q ≢ r) rows.now }
-        ensures deleted { OnOk result ((picks : Row → Bool) → ArePicked self.old table.0 rows.now picks → HasEffect self.old self.new (doing.delete (database_of self.old) table picks) (length rows.now)) }
-        ensures refused { IfErr result (λ refusal. (picks : Row → Bool) → ArePicked self.old table.0 rows.now picks → (doing.delete (database_of self.old) table picks).outcome ≡ Refused refusal) }
-        ensures unchanged { OnErr result (self.new ≡ self.old) }
+    /// Puts a row into a table. KeyExists comes before NoReferencedRow, and that before TableFull.
+    pub fn insert(&mut self, table: TableNumber, values: Sequence<Value>) -> Result<(), Refusal>
+        requires { IsMeant self.old.limits (database_of self.old) (resolved.Insert table values) }
+        ensures inserted { OnOk result (HasEffect self.old self.new (done self.old.limits (database_of self.old) (resolved.Insert table values)) 1) }
+        ensures refused { IfErr result (IsRefusedFor self.old self.new (done self.old.limits (database_of self.old) (resolved.Insert table values))) }
     {
-        delete(self.relations.as_mut_slice(), table, rows)
+        let alloc = *self.relations.allocator();
+        insert(
+            alloc,
+            self.relations.as_mut_slice(),
+            self.limits,
+            table,
+            values,
+        )
     }
 }
 

@@ -18,11 +18,14 @@
 
 mod before;
 mod catalog;
+mod cells;
 mod create;
 mod declare;
 mod delete;
+mod insert;
 pub mod laws;
 mod lowering;
+mod referrers;
 mod removal;
 
 pub use catalog::Catalog;

@@ -1,0 +1,283 @@
+-- A catalog into which a row comes: what it shows, that it stays consistent, and why one does not come.
+use Rattle.std.proofs.Common.{◌≡◌, ◌≢◌, ℕ, suc, ◌+◌, ◌<◌, ◌≤◌, ◌==◌, ◌⊎◌, Bool, false, cond, List, [], ◌∷◌, ◌++◌, Option, Some, None, refl, sym, ap, ◌∙◌, subst, arith, length, map, take, drop, set, get_or, length-take, zero-add, inl, inr}
+use Rattle.std.specs.List.{All, count_by, slice_get, flat_map, range_with_len}
+use Rattle.std.specs.Prelude.{Result, Ok, Err, OnOk, OnErr, IfErr}
+use Rattle.std.specs.Option.{option_and_then, option_map_or}
+use Rattle.std.specs.Ordering.{is_eq}
+use Rattle.std.specs.FinMap.{get}
+use Rattle.std.proofs.lemmas.Bool.{and_left, and_right, cases_eq, cases_lt, ne_eqb}
+use Rattle.std.proofs.lemmas.List.Sums.{sum_by-cons}
+use Rattle.std.proofs.lemmas.Option.{none-some, same_Some, slice_get_within, slice_get-get_or}
+use Rattle.part_raw.specs.TupleRefs.{ref_cmp}
+use Rattle.part_raw.specs.declared.tuple_ref.TupleRef.{TupleRef}
+use Rattle.part_raw.proofs.Tuples.{get-insert_same, get-insert_other, same_ref_other}
+use Rattle.part_raw.proofs.Lookup.{same_or_other}
+use Rattle.plain_tables.specs.Tables.{Table, with_row}
+use Rattle.plain_tables.specs.Doing.{done}
+use Rattle.plain_tables.specs.Effects.{Effect, Changed, Refused, grown_by}
+use Rattle.plain_tables.specs.References.{IsSound}
+use Rattle.plain_tables.specs.ResolvedLaws.{IsMeant}
+use Rattle.plain_tables.specs.declared.numbers.TableNumber.{TableNumber}
+use Rattle.plain_tables.specs.declared.refusal.Refusal.{Refusal}
+use Rattle.plain_tables.specs.declared.refusal.Refusal.TheVariants.{NoMemory}
+use Rattle.plain_tables.specs.declared.resolved.Resolved.TheVariants as resolved
+use Rattle.plain_tables.specs.declared.value.Value.{Value}
+use Rattle.plain_tables.proofs.ListLemmas.{All-flat_map}
+use Rattle.plain_tables.proofs.SoundLemmas.{done_keeps_sound}
+use Rattle.mm_relation.specs.declared.row.Row.{Row}
+use Rattle.mm_relation.specs.declared.row.Cell.{Cell}
+use Rattle.mm_relation.specs.Changes.{new_row}
+use Rattle.mm_relation.specs.State.{RelationState, linked_keys}
+use Rattle.mm_catalog.specs.State.{CatalogState}
+use Rattle.mm_catalog.specs.Seen.{database_of, table_of, rows_of, row_values, plain_index}
+use Rattle.mm_catalog.specs.Linked.{Linked, link_at, row_links, relation_links, links, links_to, is_link_to, HasLinksOrNulls}
+use Rattle.mm_catalog.specs.Consistent.{IsConsistent, AreCounted}
+use Rattle.mm_catalog.specs.Changes.{HasEffect, IsRefusedFor}
+use Rattle.mm_catalog.specs.Recounted.{HaveReferrers, IsRewritten}
+use Rattle.mm_catalog.specs.Raised.{HaveRoom}
+use Rattle.mm_catalog.specs.Cells.{AreCellsOf}
+use Rattle.mm_catalog.specs.Inserted.{CanComeIn, IsKeptOut, no_memory, key_there, none_named, full, IsTakenIn, IsInsertedAt, IsRefusedAt}
+use Rattle.mm_catalog.proofs.Lists.{get-take}
+use Rattle.mm_catalog.proofs.Outlines.{keys_before}
+use Rattle.mm_catalog.proofs.Back.{lead_back}
+use Rattle.mm_catalog.proofs.Declared.{among_at, named_at, table_at}
+use Rattle.mm_catalog.proofs.Counting.{links_inserted}
+use Rattle.mm_catalog.proofs.Shown.{rows_inserted}
+use Rattle.mm_catalog.proofs.LinksHeld.{link_held}
+use Rattle.mm_catalog.proofs.Elsewhere.{rewritten_from, kept_from, database_rewritten, consistent_rewritten, current_beside_old, counted_from}
+use Rattle.mm_catalog.proofs.CellRows.{All-filter_map, link_parts, cells_shown, cells_linked}
+use Rattle.mm_catalog.proofs.Referenced.{some_column}
+use Rattle.mm_catalog.proofs.Bounded.{few_links, few_columns}
+use Rattle.mm_catalog.proofs.Checked.{key_refuses, reference_refuses, full_refuses, nothing_refuses}
+
+-- ---- no link names a row that isn't there
+
+none_counted : (test : Linked → Bool) (xs : List Linked) → All (λ x. test x ≡ false) xs → count_by test xs ≡ 0
+none_counted test [] h = refl
+none_counted test (x ∷ xs) h =
+    sum_by-cons (λ y. cond (test y) 1 0) x xs ∙ ap (λ b. cond b 1 0 + count_by test xs) (h 0 x (omega arith))
+    ∙ zero-add (count_by test xs) ∙ none_counted test xs (λ k d l. h (suc k) d (omega arith))
+
+module _ (c : CatalogState) (ok : IsConsistent c) (n : ℕ) (b : RelationState) (there : slice_get c.relations n ≡ Some b) (r : TupleRef) (free : get b.rows r ≡ None) where
+  NamesOther : Linked → Type 0
+  NamesOther link = is_link_to n r link ≡ false
+
+  unnamed : (k : ℕ) (s : RelationState) (q : TupleRef) (row : Row) (column : ℕ) (link : Linked) → slice_get c.relations k ≡ Some s → get s.rows q ≡ Some row → link_at s.targets row column ≡ Some link → is_link_to n r link ≡ false
+  unnamed k s q row column link at found e =
+      let parts = link_parts s.targets row column link e in
+      let held = link_held c ok k s q row column link.0 link.1 at found parts.0 parts.1 in
+      elim (cases_eq link.0 n) [
+        | inr other ↦ and_left (link.0 == n) (is_eq (ref_cmp link.1 r)) (ne_eqb link.0 n other)
+        | inl same ↦ elim (same_or_other link.1 r) [
+          | inr other ↦ and_right (link.0 == n) (is_eq (ref_cmp link.1 r)) (same_ref_other link.1 r other)
+          | inl it ↦
+              let this : held.0 ≡ b = same_Some held.0 b (sym held.2 ∙ ap (slice_get c.relations) same ∙ there) in
+              absurd (none-some held.1 (sym free ∙ ap (get b.rows) (sym it) ∙ ap (λ (u : RelationState). get u.rows link.1) (sym this) ∙ held.3))
+        ]
+      ]
+
+  row_unnamed : (k : ℕ) (s : RelationState) (q : TupleRef) (o : Option Row) → slice_get c.relations k ≡ Some s → get s.rows q ≡ o → All (λ link. is_link_to n r link ≡ false) (option_map_or (row_links s.targets) o [])
+  unfolding row_links
+  row_unnamed k s q None at found = λ i d l. absurd (omega arith)
+  row_unnamed k s q (Some row) at found =
+      All-filter_map (link_at s.targets row) (λ link. is_link_to n r link ≡ false) (λ column link e. unnamed k s q row column link at found e) (range_with_len 0 (length s.targets))
+
+  relation_unnamed : (k : ℕ) (s : RelationState) → slice_get c.relations k ≡ Some s → All (λ link. is_link_to n r link ≡ false) (relation_links s)
+  unfolding relation_links
+  relation_unnamed k s at =
+      All-flat_map (λ link. is_link_to n r link ≡ false) (λ q. option_map_or (row_links s.targets) (get s.rows q) []) s.by_key
+      (λ i d l. row_unnamed k s (get_or s.by_key i d) (get s.rows (get_or s.by_key i d)) at refl)
+
+  pub no_links_to : links_to c.relations n r ≡ 0
+  unfolding links links_to
+  no_links_to =
+      none_counted (is_link_to n r) (flat_map relation_links c.relations)
+      (All-flat_map (λ link. is_link_to n r link ≡ false) relation_links c.relations
+      (λ k d l. relation_unnamed k (get_or c.relations k d) (slice_get-get_or c.relations k d l)))
+
+-- ---- what the call on the relation asks
+
+module _ (c : CatalogState) (ok : IsConsistent c) where
+  -- numbers of referrers are far below their limit
+  pub room_for_links : (n : ℕ) (s : RelationState) → slice_get c.relations n ≡ Some s → HaveRoom (take n c.relations) (length s.targets)
+  room_for_links n s there table t r row at found =
+      elim (cases_under table) [
+        | inl below ↦
+            let counted = ok.counted table t r row (sym (get-take c.relations n table below) ∙ at) found in
+            omega (arith, counted, few_links c ok table r, few_columns c ok n s there)
+        | inr above ↦ absurd (omega (arith, above, slice_get_within (take n c.relations) table t at, length-take n c.relations, slice_get_within c.relations n s there))
+      ]
+    where
+      cases_under : (k : ℕ) → (k < n) ⊎ (n ≤ k)
+      cases_under k = cases_lt k n
+
+  pub values_width : (n : TableNumber) (values : List Value) → IsMeant c.limits (database_of c) (resolved.Insert n values) → (s : RelationState) → slice_get c.relations n.0 ≡ Some s → length values ≡ length s.targets
+  unfolding table_of
+  values_width n values meant s there =
+      let name = named_at c ok n.0 (slice_get_within c.relations n.0 s there) in
+      let wide : length meant.0.columns ≡ length s.schema.columns = ap (λ (t : Table). length t.columns) (table_at c ok n.0 name.0 s meant.0 name.1 there meant.1) in
+      meant.2.counted ∙ wide ∙ sym (among_at c ok n.0 s there).kept.width
+
+  pub some_value : (n : TableNumber) (values : List Value) → IsMeant c.limits (database_of c) (resolved.Insert n values) → (s : RelationState) → slice_get c.relations n.0 ≡ Some s → 0 < length values
+  some_value n values meant s there =
+      omega (arith, values_width n values meant s there, (among_at c ok n.0 s there).kept.width, some_column c ok n.0 s there)
+
+-- ---- a row that came
+
+-- what an insert leaves of a catalog
+pub record IsGrown (c : CatalogState) (relations : List RelationState) (n : TableNumber) (values : List Value) : Type 0 where
+  pub effect : HasEffect c (record c { relations = relations }) (done c.limits (database_of c) (resolved.Insert n values)) 1
+  pub consistent : IsConsistent (record c { relations = relations })
+
+module _ (c : CatalogState) (ok : IsConsistent c) (n : TableNumber) (key : Value) (rest : List Value) (meant : IsMeant c.limits (database_of c) (resolved.Insert n (key ∷ rest))) (b a : RelationState) (front : List RelationState) (cells : List Cell) (there : slice_get c.relations n.0 ≡ Some b) (row : CanComeIn (take n.0 c.relations) b c.limits.rows (key ∷ rest) key cells) (are : AreCellsOf (take n.0 c.relations) b.targets rest cells) (taken : IsTakenIn (take n.0 c.relations) front b a (new_row key cells)) where
+  abbrev values : List Value
+  values = key ∷ rest
+
+  abbrev t : Row
+  t = new_row key cells
+
+  abbrev new : List RelationState
+  new = front ++ set (drop n.0 c.relations) 0 a
+
+  within : n.0 < length c.relations
+  within = slice_get_within c.relations n.0 b there
+
+  wide : length b.targets ≡ length rest + 1
+  wide = omega (arith, values_width c ok n values meant b there)
+
+  name : (called : List ℕ) × (slice_get c.names n.0 ≡ Some called)
+  name = named_at c ok n.0 within
+
+  other_rows : (r : TupleRef) → r ≢ taken.r → get a.rows r ≡ get b.rows r
+  other_rows r other = ap (λ m. get m r) taken.inserted.rows ∙ get-insert_other b.rows taken.r r t other
+
+  not_new : (r : TupleRef) (u : Row) → get b.rows r ≡ Some u → r ≢ taken.r
+  not_new r u found e = none-some u (sym taken.inserted.free ∙ ap (get b.rows) (sym e) ∙ found)
+
+  this_row : (u : Row) → get a.rows taken.r ≡ Some u → t ≡ u
+  this_row u found = same_Some t u (sym (ap (λ m. get m taken.r) taken.inserted.rows ∙ get-insert_same b.rows taken.r t) ∙ found)
+
+  rewritten : IsRewritten c.relations new n.0 b a
+  rewritten =
+      rewritten_from c.relations front n.0 b a there taken.recounted taken.inserted.keeps
+      (λ r u found some. ap (option_and_then (λ (v : Row). Some v.key)) (other_rows r (not_new r u found)))
+
+  keys_here : linked_keys b.targets (take n.0 c.relations) ≡ linked_keys b.targets c.relations
+  keys_here = keys_before b.targets c.relations n.0 (lead_back c ok n.0 b there)
+
+  values_here : row_values (linked_keys b.targets c.relations) (length b.schema.columns) t ≡ values
+  values_here =
+      (λ i. row_values (sym keys_here i) (sym (among_at c ok n.0 b there).kept.width i) t)
+      ∙ cells_shown (take n.0 c.relations) b.targets key rest cells are wide
+
+  rows_now : rows_of (linked_keys a.targets c.relations) a ≡ with_row values (rows_of (linked_keys b.targets c.relations) b)
+  rows_now =
+      (λ i. rows_of (linked_keys (taken.inserted.keeps.targets i) c.relations) (record a { schema = taken.inserted.keeps.schema i }))
+      ∙ rows_inserted b a (among_at c ok n.0 b there).kept taken.kept taken.r t taken.inserted row.fresh (linked_keys b.targets c.relations) (some_column c ok n.0 b there)
+      ∙ ap (λ v. with_row v (rows_of (linked_keys b.targets c.relations) b)) values_here
+
+  table_now : table_of c.relations name.0 a ≡ grown_by values (table_of c.relations name.0 b)
+  unfolding table_of
+  table_now = λ i. record {
+    name = name.0;
+    columns = (taken.inserted.keeps.schema i).columns;
+    indexes = map plain_index (taken.inserted.keeps.declared i);
+    rows = rows_now i;
+  }
+
+  effect_is : done c.limits (database_of c) (resolved.Insert n values) ≡ record { database = set (database_of c) n.0 (grown_by values (table_of c.relations name.0 b)); outcome = Changed 1 }
+  effect_is = nothing_refuses c ok n b there name.0 name.1 key rest row.fresh cells are row.room
+
+  database_now : database_of (record c { relations = new }) ≡ (done c.limits (database_of c) (resolved.Insert n values)).database
+  database_now =
+      database_rewritten c ok n.0 new b a rewritten name.0 name.1 ∙ ap (set (database_of c) n.0) table_now
+      ∙ ap (λ (e : Effect). e.database) (sym effect_is)
+
+  linked_now : (r : TupleRef) (u : Row) → get a.rows r ≡ Some u → HasLinksOrNulls a.targets u
+  linked_now r u found = subst (λ targets. HasLinksOrNulls targets u) (sym taken.inserted.keeps.targets) (elim (same_or_other r taken.r) [
+    | inl same ↦
+        subst (HasLinksOrNulls b.targets) (this_row u (ap (get a.rows) (sym same) ∙ found)) (cells_linked (take n.0 c.relations) b.targets key rest cells are wide)
+    | inr other ↦ (among_at c ok n.0 b there).linked r u (sym (other_rows r other) ∙ found)
+  ])
+
+  abbrev count : ℕ → TupleRef → ℕ
+  count = λ table r. links_to c.relations table r + count_by (is_link_to table r) (row_links b.targets t)
+
+  have : HaveReferrers front count
+  have = taken.raised (links_to c.relations) (λ table s r u at found. ok.counted table s r u (before_get table s at) found)
+    where
+      before_get : (table : ℕ) (s : RelationState) → slice_get (take n.0 c.relations) table ≡ Some s → slice_get c.relations table ≡ Some s
+      before_get table s at =
+          let below : table < n.0 = omega (arith, slice_get_within (take n.0 c.relations) table s at, length-take n.0 c.relations) in
+          sym (get-take c.relations n.0 table below) ∙ at
+
+  counts : (table : ℕ) (r : TupleRef) → table < n.0 → count table r + count_by (is_link_to table r) (relation_links b) ≡ links_to c.relations table r + count_by (is_link_to table r) (relation_links a)
+  counts table r below =
+      omega (arith, links_inserted b a (among_at c ok n.0 b there).kept taken.kept taken.r t taken.inserted row.fresh (is_link_to table r))
+
+  own : (r : TupleRef) (u : Row) → get a.rows r ≡ Some u → u.referrers ≡ links_to c.relations n.0 r
+  own r u found = elim (same_or_other r taken.r) [
+    | inl same ↦
+        ap (λ (v : Row). v.referrers) (sym (this_row u (ap (get a.rows) (sym same) ∙ found)))
+        ∙ sym (no_links_to c ok n.0 b there taken.r taken.inserted.free) ∙ ap (links_to c.relations n.0) (sym same)
+    | inr other ↦ ok.counted n.0 b r u there (sym (other_rows r other) ∙ found)
+  ]
+
+  front_length : length front ≡ n.0
+  front_length = omega (arith, taken.recounted.count, length-take n.0 c.relations, within)
+
+  counted_now : AreCounted new
+  counted_now = counted_from c ok n.0 front b a rewritten front_length count have counts own
+
+  sound_now : IsSound c.limits (database_of (record c { relations = new }))
+  sound_now = subst (IsSound c.limits) (sym database_now) (done_keeps_sound c.limits (database_of c) (resolved.Insert n values) ok.sound meant)
+
+  grown_now : IsGrown c new n values
+  grown_now = record {
+    effect = record { database = database_now; limits = refl; outcome = ap (λ (e : Effect). e.outcome) effect_is };
+    consistent =
+        consistent_rewritten c ok n.0 new b a rewritten (kept_from c ok n.0 front a taken.others_kept taken.kept)
+        (current_beside_old c ok n.0 new b a rewritten taken.current) linked_now counted_now sound_now;
+  }
+
+module _ (c : CatalogState) (ok : IsConsistent c) (n : TableNumber) (values : List Value) (meant : IsMeant c.limits (database_of c) (resolved.Insert n values)) where
+  pub grown_from : (relations : List RelationState) → IsInsertedAt c.relations relations n.0 c.limits.rows values → IsGrown c relations n values
+  grown_from relations h =
+      let e = h.row.split in
+      let row : CanComeIn (take n.0 c.relations) h.before c.limits.rows (h.key ∷ h.row.rest) h.key h.cells = record { rest = h.row.rest; split = refl; fresh = h.row.fresh; cells = h.row.cells; room = h.row.room } in
+      subst (λ rs. IsGrown c rs n values) (sym h.list)
+      (subst (IsGrown c (h.front ++ set (drop n.0 c.relations) 0 h.after) n) (sym e)
+      (grown_now c ok n h.key h.row.rest (subst (λ vs. IsMeant c.limits (database_of c) (resolved.Insert n vs)) e meant) h.before h.after h.front h.cells h.there row h.row.cells h.taken))
+
+  -- ---- a row that did not come
+
+  kept_out : (key : Value) (rest : List Value) (s : RelationState) (there : slice_get c.relations n.0 ≡ Some s) (called : List ℕ) (named : slice_get c.names n.0 ≡ Some called) → length (key ∷ rest) ≡ length s.schema.columns → (refusal : Refusal) → IsKeptOut (take n.0 c.relations) s c.limits.rows key rest refusal → (refusal ≡ NoMemory) ⊎ ((done c.limits (database_of c) (resolved.Insert n (key ∷ rest))).outcome ≡ Refused refusal)
+  kept_out key rest s there called named columns refusal no_memory = inl refl
+  kept_out key rest s there called named columns refusal (key_there h) = inr (key_refuses c ok n s there called named key rest h)
+  kept_out key rest s there called named columns refusal (none_named fresh none) = inr (reference_refuses c ok n s there called named key rest fresh columns none)
+  kept_out key rest s there called named columns refusal (full fresh cells are above) = inr (full_refuses c ok n s there called named key rest fresh cells are above)
+
+  pub refused_from : (relations : List RelationState) (refusal : Refusal) → IsRefusedAt c.relations n.0 c.limits.rows values refusal → relations ≡ c.relations → IsRefusedFor c (record c { relations = relations }) (done c.limits (database_of c) (resolved.Insert n values)) refusal
+  refused_from relations refusal h same =
+      let e = h.row.split in
+      let name = named_at c ok n.0 (slice_get_within c.relations n.0 h.relation h.there) in
+      let columns : length (h.row.key ∷ h.row.rest) ≡ length h.relation.schema.columns =
+      ap length (sym e) ∙ values_width c ok n values meant h.relation h.there ∙ (among_at c ok n.0 h.relation h.there).kept.width in (
+        ap (λ rs. record c { relations = rs }) same,
+        subst (λ vs. (refusal ≡ NoMemory) ⊎ ((done c.limits (database_of c) (resolved.Insert n vs)).outcome ≡ Refused refusal)) (sym e)
+            (kept_out h.row.key h.row.rest h.relation h.there name.0 name.1 columns refusal h.row.why),
+      )
+
+  -- ---- the answer
+
+  pub inserted_consistent : (relations : List RelationState) (result : Result (Unit {0}) Refusal) → OnOk result (IsInsertedAt c.relations relations n.0 c.limits.rows values) → OnErr result (relations ≡ c.relations) → IsConsistent (record c { relations = relations })
+  inserted_consistent relations (Ok u) h same = (grown_from relations h).consistent
+  inserted_consistent relations (Err e) h same = subst (λ rs. IsConsistent (record c { relations = rs })) (sym same) ok
+
+  pub inserted_effect : (relations : List RelationState) (result : Result (Unit {0}) Refusal) → OnOk result (IsInsertedAt c.relations relations n.0 c.limits.rows values) → OnOk result (HasEffect c (record c { relations = relations }) (done c.limits (database_of c) (resolved.Insert n values)) 1)
+  inserted_effect relations (Ok u) h = (grown_from relations h).effect
+  inserted_effect relations (Err e) h = tt
+
+  pub inserted_refused : (relations : List RelationState) (result : Result (Unit {0}) Refusal) → IfErr result (IsRefusedAt c.relations n.0 c.limits.rows values) → OnErr result (relations ≡ c.relations) → IfErr result (IsRefusedFor c (record c { relations = relations }) (done c.limits (database_of c) (resolved.Insert n values)))
+  inserted_refused relations (Ok u) h same = tt
+  inserted_refused relations (Err e) h same = refused_from relations e h same

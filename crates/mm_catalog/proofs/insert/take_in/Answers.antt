@@ -1,0 +1,36 @@
+use Rattle.std.proofs.Common.{◌≡◌, sym, ap, ◌∙◌, subst, is_some}
+use Rattle.std.specs.List.{All}
+use Rattle.std.proofs.lemmas.Option.{same_Some}
+use Rattle.mm_relation.specs.Changes.{new_row}
+use Rattle.mm_catalog.specs.Linked.{row_links}
+use Rattle.mm_catalog.specs.Raised.{IsHeldIn, AreRaised}
+use Rattle.mm_catalog.proofs.Taking.{row_here}
+use Rattle.mm_catalog.proofs.insert.take_in.Goals as goal
+
+pub raise_links-requires-clause-held : goal.raise_links-requires-clause-held
+raise_links-requires-clause-held c =
+    ap is_some (row_here c.args.relation.now c.insert_row-taken.new.self c.in-Ok.r (new_row c.args.key c.args.cells) c.in-Ok.ensures.inserted)
+
+pub raise_links-requires-clause-links : goal.raise_links-requires-clause-links
+raise_links-requires-clause-links c row found =
+    let old = c.args.relation.now in
+    let new = c.insert_row-taken.new.self in
+    let t = new_row c.args.key c.args.cells in
+    let same : t ≡ row = same_Some t row (sym (row_here old new c.in-Ok.r t c.in-Ok.ensures.inserted) ∙ found) in
+    subst (All (IsHeldIn c.args.before.now)) (λ i. row_links (sym c.in-Ok.ensures.inserted.keeps.targets i) (same i)) c.requires.links
+
+pub returns-in-Ok-clause-taken : goal.returns-in-Ok-clause-taken
+returns-in-Ok-clause-taken c =
+    let old = c.args.relation.now in
+    let new = c.insert_row-taken.new.self in
+    let t = new_row c.args.key c.args.cells in
+    record {
+      r = c.in-Ok.r;
+      inserted = c.in-Ok.ensures.inserted;
+      kept = c.a_relation_is_kept.ensures;
+      current = c.in-Ok.ensures.current;
+      recounted = c.raise_links.ensures.recounted;
+      others_kept = c.raise_links.ensures.kept;
+      raised = subst (λ targets. AreRaised c.args.before.now c.raise_links.new.before (row_links targets t)) c.in-Ok.ensures.inserted.keeps.targets
+          (c.raise_links.ensures.raised t (row_here old new c.in-Ok.r t c.in-Ok.ensures.inserted));
+    }

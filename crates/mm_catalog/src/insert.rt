@@ -1,0 +1,100 @@
+//! A row that comes into one relation among others.
+ghost use Rattle.std.specs.Prelude.{◌≡◌, ℕ, ◌<◌, ◌≤◌, Some, All, IfOk, IfErr, OnOk, OnErr, length, slice_get, take};
+ghost use Rattle.std.specs.FinMap as finite;
+ghost use Rattle.mm_relation.specs.Changes.{new_row};
+ghost use Rattle.mm_relation.specs.State.{RelationState, IsKept, IsCurrent, IsReadable, HasKey, linked_keys};
+ghost use Rattle.mm_catalog.specs.Changes.{IsCurrentAt};
+ghost use Rattle.mm_catalog.specs.Inserted.{CanComeIn, CannotComeIn, IsTakenIn, IsInsertedAt, IsRefusedAt};
+ghost use Rattle.mm_catalog.specs.Linked.{target_at, row_links};
+ghost use Rattle.mm_catalog.specs.Raised.{IsHeldIn, HaveRoom};
+
+use crate::before::Before;
+use crate::cells::cells_of;
+use crate::referrers::raise_links;
+use mm_relation::laws::a_relation_is_kept;
+use mm_relation::{Cell, Relation, RowRefusal};
+use no_memory::NoMemory;
+use plain_tables::{Limits, Refusal, Sequence, TableNumber, Value};
+use std::alloc::Global;
+
+// The key and the cells of a row that can come in.
+fn row_for(
+    alloc: Global,
+    before: &[Relation],
+    relation: &Relation,
+    limits: Limits,
+    mut values: Sequence<Value>,
+) -> Result<(Value, Sequence<Cell>), Refusal>
+    requires some { 0 < length values }
+    requires width { length values ≤ length relation.now.targets }
+    requires back { (column : ℕ) (table : ℕ) → target_at relation.now.targets column ≡ Some table → table < length before.now }
+    ensures row { IfOk result (λ row. CanComeIn before.now relation.now limits.rows values row.0 row.1) }
+    ensures refused { IfErr result (CannotComeIn before.now relation.now limits.rows values) }
+{
+    let key = values.remove(0);
+    if relation.find_key(&key).is_some() {
+        return Err(Refusal::KeyExists { record: None });
+    }
+    let cells = cells_of(alloc, before, relation, values.into_vec())?;
+    if relation.len() >= u64::from(limits.rows) {
+        return Err(Refusal::TableFull { record: None });
+    }
+    Ok((key, cells))
+}
+
+// Takes a row with a new key in, where there is room for it, and counts its links.
+fn take_in(
+    before: &mut [Relation],
+    relation: &mut Relation,
+    key: Value,
+    cells: Sequence<Cell>,
+) -> Result<(), NoMemory>
+    requires kept { All IsKept before.old }
+    requires readable { IsReadable (linked_keys relation.old.targets before.old) (length relation.old.targets) (new_row key cells) }
+    requires current { IsCurrent (linked_keys relation.old.targets before.old) relation.old }
+    requires fresh { HasKey relation.old.rows key → ⊥ }
+    requires few { finite.len relation.old.rows < 16777216 }
+    requires links { All (IsHeldIn before.old) (row_links relation.old.targets (new_row key cells)) }
+    requires room { HaveRoom before.old (length relation.old.targets) }
+    ensures taken { OnOk result (IsTakenIn before.old before.new relation.old relation.new (new_row key cells)) }
+    ensures others { OnErr result (before.new ≡ before.old) }
+    ensures unchanged { OnErr result (relation.new ≡ relation.old) }
+{
+    let taken = relation.insert_row(&Before { relations: before }, key, cells);
+    match taken {
+        Ok(r) => {
+            a_relation_is_kept(relation);
+            raise_links(before, relation, r);
+            Ok(())
+        }
+        Err(RowRefusal::NoMemory) => Err(NoMemory),
+        Err(RowRefusal::KeyExists | RowRefusal::Full) => unreachable!(),
+    }
+}
+
+// Puts the row of these values into the relation of this number, whose links lead into those before it.
+pub fn insert(
+    alloc: Global,
+    relations: &mut [Relation],
+    limits: Limits,
+    table: TableNumber,
+    values: Sequence<Value>,
+) -> Result<(), Refusal>
+    requires few { limits.rows ≤ 16777216 }
+    requires there { table.0 < length relations.old }
+    requires kept { All IsKept relations.old }
+    requires current { IsCurrentAt relations.old table.0 }
+    requires back { (s : RelationState) → slice_get relations.old table.0 ≡ Some s → (column : ℕ) (number : ℕ) → target_at s.targets column ≡ Some number → number < table.0 }
+    requires some { 0 < length values }
+    requires width { (s : RelationState) → slice_get relations.old table.0 ≡ Some s → length values ≡ length s.targets }
+    requires room { (s : RelationState) → slice_get relations.old table.0 ≡ Some s → HaveRoom (take table.0 relations.old) (length s.targets) }
+    ensures inserted { OnOk result (IsInsertedAt relations.old relations.new table.0 limits.rows values) }
+    ensures refused { IfErr result (IsRefusedAt relations.old table.0 limits.rows values) }
+    ensures unchanged { OnErr result (relations.new ≡ relations.old) }
+{
+    let (before, rest) = relations.split_at_mut(table.0);
+    let relation = &mut rest[0];
+    let (key, cells) = row_for(alloc, before, relation, limits, values)?;
+    take_in(before, relation, key, cells)?;
+    Ok(())
+}
