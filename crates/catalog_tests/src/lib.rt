@@ -9,8 +9,12 @@ mod company;
 #[cfg(test)]
 mod growths;
 #[cfg(test)]
+mod rows;
+#[cfg(test)]
 mod seen;
 #[cfg(test)]
 mod shown;
+#[cfg(test)]
+mod staff;
 #[cfg(test)]
 mod tables;

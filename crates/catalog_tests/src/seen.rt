@@ -1,4 +1,6 @@
 //! What public calls show of a catalog.
+ghost use Rattle.std.specs.Prelude.{◌≡◌, ◌<◌, Some, length, slice_get};
+ghost use Rattle.mm_catalog.specs.Seen.{database_of};
 
 use mm_catalog::Catalog;
 use mm_catalog::laws::a_catalog_is_consistent;
@@ -7,7 +9,10 @@ use mm_relation::{ColumnNumber, Relation, Relations, TableNumber};
 use std::process::Abort;
 
 /// The relation of a table, which is there.
-pub fn relation<'a>(rt: &impl Abort, catalog: &'a Catalog, table: usize) -> &'a Relation {
+pub fn relation<'a>(rt: &impl Abort, catalog: &'a Catalog, table: usize) -> &'a Relation
+    ensures within { table < length (database_of catalog.now) }
+    ensures there { slice_get catalog.now.relations table ≡ Some result.now }
+{
     assert!(rt; table < catalog.table_count());
     a_catalog_is_consistent(catalog);
     catalog.at(TableNumber(table))
