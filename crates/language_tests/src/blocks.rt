@@ -25,19 +25,24 @@ fn written(
 ) -> Result<Vec<u8>, NoMemory>
     requires { All (λ row. length row ≡ 2) rows.now }
 {
-    let [table, column] = names;
+    let [id, word] = names;
+    let table = id.as_str();
     let full = [
         FullName {
             table,
             column: table,
         },
-        FullName { table, column },
+        FullName {
+            table,
+            column: word.as_str(),
+        },
     ];
+    let row = rows[0].as_slice();
     let mut records = RecordWriter::new(block_of(alloc, names, rows)?);
     records.push_names(names)?;
     records.push_full_names(alloc, &full)?;
-    records.push_chosen(rows[0].as_slice(), &[1, 0])?;
-    records.push_chosen(rows[0].as_slice(), &[1])?;
+    records.push_values(&[&row[1], &row[0]])?;
+    records.push_values(&[&row[1]])?;
     records.finish()
 }
 

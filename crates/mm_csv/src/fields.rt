@@ -6,8 +6,6 @@ ghost use Rattle.csv.specs.Writing.{text_written};
 ghost use Rattle.plain_tables.specs.Csv.{record_text, row_record, value_field};
 ghost use Rattle.mm_csv.specs.Records.{AddsField, EndsRecord, IsBetweenRecords};
 ghost use Rattle.mm_csv.specs.FullNames.{full_name_text};
-ghost use Rattle.plain_tables.specs.Queries.{value_at};
-ghost use Rattle.std.specs.List.{All};
 
 use crate::FullName;
 use csv::Writer;
@@ -57,20 +55,18 @@ pub fn write_row<W: Write + Drop>(writer: &mut Writer<W>, row: &[Value]) -> Resu
     end_record(writer)
 }
 
-/// The values of a row at these places as a record. After an error a part of it may have been written.
-pub fn write_chosen<W: Write + Drop>(
+/// Values that are lent one by one as a record. After an error a part of it may have been written.
+pub fn write_values<W: Write + Drop>(
     writer: &mut Writer<W>,
-    row: &[Value],
-    places: &[usize],
+    values: &[&Value],
 ) -> Result<(), NoMemory>
     requires between { IsBetweenRecords writer.old }
-    requires some { 0 < length places.now }
-    requires within { All (λ place. place < length row.now) places.now }
+    requires some { 0 < length values.now }
     ensures between { OnOk result (IsBetweenRecords writer.new) }
-    ensures text { OnOk result (Appends (text_written W.contents writer.old) (text_written W.contents writer.new) (row_record (map (value_at row.now) places.now))) }
+    ensures text { OnOk result (Appends (text_written W.contents writer.old) (text_written W.contents writer.new) (row_record (map (λ v. v.now) values.now))) }
 {
-    for &place in places {
-        write_value(writer, &row[place])?;
+    for value in values {
+        write_value(writer, value)?;
     }
     end_record(writer)
 }

@@ -1,14 +1,12 @@
 //! A writer of records that takes values by reference.
 
 ghost use Rattle.std.specs.Prelude.{◌≡◌, ◌<◌, true, false, length, map, IfOk, OnOk, OnErr};
-ghost use Rattle.std.specs.List.{All};
 ghost use Rattle.std.specs.Io.KnownBytes.{Appends, Keeps};
 ghost use Rattle.plain_tables.specs.Csv.{record_text, row_record};
-ghost use Rattle.plain_tables.specs.Queries.{value_at};
 ghost use Rattle.mm_csv.specs.FullNames.{full_name_text};
 
 use crate::FullName;
-use crate::fields::{write_chosen, write_full_names, write_names, write_row};
+use crate::fields::{write_full_names, write_names, write_row, write_values};
 use csv::{Writer, WriterBuilder};
 use plain_tables::{NoMemory, Text, Value};
 use std::alloc::Global;
@@ -65,11 +63,10 @@ impl<W: Write + Drop> RecordWriter<W> {
         Ok(())
     }
 
-    /// The values of a row at these places as a record.
-    pub fn push_chosen(&mut self, row: &[Value], places: &[usize]) -> Result<(), NoMemory>
-        requires some { 0 < length places.now }
-        requires within { All (λ place. place < length row.now) places.now }
-        ensures bytes { OnOk result (Appends self.old.bytes self.new.bytes (row_record (map (value_at row.now) places.now))) }
+    /// Values that are lent one by one as a record.
+    pub fn push_values(&mut self, values: &[&Value]) -> Result<(), NoMemory>
+        requires { 0 < length values.now }
+        ensures bytes { OnOk result (Appends self.old.bytes self.new.bytes (row_record (map (λ v. v.now) values.now))) }
         ensures goes { OnOk result ((self.old.failed ≡ false) × (self.new.failed ≡ false)) }
         ensures failed { OnErr result (self.new.failed ≡ true) }
     {
@@ -77,7 +74,7 @@ impl<W: Write + Drop> RecordWriter<W> {
             return Err(NoMemory);
         }
         self.failed = true;
-        write_chosen(&mut self.writer, row, places)?;
+        write_values(&mut self.writer, values)?;
         self.failed = false;
         Ok(())
     }
