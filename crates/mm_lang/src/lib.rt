@@ -18,5 +18,5 @@ mod symbols;
 mod texts;
 
 pub use parser::parse;
-pub use printer::print;
+pub use printer::{print, print_index, print_table};
 pub use refusal::ParseRefusal;

@@ -7,7 +7,7 @@ ghost use Rattle.plain_tables.specs.declared.command.Command.TheVariants as comm
 ghost use Rattle.mm_lang.specs.Printing.{behind};
 
 use crate::items::{Item, push_list};
-use plain_tables::{Command, Cond, IndexKind, Items, NoMemory, Setting, Text};
+use plain_tables::{Command, Cond, IndexKind, Items, NoMemory, Schema, Setting, Text};
 use std::alloc::Global;
 
 /// The canonical spelling of a command.
@@ -26,22 +26,20 @@ fn push_command(line: &mut String, command: &Command) -> Result<(), NoMemory>
     ensures { OnOk result (string_bytes line.new ≡ string_bytes line.old ++ canonical_spelling command.now) }
 {
     match command {
-        Command::Table { name, schema } => {
-            push_name_and_list(line, "table ", name, schema.columns.as_slice())
-        }
+        Command::Table { name, schema } => print_table(line, name.as_str(), schema),
         Command::DropTable { table } => push_drop_table(line, table),
         Command::Index {
             table,
             column,
             kind,
-        } => push_index(line, "index ", table, column, *kind),
+        } => print_index(line, table.as_str(), column.as_str(), *kind),
         Command::DropIndex {
             table,
             column,
             kind,
-        } => push_index(line, "drop index ", table, column, *kind),
+        } => push_index(line, "drop index ", table.as_str(), column.as_str(), *kind),
         Command::Insert { table, values } => {
-            push_name_and_list(line, "insert ", table, values.as_slice())
+            push_name_and_list(line, "insert ", table.as_str(), values.as_slice())
         }
         Command::Update {
             table,
@@ -61,17 +59,36 @@ fn push_command(line: &mut String, command: &Command) -> Result<(), NoMemory>
     }
 }
 
+/// Puts the canonical spelling of the command that declares a table behind the line.
+pub fn print_table(line: &mut String, name: &str, schema: &Schema) -> Result<(), NoMemory>
+    ensures { OnOk result (string_bytes line.new ≡ string_bytes line.old ++ canonical_spelling (command.Table name.now schema.now)) }
+{
+    push_name_and_list(line, "table ", name, schema.columns.as_slice())
+}
+
+/// Puts the canonical spelling of the command that declares an index behind the line.
+pub fn print_index(
+    line: &mut String,
+    table: &str,
+    column: &str,
+    kind: IndexKind,
+) -> Result<(), NoMemory>
+    ensures { OnOk result (string_bytes line.new ≡ string_bytes line.old ++ canonical_spelling (command.Index table.now column.now kind)) }
+{
+    push_index(line, "index ", table, column, kind)
+}
+
 // WORD NAME ( ITEM {, ITEM} )
 fn push_name_and_list<T: Item>(
     line: &mut String,
     word: &str,
-    name: &Text,
+    name: &str,
     items: &[T],
 ) -> Result<(), NoMemory>
     ensures { OnOk result (string_bytes line.new ≡ string_bytes line.old ++ (word.now ++ (name.now ++ behind (Sign Open ∷ separated (map T.symbols items.now) ++ Sign Close ∷ [])))) }
 {
     line.push_str(word)?;
-    line.push_str(name.as_str())?;
+    line.push_str(name)?;
     line.push_str(" (")?;
     push_list(line, items, ", ")?;
     line.push_str(")")?;
@@ -100,16 +117,16 @@ fn index_str(kind: IndexKind) -> &'static str
 fn push_index(
     line: &mut String,
     word: &str,
-    table: &Text,
-    column: &Text,
+    table: &str,
+    column: &str,
     kind: IndexKind,
 ) -> Result<(), NoMemory>
     ensures { OnOk result (string_bytes line.new ≡ string_bytes line.old ++ (word.now ++ spaced (index_symbols table.now column.now kind))) }
 {
     line.push_str(word)?;
-    line.push_str(table.as_str())?;
+    line.push_str(table)?;
     line.push_str(" ")?;
-    line.push_str(column.as_str())?;
+    line.push_str(column)?;
     line.push_str(" ")?;
     line.push_str(index_str(kind))?;
     Ok(())
