@@ -4,7 +4,8 @@ use Rattle.std.specs.Fmt.{digits}
 use Rattle.std.specs.Str.{IsUtf8}
 use lib.Chars.{codes}
 use Rattle.plain_tables.specs.Databases.{Database}
-use Rattle.plain_tables.specs.Effects.{Effect, Outcome, Changed, effect_of}
+use Rattle.plain_tables.specs.Effects.{Effect, Changed}
+use Rattle.plain_tables.specs.Commands.{effect_of}
 use Rattle.plain_tables.specs.AnswerText.{answer_text, refusal_text}
 use Rattle.plain_tables.specs.Spelling.{Spells}
 use Rattle.plain_tables.specs.Runs.{refused, Answers, IsReadable, is_silent}
@@ -14,11 +15,6 @@ use Rattle.plain_tables.specs.declared.command.Limits.{Limits}
 use Rattle.plain_tables.specs.declared.refusal.Refusal.{Refusal}
 use Rattle.plain_tables.specs.declared.refusal.Refusal.TheVariants.{LineTooLong, NotUtf8, NotACommand, NoMemory}
 use Rattle.mm_session.specs.Answered.{DoesAll, DoesNothing, Obeys, Declines, no_memory, not_a_command, refuses}
-
-pub does_all : (result : Result (Unit {0}) Refusal) (e : Effect) (tables : Database) (o : Outcome) (before after : List ℕ)
-    → OnOk result (e ≡ record { database = tables; outcome = o }) → after ≡ before ++ answer_text o → OnOk result (DoesAll e tables before after)
-does_all (Ok x) e tables o before after h says = rw h (refl, says)
-does_all (Err r) e tables o before after h says = tt
 
 pub answer_text-one : answer_text (Changed 1) ≡ codes "ok 1\n"
 unfolding digits
@@ -44,10 +40,6 @@ declines limits old new line c (Err r) spells h = elim h.1 [
   | inl none ↦ subst (Declines limits old line) (sym none) no_memory
   | inr refuses_so ↦ refuses c r spells refuses_so
 ]
-
-pub unchanged : (old new : Database) (e : Effect) (result : Result (Unit {0}) Refusal) → IfErr result (DoesNothing e old new) → OnErr result (new ≡ old)
-unchanged old new e (Ok x) h = tt
-unchanged old new e (Err r) h = h.0
 
 module _ (limits : Limits) (tables : Database) (line : List ℕ) where
   pub answers-too_long : (answer : List ℕ) → 8192 < length line → answer ≡ codes "error 10 line too long\n" → Answers limits tables line answer tables

@@ -197,7 +197,7 @@ breaks_off_at_end s answer sent unsent finishes is from stream answers st =
     let (after, run) = finishes from stream answers st in
     (answers ++ answer, after, rw append-nil run, (unsent, ap (λ t. answers ++ t) is ∙ sym (append_assoc answers sent unsent)))
 
-pub stands_new : (limits : Limits) → StandsIn (new_session limits) [] [] []
+pub stands_new : (limits : Limits) → StandsIn (new_session limits []) [] [] []
 stands_new limits = record { keeps = ([], [], Divides-nil, refl); run = ([], [], Divides-nil, (refl, refl)) }
 
 pub front_at_end : (s : State) (limits : Limits) (from : Database) (stream answers sent : List ℕ) → s.limits ≡ limits → BreaksOff s [] true sent

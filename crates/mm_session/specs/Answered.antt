@@ -1,8 +1,8 @@
 -- What a command did, or why it did nothing.
-use Rattle.std.specs.Prelude.{◌≡◌, ℕ, List, [], ◌∷◌, ◌++◌, Option, Some, None, if◌then◌else◌, ◌⊎◌}
-use Rattle.plain_tables.specs.Tables.{Table}
+use Rattle.std.specs.Prelude.{◌≡◌, ℕ, List, ◌++◌, ◌⊎◌}
 use Rattle.plain_tables.specs.Databases.{Database}
-use Rattle.plain_tables.specs.Effects.{Check, Effect, Changed, effect_of}
+use Rattle.plain_tables.specs.Effects.{Effect}
+use Rattle.plain_tables.specs.Commands.{effect_of}
 use Rattle.plain_tables.specs.Spelling.{Spells}
 use Rattle.plain_tables.specs.declared.command.Command.{Command}
 use Rattle.plain_tables.specs.declared.command.Limits.{Limits}
@@ -10,20 +10,6 @@ use Rattle.plain_tables.specs.AnswerText.{answer_text}
 use Rattle.plain_tables.specs.Runs.{refused}
 use Rattle.plain_tables.specs.declared.refusal.Refusal.{Refusal}
 use Rattle.plain_tables.specs.declared.refusal.Refusal.TheVariants.{NoMemory, NotACommand}
-
--- the refusal of the first check that refuses
-abbrev pub first_refusal : List Check → Option Refusal
-first_refusal [] = None
-first_refusal (check ∷ checks) = if check.refuses then Some check.refusal else first_refusal checks
-
--- refused for want of memory, or by the first check that refuses
-abbrev pub IsRefusedBy : List Check → Refusal → Type 0
-IsRefusedBy checks refusal = (refusal ≡ NoMemory) ⊎ (first_refusal checks ≡ Some refusal)
-
--- No check refused, the table became that one, and so many changed rows were answered.
-abbrev pub IsChangedTo : List Check → Table → ℕ → Table → List ℕ → List ℕ → Type 0
-IsChangedTo checks changed count new before after =
-    (first_refusal checks ≡ None) × (new ≡ changed) × (after ≡ before ++ answer_text (Changed count))
 
 -- The effect came about, and its answer was added.
 abbrev pub DoesAll : Effect → Database → List ℕ → List ℕ → Type 0

@@ -1,8 +1,9 @@
 pub mod Answered
 pub mod Kept
-pub mod Places
-pub mod Resolved
+pub mod Listing
+pub mod Passing
+pub mod Performed
 pub mod Sessions
-pub mod Stored
+pub mod Shown
 pub mod WholeRuns
 pub mod Writing

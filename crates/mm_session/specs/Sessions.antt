@@ -54,6 +54,6 @@ BreaksOff old piece finished gained =
     (from : Database) (stream answers : List ℕ) → StandsIn old from stream answers
     → IsFrontOfRun old.limits from (stream ++ piece) finished (answers ++ gained)
 
--- a session that has been fed nothing
-abbrev pub new_session : Limits → State
-new_session limits = record { limits = limits; database = []; ended = false; kept = kept_of [] }
+-- a session over these tables that has been fed nothing
+abbrev pub new_session : Limits → Database → State
+new_session limits tables = record { limits = limits; database = tables; ended = false; kept = kept_of [] }

@@ -3,14 +3,16 @@
 ghost use Rattle.std.specs.Prelude.{◌≡◌, OnOk, IfErr, OnErr, ◌⊎◌};
 ghost use Rattle.plain_tables.specs.AnswerText.{refusal_text};
 ghost use Rattle.plain_tables.specs.Runs.{Answers, without_return};
+ghost use Rattle.mm_catalog.specs.Seen.{database_of};
 ghost use Rattle.mm_session.specs.Answered.{Obeys, Declines};
 
 use crate::answer::Answer;
+use crate::execute::execute;
 use crate::lines::{is_silent, trim_return};
 use crate::records::push_refusal;
-use crate::tables::Tables;
+use mm_catalog::Catalog;
 use mm_lang::{ParseRefusal, parse};
-use plain_tables::{Limits, Refusal};
+use plain_tables::Refusal;
 use std::alloc::Global;
 
 // The greatest number of bytes that a line may have.
@@ -36,26 +38,27 @@ fn refuse(answer: &mut Answer, refusal: Refusal)
 // Reads a line as a command, and does what it says.
 fn obey(
     alloc: Global,
-    limits: Limits,
-    tables: &mut Tables,
+    catalog: &mut Catalog,
     line: &str,
     answer: &mut Answer,
 ) -> Result<(), Refusal>
-    ensures ok { OnOk result (Obeys limits tables.old line.now tables.new answer.old answer.new) }
-    ensures err { IfErr result (Declines limits tables.old line.now) }
-    ensures unchanged { OnErr result (tables.new ≡ tables.old) }
+    ensures ok { OnOk result (Obeys catalog.old.limits (database_of catalog.old) line.now (database_of catalog.new) answer.old answer.new) }
+    ensures err { IfErr result (Declines catalog.old.limits (database_of catalog.old) line.now) }
+    ensures unchanged { OnErr result (database_of catalog.new ≡ database_of catalog.old) }
+    ensures limits { catalog.new.limits ≡ catalog.old.limits }
 {
     let command = match parse(alloc, line) {
         Ok(command) => command,
         Err(ParseRefusal::Syntax) => return Err(Refusal::NotACommand),
         Err(ParseRefusal::NoMemory) => return Err(Refusal::NoMemory),
     };
-    tables.execute(limits, command, answer)
+    execute(alloc, catalog, command, answer)
 }
 
 /// Answers a line that has ended. A silent line has the empty answer.
-pub fn respond(alloc: Global, limits: Limits, tables: &mut Tables, line: &[u8], answer: &mut Answer)
-    ensures { Answers limits tables.old (without_return line.now) answer.new tables.new }
+pub fn respond(alloc: Global, catalog: &mut Catalog, line: &[u8], answer: &mut Answer)
+    ensures answers { Answers catalog.old.limits (database_of catalog.old) (without_return line.now) answer.new (database_of catalog.new) }
+    ensures limits { catalog.new.limits ≡ catalog.old.limits }
 {
     let line = trim_return(line);
     if line.len() > LONGEST_LINE {
@@ -70,7 +73,7 @@ pub fn respond(alloc: Global, limits: Limits, tables: &mut Tables, line: &[u8], 
     if is_silent(line) {
         return;
     }
-    if let Err(refusal) = obey(alloc, limits, tables, text, answer) {
+    if let Err(refusal) = obey(alloc, catalog, text, answer) {
         refuse(answer, refusal);
     }
 }

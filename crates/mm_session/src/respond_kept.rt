@@ -2,32 +2,32 @@
 
 ghost use Rattle.std.specs.Prelude.{◌≡◌, ◌++◌, ℕ, List};
 ghost use Rattle.plain_tables.specs.Runs.{Answers, without_return};
+ghost use Rattle.mm_catalog.specs.Seen.{database_of};
 ghost use Rattle.mm_session.specs.Kept.{kept_of};
 
 use crate::answer::Answer;
 use crate::kept::LineBuffer;
 use crate::respond::{LINE_TOO_LONG, respond};
-use crate::tables::Tables;
-use plain_tables::Limits;
+use mm_catalog::Catalog;
 use std::alloc::Global;
 
 /// Answers the line of which the front is kept and `tail` is the end. What is kept is of no use then.
 pub fn respond_kept(
     alloc: Global,
-    limits: Limits,
-    tables: &mut Tables,
+    catalog: &mut Catalog,
     kept: &mut LineBuffer,
     tail: &[u8],
     answer: &mut Answer,
 )
-    ensures { (rest : List ℕ) → kept.old ≡ kept_of rest → Answers limits tables.old (without_return (rest ++ tail.now)) answer.new tables.new }
+    ensures answers { (rest : List ℕ) → kept.old ≡ kept_of rest → Answers catalog.old.limits (database_of catalog.old) (without_return (rest ++ tail.now)) answer.new (database_of catalog.new) }
+    ensures limits { catalog.new.limits ≡ catalog.old.limits }
 {
     if kept.is_empty() {
-        return respond(alloc, limits, tables, tail, answer);
+        return respond(alloc, catalog, tail, answer);
     }
     kept.extend(tail);
     match kept.line() {
-        Some(line) => respond(alloc, limits, tables, line, answer),
+        Some(line) => respond(alloc, catalog, line, answer),
         None => answer.set(LINE_TOO_LONG),
     }
 }

@@ -1,6 +1,6 @@
 //! A session: tables, and a stream of command lines that comes in pieces.
 
-ghost use Rattle.std.specs.Prelude.{◌≡◌, ◌++◌, ◌∷◌, ◌↔◌, [], Err, true, false, IsTrue, IsErrOf, IfOk, OnOk, OnErr};
+ghost use Rattle.std.specs.Prelude.{◌≡◌, ◌≤◌, ◌++◌, ◌∷◌, ◌↔◌, [], Err, true, false, IsTrue, IsErrOf, IfOk, OnOk, OnErr};
 ghost use Rattle.std.specs.Io.KnownBytes.{Keeps};
 ghost use Rattle.plain_tables.specs.Division.{IsUnbroken};
 
@@ -9,8 +9,8 @@ use crate::fault::SessionFault;
 use crate::kept::LineBuffer;
 use crate::lines::split_line;
 use crate::respond_kept::respond_kept;
-use crate::tables::Tables;
 use crate::writing::write_whole;
+use mm_catalog::Catalog;
 use plain_tables::{Limits, NoMemory};
 use plan_chooser::Policy;
 use std::alloc::Global;
@@ -22,44 +22,60 @@ use std::marker::Model;
 pub struct Session {
     alloc: Global,
     policy: Policy,
-    limits: Limits,
-    tables: Tables,
+    catalog: Catalog,
     kept: LineBuffer,
     answer: Answer,
     ended: bool,
 }
 
 impl Model for Session {
+    ghost use Rattle.mm_catalog.specs.Seen.{database_of};
     ghost use Rattle.mm_session.specs.Sessions.{State};
 
     ghost Value = { State };
 
-    ghost view = { λ s. record { limits = s.limits; database = s.tables; ended = s.ended; kept = s.kept } };
+    ghost view = { λ s. record { limits = s.catalog.limits; database = database_of s.catalog; ended = s.ended; kept = s.kept } };
 }
 
 impl Session {
+    ghost use Rattle.mm_catalog.specs.Seen.{database_of};
     ghost use Rattle.mm_session.specs.Sessions.{Gains, Feeds, Finishes, BreaksOff, new_session};
 
     /// A session with no tables, under the standard limits.
     pub fn new(alloc: Global, policy: Policy) -> Result<Session, NoMemory>
-        ensures { IfOk result (λ s. s ≡ new_session Limits.STANDARD) }
+        ensures { IfOk result (λ s. s ≡ new_session Limits.STANDARD []) }
     {
         Session::with_limits(alloc, policy, Limits::STANDARD)
     }
 
     /// A session with no tables, under limits of one's own.
     pub fn with_limits(alloc: Global, policy: Policy, limits: Limits) -> Result<Session, NoMemory>
-        ensures { IfOk result (λ s. s ≡ new_session limits) }
+        requires { limits.rows ≤ 16777216 }
+        ensures { IfOk result (λ s. s ≡ new_session limits []) }
+    {
+        Session::over(alloc, policy, Catalog::new(alloc, limits))
+    }
+
+    /// A session with the tables of a catalog, under its limits.
+    pub fn over(alloc: Global, policy: Policy, catalog: Catalog) -> Result<Session, NoMemory>
+        ensures { IfOk result (λ s. s ≡ new_session catalog.limits (database_of catalog)) }
     {
         Ok(Session {
             alloc,
             policy,
-            limits,
-            tables: Tables::new(alloc),
+            catalog,
             kept: LineBuffer::new(alloc)?,
             answer: Answer::new(alloc)?,
             ended: false,
         })
+    }
+
+    /// The tables, lent.
+    pub fn catalog(&self) -> &Catalog
+        ensures tables { database_of result.now ≡ self.now.database }
+        ensures limits { result.now.limits ≡ self.now.limits }
+    {
+        &self.catalog
     }
 
     // Answers the line of which the front is kept and `tail` is the end.
@@ -72,8 +88,7 @@ impl Session {
     {
         respond_kept(
             self.alloc,
-            self.limits,
-            &mut self.tables,
+            &mut self.catalog,
             &mut self.kept,
             tail,
             &mut self.answer,
@@ -131,8 +146,7 @@ impl Session {
         }
         respond_kept(
             self.alloc,
-            self.limits,
-            &mut self.tables,
+            &mut self.catalog,
             &mut self.kept,
             &[],
             &mut self.answer,

@@ -1,6 +1,6 @@
 //! The answers of a session to a stream that is fed in pieces, and to lines that are fed again where memory was refused.
 
-ghost use Rattle.std.specs.Prelude.{◌<◌};
+ghost use Rattle.std.specs.Prelude.{◌<◌, ◌≤◌};
 
 use crate::pages::Page;
 use mm_session::{Session, SessionFault};
@@ -28,7 +28,9 @@ pub fn answers_in_pieces(
 }
 
 /// The answers of a session under limits to a stream that comes in pieces of 1,000 bytes.
-pub fn answers_under_limits(alloc: Global, limits: Limits, stream: &str) -> Result<Vec<u8>, Fail> {
+pub fn answers_under_limits(alloc: Global, limits: Limits, stream: &str) -> Result<Vec<u8>, Fail>
+    requires { limits.rows ≤ 16777216 }
+{
     let session = Session::with_limits(alloc, Policy::Auto, limits)?;
     answers_in_pieces(alloc, session, stream, 1000)
 }
@@ -48,7 +50,9 @@ fn feed_line(session: &mut Session, page: &mut Page, line: &str) -> Result<(), S
 
 // The answers to lines that are each fed until they find their memory. They stop at a fault, and there are none where
 // no memory was found to begin.
-fn answers_at_last(alloc: Global, limits: Limits, lines: &str) -> Option<Vec<u8>> {
+fn answers_at_last(alloc: Global, limits: Limits, lines: &str) -> Option<Vec<u8>>
+    requires { limits.rows ≤ 16777216 }
+{
     let mut page = Page::new(alloc, 1000, true).ok()?;
     let mut session = Session::with_limits(alloc, Policy::Auto, limits).ok()?;
     for line in lines.split_inclusive('\n') {
@@ -66,7 +70,9 @@ pub fn check_under_refusal(
     limits: Limits,
     lines: &str,
     answers: &str,
-) {
+)
+    requires { limits.rows ≤ 16777216 }
+{
     if let Some(got) = answers_at_last(alloc, limits, lines) {
         assert_eq!(rt; got.as_slice(), answers.as_bytes());
     }

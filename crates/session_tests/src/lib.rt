@@ -9,6 +9,8 @@ mod feeding;
 #[cfg(test)]
 mod pages;
 #[cfg(test)]
+mod references;
+#[cfg(test)]
 mod rows;
 #[cfg(test)]
 mod streams;

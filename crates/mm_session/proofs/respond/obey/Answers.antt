@@ -1,5 +1,7 @@
 use Rattle.std.proofs.Common.{◌∙◌, ap, Err}
 use Rattle.mm_session.specs.Answered.{no_memory, not_a_command}
+use Rattle.plain_tables.proofs.Spellable.{spelled-spellable}
+use Rattle.mm_catalog.specs.Seen.{database_of}
 use Rattle.mm_session.proofs.AnswerLemmas.{declines}
 use Rattle.mm_session.proofs.respond.obey.Goals as goal
 
@@ -9,6 +11,9 @@ returns-in-Err-Syntax-clause-err c = not_a_command (c.parse.ensures.syntax (c.in
 pub returns-in-Err-NoMemory-clause-err : goal.returns-in-Err-NoMemory-clause-err
 returns-in-Err-NoMemory-clause-err c = no_memory
 
+pub execute-requires : goal.execute-requires
+execute-requires c = spelled-spellable c.args.line.now c.in-Ok.command c.in-Ok.ensures.command
+
 pub returns-clause-err : goal.returns-clause-err
 returns-clause-err c =
-    declines c.args.limits c.args.tables.now c.execute.new.self c.args.line.now c.in-Ok.command c.execute.result c.in-Ok.ensures.command c.execute.ensures.err
+    declines c.args.catalog.now.limits (database_of c.args.catalog.now) (database_of c.execute.new.catalog) c.args.line.now c.in-Ok.command c.execute.result c.in-Ok.ensures.command c.execute.ensures.err

@@ -1,5 +1,6 @@
 use Rattle.std.proofs.Common.{◌≡◌, ◌++◌, ◌∷◌, [], List, ℕ, ◌∙◌, ap, sym, refl, arith, false, append_assoc, append-nil, length-append}
 use Rattle.mm_session.specs.Sessions.{State}
+use Rattle.mm_catalog.specs.Seen.{database_of}
 use Rattle.mm_session.proofs.RunLemmas.{feeds_nothing, Feeds-append, feeds_rest, breaks_off_later}
 use Rattle.mm_session.proofs.WritingLemmas.{Appends-append, Appends-nothing}
 use Rattle.mm_session.proofs.session.Session.feed.Goals as goal
@@ -52,7 +53,7 @@ pub returns-clause-ok : goal.returns-clause-ok
 returns-clause-ok g c =
     let (done, gained, grows, feeds, is) = c.loop-line.invariant in
     let going_on : c.self-2.inside.ended ≡ false = ap (λ (s : State). s.ended) c.self-2.view_is ∙ feeds.going_on in
-    let further = feeds_rest _ (record { limits = c.self-2.inside.limits; database = c.self-2.inside.tables; ended = c.self-2.inside.ended; kept = c.extend.new.self })
+    let further = feeds_rest _ (record { limits = c.self-2.inside.catalog.limits; database = database_of c.self-2.inside.catalog; ended = c.self-2.inside.ended; kept = c.extend.new.self })
     c.loop-line.rest.now c.in_default.ensures c.extend.ensures refl going_on refl in
     (gained, grows, rw is (rw append-nil at (Feeds-append c.args.self.now _ _ done c.loop-line.rest.now gained [] (rw (← c.self-2.view_is) at feeds) further)))
 

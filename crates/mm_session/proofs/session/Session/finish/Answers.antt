@@ -1,4 +1,5 @@
 use Rattle.std.proofs.Common.{[], ◌∙◌, sym}
+use Rattle.mm_catalog.specs.Seen.{database_of}
 use Rattle.mm_session.proofs.RunLemmas.{finishes_start, finishes_line, breaks_off_at_end}
 use Rattle.mm_session.proofs.WritingLemmas.{Appends-nothing}
 use Rattle.mm_session.proofs.session.Session.finish.Goals as goal
@@ -12,7 +13,7 @@ returns-in-Ok-clause-ok g c = (
   c.as_slice.result.now,
   c.in-Ok.ensures.ok,
   rw (← c.self.view_is, c.as_slice.ensures)
-      (finishes_line _ c.respond_kept.new.answer c.respond_kept.new.tables (sym c.is_empty.ensures ∙ c.if-is_empty.false) c.respond_kept.ensures),
+      (finishes_line _ c.respond_kept.new.answer (database_of c.respond_kept.new.catalog) (sym c.is_empty.ensures ∙ c.if-is_empty.false) c.respond_kept.ensures.answers),
 )
 
 pub returns-clause-write : goal.returns-clause-write
@@ -21,5 +22,5 @@ returns-clause-write g c = λ _.
       sent,
       gained,
       rw (← c.self.view_is) (breaks_off_at_end _ c.respond_kept.new.answer sent unsent
-          (finishes_line _ c.respond_kept.new.answer c.respond_kept.new.tables (sym c.is_empty.ensures ∙ c.if-is_empty.false) c.respond_kept.ensures) (sym c.as_slice.ensures ∙ is)),
+          (finishes_line _ c.respond_kept.new.answer (database_of c.respond_kept.new.catalog) (sym c.is_empty.ensures ∙ c.if-is_empty.false) c.respond_kept.ensures.answers) (sym c.as_slice.ensures ∙ is)),
     )

@@ -1,0 +1,22 @@
+use Rattle.std.proofs.lemmas.Result.{IfErr-weaker}
+use Rattle.plain_tables.proofs.GivenLemmas.{spellable_are_given}
+use Rattle.plain_tables.proofs.ResolvedLemmas.{resolved_are_meant}
+use Rattle.mm_catalog.specs.Seen.{database_of}
+use Rattle.mm_session.proofs.PerformLemmas.{does_nothing_resolved}
+use Rattle.mm_session.proofs.ResolvingLemmas.{shows_some}
+use Rattle.mm_session.proofs.execute.execute.Goals as goal
+
+pub perform-requires-clause-meant : goal.perform-requires-clause-meant
+perform-requires-clause-meant c =
+    resolved_are_meant c.args.catalog.now.limits (database_of c.args.catalog.now) c.args.command c.in_ok-resolved.resolved
+    (spellable_are_given c.args.command c.requires) c.in_ok-resolved.ensures.meant
+
+pub perform-requires-clause-some : goal.perform-requires-clause-some
+perform-requires-clause-some c =
+    shows_some (database_of c.args.catalog.now) c.args.command c.in_ok-resolved.resolved c.requires c.in_ok-resolved.ensures.meant
+
+pub returns-clause-err : goal.returns-clause-err
+returns-clause-err c =
+    IfErr-weaker c.perform.result _ _
+    (λ why. does_nothing_resolved c.args.catalog.now c.perform.new.catalog c.args.command c.in_ok-resolved.resolved why c.in_ok-resolved.ensures.meant)
+    c.perform.ensures.refused

@@ -1,0 +1,36 @@
+use Rattle.std.proofs.Common.{◌≡◌, ◌∙◌, ◌++◌, ◌<◌, ◌∷◌, [], List, ℕ, length, sym, ap, subst, arith}
+use Rattle.std.proofs.lemmas.Option.{same_Some}
+use Rattle.std.proofs.lemmas.Result.{on_ok_weaker}
+use Rattle.std.specs.String.{string_bytes}
+use Rattle.plain_tables.specs.AnswerText.{declaration_lines}
+use Rattle.plain_tables.specs.Tables.{Table}
+use Rattle.mm_catalog.specs.Seen.{table_of}
+use Rattle.mm_catalog.proofs.Declared.{among_at, named_at, table_at}
+use Rattle.mm_catalog.proofs.Tables.{database-length, database-name}
+use Rattle.mm_session.proofs.ListingLemmas.{table_step}
+use Rattle.mm_session.proofs.execute.listing.push_table_lines.Goals as goal
+
+pub at-relation-requires : goal.at-relation-requires
+at-relation-requires c = omega (arith, c.requires, database-length c.args.catalog.now c.a_catalog_is_consistent.ensures.named)
+
+pub push_index_lines-requires : goal.push_index_lines-requires
+push_index_lines-requires c = λ k d l.
+    let among = among_at c.args.catalog.now c.a_catalog_is_consistent.ensures c.args.table.0 c.at-relation.result.now c.at-relation.ensures in
+    omega (arith, among.kept.within k d l, among.kept.width)
+
+pub returns : goal.returns
+returns c =
+    let catalog = c.args.catalog.now in
+    let ok = c.a_catalog_is_consistent.ensures in
+    let s = c.at-relation.result.now in
+    let within : c.args.table.0 < length catalog.relations = omega (arith, c.requires, database-length catalog ok.named) in
+    let named = named_at catalog ok c.args.table.0 within in
+    let called : c.table_name-name.result.now ≡ named.0 =
+    same_Some c.table_name-name.result.now named.0 (sym c.table_name-name.ensures ∙ database-name catalog ok.named c.args.table.0 named.0 named.1 within) in
+    on_ok_weaker c.push_index_lines.result
+    (λ listed t at.
+    table_step catalog.relations c.table_name-name.result.now s c.schema.result.now (string_bytes c.args.lines.now) (string_bytes c.print_table.new.line)
+    (string_bytes c.push_str.new.self) (string_bytes c.push_index_lines.new.lines) c.schema.ensures c.in_ok-print_table.ensures c.in_ok-push_str.ensures.bytes listed
+    ∙ ap (λ (n : List ℕ). string_bytes c.args.lines.now ++ declaration_lines (table_of catalog.relations n s ∷ [])) called
+    ∙ ap (λ (u : Table). string_bytes c.args.lines.now ++ declaration_lines (u ∷ [])) (sym (table_at catalog ok c.args.table.0 named.0 s t named.1 c.at-relation.ensures at)))
+    c.push_index_lines.ensures

@@ -1,0 +1,143 @@
+//! What commands do to the tables of a catalog, and what they answer.
+
+ghost use Rattle.std.specs.Prelude.{◌≡◌, OnOk, IfErr};
+ghost use Rattle.plain_tables.specs.Doing.{done};
+ghost use Rattle.plain_tables.specs.ResolvedLaws.{IsMeant};
+ghost use Rattle.plain_tables.specs.Spelling.{IsSpellable};
+ghost use Rattle.plain_tables.specs.declared.resolved.Resolved.TheVariants as resolved;
+ghost use Rattle.mm_catalog.specs.Seen.{database_of};
+ghost use Rattle.mm_catalog.specs.Changes.{IsRefusedFor};
+ghost use Rattle.plain_tables.specs.Commands.{effect_of};
+ghost use Rattle.mm_session.specs.Answered.{DoesAll, DoesNothing};
+ghost use Rattle.mm_session.specs.Performed.{HasPerformed};
+ghost use Rattle.mm_session.specs.Shown.{ShowsSome};
+
+mod listing;
+mod scan;
+mod select;
+
+use crate::answer::Answer;
+use crate::records::push_changed;
+use listing::list_tables;
+use mm_catalog::Catalog;
+use plain_tables::{Assignment, Command, Refusal, Resolved, Sequence, TableNumber, Test};
+use scan::rows_passing;
+use select::select;
+use std::alloc::Global;
+
+// The answer `ok`, and the answer to one row put in.
+const OK: &[u8] = b"ok\n";
+
+const OK_ONE: &[u8] = b"ok 1\n";
+
+// Sets values in the rows of a table that pass the tests.
+fn update(
+    alloc: Global,
+    catalog: &mut Catalog,
+    table: TableNumber,
+    assignments: Sequence<Assignment>,
+    tests: &[Test],
+    answer: &mut Answer,
+) -> Result<(), Refusal>
+    requires { IsMeant catalog.old.limits (database_of catalog.old) (resolved.Update table assignments tests.now) }
+    ensures done { OnOk result (HasPerformed catalog.old catalog.new (done catalog.old.limits (database_of catalog.old) (resolved.Update table assignments tests.now)) answer.old answer.new) }
+    ensures refused { IfErr result (IsRefusedFor catalog.old catalog.new (done catalog.old.limits (database_of catalog.old) (resolved.Update table assignments tests.now))) }
+{
+    let rows = rows_passing(alloc, catalog, table, tests)?;
+    push_changed(answer, rows.len())?;
+    catalog.update(table, &rows, assignments)
+}
+
+// Takes out the rows of a table that pass the tests.
+fn delete(
+    alloc: Global,
+    catalog: &mut Catalog,
+    table: TableNumber,
+    tests: &[Test],
+    answer: &mut Answer,
+) -> Result<(), Refusal>
+    requires { IsMeant catalog.old.limits (database_of catalog.old) (resolved.Delete table tests.now) }
+    ensures done { OnOk result (HasPerformed catalog.old catalog.new (done catalog.old.limits (database_of catalog.old) (resolved.Delete table tests.now)) answer.old answer.new) }
+    ensures refused { IfErr result (IsRefusedFor catalog.old catalog.new (done catalog.old.limits (database_of catalog.old) (resolved.Delete table tests.now))) }
+{
+    let rows = rows_passing(alloc, catalog, table, tests)?;
+    push_changed(answer, rows.len())?;
+    catalog.delete(table, &rows)
+}
+
+// Does a resolved command, and adds its answer, which is made before anything changes.
+fn perform(
+    alloc: Global,
+    catalog: &mut Catalog,
+    command: Resolved,
+    answer: &mut Answer,
+) -> Result<(), Refusal>
+    requires meant { IsMeant catalog.old.limits (database_of catalog.old) command }
+    requires some { ShowsSome command }
+    ensures done { OnOk result (HasPerformed catalog.old catalog.new (done catalog.old.limits (database_of catalog.old) command) answer.old answer.new) }
+    ensures refused { IfErr result (IsRefusedFor catalog.old catalog.new (done catalog.old.limits (database_of catalog.old) command)) }
+{
+    match command {
+        Resolved::Table { name, schema } => {
+            answer.push(OK)?;
+            catalog.create(name, schema)?;
+        }
+        Resolved::DropTable { table } => {
+            answer.push(OK)?;
+            catalog.drop_table(table);
+        }
+        Resolved::Index {
+            table,
+            column,
+            kind,
+        } => {
+            answer.push(OK)?;
+            catalog.add_index(table, column, kind)?;
+        }
+        Resolved::DropIndex {
+            table,
+            column,
+            kind,
+        } => {
+            answer.push(OK)?;
+            catalog.drop_index(table, column, kind);
+        }
+        Resolved::Insert { table, values } => {
+            answer.push(OK_ONE)?;
+            catalog.insert(table, values)?;
+        }
+        Resolved::Update {
+            table,
+            assignments,
+            tests,
+        } => update(alloc, catalog, table, assignments, tests.as_slice(), answer)?,
+        Resolved::Delete { table, tests } => {
+            delete(alloc, catalog, table, tests.as_slice(), answer)?
+        }
+        Resolved::Select {
+            shown,
+            table,
+            tests,
+        } => select(alloc, catalog, &shown, table, tests.as_slice(), answer)?,
+        Resolved::Tables => list_tables(alloc, catalog, answer)?,
+    }
+    Ok(())
+}
+
+/// Does what a command says, and adds its answer.
+///
+/// After a refusal the tables are as before, and what was added to the answer is of no use.
+pub fn execute(
+    alloc: Global,
+    catalog: &mut Catalog,
+    command: Command,
+    answer: &mut Answer,
+) -> Result<(), Refusal>
+    requires { IsSpellable command }
+    ensures ok { OnOk result (DoesAll (effect_of catalog.old.limits (database_of catalog.old) command) (database_of catalog.new) answer.old answer.new) }
+    ensures err { IfErr result (DoesNothing (effect_of catalog.old.limits (database_of catalog.old) command) (database_of catalog.old) (database_of catalog.new)) }
+    ensures limits { catalog.new.limits ≡ catalog.old.limits }
+{
+    let resolved = catalog.resolve(command)?;
+    perform(alloc, catalog, resolved, answer)
+}
