@@ -8,16 +8,26 @@ import model
 
 SEED = 20260717
 STREAMS = 300
-NAMES = ["t", "u", "dept", "_x1", "n" * 32, "n" * 33, "select", "T"]
+NAMES = ["t", "u", "e", "dept", "_x1", "n" * 32, "n" * 33, "select", "T"]
 NUMBERS = ["0", "-0", "1", "2", "3", "-1", "007", "9223372036854775807", "9223372036854775808", "-9223372036854775808", "12x"]
 TEXTS = ["''", "'a'", "'b'", "'it''s'", "''''", "'a,b'", "'\"'", "'é'", "'#'", "'\r'", "'open", "'a'b'"]
 LONG_TEXTS = ["'" + "x" * 1024 + "'", "'" + "x" * 1025 + "'"]
-COLUMNS = ["id", "n", "m", "k"]
+COLUMNS = ["id", "n", "m", "k", "t", "u"]
 SIGNS = ["=", "<>", "<", "<=", ">", ">="]
 NO_SIGNS = ["< >", "==", "=<", "!="]
-NOISE = ["", " ", "\t", "#", "# ok", "tables", "table", "select * from", "insert t", "é", "(", "'", "--1", "- 1", "1-2", "\r"]
-LATER = ["drop table t", "index t n tree", "drop index u n hash", "tables", "table t (id ref u)", "table w (id int, t ref t null)"]
-FRONT = b"table t (id int, n int, m text)\ntable u (id text, n int)\n"
+NOISE = ["", " ", "\t", "#", "# ok", "table", "drop", "drop t", "index", "tables t", "select * from", "insert t", "é", "(", "'", "--1", "- 1", "1-2", "\r"]
+KINDS = ["int", "int", "text", "ref t", "ref u null", "ref dept"]
+INDEXES = ["tree", "hash", "tree", "hash", "list"]
+FRONT = b"""table t (id int, n int, m text)
+table u (id text, n int)
+table e (id int, t ref t, u ref u null)
+insert t (1, 0, 'a')
+insert t (2, 1, 'b')
+insert u ('a', 0)
+insert e (1, 1, 'a')
+insert e (2, 2, null)
+"""
+COLUMNS_OF = {"t": ["id", "n", "m"], "u": ["id", "n"], "e": ["id", "t", "u"]}
 
 
 def separated(draw, items, between=","):
@@ -32,36 +42,46 @@ def value(draw):
     luck = draw.random()
     if luck < 0.6:
         return integer(draw)
-    return draw.choice([*NUMBERS, "null"]) if luck < 0.65 else rarely(draw, TEXTS, LONG_TEXTS)
+    if luck < 0.7:
+        return draw.choice([*NUMBERS, "null", "null"])
+    return rarely(draw, TEXTS, LONG_TEXTS)
 
 
-def column(draw):
-    name = rarely(draw, COLUMNS[:3], COLUMNS)
-    return name if draw.random() < 0.8 else separated(draw, [draw.choice(NAMES[:2]), name], ".")
+def own_column(draw, table):
+    """A column, mostly one of that table."""
+    return rarely(draw, COLUMNS_OF.get(table, COLUMNS), COLUMNS)
 
 
-def condition(draw):
+def column(draw, table):
+    """A column, with a table's name before it or without."""
+    name = own_column(draw, table)
+    return name if draw.random() < 0.8 else separated(draw, [rarely(draw, [table], NAMES[:3]), name], ".")
+
+
+def condition(draw, table):
     blank = draw.choice(["", " "])
-    return column(draw) + blank + rarely(draw, SIGNS, NO_SIGNS) + blank + value(draw)
+    return column(draw, table) + blank + rarely(draw, SIGNS, NO_SIGNS) + blank + value(draw)
 
 
-def conditions(draw):
+def conditions(draw, table):
     """No conditions, a few, or too many."""
     count = draw.choice([0, 0, 1, 1, 1, 2, 3] if draw.random() < 0.97 else [8, 9])
-    return " where " + " and ".join(condition(draw) for _ in range(count)) if count else ""
+    return " where " + " and ".join(condition(draw, table) for _ in range(count)) if count else ""
 
 
 def declaration(draw):
     columns = draw.sample(COLUMNS, draw.randrange(1, 4)) if draw.random() < 0.9 else ["id", "n", "id"]
-    return separated(draw, [f"{name} {draw.choice(['int', 'int', 'text'])}" for name in columns])
+    kinds = [rarely(draw, KINDS[:3], KINDS), *(draw.choice(KINDS) for _ in columns[1:])]
+    return separated(draw, map(" ".join, zip(columns, kinds)))
 
 
-def setting(draw):
-    return f"{rarely(draw, COLUMNS[1:3], COLUMNS, 0.2)} = {value(draw)}"
+def setting(draw, table):
+    return f"{rarely(draw, COLUMNS_OF.get(table, COLUMNS)[1:], COLUMNS, 0.2)} = {value(draw)}"
 
 
-def items(draw):
-    return "*" if draw.random() < 0.4 else separated(draw, [column(draw) for _ in range(rarely(draw, [1, 1, 2, 3], [17]))])
+def items(draw, table):
+    count = rarely(draw, [1, 1, 2, 3], [17])
+    return "*" if draw.random() < 0.4 else separated(draw, [column(draw, table) for _ in range(count)])
 
 
 def integer(draw):
@@ -73,25 +93,31 @@ def row(draw, name):
     if draw.random() < 0.3:
         return [value(draw) for _ in range(draw.choice([1, 2, 2, 3]))]
     text = draw.choice(TEXTS[:10])
+    if name == "e":
+        return [integer(draw), integer(draw), rarely(draw, TEXTS[:10], ["null"], 0.4)]
     return [text, integer(draw)] if name == "u" else [integer(draw), integer(draw), text]
 
 
 def command(draw):
     """A command, which may be wrong in many ways."""
-    name = rarely(draw, NAMES[:2], NAMES, 0.2)
-    kind = draw.choice(["table", *["insert"] * 5, "update", "delete", "select", "select", "noise"])
+    name = rarely(draw, NAMES[:3], NAMES, 0.2)
+    kind = draw.choice(["table", *["insert"] * 6, "update", "update", "delete", "select", "select", "index", "tables", "noise"])
     if kind == "table":
-        return f"table {name} ({declaration(draw)})"
+        return f"table {name} ({declaration(draw)})" if draw.random() < 0.8 else f"drop table {name}"
+    if kind == "index":
+        return f"{rarely(draw, ['index'], ['drop index'], 0.4)} {name} {own_column(draw, name)} {rarely(draw, INDEXES[:4], INDEXES)}"
+    if kind == "tables":
+        return kind
     if kind == "insert":
         return f"insert {name} ({separated(draw, row(draw, name))})"
     if kind == "update":
-        settings = [setting(draw) for _ in range(draw.choice([1, 1, 2]))]
-        return f"update {name} set {separated(draw, settings)}{conditions(draw)}"
+        settings = [setting(draw, name) for _ in range(draw.choice([1, 1, 2]))]
+        return f"update {name} set {separated(draw, settings)}{conditions(draw, name)}"
     if kind == "delete":
-        return f"delete {name}{conditions(draw)}"
+        return f"delete {name}{conditions(draw, name)}"
     if kind == "select":
-        return f"select {items(draw)} from {name}{conditions(draw)}"
-    return rarely(draw, NOISE, LATER, 0.2)
+        return f"select {items(draw, name)} from {name}{conditions(draw, name)}"
+    return draw.choice(NOISE)
 
 
 def line(draw):
