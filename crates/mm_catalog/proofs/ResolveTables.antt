@@ -83,11 +83,11 @@ database-any c named test =
     list_any-map (λ (t : Table). test t.columns) (λ (t : List ℕ × RelationState). table_of c.relations t.0 t.1) (zip c.names c.relations)
     ∙ any_second c.names c.relations named
   where
-  any_second : (names : List (List ℕ)) (relations : List RelationState) → length names ≡ length relations → list_any (λ (t : List ℕ × RelationState). test t.1.schema.columns) (zip names relations) ≡ list_any (λ (s : RelationState). test s.schema.columns) relations
-  any_second [] [] h = refl
-  any_second [] (s ∷ ss) h = cc
-  any_second (n ∷ ns) [] h = cc
-  any_second (n ∷ ns) (s ∷ ss) h = ap (λ b. test s.schema.columns || b) (any_second ns ss (omega (arith, h)))
+    any_second : (names : List (List ℕ)) (relations : List RelationState) → length names ≡ length relations → list_any (λ (t : List ℕ × RelationState). test t.1.schema.columns) (zip names relations) ≡ list_any (λ (s : RelationState). test s.schema.columns) relations
+    any_second [] [] h = refl
+    any_second [] (s ∷ ss) h = cc
+    any_second (n ∷ ns) [] h = cc
+    any_second (n ∷ ns) (s ∷ ss) h = ap (λ b. test s.schema.columns || b) (any_second ns ss (omega (arith, h)))
 
 -- the type of the keys of the table of that name is its first column's
 pub key_of : (tables : Database) (name : List ℕ) (table : TableNumber) (columns : List Column) → option_map table_number (position (is_named name) tables) ≡ Some table

@@ -39,9 +39,7 @@ fn refers_to(columns: &[Column], name: &str) -> bool
 pub fn any_refers_to(relations: &[Relation], name: &str) -> bool
     ensures { result ≡ list_any (λ s. list_any (plain.refers_to name.now) s.schema.columns) relations.now }
 {
-    relations
-        .iter()
-        .any(|relation| refers_to(relation.schema().columns.as_slice(), name))
+    relations.iter().any(|relation| refers_to(relation.schema().columns.as_slice(), name))
 }
 
 // The number of the table that a column refers to.

@@ -64,12 +64,7 @@ impl Catalog {
         Ok(Resolved::DropTable { table: scope.table })
     }
 
-    fn resolve_index(
-        &self,
-        table: Text,
-        column: Text,
-        kind: IndexKind,
-    ) -> Result<Resolved, Refusal>
+    fn resolve_index(&self, table: Text, column: Text, kind: IndexKind) -> Result<Resolved, Refusal>
         ensures { result ≡ resolved_of (database_of self.now) (command.Index table column kind) }
     {
         let scope = self.scope(&table)?;
