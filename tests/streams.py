@@ -8,14 +8,22 @@ def units_of(stream):
     return [line + b"\n" for line in model.lines_of(stream) if not model.is_silent(model.without_return(line))]
 
 
+def lines_of_the_first(lines):
+    """How many lines the first of these answers has. One that begins with `rows N` has N + 1 further lines, and a listing
+    ends with the first line that declares nothing."""
+    if lines[0].startswith(b"rows "):
+        return int(lines[0][5:]) + 2
+    return next(count for count, line in enumerate(lines, 1) if not line.startswith((b"table ", b"index ")))
+
+
 def answers_of(out):
-    """The answers that the program wrote, one by one. One that begins with `rows N` has N + 1 further lines."""
+    """The answers that the program wrote, one by one."""
     lines = out.split(b"\n")
     if lines.pop() != b"":
         raise AssertionError("the last answer does not end with a line feed")
     answers = []
     while lines:
-        more = int(lines[0][5:]) + 1 if lines[0].startswith(b"rows ") else 0
-        answers.append(b"".join(line + b"\n" for line in lines[: more + 1]))
-        del lines[: more + 1]
+        count = lines_of_the_first(lines)
+        answers.append(b"".join(line + b"\n" for line in lines[:count]))
+        del lines[:count]
     return answers
