@@ -32,7 +32,7 @@ pub use command::{Command, Items, Limits, Setting};
 pub use condition::{ColName, Cond, Op};
 pub use hash::hash_of;
 pub use no_memory::NoMemory;
-pub use numbers::{ColumnNumber, TableNumber};
+pub use numbers::{ColumnNumber, Place, TableNumber};
 pub use refusal::Refusal;
 pub use resolved::{Assignment, Resolved, Shown, Test};
 pub use schema::{BaseKind, ColKind, Column, IndexKind, Schema};
