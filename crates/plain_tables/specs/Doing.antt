@@ -1,21 +1,24 @@
 -- Doing: what a resolved command does to a database, with the checks that look at rows.
-use Rattle.std.specs.Prelude.{ℕ, List, [], ◌∷◌, ◌++◌, Bool, not, nat_le, length, map, if◌then◌else◌, None, slice_get, slice_set, remove}
-use Rattle.std.specs.List.{list_any, list_all, filter, filter_map}
+use Rattle.std.specs.Prelude.{ℕ, List, [], ◌∷◌, ◌++◌, Bool, true, false, not, nat_le, Option, length, map, if◌then◌else◌, None, slice_get, slice_set, remove}
+use Rattle.std.specs.List.{list_any, list_all, filter, filter_map, flat_map}
 use Rattle.std.specs.Option.{option_and_then, option_map, option_map_or}
 use Rattle.plain_tables.specs.Tables.{Table, Row, has_key_of}
 use Rattle.plain_tables.specs.Databases.{Database}
-use Rattle.plain_tables.specs.Queries.{full_name, value_at, stands}
+use Rattle.plain_tables.specs.Queries.{full_name}
+pub use Rattle.plain_tables.specs.Joining.{passes, passes_all}
+use Rattle.plain_tables.specs.Joining.{Member, value_of, members_of, distinct_rows}
 use Rattle.plain_tables.specs.Effects.{Check, Effect, Done, Changed, Rows, Listed, Refused, checked, new_table, grown_by}
 use Rattle.plain_tables.specs.References.{Reference, reference_of, references, is_held, is_referenced}
 pub use Rattle.plain_tables.specs.References.{is_kind, is_index}
-use Rattle.plain_tables.specs.Resolving.{own_columns}
 use Rattle.plain_tables.specs.declared.refusal.Refusal.TheVariants.{NoSuchTable, KeyExists, NoReferencedRow, TableFull, RowIsReferenced}
 use Rattle.plain_tables.specs.declared.schema.IndexKind.{IndexKind}
 use Rattle.plain_tables.specs.declared.command.Limits.{Limits}
 use Rattle.plain_tables.specs.declared.numbers.ColumnNumber.{ColumnNumber}
 use Rattle.plain_tables.specs.declared.numbers.TableNumber.{TableNumber}
 use Rattle.plain_tables.specs.declared.resolved.Assignment.{Assignment}
-use Rattle.plain_tables.specs.declared.resolved.Test.{Test}
+use Rattle.plain_tables.specs.declared.numbers.Place.{Place}
+use Rattle.plain_tables.specs.declared.resolved.Source.{Source}
+use Rattle.plain_tables.specs.declared.resolved.Joined.{Joined}
 use Rattle.plain_tables.specs.declared.resolved.Shown.{Shown}
 use Rattle.plain_tables.specs.declared.resolved.Shown.TheVariants as shown
 use Rattle.plain_tables.specs.declared.resolved.Resolved.{Resolved}
@@ -32,14 +35,7 @@ on_table n tables effect =
 abbrev pub with_table : TableNumber → Table → Database → Database
 with_table n table tables = slice_set tables n.0 table
 
--- ---- tests and assignments
-
--- Whether a row passes a test: its value in the column stands so to the test's.
-abbrev pub passes : Row → Test → Bool
-passes row test = stands test.op (value_at row test.column.0) test.value
-
-abbrev pub passes_all : List Test → Row → Bool
-passes_all tests row = list_all (passes row) tests
+-- ---- assignments
 
 -- the row with the values of the assignments in their columns
 abbrev pub assigned : List Assignment → Row → Row
@@ -102,14 +98,29 @@ delete tables n picks =
 
 -- ---- select
 
--- the values that are shown of a row, and the names above them
-abbrev pub shown_values : Shown → Row → Row
-shown_values shown.All row = row
-shown_values (shown.Columns columns) row = map (λ c. value_at row c.0) columns
+-- the values that are shown of a member
+abbrev pub shown_values : Shown → Member → Row
+shown_values shown.All member = flat_map (λ row. row) member
+shown_values (shown.Columns places) member = map (value_of member) places
 
-abbrev pub headings : Table → Shown → List (List ℕ)
-headings table shown.All = map full_name (own_columns table)
-headings table (shown.Columns columns) = filter_map (λ c. option_map full_name (slice_get (own_columns table) c.0)) columns
+-- the tables that are joined
+abbrev pub joined_tables : Database → Source → List Joined → List Table
+joined_tables tables source joins = filter_map (λ s. slice_get tables s.table.0) (source ∷ map (λ j. j.source) joins)
+
+-- the name of the column at a place among joined tables, behind its table's
+abbrev pub name_at : List Table → Place → Option (List ℕ)
+name_at joined place =
+    option_and_then (λ table. option_map (full_name table.name) (slice_get table.columns place.column.0)) (slice_get joined place.source)
+
+-- the names above the values that are shown
+abbrev pub headings : List Table → Shown → List (List ℕ)
+headings joined shown.All = flat_map (λ table. map (full_name table.name) table.columns) joined
+headings joined (shown.Columns places) = filter_map (name_at joined) places
+
+-- the lists of values that are shown of members; if they are to be distinct, each once, rising
+abbrev pub shown_rows : Bool → Shown → List Member → List Row
+shown_rows false its members = map (shown_values its) members
+shown_rows true its members = distinct_rows (map (shown_values its) members)
 
 -- ---- declared indexes
 
@@ -137,6 +148,6 @@ done limits tables (resolved.Insert n row) =
     (record { database = with_table n (grown_by row table) tables; outcome = Changed 1 }))
 done limits tables (resolved.Update n assignments tests) = update tables n assignments (passes_all tests)
 done limits tables (resolved.Delete n tests) = delete tables n (passes_all tests)
-done limits tables (resolved.Select its n tests) =
-    on_table n tables (λ table. record { database = tables; outcome = Rows (headings table its) (map (shown_values its) (picked (passes_all tests) table)) })
+done limits tables (resolved.Select distinct its source joins) =
+    record { database = tables; outcome = Rows (headings (joined_tables tables source joins) its) (shown_rows distinct its (members_of tables source joins)) }
 done limits tables resolved.Tables = record { database = tables; outcome = Listed tables }

@@ -7,6 +7,7 @@ pub mod Division
 pub mod Doing
 pub mod Effects
 pub mod Hashes
+pub mod Joining
 pub mod Names
 pub mod Queries
 pub mod Reading

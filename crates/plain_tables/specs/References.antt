@@ -49,6 +49,12 @@ abbrev pub type_of : Database → ColKind → Option BaseKind
 type_of tables k =
     option_map_or (λ name. option_and_then key_type (table_named name tables)) (referred k) (own_type k)
 
+-- whether two types are one; where a type is none, as of a column that refers to no table that is there, they aren't
+abbrev pub same_type : Option BaseKind → Option BaseKind → Bool
+same_type (Some base.Int) (Some base.Int) = true
+same_type (Some base.Text) (Some base.Text) = true
+same_type b c = false
+
 -- whether a value is of a type; a null is of none
 abbrev pub has_type : Value → BaseKind → Bool
 has_type (value.Int z) base.Int = true

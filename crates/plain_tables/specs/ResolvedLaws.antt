@@ -1,6 +1,6 @@
 -- Laws of resolved commands: that they keep databases sound, what they leave and show, and in which of them declared
 -- indexes play no part.
-use Rattle.std.specs.Prelude.{◌≡◌, ◌≢◌, ◌+◌, ◌==◌, ℕ, ◌<◌, ◌≤◌, List, [], Bool, true, false, not, length, map, Ok, Option, Some, None, is_some, IsTrue, IsFalse, FitsSigned, slice_get}
+use Rattle.std.specs.Prelude.{◌≡◌, ◌≢◌, ◌+◌, ◌==◌, ℕ, ◌<◌, ◌≤◌, List, [], ◌∷◌, ◌++◌, Bool, true, false, not, length, map, Ok, Option, Some, None, is_some, IsTrue, IsFalse, FitsSigned, slice_get}
 use Rattle.std.specs.Int.{w64}
 use Rattle.std.specs.List.{All, AllZip, Contains, list_any}
 use Rattle.plain_tables.specs.Names.{IsName}
@@ -10,7 +10,8 @@ use Rattle.plain_tables.specs.Queries.{value_at}
 use Rattle.plain_tables.specs.Effects.{Effect, Rows, Refused, repeats, new_table}
 use Rattle.plain_tables.specs.References.{RefersInto, is_typed, is_table_referenced, is_index, IsRowOf, IsKeyTree, IsSoundTable, IsSound}
 use Rattle.plain_tables.specs.Resolving.{has_mistyped, resolved_of}
-use Rattle.plain_tables.specs.Doing.{passes_all, updated, picked, update, without, delete, shown_values, headings, done}
+use Rattle.plain_tables.specs.Joining.{members_of}
+use Rattle.plain_tables.specs.Doing.{updated, picked, update, without, delete, joined_tables, shown_rows, headings, done}
 use Rattle.plain_tables.specs.Spelling.{IsSpellable}
 use Rattle.plain_tables.specs.declared.value.Value.{Value}
 use Rattle.plain_tables.specs.declared.value.Value.TheVariants as value
@@ -24,7 +25,10 @@ use Rattle.plain_tables.specs.declared.command.Command.TheVariants as command
 use Rattle.plain_tables.specs.declared.numbers.ColumnNumber.{ColumnNumber}
 use Rattle.plain_tables.specs.declared.numbers.TableNumber.{TableNumber}
 use Rattle.plain_tables.specs.declared.resolved.Assignment.{Assignment}
+use Rattle.plain_tables.specs.declared.numbers.Place.{Place}
 use Rattle.plain_tables.specs.declared.resolved.Test.{Test}
+use Rattle.plain_tables.specs.declared.resolved.Source.{Source}
+use Rattle.plain_tables.specs.declared.resolved.Joined.{Joined}
 use Rattle.plain_tables.specs.declared.resolved.Shown.{Shown}
 use Rattle.plain_tables.specs.declared.resolved.Shown.TheVariants as shown
 use Rattle.plain_tables.specs.declared.resolved.Resolved.{Resolved}
@@ -107,10 +111,22 @@ pub record AreAssignable (tables : Database) (assignments : List Assignment) (ta
 abbrev pub AreTests : Database → Table → List Test → Type 0
 AreTests tables table tests = All (λ t. IsOfColumn tables table t.column t.value) tests
 
--- the columns that are shown are there
-abbrev pub IsShown : Table → Shown → Type 0
-IsShown table shown.All = Unit {0}
-IsShown table (shown.Columns columns) = All (λ c. c.0 < length table.columns) columns
+-- a place is there among joined tables
+abbrev pub HasPlace : List Table → Place → Type 0
+HasPlace joined place = (table : Table) × (slice_get joined place.source ≡ Some table) × (place.column.0 < length table.columns)
+
+-- the columns that are shown are there, and at least one is
+abbrev pub IsShown : List Table → Shown → Type 0
+IsShown joined shown.All = Unit {0}
+IsShown joined (shown.Columns places) = (0 < length places) × All (HasPlace joined) places
+
+-- Joins behind these tables: the outer column of each is there among the tables before it and the inner in its own, and the
+-- columns of its tests are there.
+abbrev pub AreJoins : Database → List Table → List Joined → Type 0
+AreJoins tables before [] = Unit {0}
+AreJoins tables before (join ∷ joins) =
+    HasPlace before join.outer
+    × OfTable join.source.table tables (λ table. AreTests tables table join.source.tests × (join.inner.0 < length table.columns) × AreJoins tables (before ++ table ∷ []) joins)
 
 -- A resolved command of these tables: what it names by numbers is there, its values can stand there, and only the checks
 -- that look at rows can refuse it.
@@ -123,7 +139,9 @@ IsMeant limits tables (resolved.Insert n row) = OfTable n tables (IsInsertable t
 IsMeant limits tables (resolved.Update n assignments tests) =
     OfTable n tables (λ table. AreAssignable tables assignments table × AreTests tables table tests)
 IsMeant limits tables (resolved.Delete n tests) = OfTable n tables (λ table. AreTests tables table tests)
-IsMeant limits tables (resolved.Select its n tests) = OfTable n tables (λ table. IsShown table its × AreTests tables table tests)
+IsMeant limits tables (resolved.Select distinct its source joins) =
+    OfTable source.table tables (λ table. AreTests tables table source.tests × AreJoins tables (table ∷ []) joins)
+    × IsShown (joined_tables tables source joins) its
 IsMeant limits tables resolved.Tables = Unit {0}
 
 -- ---- databases stay sound
@@ -199,7 +217,7 @@ abbrev pub rows_table : Resolved → Option TableNumber
 rows_table (resolved.Insert n row) = Some n
 rows_table (resolved.Update n assignments tests) = Some n
 rows_table (resolved.Delete n tests) = Some n
-rows_table (resolved.Select its n tests) = Some n
+rows_table (resolved.Select distinct its source joins) = Some source.table
 rows_table r = None
 
 -- the table with no rows
@@ -269,10 +287,11 @@ DeletesThePicked = (picks : Row → Bool) (table : Table) → DeleteLeaves picks
 abbrev pub SelectsRows : Type 0
 SelectsRows =
     (limits : Limits) (tables : Database) (n : TableNumber) (table : Table) → slice_get tables n.0 ≡ Some table
-    → (done limits tables (resolved.Select shown.All n [])).outcome ≡ Rows (headings table shown.All) table.rows
+    → (done limits tables (resolved.Select false shown.All (record { table = n; tests = [] }) [])).outcome ≡ Rows (headings (table ∷ []) shown.All) table.rows
 
 -- each row that is shown has as many values as there are headings
 abbrev pub ShownFitHeadings : Type 0
 ShownFitHeadings =
-    (tables : Database) (table : Table) (its : Shown) (tests : List Test) → All (IsRowOf tables table.columns) table.rows → IsShown table its
-    → All (λ row. length row ≡ length (headings table its)) (map (shown_values its) (picked (passes_all tests) table))
+    (limits : Limits) (tables : Database) (distinct : Bool) (its : Shown) (source : Source) (joins : List Joined)
+    → IsSound limits tables → IsMeant limits tables (resolved.Select distinct its source joins)
+    → All (λ row. length row ≡ length (headings (joined_tables tables source joins) its)) (shown_rows distinct its (members_of tables source joins))

@@ -1,26 +1,27 @@
 -- Resolving: what a command means with numbers in the place of names, and the checks that need no row.
-use Rattle.std.specs.Prelude.{ℕ, List, [], ◌∷◌, ◌++◌, Bool, true, false, ◌||◌, ◌&&◌, not, ◌==◌, nat_lt, nat_le, length, map, if◌then◌else◌, is_some, Result, Ok, Err, None, zip, take}
-use Rattle.std.specs.List.{list_any, position_or_len, filter_map}
+use Rattle.std.specs.Prelude.{ℕ, List, [], ◌∷◌, ◌++◌, Bool, true, false, ◌||◌, ◌&&◌, not, ◌==◌, nat_lt, nat_le, length, map, if◌then◌else◌, is_some, is_none, Option, Result, Ok, Err, None, zip, take}
+use Rattle.std.specs.List.{list_any, position_or_len, filter, filter_map}
 use Rattle.std.specs.Option.{option_map, option_map_or}
 use Rattle.std.specs.Str.{bytes_eq}
 use Rattle.plain_tables.specs.Values.{is_null}
 use Rattle.plain_tables.specs.Tables.{Table, Row}
 use Rattle.plain_tables.specs.Databases.{Database, is_named, table_named}
-use Rattle.plain_tables.specs.Queries.{JoinedColumn, joined_columns, column_meant, place_meant, places_meant, named_items}
+use Rattle.plain_tables.specs.Queries.{JoinedColumn, joined_columns, column_number, column_meant, place_meant, places_meant, same_place, sides_meant, named_items}
 use Rattle.plain_tables.specs.Effects.{Check, repeats, column_names, misses, is_long, setting_name, condition_names}
-use Rattle.plain_tables.specs.References.{referred, is_typed, refers_into, is_table_referenced, is_index, all_indexes}
+use Rattle.plain_tables.specs.References.{referred, type_of, same_type, is_typed, refers_into, is_table_referenced, is_index, all_indexes}
 use Rattle.plain_tables.specs.declared.value.Value.{Value}
 use Rattle.plain_tables.specs.declared.condition.Op.{Op}
 use Rattle.plain_tables.specs.declared.condition.Op.TheVariants as op
 use Rattle.plain_tables.specs.declared.condition.Cond.{Cond}
 use Rattle.plain_tables.specs.declared.condition.ColName.{ColName}
 use Rattle.plain_tables.specs.declared.refusal.Refusal.{Refusal}
-use Rattle.plain_tables.specs.declared.refusal.Refusal.TheVariants.{NoSuchTable, TableExists, NoSuchColumn, ColumnNamedTwice, WrongType, KeyCannotBeSet, TooMany, NoSuchIndex, IndexExists, TableIsReferenced, WrongNumberOfValues, TextTooLong}
+use Rattle.plain_tables.specs.declared.refusal.Refusal.TheVariants.{NoSuchTable, TableExists, NoSuchColumn, ColumnNamedTwice, WrongType, KeyCannotBeSet, TableNamedTwice, TooMany, NoSuchIndex, IndexExists, TableIsReferenced, WrongNumberOfValues, TextTooLong}
 use Rattle.plain_tables.specs.declared.schema.Schema.{Schema}
 use Rattle.plain_tables.specs.declared.schema.Column.{Column}
 use Rattle.plain_tables.specs.declared.schema.IndexKind.{IndexKind}
 use Rattle.plain_tables.specs.declared.command.Items.{Items}
 use Rattle.plain_tables.specs.declared.command.Items.TheVariants as items
+use Rattle.plain_tables.specs.declared.command.Join.{Join}
 use Rattle.plain_tables.specs.declared.command.Setting.{Setting}
 use Rattle.plain_tables.specs.declared.command.Command.{Command}
 use Rattle.plain_tables.specs.declared.command.Command.TheVariants as command
@@ -28,6 +29,8 @@ use Rattle.plain_tables.specs.declared.numbers.ColumnNumber.{ColumnNumber}
 use Rattle.plain_tables.specs.declared.numbers.TableNumber.{TableNumber}
 use Rattle.plain_tables.specs.declared.resolved.Assignment.{Assignment}
 use Rattle.plain_tables.specs.declared.resolved.Test.{Test}
+use Rattle.plain_tables.specs.declared.resolved.Source.{Source}
+use Rattle.plain_tables.specs.declared.resolved.Joined.{Joined}
 use Rattle.plain_tables.specs.declared.resolved.Shown.{Shown}
 use Rattle.plain_tables.specs.declared.resolved.Shown.TheVariants as shown
 use Rattle.plain_tables.specs.declared.resolved.Resolved.{Resolved}
@@ -37,10 +40,6 @@ use Rattle.plain_tables.specs.declared.resolved.Resolved.TheVariants as resolved
 abbrev pub meaning : List Check → Resolved → Result Resolved Refusal
 meaning [] r = Ok r
 meaning (check ∷ checks) r = if check.refuses then Err check.refusal else meaning checks r
-
--- the number of a column
-abbrev pub column_number : ℕ → ColumnNumber
-column_number n = record { 0 = n }
 
 -- the number of the table of that name
 abbrev pub number_of : List ℕ → Database → TableNumber
@@ -57,23 +56,23 @@ own_columns table = joined_columns (table ∷ [])
 -- a command on the column of that name, by its number, refused where no column has it
 abbrev pub on_column : List ℕ → Table → (ColumnNumber → Result Resolved Refusal) → Result Resolved Refusal
 on_column name table means =
-    option_map_or (λ place. means (column_number place)) (place_meant (own_columns table) (record { table = None; column = name })) (Err NoSuchColumn)
+    option_map_or (λ place. means place.column) (place_meant (own_columns table) (record { table = None; column = name })) (Err NoSuchColumn)
 
 -- ---- conditions, settings and items by numbers
 
 -- The tests that conditions are, and the assignments that settings are. A name that means no column is left out.
 abbrev pub tests_of : List JoinedColumn → List Cond → List Test
 tests_of columns conditions =
-    filter_map (λ c. option_map (λ place. record { column = column_number place; op = c.op; value = c.value }) (place_meant columns c.column)) conditions
+    filter_map (λ c. option_map (λ place. record { column = place.column; op = c.op; value = c.value }) (place_meant columns c.column)) conditions
 
 abbrev pub assignments_of : List JoinedColumn → List Setting → List Assignment
 assignments_of columns settings =
-    filter_map (λ s. option_map (λ place. record { column = column_number place; value = s.value }) (place_meant columns (setting_name s))) settings
+    filter_map (λ s. option_map (λ place. record { column = place.column; value = s.value }) (place_meant columns (setting_name s))) settings
 
 -- the columns that items show
 abbrev pub shown_of : List JoinedColumn → Items → Shown
 shown_of columns items.All = shown.All
-shown_of columns (items.Named names) = shown.Columns (map column_number (places_meant columns names))
+shown_of columns (items.Named names) = shown.Columns (places_meant columns names)
 
 -- ---- what checks ask of types
 
@@ -125,7 +124,7 @@ index_checks table column k = record { refuses = list_any (is_index column k) (a
 abbrev pub drop_index_checks : Table → ColumnNumber → IndexKind → List Check
 drop_index_checks table column k = record { refuses = not (list_any (is_index column k) table.indexes); refusal = NoSuchIndex } ∷ []
 
--- ---- insert, update, delete, select
+-- ---- insert, update, delete
 
 -- one value for each column, of its type, and no text too long
 abbrev pub insert_checks : Database → Table → Row → List Check
@@ -144,7 +143,7 @@ update_checks tables table settings conditions =
     ∷ record { refuses = repeats bytes_eq (map (λ s. s.column) settings); refusal = ColumnNamedTwice }
     ∷ record { refuses = list_any (λ s. mistypes tables columns (setting_name s) s.value) settings || list_any (is_mistyped tables columns) conditions; refusal = WrongType }
     ∷ record { refuses = list_any (λ s. is_long s.value) settings; refusal = TextTooLong }
-    ∷ record { refuses = list_any (λ place. place == 0) (places_meant columns (map setting_name settings)); refusal = KeyCannotBeSet }
+    ∷ record { refuses = list_any (λ place. place.column.0 == 0) (places_meant columns (map setting_name settings)); refusal = KeyCannotBeSet }
     ∷ record { refuses = nat_lt 8 (length conditions); refusal = TooMany }
     ∷ []
 
@@ -157,16 +156,70 @@ delete_checks tables table conditions =
     ∷ record { refuses = nat_lt 8 (length conditions); refusal = TooMany }
     ∷ []
 
--- Each name means a column, no column is shown twice, each value is of its column's type, and there are at most 16 named
--- items and at most 8 conditions.
-abbrev pub select_checks : Database → Table → Items → List Cond → List Check
-select_checks tables table its conditions =
-    let columns = own_columns table in
-    record { refuses = misses columns (named_items its ++ condition_names conditions); refusal = NoSuchColumn }
-    ∷ record { refuses = repeats (λ p q. p == q) (places_meant columns (named_items its)); refusal = ColumnNamedTwice }
-    ∷ record { refuses = list_any (is_mistyped tables columns) conditions; refusal = WrongType }
-    ∷ record { refuses = nat_lt 16 (length (named_items its)) || nat_lt 8 (length conditions); refusal = TooMany }
+-- ---- select
+
+-- the names of a list, each once
+abbrev pub once : List (List ℕ) → List (List ℕ)
+once [] = []
+once (name ∷ names) = name ∷ filter (λ other. not (bytes_eq name other)) (once names)
+
+-- the tables that a select names
+abbrev pub select_names : List ℕ → List Join → List (List ℕ)
+select_names name joins = name ∷ map (λ join. join.table) joins
+
+-- the columns of the tables of these names; a table that is named twice counts once
+abbrev pub columns_of : Database → List (List ℕ) → List JoinedColumn
+columns_of tables names = joined_columns (filter_map (λ name. table_named name tables) (once names))
+
+-- joins, each with the names of the tables before it
+abbrev pub behind : List (List ℕ) → List Join → List (List (List ℕ) × Join)
+behind names [] = []
+behind names (join ∷ joins) = (names, join) ∷ behind (names ++ join.table ∷ []) joins
+
+-- the two columns that a join behind tables of these names makes equal
+abbrev pub join_columns : Database → List (List ℕ) × Join → Option (JoinedColumn × JoinedColumn)
+join_columns tables join = sides_meant (columns_of tables join.0) (columns_of tables (join.1.table ∷ [])) join.1
+
+-- whether two columns are of different types
+abbrev pub differ_in_type : Database → JoinedColumn × JoinedColumn → Bool
+differ_in_type tables columns = not (same_type (type_of tables columns.0.column.kind) (type_of tables columns.1.column.kind))
+
+-- Each table is there, each name means a column, and each join names one of its table and one of those before it; no column is
+-- shown twice, no table named twice, each value is of its column's type, as are the columns of each join of one; and there
+-- are at most 16 named items, 8 conditions and 3 joins.
+abbrev pub select_checks : Database → Items → List ℕ → List Join → List Cond → List Check
+select_checks tables its name joins conditions =
+    let names = select_names name joins in
+    let columns = columns_of tables names in
+    let sides = map (join_columns tables) (behind (name ∷ []) joins) in
+    record { refuses = list_any (λ n. not (is_some (table_named n tables))) names; refusal = NoSuchTable }
+    ∷ record { refuses = misses columns (named_items its ++ condition_names conditions) || list_any is_none sides; refusal = NoSuchColumn }
+    ∷ record { refuses = repeats same_place (places_meant columns (named_items its)); refusal = ColumnNamedTwice }
+    ∷ record { refuses = repeats bytes_eq names; refusal = TableNamedTwice }
+    ∷ record { refuses = list_any (is_mistyped tables columns) conditions || list_any (λ s. option_map_or (differ_in_type tables) s false) sides; refusal = WrongType }
+    ∷ record { refuses = nat_lt 16 (length (named_items its)) || nat_lt 8 (length conditions) || nat_lt 3 (length joins); refusal = TooMany }
     ∷ []
+
+-- whether a condition is on the table that is joined as the one of this number
+abbrev pub is_on_source : List JoinedColumn → ℕ → Cond → Bool
+is_on_source columns source c = option_map_or (λ place. place.source == source) (place_meant columns c.column) false
+
+-- the rows of the table of that name, which is joined as the one of this number, that meet the conditions on it
+abbrev pub source_of : Database → List JoinedColumn → List Cond → ℕ → List ℕ → Source
+source_of tables columns conditions source name =
+    record { table = number_of name tables; tests = tests_of columns (filter (is_on_source columns source) conditions) }
+
+-- the joins by numbers; one that names no two columns is left out
+abbrev pub joins_of : Database → List JoinedColumn → List Cond → List (List (List ℕ) × Join) → List Joined
+joins_of tables columns conditions joins =
+    filter_map (λ j. option_map (λ sides. record { source = source_of tables columns conditions (length j.0) j.1.table; outer = sides.0.place; inner = sides.1.place.column }) (join_columns tables j)) joins
+
+-- a select by numbers
+abbrev pub select_of : Database → Bool → Items → List ℕ → List Join → List Cond → Resolved
+select_of tables distinct its name joins conditions =
+    let columns = columns_of tables (select_names name joins) in
+    resolved.Select distinct (shown_of columns its) (source_of tables columns conditions 0 name)
+    (joins_of tables columns conditions (behind (name ∷ []) joins))
 
 -- ---- all commands
 
@@ -187,7 +240,6 @@ resolved_of tables (command.Update name settings conditions) =
 resolved_of tables (command.Delete name conditions) =
     on_numbered name tables (λ n table. meaning (delete_checks tables table conditions)
     (resolved.Delete n (tests_of (own_columns table) conditions)))
-resolved_of tables (command.Select its name conditions) =
-    on_numbered name tables (λ n table. meaning (select_checks tables table its conditions)
-    (resolved.Select (shown_of (own_columns table) its) n (tests_of (own_columns table) conditions)))
+resolved_of tables (command.Select distinct its name joins conditions) =
+    meaning (select_checks tables its name joins conditions) (select_of tables distinct its name joins conditions)
 resolved_of tables command.Tables = Ok resolved.Tables

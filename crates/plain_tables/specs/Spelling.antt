@@ -22,6 +22,8 @@ use Rattle.plain_tables.specs.declared.condition.Op.TheVariants as op
 use Rattle.plain_tables.specs.declared.condition.ColName.{ColName}
 use Rattle.plain_tables.specs.declared.condition.Cond.{Cond}
 use Rattle.plain_tables.specs.declared.command.Setting.{Setting}
+use Rattle.plain_tables.specs.declared.command.Join.{Join}
+use Rattle.plain_tables.specs.declared.command.JoinSide.{JoinSide}
 use Rattle.plain_tables.specs.declared.command.Items.{Items}
 use Rattle.plain_tables.specs.declared.command.Items.TheVariants as items
 use Rattle.plain_tables.specs.declared.command.Command.{Command}
@@ -97,6 +99,19 @@ where_symbols [] = []
 where_symbols (condition ∷ conditions) =
     Keyword (codes "where") ∷ separated_by (Keyword (codes "and")) (map condition_symbols (condition ∷ conditions))
 
+-- NAME . NAME
+abbrev pub side_symbols : JoinSide → List Symbol
+side_symbols side = Name side.table ∷ Sign Dot ∷ Name side.column ∷ []
+
+-- join NAME on NAME . NAME = NAME . NAME
+abbrev pub join_symbols : Join → List Symbol
+join_symbols join =
+    Keyword (codes "join") ∷ Name join.table ∷ Keyword (codes "on") ∷ side_symbols join.left ++ Sign (Operator op.Eq) ∷ side_symbols join.right
+
+-- the word distinct, or nothing
+abbrev pub distinct_symbols : Bool → List Symbol
+distinct_symbols distinct = if distinct then Keyword (codes "distinct") ∷ [] else []
+
 -- *, or the columns named with commas between them
 abbrev pub items_symbols : Items → List Symbol
 items_symbols items.All = Sign Star ∷ []
@@ -109,7 +124,7 @@ items_symbols (items.Named names) = separated (map name_symbols names)
 -- insert NAME ( VALUE {, VALUE} )
 -- update NAME set NAME = VALUE {, NAME = VALUE} [where ..]
 -- delete NAME [where ..]
--- select ITEMS from NAME [where ..]
+-- select [distinct] ITEMS from NAME {join ..} [where ..]
 -- tables
 abbrev pub symbols_of : Command → List Symbol
 symbols_of (Table name schema) =
@@ -122,8 +137,9 @@ symbols_of (Insert table values) =
 symbols_of (Update table settings conditions) =
     Keyword (codes "update") ∷ Name table ∷ Keyword (codes "set") ∷ separated (map setting_symbols settings) ++ where_symbols conditions
 symbols_of (Delete table conditions) = Keyword (codes "delete") ∷ Name table ∷ where_symbols conditions
-symbols_of (Select items table conditions) =
-    Keyword (codes "select") ∷ items_symbols items ++ Keyword (codes "from") ∷ Name table ∷ where_symbols conditions
+symbols_of (Select distinct items table joins conditions) =
+    Keyword (codes "select") ∷ distinct_symbols distinct ++ items_symbols items ++ Keyword (codes "from") ∷ Name table
+    ∷ flat_map join_symbols joins ++ where_symbols conditions
 symbols_of Tables = Keyword (codes "tables") ∷ []
 
 -- ---- the characters of a symbol
@@ -206,7 +222,8 @@ IsMadeOf line (symbol ∷ symbols) =
     (blanks characters rest : List ℕ) × AreBlanks blanks × IsSymbol characters symbol × EndsBefore symbol rest
     × IsMadeOf rest symbols × (line ≡ blanks ++ (characters ++ rest))
 
--- A command's list of columns, values, settings or named items has something in it. That of its conditions may be empty.
+-- A command's list of columns, values, settings or named items has something in it. Those of its joins and conditions may
+-- be empty.
 abbrev pub NamesSomething : Command → Type 0
 NamesSomething (Table name schema) = 0 < length schema.columns
 NamesSomething (DropTable table) = Unit {0}
@@ -215,8 +232,8 @@ NamesSomething (DropIndex table column k) = Unit {0}
 NamesSomething (Insert table values) = 0 < length values
 NamesSomething (Update table settings conditions) = 0 < length settings
 NamesSomething (Delete table conditions) = Unit {0}
-NamesSomething (Select items.All table conditions) = Unit {0}
-NamesSomething (Select (items.Named names) table conditions) = 0 < length names
+NamesSomething (Select distinct items.All table joins conditions) = Unit {0}
+NamesSomething (Select distinct (items.Named names) table joins conditions) = 0 < length names
 NamesSomething Tables = Unit {0}
 
 -- A line spells a command where it has no line feed in it and is made of the command's symbols, and no list of the command
@@ -255,13 +272,18 @@ IsSpellableSetting setting = IsName setting.column × IsSpellableValue setting.v
 abbrev pub IsSpellableCondition : Cond → Type 0
 IsSpellableCondition condition = IsSpellableName condition.column × IsSpellableValue condition.value
 
+-- a join of names
+abbrev pub IsSpellableJoin : Join → Type 0
+IsSpellableJoin join =
+    IsName join.table × IsName join.left.table × IsName join.left.column × IsName join.right.table × IsName join.right.column
+
 -- *, or at least one column, each of which can be spelled
 abbrev pub AreSpellableItems : Items → Type 0
 AreSpellableItems items.All = Unit {0}
 AreSpellableItems (items.Named names) = (0 < length names) × AllByRecursion IsSpellableName names
 
--- A command can be spelled where its names are names, its lists but that of the conditions aren't empty, its integers have
--- 64 bits, and no text of it holds a line feed.
+-- A command can be spelled where its names are names, its lists but those of joins and conditions aren't empty, its integers
+-- have 64 bits, and no text of it holds a line feed.
 abbrev pub IsSpellable : Command → Type 0
 IsSpellable (Table name schema) =
     IsName name × (0 < length schema.columns) × AllByRecursion IsSpellableColumn schema.columns
@@ -273,8 +295,8 @@ IsSpellable (Update table settings conditions) =
     IsName table × (0 < length settings) × AllByRecursion IsSpellableSetting settings
     × AllByRecursion IsSpellableCondition conditions
 IsSpellable (Delete table conditions) = IsName table × AllByRecursion IsSpellableCondition conditions
-IsSpellable (Select items table conditions) =
-    AreSpellableItems items × IsName table × AllByRecursion IsSpellableCondition conditions
+IsSpellable (Select distinct items table joins conditions) =
+    AreSpellableItems items × IsName table × AllByRecursion IsSpellableJoin joins × AllByRecursion IsSpellableCondition conditions
 IsSpellable Tables = Unit {0}
 
 -- The characters of a symbol in the canonical spelling. Numbers have no zeros in front, and 0 has no sign.

@@ -42,10 +42,13 @@ pub enum Command {
         table: Text,
         conditions: Sequence<Cond>,
     },
-    /// `select .. from NAME where ..`: these columns of the rows that meet the conditions.
+    /// `select .. from NAME join .. where ..`: these columns of the rows, joined with those of other tables, that meet the
+    /// conditions. If it is distinct, it shows each list of values once, and these rise.
     Select {
+        distinct: bool,
         items: Items,
         table: Text,
+        joins: Sequence<Join>,
         conditions: Sequence<Cond>,
     },
     /// `tables`: what tables there are.
@@ -57,6 +60,21 @@ pub enum Command {
 pub struct Setting {
     pub column: Text,
     pub value: Value,
+}
+
+/// A table that is joined with those before it: two columns are equal, one of this table and one of those.
+#[derive(Debug, Drop)]
+pub struct Join {
+    pub table: Text,
+    pub left: JoinSide,
+    pub right: JoinSide,
+}
+
+/// A column as a join names it, always with its table.
+#[derive(Debug, Drop)]
+pub struct JoinSide {
+    pub table: Text,
+    pub column: Text,
 }
 
 /// The columns that a select shows: all of them, or those named, in that order.

@@ -28,13 +28,13 @@ pub mod spelling_laws;
 mod text;
 mod value;
 
-pub use command::{Command, Items, Limits, Setting};
+pub use command::{Command, Items, Join, JoinSide, Limits, Setting};
 pub use condition::{ColName, Cond, Op};
 pub use hash::hash_of;
 pub use no_memory::NoMemory;
 pub use numbers::{ColumnNumber, Place, TableNumber};
 pub use refusal::Refusal;
-pub use resolved::{Assignment, Resolved, Shown, Test};
+pub use resolved::{Assignment, Joined, Resolved, Shown, Source, Test};
 pub use schema::{BaseKind, ColKind, Column, IndexKind, Schema};
 pub use sequence::Sequence;
 pub use text::Text;

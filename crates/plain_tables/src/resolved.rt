@@ -1,6 +1,6 @@
 //! A command with numbers in the place of names, which has passed the checks that need no row.
 
-use crate::{ColumnNumber, IndexKind, Op, Schema, Sequence, TableNumber, Text, Value};
+use crate::{ColumnNumber, IndexKind, Op, Place, Schema, Sequence, TableNumber, Text, Value};
 
 /// A command on tables and columns by their numbers.
 #[derive(Debug, Drop)]
@@ -42,11 +42,13 @@ pub enum Resolved {
         table: TableNumber,
         tests: Sequence<Test>,
     },
-    /// These columns of the rows that pass the tests.
+    /// These columns of the rows of the first source, joined with those of others. If it is distinct, each list of values
+    /// once, and these rise.
     Select {
+        distinct: bool,
         shown: Shown,
-        table: TableNumber,
-        tests: Sequence<Test>,
+        source: Source,
+        joins: Sequence<Joined>,
     },
     /// What tables there are.
     Tables,
@@ -67,9 +69,24 @@ pub struct Test {
     pub value: Value,
 }
 
+/// The rows of a table that pass tests.
+#[derive(Debug, Drop)]
+pub struct Source {
+    pub table: TableNumber,
+    pub tests: Sequence<Test>,
+}
+
+/// A source that is joined with those before it: the column of theirs and its own are equal, and not null.
+#[derive(Debug, Drop)]
+pub struct Joined {
+    pub source: Source,
+    pub outer: Place,
+    pub inner: ColumnNumber,
+}
+
 /// The columns that a select shows: all of them, or these, in that order.
 #[derive(Debug, Drop)]
 pub enum Shown {
     All,
-    Columns(Sequence<ColumnNumber>),
+    Columns(Sequence<Place>),
 }
