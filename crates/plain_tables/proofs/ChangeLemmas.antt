@@ -71,8 +71,7 @@ rows_satisfy P limits tables (resolved.Delete n tests) m is old new =
     of_table_satisfies (λ e. P e.database) n tables _ (λ r. old)
     (λ table there. checked_satisfies (λ e. P e.database) tables (delete_checks tables table (passes_all tests)) _ (λ r. old)
     (λ passed. (rw same at new) table (without (passes_all tests) table) there refl))
-rows_satisfy P limits tables (resolved.Select its n tests) m is old new =
-    of_table_satisfies (λ e. P e.database) n tables _ (λ r. old) (λ table there. old)
+rows_satisfy P limits tables (resolved.Select distinct its source joins) m is old new = old
 rows_satisfy P limits tables resolved.Tables m is old new = absurd (none-some m is)
 
 pub own_rows_change : OwnRowsChange
@@ -125,8 +124,7 @@ refused_keeps limits tables (resolved.Insert n row) =
     (λ passed why same. absurd (not_changed _ why same)))
 refused_keeps limits tables (resolved.Update n assignments tests) = refused_update_keeps tables n assignments (passes_all tests)
 refused_keeps limits tables (resolved.Delete n tests) = refused_delete_keeps tables n (passes_all tests)
-refused_keeps limits tables (resolved.Select its n tests) =
-    of_table_satisfies (KeepsIfRefused tables) n tables _ (refusal_keeps tables) (λ table there why same. absurd (not_rows _ _ why same))
+refused_keeps limits tables (resolved.Select distinct its source joins) = λ why same. absurd (not_rows _ _ why same)
 refused_keeps limits tables resolved.Tables = λ why same. absurd (not_listed tables why same)
 
 -- ---- update

@@ -1,16 +1,22 @@
 -- What can be spelled has names, a column and integers of 64 bits.
 use Rattle.std.proofs.lemmas.List.Elements.{All-weaker, All-from_recursion}
 use Rattle.plain_tables.specs.Names.{IsName}
-use Rattle.plain_tables.specs.Spelling.{IsSpellableColumn, IsSpellableValue, IsSpellableSetting}
-use Rattle.plain_tables.specs.ResolvedLaws.{HasWidth, SpellableAreGiven}
+use Rattle.plain_tables.specs.Spelling.{IsSpellableColumn, IsSpellableValue, IsSpellableSetting, AreSpellableItems}
+use Rattle.plain_tables.specs.ResolvedLaws.{HasWidth, NamesItems, SpellableAreGiven}
 use Rattle.plain_tables.specs.declared.value.Value.{Value}
 use Rattle.plain_tables.specs.declared.value.Value.TheVariants as value
+use Rattle.plain_tables.specs.declared.command.Items.{Items}
+use Rattle.plain_tables.specs.declared.command.Items.TheVariants as items
 use Rattle.plain_tables.specs.declared.command.Command.TheVariants as command
 
 width : (v : Value) → IsSpellableValue v → HasWidth v
 width value.Null is = tt
 width (value.Int z) is = is
 width (value.Text text) is = tt
+
+named_items : (its : Items) → AreSpellableItems its → NamesItems its
+named_items items.All is = tt
+named_items (items.Named names) is = is.0
 
 pub spellable_are_given : SpellableAreGiven
 spellable_are_given (command.Table name schema) is = (
@@ -27,5 +33,5 @@ spellable_are_given (command.Update name settings conditions) is =
     All-weaker IsSpellableSetting (λ s. HasWidth s.value) (λ s can. width s.value can.1) settings
     (All-from_recursion IsSpellableSetting settings is.2)
 spellable_are_given (command.Delete name conditions) is = tt
-spellable_are_given (command.Select items name conditions) is = tt
+spellable_are_given (command.Select distinct its name joins conditions) is = named_items its is.0
 spellable_are_given command.Tables is = tt

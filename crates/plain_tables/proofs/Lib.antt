@@ -20,6 +20,7 @@ pub mod ResolvedLemmas
 pub mod RowLemmas
 pub mod RunLemmas
 pub mod RunSteps
+pub mod SelectLemmas
 pub mod Separated
 pub mod SingleItems
 pub mod SoundLemmas

@@ -1,14 +1,15 @@
 -- Lists: pairs of elements, the first that passes a test, and filters. What holds of what an option gives.
 use Rattle.std.proofs.Common.{◌≡◌, ◌≢◌, ℕ, zero, suc, ◌+◌, ◌<◌, ◌≤◌, Bool, true, false, length, arith, List, [], ◌∷◌, ◌++◌, sym, ap, ◌∙◌, inl, inr, get_or, set, take, drop, map, Some, None, Option, refl, subst, ◌⊎◌}
 use Rattle.std.specs.Prelude.{nat_lt, not}
-use Rattle.std.specs.List.{All, AllPairs, AllZip, filter, find, position, position_or_len, slice_get, list_any, list_all, flat_map, cons_option, remove}
+use Rattle.std.specs.List.{All, AllPairs, AllZip, filter, find, position, position_or_len, slice_get, list_any, list_all, flat_map, filter_map, cons_option, enumerate_from, remove}
 use Rattle.std.specs.Option.{is_some, option_map, option_map_or}
-use Rattle.std.proofs.lemmas.Bool.{cases_Bool, cases_eq, or_parts, or_cases, or_right, and_parts, cond_both, false≢true, ltb-true}
+use Rattle.std.proofs.lemmas.Bool.{cases_Bool, cases_eq, or_parts, or_cases, or_right, and_parts, cond_both, false≢true, not-false, ltb-true}
 use Rattle.std.proofs.lemmas.List.{get_or-set_same, get_or-set_other, length-set}
 use Rattle.std.proofs.lemmas.List.Elements.{All-nil, All-cons, All-tail, All-head, All-append, All-map, All-take, All-drop, All-weaker}
 use Rattle.std.proofs.lemmas.List.Folds.{find_at}
 use Rattle.std.proofs.lemmas.List.Kept.{AllPairs-cons}
-use Rattle.std.proofs.lemmas.Option.{cond_some, none-some, same_Some, slice_get_within, get_or_from_slice_get}
+use Rattle.std.proofs.lemmas.List.FromFn.{length-enumerate_from, get_or-enumerate_from}
+use Rattle.std.proofs.lemmas.Option.{cond_some, none-some, same_Some, slice_get_within, slice_get-get_or, get_or_from_slice_get}
 
 -- ---- pairs
 
@@ -82,10 +83,28 @@ position_found p xs place h =
       find_at p xs ∙ ap (slice_get xs) parts.1,
     )
 
+-- what is found passes the test, and holds what all elements hold
+pub find_satisfies : {X : Type 0} (P : X → Type 0) (p : X → Bool) (xs : List X) (x : X) → All P xs → find p xs ≡ Some x
+    → P x × (p x ≡ true)
+find_satisfies P p [] x all h = absurd (none-some x h)
+find_satisfies P p (y ∷ xs) x all h =
+    elim (cases_Bool (p y)) [
+      | inl t ↦
+          let same : y ≡ x = same_Some y x (rw t at h) in
+          (subst P same (All-head P y xs all), subst (λ z. p z ≡ true) same t)
+      | inr f ↦ find_satisfies P p xs x (All-tail P y xs all) (rw f at h)
+    ]
+
 -- a test that all pass keeps all
 pub filter_every : {X : Type 0} (p : X → Bool) → ((x : X) → p x ≡ true) → (xs : List X) → filter p xs ≡ xs
 filter_every p passes [] = refl
 filter_every p passes (x ∷ xs) = rw (passes x) (ap (λ ys. x ∷ ys) (filter_every p passes xs))
+
+-- the same where all elements of this list pass
+pub filter_all : {X : Type 0} (p : X → Bool) (xs : List X) → All (λ x. p x ≡ true) xs → filter p xs ≡ xs
+filter_all p [] all = refl
+filter_all p (x ∷ xs) all =
+    rw (All-head (λ y. p y ≡ true) x xs all) (ap (λ ys. x ∷ ys) (filter_all p xs (All-tail (λ y. p y ≡ true) x xs all)))
 
 -- none passes of those that don't
 pub filter_others : {X : Type 0} (p : X → Bool) (xs : List X) → filter p (filter (λ x. not (p x)) xs) ≡ []
@@ -134,6 +153,15 @@ All-from_flat_map P f [] all = All-nil (λ x. All P (f x))
 All-from_flat_map P f (x ∷ xs) all =
     let parts = All-append_parts P (f x) (flat_map f xs) all in
     All-cons (λ z. All P (f z)) x xs parts.0 (All-from_flat_map P f xs parts.1)
+
+-- all elements with their places
+pub All-enumerate : {X : Type 0} (P : ℕ × X → Type 0) (xs : List X) → ((k : ℕ) (x : X) → slice_get xs k ≡ Some x → P (k, x))
+    → All P (enumerate_from 0 xs)
+All-enumerate P xs h = λ k d l.
+    let within : k < length xs = let n = length-enumerate_from 0 xs in omega arith in
+    let number : 0 + k ≡ k = omega arith in
+    subst P (sym (get_or-enumerate_from 0 xs k d within ∙ ap (λ n. (n, get_or xs k d.1)) number))
+    (h k (get_or xs k d.1) (slice_get-get_or xs k d.1 within))
 
 -- one element more, if there is one, and the others
 pub All-cons_option : {X : Type 0} (P : X → Type 0) (o : Option X) (xs : List X) → All P (cons_option o xs)
@@ -190,11 +218,45 @@ found_where_some p [] h = absurd (omega arith)
 found_where_some p (x ∷ xs) h =
     elim (cases_Bool (p x)) [ inl t ↦ rw t refl | inr f ↦ rw f (found_where_some p xs (rw f at h)) ]
 
+length_more : {X : Type 0} (o : Option X) (xs : List X) (n : ℕ) → is_some o ≡ true → length xs ≡ n → length (cons_option o xs) ≡ suc n
+length_more None xs n there h = absurd (false≢true there)
+length_more (Some x) xs n there h = ap suc h
+
+-- the element behind others
+pub slice_get_behind : {X : Type 0} (xs ys : List X) (x : X) → slice_get (xs ++ x ∷ ys) (length xs) ≡ Some x
+slice_get_behind [] ys x = refl
+slice_get_behind (y ∷ xs) ys x = slice_get_behind xs ys x
+
+-- where each gives something, as many are given
+pub length-filter_map : {X Y : Type 0} (f : X → Option Y) (xs : List X) (p : X → Bool) → ((x : X) → p x ≡ true → is_some (f x) ≡ true)
+    → list_any (λ x. not (p x)) xs ≡ false → length (filter_map f xs) ≡ length xs
+length-filter_map f [] p gives h = refl
+length-filter_map f (x ∷ xs) p gives h =
+    let parts = or_parts (not (p x)) (list_any (λ y. not (p y)) xs) h in
+    length_more (f x) (filter_map f xs) (length xs) (gives x (not-false (p x) parts.0)) (length-filter_map f xs p gives parts.1)
+
 -- ---- options
+
+-- what an option that is mapped gives
+pub option_map_some : {X Y : Type 0} (f : X → Y) (o : Option X) (y : Y) → option_map f o ≡ Some y → (x : X) × (o ≡ Some x) × (f x ≡ y)
+option_map_some f None y h = absurd (none-some y h)
+option_map_some f (Some x) y h = (x, refl, same_Some (f x) y h)
+
+-- one element more, if there is one
+pub one_more : {X : Type 0} (P : X → Type 0) (o : Option X) (xs : List X) → ((x : X) → o ≡ Some x → P x) → All P xs → All P (cons_option o xs)
+one_more P None xs one all = all
+one_more P (Some x) xs one all = All-cons P x xs (one x refl) all
 
 pub is_some-option_map : {X Y : Type 0} (f : X → Y) (o : Option X) → is_some (option_map f o) ≡ is_some o
 is_some-option_map f None = refl
 is_some-option_map f (Some x) = refl
+
+-- one more, made of what an option has
+pub mapped_more : {X Y : Type 0} (P : Y → Type 0) (f : X → Y) (o : Option X) (ys : List Y) → ((x : X) → o ≡ Some x → P (f x)) → All P ys
+    → All P (cons_option (option_map f o) ys)
+mapped_more P f o ys one all =
+    one_more P (option_map f o) ys
+    (λ y same. let from = option_map_some f o y same in subst P from.2 (one from.0 from.1)) all
 
 -- What holds of each result of f, and of the other value, holds of what an option gives.
 pub option_map_or_satisfies : {X Y : Type 0} (P : Y → Type 0) (f : X → Y) (found : Option X) (otherwise : Y)

@@ -67,6 +67,12 @@ passes_checks (c ∷ checks) r q h =
       | inr f ↦ let rest = passes_checks checks r q (rw f at h) in ((f, rest.0), rest.1)
     ]
 
+-- What holds of a command behind checks, where they pass, holds of what it means.
+checked_satisfies : (P : Resolved → Type 0) (checks : List Check) (r q : Resolved) → meaning checks r ≡ Ok q
+    → (AllByRecursion (λ c. c.refuses ≡ false) checks → P r) → P q
+checked_satisfies P checks r q h holds =
+    let passed = passes_checks checks r q h in subst P passed.1 (holds passed.0)
+
 table_found : (found : Option Table) (means : Table → Result Resolved Refusal) (q : Resolved)
     → option_map_or means found (Err NoSuchTable) ≡ Ok q → (table : Table) × (found ≡ Some table) × (means table ≡ Ok q)
 table_found None means q h = absurd (not_Ok NoSuchTable q h)
@@ -89,8 +95,7 @@ numbered_satisfies : (P : Resolved → Type 0) (name : List ℕ) (tables : Datab
     → P q
 numbered_satisfies P name tables checks gives q h holds =
     let found = numbered_found name tables (λ n table. meaning (checks table) (gives n table)) q h in
-    let passed = passes_checks (checks found.0) (gives (number_of name tables) found.0) q found.2 in
-    subst P passed.1 (holds found.0 found.1 passed.0)
+    checked_satisfies P (checks found.0) (gives (number_of name tables) found.0) q found.2 (holds found.0 found.1)
 
 column_found : (found : Option ℕ) (means : ColumnNumber → Result Resolved Refusal) (q : Resolved)
     → option_map_or (λ place. means (column_number place)) found (Err NoSuchColumn) ≡ Ok q
@@ -293,8 +298,8 @@ indexable table c k within none =
 
 pub resolved_are_meant : ResolvedAreMeant
 resolved_are_meant limits tables (command.Table name schema) r given h =
-    let passed = passes_checks (table_checks tables name schema) (resolved.Table name schema) r h in
-    subst (IsMeant limits tables) passed.1 (declarable limits tables name schema given passed.0)
+    checked_satisfies (IsMeant limits tables) (table_checks tables name schema) (resolved.Table name schema) r h
+    (λ passed. declarable limits tables name schema given passed)
 resolved_are_meant limits tables (command.DropTable name) r given h =
     numbered_satisfies (IsMeant limits tables) name tables (λ table. drop_checks tables table) (λ n table. resolved.DropTable n) r h
     (λ table there passed. (table, there, passed.0))
@@ -367,17 +372,15 @@ own_rows tables (command.Update name settings conditions) r on h =
 own_rows tables (command.Delete name conditions) r on h =
     numbered_satisfies (λ q. rows_table q ≡ Some (number_of name tables)) name tables (λ table. delete_checks tables table conditions)
     (λ n table. resolved.Delete n (tests_of (own_columns table) conditions)) r h (λ table there passed. refl)
-own_rows tables (command.Select its name conditions) r on h =
-    numbered_satisfies (λ q. rows_table q ≡ Some (number_of name tables)) name tables (λ table. select_checks tables table its conditions)
-    (λ n table. resolved.Select (shown_of (own_columns table) its) n (tests_of (own_columns table) conditions)) r h
-    (λ table there passed. refl)
+own_rows tables (command.Select distinct its name joins conditions) r on h =
+    checked_satisfies (λ q. rows_table q ≡ Some (number_of name tables)) (select_checks tables its name joins conditions)
+    (select_of tables distinct its name joins conditions) r h (λ passed. refl)
 own_rows tables command.Tables r on h = absurd (false≢true on)
 
 -- no command but a listing is resolved to one that shows indexes
 pub none_shown : (tables : Database) (c : Command) (r : Resolved) → is_listing c ≡ false → resolved_of tables c ≡ Ok r → shows_indexes r ≡ false
 none_shown tables (command.Table name schema) r other h =
-    let passed = passes_checks (table_checks tables name schema) (resolved.Table name schema) r h in
-    subst (λ q. shows_indexes q ≡ false) passed.1 refl
+    checked_satisfies (λ q. shows_indexes q ≡ false) (table_checks tables name schema) (resolved.Table name schema) r h (λ passed. refl)
 none_shown tables (command.DropTable name) r other h =
     numbered_satisfies (λ q. shows_indexes q ≡ false) name tables (λ table. drop_checks tables table) (λ n table. resolved.DropTable n) r h
     (λ table there passed. refl)
@@ -397,8 +400,7 @@ none_shown tables (command.Update name settings conditions) r other h =
 none_shown tables (command.Delete name conditions) r other h =
     numbered_satisfies (λ q. shows_indexes q ≡ false) name tables (λ table. delete_checks tables table conditions)
     (λ n table. resolved.Delete n (tests_of (own_columns table) conditions)) r h (λ table there passed. refl)
-none_shown tables (command.Select its name conditions) r other h =
-    numbered_satisfies (λ q. shows_indexes q ≡ false) name tables (λ table. select_checks tables table its conditions)
-    (λ n table. resolved.Select (shown_of (own_columns table) its) n (tests_of (own_columns table) conditions)) r h
-    (λ table there passed. refl)
+none_shown tables (command.Select distinct its name joins conditions) r other h =
+    checked_satisfies (λ q. shows_indexes q ≡ false) (select_checks tables its name joins conditions)
+    (select_of tables distinct its name joins conditions) r h (λ passed. refl)
 none_shown tables command.Tables r other h = absurd (false≢true (sym other))

@@ -409,6 +409,5 @@ done_keeps_sound limits tables (resolved.Insert n row) sound meant = insert_keep
 done_keeps_sound limits tables (resolved.Update n assignments tests) sound (table, there, (can, right)) =
     update_keeps_sound limits tables n assignments (passes_all tests) sound (table, there, can)
 done_keeps_sound limits tables (resolved.Delete n tests) sound meant = delete_keeps_sound limits tables n (passes_all tests) sound
-done_keeps_sound limits tables (resolved.Select its n tests) sound meant =
-    of_table_satisfies (λ e. IsSound limits e.database) n tables _ (λ r. sound) (λ table there. sound)
+done_keeps_sound limits tables (resolved.Select distinct its source joins) sound meant = sound
 done_keeps_sound limits tables resolved.Tables sound meant = sound

@@ -19,6 +19,8 @@ use Rattle.plain_tables.specs.declared.refusal.Refusal.{Refusal}
 use Rattle.plain_tables.specs.declared.schema.Column.{Column}
 use Rattle.plain_tables.specs.declared.schema.Schema.{Schema}
 use Rattle.plain_tables.specs.declared.schema.IndexKind.{IndexKind}
+use Rattle.plain_tables.specs.declared.command.Items.{Items}
+use Rattle.plain_tables.specs.declared.command.Items.TheVariants as items
 use Rattle.plain_tables.specs.declared.command.Limits.{Limits}
 use Rattle.plain_tables.specs.declared.command.Command.{Command}
 use Rattle.plain_tables.specs.declared.command.Command.TheVariants as command
@@ -41,12 +43,18 @@ abbrev pub HasWidth : Value → Type 0
 HasWidth (value.Int z) = FitsSigned w64 z
 HasWidth v = Unit {0}
 
+-- items that are named are one or more
+abbrev pub NamesItems : Items → Type 0
+NamesItems items.All = Unit {0}
+NamesItems (items.Named names) = 0 < length names
+
 -- What no check asks of a command, since every line that spells one sees to it: a table that is declared and its columns
--- have names, it has a column, and integers that are to be stored have 64 bits.
+-- have names, it has a column, a select that names items names one, and integers that are to be stored have 64 bits.
 abbrev pub IsGiven : Command → Type 0
 IsGiven (command.Table name schema) = IsName name × (0 < length schema.columns) × All (λ c. IsName c.name) schema.columns
 IsGiven (command.Insert name row) = All HasWidth row
 IsGiven (command.Update name settings conditions) = All (λ s. HasWidth s.value) settings
+IsGiven (command.Select distinct its name joins conditions) = NamesItems its
 IsGiven c = Unit {0}
 
 -- every command that can be spelled is such a one
