@@ -14,11 +14,11 @@ use Rattle.std.proofs.lemmas.Slice.Eq.{bytes_eq-Decides}
 use Rattle.plain_tables.specs.Values.{is_null}
 use Rattle.plain_tables.specs.Tables.{Table, key_cmp}
 use Rattle.plain_tables.specs.Databases.{Database, is_named, table_named}
-use Rattle.plain_tables.specs.Queries.{JoinedColumn, column_meant, place_meant, places_meant}
+use Rattle.plain_tables.specs.Queries.{JoinedColumn, place_meant, places_meant}
 use Rattle.plain_tables.specs.Effects.{Check, repeats, is_long, setting_name}
 use Rattle.plain_tables.specs.References.{referred, own_type, is_typed, refers_into, is_index, all_indexes, IsKeyTree, IsSound}
-use Rattle.plain_tables.specs.Resolving.{meaning, column_number, number_of, on_numbered, own_columns, on_column, tests_of, assignments_of, shown_of, asks_order, mistypes, is_mistyped, table_checks, drop_checks, index_checks, drop_index_checks, insert_checks, update_checks, delete_checks, select_checks, resolved_of}
-use Rattle.plain_tables.specs.ResolvedLaws.{HasWidth, IsGiven, IsStorable, IsOfColumn, IsDeclarable, IsIndexable, IsAssignable, is_to_column, assigns_twice, AreTests, IsShown, IsMeant, ResolvedAreMeant, CommandsKeepSound, shows_indexes, rows_table}
+use Rattle.plain_tables.specs.Resolving.{meaning, number_of, on_numbered, own_columns, on_column, tests_of, assignments_of, mistypes, is_mistyped, table_checks, drop_checks, index_checks, drop_index_checks, insert_checks, update_checks, delete_checks, select_checks, select_of, resolved_of}
+use Rattle.plain_tables.specs.ResolvedLaws.{HasWidth, IsGiven, IsStorable, IsDeclarable, IsIndexable, IsAssignable, is_to_column, assigns_twice, IsMeant, ResolvedAreMeant, CommandsKeepSound, shows_indexes, rows_table}
 use Rattle.plain_tables.specs.CommandLaws.{EffectsKeepSound, table_of, is_on_rows, is_listing}
 use Rattle.plain_tables.specs.declared.value.Value.{Value}
 use Rattle.plain_tables.specs.declared.value.Value.TheVariants as value
@@ -40,13 +40,15 @@ use Rattle.plain_tables.specs.declared.command.Command.{Command}
 use Rattle.plain_tables.specs.declared.command.Command.TheVariants as command
 use Rattle.plain_tables.specs.declared.numbers.ColumnNumber.{ColumnNumber}
 use Rattle.plain_tables.specs.declared.numbers.TableNumber.{TableNumber}
+use Rattle.plain_tables.specs.declared.numbers.Place.{Place}
 use Rattle.plain_tables.specs.declared.resolved.Assignment.{Assignment}
 use Rattle.plain_tables.specs.declared.resolved.Resolved.{Resolved}
 use Rattle.plain_tables.specs.declared.resolved.Resolved.TheVariants as resolved
-use Rattle.plain_tables.proofs.ColumnLemmas.{any_column, joined, columns_of_one, length_of_one, column_at_place, column_within, named_there, first_behind_key}
+use Rattle.plain_tables.proofs.ColumnLemmas.{column_within, named_there, first_behind_key}
 use Rattle.plain_tables.proofs.EffectLemmas.{effect_satisfies}
-use Rattle.plain_tables.proofs.ListLemmas.{AllPairs-nil, fails_where_none}
+use Rattle.plain_tables.proofs.ListLemmas.{AllPairs-nil, fails_where_none, mapped_more}
 use Rattle.plain_tables.proofs.NameLemmas.{columns_differ}
+use Rattle.plain_tables.proofs.SelectLemmas.{of_own_column, own_tests_meant, select_meant}
 use Rattle.plain_tables.proofs.SoundLemmas.{done_keeps_sound}
 
 -- ---- checks
@@ -97,9 +99,9 @@ numbered_satisfies P name tables checks gives q h holds =
     let found = numbered_found name tables (λ n table. meaning (checks table) (gives n table)) q h in
     checked_satisfies P (checks found.0) (gives (number_of name tables) found.0) q found.2 (holds found.0 found.1)
 
-column_found : (found : Option ℕ) (means : ColumnNumber → Result Resolved Refusal) (q : Resolved)
-    → option_map_or (λ place. means (column_number place)) found (Err NoSuchColumn) ≡ Ok q
-    → (place : ℕ) × (found ≡ Some place) × (means (column_number place) ≡ Ok q)
+column_found : (found : Option Place) (means : ColumnNumber → Result Resolved Refusal) (q : Resolved)
+    → option_map_or (λ place. means place.column) found (Err NoSuchColumn) ≡ Ok q
+    → (place : Place) × (found ≡ Some place) × (means place.column ≡ Ok q)
 column_found None means q h = absurd (not_Ok NoSuchColumn q h)
 column_found (Some place) means q h = (place, refl, h)
 
@@ -115,27 +117,8 @@ column_satisfies P name column tables checks gives q h holds =
     let found = numbered_found name tables (λ m table. on_column column table (λ c. meaning (checks table c) (gives m c))) q h in
     let own : ColName = record { table = None; column = column } in
     let there = column_found (place_meant (own_columns found.0) own) (λ c. meaning (checks found.0 c) (gives n c)) q found.2 in
-    let c : ColumnNumber = column_number there.0 in
-    let passed = passes_checks (checks found.0 c) (gives n c) q there.2 in
-    subst P passed.1 (holds found.0 c found.1 (column_within found.0 own there.0 there.1) passed.0)
-
--- ---- what an option gives
-
-option_map_some : {X Y : Type 0} (f : X → Y) (o : Option X) (y : Y) → option_map f o ≡ Some y → (x : X) × (o ≡ Some x) × (f x ≡ y)
-option_map_some f None y h = absurd (none-some y h)
-option_map_some f (Some x) y h = (x, refl, same_Some (f x) y h)
-
--- one element more, if there is one
-one_more : {X : Type 0} (P : X → Type 0) (o : Option X) (xs : List X) → ((x : X) → o ≡ Some x → P x) → All P xs → All P (cons_option o xs)
-one_more P None xs one all = all
-one_more P (Some x) xs one all = All-cons P x xs (one x refl) all
-
--- one more, made of what an option has
-mapped_more : {X Y : Type 0} (P : Y → Type 0) (f : X → Y) (o : Option X) (ys : List Y) → ((x : X) → o ≡ Some x → P (f x)) → All P ys
-    → All P (cons_option (option_map f o) ys)
-mapped_more P f o ys one all =
-    one_more P (option_map f o) ys
-    (λ y same. let from = option_map_some f o y same in subst P from.2 (one from.0 from.1)) all
+    let c : ColumnNumber = there.0.column in
+    checked_satisfies P (checks found.0 c) (gives n c) q there.2 (holds found.0 c found.1 (column_within found.0 own there.0 there.1))
 
 -- ---- values
 
@@ -144,41 +127,12 @@ storable_value value.Null short width = tt
 storable_value (value.Int z) short width = width
 storable_value (value.Text text) short width = ltb-false 1024 (length text) short
 
--- the column at the place that a name means, and a value of its type
-of_column_meant : (tables : Database) (table : Table) (name : ColName) (v : Value) (place : ℕ) → place_meant (own_columns table) name ≡ Some place
-    → mistypes tables (own_columns table) name v ≡ false → IsOfColumn tables table (column_number place) v
-of_column_meant tables table name v place meant right =
-    let at_place = column_at_place (own_columns table) name place meant in
-    let within : place < length table.columns = let same = length_of_one table in let below = at_place.0 in omega arith in
-    let c : Column = get_or table.columns place any_column.column in
-    let there : slice_get table.columns place ≡ Some c = slice_get-get_or table.columns place any_column.column within in
-    let found : column_meant (own_columns table) name ≡ Some (joined table c) =
-    at_place.1 ∙ ap (λ columns. slice_get columns place) (columns_of_one table) ∙ slice_get-map (joined table) table.columns place
-    ∙ ap (option_map (joined table)) there
-    in
-    let typed : not (is_typed tables v c.kind) ≡ false =
-    sym (ap (λ o. option_map_or (λ j. not (is_typed tables v j.column.kind)) o false) found) ∙ right
-    in
-    (c, there, not-false (is_typed tables v c.kind) typed)
-
--- ---- conditions, settings and items
-
-tests_meant : (tables : Database) (table : Table) (conditions : List Cond)
-    → list_any (is_mistyped tables (own_columns table)) conditions ≡ false → AreTests tables table (tests_of (own_columns table) conditions)
-tests_meant tables table [] right = All-nil (λ t. IsOfColumn tables table t.column t.value)
-tests_meant tables table (c ∷ conditions) right =
-    let columns : List JoinedColumn = own_columns table in
-    let parts = or_parts (is_mistyped tables columns c) (list_any (is_mistyped tables columns) conditions) right in
-    let typed = or_parts (mistypes tables columns c.column c.value) (is_null c.value && asks_order c.op) parts.0 in
-    mapped_more (λ t. IsOfColumn tables table t.column t.value) (λ place. record { column = column_number place; op = c.op; value = c.value })
-    (place_meant columns c.column) (tests_of columns conditions)
-    (λ place meant. of_column_meant tables table c.column c.value place meant typed.0)
-    (tests_meant tables table conditions parts.1)
+-- ---- settings
 
 assignments_meant : (tables : Database) (table : Table) (settings : List Setting)
     → list_any (λ s. mistypes tables (own_columns table) (setting_name s) s.value) settings ≡ false
     → list_any (λ s. is_long s.value) settings ≡ false
-    → list_any (λ place. place == 0) (places_meant (own_columns table) (map setting_name settings)) ≡ false
+    → list_any (λ place. place.column.0 == 0) (places_meant (own_columns table) (map setting_name settings)) ≡ false
     → All (λ s. HasWidth s.value) settings → All (IsAssignable tables table) (assignments_of (own_columns table) settings)
 assignments_meant tables table [] right short behind widths = All-nil (IsAssignable tables table)
 assignments_meant tables table (s ∷ settings) right short behind widths =
@@ -187,63 +141,50 @@ assignments_meant tables table (s ∷ settings) right short behind widths =
     (list_any (λ t. mistypes tables columns (setting_name t) t.value) settings) right in
     let brief = or_parts (is_long s.value) (list_any (λ t. is_long t.value) settings) short in
     let later = first_behind_key (place_meant columns (setting_name s)) (places_meant columns (map setting_name settings)) behind in
-    mapped_more (IsAssignable tables table) (λ place. record { column = column_number place; value = s.value })
+    mapped_more (IsAssignable tables table) (λ place. record { column = place.column; value = s.value })
     (place_meant columns (setting_name s)) (assignments_of columns settings)
     (λ place meant. record {
       behind_key = later.0 place meant;
-      of_column = of_column_meant tables table (setting_name s) s.value place meant typed.0;
+      of_column = of_own_column tables table (setting_name s) s.value place meant typed.0;
       storable = storable_value s.value brief.0 (All-head (λ t. HasWidth t.value) s settings widths);
     })
     (assignments_meant tables table settings typed.1 brief.1 later.1 (All-tail (λ t. HasWidth t.value) s settings widths))
 
 -- Settings of different names are assignments to different columns: two of one column would have its name.
 
-each_apart : (columns : List JoinedColumn) (s : Setting) (place : ℕ) → place_meant columns (setting_name s) ≡ Some place
+each_apart : (table : Table) (s : Setting) (place : Place) → place_meant (own_columns table) (setting_name s) ≡ Some place
     → (settings : List Setting) → list_any (bytes_eq s.column) (map (λ t. t.column) settings) ≡ false
-    → All (λ a. is_to_column place a ≡ false) (assignments_of columns settings)
-each_apart columns s place meant [] apart = All-nil (λ a. is_to_column place a ≡ false)
-each_apart columns s place meant (t ∷ settings) apart =
+    → All (λ a. is_to_column place.column.0 a ≡ false) (assignments_of (own_columns table) settings)
+each_apart table s place meant [] apart = All-nil (λ a. is_to_column place.column.0 a ≡ false)
+each_apart table s place meant (t ∷ settings) apart =
+    let columns : List JoinedColumn = own_columns table in
     let parts = or_parts (bytes_eq s.column t.column) (list_any (bytes_eq s.column) (map (λ u. u.column) settings)) apart in
-    mapped_more (λ a. is_to_column place a ≡ false) (λ p. record { column = column_number p; value = t.value })
+    mapped_more (λ a. is_to_column place.column.0 a ≡ false) (λ p. record { column = p.column; value = t.value })
     (place_meant columns (setting_name t)) (assignments_of columns settings)
-    (λ p there. ne_eqb p place (λ same.
+    (λ p there. ne_eqb p.column.0 place.column.0 (λ same.
     both_ways (bytes_eq s.column t.column) parts.0
     ((bytes_eq-Decides s.column t.column).1
-    (named_there columns s place meant ∙ sym (named_there columns t place (there ∙ ap Some same))))))
-    (each_apart columns s place meant settings parts.1)
+    (same_Some s.column t.column
+    (sym (named_there table s place meant) ∙ ap (λ n. option_map (λ c. c.name) (slice_get table.columns n)) (sym same) ∙ named_there table t p there)))))
+    (each_apart table s place meant settings parts.1)
 
 -- one assignment more, if a name means a column, to a column that the others aren't to
-once_more : (found : Option ℕ) (v : Value) (others : List Assignment)
-    → ((place : ℕ) → found ≡ Some place → list_any (is_to_column place) others ≡ false) → assigns_twice others ≡ false
-    → assigns_twice (cons_option (option_map (λ place. record { column = column_number place; value = v }) found) others) ≡ false
+once_more : (found : Option Place) (v : Value) (others : List Assignment)
+    → ((place : Place) → found ≡ Some place → list_any (is_to_column place.column.0) others ≡ false) → assigns_twice others ≡ false
+    → assigns_twice (cons_option (option_map (λ place. record { column = place.column; value = v }) found) others) ≡ false
 once_more None v others apart once = once
-once_more (Some place) v others apart once = or_from (list_any (is_to_column place) others) (assigns_twice others) (apart place refl) once
+once_more (Some place) v others apart once =
+    or_from (list_any (is_to_column place.column.0) others) (assigns_twice others) (apart place refl) once
 
-others_apart : (columns : List JoinedColumn) (s : Setting) (place : ℕ) → place_meant columns (setting_name s) ≡ Some place
-    → (settings : List Setting) → list_any (bytes_eq s.column) (map (λ t. t.column) settings) ≡ false
-    → list_any (is_to_column place) (assignments_of columns settings) ≡ false
-others_apart columns s place meant settings apart =
-    list_any_none (is_to_column place) (assignments_of columns settings)
-    (each_apart columns s place meant settings apart)
-
-assigned_once : (columns : List JoinedColumn) (settings : List Setting) → repeats bytes_eq (map (λ s. s.column) settings) ≡ false
-    → assigns_twice (assignments_of columns settings) ≡ false
-assigned_once columns [] apart = refl
-assigned_once columns (s ∷ settings) apart =
+assigned_once : (table : Table) (settings : List Setting) → repeats bytes_eq (map (λ s. s.column) settings) ≡ false
+    → assigns_twice (assignments_of (own_columns table) settings) ≡ false
+assigned_once table [] apart = refl
+assigned_once table (s ∷ settings) apart =
+    let others : List Assignment = assignments_of (own_columns table) settings in
     let parts = or_parts (list_any (bytes_eq s.column) (map (λ t. t.column) settings)) (repeats bytes_eq (map (λ t. t.column) settings)) apart in
-    once_more (place_meant columns (setting_name s)) s.value (assignments_of columns settings)
-    (λ place meant. others_apart columns s place meant settings parts.0) (assigned_once columns settings parts.1)
-
-places_within : (table : Table) (names : List ColName) → All (λ place. place < length table.columns) (places_meant (own_columns table) names)
-places_within table [] = All-nil (λ place. place < length table.columns)
-places_within table (name ∷ names) =
-    one_more (λ place. place < length table.columns) (place_meant (own_columns table) name) (places_meant (own_columns table) names)
-    (λ place meant. column_within table name place meant) (places_within table names)
-
-pub shown_meant : (table : Table) (its : Items) → IsShown table (shown_of (own_columns table) its)
-shown_meant table items.All = tt
-shown_meant table (items.Named names) =
-    All-map (λ c. c.0 < length table.columns) column_number (places_meant (own_columns table) names) (places_within table names)
+    once_more (place_meant (own_columns table) (setting_name s)) s.value others
+    (λ place meant. list_any_none (is_to_column place.column.0) others (each_apart table s place meant settings parts.0))
+    (assigned_once table settings parts.1)
 
 -- ---- a table to be declared
 
@@ -331,19 +272,19 @@ resolved_are_meant limits tables (command.Update name settings conditions) r giv
       (
         record {
           each = assignments_meant tables table settings typed.0 passed.1.1.1.0 passed.1.1.1.1.0 given;
-          apart = assigned_once (own_columns table) settings passed.1.0;
+          apart = assigned_once table settings passed.1.0;
         },
-        tests_meant tables table conditions typed.1,
+        own_tests_meant tables table conditions typed.1,
       ),
     ))
 resolved_are_meant limits tables (command.Delete name conditions) r given h =
     numbered_satisfies (IsMeant limits tables) name tables (λ table. delete_checks tables table conditions)
     (λ n table. resolved.Delete n (tests_of (own_columns table) conditions)) r h
-    (λ table there passed. (table, there, tests_meant tables table conditions passed.1.0))
-resolved_are_meant limits tables (command.Select its name conditions) r given h =
-    numbered_satisfies (IsMeant limits tables) name tables (λ table. select_checks tables table its conditions)
-    (λ n table. resolved.Select (shown_of (own_columns table) its) n (tests_of (own_columns table) conditions)) r h
-    (λ table there passed. (table, there, (shown_meant table its, tests_meant tables table conditions passed.1.1.0)))
+    (λ table there passed. (table, there, own_tests_meant tables table conditions passed.1.0))
+resolved_are_meant limits tables (command.Select distinct its name joins conditions) r given h =
+    checked_satisfies (IsMeant limits tables) (select_checks tables its name joins conditions)
+    (select_of tables distinct its name joins conditions) r h
+    (λ passed. select_meant limits tables distinct its name joins conditions given passed)
 resolved_are_meant limits tables command.Tables r given h = subst (IsMeant limits tables) (same_Ok resolved.Tables r h) tt
 
 pub commands_keep_sound : CommandsKeepSound

@@ -1,7 +1,7 @@
 -- A select that no check refuses: its tables, the columns of its tests, of its joins and of what it shows are there.
 use Rattle.std.proofs.Common.{◌≡◌, ◌<◌, ℕ, Bool, true, false, not, length, map, get_or, arith, List, [], ◌∷◌, ◌++◌, inl, inr, refl, sym, ap, ◌∙◌, subst, Option, Some, None, append_assoc, ◌⊎◌}
 use Rattle.std.specs.Prelude.{◌==◌, ◌&&◌, ◌||◌}
-use Rattle.std.specs.List.{All, list_any, filter, filter_map, cons_option, slice_get}
+use Rattle.std.specs.List.{All, AllByRecursion, list_any, filter, filter_map, cons_option, slice_get}
 use Rattle.std.specs.Option.{is_some, is_none, option_map, option_map_or, option_or, option_zip}
 use Rattle.std.specs.Str.{bytes_eq}
 use Rattle.std.proofs.lemmas.Bool.{cases_Bool, or_parts, or_from, not-false, not_from_false, eqb-true, false≢true}
@@ -12,18 +12,19 @@ use Rattle.std.proofs.lemmas.Option.{none-some, same_Some, slice_get_within}
 use Rattle.plain_tables.specs.Values.{is_null}
 use Rattle.plain_tables.specs.Tables.{Table}
 use Rattle.plain_tables.specs.Databases.{Database, is_named, table_named}
-use Rattle.plain_tables.specs.Queries.{JoinedColumn, joined_columns, column_meant, place_meant, places_meant, side_name, sides_meant, named_items}
+use Rattle.plain_tables.specs.Queries.{JoinedColumn, joined_columns, fits_one, column_meant, place_meant, places_meant, side_name, sides_meant, named_items}
 use Rattle.plain_tables.specs.Effects.{repeats, misses, condition_names}
 use Rattle.plain_tables.specs.References.{is_typed}
-use Rattle.plain_tables.specs.Resolving.{number_of, tests_of, shown_of, asks_order, mistypes, is_mistyped, once, select_names, columns_of, behind, join_columns, is_on_source, source_of, joins_of}
+use Rattle.plain_tables.specs.Resolving.{number_of, tests_of, shown_of, asks_order, mistypes, is_mistyped, once, select_names, columns_of, behind, join_columns, differ_in_type, select_checks, is_on_source, source_of, joins_of, select_of}
 use Rattle.plain_tables.specs.Doing.{joined_tables}
-use Rattle.plain_tables.specs.ResolvedLaws.{NamesItems, OfTable, IsOfColumn, AreTests, HasPlace, IsShown, AreJoins}
+use Rattle.plain_tables.specs.ResolvedLaws.{NamesItems, OfTable, IsOfColumn, AreTests, HasPlace, IsShown, AreJoins, IsMeant}
 use Rattle.plain_tables.specs.declared.value.Value.{Value}
 use Rattle.plain_tables.specs.declared.condition.ColName.{ColName}
 use Rattle.plain_tables.specs.declared.condition.Cond.{Cond}
 use Rattle.plain_tables.specs.declared.command.Items.{Items}
 use Rattle.plain_tables.specs.declared.command.Items.TheVariants as items
 use Rattle.plain_tables.specs.declared.command.Join.{Join}
+use Rattle.plain_tables.specs.declared.command.Limits.{Limits}
 use Rattle.plain_tables.specs.declared.numbers.Place.{Place}
 use Rattle.plain_tables.specs.declared.resolved.Test.{Test}
 use Rattle.plain_tables.specs.declared.resolved.Source.{Source}
@@ -260,4 +261,51 @@ joins_meant tables among conditions before (join ∷ joins) names there right =
           (joins_meant tables among conditions later joins (names_on tables among before join joins names) parts.1 right),
         ),
       ),
+    )
+
+-- ---- a select
+
+shown_there : (among : List Table) (its : Items) → NamesItems its → misses (joined_columns among) (named_items its) ≡ false
+    → IsShown among (shown_of (joined_columns among) its)
+shown_there among items.All some found = tt
+shown_there among (items.Named names) some found =
+    (let same = places_length (joined_columns among) names found in omega arith, have_places among names)
+
+-- what no check refuses is there
+pub select_meant : (limits : Limits) (tables : Database) (distinct : Bool) (its : Items) (name : List ℕ) (joins : List Join) (conditions : List Cond)
+    → NamesItems its → AllByRecursion (λ c. c.refuses ≡ false) (select_checks tables its name joins conditions)
+    → IsMeant limits tables (select_of tables distinct its name joins conditions)
+select_meant limits tables distinct its name joins conditions some passed =
+    let names : List (List ℕ) = select_names name joins in
+    let among : List Table = named tables (once names) in
+    let columns : List JoinedColumn = joined_columns among in
+    let all : named tables names ≡ among = ap (named tables) (sym (once_apart names passed.1.1.1.0)) in
+    let are : AreNamed tables among (name ∷ []) joins = record { are = all; apart = passed.1.1.1.0; there = passed.0 } in
+    let found = some_table (table_named name tables) (or_parts (lacks tables name) (list_any (lacks tables) (map (λ j. j.table) joins)) passed.0).0 in
+    let meant = or_parts (misses columns (named_items its ++ condition_names conditions))
+    (list_any is_none (map (join_columns tables) (behind (name ∷ []) joins))) passed.1.0 in
+    let shown = or_parts (misses columns (named_items its)) (misses columns (condition_names conditions))
+    (sym (list_any-append (λ n. not (fits_one columns n)) (named_items its) (condition_names conditions)) ∙ meant.0) in
+    let right = or_parts (list_any (is_mistyped tables columns) conditions)
+    (list_any (λ s. option_map_or (differ_in_type tables) s false) (map (join_columns tables) (behind (name ∷ []) joins))) passed.1.1.1.1.0 in
+    let source : Source = source_of tables columns conditions 0 name in
+    let numbers : List Joined = joins_of tables columns conditions (behind (name ∷ []) joins) in
+    let first : slice_get among 0 ≡ Some found.0 =
+    ap (λ ts. slice_get ts 0) (sym all) ∙ ap (λ o. slice_get (cons_option o (named tables (map (λ j. j.table) joins))) 0) found.1
+    in
+    let joined : joined_tables tables source numbers ≡ among =
+    ap (λ o. cons_option o (filter_map (λ s. slice_get tables s.table.0) (map (λ j. j.source) numbers))) (numbered tables name)
+    ∙ ap (cons_option (table_named name tables)) (joins_named tables columns conditions (name ∷ []) joins meant.1) ∙ all
+    in
+    (
+      (
+        found.0,
+        numbered tables name ∙ found.1,
+        (
+          source_tests_meant tables among 0 found.0 first conditions right.0,
+          subst (λ o. AreJoins tables (cons_option o []) numbers) found.1
+          (joins_meant tables among conditions (name ∷ []) joins are meant.1 right.0),
+        ),
+      ),
+      subst (λ ts. IsShown ts (shown_of columns its)) (sym joined) (shown_there among its some shown.0),
     )
