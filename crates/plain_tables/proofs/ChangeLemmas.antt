@@ -14,7 +14,7 @@ use Rattle.plain_tables.specs.Effects.{Done, Changed, Rows, Listed, Refused, gro
 use Rattle.plain_tables.specs.References.{IsRowOf}
 use Rattle.plain_tables.specs.Resolving.{own_columns}
 use Rattle.plain_tables.specs.Doing.{passes_all, assigned, insert_checks, update_checks, delete_checks, updated, picked, without, shown_values, headings, done}
-use Rattle.plain_tables.specs.ResolvedLaws.{rows_table, rowless, ChangesRowsOf, OwnRowsChange, KeepsIfRefused, RefusedKeeps, RefusedUpdateKeeps, RefusedDeleteKeeps, UpdateKeepsUnpicked, is_to_column, assigns_twice, HasAssigned, UpdateSetsPicked, DeletesThePicked, SelectsRows, ShownFitHeadings, IsShown}
+use Rattle.plain_tables.specs.ResolvedLaws.{rows_table, rowless, ChangesRowsOf, OwnRowsChange, KeepsIfRefused, RefusedKeeps, RefusedUpdateKeeps, RefusedDeleteKeeps, UpdateKeepsUnpicked, is_to_column, assigns_twice, HasAssigned, UpdateSetsPicked, DeletesThePicked}
 use Rattle.plain_tables.specs.Runs.{refused}
 use Rattle.plain_tables.specs.declared.value.Value.TheVariants as value
 use Rattle.plain_tables.specs.declared.schema.Column.{Column}
@@ -27,7 +27,6 @@ use Rattle.plain_tables.specs.declared.resolved.Shown.{Shown}
 use Rattle.plain_tables.specs.declared.resolved.Shown.TheVariants as shown
 use Rattle.plain_tables.specs.declared.resolved.Resolved.{Resolved}
 use Rattle.plain_tables.specs.declared.resolved.Resolved.TheVariants as resolved
-use Rattle.plain_tables.proofs.ColumnLemmas.{any_column, length_of_one}
 use Rattle.plain_tables.proofs.EffectLemmas.{checked_satisfies}
 use Rattle.plain_tables.proofs.ListLemmas.{AllZip-map, filter_every, filter_others, filter_again}
 use Rattle.plain_tables.proofs.SoundLemmas.{of_table_satisfies}
@@ -182,42 +181,3 @@ deletes_the_picked picks table = record {
   others = filter_again (λ row. not (picks row)) table.rows;
   counted = let both = length-filter_both picks (λ row. not (picks row)) (λ row. refl) table.rows in omega arith;
 }
-
--- ---- select
-
-pub selects_rows : SelectsRows
-selects_rows limits tables n table there =
-    let shows : map (shown_values shown.All) (picked (passes_all []) table) ≡ table.rows =
-    map-id (picked (passes_all []) table) ∙ filter_every (passes_all []) (λ row. refl) table.rows
-    in
-    rw there (ap (Rows (headings table shown.All)) shows)
-
-pub row_length : (tables : Database) (columns : List Column) (row : Row) → IsRowOf tables columns row → length row ≡ length columns
-row_length tables [] [] h = refl
-row_length tables [] (v ∷ row) h = absurd h
-row_length tables (c ∷ columns) [] h = absurd h
-row_length tables (c ∷ columns) (v ∷ row) h = ap suc (row_length tables columns row h.1)
-
--- columns that are there have a heading each
-pub headings_length : (table : Table) (columns : List ColumnNumber) → All (λ c. c.0 < length table.columns) columns
-    → length (headings table (shown.Columns columns)) ≡ length columns
-headings_length table [] within = refl
-headings_length table (c ∷ columns) within =
-    let P : ColumnNumber → Type 0 = λ d. d.0 < length table.columns in
-    let first : c.0 < length table.columns = All-head P c columns within in
-    let inside : c.0 < length (own_columns table) = let same = length_of_one table in omega arith in
-    rw (slice_get-get_or (own_columns table) c.0 any_column inside) (ap suc (headings_length table columns (All-tail P c columns within)))
-
-shown_length : (tables : Database) (table : Table) (its : Shown) (row : Row) → IsShown table its → IsRowOf tables table.columns row
-    → length (shown_values its row) ≡ length (headings table its)
-shown_length tables table shown.All row within fits =
-    row_length tables table.columns row fits ∙ sym (length-map (own_columns table) full_name ∙ length_of_one table)
-shown_length tables table (shown.Columns columns) row within fits =
-    length-map columns (λ c. value_at row c.0) ∙ sym (headings_length table columns within)
-
-pub shown_fit_headings : ShownFitHeadings
-shown_fit_headings tables table its tests fit within =
-    All-map (λ row. length row ≡ length (headings table its)) (shown_values its) (picked (passes_all tests) table)
-    (All-weaker (IsRowOf tables table.columns) (λ row. length (shown_values its row) ≡ length (headings table its))
-    (λ row fits. shown_length tables table its row within fits) (picked (passes_all tests) table)
-    (All-filter (passes_all tests) (IsRowOf tables table.columns) table.rows fit))

@@ -1,60 +1,171 @@
--- Headings: as many as the columns that a select names.
-use Rattle.std.proofs.Common.{◌≡◌, ℕ, suc, Bool, true, false, length, map, arith, List, [], ◌∷◌, inl, inr, sym, ap, ◌∙◌, refl, Option, Some, None}
-use Rattle.std.specs.Prelude.{not, nat_lt}
-use Rattle.std.specs.List.{filter, find, position, position_or_len, cons_option}
-use Rattle.std.specs.Option.{is_some}
-use Rattle.std.proofs.lemmas.Bool.{cases_Bool, or_parts, not-false, ltb-true, ltb-false, eqb-true}
-use Rattle.std.proofs.lemmas.List.{length-map}
-use Rattle.std.proofs.lemmas.List.Folds.{find_at}
-use Rattle.std.proofs.lemmas.Option.{slice_get-get_or, slice_get_past}
-use Rattle.plain_tables.specs.Queries.{JoinedColumn, fits, fits_one, column_meant, place_meant, places_meant}
-use Rattle.plain_tables.specs.Effects.{misses}
-use Rattle.plain_tables.specs.Resolving.{own_columns, column_number}
+-- What a select shows: rows with a value below each heading, and as many headings as the columns that it names.
+use Rattle.std.proofs.Common.{◌≡◌, ◌+◌, ◌<◌, ℕ, suc, Bool, true, false, length, map, arith, List, [], ◌∷◌, ◌++◌, append-nil, append_assoc, sym, ap, ◌∙◌, subst, refl, Some}
+use Rattle.std.specs.List.{All, AllZip, filter, filter_map, flat_map, cons_option, slice_get}
+use Rattle.std.specs.Ordering.{is_lt}
+use Rattle.std.proofs.lemmas.List.{length-map, length-append}
+use Rattle.std.proofs.lemmas.List.Elements.{All-nil, All-cons, All-head, All-tail, All-append, All-map, All-filter, All-weaker}
+use Rattle.std.proofs.lemmas.Option.{slice_get-get_or}
+use Rattle.plain_tables.specs.Tables.{Table, Row}
+use Rattle.plain_tables.specs.Databases.{Database}
+use Rattle.plain_tables.specs.Queries.{joined_columns, full_name, places_meant}
+use Rattle.plain_tables.specs.Joining.{Member, passes_all, source_rows, value_of, product, is_joined, joined, joined_all, members_of, row_cmp, with_values, distinct_rows}
+use Rattle.plain_tables.specs.Effects.{Rows}
+use Rattle.plain_tables.specs.References.{IsRowOf, IsSound}
+use Rattle.plain_tables.specs.Doing.{shown_values, joined_tables, name_at, headings, shown_rows}
+use Rattle.plain_tables.specs.ResolvedLaws.{OfTable, HasPlace, IsShown, AreJoins, IsMeant, SelectsRows, ShownFitHeadings}
 use Rattle.plain_tables.specs.CommandLaws.{NamesHaveHeadings}
-use Rattle.plain_tables.specs.declared.condition.ColName.{ColName}
-use Rattle.plain_tables.specs.declared.command.Items.TheVariants as items
-use Rattle.plain_tables.proofs.ChangeLemmas.{headings_length}
-use Rattle.plain_tables.proofs.ColumnLemmas.{any_column}
-use Rattle.plain_tables.proofs.ListLemmas.{found_where_some}
-use Rattle.plain_tables.proofs.ResolvedLemmas.{shown_meant}
+use Rattle.plain_tables.specs.declared.schema.ColKind.TheVariants as kind
+use Rattle.plain_tables.specs.declared.schema.Column.{Column}
+use Rattle.plain_tables.specs.declared.command.Limits.{Limits}
+use Rattle.plain_tables.specs.declared.numbers.Place.{Place}
+use Rattle.plain_tables.specs.declared.resolved.Source.{Source}
+use Rattle.plain_tables.specs.declared.resolved.Joined.{Joined}
+use Rattle.plain_tables.specs.declared.resolved.Shown.{Shown}
+use Rattle.plain_tables.specs.declared.resolved.Shown.TheVariants as shown
+use Rattle.plain_tables.proofs.ColumnLemmas.{have_places, places_length}
+use Rattle.plain_tables.proofs.ListLemmas.{All-at, All-flat_map, filter_every}
 
--- ---- the columns that are named
+-- ---- rows alone
 
--- an element is found where its place is
-found_together : (p : JoinedColumn → Bool) (columns : List JoinedColumn) → is_some (find p columns) ≡ is_some (position p columns)
-found_together p columns =
-    let i : ℕ = position_or_len p columns in
-    elim (cases_Bool (nat_lt i (length columns))) [
-      | inl t ↦
-          rw (t, find_at p columns, slice_get-get_or columns i any_column (ltb-true i (length columns) t)) refl
-      | inr f ↦ rw (f, find_at p columns, slice_get_past columns i (ltb-false i (length columns) f)) refl
-    ]
+-- rows of one table are shown as they are
+pub shown_alone : (rows : List Row) → map (shown_values shown.All) (map (λ row. row ∷ []) rows) ≡ rows
+shown_alone [] = refl
+shown_alone (row ∷ rows) = rw (append-nil row, shown_alone rows) refl
 
--- a name means a column where it means a place
-pub meant_together : (columns : List JoinedColumn) (name : ColName) → is_some (column_meant columns name) ≡ is_some (place_meant columns name)
-meant_together columns name =
-    elim (cases_Bool (fits_one columns name)) [ inl t ↦ rw t (found_together (fits name) columns) | inr f ↦ rw f refl ]
+pub selects_rows : SelectsRows
+selects_rows limits tables n table there =
+    let shows : map (shown_values shown.All) (map (λ row. row ∷ []) (filter (passes_all []) table.rows)) ≡ table.rows =
+    shown_alone (filter (passes_all []) table.rows) ∙ filter_every (passes_all []) (λ row. refl) table.rows
+    in
+    rw there (ap (Rows (headings (table ∷ []) shown.All)) shows)
 
--- a name that fits one column means it
-meant_where_one : (columns : List JoinedColumn) (name : ColName) → fits_one columns name ≡ true → is_some (column_meant columns name) ≡ true
-meant_where_one columns name one =
-    rw one (found_where_some (fits name) columns (let same = eqb-true (length (filter (fits name) columns)) 1 one in omega arith))
+-- ---- members
 
-length_more : (o : Option ℕ) (places : List ℕ) (n : ℕ) → is_some o ≡ true → length places ≡ n → length (cons_option o places) ≡ suc n
-length_more None places n there h = cc
-length_more (Some place) places n there h = ap suc h
+-- a member has a row of each of these tables
+abbrev pub IsMember : Database → List Table → Member → Type 0
+IsMember tables among member = AllZip (λ (t : Table) row. IsRowOf tables t.columns row) among member
 
--- where each name means a column, there are as many places as names
-places_length : (columns : List JoinedColumn) (names : List ColName) → misses columns names ≡ false
-    → length (places_meant columns names) ≡ length names
-places_length columns [] h = refl
-places_length columns (name ∷ names) h =
-    let parts = or_parts (not (fits_one columns name)) (misses columns names) h in
-    length_more (place_meant columns name) (places_meant columns names) (length names)
-    (sym (meant_together columns name) ∙ meant_where_one columns name (not-false (fits_one columns name) parts.0))
-    (places_length columns names parts.1)
+-- one row more, of one table more
+member_more : (tables : Database) (among : List Table) (member : Member) (table : Table) (row : Row) → IsMember tables among member
+    → IsRowOf tables table.columns row → IsMember tables (among ++ table ∷ []) (member ++ row ∷ [])
+member_more tables [] [] table row are fits = (fits, tt)
+member_more tables [] (r ∷ member) table row are fits = absurd are
+member_more tables (t ∷ among) [] table row are fits = absurd are
+member_more tables (t ∷ among) (r ∷ member) table row are fits = (are.0, member_more tables among member table row are.1 fits)
+
+source_fits : (limits : Limits) (tables : Database) (source : Source) (table : Table) → IsSound limits tables
+    → slice_get tables source.table.0 ≡ Some table → All (IsRowOf tables table.columns) (source_rows tables source)
+source_fits limits tables source table sound there =
+    rw there (
+      All-filter (passes_all source.tests) (IsRowOf tables table.columns) table.rows
+      (All-at (λ t. All (IsRowOf tables t.columns) t.rows) tables source.table.0 table sound.rows_fit there)
+    )
+
+joined_fit : (limits : Limits) (tables : Database) (among : List Table) (members : List Member) (join : Joined) (table : Table)
+    → IsSound limits tables → slice_get tables join.source.table.0 ≡ Some table → All (IsMember tables among) members
+    → All (IsMember tables (among ++ table ∷ [])) (joined tables members join)
+joined_fit limits tables among members join table sound there fit =
+    let rows : List Row = source_rows tables join.source in
+    let More : Member × Row → Type 0 = λ pair. IsMember tables (among ++ table ∷ []) (pair.0 ++ pair.1 ∷ []) in
+    All-map (IsMember tables (among ++ table ∷ [])) (λ pair. pair.0 ++ pair.1 ∷ []) (filter (is_joined join) (product members rows))
+    (All-filter (is_joined join) More (product members rows)
+    (All-flat_map More (λ member. map (λ row. (member, row)) rows) members
+    (All-weaker (IsMember tables among) (λ member. All More (map (λ row. (member, row)) rows))
+    (λ member are. All-map More (λ row. (member, row)) rows
+    (All-weaker (IsRowOf tables table.columns) (λ row. More (member, row))
+    (λ row fits. member_more tables among member table row are fits) rows (source_fits limits tables join.source table sound there)))
+    members fit)))
+
+-- the tables of joins
+abbrev tables_of : Database → List Joined → List Table
+tables_of tables joins = filter_map (λ s. slice_get tables s.table.0) (map (λ j. j.source) joins)
+
+all_joined_fit : (limits : Limits) (tables : Database) (among : List Table) (members : List Member) (joins : List Joined) → IsSound limits tables
+    → AreJoins tables among joins → All (IsMember tables among) members
+    → All (IsMember tables (among ++ tables_of tables joins)) (joined_all tables members joins)
+all_joined_fit limits tables among members [] sound meant fit = rw append-nil fit
+all_joined_fit limits tables among members (join ∷ joins) sound meant fit =
+    let table : Table = meant.1.0 in
+    let same : among ++ table ∷ [] ++ tables_of tables joins ≡ among ++ cons_option (slice_get tables join.source.table.0) (tables_of tables joins) =
+    append_assoc among (table ∷ []) (tables_of tables joins) ∙ ap (λ o. among ++ cons_option o (tables_of tables joins)) (sym meant.1.1)
+    in
+    subst (λ ts. All (IsMember tables ts) (joined_all tables (joined tables members join) joins)) same
+    (all_joined_fit limits tables (among ++ table ∷ []) (joined tables members join) joins sound meant.1.2.2
+    (joined_fit limits tables among members join table sound meant.1.1 fit))
+
+-- each member has a row of each table that is joined
+pub members_fit : (limits : Limits) (tables : Database) (source : Source) (joins : List Joined) → IsSound limits tables
+    → OfTable source.table tables (λ table. AreJoins tables (table ∷ []) joins)
+    → All (IsMember tables (joined_tables tables source joins)) (members_of tables source joins)
+members_fit limits tables source joins sound (table, there, meant) =
+    subst (λ o. All (IsMember tables (cons_option o (tables_of tables joins))) (members_of tables source joins)) (sym there)
+    (all_joined_fit limits tables (table ∷ []) (map (λ row. row ∷ []) (source_rows tables source)) joins sound meant
+    (All-map (IsMember tables (table ∷ [])) (λ row. row ∷ []) (source_rows tables source)
+    (All-weaker (IsRowOf tables table.columns) (λ row. IsMember tables (table ∷ []) (row ∷ [])) (λ row fits. (fits, tt))
+    (source_rows tables source) (source_fits limits tables source table sound there))))
+
+-- ---- headings
+
+pub row_length : (tables : Database) (columns : List Column) (row : Row) → IsRowOf tables columns row → length row ≡ length columns
+row_length tables [] [] h = refl
+row_length tables [] (v ∷ row) h = absurd h
+row_length tables (c ∷ columns) [] h = absurd h
+row_length tables (c ∷ columns) (v ∷ row) h = ap suc (row_length tables columns row h.1)
+
+any_column : Column
+any_column = record { name = []; kind = kind.Int }
+
+-- columns that are there have a heading each
+pub headings_length : (among : List Table) (places : List Place) → All (HasPlace among) places
+    → length (headings among (shown.Columns places)) ≡ length places
+headings_length among [] there = refl
+headings_length among (place ∷ places) there =
+    let first : HasPlace among place = All-head (HasPlace among) place places there in
+    rw (first.1, slice_get-get_or first.0.columns place.column.0 any_column first.2)
+    (ap suc (headings_length among places (All-tail (HasPlace among) place places there)))
+
+all_length : (tables : Database) (among : List Table) (member : Member) → IsMember tables among member
+    → length (flat_map (λ row. row) member) ≡ length (headings among shown.All)
+all_length tables [] [] are = refl
+all_length tables [] (row ∷ member) are = absurd are
+all_length tables (t ∷ among) [] are = absurd are
+all_length tables (t ∷ among) (row ∷ member) are =
+    length-append row (flat_map (λ r. r) member)
+    ∙ ap (λ n. n + length (flat_map (λ r. r) member)) (row_length tables t.columns row are.0 ∙ sym (length-map t.columns (full_name t.name)))
+    ∙ ap (λ n. length (map (full_name t.name) t.columns) + n) (all_length tables among member are.1)
+    ∙ sym (length-append (map (full_name t.name) t.columns) (headings among shown.All))
+
+shown_length : (tables : Database) (among : List Table) (its : Shown) (member : Member) → IsShown among its → IsMember tables among member
+    → length (shown_values its member) ≡ length (headings among its)
+shown_length tables among shown.All member there are = all_length tables among member are
+shown_length tables among (shown.Columns places) member there are =
+    length-map places (value_of member) ∙ sym (headings_length among places there.1)
+
+-- what holds of lists of values holds of each that occurs
+pub All-distinct : (P : Row → Type 0) (rows : List Row) → All P rows → All P (distinct_rows rows)
+All-distinct P [] all = All-nil P
+All-distinct P (row ∷ rows) all =
+    let others = All-distinct P rows (All-tail P row rows all) in
+    All-append P (filter (λ r. is_lt (row_cmp r row)) (distinct_rows rows)) (row ∷ filter (λ r. is_lt (row_cmp row r)) (distinct_rows rows))
+    (All-filter (λ r. is_lt (row_cmp r row)) P (distinct_rows rows) others)
+    (All-cons P row (filter (λ r. is_lt (row_cmp row r)) (distinct_rows rows)) (All-head P row rows all)
+    (All-filter (λ r. is_lt (row_cmp row r)) P (distinct_rows rows) others))
+
+All-shown : (P : Row → Type 0) (distinct : Bool) (its : Shown) (members : List Member) → All P (map (shown_values its) members)
+    → All P (shown_rows distinct its members)
+All-shown P false its members all = all
+All-shown P true its members all = All-distinct P (map (shown_values its) members) all
+
+pub shown_fit_headings : ShownFitHeadings
+shown_fit_headings limits tables distinct its source joins sound meant =
+    let among : List Table = joined_tables tables source joins in
+    let members : List Member = members_of tables source joins in
+    All-shown (λ row. length row ≡ length (headings among its)) distinct its members
+    (All-map (λ row. length row ≡ length (headings among its)) (shown_values its) members
+    (All-weaker (IsMember tables among) (λ member. length (shown_values its member) ≡ length (headings among its))
+    (λ member are. shown_length tables among its member meant.1 are) members
+    (members_fit limits tables source joins sound (meant.0.0, meant.0.1, meant.0.2.1))))
 
 pub names_have_headings : NamesHaveHeadings
-names_have_headings table names h =
-    headings_length table (map column_number (places_meant (own_columns table) names)) (shown_meant table (items.Named names))
-    ∙ length-map (places_meant (own_columns table) names) column_number ∙ places_length (own_columns table) names h
+names_have_headings among names h =
+    headings_length among (places_meant (joined_columns among) names) (have_places among names) ∙ places_length (joined_columns among) names h
