@@ -1,7 +1,7 @@
 -- Declared indexes: of the commands that aren't on them none is resolved by them, and none but a listing reads them.
-use Rattle.std.proofs.Common.{◌≡◌, ℕ, suc, Bool, false, true, not, map, set, take, drop, List, [], ◌∷◌, ◌++◌, refl, sym, ap, ◌∙◌, subst, Option, Some, None}
+use Rattle.std.proofs.Common.{◌≡◌, ◌+◌, ℕ, suc, Bool, false, true, not, map, set, take, drop, List, [], ◌∷◌, ◌++◌, refl, sym, ap, ◌∙◌, subst, Option, Some, None}
 use Rattle.std.specs.Prelude.{Result, Ok, Err, zip, ◌||◌, ◌&&◌}
-use Rattle.std.specs.List.{list_any, list_all, slice_get, remove}
+use Rattle.std.specs.List.{list_any, list_all, slice_get, remove, filter, filter_map, flat_map, cons_option, enumerate_from}
 use Rattle.std.specs.Option.{is_some, option_map, option_map_or, option_and_then}
 use Rattle.std.proofs.lemmas.Bool.{false≢true}
 use Rattle.std.proofs.lemmas.List.{length-map, map-set, map_push, map-append, take-map, drop-map}
@@ -10,12 +10,13 @@ use Rattle.std.proofs.lemmas.Option.{slice_get-map}
 use Rattle.plain_tables.specs.Values.{is_null}
 use Rattle.plain_tables.specs.Tables.{Table, Row, has_key_of}
 use Rattle.plain_tables.specs.Databases.{Database, table_named}
-use Rattle.plain_tables.specs.Queries.{JoinedColumn, column_meant}
+use Rattle.plain_tables.specs.Queries.{JoinedColumn, source_columns, joined_columns, column_meant, sides_meant, full_name}
 use Rattle.plain_tables.specs.Effects.{Effect, Check, Outcome, Refused, Done, checked, setting_name, grown_by, new_table}
-use Rattle.plain_tables.specs.References.{Reference, referred, own_type, key_type, type_of, has_type, is_typed, references, table_references, is_held, is_to, is_referenced, refers_into, refers_to, is_table_referenced}
-use Rattle.plain_tables.specs.Resolving.{meaning, number_of, on_numbered, own_columns, tests_of, assignments_of, shown_of, asks_order, mistypes, is_mistyped, has_mistyped, table_checks, drop_checks, insert_checks, update_checks, delete_checks, select_checks, resolved_of}
+use Rattle.plain_tables.specs.References.{Reference, referred, own_type, key_type, type_of, same_type, has_type, is_typed, references, table_references, is_held, is_to, is_referenced, refers_into, refers_to, is_table_referenced}
+use Rattle.plain_tables.specs.Resolving.{meaning, number_of, on_numbered, own_columns, tests_of, assignments_of, asks_order, mistypes, is_mistyped, has_mistyped, table_checks, drop_checks, insert_checks, update_checks, delete_checks, once, select_names, columns_of, behind, join_columns, differ_in_type, select_checks, joins_of, select_of, resolved_of}
 use Rattle.plain_tables.specs.Doing as doing
-use Rattle.plain_tables.specs.Doing.{on_table, passes_all, assigned_references, updated, picked, without, with_index, without_index, done}
+use Rattle.plain_tables.specs.Doing.{on_table, passes_all, assigned_references, updated, picked, without, with_index, without_index, joined_tables, name_at, headings, done}
+use Rattle.plain_tables.specs.Joining.{Member, source_rows, joined, joined_all, members_of}
 use Rattle.plain_tables.specs.ResolvedLaws.{unindexed, is_on_indexes, shows_indexes, ResolvedAlike, AreDoneAlike, DoneAlike}
 use Rattle.plain_tables.specs.Commands.{effect_of_resolved, effect_of}
 use Rattle.plain_tables.specs.CommandLaws.{IndexesAreNotRead}
@@ -28,11 +29,18 @@ use Rattle.plain_tables.specs.declared.schema.BaseKind.{BaseKind}
 use Rattle.plain_tables.specs.declared.schema.ColKind.{ColKind}
 use Rattle.plain_tables.specs.declared.schema.Column.{Column}
 use Rattle.plain_tables.specs.declared.schema.Schema.{Schema}
+use Rattle.plain_tables.specs.declared.command.Items.{Items}
+use Rattle.plain_tables.specs.declared.command.Join.{Join}
 use Rattle.plain_tables.specs.declared.command.Setting.{Setting}
 use Rattle.plain_tables.specs.declared.command.Limits.{Limits}
 use Rattle.plain_tables.specs.declared.command.Command.{Command}
 use Rattle.plain_tables.specs.declared.command.Command.TheVariants as command
 use Rattle.plain_tables.specs.declared.numbers.TableNumber.{TableNumber}
+use Rattle.plain_tables.specs.declared.numbers.Place.{Place}
+use Rattle.plain_tables.specs.declared.resolved.Source.{Source}
+use Rattle.plain_tables.specs.declared.resolved.Joined.{Joined}
+use Rattle.plain_tables.specs.declared.resolved.Shown.{Shown}
+use Rattle.plain_tables.specs.declared.resolved.Shown.TheVariants as shown
 use Rattle.plain_tables.specs.declared.resolved.Resolved.{Resolved}
 use Rattle.plain_tables.specs.declared.resolved.Resolved.TheVariants as resolved
 use Rattle.plain_tables.proofs.ListLemmas.{is_some-option_map}
@@ -50,6 +58,20 @@ any_agree p q same (x ∷ xs) = rw (same x, any_agree p q same xs) refl
 all_agree : {X : Type 0} (p q : X → Bool) → ((x : X) → p x ≡ q x) → (xs : List X) → list_all p xs ≡ list_all q xs
 all_agree p q same [] = refl
 all_agree p q same (x ∷ xs) = rw (same x, all_agree p q same xs) refl
+
+map_agree : {X Y : Type 0} (f g : X → Y) → ((x : X) → f x ≡ g x) → (xs : List X) → map f xs ≡ map g xs
+map_agree f g same [] = refl
+map_agree f g same (x ∷ xs) = rw (same x, map_agree f g same xs) refl
+
+cons_option-map : {X Y : Type 0} (f : X → Y) (o : Option X) (xs : List X) → cons_option (option_map f o) (map f xs) ≡ map f (cons_option o xs)
+cons_option-map f None xs = refl
+cons_option-map f (Some x) xs = refl
+
+-- the columns of joined tables
+joined_columns_plain : (n : ℕ) (among : List Table)
+    → flat_map source_columns (enumerate_from n (plain among)) ≡ flat_map source_columns (enumerate_from n among)
+joined_columns_plain n [] = refl
+joined_columns_plain n (t ∷ among) = ap (λ cs. source_columns (n, t) ++ cs) (joined_columns_plain (n + 1) among)
 
 -- ---- types
 
@@ -134,6 +156,64 @@ table_checks_plain tables name schema =
     in
     rw (into, there, length-map tables unindexed) refl
 
+-- ---- selects
+
+-- the tables of these names
+names_plain : (tables : Database) (names : List (List ℕ))
+    → filter_map (λ name. table_named name (plain tables)) names ≡ plain (filter_map (λ name. table_named name tables) names)
+names_plain tables [] = refl
+names_plain tables (name ∷ names) =
+    rw (named_unindexed name tables, names_plain tables names)
+    (cons_option-map unindexed (table_named name tables) (filter_map (λ n. table_named n tables) names))
+
+columns_of_plain : (tables : Database) (names : List (List ℕ)) → columns_of (plain tables) names ≡ columns_of tables names
+columns_of_plain tables names =
+    ap joined_columns (names_plain tables (once names)) ∙ joined_columns_plain 0 (filter_map (λ name. table_named name tables) (once names))
+
+sides_plain : (tables : Database) (join : List (List ℕ) × Join) → join_columns (plain tables) join ≡ join_columns tables join
+sides_plain tables join =
+    ap (λ columns. sides_meant columns (columns_of (plain tables) (join.1.table ∷ [])) join.1) (columns_of_plain tables join.0)
+    ∙ ap (λ columns. sides_meant (columns_of tables join.0) columns join.1) (columns_of_plain tables (join.1.table ∷ []))
+
+differ_plain : (tables : Database) (sides : Option (JoinedColumn × JoinedColumn))
+    → option_map_or (differ_in_type (plain tables)) sides false ≡ option_map_or (differ_in_type tables) sides false
+differ_plain tables None = refl
+differ_plain tables (Some sides) =
+    ap (λ t. not (same_type t (type_of (plain tables) sides.1.column.kind))) (type_plain tables sides.0.column.kind)
+    ∙ ap (λ t. not (same_type (type_of tables sides.0.column.kind) t)) (type_plain tables sides.1.column.kind)
+
+select_checks_plain : (tables : Database) (its : Items) (name : List ℕ) (joins : List Join) (conditions : List Cond)
+    → select_checks (plain tables) its name joins conditions ≡ select_checks tables its name joins conditions
+select_checks_plain tables its name joins conditions =
+    let names : List (List ℕ) = select_names name joins in
+    let all : List (List (List ℕ) × Join) = behind (name ∷ []) joins in
+    let missing : list_any (λ n. not (is_some (table_named n (plain tables)))) names ≡ list_any (λ n. not (is_some (table_named n tables))) names =
+    any_agree (λ n. not (is_some (table_named n (plain tables)))) (λ n. not (is_some (table_named n tables)))
+    (λ n. ap not (ap is_some (named_unindexed n tables) ∙ is_some-option_map unindexed (table_named n tables))) names
+    in
+    let sides : map (join_columns (plain tables)) all ≡ map (join_columns tables) all =
+    map_agree (join_columns (plain tables)) (join_columns tables) (sides_plain tables) all
+    in
+    let differ : list_any (λ s. option_map_or (differ_in_type (plain tables)) s false) (map (join_columns tables) all)
+    ≡ list_any (λ s. option_map_or (differ_in_type tables) s false) (map (join_columns tables) all) =
+    any_agree (λ s. option_map_or (differ_in_type (plain tables)) s false) (λ s. option_map_or (differ_in_type tables) s false)
+    (differ_plain tables) (map (join_columns tables) all)
+    in
+    rw (missing, columns_of_plain tables names, sides, conditions_plain tables (columns_of tables names) conditions, differ) refl
+
+joins_plain : (tables : Database) (columns : List JoinedColumn) (conditions : List Cond) (joins : List (List (List ℕ) × Join))
+    → joins_of (plain tables) columns conditions joins ≡ joins_of tables columns conditions joins
+joins_plain tables columns conditions [] = refl
+joins_plain tables columns conditions (join ∷ joins) =
+    rw (sides_plain tables join, place_unindexed join.1.table tables, joins_plain tables columns conditions joins) refl
+
+select_plain : (tables : Database) (distinct : Bool) (its : Items) (name : List ℕ) (joins : List Join) (conditions : List Cond)
+    → select_of (plain tables) distinct its name joins conditions ≡ select_of tables distinct its name joins conditions
+select_plain tables distinct its name joins conditions =
+    let columns : List JoinedColumn = columns_of tables (select_names name joins) in
+    rw (columns_of_plain tables (select_names name joins), place_unindexed name tables,
+    joins_plain tables columns conditions (behind (name ∷ []) joins)) refl
+
 -- the same columns refer to a table
 referring_plain : (tables : Database) (name : List ℕ) → is_table_referenced (plain tables) name ≡ is_table_referenced tables name
 referring_plain [] name = refl
@@ -170,15 +250,10 @@ resolved_plain tables (command.Delete name conditions) other =
     (λ n t. meaning (delete_checks (plain tables) t conditions) (resolved.Delete n (tests_of (own_columns t) conditions)))
     (λ n t. same_checks (delete_checks (plain tables) (unindexed t) conditions) (delete_checks tables t conditions)
     (resolved.Delete n (tests_of (own_columns t) conditions)) (rw (conditions_plain tables (own_columns t) conditions) refl))
-resolved_plain tables (command.Select its name conditions) other =
-    numbered_plain name tables
-    (λ n t. meaning (select_checks tables t its conditions)
-    (resolved.Select (shown_of (own_columns t) its) n (tests_of (own_columns t) conditions)))
-    (λ n t. meaning (select_checks (plain tables) t its conditions)
-    (resolved.Select (shown_of (own_columns t) its) n (tests_of (own_columns t) conditions)))
-    (λ n t. same_checks (select_checks (plain tables) (unindexed t) its conditions) (select_checks tables t its conditions)
-    (resolved.Select (shown_of (own_columns t) its) n (tests_of (own_columns t) conditions))
-    (rw (conditions_plain tables (own_columns t) conditions) refl))
+resolved_plain tables (command.Select distinct its name joins conditions) other =
+    same_checks (select_checks (plain tables) its name joins conditions) (select_checks tables its name joins conditions)
+    (select_of (plain tables) distinct its name joins conditions) (select_checks_plain tables its name joins conditions)
+    ∙ ap (meaning (select_checks tables its name joins conditions)) (select_plain tables distinct its name joins conditions)
 resolved_plain tables command.Tables other = refl
 
 pub resolved_alike : ResolvedAlike
@@ -262,6 +337,53 @@ indexes_changed tables n old new o same =
     (map-set unindexed (plain tables) n old ∙ ap (λ d. set d n (unindexed old)) (unindexed_twice tables)
     ∙ ap (set (plain tables) n) same ∙ sym (map-set unindexed tables n new))
 
+-- the rows that are joined
+
+found_rows : (found : Option Table) (passes : Row → Bool)
+    → option_map_or (λ (table : Table). filter passes table.rows) (option_map unindexed found) []
+    ≡ option_map_or (λ (table : Table). filter passes table.rows) found []
+found_rows None passes = refl
+found_rows (Some t) passes = refl
+
+source_plain : (tables : Database) (source : Source) → source_rows (plain tables) source ≡ source_rows tables source
+source_plain tables source =
+    ap (λ found. option_map_or (λ (table : Table). filter (passes_all source.tests) table.rows) found []) (slice_get-map unindexed tables source.table.0)
+    ∙ found_rows (slice_get tables source.table.0) (passes_all source.tests)
+
+joined_all_plain : (tables : Database) (members : List Member) (joins : List Joined) → joined_all (plain tables) members joins ≡ joined_all tables members joins
+joined_all_plain tables members [] = refl
+joined_all_plain tables members (join ∷ joins) =
+    rw (source_plain tables join.source) (joined_all_plain tables (joined tables members join) joins)
+
+members_plain : (tables : Database) (source : Source) (joins : List Joined) → members_of (plain tables) source joins ≡ members_of tables source joins
+members_plain tables source joins =
+    rw (source_plain tables source) (joined_all_plain tables (map (λ row. row ∷ []) (source_rows tables source)) joins)
+
+sources_plain : (tables : Database) (sources : List Source)
+    → filter_map (λ s. slice_get (plain tables) s.table.0) sources ≡ plain (filter_map (λ s. slice_get tables s.table.0) sources)
+sources_plain tables [] = refl
+sources_plain tables (s ∷ sources) =
+    rw (slice_get-map unindexed tables s.table.0, sources_plain tables sources)
+    (cons_option-map unindexed (slice_get tables s.table.0) (filter_map (λ t. slice_get tables t.table.0) sources))
+
+joined_plain : (tables : Database) (source : Source) (joins : List Joined) → joined_tables (plain tables) source joins ≡ plain (joined_tables tables source joins)
+joined_plain tables source joins = sources_plain tables (source ∷ map (λ j. j.source) joins)
+
+name_plain : (found : Option Table) (n : ℕ)
+    → option_and_then (λ (table : Table). option_map (full_name table.name) (slice_get table.columns n)) (option_map unindexed found)
+    ≡ option_and_then (λ (table : Table). option_map (full_name table.name) (slice_get table.columns n)) found
+name_plain None n = refl
+name_plain (Some t) n = refl
+
+places_plain : (joined : List Table) (places : List Place) → filter_map (name_at (plain joined)) places ≡ filter_map (name_at joined) places
+places_plain joined [] = refl
+places_plain joined (p ∷ places) =
+    rw (slice_get-map unindexed joined p.source, name_plain (slice_get joined p.source) p.column.0, places_plain joined places) refl
+
+headings_plain : (joined : List Table) (its : Shown) → headings (plain joined) its ≡ headings joined its
+headings_plain joined shown.All = flat_map-map (λ (table : Table). map (full_name table.name) table.columns) unindexed joined
+headings_plain joined (shown.Columns places) = places_plain joined places
+
 done_plain : (limits : Limits) (tables : Database) (r : Resolved) → shows_indexes r ≡ false → bare (done limits (plain tables) r) ≡ bare (done limits tables r)
 done_plain limits tables (resolved.Table name schema) other =
     ap (λ d. left_with Done (plain d)) (sym (map_push unindexed tables (new_table name schema)))
@@ -294,11 +416,13 @@ done_plain limits tables (resolved.Delete n tests) other =
     (without (passes_all tests) t) _ (rw (referenced_plain tables t.name (picked (passes_all tests) t)) refl))
     in
     ap bare same ∙ bare_twice (done limits tables (resolved.Delete n tests))
-done_plain limits tables (resolved.Select its n tests) other =
-    let same : done limits (plain tables) (resolved.Select its n tests) ≡ bare (done limits tables (resolved.Select its n tests)) =
-    on_table_plain n tables _ _ (λ t. refl)
+done_plain limits tables (resolved.Select distinct its source joins) other =
+    let same : (done limits (plain tables) (resolved.Select distinct its source joins)).outcome
+    ≡ (done limits tables (resolved.Select distinct its source joins)).outcome =
+    rw (joined_plain tables source joins, headings_plain (joined_tables tables source joins) its, members_plain tables source joins) refl
     in
-    ap bare same ∙ bare_twice (done limits tables (resolved.Select its n tests))
+    ap (λ o. left_with o (plain (plain tables))) same
+    ∙ bare_twice (done limits tables (resolved.Select distinct its source joins))
 done_plain limits tables resolved.Tables other = absurd (false≢true (sym other))
 
 pub done_alike : DoneAlike
