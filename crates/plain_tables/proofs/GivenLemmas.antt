@@ -27,5 +27,5 @@ spellable_are_given (command.Update name settings conditions) is =
     All-weaker IsSpellableSetting (λ s. HasWidth s.value) (λ s can. width s.value can.1) settings
     (All-from_recursion IsSpellableSetting settings is.2)
 spellable_are_given (command.Delete name conditions) is = tt
-spellable_are_given (command.Select items name conditions) is = tt
+spellable_are_given (command.Select distinct items name joins conditions) is = tt
 spellable_are_given command.Tables is = tt
