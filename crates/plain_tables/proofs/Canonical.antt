@@ -130,8 +130,8 @@ names-something (DropIndex table column k) can = tt
 names-something (Insert table values) can = can.1
 names-something (Update table settings conditions) can = can.1
 names-something (Delete table conditions) can = tt
-names-something (Select items.All table conditions) can = tt
-names-something (Select (items.Named names) table conditions) can = can.0.0
+names-something (Select distinct items.All table joins conditions) can = tt
+names-something (Select distinct (items.Named names) table joins conditions) can = can.0.0
 names-something Tables can = tt
 
 -- Law: the canonical spelling of a command that can be spelled spells it.

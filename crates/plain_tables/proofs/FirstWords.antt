@@ -1,11 +1,16 @@
 -- First words: each command has a keyword in front.
-use Rattle.std.proofs.Common.{◌≡◌, ◌≢◌, ℕ, List, [], ◌∷◌, ◌++◌, map, true, false, refl, subst, IsTrue}
+use Rattle.std.proofs.Common.{◌≡◌, ◌≢◌, ℕ, List, [], ◌<◌, ◌∷◌, ◌++◌, length, map, Bool, true, false, refl, append_assoc, subst, IsTrue}
+use Rattle.std.specs.List.{flat_map}
 use Rattle.std.specs.Str.{bytes_eq}
 use Rattle.std.proofs.lemmas.Slice.Eq.{bytes_eq-Decides}
 use lib.Chars.{codes}
 use Rattle.plain_tables.specs.Names.{is_word}
-use Rattle.plain_tables.specs.Spelling.{Symbol, Keyword, Name, Sign, Open, Close, separated, symbols_of, column_symbols, index_symbols, value_symbols, setting_symbols, items_symbols, where_symbols, IsMadeOf, Spells}
+use Rattle.plain_tables.specs.Spelling.{Symbol, Keyword, Name, Sign, Open, Close, separated, symbols_of, column_symbols, index_symbols, value_symbols, setting_symbols, items_symbols, distinct_symbols, join_symbols, where_symbols, IsMadeOf, NamesSomething, Spells}
 use Rattle.plain_tables.specs.Reading.{lexeme, after_lexeme}
+use Rattle.plain_tables.specs.declared.condition.Cond.{Cond}
+use Rattle.plain_tables.specs.declared.command.Join.{Join}
+use Rattle.plain_tables.specs.declared.command.Items.{Items}
+use Rattle.plain_tables.specs.declared.command.Items.TheVariants as items
 use Rattle.plain_tables.specs.declared.command.Command.{Command}
 use Rattle.plain_tables.specs.declared.command.Command.TheVariants.{Table, DropTable, Index, DropIndex, Insert, Update, Delete, Select, Tables}
 use Rattle.plain_tables.proofs.Lexemes.{lexeme-of_made}
@@ -22,8 +27,13 @@ first_word (DropIndex table column k) = codes "drop"
 first_word (Insert table values) = codes "insert"
 first_word (Update table settings conditions) = codes "update"
 first_word (Delete table conditions) = codes "delete"
-first_word (Select items table conditions) = codes "select"
+first_word (Select distinct items table joins conditions) = codes "select"
 first_word Tables = codes "tables"
+
+-- from NAME {join ..} [where ..]
+abbrev pub from_symbols : List ℕ → List Join → List Cond → List Symbol
+from_symbols table joins conditions =
+    Keyword (codes "from") ∷ Name table ∷ (flat_map join_symbols joins ++ where_symbols conditions)
 
 abbrev pub behind_word : Command → List Symbol
 behind_word (Table name schema) = Name name ∷ Sign Open ∷ separated (map column_symbols schema.columns) ++ Sign Close ∷ []
@@ -34,7 +44,8 @@ behind_word (Insert table values) = Name table ∷ Sign Open ∷ separated (map 
 behind_word (Update table settings conditions) =
     Name table ∷ Keyword (codes "set") ∷ separated (map setting_symbols settings) ++ where_symbols conditions
 behind_word (Delete table conditions) = Name table ∷ where_symbols conditions
-behind_word (Select items table conditions) = items_symbols items ++ Keyword (codes "from") ∷ Name table ∷ where_symbols conditions
+behind_word (Select distinct items table joins conditions) =
+    distinct_symbols distinct ++ (items_symbols items ++ from_symbols table joins conditions)
 behind_word Tables = []
 
 pub split-word : (command : Command) → (symbols_of command ≡ Keyword (first_word command) ∷ behind_word command) × IsTrue (is_word (first_word command))
@@ -45,8 +56,18 @@ split-word (DropIndex table column k) = (refl, refl)
 split-word (Insert table values) = (refl, refl)
 split-word (Update table settings conditions) = (refl, refl)
 split-word (Delete table conditions) = (refl, refl)
-split-word (Select items table conditions) = (refl, refl)
+split-word (Select distinct items table joins conditions) = (simp append_assoc, refl)
 split-word Tables = (refl, refl)
+
+-- *, or one column or more
+abbrev pub HasItems : Items → Type 0
+HasItems items.All = Unit {0}
+HasItems (items.Named names) = 0 < length names
+
+pub select-items : (distinct : Bool) (i : Items) (table : List ℕ) (joins : List Join) (conditions : List Cond)
+    → NamesSomething (Select distinct i table joins conditions) → HasItems i
+select-items distinct items.All table joins conditions some = tt
+select-items distinct (items.Named names) table joins conditions some = some
 
 -- A line that spells a command begins with the command's first word, and what follows makes up the rest of it.
 pub spells-word : (line : List ℕ) (command : Command) → Spells line command

@@ -2,8 +2,8 @@
 use Rattle.std.proofs.Common.{◌≡◌, ℕ, ◌<◌, List, [], ◌∷◌, ◌++◌, length, map, true, false, refl, sym, ◌∙◌, arith, subst}
 use Rattle.std.specs.Str.{bytes_eq}
 use lib.Chars.{codes}
-use Rattle.plain_tables.specs.Names.{is_word}
-use Rattle.plain_tables.specs.Spelling.{Mark, Dot, mark_text, Symbol, Keyword, Sign, separated_by, IsSymbol, IsMadeOf}
+use Rattle.plain_tables.specs.Names.{is_word, is_name, IsName}
+use Rattle.plain_tables.specs.Spelling.{Mark, Dot, mark_text, Symbol, Keyword, Name, Sign, separated_by, IsSymbol, IsMadeOf}
 use Rattle.plain_tables.specs.Reading.{lexeme, after_lexeme}
 use Rattle.plain_tables.proofs.Lexemes.{IsWellFormed, lexeme-of_made, blanks-no_lexeme}
 use Rattle.plain_tables.proofs.Separated.{separated_by-more}
@@ -14,9 +14,6 @@ use Rattle.plain_tables.proofs.FirstWords.{different}
 -- No line is made both of that symbol, whatever follows it, and of the others.
 abbrev pub NeverBegins : Symbol → List Symbol → Type 0
 NeverBegins symbol others = (line : List ℕ) (more : List Symbol) → IsMadeOf line (symbol ∷ more) → IsMadeOf line others → ⊥
-
-pub sign-lexeme : (line : List ℕ) (mark : Mark) (more : List Symbol) → IsMadeOf line (Sign mark ∷ more) → lexeme line ≡ mark_text mark
-sign-lexeme line mark more made = (lexeme-of_made line (Sign mark) more tt made).0
 
 -- the one spelling of a sign or of a word of the grammar
 abbrev pub IsFixed : Symbol → List ℕ → Type 0
@@ -39,6 +36,14 @@ pub fixed-no_end : (symbol : Symbol) (text : List ℕ) → IsFixed symbol text �
 fixed-no_end symbol text fixed not line more made blanks =
     let first : lexeme line ≡ text = fixed.1 (lexeme line) (lexeme-of_made line symbol more fixed.0 made).0 in
     different text [] not (sym first ∙ blanks-no_lexeme line blanks)
+
+-- A fixed symbol that isn't a name begins no name.
+pub fixed-no_name : (symbol : Symbol) (text : List ℕ) → IsFixed symbol text → is_name text ≡ false → (name : List ℕ) (more : List Symbol)
+    → NeverBegins symbol (Name name ∷ more)
+fixed-no_name symbol text fixed not name more line others made made' =
+    let first : lexeme line ≡ text = fixed.1 (lexeme line) (lexeme-of_made line symbol others fixed.0 made).0 in
+    let is : IsSymbol (lexeme line) (Name name) = (lexeme-of_made line (Name name) more tt made').0 in
+    let word : is_name text ≡ true = subst IsName (sym is.0 ∙ first) is.1 in cc
 
 -- ---- items, one after another
 

@@ -1,8 +1,9 @@
--- Single items: two names, values, columns, settings, conditions or indexes at the front of a line are one.
-use Rattle.std.proofs.Common.{◌≡◌, ℕ, List, [], ◌∷◌, ◌++◌, Option, Some, None, false, refl, sym, ◌∙◌, ap, append_assoc, subst}
+-- Single items: two names, values, columns, settings, conditions, joins or indexes at the front of a line are one.
+use Rattle.std.proofs.Common.{◌≡◌, ℕ, List, [], ◌∷◌, ◌++◌, map, Option, Some, None, false, refl, sym, ◌∙◌, ap, append_assoc, append-nil, subst}
+use Rattle.std.specs.List.{flat_map}
 use Rattle.std.specs.Str.{bytes_eq}
 use lib.Chars.{codes}
-use Rattle.plain_tables.specs.Spelling.{Dot, Symbol, Keyword, Name, Literal, Sign, Operator, operator_text, kind_symbols, column_symbols, index_word, index_symbols, value_symbols, name_symbols, setting_symbols, condition_symbols, IsSymbol, IsMadeOf}
+use Rattle.plain_tables.specs.Spelling.{Dot, Symbol, Keyword, Name, Literal, Sign, Operator, operator_text, separated_by, side_symbols, joined_symbols, join_symbols, kind_symbols, column_symbols, index_word, index_symbols, value_symbols, name_symbols, setting_symbols, condition_symbols, IsSymbol, IsMadeOf}
 use Rattle.plain_tables.specs.Reading.{lexeme, after_lexeme}
 use Rattle.plain_tables.specs.declared.value.Value.{Value}
 use Rattle.plain_tables.specs.declared.schema.ColKind.{ColKind}
@@ -12,6 +13,8 @@ use Rattle.plain_tables.specs.declared.schema.IndexKind.TheVariants as index
 use Rattle.plain_tables.specs.declared.condition.Op.{Op}
 use Rattle.plain_tables.specs.declared.condition.Op.TheVariants as op
 use Rattle.plain_tables.specs.declared.condition.Cond.{Cond}
+use Rattle.plain_tables.specs.declared.command.Join.{Join}
+use Rattle.plain_tables.specs.declared.command.JoinSide.{JoinSide}
 use Rattle.plain_tables.proofs.Lexemes.{IsWellFormed, lexeme-of_made}
 use Rattle.plain_tables.proofs.Integers.{Literal-only}
 use Rattle.plain_tables.proofs.FirstWords.{different}
@@ -203,6 +206,48 @@ condition-one line c d m n free free' made made' =
     operator-and names.1.0 c.op d.op (Literal c.value ∷ m) (Literal d.value ∷ n) names.1.1 names.1.2 in
     let values : (c.value ≡ d.value) × HaveOneRest m n = literal-and operators.1.0 c.value d.value m n operators.1.1 operators.1.2 in
     ((λ i. record { column = names.0 i; op = operators.0 i; value = values.0 i }), values.1)
+
+-- ---- joins
+
+side-one : IsOneItem side_symbols
+side-one line s t m n free free' made made' =
+    let tables : (s.table ≡ t.table) × HaveOneRest (Sign Dot ∷ Name s.column ∷ m) (Sign Dot ∷ Name t.column ∷ n) =
+    name-and line s.table t.table (Sign Dot ∷ Name s.column ∷ m) (Sign Dot ∷ Name t.column ∷ n) made made' in
+    let behind : HaveOneRest (Name s.column ∷ m) (Name t.column ∷ n) =
+    fixed-and (Sign Dot) tt tables.1.0 (Name s.column ∷ m) (Name t.column ∷ n) tables.1.1 tables.1.2 in
+    let columns : (s.column ≡ t.column) × HaveOneRest m n = name-and behind.0 s.column t.column m n behind.1 behind.2 in
+    ((λ i. record { table = tables.0 i; column = columns.0 i }), columns.1)
+
+-- two sides with = between them
+sides-one : (line : List ℕ) (s t s' t' : JoinSide) (m n : List Symbol) → EndsItem m → EndsItem n
+    → IsMadeOf line (side_symbols s ++ Sign (Operator op.Eq) ∷ side_symbols t ++ m)
+    → IsMadeOf line (side_symbols s' ++ Sign (Operator op.Eq) ∷ side_symbols t' ++ n) → (s ≡ s') × (t ≡ t') × HaveOneRest m n
+sides-one line s t s' t' m n free free' made made' =
+    let eq : Symbol = Sign (Operator op.Eq) in
+    let lefts : (s ≡ s') × HaveOneRest (eq ∷ side_symbols t ++ m) (eq ∷ side_symbols t' ++ n) =
+    side-one line s s' (eq ∷ side_symbols t ++ m) (eq ∷ side_symbols t' ++ n) (operator-ends_item op.Eq _) (operator-ends_item op.Eq _) made made' in
+    let behind : HaveOneRest (side_symbols t ++ m) (side_symbols t' ++ n) =
+    fixed-and eq tt lefts.1.0 (side_symbols t ++ m) (side_symbols t' ++ n) lefts.1.1 lefts.1.2 in
+    let rights : (t ≡ t') × HaveOneRest m n = side-one behind.0 t t' m n free free' behind.1 behind.2 in
+    (lefts.0, rights.0, rights.1)
+
+pub joined-one : IsOneItem joined_symbols
+joined-one line x y m n free free' made made' =
+    let on : Symbol = Keyword (codes "on") in
+    let sides : List Symbol = side_symbols x.left ++ Sign (Operator op.Eq) ∷ side_symbols x.right ++ m in
+    let sides' : List Symbol = side_symbols y.left ++ Sign (Operator op.Eq) ∷ side_symbols y.right ++ n in
+    let tables : (x.table ≡ y.table) × HaveOneRest (on ∷ sides) (on ∷ sides') =
+    name-and line x.table y.table (on ∷ sides) (on ∷ sides') made made' in
+    let behind : HaveOneRest sides sides' = fixed-and on refl tables.1.0 sides sides' tables.1.1 tables.1.2 in
+    let both : (x.left ≡ y.left) × (x.right ≡ y.right) × HaveOneRest m n =
+    sides-one behind.0 x.left x.right y.left y.right m n free free' behind.1 behind.2 in
+    ((λ i. record { table = tables.0 i; left = both.0 i; right = both.1 i }), both.2)
+
+-- Joins, one or more, are a list of joined tables with a join before each.
+pub joins-listed : (join : Join) (joins : List Join)
+    → flat_map join_symbols (join ∷ joins) ≡ Keyword (codes "join") ∷ separated_by (Keyword (codes "join")) (map joined_symbols (join ∷ joins))
+joins-listed join [] = append-nil (join_symbols join)
+joins-listed join (next ∷ joins) = ap (λ ss. join_symbols join ++ ss) (joins-listed next joins)
 
 -- ---- indexes
 

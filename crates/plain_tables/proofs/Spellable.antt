@@ -1,10 +1,10 @@
 -- Spellable: what a line spells can be spelled.
 use Rattle.std.proofs.Common.{◌≢◌, ℕ, List, [], ◌∷◌, ◌++◌, map, Option, Some, None, subst}
 use Rattle.std.specs.Prelude.{IfSome}
-use Rattle.std.specs.List.{AllByRecursion}
+use Rattle.std.specs.List.{AllByRecursion, flat_map}
 use lib.Chars.{codes}
 use Rattle.plain_tables.specs.Names.{IsName}
-use Rattle.plain_tables.specs.Spelling.{Close, Comma, Symbol, Keyword, Name, Sign, Operator, Literal, separated, kind_symbols, column_symbols, value_symbols, name_symbols, setting_symbols, condition_symbols, where_symbols, symbols_of, IsSymbol, IsMadeOf, NamesSomething, IsSpellableKind, IsSpellableColumn, IsSpellableValue, IsSpellableName, IsSpellableSetting, IsSpellableCondition, IsSpellable, SpelledIsSpellable}
+use Rattle.plain_tables.specs.Spelling.{Close, Comma, Symbol, Keyword, Sign, Operator, Literal, separated, kind_symbols, column_symbols, value_symbols, name_symbols, setting_symbols, condition_symbols, where_symbols, distinct_symbols, join_symbols, items_symbols, symbols_of, IsSymbol, IsMadeOf, NamesSomething, IsSpellableKind, IsSpellableColumn, IsSpellableValue, IsSpellableName, IsSpellableSetting, IsSpellableCondition, IsSpellableJoin, AreSpellableItems, IsSpellable, SpelledIsSpellable}
 use Rattle.plain_tables.specs.declared.value.Value.{Value}
 use Rattle.plain_tables.specs.declared.value.Value.TheVariants as value
 use Rattle.plain_tables.specs.declared.schema.ColKind.{ColKind}
@@ -13,9 +13,12 @@ use Rattle.plain_tables.specs.declared.schema.Column.{Column}
 use Rattle.plain_tables.specs.declared.condition.ColName.{ColName}
 use Rattle.plain_tables.specs.declared.condition.Cond.{Cond}
 use Rattle.plain_tables.specs.declared.command.Setting.{Setting}
+use Rattle.plain_tables.specs.declared.command.Join.{Join}
+use Rattle.plain_tables.specs.declared.command.Items.{Items}
 use Rattle.plain_tables.specs.declared.command.Items.TheVariants as items
 use Rattle.plain_tables.specs.declared.command.Command.{Command}
 use Rattle.plain_tables.specs.declared.command.Command.TheVariants.{Table, DropTable, Index, DropIndex, Insert, Update, Delete, Select, Tables}
+use Rattle.plain_tables.proofs.FirstWords.{HasItems, from_symbols, select-items, split-word}
 use Rattle.plain_tables.proofs.Separated.{all-left, all-right, separated-each}
 use Rattle.plain_tables.proofs.LineFeeds.{HasNoFeed, contains-no_feed, literal-feed}
 
@@ -83,9 +86,31 @@ listed-each symbols P each xs more all = (
   all-right HasCharacters (separated (map symbols xs)) more all,
 )
 
-from-each : (table : List ℕ) (conditions : List Cond) → HaveCharacters (Keyword (codes "from") ∷ Name table ∷ where_symbols conditions)
-    → IsName table × AllByRecursion IsSpellableCondition conditions
-from-each table conditions all = (all.1.0.1.1, where-each conditions all.1.1)
+join-each : (join : Join) → HaveCharacters (join_symbols join) → IsSpellableJoin join
+join-each join (word, (table, (on, (left, (dot, (column, (equals, (right, (dot', (column', none)))))))))) =
+    (table.1.1, left.1.1, column.1.1, right.1.1, column'.1.1)
+
+joins-each : (joins : List Join) → HaveCharacters (flat_map join_symbols joins) → AllByRecursion IsSpellableJoin joins
+joins-each [] all = tt
+joins-each (join ∷ joins) all = (
+  join-each join (all-left HasCharacters (join_symbols join) (flat_map join_symbols joins) all),
+  joins-each joins (all-right HasCharacters (join_symbols join) (flat_map join_symbols joins) all),
+)
+
+from-each : (table : List ℕ) (joins : List Join) (conditions : List Cond) → HaveCharacters (from_symbols table joins conditions)
+    → IsName table × AllByRecursion IsSpellableJoin joins × AllByRecursion IsSpellableCondition conditions
+from-each table joins conditions all = (
+  all.1.0.1.1,
+  joins-each joins (all-left HasCharacters (flat_map join_symbols joins) (where_symbols conditions) all.1.1),
+  where-each conditions (all-right HasCharacters (flat_map join_symbols joins) (where_symbols conditions) all.1.1),
+)
+
+items-each : (items : Items) (more : List Symbol) → HasItems items → HaveCharacters (items_symbols items ++ more)
+    → AreSpellableItems items × HaveCharacters more
+items-each items.All more some all = (tt, all.1)
+items-each (items.Named names) more some all =
+    let parts : AllByRecursion IsSpellableName names × HaveCharacters more = listed-each name_symbols IsSpellableName name-each names more all in
+    ((some, parts.0), parts.1)
 
 -- Law: where the symbols of a command have characters, the command can be spelled.
 symbols-spellable : (c : Command) → NamesSomething c → HaveCharacters (symbols_of c) → IsSpellable c
@@ -101,14 +126,16 @@ symbols-spellable (Update table settings conditions) some all =
     listed-each setting_symbols IsSpellableSetting setting-each settings (where_symbols conditions) all.1.1.1 in
     (all.1.0.1.1, some, parts.0, where-each conditions parts.1)
 symbols-spellable (Delete table conditions) some all = (all.1.0.1.1, where-each conditions all.1.1)
-symbols-spellable (Select items.All table conditions) some all =
-    let parts : IsName table × AllByRecursion IsSpellableCondition conditions = from-each table conditions all.1.1 in
-    (tt, parts.0, parts.1)
-symbols-spellable (Select (items.Named names) table conditions) some all =
-    let list : AllByRecursion IsSpellableName names × HaveCharacters (Keyword (codes "from") ∷ Name table ∷ where_symbols conditions) =
-    listed-each name_symbols IsSpellableName name-each names (Keyword (codes "from") ∷ Name table ∷ where_symbols conditions) all.1 in
-    let parts : IsName table × AllByRecursion IsSpellableCondition conditions = from-each table conditions list.1 in
-    ((some, list.0), parts.0, parts.1)
+symbols-spellable (Select distinct items table joins conditions) some all =
+    let from : List Symbol = from_symbols table joins conditions in
+    let split : HaveCharacters (Keyword (codes "select") ∷ (distinct_symbols distinct ++ (items_symbols items ++ from))) =
+    subst HaveCharacters (split-word (Select distinct items table joins conditions)).0 all in
+    let list : AreSpellableItems items × HaveCharacters from =
+    items-each items from (select-items distinct items table joins conditions some)
+    (all-right HasCharacters (distinct_symbols distinct) (items_symbols items ++ from) split.1) in
+    let parts : IsName table × AllByRecursion IsSpellableJoin joins × AllByRecursion IsSpellableCondition conditions =
+    from-each table joins conditions list.1 in
+    (list.0, parts.0, parts.1, parts.2)
 symbols-spellable Tables some all = tt
 
 -- Law: what a line spells can be spelled.

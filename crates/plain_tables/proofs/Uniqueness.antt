@@ -1,22 +1,24 @@
 -- Uniqueness: no line spells two commands.
-use Rattle.std.proofs.Common.{◌≡◌, ℕ, ◌<◌, List, [], ◌∷◌, ◌++◌, length, Option, Some, None, true, false, refl, sym, ◌∙◌, ap, arith, append-nil, subst}
+use Rattle.std.proofs.Common.{◌≡◌, ℕ, ◌<◌, List, [], ◌∷◌, ◌++◌, length, Option, Some, None, Bool, true, false, refl, sym, ◌∙◌, ap, arith, append-nil, subst}
+use Rattle.std.specs.List.{flat_map}
 use Rattle.std.specs.Str.{bytes_eq}
 use lib.Chars.{codes}
-use Rattle.plain_tables.specs.Names.{is_word, IsName}
-use Rattle.plain_tables.specs.Spelling.{Close, Comma, Dot, Open, Star, Symbol, Keyword, Name, Sign, IsSymbol, column_symbols, index_symbols, value_symbols, name_symbols, setting_symbols, condition_symbols, where_symbols, items_symbols, IsMadeOf, NamesSomething, Spells, SpellsAtMostOne}
-use Rattle.plain_tables.specs.Reading.{lexeme, after_lexeme}
+use Rattle.plain_tables.specs.Names.{is_word, is_name}
+use Rattle.plain_tables.specs.Spelling.{Close, Comma, Dot, Open, Star, Symbol, Keyword, Name, Sign, column_symbols, index_symbols, value_symbols, name_symbols, setting_symbols, condition_symbols, where_symbols, distinct_symbols, joined_symbols, join_symbols, items_symbols, IsMadeOf, Spells, SpellsAtMostOne}
+use Rattle.plain_tables.specs.Reading.{after_lexeme}
 use Rattle.plain_tables.specs.declared.schema.IndexKind.{IndexKind}
 use Rattle.plain_tables.specs.declared.condition.ColName.{ColName}
 use Rattle.plain_tables.specs.declared.condition.Cond.{Cond}
 use Rattle.plain_tables.specs.declared.command.Setting.{Setting}
+use Rattle.plain_tables.specs.declared.command.Join.{Join}
 use Rattle.plain_tables.specs.declared.command.Items.{Items}
 use Rattle.plain_tables.specs.declared.command.Items.TheVariants as items
 use Rattle.plain_tables.specs.declared.command.Command.{Command}
 use Rattle.plain_tables.specs.declared.command.Command.TheVariants.{Table, DropTable, Index, DropIndex, Insert, Update, Delete, Select, Tables}
 use Rattle.plain_tables.proofs.Lexemes.{lexeme-of_made}
-use Rattle.plain_tables.proofs.FirstWords.{first_word, different, spells-word}
-use Rattle.plain_tables.proofs.Lists.{NeverBegins, sign-lexeme, IsFixed, sign-fixed, word-fixed, fixed-no_fixed, fixed-no_end, HaveOneRest, fixed-ends_item, nothing-ends_item, IsOneItem, IsBetween, Ends, list_and, made-more, list-one}
-use Rattle.plain_tables.proofs.SingleItems.{whole_name, name-and, fixed-and, value-one, column-one, setting-one, name-one, condition-one, index-one}
+use Rattle.plain_tables.proofs.FirstWords.{HasItems, first_word, from_symbols, select-items, different, spells-word}
+use Rattle.plain_tables.proofs.Lists.{NeverBegins, IsFixed, sign-fixed, word-fixed, fixed-no_fixed, fixed-no_name, fixed-no_end, HaveOneRest, fixed-ends_item, nothing-ends_item, IsOneItem, IsBetween, Ends, list_and, made-more, list-one}
+use Rattle.plain_tables.proofs.SingleItems.{whole_name, name-and, fixed-and, value-one, column-one, setting-one, name-one, condition-one, joined-one, joins-listed, index-one}
 
 -- ---- what ends a list
 
@@ -29,18 +31,24 @@ and-between = record {
   ends_item = fixed-ends_item (Keyword (codes "and")) (codes "and") (word-fixed (codes "and") refl) refl refl;
 }
 
--- a closing parenthesis, and the words from and where, end a list with commas
+join-fixed : IsFixed (Keyword (codes "join")) (codes "join")
+join-fixed = word-fixed (codes "join") refl
+
+pub join-between : IsBetween (Keyword (codes "join"))
+join-between = record { well = refl; ends_item = fixed-ends_item (Keyword (codes "join")) (codes "join") join-fixed refl refl }
+
+-- A closing parenthesis, and the words from and where, end a list with commas, and where ends joins.
 close-ends : (more : List Symbol) → Ends (Sign Comma) (Sign Close ∷ more)
 close-ends more = record {
   ends_item = fixed-ends_item (Sign Close) (codes ")") (sign-fixed Close) refl refl more;
   no_more = fixed-no_fixed (Sign Comma) (Sign Close) _ _ (sign-fixed Comma) (sign-fixed Close) refl more;
 }
 
-word-ends : (word : List ℕ) → is_word word ≡ true → bytes_eq (codes ".") word ≡ false → bytes_eq (codes "null") word ≡ false
-    → bytes_eq (codes ",") word ≡ false → (more : List Symbol) → Ends (Sign Comma) (Keyword word ∷ more)
-word-ends word is no_dot no_null no_comma more = record {
+word-ends : (between : Symbol) (text : List ℕ) → IsFixed between text → (word : List ℕ) → is_word word ≡ true → bytes_eq (codes ".") word ≡ false
+    → bytes_eq (codes "null") word ≡ false → bytes_eq text word ≡ false → (more : List Symbol) → Ends between (Keyword word ∷ more)
+word-ends between text fixed word is no_dot no_null other more = record {
   ends_item = fixed-ends_item (Keyword word) word (word-fixed word is) no_dot no_null more;
-  no_more = fixed-no_fixed (Sign Comma) (Keyword word) _ _ (sign-fixed Comma) (word-fixed word is) no_comma more;
+  no_more = fixed-no_fixed between (Keyword word) text word fixed (word-fixed word is) other more;
 }
 
 -- the end of the line ends any list
@@ -50,9 +58,16 @@ end-ends between text fixed some = record {
   no_more = fixed-no_end between text fixed some;
 }
 
-where-ends : (conditions : List Cond) → Ends (Sign Comma) (where_symbols conditions)
-where-ends [] = end-ends (Sign Comma) (codes ",") (sign-fixed Comma) refl
-where-ends (condition ∷ conditions) = word-ends (codes "where") refl refl refl refl _
+where-ends : (between : Symbol) (text : List ℕ) → IsFixed between text → bytes_eq text [] ≡ false → bytes_eq text (codes "where") ≡ false
+    → (conditions : List Cond) → Ends between (where_symbols conditions)
+where-ends between text fixed some other [] = end-ends between text fixed some
+where-ends between text fixed some other (condition ∷ conditions) = word-ends between text fixed (codes "where") refl refl refl other _
+
+comma-ends : (conditions : List Cond) → Ends (Sign Comma) (where_symbols conditions)
+comma-ends = where-ends (Sign Comma) (codes ",") (sign-fixed Comma) refl refl
+
+join-ends : (conditions : List Cond) → Ends (Keyword (codes "join")) (where_symbols conditions)
+join-ends = where-ends (Keyword (codes "join")) (codes "join") join-fixed refl refl
 
 -- ---- conditions
 
@@ -78,31 +93,29 @@ where-one line (c ∷ cs) (d ∷ ds) made made' =
 
 -- ---- items of a select
 
--- no name is a star
-star-no_name : (name : List ℕ) (more : List Symbol) → NeverBegins (Sign Star) (Name name ∷ more)
-star-no_name name more line others made made' =
-    let star : lexeme line ≡ codes "*" = sign-lexeme line Star others made in
-    let is : IsSymbol (lexeme line) (Name name) = (lexeme-of_made line (Name name) more tt made').0 in
-    let word : IsName (codes "*") = subst IsName (sym is.0 ∙ star) is.1 in cc
+-- a fixed symbol that isn't a name begins no columns, as a star and the word distinct
+fixed-no_column : (symbol : Symbol) (text : List ℕ) → IsFixed symbol text → is_name text ≡ false → (table : Option (List ℕ)) (column : List ℕ)
+    (more : List Symbol) → NeverBegins symbol (whole_name table column ++ more)
+fixed-no_column symbol text fixed not None column more = fixed-no_name symbol text fixed not column more
+fixed-no_column symbol text fixed not (Some t) column more = fixed-no_name symbol text fixed not t (Sign Dot ∷ Name column ∷ more)
 
-star-no_column : (table : Option (List ℕ)) (column : List ℕ) (more : List Symbol) → NeverBegins (Sign Star) (whole_name table column ++ more)
-star-no_column None column more = star-no_name column more
-star-no_column (Some t) column more = star-no_name t (Sign Dot ∷ Name column ∷ more)
+fixed-no_columns : (symbol : Symbol) (text : List ℕ) → IsFixed symbol text → is_name text ≡ false → (names : List ColName) (more : List Symbol)
+    → 0 < length names → NeverBegins symbol (list_and (Sign Comma) name_symbols names more)
+fixed-no_columns symbol text fixed not [] more some line others made made' = omega arith
+fixed-no_columns symbol text fixed not (x ∷ []) more some line others made made' =
+    fixed-no_column symbol text fixed not x.table x.column more line others made made'
+fixed-no_columns symbol text fixed not (x ∷ y ∷ xs) more some line others made made' =
+    fixed-no_column symbol text fixed not x.table x.column _ line others made (made-more (Sign Comma) name_symbols line x y xs more made')
 
 star-no_names : (names : List ColName) (more : List Symbol) → 0 < length names
     → NeverBegins (Sign Star) (list_and (Sign Comma) name_symbols names more)
-star-no_names [] more some line others made made' = omega arith
-star-no_names (x ∷ []) more some line others made made' = star-no_column x.table x.column more line others made made'
-star-no_names (x ∷ y ∷ xs) more some line others made made' =
-    star-no_column x.table x.column _ line others made (made-more (Sign Comma) name_symbols line x y xs more made')
+star-no_names = fixed-no_columns (Sign Star) (codes "*") (sign-fixed Star) refl
 
-abbrev HasItems : Items → Type 0
-HasItems items.All = Unit {0}
-HasItems (items.Named names) = 0 < length names
-
-select-items : (i : Items) (table : List ℕ) (conditions : List Cond) → NamesSomething (Select i table conditions) → HasItems i
-select-items items.All table conditions some = tt
-select-items (items.Named names) table conditions some = some
+distinct-no_items : (items : Items) (more : List Symbol) → HasItems items → NeverBegins (Keyword (codes "distinct")) (items_symbols items ++ more)
+distinct-no_items items.All more some =
+    fixed-no_fixed (Keyword (codes "distinct")) (Sign Star) (codes "distinct") (codes "*") (word-fixed (codes "distinct") refl) (sign-fixed Star) refl more
+distinct-no_items (items.Named names) more some =
+    fixed-no_columns (Keyword (codes "distinct")) (codes "distinct") (word-fixed (codes "distinct") refl) refl names more some
 
 items-one : (line : List ℕ) (i j : Items) (m n : List Symbol) → HasItems i → HasItems j → Ends (Sign Comma) m → Ends (Sign Comma) n
     → IsMadeOf line (items_symbols i ++ m) → IsMadeOf line (items_symbols j ++ n) → (i ≡ j) × HaveOneRest m n
@@ -153,7 +166,7 @@ set-one line ss ts cs ds some some' made made' =
     let lists : HaveOneRest list list' = fixed-and (Keyword (codes "set")) refl line list list' made made' in
     let items : (ss ≡ ts) × HaveOneRest (where_symbols cs) (where_symbols ds) =
     list-one (Sign Comma) setting_symbols comma-between setting-one lists.0 ss ts (where_symbols cs) (where_symbols ds) some some'
-    (where-ends cs) (where-ends ds) lists.1 lists.2 in
+    (comma-ends cs) (comma-ends ds) lists.1 lists.2 in
     (items.0, where-one items.1.0 cs ds items.1.1 items.1.2)
 
 update-one : (line name name' : List ℕ) (ss ts : List Setting) (cs ds : List Cond) → 0 < length ss → 0 < length ts
@@ -165,21 +178,73 @@ update-one line name name' ss ts cs ds some some' made made' =
     let others : (ss ≡ ts) × (cs ≡ ds) = set-one names.1.0 ss ts cs ds some some' names.1.1 names.1.2 in
     (names.0, others.0, others.1)
 
--- the table of a select, and its conditions
-abbrev from_symbols : List ℕ → List Cond → List Symbol
-from_symbols table conditions = Keyword (codes "from") ∷ Name table ∷ where_symbols conditions
+-- the joins of a select
+join-no_end : (line : List ℕ) (joins : List Join) (join : Join) (conditions others : List Cond)
+    → IsMadeOf line (flat_map join_symbols (join ∷ joins) ++ where_symbols conditions) → IsMadeOf line (where_symbols others) → ⊥
+join-no_end line joins join conditions others made =
+    (join-ends others).no_more line ((joined_symbols join ++ flat_map join_symbols joins) ++ where_symbols conditions) made
 
-select-one : (line : List ℕ) (i j : Items) (name name' : List ℕ) (cs ds : List Cond) → HasItems i → HasItems j
-    → IsMadeOf line (items_symbols i ++ from_symbols name cs) → IsMadeOf line (items_symbols j ++ from_symbols name' ds)
-    → (i ≡ j) × (name ≡ name') × (cs ≡ ds)
-select-one line i j name name' cs ds has has' made made' =
-    let items : (i ≡ j) × HaveOneRest (from_symbols name cs) (from_symbols name' ds) =
-    items-one line i j (from_symbols name cs) (from_symbols name' ds) has has' (word-ends (codes "from") refl refl refl refl _)
-    (word-ends (codes "from") refl refl refl refl _) made made' in
-    let tables : HaveOneRest (Name name ∷ where_symbols cs) (Name name' ∷ where_symbols ds) =
-    fixed-and (Keyword (codes "from")) refl items.1.0 (Name name ∷ where_symbols cs) (Name name' ∷ where_symbols ds) items.1.1 items.1.2 in
-    let others : (name ≡ name') × (cs ≡ ds) = name-where-one tables.0 name name' cs ds tables.1 tables.2 in
-    (items.0, others.0, others.1)
+made-listed : (line : List ℕ) (join : Join) (joins : List Join) (more : List Symbol) → IsMadeOf line (flat_map join_symbols (join ∷ joins) ++ more)
+    → IsMadeOf line (Keyword (codes "join") ∷ list_and (Keyword (codes "join")) joined_symbols (join ∷ joins) more)
+made-listed line join joins more made = subst (λ ss. IsMadeOf line (ss ++ more)) (joins-listed join joins) made
+
+joins-one : (line : List ℕ) (xs ys : List Join) (cs ds : List Cond) → IsMadeOf line (flat_map join_symbols xs ++ where_symbols cs)
+    → IsMadeOf line (flat_map join_symbols ys ++ where_symbols ds) → (xs ≡ ys) × (cs ≡ ds)
+joins-one line [] [] cs ds made made' = (refl, where-one line cs ds made made')
+joins-one line [] (y ∷ ys) cs ds made made' = absurd (join-no_end line ys y ds cs made' made)
+joins-one line (x ∷ xs) [] cs ds made made' = absurd (join-no_end line xs x cs ds made made')
+joins-one line (x ∷ xs) (y ∷ ys) cs ds made made' =
+    let join : Symbol = Keyword (codes "join") in
+    let list : List Symbol = list_and join joined_symbols (x ∷ xs) (where_symbols cs) in
+    let list' : List Symbol = list_and join joined_symbols (y ∷ ys) (where_symbols ds) in
+    let lists : HaveOneRest list list' =
+    fixed-and join refl line list list' (made-listed line x xs (where_symbols cs) made) (made-listed line y ys (where_symbols ds) made') in
+    let items : (x ∷ xs ≡ y ∷ ys) × HaveOneRest (where_symbols cs) (where_symbols ds) =
+    list-one join joined_symbols join-between joined-one lists.0 (x ∷ xs) (y ∷ ys) (where_symbols cs) (where_symbols ds) (omega arith) (omega arith)
+    (join-ends cs) (join-ends ds) lists.1 lists.2 in
+    (items.0, where-one items.1.0 cs ds items.1.1 items.1.2)
+
+-- the table of a select, its joins, and its conditions
+from-one : (line name name' : List ℕ) (xs ys : List Join) (cs ds : List Cond) → IsMadeOf line (from_symbols name xs cs)
+    → IsMadeOf line (from_symbols name' ys ds) → (name ≡ name') × (xs ≡ ys) × (cs ≡ ds)
+from-one line name name' xs ys cs ds made made' =
+    let tail : List Symbol = flat_map join_symbols xs ++ where_symbols cs in
+    let tail' : List Symbol = flat_map join_symbols ys ++ where_symbols ds in
+    let named : HaveOneRest (Name name ∷ tail) (Name name' ∷ tail') =
+    fixed-and (Keyword (codes "from")) refl line (Name name ∷ tail) (Name name' ∷ tail') made made' in
+    let names : (name ≡ name') × HaveOneRest tail tail' = name-and named.0 name name' tail tail' named.1 named.2 in
+    let others : (xs ≡ ys) × (cs ≡ ds) = joins-one names.1.0 xs ys cs ds names.1.1 names.1.2 in
+    (names.0, others.0, others.1)
+
+-- Either both begin with the word distinct, or neither does.
+distinct-one : (line : List ℕ) (d e : Bool) (i j : Items) (m n : List Symbol) → HasItems i → HasItems j
+    → IsMadeOf line (distinct_symbols d ++ (items_symbols i ++ m)) → IsMadeOf line (distinct_symbols e ++ (items_symbols j ++ n))
+    → (d ≡ e) × HaveOneRest (items_symbols i ++ m) (items_symbols j ++ n)
+distinct-one line true true i j m n has has' made made' =
+    (refl, fixed-and (Keyword (codes "distinct")) refl line (items_symbols i ++ m) (items_symbols j ++ n) made made')
+distinct-one line true false i j m n has has' made made' = absurd (distinct-no_items j n has' line (items_symbols i ++ m) made made')
+distinct-one line false true i j m n has has' made made' = absurd (distinct-no_items i m has line (items_symbols j ++ n) made' made)
+distinct-one line false false i j m n has has' made made' = (refl, (line, made, made'))
+
+abbrev select_symbols : Bool → Items → List ℕ → List Join → List Cond → List Symbol
+select_symbols distinct items table joins conditions =
+    distinct_symbols distinct ++ (items_symbols items ++ from_symbols table joins conditions)
+
+select-one : (line : List ℕ) (d e : Bool) (i j : Items) (name name' : List ℕ) (xs ys : List Join) (cs ds : List Cond) → HasItems i → HasItems j
+    → IsMadeOf line (select_symbols d i name xs cs) → IsMadeOf line (select_symbols e j name' ys ds)
+    → (d ≡ e) × (i ≡ j) × (name ≡ name') × (xs ≡ ys) × (cs ≡ ds)
+select-one line d e i j name name' xs ys cs ds has has' made made' =
+    let from : List Symbol = from_symbols name xs cs in
+    let from' : List Symbol = from_symbols name' ys ds in
+    let words : (d ≡ e) × HaveOneRest (items_symbols i ++ from) (items_symbols j ++ from') =
+    distinct-one line d e i j from from' has has' made made' in
+    let items : (i ≡ j) × HaveOneRest from from' =
+    items-one words.1.0 i j from from' has has' (from-ends _) (from-ends _) words.1.1 words.1.2 in
+    let others : (name ≡ name') × (xs ≡ ys) × (cs ≡ ds) = from-one items.1.0 name name' xs ys cs ds items.1.1 items.1.2 in
+    (words.0, items.0, others.0, others.1, others.2)
+  where
+    from-ends : (more : List Symbol) → Ends (Sign Comma) (Keyword (codes "from") ∷ more)
+    from-ends = word-ends (Sign Comma) (codes ",") (sign-fixed Comma) (codes "from") refl refl refl refl
 
 -- what stands behind a drop
 drop-table-one : (line table table' : List ℕ) → IsMadeOf line (Keyword (codes "table") ∷ Name table ∷ [])
@@ -251,9 +316,9 @@ spells-one line (Delete table cs) (Delete table' ds) spells spells' =
     name-where-one (after_lexeme line) table table' cs ds
     (spells-word line (Delete table cs) spells).1 (spells-word line (Delete table' ds) spells').1 in
     λ i. Delete (both.0 i) (both.1 i)
-spells-one line (Select i table cs) (Select j table' ds) spells spells' =
-    let all : (i ≡ j) × (table ≡ table') × (cs ≡ ds) =
-    select-one (after_lexeme line) i j table table' cs ds (select-items i table cs spells.1) (select-items j table' ds spells'.1)
-    (spells-word line (Select i table cs) spells).1 (spells-word line (Select j table' ds) spells').1 in
-    λ k. Select (all.0 k) (all.1 k) (all.2 k)
+spells-one line (Select d i table xs cs) (Select e j table' ys ds) spells spells' =
+    let all : (d ≡ e) × (i ≡ j) × (table ≡ table') × (xs ≡ ys) × (cs ≡ ds) =
+    select-one (after_lexeme line) d e i j table table' xs ys cs ds (select-items d i table xs cs spells.1) (select-items e j table' ys ds spells'.1)
+    (spells-word line (Select d i table xs cs) spells).1 (spells-word line (Select e j table' ys ds) spells').1 in
+    λ k. Select (all.0 k) (all.1 k) (all.2 k) (all.3 k) (all.4 k)
 spells-one line c d spells spells' = absurd (words-differ line c d spells spells' refl)

@@ -1,10 +1,10 @@
 -- Well-formed: the symbols of a command that can be spelled are, and so no line feed stands in a line that they make.
-use Rattle.std.proofs.Common.{◌≢◌, ℕ, List, [], ◌∷◌, ◌++◌, map, IsTrue, refl, Option, Some, None}
+use Rattle.std.proofs.Common.{◌≢◌, ℕ, List, [], ◌∷◌, ◌++◌, map, IsTrue, Bool, true, false, refl, sym, subst, Option, Some, None}
 use Rattle.std.specs.Prelude.{IfSome}
-use Rattle.std.specs.List.{AllByRecursion, Contains}
+use Rattle.std.specs.List.{AllByRecursion, Contains, flat_map}
 use lib.Chars.{codes}
 use Rattle.plain_tables.specs.Names.{is_word, IsName}
-use Rattle.plain_tables.specs.Spelling.{Comma, Symbol, Keyword, Name, Literal, Sign, Close, separated_by, kind_symbols, column_symbols, index_word, index_symbols, value_symbols, name_symbols, setting_symbols, condition_symbols, where_symbols, items_symbols, symbols_of, is_blank, IsSymbol, IsMadeOf, IsSpellableKind, IsSpellableColumn, IsSpellableValue, IsSpellableName, IsSpellableSetting, IsSpellableCondition, AreSpellableItems, IsSpellable}
+use Rattle.plain_tables.specs.Spelling.{Comma, Symbol, Keyword, Name, Literal, Sign, Close, separated_by, kind_symbols, column_symbols, index_word, index_symbols, value_symbols, name_symbols, setting_symbols, condition_symbols, where_symbols, distinct_symbols, join_symbols, items_symbols, symbols_of, is_blank, IsSymbol, IsMadeOf, IsSpellableKind, IsSpellableColumn, IsSpellableValue, IsSpellableName, IsSpellableSetting, IsSpellableCondition, IsSpellableJoin, AreSpellableItems, IsSpellable}
 use Rattle.plain_tables.specs.declared.value.Value.TheVariants as value
 use Rattle.plain_tables.specs.declared.schema.ColKind.{ColKind}
 use Rattle.plain_tables.specs.declared.schema.ColKind.TheVariants as kind
@@ -13,11 +13,13 @@ use Rattle.plain_tables.specs.declared.schema.IndexKind.{IndexKind}
 use Rattle.plain_tables.specs.declared.schema.IndexKind.TheVariants as index
 use Rattle.plain_tables.specs.declared.condition.ColName.{ColName}
 use Rattle.plain_tables.specs.declared.condition.Cond.{Cond}
+use Rattle.plain_tables.specs.declared.command.Join.{Join}
 use Rattle.plain_tables.specs.declared.command.Items.{Items}
 use Rattle.plain_tables.specs.declared.command.Items.TheVariants as items
 use Rattle.plain_tables.specs.declared.command.Command.{Command}
 use Rattle.plain_tables.specs.declared.command.Command.TheVariants.{Table, DropTable, Index, DropIndex, Insert, Update, Delete, Select, Tables}
 use Rattle.plain_tables.proofs.Lexemes.{symbol-run}
+use Rattle.plain_tables.proofs.FirstWords.{split-word}
 use Rattle.plain_tables.proofs.Separated.{all-append, separated-all}
 use Rattle.plain_tables.proofs.LineFeeds.{HasNoFeed, contains-feed, passing-no_feed, run-no_feed, mark-no_feed, literal-no_feed}
 
@@ -75,6 +77,18 @@ pub items-spellable : (items : Items) → AreSpellableItems items → AreSpellab
 items-spellable items.All are = (tt, tt)
 items-spellable (items.Named names) are = listed-spellable name_symbols IsSpellableName name-spellable names are.1
 
+distinct-spellable : (distinct : Bool) → AreSpellableSymbols (distinct_symbols distinct)
+distinct-spellable true = (refl, tt)
+distinct-spellable false = tt
+
+join-spellable : (join : Join) → IsSpellableJoin join → AreSpellableSymbols (join_symbols join)
+join-spellable join is = (refl, (is.0, (refl, (is.1, (tt, (is.2, (tt, (is.3, (tt, (is.4, tt))))))))))
+
+joins-spellable : (joins : List Join) → AllByRecursion IsSpellableJoin joins → AreSpellableSymbols (flat_map join_symbols joins)
+joins-spellable [] all = tt
+joins-spellable (join ∷ joins) all =
+    all-append IsSpellableSymbol (join_symbols join) (flat_map join_symbols joins) (join-spellable join all.0) (joins-spellable joins all.1)
+
 -- Law: the symbols of a command that can be spelled can be.
 pub command-spellable : (command : Command) → IsSpellable command → AreSpellableSymbols (symbols_of command)
 command-spellable (Table name schema) is = (
@@ -115,11 +129,13 @@ command-spellable (Update table settings conditions) is = (
   ),
 )
 command-spellable (Delete table conditions) is = (refl, (is.0, where-spellable conditions is.1))
-command-spellable (Select items table conditions) is = (
-  refl,
-  all-append IsSpellableSymbol (items_symbols items) _
-      (items-spellable items is.0) (refl, (is.1, where-spellable conditions is.2)),
-)
+command-spellable (Select distinct items table joins conditions) is =
+    subst AreSpellableSymbols (sym (split-word (Select distinct items table joins conditions)).0) (
+      refl,
+      all-append IsSpellableSymbol (distinct_symbols distinct) _ (distinct-spellable distinct)
+          (all-append IsSpellableSymbol (items_symbols items) _ (items-spellable items is.0)
+          (refl, (is.1, all-append IsSpellableSymbol (flat_map join_symbols joins) _ (joins-spellable joins is.2) (where-spellable conditions is.3)))),
+    )
 command-spellable Tables is = (refl, tt)
 
 -- ---- line feeds

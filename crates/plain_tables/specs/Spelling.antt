@@ -103,10 +103,14 @@ where_symbols (condition ∷ conditions) =
 abbrev pub side_symbols : JoinSide → List Symbol
 side_symbols side = Name side.table ∷ Sign Dot ∷ Name side.column ∷ []
 
+-- NAME on NAME . NAME = NAME . NAME, a table and the columns by which it is joined
+abbrev pub joined_symbols : Join → List Symbol
+joined_symbols join =
+    Name join.table ∷ Keyword (codes "on") ∷ side_symbols join.left ++ Sign (Operator op.Eq) ∷ side_symbols join.right
+
 -- join NAME on NAME . NAME = NAME . NAME
 abbrev pub join_symbols : Join → List Symbol
-join_symbols join =
-    Keyword (codes "join") ∷ Name join.table ∷ Keyword (codes "on") ∷ side_symbols join.left ++ Sign (Operator op.Eq) ∷ side_symbols join.right
+join_symbols join = Keyword (codes "join") ∷ joined_symbols join
 
 -- the word distinct, or nothing
 abbrev pub distinct_symbols : Bool → List Symbol
