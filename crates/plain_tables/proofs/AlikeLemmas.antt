@@ -43,7 +43,7 @@ use Rattle.plain_tables.specs.declared.resolved.Shown.{Shown}
 use Rattle.plain_tables.specs.declared.resolved.Shown.TheVariants as shown
 use Rattle.plain_tables.specs.declared.resolved.Resolved.{Resolved}
 use Rattle.plain_tables.specs.declared.resolved.Resolved.TheVariants as resolved
-use Rattle.plain_tables.proofs.ListLemmas.{is_some-option_map}
+use Rattle.plain_tables.proofs.ListLemmas.{map_agree, is_some-option_map}
 use Rattle.plain_tables.proofs.ResolvedLemmas.{none_shown}
 use Rattle.plain_tables.proofs.IndexLemmas.{bare, named_unindexed, place_unindexed, found_bare, checked_as}
 
@@ -58,10 +58,6 @@ any_agree p q same (x ∷ xs) = rw (same x, any_agree p q same xs) refl
 all_agree : {X : Type 0} (p q : X → Bool) → ((x : X) → p x ≡ q x) → (xs : List X) → list_all p xs ≡ list_all q xs
 all_agree p q same [] = refl
 all_agree p q same (x ∷ xs) = rw (same x, all_agree p q same xs) refl
-
-map_agree : {X Y : Type 0} (f g : X → Y) → ((x : X) → f x ≡ g x) → (xs : List X) → map f xs ≡ map g xs
-map_agree f g same [] = refl
-map_agree f g same (x ∷ xs) = rw (same x, map_agree f g same xs) refl
 
 cons_option-map : {X Y : Type 0} (f : X → Y) (o : Option X) (xs : List X) → cons_option (option_map f o) (map f xs) ≡ map f (cons_option o xs)
 cons_option-map f None xs = refl

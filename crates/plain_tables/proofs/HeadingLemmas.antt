@@ -1,19 +1,20 @@
 -- What a select shows: rows with a value below each heading, and as many headings as the columns that it names.
 use Rattle.std.proofs.Common.{◌≡◌, ◌+◌, ◌<◌, ℕ, suc, Bool, true, false, length, map, arith, List, [], ◌∷◌, ◌++◌, append-nil, append_assoc, sym, ap, ◌∙◌, subst, refl, Some}
 use Rattle.std.specs.List.{All, AllZip, filter, filter_map, flat_map, cons_option, slice_get}
-use Rattle.std.specs.Ordering.{is_lt}
 use Rattle.std.proofs.lemmas.List.{length-map, length-append}
-use Rattle.std.proofs.lemmas.List.Elements.{All-nil, All-cons, All-head, All-tail, All-append, All-map, All-filter, All-weaker}
+use Rattle.std.proofs.lemmas.Simd.{map-map}
+use Rattle.std.proofs.lemmas.List.Elements.{All-head, All-tail, All-map, All-filter, All-weaker}
 use Rattle.std.proofs.lemmas.Option.{slice_get-get_or}
 use Rattle.plain_tables.specs.Tables.{Table, Row}
 use Rattle.plain_tables.specs.Databases.{Database}
 use Rattle.plain_tables.specs.Queries.{joined_columns, full_name, places_meant}
-use Rattle.plain_tables.specs.Joining.{Member, passes_all, source_rows, value_of, product, is_joined, joined, joined_all, members_of, row_cmp, with_values, distinct_rows}
+use Rattle.plain_tables.specs.Joining.{Member, passes_all, source_rows, value_of, product, is_joined, joined, joined_all, members_of}
 use Rattle.plain_tables.specs.Effects.{Rows}
 use Rattle.plain_tables.specs.References.{IsRowOf, IsSound}
 use Rattle.plain_tables.specs.Doing.{shown_values, joined_tables, name_at, headings, shown_rows}
 use Rattle.plain_tables.specs.ResolvedLaws.{OfTable, HasPlace, IsShown, AreJoins, IsMeant, SelectsRows, ShownFitHeadings}
 use Rattle.plain_tables.specs.CommandLaws.{NamesHaveHeadings}
+use Rattle.plain_tables.specs.QueryLaws.{SelectsPassing}
 use Rattle.plain_tables.specs.declared.schema.ColKind.TheVariants as kind
 use Rattle.plain_tables.specs.declared.schema.Column.{Column}
 use Rattle.plain_tables.specs.declared.command.Limits.{Limits}
@@ -23,6 +24,7 @@ use Rattle.plain_tables.specs.declared.resolved.Joined.{Joined}
 use Rattle.plain_tables.specs.declared.resolved.Shown.{Shown}
 use Rattle.plain_tables.specs.declared.resolved.Shown.TheVariants as shown
 use Rattle.plain_tables.proofs.ColumnLemmas.{have_places, places_length}
+use Rattle.plain_tables.proofs.DistinctLemmas.{All-distinct}
 use Rattle.plain_tables.proofs.ListLemmas.{All-at, All-flat_map, filter_every}
 
 -- ---- rows alone
@@ -31,6 +33,10 @@ use Rattle.plain_tables.proofs.ListLemmas.{All-at, All-flat_map, filter_every}
 pub shown_alone : (rows : List Row) → map (shown_values shown.All) (map (λ row. row ∷ []) rows) ≡ rows
 shown_alone [] = refl
 shown_alone (row ∷ rows) = rw (append-nil row, shown_alone rows) refl
+
+pub selects_passing : SelectsPassing
+selects_passing limits tables n table its tests there =
+    rw there (ap (Rows (headings (table ∷ []) its)) (map-map (shown_values its) (λ row. row ∷ []) (filter (passes_all tests) table.rows)))
 
 pub selects_rows : SelectsRows
 selects_rows limits tables n table there =
@@ -140,16 +146,6 @@ shown_length : (tables : Database) (among : List Table) (its : Shown) (member : 
 shown_length tables among shown.All member there are = all_length tables among member are
 shown_length tables among (shown.Columns places) member there are =
     length-map places (value_of member) ∙ sym (headings_length among places there.1)
-
--- what holds of lists of values holds of each that occurs
-pub All-distinct : (P : Row → Type 0) (rows : List Row) → All P rows → All P (distinct_rows rows)
-All-distinct P [] all = All-nil P
-All-distinct P (row ∷ rows) all =
-    let others = All-distinct P rows (All-tail P row rows all) in
-    All-append P (filter (λ r. is_lt (row_cmp r row)) (distinct_rows rows)) (row ∷ filter (λ r. is_lt (row_cmp row r)) (distinct_rows rows))
-    (All-filter (λ r. is_lt (row_cmp r row)) P (distinct_rows rows) others)
-    (All-cons P row (filter (λ r. is_lt (row_cmp row r)) (distinct_rows rows)) (All-head P row rows all)
-    (All-filter (λ r. is_lt (row_cmp row r)) P (distinct_rows rows) others))
 
 All-shown : (P : Row → Type 0) (distinct : Bool) (its : Shown) (members : List Member) → All P (map (shown_values its) members)
     → All P (shown_rows distinct its members)

@@ -3,6 +3,7 @@ pub mod Canonical
 pub mod ChangeLemmas
 pub mod ColumnLemmas
 pub mod DivisionLemmas
+pub mod DistinctLemmas
 pub mod EffectLemmas
 pub mod FirstWords
 pub mod GivenLemmas
@@ -15,6 +16,7 @@ pub mod LineFeeds
 pub mod ListLemmas
 pub mod Lists
 pub mod NameLemmas
+pub mod ProductLemmas
 pub mod ReferLemmas
 pub mod ResolvedLemmas
 pub mod RowLemmas

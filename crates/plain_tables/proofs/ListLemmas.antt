@@ -1,11 +1,12 @@
 -- Lists: pairs of elements, the first that passes a test, and filters. What holds of what an option gives.
 use Rattle.std.proofs.Common.{◌≡◌, ◌≢◌, ℕ, zero, suc, ◌+◌, ◌<◌, ◌≤◌, Bool, true, false, length, arith, List, [], ◌∷◌, ◌++◌, sym, ap, ◌∙◌, inl, inr, get_or, set, take, drop, map, Some, None, Option, refl, subst, ◌⊎◌}
-use Rattle.std.specs.Prelude.{nat_lt, not}
-use Rattle.std.specs.List.{All, AllPairs, AllZip, filter, find, position, position_or_len, slice_get, list_any, list_all, flat_map, filter_map, cons_option, enumerate_from, remove}
+use Rattle.std.specs.Prelude.{nat_lt, not, ◌&&◌}
+use Rattle.std.specs.List.{All, AllPairs, AllZip, Contains, filter, find, position, position_or_len, slice_get, list_any, list_all, flat_map, filter_map, cons_option, enumerate_from, remove}
 use Rattle.std.specs.Option.{is_some, option_map, option_map_or}
 use Rattle.std.proofs.lemmas.Bool.{cases_Bool, cases_eq, or_parts, or_cases, or_right, and_parts, cond_both, false≢true, not-false, ltb-true}
-use Rattle.std.proofs.lemmas.List.{get_or-set_same, get_or-set_other, length-set}
-use Rattle.std.proofs.lemmas.List.Elements.{All-nil, All-cons, All-tail, All-head, All-append, All-map, All-take, All-drop, All-weaker}
+use Rattle.std.proofs.lemmas.List.{get_or-set_same, get_or-set_other, length-set, map-append}
+use Rattle.std.proofs.lemmas.List.Elements.{All-nil, All-cons, All-tail, All-head, All-append, All-map, All-take, All-drop, All-weaker, filter-append}
+use Rattle.std.proofs.lemmas.List.Concat.{flat_map-append}
 use Rattle.std.proofs.lemmas.List.Folds.{find_at}
 use Rattle.std.proofs.lemmas.List.Kept.{AllPairs-cons}
 use Rattle.std.proofs.lemmas.List.FromFn.{length-enumerate_from, get_or-enumerate_from}
@@ -117,6 +118,48 @@ pub filter_again : {X : Type 0} (p : X → Bool) (xs : List X) → filter p (fil
 filter_again p [] = refl
 filter_again p (x ∷ xs) =
     elim (cases_Bool (p x)) [ inl t ↦ rw t (rw t (ap (λ ys. x ∷ ys) (filter_again p xs))) | inr f ↦ rw f (filter_again p xs) ]
+
+-- ---- maps, filters and lists joined end to end
+
+pub map_agree : {X Y : Type 0} (f g : X → Y) → ((x : X) → f x ≡ g x) → (xs : List X) → map f xs ≡ map g xs
+map_agree f g same [] = refl
+map_agree f g same (x ∷ xs) = rw (same x, map_agree f g same xs) refl
+
+pub flat_map_agree : {X Y : Type 0} (f g : X → List Y) (xs : List X) → All (λ x. f x ≡ g x) xs → flat_map f xs ≡ flat_map g xs
+flat_map_agree f g [] same = refl
+flat_map_agree f g (x ∷ xs) same =
+    rw (All-head (λ y. f y ≡ g y) x xs same, flat_map_agree f g xs (All-tail (λ y. f y ≡ g y) x xs same)) refl
+
+pub filter-map : {X Y : Type 0} (p : Y → Bool) (f : X → Y) (xs : List X) → filter p (map f xs) ≡ map f (filter (λ x. p (f x)) xs)
+filter-map p f [] = refl
+filter-map p f (x ∷ xs) =
+    elim (cases_Bool (p (f x))) [ inl t ↦ rw (t, filter-map p f xs) refl | inr n ↦ rw (n, filter-map p f xs) refl ]
+
+pub filter-filter : {X : Type 0} (p q : X → Bool) (xs : List X) → filter p (filter q xs) ≡ filter (λ x. q x && p x) xs
+filter-filter p q [] = refl
+filter-filter p q (x ∷ xs) =
+    elim (cases_Bool (q x)) [
+      | inl t ↦ elim (cases_Bool (p x)) [ inl u ↦ rw (t, u, filter-filter p q xs) refl | inr n ↦ rw (t, n, filter-filter p q xs) refl ]
+      | inr f ↦ rw (f, filter-filter p q xs) refl
+    ]
+
+pub filter_none : {X : Type 0} (xs : List X) → filter (λ x. false) xs ≡ []
+filter_none [] = refl
+filter_none (x ∷ xs) = filter_none xs
+
+pub filter-flat_map : {X Y : Type 0} (p : Y → Bool) (f : X → List Y) (xs : List X) → filter p (flat_map f xs) ≡ flat_map (λ x. filter p (f x)) xs
+filter-flat_map p f [] = refl
+filter-flat_map p f (x ∷ xs) = filter-append p (f x) (flat_map f xs) ∙ ap (λ ys. filter p (f x) ++ ys) (filter-flat_map p f xs)
+
+pub map-flat_map : {X Y Z : Type 0} (g : Y → Z) (f : X → List Y) (xs : List X) → map g (flat_map f xs) ≡ flat_map (λ x. map g (f x)) xs
+map-flat_map g f [] = refl
+map-flat_map g f (x ∷ xs) = map-append g (f x) (flat_map f xs) ∙ ap (λ ys. map g (f x) ++ ys) (map-flat_map g f xs)
+
+pub flat_map-flat_map : {X Y Z : Type 0} (g : Y → List Z) (f : X → List Y) (xs : List X)
+    → flat_map g (flat_map f xs) ≡ flat_map (λ x. flat_map g (f x)) xs
+flat_map-flat_map g f [] = refl
+flat_map-flat_map g f (x ∷ xs) =
+    flat_map-append g (f x) (flat_map f xs) ∙ ap (λ ys. flat_map g (f x) ++ ys) (flat_map-flat_map g f xs)
 
 -- a list beside what f makes of each of its elements
 pub AllZip-map : {X Y : Type 0} (R : X → Y → Type 0) (f : X → Y) → ((x : X) → R x (f x)) → (xs : List X) → AllZip R xs (map f xs)
@@ -234,6 +277,29 @@ length-filter_map f [] p gives h = refl
 length-filter_map f (x ∷ xs) p gives h =
     let parts = or_parts (not (p x)) (list_any (λ y. not (p y)) xs) h in
     length_more (f x) (filter_map f xs) (length xs) (gives x (not-false (p x) parts.0)) (length-filter_map f xs p gives parts.1)
+
+-- ---- elements
+
+pub Contains-head : {X : Type 0} (x : X) (xs : List X) → Contains (x ∷ xs) x
+Contains-head x xs = (zero, omega arith, refl)
+
+pub Contains-later : {X : Type 0} (x : X) (xs : List X) (y : X) → Contains xs y → Contains (x ∷ xs) y
+Contains-later x xs y (k, l, e) = (suc k, omega arith, e)
+
+pub Contains-cases : {X : Type 0} (x : X) (xs : List X) (y : X) → Contains (x ∷ xs) y → (x ≡ y) ⊎ (Contains xs y)
+Contains-cases x xs y (zero, l, e) = inl e
+Contains-cases x xs y (suc k, l, e) = inr (k, omega arith, e)
+
+-- an element that passes a test is among those that do
+pub Contains-filter : {X : Type 0} (p : X → Bool) (xs : List X) (y : X) → p y ≡ true → Contains xs y → Contains (filter p xs) y
+Contains-filter p [] y passes there = absurd (let l = there.1 in omega arith)
+Contains-filter p (x ∷ xs) y passes there =
+    elim (Contains-cases x xs y there) [
+      | inl here ↦ rw (here, passes) (Contains-head y (filter p xs))
+      | inr later ↦
+          let rest : Contains (filter p xs) y = Contains-filter p xs y passes later in
+          cond_both (p x) (x ∷ filter p xs) (filter p xs) (λ ys. Contains ys y) (λ t. Contains-later x (filter p xs) y rest) (λ f. rest)
+    ]
 
 -- ---- options
 

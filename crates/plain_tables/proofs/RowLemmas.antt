@@ -1,6 +1,6 @@
 -- Rows of a table: that they still rise, and are at most one more, where a row is put in.
-use Rattle.std.proofs.Common.{◌≡◌, ◌+◌, ◌<◌, ◌≤◌, ℕ, zero, suc, true, false, length, take, set, map, arith, List, [], ◌∷◌, length-append, refl}
-use Rattle.std.specs.List.{All, filter}
+use Rattle.std.proofs.Common.{◌≡◌, ◌+◌, ◌<◌, ◌≤◌, ℕ, zero, suc, true, false, length, take, set, map, arith, List, [], ◌∷◌, ◌++◌, length-append, refl}
+use Rattle.std.specs.List.{All, AllPairs, filter}
 use Rattle.std.specs.declared.cmp.Ordering.{Ordering}
 use Rattle.std.specs.declared.cmp.Ordering.TheVariants.{Less, Equal, Greater}
 use Rattle.std.specs.Ordering.{is_lt}
@@ -13,51 +13,56 @@ use Rattle.plain_tables.specs.Tables.{Row, key_cmp, AreRising, with_row}
 use Rattle.plain_tables.specs.declared.value.Value.{Value}
 use Rattle.plain_tables.proofs.ListLemmas.{AllPairs-append, AllPairs-map, length-filter_apart}
 
--- ---- the order of rows
-
-pub key_cmp_total : IsTotalOrder key_cmp
-key_cmp_total = on_total (take 1) (lists_total value_cmp_total)
+-- ---- an element put in
 
 from_is_lt : (o : Ordering) → is_lt o ≡ true → o ≡ Less
 from_is_lt Less h = refl
 from_is_lt Equal h = cc
 from_is_lt Greater h = cc
 
+module _ {X : Type 0} (cmp : X → X → Ordering) (total : IsTotalOrder cmp) (x : X) where
+  abbrev below : List X → List X
+  below xs = filter (λ y. is_lt (cmp y x)) xs
+
+  abbrev above : List X → List X
+  above xs = filter (λ y. is_lt (cmp x y)) xs
+
+  all_below : (xs : List X) → All (λ y. cmp y x ≡ Less) (below xs)
+  all_below xs =
+      All-weaker (λ y. is_lt (cmp y x) ≡ true) (λ y. cmp y x ≡ Less) (λ y. from_is_lt (cmp y x))
+      (below xs) (filter_passes (λ y. is_lt (cmp y x)) xs)
+
+  all_above : (xs : List X) → All (λ y. cmp x y ≡ Less) (above xs)
+  all_above xs =
+      All-weaker (λ y. is_lt (cmp x y) ≡ true) (λ y. cmp x y ≡ Less) (λ y. from_is_lt (cmp x y))
+      (above xs) (filter_passes (λ y. is_lt (cmp x y)) xs)
+
+  -- an element below this one is below it and those above it
+  below_rest : (xs : List X) (y : X) → cmp y x ≡ Less → All (λ z. cmp y z ≡ Less) (x ∷ above xs)
+  below_rest xs y h =
+      All-cons (λ z. cmp y z ≡ Less) x (above xs) h
+      (All-weaker (λ z. cmp x z ≡ Less) (λ z. cmp y z ≡ Less) (λ z. total.trans y x z h) (above xs) (all_above xs))
+
+  -- elements that rise still do with one between those below it and those above it
+  pub inserted_rise : (xs : List X) → AllPairs (λ y z. cmp y z ≡ Less) xs → AllPairs (λ y z. cmp y z ≡ Less) (below xs ++ x ∷ above xs)
+  inserted_rise xs rise =
+      let R : X → X → Type 0 = λ y z. cmp y z ≡ Less in
+      AllPairs-append R (below xs) (x ∷ above xs)
+      (AllPairs-filter R (λ y. is_lt (cmp y x)) xs rise)
+      (AllPairs-cons R x (above xs) (all_above xs) (AllPairs-filter R (λ y. is_lt (cmp x y)) xs rise))
+      (All-weaker (λ y. R y x) (λ y. All (R y) (x ∷ above xs)) (below_rest xs) (below xs) (all_below xs))
+
+-- ---- rows in the order of their keys
+
+pub key_cmp_total : IsTotalOrder key_cmp
+key_cmp_total = on_total (take 1) (lists_total value_cmp_total)
+
 -- where one row is below another, that one isn't below the first
 key_cmp-one_way : (r s : Row) → is_lt (key_cmp r s) ≡ true → is_lt (key_cmp s r) ≡ false
 key_cmp-one_way r s h = rw (key_cmp_total.antisymm s r, from_is_lt (key_cmp r s) h) refl
 
--- ---- a row put in
-
-abbrev below : Row → List Row → List Row
-below row rows = filter (λ r. is_lt (key_cmp r row)) rows
-
-abbrev above : Row → List Row → List Row
-above row rows = filter (λ r. is_lt (key_cmp row r)) rows
-
-AllBelow : (row : Row) (rows : List Row) → All (λ r. key_cmp r row ≡ Less) (below row rows)
-AllBelow row rows =
-    All-weaker (λ r. is_lt (key_cmp r row) ≡ true) (λ r. key_cmp r row ≡ Less) (λ r. from_is_lt (key_cmp r row))
-    (below row rows) (filter_passes (λ r. is_lt (key_cmp r row)) rows)
-
-AllAbove : (row : Row) (rows : List Row) → All (λ r. key_cmp row r ≡ Less) (above row rows)
-AllAbove row rows =
-    All-weaker (λ r. is_lt (key_cmp row r) ≡ true) (λ r. key_cmp row r ≡ Less) (λ r. from_is_lt (key_cmp row r))
-    (above row rows) (filter_passes (λ r. is_lt (key_cmp row r)) rows)
-
--- a row below this one is below it and those above it
-below_rest : (row : Row) (rows : List Row) (r : Row) → key_cmp r row ≡ Less → All (λ s. key_cmp r s ≡ Less) (row ∷ above row rows)
-below_rest row rows r h =
-    All-cons (λ s. key_cmp r s ≡ Less) row (above row rows) h
-    (All-weaker (λ s. key_cmp row s ≡ Less) (λ s. key_cmp r s ≡ Less) (λ s. key_cmp_total.trans r row s h) (above row rows) (AllAbove row rows))
-
 pub with_row-rises : (row : Row) (rows : List Row) → AreRising rows → AreRising (with_row row rows)
-with_row-rises row rows rise =
-    let R : Row → Row → Type 0 = λ r s. key_cmp r s ≡ Less in
-    AllPairs-append R (below row rows) (row ∷ above row rows)
-    (AllPairs-filter R (λ r. is_lt (key_cmp r row)) rows rise)
-    (AllPairs-cons R row (above row rows) (AllAbove row rows) (AllPairs-filter R (λ r. is_lt (key_cmp row r)) rows rise))
-    (All-weaker (λ r. R r row) (λ r. All (R r) (row ∷ above row rows)) (below_rest row rows) (below row rows) (AllBelow row rows))
+with_row-rises row rows rise = inserted_rise key_cmp key_cmp_total row rows rise
 
 pub length-with_row : (row : Row) (rows : List Row) → length (with_row row rows) ≤ length rows + 1
 length-with_row row rows =
@@ -66,9 +71,9 @@ length-with_row row rows =
 
 pub All-with_row : (P : Row → Type 0) (row : Row) (rows : List Row) → P row → All P rows → All P (with_row row rows)
 All-with_row P row rows h all =
-    All-append P (below row rows) (row ∷ above row rows)
+    All-append P (filter (λ r. is_lt (key_cmp r row)) rows) (row ∷ filter (λ r. is_lt (key_cmp row r)) rows)
     (All-filter (λ r. is_lt (key_cmp r row)) P rows all)
-    (All-cons P row (above row rows) h (All-filter (λ r. is_lt (key_cmp row r)) P rows all))
+    (All-cons P row (filter (λ r. is_lt (key_cmp row r)) rows) h (All-filter (λ r. is_lt (key_cmp row r)) P rows all))
 
 -- ---- rows changed, none of them in its key
 

@@ -10,6 +10,7 @@ pub mod Hashes
 pub mod Joining
 pub mod Names
 pub mod Queries
+pub mod QueryLaws
 pub mod Reading
 pub mod References
 pub mod Refusals

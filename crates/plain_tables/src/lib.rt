@@ -3,7 +3,8 @@
 //! The types are what a command line can say: values, columns, conditions, commands, refusals. The definitions, in
 //! `specs/`, are what it means: which line spells which command, what a command does to a database of plain tables, and
 //! which bytes answer a stream. Every promise above is stated by these words, and by no others. The laws of the
-//! definitions are contracts of functions that do nothing (`laws`, `command_laws`, `resolved_laws`, `spelling_laws`).
+//! definitions are contracts of functions that do nothing (`laws`, `command_laws`, `query_laws`,
+//! `resolved_laws`, `spelling_laws`).
 //!
 //! Nothing here cares how rows are kept, which index finds them, how a line is read, or how a stream is cut in pieces.
 //!
@@ -19,6 +20,7 @@ mod condition;
 mod hash;
 pub mod laws;
 mod numbers;
+pub mod query_laws;
 mod refusal;
 mod resolved;
 pub mod resolved_laws;
