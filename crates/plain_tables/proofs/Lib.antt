@@ -11,6 +11,7 @@ pub mod HeadingLemmas
 pub mod HeldLemmas
 pub mod IndexLemmas
 pub mod Integers
+pub mod JoinOrder
 pub mod Lexemes
 pub mod LineFeeds
 pub mod ListLemmas
@@ -31,4 +32,5 @@ pub mod TableLemmas
 pub mod Texts
 pub mod Uniqueness
 pub mod ValueLemmas
+pub mod Weights
 pub mod WellFormed
