@@ -207,8 +207,11 @@ select_plain : (tables : Database) (distinct : Bool) (its : Items) (name : List 
     → select_of (plain tables) distinct its name joins conditions ≡ select_of tables distinct its name joins conditions
 select_plain tables distinct its name joins conditions =
     let columns : List JoinedColumn = columns_of tables (select_names name joins) in
-    rw (columns_of_plain tables (select_names name joins), place_unindexed name tables,
-    joins_plain tables columns conditions (behind (name ∷ []) joins)) refl
+    rw (
+      columns_of_plain tables (select_names name joins),
+      place_unindexed name tables,
+      joins_plain tables columns conditions (behind (name ∷ []) joins),
+    ) refl
 
 -- the same columns refer to a table
 referring_plain : (tables : Database) (name : List ℕ) → is_table_referenced (plain tables) name ≡ is_table_referenced tables name

@@ -1,34 +1,27 @@
 -- What resolved commands leave: of other tables, of rows that aren't picked, of a database that they are refused of.
 use Rattle.std.proofs.Common.{◌≡◌, ◌≢◌, ◌<◌, ℕ, zero, suc, true, false, not, length, map, set, get_or, arith, List, [], ◌∷◌, refl, sym, ap, ◌∙◌, subst, Some}
 use Rattle.std.specs.Prelude.{pos, ◌==◌}
-use Rattle.std.specs.List.{All, list_any, slice_get}
+use Rattle.std.specs.List.{list_any, slice_get}
 use Rattle.std.proofs.lemmas.Bool.{or_parts, eqb-false, cond-true, cond-false}
-use Rattle.std.proofs.lemmas.List.{length-map, length-set, get_or-set_same, get_or-set_other, map-id}
-use Rattle.std.proofs.lemmas.List.Elements.{All-head, All-tail, All-map, All-filter, All-weaker}
+use Rattle.std.proofs.lemmas.List.{length-set, get_or-set_same, get_or-set_other}
 use Rattle.std.proofs.lemmas.List.Filters.{length-filter_both}
-use Rattle.std.proofs.lemmas.Option.{none-some, same_Some, slice_get-get_or}
+use Rattle.std.proofs.lemmas.Option.{none-some, same_Some}
 use Rattle.plain_tables.specs.Tables.{Table, Row}
 use Rattle.plain_tables.specs.Databases.{Database}
-use Rattle.plain_tables.specs.Queries.{value_at, full_name}
+use Rattle.plain_tables.specs.Queries.{value_at}
 use Rattle.plain_tables.specs.Effects.{Done, Changed, Rows, Listed, Refused, grown_by}
-use Rattle.plain_tables.specs.References.{IsRowOf}
-use Rattle.plain_tables.specs.Resolving.{own_columns}
-use Rattle.plain_tables.specs.Doing.{passes_all, assigned, insert_checks, update_checks, delete_checks, updated, picked, without, shown_values, headings, done}
+use Rattle.plain_tables.specs.Doing.{passes_all, assigned, insert_checks, update_checks, delete_checks, updated, without, done}
 use Rattle.plain_tables.specs.ResolvedLaws.{rows_table, rowless, ChangesRowsOf, OwnRowsChange, KeepsIfRefused, RefusedKeeps, RefusedUpdateKeeps, RefusedDeleteKeeps, UpdateKeepsUnpicked, is_to_column, assigns_twice, HasAssigned, UpdateSetsPicked, DeletesThePicked}
 use Rattle.plain_tables.specs.Runs.{refused}
 use Rattle.plain_tables.specs.declared.value.Value.TheVariants as value
-use Rattle.plain_tables.specs.declared.schema.Column.{Column}
 use Rattle.plain_tables.specs.declared.refusal.Refusal.{Refusal}
 use Rattle.plain_tables.specs.declared.command.Limits.{Limits}
-use Rattle.plain_tables.specs.declared.numbers.ColumnNumber.{ColumnNumber}
 use Rattle.plain_tables.specs.declared.numbers.TableNumber.{TableNumber}
 use Rattle.plain_tables.specs.declared.resolved.Assignment.{Assignment}
-use Rattle.plain_tables.specs.declared.resolved.Shown.{Shown}
-use Rattle.plain_tables.specs.declared.resolved.Shown.TheVariants as shown
 use Rattle.plain_tables.specs.declared.resolved.Resolved.{Resolved}
 use Rattle.plain_tables.specs.declared.resolved.Resolved.TheVariants as resolved
 use Rattle.plain_tables.proofs.EffectLemmas.{checked_satisfies}
-use Rattle.plain_tables.proofs.ListLemmas.{AllZip-map, filter_every, filter_others, filter_again}
+use Rattle.plain_tables.proofs.ListLemmas.{AllZip-map, filter_others, filter_again}
 use Rattle.plain_tables.proofs.SoundLemmas.{of_table_satisfies}
 
 -- ---- the tables that are left

@@ -1,10 +1,10 @@
 -- Columns: those of joined tables, and the one that a name means.
-use Rattle.std.proofs.Common.{◌≡◌, ◌<◌, ℕ, zero, true, false, length, map, List, [], ◌∷◌, inl, inr, refl, sym, ap, ◌∙◌, subst, suc, Option, Some, None, arith}
-use Rattle.std.specs.Prelude.{◌==◌, ◌&&◌, not}
+use Rattle.std.proofs.Common.{◌≡◌, ◌<◌, ℕ, zero, true, false, length, List, [], ◌∷◌, inl, inr, refl, sym, ap, ◌∙◌, subst, suc, Option, Some, None, arith}
+use Rattle.std.specs.Prelude.{◌==◌}
 use Rattle.std.specs.List.{All, slice_get, list_any, cons_option, filter, enumerate_from}
-use Rattle.std.specs.Option.{is_some, option_map, option_map_or}
+use Rattle.std.specs.Option.{is_some, option_map}
 use Rattle.std.specs.Str.{bytes_eq}
-use Rattle.std.proofs.lemmas.Bool.{cases_Bool, or_parts, and_parts, eqb-true, eqb-false, not-false}
+use Rattle.std.proofs.lemmas.Bool.{cases_Bool, or_parts, and_parts, eqb-true, eqb-false}
 use Rattle.std.proofs.lemmas.List.Elements.{All-nil, All-map}
 use Rattle.std.proofs.lemmas.Option.{none-some, same_Some, slice_get_within}
 use Rattle.std.proofs.lemmas.Slice.Eq.{bytes_eq-Decides}

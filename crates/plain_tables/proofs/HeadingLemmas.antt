@@ -1,5 +1,5 @@
 -- What a select shows: rows with a value below each heading, and as many headings as the columns that it names.
-use Rattle.std.proofs.Common.{◌≡◌, ◌+◌, ◌<◌, ℕ, suc, Bool, true, false, length, map, arith, List, [], ◌∷◌, ◌++◌, append-nil, append_assoc, sym, ap, ◌∙◌, subst, refl, Some}
+use Rattle.std.proofs.Common.{◌≡◌, ◌+◌, suc, Bool, true, false, length, map, List, [], ◌∷◌, ◌++◌, append-nil, append_assoc, sym, ap, ◌∙◌, subst, refl, Some}
 use Rattle.std.specs.List.{All, AllZip, filter, filter_map, flat_map, cons_option, slice_get}
 use Rattle.std.proofs.lemmas.List.{length-map, length-append}
 use Rattle.std.proofs.lemmas.Simd.{map-map}
@@ -11,8 +11,8 @@ use Rattle.plain_tables.specs.Queries.{joined_columns, full_name, places_meant}
 use Rattle.plain_tables.specs.Joining.{Member, passes_all, source_rows, value_of, product, is_joined, joined, joined_all, members_of}
 use Rattle.plain_tables.specs.Effects.{Rows}
 use Rattle.plain_tables.specs.References.{IsRowOf, IsSound}
-use Rattle.plain_tables.specs.Doing.{shown_values, joined_tables, name_at, headings, shown_rows}
-use Rattle.plain_tables.specs.ResolvedLaws.{OfTable, HasPlace, IsShown, AreJoins, IsMeant, SelectsRows, ShownFitHeadings}
+use Rattle.plain_tables.specs.Doing.{shown_values, joined_tables, headings, shown_rows}
+use Rattle.plain_tables.specs.ResolvedLaws.{OfTable, HasPlace, IsShown, AreJoins, SelectsRows, ShownFitHeadings}
 use Rattle.plain_tables.specs.CommandLaws.{NamesHaveHeadings}
 use Rattle.plain_tables.specs.QueryLaws.{SelectsPassing}
 use Rattle.plain_tables.specs.declared.schema.ColKind.TheVariants as kind
@@ -63,8 +63,8 @@ source_fits : (limits : Limits) (tables : Database) (source : Source) (table : T
     → slice_get tables source.table.0 ≡ Some table → All (IsRowOf tables table.columns) (source_rows tables source)
 source_fits limits tables source table sound there =
     rw there (
-      All-filter (passes_all source.tests) (IsRowOf tables table.columns) table.rows
-      (All-at (λ t. All (IsRowOf tables t.columns) t.rows) tables source.table.0 table sound.rows_fit there)
+    All-filter (passes_all source.tests) (IsRowOf tables table.columns) table.rows
+    (All-at (λ t. All (IsRowOf tables t.columns) t.rows) tables source.table.0 table sound.rows_fit there)
     )
 
 joined_fit : (limits : Limits) (tables : Database) (among : List Table) (members : List Member) (join : Joined) (table : Table)

@@ -1,23 +1,22 @@
 -- A select that no check refuses: its tables, the columns of its tests, of its joins and of what it shows are there.
-use Rattle.std.proofs.Common.{◌≡◌, ◌<◌, ℕ, Bool, true, false, not, length, map, get_or, arith, List, [], ◌∷◌, ◌++◌, inl, inr, refl, sym, ap, ◌∙◌, subst, Option, Some, None, append_assoc, ◌⊎◌}
+use Rattle.std.proofs.Common.{◌≡◌, ℕ, Bool, true, false, not, length, map, get_or, arith, List, [], ◌∷◌, ◌++◌, inl, inr, refl, sym, ap, ◌∙◌, subst, Option, Some, None, append_assoc, ◌⊎◌}
 use Rattle.std.specs.Prelude.{◌==◌, ◌&&◌, ◌||◌}
 use Rattle.std.specs.List.{All, AllByRecursion, list_any, filter, filter_map, cons_option, slice_get}
-use Rattle.std.specs.Option.{is_some, is_none, option_map, option_map_or, option_or, option_zip}
+use Rattle.std.specs.Option.{is_some, is_none, option_map_or, option_or, option_zip}
 use Rattle.std.specs.Str.{bytes_eq}
-use Rattle.std.proofs.lemmas.Bool.{cases_Bool, or_parts, or_from, not-false, not_from_false, eqb-true, false≢true}
-use Rattle.std.proofs.lemmas.List.{length-append}
-use Rattle.std.proofs.lemmas.List.Elements.{All-nil, All-cons, All-head, All-tail, All-weaker, filter_passes, All-filter, filter_map-append}
+use Rattle.std.proofs.lemmas.Bool.{or_parts, or_from, not-false, not_from_false, eqb-true, false≢true}
+use Rattle.std.proofs.lemmas.List.Elements.{All-nil, All-head, All-tail, All-weaker, filter_passes, All-filter, filter_map-append}
 use Rattle.std.proofs.lemmas.List.Folds.{find_at, list_any-append, list_any_none}
 use Rattle.std.proofs.lemmas.Option.{none-some, same_Some, slice_get_within}
 use Rattle.plain_tables.specs.Values.{is_null}
 use Rattle.plain_tables.specs.Tables.{Table}
 use Rattle.plain_tables.specs.Databases.{Database, is_named, table_named}
-use Rattle.plain_tables.specs.Queries.{JoinedColumn, joined_columns, fits_one, column_meant, place_meant, places_meant, side_name, sides_meant, named_items}
+use Rattle.plain_tables.specs.Queries.{JoinedColumn, joined_columns, fits_one, column_meant, place_meant, side_name, sides_meant, named_items}
 use Rattle.plain_tables.specs.Effects.{repeats, misses, condition_names}
 use Rattle.plain_tables.specs.References.{is_typed}
 use Rattle.plain_tables.specs.Resolving.{number_of, tests_of, shown_of, asks_order, mistypes, is_mistyped, once, select_names, columns_of, behind, join_columns, differ_in_type, select_checks, is_on_source, source_of, joins_of, select_of}
 use Rattle.plain_tables.specs.Doing.{joined_tables}
-use Rattle.plain_tables.specs.ResolvedLaws.{NamesItems, OfTable, IsOfColumn, AreTests, HasPlace, IsShown, AreJoins, IsMeant}
+use Rattle.plain_tables.specs.ResolvedLaws.{NamesItems, IsOfColumn, AreTests, IsShown, AreJoins, IsMeant}
 use Rattle.plain_tables.specs.declared.value.Value.{Value}
 use Rattle.plain_tables.specs.declared.condition.ColName.{ColName}
 use Rattle.plain_tables.specs.declared.condition.Cond.{Cond}
@@ -26,7 +25,6 @@ use Rattle.plain_tables.specs.declared.command.Items.TheVariants as items
 use Rattle.plain_tables.specs.declared.command.Join.{Join}
 use Rattle.plain_tables.specs.declared.command.Limits.{Limits}
 use Rattle.plain_tables.specs.declared.numbers.Place.{Place}
-use Rattle.plain_tables.specs.declared.resolved.Test.{Test}
 use Rattle.plain_tables.specs.declared.resolved.Source.{Source}
 use Rattle.plain_tables.specs.declared.resolved.Joined.{Joined}
 use Rattle.plain_tables.proofs.ColumnLemmas.{IsAt, column_at, place_found, have_places, places_length, only_one, own_found}
@@ -171,9 +169,12 @@ next_table tables among before join joins names =
     let all : named tables before ++ found.0 ∷ named tables rest ≡ among =
     ap (λ o. named tables before ++ cons_option o (named tables rest)) (sym found.1)
     ∙ sym (filter_map-append (λ name. table_named name tables) before (join.table ∷ rest)) ∙ names.are
-    in
-    (found.0, found.1, ap (slice_get among) (sym counted)
-    ∙ ap (λ ts. slice_get ts (length (named tables before))) (sym all) ∙ slice_get_behind (named tables before) (named tables rest) found.0)
+    in (
+      found.0,
+      found.1,
+      ap (slice_get among) (sym counted)
+          ∙ ap (λ ts. slice_get ts (length (named tables before))) (sym all) ∙ slice_get_behind (named tables before) (named tables rest) found.0,
+    )
 
 -- the table of a name stands under its number
 numbered : (tables : Database) (name : List ℕ) → slice_get tables (number_of name tables).0 ≡ table_named name tables
@@ -256,9 +257,9 @@ joins_meant tables among conditions before (join ∷ joins) names there right =
         (
           source_tests_meant tables among (length before) next.0 next.2 conditions right,
           slice_get_within next.0.columns first.0.1.place.column.0 first.0.1.column
-          (ap (λ (t : Table). slice_get t.columns first.0.1.place.column.0) (only_one next.0 own.0 first.0.1.place.source own.1).1 ∙ own.2),
+              (ap (λ (t : Table). slice_get t.columns first.0.1.place.column.0) (only_one next.0 own.0 first.0.1.place.source own.1).1 ∙ own.2),
           subst (λ ts. AreJoins tables ts (joins_of tables columns conditions (behind later joins))) more
-          (joins_meant tables among conditions later joins (names_on tables among before join joins names) parts.1 right),
+              (joins_meant tables among conditions later joins (names_on tables among before join joins names) parts.1 right),
         ),
       ),
     )
@@ -296,15 +297,14 @@ select_meant limits tables distinct its name joins conditions some passed =
     let joined : joined_tables tables source numbers ≡ among =
     ap (λ o. cons_option o (filter_map (λ s. slice_get tables s.table.0) (map (λ j. j.source) numbers))) (numbered tables name)
     ∙ ap (cons_option (table_named name tables)) (joins_named tables columns conditions (name ∷ []) joins meant.1) ∙ all
-    in
-    (
+    in (
       (
         found.0,
         numbered tables name ∙ found.1,
         (
           source_tests_meant tables among 0 found.0 first conditions right.0,
           subst (λ o. AreJoins tables (cons_option o []) numbers) found.1
-          (joins_meant tables among conditions (name ∷ []) joins are meant.1 right.0),
+              (joins_meant tables among conditions (name ∷ []) joins are meant.1 right.0),
         ),
       ),
       subst (λ ts. IsShown ts (shown_of columns its)) (sym joined) (shown_there among its some shown.0),

@@ -8,7 +8,7 @@ use Rattle.plain_tables.specs.Tables.{Table, Row}
 use Rattle.plain_tables.specs.Databases.{Database, table_named}
 use Rattle.plain_tables.specs.Queries.{value_at}
 use Rattle.plain_tables.specs.Effects.{Effect, Rows, Refused, repeats, new_table}
-use Rattle.plain_tables.specs.References.{RefersInto, is_typed, is_table_referenced, is_index, IsRowOf, IsKeyTree, IsSoundTable, IsSound}
+use Rattle.plain_tables.specs.References.{RefersInto, is_typed, is_table_referenced, is_index, IsKeyTree, IsSoundTable, IsSound}
 use Rattle.plain_tables.specs.Resolving.{has_mistyped, resolved_of}
 use Rattle.plain_tables.specs.Joining.{members_of}
 use Rattle.plain_tables.specs.Doing.{updated, picked, update, without, delete, joined_tables, shown_rows, headings, done}

@@ -6,7 +6,7 @@ use Rattle.std.specs.Str.{bytes_eq}
 use Rattle.plain_tables.specs.Values.{is_null}
 use Rattle.plain_tables.specs.Tables.{Table, Row}
 use Rattle.plain_tables.specs.Databases.{Database, is_named, table_named}
-use Rattle.plain_tables.specs.Queries.{JoinedColumn, joined_columns, column_number, column_meant, place_meant, places_meant, same_place, sides_meant, named_items}
+use Rattle.plain_tables.specs.Queries.{JoinedColumn, joined_columns, column_meant, place_meant, places_meant, same_place, sides_meant, named_items}
 use Rattle.plain_tables.specs.Effects.{Check, repeats, column_names, misses, is_long, setting_name, condition_names}
 use Rattle.plain_tables.specs.References.{referred, type_of, same_type, is_typed, refers_into, is_table_referenced, is_index, all_indexes}
 use Rattle.plain_tables.specs.declared.value.Value.{Value}
