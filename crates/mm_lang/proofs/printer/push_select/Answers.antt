@@ -7,7 +7,8 @@ use Rattle.mm_lang.proofs.printer.push_select.Goals as goal
 pub returns : goal.returns
 returns c =
     on_ok_weaker c.push_where.result
-    (written-select _ c.args.table.now _ _ _ _ (string_bytes c.push_where.new.line) c.args.items.now c.args.conditions.now
-    c.in_ok-push_str.ensures.bytes c.in_ok-push_items.ensures c.in_ok-push_str-2.ensures.bytes
-    (c.in_ok-push_str-3.ensures.bytes ∙ ap (λ n. string_bytes c.push_str-2.new.self ++ n) c.as_str.ensures))
+    (written-select _ c.args.table.now _ _ _ _ _ (string_bytes c.push_where.new.line) c.args.distinct c.args.items.now c.args.joins.now
+    c.args.conditions.now (c.in_ok-push_str.ensures.bytes ∙ ap (λ n. string_bytes c.args.line.now ++ n) c.select_str.ensures)
+    c.in_ok-push_items.ensures c.in_ok-push_str-2.ensures.bytes
+    (c.in_ok-push_str-3.ensures.bytes ∙ ap (λ n. string_bytes c.push_str-2.new.self ++ n) c.as_str.ensures) c.in_ok-push_joins.ensures)
     c.push_where.ensures
