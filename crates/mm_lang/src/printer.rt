@@ -8,7 +8,9 @@ ghost use Rattle.mm_lang.specs.Printing.{behind};
 
 use crate::items::{Item, push_list};
 use crate::joins::push_joins;
-use plain_tables::{Command, Cond, IndexKind, Items, Join, NoMemory, Schema, Setting, Text};
+use plain_tables::{
+    Command, Cond, IndexKind, Items, Join, NoMemory, Schema, Sequence, Setting, Text,
+};
 use std::alloc::Global;
 
 /// The canonical spelling of a command.
@@ -54,14 +56,7 @@ fn push_command(line: &mut String, command: &Command) -> Result<(), NoMemory>
             table,
             joins,
             conditions,
-        } => push_select(
-            line,
-            *distinct,
-            items,
-            table,
-            joins.as_slice(),
-            conditions.as_slice(),
-        ),
+        } => push_select(line, *distinct, items, table, joins, conditions),
         Command::Tables => {
             line.push_str("tables")?;
             Ok(())
@@ -181,8 +176,8 @@ fn push_select(
     distinct: bool,
     items: &Items,
     table: &Text,
-    joins: &[Join],
-    conditions: &[Cond],
+    joins: &Sequence<Join>,
+    conditions: &Sequence<Cond>,
 ) -> Result<(), NoMemory>
     ensures { OnOk result (string_bytes line.new ≡ string_bytes line.old ++ spaced (symbols_of (command.Select distinct items.now table.now joins.now conditions.now))) }
 {
@@ -190,8 +185,8 @@ fn push_select(
     push_items(line, items)?;
     line.push_str(" from ")?;
     line.push_str(table.as_str())?;
-    push_joins(line, joins)?;
-    push_where(line, conditions)
+    push_joins(line, joins.as_slice())?;
+    push_where(line, conditions.as_slice())
 }
 
 // * or NAME {, NAME}
