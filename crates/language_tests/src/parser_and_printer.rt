@@ -35,6 +35,13 @@ select*from t => select * from t\n\
 select *from tables_ => select * from tables_\n\
 select * from abcdefghijklmnopqrstuvwxyz_01234 => select * from abcdefghijklmnopqrstuvwxyz_01234\n\
 select  a,T.b from T where a>=-07 => select a, T.b from T where a >= -7\n\
+select  distinct a,T.b from T where a>=-07 => select distinct a, T.b from T where a >= -7\n\
+select distinct*from distinct_ => select distinct * from distinct_\n\
+select a.id from a\tjoin b on a.id=b . a => select a.id from a join b on a.id = b.a\n\
+select*from a join  b on b.a = a . id join c on c .b=b.id where c.id<3 and a.id=2 => \
+select * from a join b on b.a = a.id join c on c.b = b.id where c.id < 3 and a.id = 2\n\
+select * from t join t on t.a=t.a join join_ on on_.a=t.b join u on a.b=c.d join v on v.a=t.c => \
+select * from t join t on t.a = t.a join join_ on on_.a = t.b join u on a.b = c.d join v on v.a = t.c\n\
 select T . b from T where T\t. b<>1 and a=2 and c<3 => select T.b from T where T.b <> 1 and a = 2 and c < 3\n\
 select * from t where x='a'and y<=2 => select * from t where x = 'a' and y <= 2\n\
 select * from t where x>'a' => select * from t where x > 'a'\n\
@@ -58,6 +65,8 @@ fn commands_are_read_and_printed(rt: HostRuntime) -> Result<(), Fail> {
         let (line, want) = row.split_once(" => ").unwrap_or((row, ""));
         let text = spelled(rt.alloc(), line)?;
         assert_eq!(rt; text.as_str(), want, "at {line}");
+        let again = spelled(rt.alloc(), text.as_str())?;
+        assert_eq!(rt; again.as_str(), want, "at {want}");
     }
     Ok(())
 }
@@ -89,12 +98,17 @@ value: Text(Text { text: \"\" }) }] } })|\
 delete t where a < 1 and b = 2 => Ok(Delete { table: Text { text: \"t\" }, conditions: Sequence { items: [\
 Cond { column: ColName { table: None, column: Text { text: \"a\" } }, op: Lt, value: Int(1) }, \
 Cond { column: ColName { table: None, column: Text { text: \"b\" } }, op: Eq, value: Int(2) }] } })|\
-select * from t where a > 1 => Ok(Select { items: All, table: Text { text: \"t\" }, conditions: Sequence { items: [\
+select * from t where a > 1 => Ok(Select { distinct: false, items: All, table: Text { text: \"t\" }, \
+joins: Sequence { items: [] }, conditions: Sequence { items: [\
 Cond { column: ColName { table: None, column: Text { text: \"a\" } }, op: Gt, value: Int(1) }] } })|\
-select a, T.b from T where T.c <= 'it''s' and d <> 5 => Ok(Select { items: Named(Sequence { items: [\
+select distinct * from t join u on v.a = t.b => Ok(Select { distinct: true, items: All, table: Text { text: \"t\" }, \
+joins: Sequence { items: [Join { table: Text { text: \"u\" }, \
+left: JoinSide { table: Text { text: \"v\" }, column: Text { text: \"a\" } }, \
+right: JoinSide { table: Text { text: \"t\" }, column: Text { text: \"b\" } } }] }, conditions: Sequence { items: [] } })|\
+select a, T.b from T where T.c <= 'it''s' and d <> 5 => Ok(Select { distinct: false, items: Named(Sequence { items: [\
 ColName { table: None, column: Text { text: \"a\" } }, \
 ColName { table: Some(Text { text: \"T\" }), column: Text { text: \"b\" } }] }), \
-table: Text { text: \"T\" }, conditions: Sequence { items: [\
+table: Text { text: \"T\" }, joins: Sequence { items: [] }, conditions: Sequence { items: [\
 Cond { column: ColName { table: Some(Text { text: \"T\" }), column: Text { text: \"c\" } }, op: Le, \
 value: Text(Text { text: \"it's\" }) }, \
 Cond { column: ColName { table: None, column: Text { text: \"d\" } }, op: Ne, value: Int(5) }] } })";
@@ -202,6 +216,34 @@ select * from t where a|\
 select * from t where null = a|\
 select * from t where a null|\
 select null from t|\
+select distinct from t|\
+select distinct distinct a from t|\
+select distinct, a from t|\
+select a distinct from t|\
+select Distinct a from t|\
+select * from t, u|\
+select * from t u on t.a = u.b|\
+select * from t on t.a = u.b|\
+select * from t join|\
+select * from t join u|\
+select * from t join u t.a = u.b|\
+select * from t join u where t.a = u.b|\
+select * from t join on t.a = u.b|\
+select * from t join u.v on t.a = u.b|\
+select * from t join u on|\
+select * from t join u on t.a|\
+select * from t join u on t.a = |\
+select * from t join u on a = u.b|\
+select * from t join u on t.a = b|\
+select * from t join u on t.a = 1|\
+select * from t join u on t.a < u.b|\
+select * from t join u on t.a = u.b.c|\
+select * from t join u on t.a = u.b and t.c = u.d|\
+select * from t join u on t.a = u.b, v on v.a = t.a|\
+select * from t join u on t.a = u.b join|\
+select * from t join u on t.a = u.b t.c = 1|\
+select * from t where t.a = 1 join u on t.a = u.b|\
+delete t join u on t.a = u.b|\
 select * from t and a = 1|\
 update t|\
 update t set|\
@@ -264,9 +306,10 @@ fn parse_reads_the_parts_of_a_command(rt: HostRuntime) -> Result<(), Fail> {
     Ok(())
 }
 
-// A list that grows, and texts in settings and conditions; references; two names.
-const LINES: [&str; 3] = [
+// A list that grows, and texts in settings and conditions; joins; references; two names.
+const LINES: [&str; 4] = [
     "update t set a = 1, b = 2, c = 3, d = 4, e = 'it''s' where t.b = 'x' and c = 'y'",
+    "select distinct a, t.b from t join u on u.a = t.id join v on v.b = u.id where v.id < 3",
     "table t (a int, b ref u null, c ref v)",
     "drop index t a tree",
 ];

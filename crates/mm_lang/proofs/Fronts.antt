@@ -104,7 +104,7 @@ pub word-ends_item : (characters word : List ℕ) → bytes_eq word (codes ".") 
 word-ends_item characters word no_dot no_null e =
     (not-word characters word (codes ".") no_dot e, not-word characters word (codes "null") no_null e)
 
-operator-ends_item : (o : Op) (characters : List ℕ) → characters ≡ operator_text o → EndsItem characters
+pub operator-ends_item : (o : Op) (characters : List ℕ) → characters ≡ operator_text o → EndsItem characters
 operator-ends_item op.Eq characters e = word-ends_item characters (operator_text op.Eq) refl refl e
 operator-ends_item op.Ne characters e = word-ends_item characters (operator_text op.Ne) refl refl e
 operator-ends_item op.Lt characters e = word-ends_item characters (operator_text op.Lt) refl refl e

@@ -1,8 +1,10 @@
 pub mod Digits
 pub mod Fronts
+pub mod Joining
 pub mod Lists
 pub mod Marks
 pub mod Productions
+pub mod Selects
 pub mod Spelled
 pub mod Spacing
 pub mod Utf8

@@ -3,31 +3,28 @@ use Rattle.std.proofs.Common.{◌≡◌, ◌≢◌, ℕ, ◌<◌, List, [], ◌�
 use Rattle.std.specs.Str.{bytes_eq}
 use lib.Chars.{codes}
 use Rattle.plain_tables.specs.Names.{IsName}
-use Rattle.plain_tables.specs.Spelling.{Symbol, Keyword, Name, Sign, Open, Close, Comma, separated, column_symbols, index_word, index_symbols, value_symbols, name_symbols, setting_symbols, condition_symbols, items_symbols, where_symbols, NamesSomething}
+use Rattle.plain_tables.specs.Spelling.{Symbol, Keyword, Name, Sign, Open, Close, Comma, separated, column_symbols, index_word, index_symbols, value_symbols, setting_symbols, condition_symbols, where_symbols, NamesSomething}
 use Rattle.plain_tables.specs.Reading.{lexeme, after_lexeme}
 use Rattle.plain_tables.specs.declared.value.Value.{Value}
 use Rattle.plain_tables.specs.declared.schema.Column.{Column}
 use Rattle.plain_tables.specs.declared.schema.Schema.{Schema}
 use Rattle.plain_tables.specs.declared.schema.IndexKind.{IndexKind}
-use Rattle.plain_tables.specs.declared.condition.ColName.{ColName}
 use Rattle.plain_tables.specs.declared.condition.Cond.{Cond}
 use Rattle.plain_tables.specs.declared.command.Setting.{Setting}
-use Rattle.plain_tables.specs.declared.command.Items.{Items}
-use Rattle.plain_tables.specs.declared.command.Items.TheVariants as items
 use Rattle.plain_tables.specs.declared.command.Command.{Command}
-use Rattle.plain_tables.specs.declared.command.Command.TheVariants.{Table, DropTable, Index, DropIndex, Insert, Update, Delete, Select, Tables}
+use Rattle.plain_tables.specs.declared.command.Command.TheVariants.{Table, DropTable, Index, DropIndex, Insert, Update, Delete, Tables}
 use Rattle.plain_tables.proofs.FirstWords.{different, first_word, behind_word, split-word}
-use Rattle.mm_lang.specs.Parsing.{Reads, IsWhole, ReadsList, IsOfText, EndsItem, BeginsWithList, BeginsWithNoList, NameSomething, BeginsWithItems, BeginsWithNoItems, IsNameAndList, IsWhere, Completes}
-use Rattle.mm_lang.proofs.Fronts.{no-name, reads-append, reads-split, not-word, word-ends_item, no-first}
-use Rattle.mm_lang.proofs.Lists.{list-some, list-first, list-spelled, spelled-list}
+use Rattle.mm_lang.specs.Parsing.{Reads, IsWhole, ReadsList, IsOfText, EndsItem, BeginsWithList, BeginsWithNoList, IsNameAndList, IsWhere, Completes}
+use Rattle.mm_lang.proofs.Fronts.{no-name, reads-append, reads-split, not-word, word-ends_item}
+use Rattle.mm_lang.proofs.Lists.{list-some, list-spelled, spelled-list}
 use Rattle.mm_lang.proofs.Utf8.{of_text-after}
 
 -- lists with commas between their items
-comma-spelled : {X : Type 0} (symbols : X → List Symbol) (line : List ℕ) (xs : List X) (rest : List ℕ)
+pub comma-spelled : {X : Type 0} (symbols : X → List Symbol) (line : List ℕ) (xs : List X) (rest : List ℕ)
     → ReadsList symbols (codes ",") line xs rest → Reads line (separated (map symbols xs)) rest
 comma-spelled symbols line xs rest reads = list-spelled symbols (Sign Comma) (codes ",") (λ characters e. e) line xs rest reads
 
-spelled-comma : {X : Type 0} (symbols : X → List Symbol) (line : List ℕ) (xs : List X) (rest : List ℕ) → 0 < length xs
+pub spelled-comma : {X : Type 0} (symbols : X → List Symbol) (line : List ℕ) (xs : List X) (rest : List ℕ) → 0 < length xs
     → Reads line (separated (map symbols xs)) rest → ReadsList symbols (codes ",") line xs rest
 spelled-comma symbols line xs rest some reads = spelled-list symbols (Sign Comma) (codes ",") (λ characters e. e) line xs rest some reads
 
@@ -67,16 +64,16 @@ more-behind_conditions line front found behind word f list more conditions is =
     (word-ends_item (lexeme parts.0) [] refl refl parts.2) (not-word (lexeme parts.0) [] (codes "and") refl parts.2) in
     more (ap lexeme (sym same.1) ∙ parts.2)
 
-where-begins : (line : List ℕ) (conditions : List Cond) → IsWhere line conditions → (lexeme line ≡ []) ⊎ (lexeme line ≡ codes "where")
+pub where-begins : (line : List ℕ) (conditions : List Cond) → IsWhere line conditions → (lexeme line ≡ []) ⊎ (lexeme line ≡ codes "where")
 where-begins line [] (rest, e, end) = inl (ap lexeme e ∙ end)
 where-begins line (x ∷ xs) (rest, (word, reads), end) = inr word
 
-either-not : (characters word : List ℕ) → bytes_eq [] word ≡ false → bytes_eq (codes "where") word ≡ false
+pub either-not : (characters word : List ℕ) → bytes_eq [] word ≡ false → bytes_eq (codes "where") word ≡ false
     → (characters ≡ []) ⊎ (characters ≡ codes "where") → characters ≢ word
 either-not characters word test test' (inl e) = not-word characters [] word test e
 either-not characters word test test' (inr e) = not-word characters (codes "where") word test' e
 
-either-ends_item : (characters : List ℕ) → (characters ≡ []) ⊎ (characters ≡ codes "where") → EndsItem characters
+pub either-ends_item : (characters : List ℕ) → (characters ≡ []) ⊎ (characters ≡ codes "where") → EndsItem characters
 either-ends_item characters (inl e) = word-ends_item characters [] refl refl e
 either-ends_item characters (inr e) = word-ends_item characters (codes "where") refl refl e
 
@@ -85,18 +82,18 @@ either-ends_item characters (inr e) = word-ends_item characters (codes "where") 
 tails : (word other : List ℕ) (xs ys : List Symbol) → Keyword word ∷ xs ≡ Keyword other ∷ ys → (word ≡ other) × (xs ≡ ys)
 tails word other xs ys e = (cc, cc)
 
-other-word : (line word : List ℕ) (command : Command) → bytes_eq (first_word command) word ≡ false → Completes word line command → ⊥
+pub other-word : (line word : List ℕ) (command : Command) → bytes_eq (first_word command) word ≡ false → Completes word line command → ⊥
 other-word line word command test completes =
     different (first_word command) word test
     (tails (first_word command) word (behind_word command) completes.symbols (sym (split-word command).0 ∙ completes.first)).0
 
-behind-first : (line : List ℕ) (command : Command) → Completes (first_word command) line command → IsWhole line (behind_word command)
+pub behind-first : (line : List ℕ) (command : Command) → Completes (first_word command) line command → IsWhole line (behind_word command)
 behind-first line command completes =
     subst (λ ss. IsWhole line ss)
     (sym (tails (first_word command) (first_word command) (behind_word command) completes.symbols (sym (split-word command).0 ∙ completes.first)).1)
     completes.made
 
-completed : (line : List ℕ) (command : Command) → NamesSomething command → IsWhole line (behind_word command)
+pub completed : (line : List ℕ) (command : Command) → NamesSomething command → IsWhole line (behind_word command)
     → Completes (first_word command) line command
 completed line command some made = record { some = some; symbols = behind_word command; first = (split-word command).0; made = made }
 
@@ -338,131 +335,3 @@ delete-only line rest f not (Delete table conditions) completes =
     let made : IsWhole line (behind_word (Delete table conditions)) = behind-first line (Delete table conditions) completes in
     not conditions (subst (λ l. IsWhere l conditions) (sym f) (made.0, made.1.1, made.2))
 delete-only line rest f not command completes = other-word line (codes "delete") command refl completes
-
--- ---- select
-
--- The line is items, `from`, a name, and conditions.
-pub record IsSelect (line : List ℕ) (items : Items) (table : List ℕ) (conditions : List Cond) : Type 0 where
-  pub some : NameSomething items
-  pub behind : List ℕ
-  pub found : Reads line (items_symbols items) behind
-  pub begins : lexeme behind ≡ codes "from"
-  pub is : IsName table
-  pub named : lexeme (after_lexeme behind) ≡ table
-  pub tail : IsWhere (after_lexeme (after_lexeme behind)) conditions
-
-names-something : (items : Items) (table : List ℕ) (conditions : List Cond) → NameSomething items → NamesSomething (Select items table conditions)
-names-something items.All table conditions some = tt
-names-something (items.Named names) table conditions some = some
-
-name-something : (items : Items) (table : List ℕ) (conditions : List Cond) → NamesSomething (Select items table conditions) → NameSomething items
-name-something items.All table conditions some = tt
-name-something (items.Named names) table conditions some = some
-
-pub select-completed : (line : List ℕ) (items : Items) (table : List ℕ) (conditions : List Cond) → IsSelect line items table conditions
-    → Completes (codes "select") line (Select items table conditions)
-select-completed line items table conditions is =
-    let others : List Symbol = Keyword (codes "from") ∷ Name table ∷ where_symbols conditions in
-    completed line (Select items table conditions) (names-something items table conditions is.some)
-    (is.tail.0, reads-append line (items_symbols items) others is.behind is.tail.0 is.found (is.begins, ((is.named, is.is), is.tail.1)), is.tail.2)
-
-select-parts : (line : List ℕ) (items : Items) (table : List ℕ) (conditions : List Cond)
-    → Completes (codes "select") line (Select items table conditions) → IsSelect line items table conditions
-select-parts line items table conditions completes =
-    let others : List Symbol = Keyword (codes "from") ∷ Name table ∷ where_symbols conditions in
-    let made : IsWhole line (items_symbols items ++ others) = behind-first line (Select items table conditions) completes in
-    let parts : (mid : List ℕ) × Reads line (items_symbols items) mid × Reads mid others made.0 =
-    reads-split line (items_symbols items) others made.0 made.1 in
-    record {
-      some = name-something items table conditions completes.some;
-      behind = parts.0;
-      found = parts.1;
-      begins = parts.2.0;
-      is = parts.2.1.0.1;
-      named = parts.2.1.0.0;
-      tail = (made.0, parts.2.1.1, made.2);
-    }
-
-pub select-only : (line : List ℕ) → ((items : Items) (table : List ℕ) (conditions : List Cond) → IsSelect line items table conditions → ⊥)
-    → (command : Command) → Completes (codes "select") line command → ⊥
-select-only line not (Select items table conditions) completes = not items table conditions (select-parts line items table conditions completes)
-select-only line not command completes = other-word line (codes "select") command refl completes
-
-pub no-items : (line : List ℕ) → BeginsWithNoItems line → IsOfText line → (items : Items) (table : List ℕ) (conditions : List Cond)
-    → IsSelect line items table conditions → ⊥
-no-items line not of items table conditions is = not.none of items is.behind is.some is.found is.begins
-
--- the items that a select begins with are those that are found
-items-behind : (line : List ℕ) (found : Items) (rest : List ℕ) → BeginsWithItems line found rest → (items : Items) (table : List ℕ)
-    (conditions : List Cond) → (is : IsSelect line items table conditions) → is.behind ≡ rest
-items-behind line found rest begins items table conditions is = (begins.only items is.behind is.some is.found is.begins).1
-
-pub no-from : (line : List ℕ) (found : Items) (rest : List ℕ) → BeginsWithItems line found rest → lexeme rest ≢ codes "from"
-    → (items : Items) (table : List ℕ) (conditions : List Cond) → IsSelect line items table conditions → ⊥
-no-from line found rest begins not items table conditions is =
-    not (ap lexeme (sym (items-behind line found rest begins items table conditions is)) ∙ is.begins)
-
-pub no-table : (line : List ℕ) (found : Items) (rest front : List ℕ) → BeginsWithItems line found rest → front ≡ after_lexeme rest
-    → (IsName (lexeme front) → ⊥) → (items : Items) (table : List ℕ) (conditions : List Cond) → IsSelect line items table conditions → ⊥
-no-table line found rest front begins f not items table conditions is =
-    let same : lexeme front ≡ table =
-    ap lexeme f ∙ (ap (λ l. lexeme (after_lexeme l)) (sym (items-behind line found rest begins items table conditions is)) ∙ is.named) in
-    not (subst IsName (sym same) is.is)
-
-pub no-tail_of_select : (line : List ℕ) (found : Items) (rest front behind : List ℕ) → BeginsWithItems line found rest → front ≡ after_lexeme rest
-    → behind ≡ after_lexeme front → ((conditions : List Cond) → IsWhere behind conditions → ⊥)
-    → (items : Items) (table : List ℕ) (conditions : List Cond) → IsSelect line items table conditions → ⊥
-no-tail_of_select line found rest front behind begins f g not items table conditions is =
-    let same : after_lexeme (after_lexeme is.behind) ≡ behind =
-    ap (λ l. after_lexeme (after_lexeme l)) (items-behind line found rest begins items table conditions is) ∙ sym (g ∙ ap after_lexeme f) in
-    not conditions (subst (λ l. IsWhere l conditions) same is.tail)
-
--- ---- the items of a select
-
-star-no_name : (line : List ℕ) → lexeme line ≡ codes "*" → IsName (lexeme line) → ⊥
-star-no_name line star is = let name : IsName (codes "*") = subst IsName star is in cc
-
-pub all-items : (line rest : List ℕ) → lexeme line ≡ codes "*" → rest ≡ after_lexeme line → BeginsWithItems line items.All rest
-all-items line rest star f = record {
-  some = tt;
-  found = (star, sym f);
-  only = λ others other some reads begins. all-only line rest star f others other some reads;
-}
-  where
-    all-only : (line rest : List ℕ) → lexeme line ≡ codes "*" → rest ≡ after_lexeme line → (others : Items) (other : List ℕ)
-        → NameSomething others → Reads line (items_symbols others) other → (others ≡ items.All) × (other ≡ rest)
-    all-only line rest star f items.All other some reads = (refl, sym reads.1 ∙ sym f)
-    all-only line rest star f (items.Named names) other some reads =
-        let first : (x : ColName) × (behind : List ℕ) × Reads line (name_symbols x) behind =
-        list-first name_symbols (codes ",") line names other (spelled-comma name_symbols line names other some reads) in
-        absurd (no-first line (star-no_name line star) first.0.table first.0.column first.1 first.2)
-
-pub named-items : (line : List ℕ) (names found : List ColName) (rest : List ℕ) → lexeme line ≢ codes "*" → found ≡ names
-    → BeginsWithList name_symbols (codes ",") line names rest → BeginsWithItems line (items.Named found) rest
-named-items line names found rest star same list = subst (λ l. BeginsWithItems line (items.Named l) rest) (sym same) (record {
-  some = list-some name_symbols (codes ",") line names rest list.found;
-  found = comma-spelled name_symbols line names rest list.found;
-  only = λ others other some reads begins. named-only line names rest star list others other some reads begins;
-})
-  where
-    named-only : (line : List ℕ) (names : List ColName) (rest : List ℕ) → lexeme line ≢ codes "*"
-        → BeginsWithList name_symbols (codes ",") line names rest → (others : Items) (other : List ℕ) → NameSomething others
-        → Reads line (items_symbols others) other → lexeme other ≡ codes "from" → (others ≡ items.Named names) × (other ≡ rest)
-    named-only line names rest star list items.All other some reads begins = absurd (star reads.0)
-    named-only line names rest star list (items.Named ys) other some reads begins =
-        let parts : (ys ≡ names) × (other ≡ rest) =
-        list.only ys other (spelled-comma name_symbols line ys other some reads)
-        (word-ends_item (lexeme other) (codes "from") refl refl begins) (not-word (lexeme other) (codes "from") (codes ",") refl begins) in
-        (ap items.Named parts.0, parts.1)
-
-pub neither-items : (line : List ℕ) → lexeme line ≢ codes "*" → BeginsWithNoList name_symbols (codes ",") line → BeginsWithNoItems line
-neither-items line star not = record {
-  none = λ of others other some reads begins. no-others line star not of others other some reads begins;
-}
-  where
-    no-others : (line : List ℕ) → lexeme line ≢ codes "*" → BeginsWithNoList name_symbols (codes ",") line → IsOfText line
-        → (others : Items) (other : List ℕ) → NameSomething others → Reads line (items_symbols others) other → lexeme other ≡ codes "from" → ⊥
-    no-others line star not of items.All other some reads begins = star reads.0
-    no-others line star not of (items.Named names) other some reads begins =
-        not.none of names other (spelled-comma name_symbols line names other some reads)
-        (word-ends_item (lexeme other) (codes "from") refl refl begins) (not-word (lexeme other) (codes "from") (codes ",") refl begins)

@@ -1,13 +1,17 @@
 -- Spacing: the canonical spelling of symbols, one list behind another.
-use Rattle.std.proofs.Common.{◌≡◌, ℕ, List, [], ◌∷◌, ◌++◌, length, map, false, IsTrue, refl, sym, ◌∙◌, ap, append_assoc, append-nil}
+use Rattle.std.proofs.Common.{◌≡◌, ℕ, List, [], ◌∷◌, ◌++◌, length, map, Bool, true, false, IsTrue, refl, sym, ◌∙◌, ap, append_assoc, append-nil, subst}
+use Rattle.std.specs.List.{flat_map}
 use Rattle.std.specs.Prelude.{◌==◌}
 use lib.Chars.{codes}
-use Rattle.plain_tables.specs.Spelling.{Symbol, Keyword, Name, Sign, Open, Close, Comma, Dot, separated, separated_by, name_symbols, setting_symbols, condition_symbols, items_symbols, where_symbols, symbols_of, symbol_text, gap, spaced}
+use Rattle.plain_tables.specs.Spelling.{Symbol, Keyword, Name, Sign, Open, Close, Comma, Dot, separated, separated_by, name_symbols, setting_symbols, condition_symbols, distinct_symbols, items_symbols, joined_symbols, join_symbols, where_symbols, symbols_of, symbol_text, gap, spaced}
 use Rattle.plain_tables.specs.declared.condition.Cond.{Cond}
 use Rattle.plain_tables.specs.declared.command.Setting.{Setting}
+use Rattle.plain_tables.specs.declared.command.Join.{Join}
 use Rattle.plain_tables.specs.declared.command.Items.{Items}
 use Rattle.plain_tables.specs.declared.command.Items.TheVariants as items
 use Rattle.plain_tables.specs.declared.command.Command.TheVariants.{Update, Delete, Select}
+use Rattle.plain_tables.proofs.FirstWords.{split-word}
+use Rattle.plain_tables.proofs.SingleItems.{joins-listed}
 use Rattle.mm_lang.specs.Printing.{behind, leaves_gap, EndsFree, BeginsFree, IsFree, joined, name_symbols-free, condition_symbols-free}
 
 -- ---- one list behind another
@@ -175,21 +179,54 @@ items-any : (items : Items) → EndsFreeIfAny (items_symbols items)
 items-any items.All = refl
 items-any (items.Named names) = separated-any name_symbols name_symbols-free (Sign Comma) names
 
-pub written-select : (old table a b d e new : List ℕ) (items : Items) (conditions : List Cond) → a ≡ old ++ codes "select"
-    → b ≡ a ++ behind (items_symbols items) → d ≡ b ++ codes " from " → e ≡ d ++ table → new ≡ e ++ behind (where_symbols conditions)
-    → new ≡ old ++ spaced (symbols_of (Select items table conditions))
-written-select old table a b d e new items conditions p q r s t =
-    let front : List Symbol = Keyword (codes "select") ∷ [] in
+distinct-free : (distinct : Bool) → EndsFree (Keyword (codes "select") ∷ distinct_symbols distinct)
+distinct-free true = refl
+distinct-free false = refl
+
+joins-any : (joins : List Join) → EndsFreeIfAny (flat_map join_symbols joins)
+joins-any [] = tt
+joins-any (join ∷ []) = refl
+joins-any (join ∷ next ∷ joins) = ends-append (join_symbols join) (flat_map join_symbols (next ∷ joins)) (joins-any (next ∷ joins))
+
+join-free : AllFree joined_symbols
+join-free join = (refl, refl)
+
+join-joined : (joins : List Join) → spaced (separated_by (Keyword (codes "join")) (map joined_symbols joins)) ≡ joined joined_symbols (codes " join ") joins
+join-joined joins = separated-joined joined_symbols join-free (Keyword (codes "join")) refl joins
+
+pub written-joins : (old blank new : List ℕ) (joins : List Join) → (length joins == 0) ≡ false → blank ≡ old ++ codes " join "
+    → new ≡ blank ++ joined joined_symbols (codes " join ") joins → new ≡ old ++ behind (flat_map join_symbols joins)
+written-joins old blank new [] some e f = cc
+written-joins old blank new (x ∷ xs) some e f =
+    let others : List Symbol = separated_by (Keyword (codes "join")) (map joined_symbols (x ∷ xs)) in
+    let first : spaced (Keyword (codes "join") ∷ others) ≡ codes "join" ++ behind others =
+    spaced-append (Keyword (codes "join") ∷ []) others refl in
+    let second : behind others ≡ 32 ∷ joined joined_symbols (codes " join ") (x ∷ xs) =
+    behind-free others (separated-begins joined_symbols join-free (Keyword (codes "join")) x xs) ∙ ap (λ t. 32 ∷ t) (join-joined (x ∷ xs)) in
+    let whole : new ≡ old ++ behind (Keyword (codes "join") ∷ others) =
+    rw (f, e, first, second) (append_assoc old (codes " join ") (joined joined_symbols (codes " join ") (x ∷ xs))) in
+    subst (λ ss. new ≡ old ++ behind ss) (sym (joins-listed x xs)) whole
+
+pub written-select : (old table a b d e f new : List ℕ) (distinct : Bool) (items : Items) (joins : List Join) (conditions : List Cond)
+    → a ≡ old ++ spaced (Keyword (codes "select") ∷ distinct_symbols distinct) → b ≡ a ++ behind (items_symbols items) → d ≡ b ++ codes " from "
+    → e ≡ d ++ table → f ≡ e ++ behind (flat_map join_symbols joins) → new ≡ f ++ behind (where_symbols conditions)
+    → new ≡ old ++ spaced (symbols_of (Select distinct items table joins conditions))
+written-select old table a b d e f new distinct items joins conditions p q r s t u =
+    let front : List Symbol = Keyword (codes "select") ∷ distinct_symbols distinct in
     let middle : List Symbol = Keyword (codes "from") ∷ Name table ∷ [] in
-    let last : List Symbol = where_symbols conditions in
+    let last : List Symbol = flat_map join_symbols joins ++ where_symbols conditions in
     let first : spaced (front ++ (items_symbols items ++ (middle ++ last))) ≡ spaced front ++ behind (items_symbols items ++ (middle ++ last)) =
-    spaced-append front (items_symbols items ++ (middle ++ last)) refl in
+    spaced-append front (items_symbols items ++ (middle ++ last)) (distinct-free distinct) in
     let second : behind (items_symbols items ++ (middle ++ last)) ≡ behind (items_symbols items) ++ behind (middle ++ last) =
     behind-append (items_symbols items) (middle ++ last) (items-any items) in
     let third : behind (middle ++ last) ≡ behind middle ++ behind last = behind-append middle last refl in
-    let whole : spaced (front ++ (items_symbols items ++ (middle ++ last))) ≡ spaced front ++ (behind (items_symbols items) ++ (behind middle ++ behind last)) =
-    first ∙ ap (λ l. spaced front ++ l) (second ∙ ap (λ l. behind (items_symbols items) ++ l) third) in
-    rw (t, s, r, q, p, whole) (simp append_assoc)
+    let fourth : behind last ≡ behind (flat_map join_symbols joins) ++ behind (where_symbols conditions) =
+    behind-append (flat_map join_symbols joins) (where_symbols conditions) (joins-any joins) in
+    let whole : spaced (symbols_of (Select distinct items table joins conditions))
+    ≡ spaced front ++ (behind (items_symbols items) ++ (behind middle ++ (behind (flat_map join_symbols joins) ++ behind (where_symbols conditions)))) =
+    ap spaced (split-word (Select distinct items table joins conditions)).0
+    ∙ (first ∙ ap (λ l. spaced front ++ l) (second ∙ ap (λ l. behind (items_symbols items) ++ l) (third ∙ ap (λ l. behind middle ++ l) fourth))) in
+    rw (u, t, s, r, q, p, whole) (simp append_assoc)
 
 pub written-delete : (old table a b new : List ℕ) (conditions : List Cond) → a ≡ old ++ codes "delete " → b ≡ a ++ table
     → new ≡ b ++ behind (where_symbols conditions) → new ≡ old ++ spaced (symbols_of (Delete table conditions))

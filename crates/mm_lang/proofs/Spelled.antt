@@ -1,16 +1,17 @@
 -- Spelled: a line spells a command where its lexemes are the command's symbols.
 use Rattle.std.proofs.Common.{◌≡◌, ◌≢◌, ℕ, List, [], ◌∷◌, map, get_or, Bool, true, false, Option, Some, None, refl, sym, ◌∙◌, ap, subst}
 use Rattle.std.specs.Prelude.{◌==◌}
-use Rattle.std.specs.List.{AllByRecursion, Contains, list_any}
+use Rattle.std.specs.List.{AllByRecursion, Contains, list_any, flat_map}
 use Rattle.std.specs.Str.{bytes_eq}
 use Rattle.std.proofs.lemmas.List.Folds.{list_any_at}
 use lib.Chars.{codes}
-use Rattle.plain_tables.specs.Spelling.{Symbol, Keyword, Literal, Sign, Close, Comma, Operator, separated_by, symbols_of, kind_symbols, column_symbols, index_symbols, value_symbols, name_symbols, setting_symbols, condition_symbols, items_symbols, where_symbols, IsSymbol, IsMadeOf, Spells}
+use Rattle.plain_tables.specs.Spelling.{Symbol, Keyword, Literal, Sign, Close, Comma, Operator, separated_by, symbols_of, kind_symbols, column_symbols, index_symbols, value_symbols, name_symbols, setting_symbols, condition_symbols, distinct_symbols, items_symbols, join_symbols, where_symbols, IsSymbol, IsMadeOf, Spells}
 use Rattle.plain_tables.specs.Reading.{lexeme, after_lexeme}
 use Rattle.plain_tables.specs.declared.schema.ColKind.{ColKind}
 use Rattle.plain_tables.specs.declared.schema.ColKind.TheVariants as kind
 use Rattle.plain_tables.specs.declared.schema.IndexKind.{IndexKind}
 use Rattle.plain_tables.specs.declared.condition.Cond.{Cond}
+use Rattle.plain_tables.specs.declared.command.Join.{Join}
 use Rattle.plain_tables.specs.declared.command.Items.{Items}
 use Rattle.plain_tables.specs.declared.command.Items.TheVariants as items
 use Rattle.plain_tables.specs.declared.command.Command.{Command}
@@ -62,6 +63,16 @@ items-well : (items : Items) → AreWellFormed (items_symbols items)
 items-well items.All = (tt, tt)
 items-well (items.Named names) = separated-well name_symbols (Sign Comma) tt (λ name. whole-well name.table name.column) names
 
+distinct-well : (distinct : Bool) → AreWellFormed (distinct_symbols distinct)
+distinct-well true = (refl, tt)
+distinct-well false = tt
+
+joins-well : (joins : List Join) → AreWellFormed (flat_map join_symbols joins)
+joins-well [] = tt
+joins-well (join ∷ joins) =
+    all-append IsWellFormed (join_symbols join) (flat_map join_symbols joins)
+    (refl, (tt, (refl, (tt, (tt, (tt, (tt, (tt, (tt, (tt, tt)))))))))) (joins-well joins)
+
 command-well : (command : Command) → AreWellFormed (symbols_of command)
 command-well (Table name schema) = (
   refl,
@@ -100,8 +111,13 @@ command-well (Update table settings conditions) = (
   ),
 )
 command-well (Delete table conditions) = (refl, (tt, where-well conditions))
-command-well (Select items table conditions) =
-    (refl, all-append IsWellFormed (items_symbols items) _ (items-well items) (refl, (tt, where-well conditions)))
+command-well (Select distinct items table joins conditions) =
+    subst AreWellFormed (sym (split-word (Select distinct items table joins conditions)).0) (
+      refl,
+      all-append IsWellFormed (distinct_symbols distinct) _ (distinct-well distinct)
+          (all-append IsWellFormed (items_symbols items) _ (items-well items)
+          (refl, (tt, all-append IsWellFormed (flat_map join_symbols joins) _ (joins-well joins) (where-well conditions)))),
+    )
 command-well Tables = (refl, tt)
 
 -- ---- the line by its lexemes
@@ -156,7 +172,7 @@ known-word (DropIndex t c k) word e insert select update delete table drop index
 known-word (Insert t values) word e insert select update delete table drop index tables = insert e
 known-word (Update t settings conditions) word e insert select update delete table drop index tables = update e
 known-word (Delete t conditions) word e insert select update delete table drop index tables = delete e
-known-word (Select items t conditions) word e insert select update delete table drop index tables = select e
+known-word (Select distinct items t joins conditions) word e insert select update delete table drop index tables = select e
 known-word Tables word e insert select update delete table drop index tables = tables e
 
 pub unknown-word : (line : List ℕ) → lexeme line ≢ codes "insert" → lexeme line ≢ codes "select" → lexeme line ≢ codes "update"

@@ -1,11 +1,13 @@
 -- Parsing: what stands at the front of a line, and what it leaves.
-use Rattle.std.specs.Prelude.{◌≡◌, ◌≢◌, ◌<◌, ℕ, List, [], ◌∷◌, ◌++◌, length}
+use Rattle.std.specs.Prelude.{◌≡◌, ◌≢◌, ◌<◌, ℕ, List, [], ◌∷◌, ◌++◌, length, Bool}
+use Rattle.std.specs.List.{flat_map}
 use Rattle.std.specs.Str.{IsUtf8}
 use lib.Chars.{codes}
 use Rattle.plain_tables.specs.Names.{IsName}
-use Rattle.plain_tables.specs.Spelling.{Symbol, Keyword, IsSymbol, symbols_of, items_symbols, where_symbols, NamesSomething}
+use Rattle.plain_tables.specs.Spelling.{Symbol, Keyword, Name, IsSymbol, symbols_of, distinct_symbols, items_symbols, join_symbols, where_symbols, NamesSomething}
 use Rattle.plain_tables.specs.Reading.{lexeme, after_lexeme}
 use Rattle.plain_tables.specs.declared.condition.Cond.{Cond}
+use Rattle.plain_tables.specs.declared.command.Join.{Join}
 use Rattle.plain_tables.specs.declared.command.Items.{Items}
 use Rattle.plain_tables.specs.declared.command.Items.TheVariants as items
 use Rattle.plain_tables.specs.declared.command.Command.{Command}
@@ -72,6 +74,28 @@ pub record BeginsWithItems (line : List ℕ) (items : Items) (rest : List ℕ) :
 pub record BeginsWithNoItems (line : List ℕ) : Type 0 where
   pub none : IsOfText line → (others : Items) (other : List ℕ) → NameSomething others → Reads line (items_symbols others) other
       → lexeme other ≡ codes "from" → ⊥
+
+-- The line begins with the word distinct or with nothing, and, where another symbol follows, with nothing else.
+pub record BeginsWithDistinct (line : List ℕ) (distinct : Bool) (rest : List ℕ) : Type 0 where
+  pub found : Reads line (distinct_symbols distinct) rest
+  pub only : (d : Bool) (other : List ℕ) → Reads line (distinct_symbols d) other → lexeme other ≢ codes "distinct"
+      → (d ≡ distinct) × (other ≡ rest)
+
+-- The line begins with these joins, and, where the last ends and no `join` follows, with no others.
+pub record BeginsWithJoins (line : List ℕ) (joins : List Join) (rest : List ℕ) : Type 0 where
+  pub found : Reads line (flat_map join_symbols joins) rest
+  pub only : (others : List Join) (other : List ℕ) → Reads line (flat_map join_symbols others) other → EndsItem (lexeme other)
+      → lexeme other ≢ codes "join" → (others ≡ joins) × (other ≡ rest)
+
+-- The line, which is of a text, begins with no joins of which the last ends with no `join` behind it.
+pub record BeginsWithNoJoins (line : List ℕ) : Type 0 where
+  pub none : IsOfText line → (others : List Join) (other : List ℕ) → Reads line (flat_map join_symbols others) other
+      → EndsItem (lexeme other) → lexeme other ≢ codes "join" → ⊥
+
+-- The line is a `from` and the name of a table, with these joins and conditions behind it.
+abbrev pub IsFrom : List ℕ → List ℕ → List Join → List Cond → Type 0
+IsFrom line table joins conditions =
+    IsWhole line (Keyword (codes "from") ∷ Name table ∷ (flat_map join_symbols joins ++ where_symbols conditions))
 
 -- The line is a name and a list of these items in parentheses.
 pub record IsNameAndList {X : Type 0} (symbols : X → List Symbol) (line name : List ℕ) (xs : List X) : Type 0 where

@@ -3,12 +3,13 @@
 //! It doesn't care which tables there are, nor what a command does to them: a name is a name here.
 //!
 //! A line is symbols with blanks between them. The module `lexemes` finds the characters of a line's first symbol,
-//! `symbols`, `numbers`, `texts` and `items` read what they stand for, and `parser` has a function for each production of
+//! `symbols`, `numbers`, `texts`, `items` and `joins` read what they stand for, and `parser` has a function for each production of
 //! the grammar. No memory is taken but for what the command holds. The module `printer` writes a command in its one
-//! canonical spelling, which `items`, `numbers` and `texts` have the parts of.
+//! canonical spelling, which `items`, `joins`, `numbers` and `texts` have the parts of.
 #![tactic(auto)]
 
 mod items;
+mod joins;
 mod lexemes;
 mod numbers;
 mod parser;

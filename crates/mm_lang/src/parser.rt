@@ -4,15 +4,17 @@ ghost use Rattle.std.specs.Prelude.{◌≡◌, ◌≢◌, ℕ, List, [], ◌∷�
 ghost use Rattle.plain_tables.specs.Spelling.{Name, Spells, index_symbols};
 ghost use Rattle.plain_tables.specs.Reading.{lexeme};
 ghost use Rattle.plain_tables.specs.declared.command.Command.{Command};
+ghost use Rattle.plain_tables.specs.declared.command.Join.{Join};
 ghost use Rattle.plain_tables.specs.declared.condition.Cond.{Cond};
 ghost use Rattle.plain_tables.specs.declared.schema.IndexKind.{IndexKind};
-ghost use Rattle.mm_lang.specs.Parsing.{Completes, IsOfText, IsWhole, IsNameAndList, IsWhere, BeginsWithItems, BeginsWithNoItems};
+ghost use Rattle.mm_lang.specs.Parsing.{Completes, IsOfText, IsWhole, IsNameAndList, IsFrom, IsWhere, BeginsWithDistinct, BeginsWithItems, BeginsWithNoItems};
 
 use crate::ParseRefusal;
 use crate::items::{Item, list};
+use crate::joins::joins;
 use crate::lexemes::split_lexeme;
 use crate::symbols::{after, expect, index_kind, name};
-use plain_tables::{Command, Cond, IndexKind, Items, Schema, Sequence, Text};
+use plain_tables::{Command, Cond, IndexKind, Items, Join, Schema, Sequence, Text};
 use std::alloc::Global;
 
 /// The command that a line spells.
@@ -143,20 +145,31 @@ fn delete(alloc: Global, line: &[u8]) -> Result<Command, ParseRefusal>
     })
 }
 
-// ITEMS from NAME [where ..]
+// [distinct] ITEMS from NAME {join ..} [where ..]
 fn select(alloc: Global, line: &[u8]) -> Result<Command, ParseRefusal>
     ensures command { IfOk result (λ c. Completes (codes "select") line.now c) }
     ensures syntax { IsErrOf result ParseRefusal.Syntax → IsOfText line.now → (c : Command) → Completes (codes "select") line.now c → ⊥ }
 {
-    let (items, behind_items) = items(alloc, line)?;
-    let front = expect(behind_items, b"from")?;
-    let (table, rest) = name(alloc, front)?;
-    let conditions = conditions(alloc, rest)?;
+    let (distinct, front) = distinct(line);
+    let (items, rest) = items(alloc, front)?;
+    let (table, joins, conditions) = from(alloc, rest)?;
     Ok(Command::Select {
+        distinct,
         items,
         table,
+        joins: Sequence::from_vec(joins),
         conditions: Sequence::from_vec(conditions),
     })
+}
+
+// distinct, or nothing
+fn distinct(line: &[u8]) -> (bool, &[u8])
+    ensures { BeginsWithDistinct line.now result.0 result.1.now }
+{
+    match after(line, b"distinct") {
+        Some(rest) => (true, rest),
+        None => (false, line),
+    }
 }
 
 // * or NAME {, NAME}
@@ -171,6 +184,18 @@ fn items(alloc: Global, line: &[u8]) -> Result<(Items, &[u8]), ParseRefusal>
             Ok((Items::Named(Sequence::from_vec(names)), rest))
         }
     }
+}
+
+// from NAME {join ..} [where ..], and the end of the line
+fn from(alloc: Global, line: &[u8]) -> Result<(Text, Vec<Join>, Vec<Cond>), ParseRefusal>
+    ensures parts { IfOk result (λ r. IsFrom line.now r.0 r.1.items r.2.items) }
+    ensures syntax { IsErrOf result ParseRefusal.Syntax → IsOfText line.now → (table : List ℕ) (js : List Join) (cs : List Cond) → IsFrom line.now table js cs → ⊥ }
+{
+    let front = expect(line, b"from")?;
+    let (table, behind_table) = name(alloc, front)?;
+    let (joins, rest) = joins(alloc, behind_table)?;
+    let conditions = conditions(alloc, rest)?;
+    Ok((table, joins, conditions))
 }
 
 // where CONDITION {and CONDITION}, or nothing, and the end of the line

@@ -1,13 +1,16 @@
 //! The canonical spelling of a command.
 
-ghost use Rattle.std.specs.Prelude.{◌≡◌, ◌++◌, ◌∷◌, [], map, IfOk, OnOk};
+ghost use Rattle.std.specs.Prelude.{◌≡◌, ◌++◌, ◌∷◌, [], codes, map, IfOk, OnOk};
 ghost use Rattle.std.specs.String.{string_bytes};
-ghost use Rattle.plain_tables.specs.Spelling.{Sign, Open, Close, separated, index_word, index_symbols, items_symbols, where_symbols, symbols_of, spaced, canonical_spelling};
+ghost use Rattle.plain_tables.specs.Spelling.{Keyword, Sign, Open, Close, separated, index_word, index_symbols, distinct_symbols, items_symbols, where_symbols, symbols_of, spaced, canonical_spelling};
 ghost use Rattle.plain_tables.specs.declared.command.Command.TheVariants as command;
 ghost use Rattle.mm_lang.specs.Printing.{behind};
 
 use crate::items::{Item, push_list};
-use plain_tables::{Command, Cond, IndexKind, Items, NoMemory, Schema, Setting, Text};
+use crate::joins::push_joins;
+use plain_tables::{
+    Command, Cond, IndexKind, Items, Join, NoMemory, Schema, Sequence, Setting, Text,
+};
 use std::alloc::Global;
 
 /// The canonical spelling of a command.
@@ -48,10 +51,12 @@ fn push_command(line: &mut String, command: &Command) -> Result<(), NoMemory>
         } => push_update(line, table, settings.as_slice(), conditions.as_slice()),
         Command::Delete { table, conditions } => push_delete(line, table, conditions.as_slice()),
         Command::Select {
+            distinct,
             items,
             table,
+            joins,
             conditions,
-        } => push_select(line, items, table, conditions.as_slice()),
+        } => push_select(line, *distinct, items, table, joins, conditions),
         Command::Tables => {
             line.push_str("tables")?;
             Ok(())
@@ -155,19 +160,33 @@ fn push_delete(line: &mut String, table: &Text, conditions: &[Cond]) -> Result<(
     push_where(line, conditions)
 }
 
+// The first words of a select.
+fn select_str(distinct: bool) -> &'static str
+    ensures { result.now ≡ spaced (Keyword (codes "select") ∷ distinct_symbols distinct) }
+{
+    if distinct {
+        "select distinct"
+    } else {
+        "select"
+    }
+}
+
 fn push_select(
     line: &mut String,
+    distinct: bool,
     items: &Items,
     table: &Text,
-    conditions: &[Cond],
+    joins: &Sequence<Join>,
+    conditions: &Sequence<Cond>,
 ) -> Result<(), NoMemory>
-    ensures { OnOk result (string_bytes line.new ≡ string_bytes line.old ++ spaced (symbols_of (command.Select items.now table.now conditions.now))) }
+    ensures { OnOk result (string_bytes line.new ≡ string_bytes line.old ++ spaced (symbols_of (command.Select distinct items.now table.now joins.now conditions.now))) }
 {
-    line.push_str("select")?;
+    line.push_str(select_str(distinct))?;
     push_items(line, items)?;
     line.push_str(" from ")?;
     line.push_str(table.as_str())?;
-    push_where(line, conditions)
+    push_joins(line, joins.as_slice())?;
+    push_where(line, conditions.as_slice())
 }
 
 // * or NAME {, NAME}

@@ -1,7 +1,7 @@
 use Rattle.std.proofs.Common.{ap, Err}
 use Rattle.std.proofs.lemmas.Result.{err_from_is_err_and}
 use Rattle.mm_lang.proofs.Fronts.{same-error}
-use Rattle.mm_lang.proofs.Productions.{all-items, named-items, neither-items}
+use Rattle.mm_lang.proofs.Selects.{all-items, named-items, neither-items}
 use Rattle.mm_lang.proofs.parser.items.Goals as goal
 
 pub returns-in_err-names-in-None-clause-syntax : goal.returns-in_err-names-in-None-clause-syntax

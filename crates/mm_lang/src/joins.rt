@@ -1,0 +1,80 @@
+//! The joins of a select.
+
+ghost use Rattle.std.specs.Prelude.{◌≡◌, ◌++◌, IfOk, IsErrOf, OnOk, refl};
+ghost use Rattle.std.specs.List.{flat_map};
+ghost use Rattle.std.specs.String.{string_bytes};
+ghost use Rattle.plain_tables.specs.Spelling.{side_symbols, joined_symbols, join_symbols};
+ghost use Rattle.mm_lang.specs.Parsing.{BeginsWithJoins, BeginsWithNoJoins};
+ghost use Rattle.mm_lang.specs.Printing.{behind};
+
+use crate::ParseRefusal;
+use crate::items::{Item, list, push_list};
+use crate::symbols::{after, expect, name};
+use plain_tables::{Join, JoinSide, NoMemory};
+use std::alloc::Global;
+
+impl Item for JoinSide {
+    ghost symbols = { side_symbols };
+
+    ghost free = { λ side. (refl, refl) };
+
+    fn read(alloc: Global, line: &[u8]) -> Result<(JoinSide, &[u8]), ParseRefusal> {
+        let (table, line) = name(alloc, line)?;
+        let line = expect(line, b".")?;
+        let (column, line) = name(alloc, line)?;
+        Ok((JoinSide { table, column }, line))
+    }
+
+    fn push_to(&self, line: &mut String) -> Result<(), NoMemory> {
+        line.push_str(self.table.as_str())?;
+        line.push_str(".")?;
+        line.push_str(self.column.as_str())?;
+        Ok(())
+    }
+}
+
+// What stands behind the word `join`.
+impl Item for Join {
+    ghost symbols = { joined_symbols };
+
+    ghost free = { λ join. (refl, refl) };
+
+    fn read(alloc: Global, line: &[u8]) -> Result<(Join, &[u8]), ParseRefusal> {
+        let (table, line) = name(alloc, line)?;
+        let line = expect(line, b"on")?;
+        let (left, line) = JoinSide::read(alloc, line)?;
+        let line = expect(line, b"=")?;
+        let (right, line) = JoinSide::read(alloc, line)?;
+        Ok((Join { table, left, right }, line))
+    }
+
+    fn push_to(&self, line: &mut String) -> Result<(), NoMemory> {
+        line.push_str(self.table.as_str())?;
+        line.push_str(" on ")?;
+        self.left.push_to(line)?;
+        line.push_str(" = ")?;
+        self.right.push_to(line)
+    }
+}
+
+/// The joins at the front, or none, and what stands behind the last.
+pub fn joins(alloc: Global, line: &[u8]) -> Result<(Vec<Join>, &[u8]), ParseRefusal>
+    ensures joins { IfOk result (λ r. BeginsWithJoins line.now r.0.items r.1.now) }
+    ensures syntax { IsErrOf result ParseRefusal.Syntax → BeginsWithNoJoins line.now }
+{
+    match after(line, b"join") {
+        None => Ok((Vec::new(alloc), line)),
+        Some(front) => list(alloc, front, b"join"),
+    }
+}
+
+/// Writes joins behind another symbol.
+pub fn push_joins(line: &mut String, joins: &[Join]) -> Result<(), NoMemory>
+    ensures { OnOk result (string_bytes line.new ≡ string_bytes line.old ++ behind (flat_map join_symbols joins.now)) }
+{
+    if joins.is_empty() {
+        return Ok(());
+    }
+    line.push_str(" join ")?;
+    push_list(line, joins, " join ")
+}
