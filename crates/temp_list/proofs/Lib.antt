@@ -2,3 +2,4 @@ pub mod ReadingLemmas
 pub mod ListLemmas
 pub mod RangeLemmas
 pub mod SearchLemmas
+pub mod SortLemmas

@@ -16,6 +16,8 @@
 
 mod list;
 mod range_probe;
+mod sorting;
+mod row;
 pub mod search;
 mod standing;
 
