@@ -3,3 +3,4 @@ pub mod ListLemmas
 pub mod RangeLemmas
 pub mod SearchLemmas
 pub mod SortLemmas
+pub mod SelectLemmas

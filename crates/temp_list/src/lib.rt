@@ -16,10 +16,12 @@
 
 mod list;
 mod range_probe;
-mod sorting;
 mod row;
 pub mod search;
+mod selecting;
+mod sorting;
 mod standing;
 
 pub use list::TempList;
+pub use selecting::select;
 pub use standing::stands;

@@ -43,9 +43,11 @@ fn rises<R: Relations>(tables: &R, sources: &[TableNumber], rows: &[ListedRow]) 
     requires { AreTables (R.tables tables.now) sources.now }
     ensures { IsTrue result ↔ IsSorted (listed_cmp (R.tables tables.now) sources.now) rows.now }
 {
-    rows.is_sorted_by(|a, b| -> bool
-        requires { AreTables (R.tables tables.now) sources.now }
-    { compare_rows(tables, sources, b.as_slice(), a.as_slice()).is_ge() })
+    rows.is_sorted_by(
+        |a, b| -> bool
+            requires { AreTables (R.tables tables.now) sources.now }
+        { compare_rows(tables, sources, b.as_slice(), a.as_slice()).is_ge() },
+    )
 }
 
 // Puts rows into the order of their keys. Those that rise already, and all at an error, stay where they were.
@@ -63,8 +65,10 @@ pub fn sort_rows<R: Relations>(
     if rises(tables, sources, rows.as_slice()) {
         return Ok(());
     }
-    rows.sort_by(|a, b| -> Ordering
-        requires { AreTables (R.tables tables.now) sources.now }
-    { compare_rows(tables, sources, a.as_slice(), b.as_slice()) })?;
+    rows.sort_by(
+        |a, b| -> Ordering
+            requires { AreTables (R.tables tables.now) sources.now }
+        { compare_rows(tables, sources, a.as_slice(), b.as_slice()) },
+    )?;
     Ok(())
 }
