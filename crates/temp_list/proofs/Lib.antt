@@ -4,3 +4,4 @@ pub mod RangeLemmas
 pub mod SearchLemmas
 pub mod SortLemmas
 pub mod SelectLemmas
+pub mod OneOrder

@@ -3,3 +3,4 @@ pub mod Lists
 pub mod Seen
 pub mod Ranges
 pub mod Selecting
+pub mod ListLaws
