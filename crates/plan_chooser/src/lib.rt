@@ -3,11 +3,17 @@
 //! It reads what indexes are declared and how many rows there are, and no row. It does not care how a plan is carried out:
 //! a plan is one value, and every plan of a command finds the same rows.
 //!
-//! - A plan that fits can be carried out: the index that it searches is there, and serves the test (`specs/Plans.antt`).
+//! - A plan is just what the tables of the policies say (`specs/Choosing.antt`).
+//! - A plan that is chosen can be carried out: the indexes and links that it needs are there (`specs/Plans.antt`).
+//! - No choice takes memory.
 #![tactic(auto)]
 
+mod joins;
 mod plans;
 mod policy;
+mod selects;
 
+pub use joins::{choose_join, choose_next_join};
 pub use plans::{JoinPlan, SelectPlan, Side};
 pub use policy::Policy;
+pub use selects::choose_select;
