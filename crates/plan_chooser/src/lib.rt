@@ -1,20 +1,19 @@
-//! How plans are chosen, as a word of the user's: the type of policies.
+//! Which plan finds the rows that a command asks for.
 //!
-//! No plan is chosen by it yet, as rows are found by one way alone; and none may ever change an answer.
+//! It reads what indexes are declared and how many rows there are, and no row. It does not care how a plan is carried out:
+//! a plan is one value, and every plan of a command finds the same rows.
+//!
+//! - A plan is just what the tables of the policies say (`specs/Choosing.antt`).
+//! - A plan that is chosen can be carried out: the indexes and links that it needs are there (`specs/Plans.antt`).
+//! - No choice takes memory.
 #![tactic(auto)]
 
-/// How plans are chosen. No policy changes an answer.
-#[derive(Clone, Copy, Debug, Default, PartialEq, Eq)]
-pub enum Policy {
-    /// The plan that reads the fewest rows, by simple rules.
-    #[default]
-    Auto,
-    /// Always in key order through the whole table.
-    Scan,
-    /// Through hash tables.
-    Hash,
-    /// Through trees.
-    Tree,
-    /// By merging trees.
-    Merge,
-}
+mod joins;
+mod plans;
+mod policy;
+mod selects;
+
+pub use joins::{choose_join, choose_next_join};
+pub use plans::{JoinPlan, SelectPlan, Side};
+pub use policy::Policy;
+pub use selects::choose_select;
