@@ -75,6 +75,18 @@ impl Relation {
         &self.rows.get(r).key
     }
 
+    /// The key of a row, where the reference leads to one.
+    pub fn key_if_held(&self, r: TupleRef) -> Option<&Value>
+        ensures held { IfSome result (λ key. key_at self.now.rows r ≡ Some key.now) }
+        ensures none { IfNone result (key_at self.now.rows r ≡ None) }
+    {
+        if self.rows.holds(r) {
+            Some(self.key(r))
+        } else {
+            None
+        }
+    }
+
     /// A row, lent without a copy.
     pub fn row(&self, r: TupleRef) -> RowView<'_>
         requires { IsSome (finite.get self.now.rows r) }
@@ -121,6 +133,13 @@ impl Relation {
         ensures { result ≡ has_hash_on self.now column.0 }
     {
         is_hash_on(self.indexes.hashes.as_slice(), column)
+    }
+
+    /// All rows, in the order of their keys.
+    pub fn walk(&self) -> Walk<'_>
+        ensures { rest_of result ≡ self.now.by_key }
+    {
+        self.by_key.walk()
     }
 
     /// The rows in the order of a column with a tree, from the first that does not stand below the probe's range.

@@ -1,0 +1,36 @@
+-- What is read of the rows of relations that are lent, and which of them pass tests.
+use Rattle.std.specs.Prelude.{Bool, ℕ, ◌<◌, List, Option, Some, None, length}
+use Rattle.std.specs.List.{All, filter, list_all}
+use Rattle.part_raw.specs.declared.tuple_ref.TupleRef.{TupleRef}
+use Rattle.plain_tables.specs.declared.resolved.Test.{Test}
+use Rattle.plain_tables.specs.declared.value.Value.{Value}
+use Rattle.plain_tables.specs.declared.value.Value.TheVariants.{Null}
+use Rattle.plain_tables.specs.Queries.{stands}
+use Rattle.mm_relation.specs.Reading.{value_at}
+use Rattle.mm_relation.specs.State.{RelationState, IsKept, IsCurrent, linked_keys}
+
+-- Relations that stand rightly among each other: each keeps what a relation keeps by itself, and is current under the keys that
+-- its links lead to.
+pub record AreSound (relations : List RelationState) : Type 0 where
+  pub each : All (λ s. IsKept s × IsCurrent (linked_keys s.targets relations) s) relations
+
+-- the value that is read, or null where there is none to read
+abbrev pub or_null : Option Value → Value
+or_null None = Null
+or_null (Some value) = value
+
+-- the value that the row under a reference has in a column
+abbrev pub value_in : List RelationState → RelationState → ℕ → TupleRef → Value
+value_in relations s column r = or_null (value_at (linked_keys s.targets relations) column s.rows r)
+
+-- whether the row under a reference passes tests
+abbrev pub row_passes : List RelationState → RelationState → List Test → TupleRef → Bool
+row_passes relations s tests r = list_all (λ t. stands t.op (value_in relations s t.column.0 r) t.value) tests
+
+-- the rows that pass, in the order of their keys
+abbrev pub passing : List RelationState → RelationState → List Test → List TupleRef
+passing relations s tests = filter (row_passes relations s tests) s.by_key
+
+-- each test's column is there
+abbrev pub HasColumns : RelationState → List Test → Type 0
+HasColumns s tests = All (λ t. t.column.0 < length s.schema.columns) tests

@@ -1,0 +1,16 @@
+-- What a list of these parts is seen as, and what each list keeps to.
+use Rattle.std.specs.Prelude.{◌≡◌, ◌<◌, List, length, map}
+use Rattle.std.specs.List.{All}
+use Rattle.part_raw.specs.declared.tuple_ref.TupleRef.{TupleRef}
+use Rattle.plain_tables.specs.declared.numbers.Place.{Place}
+use Rattle.plain_tables.specs.declared.numbers.TableNumber.{TableNumber}
+use Rattle.smallvec.specs.SmallVec.{SmallVec}
+use Rattle.temp_list.specs.Lists.{ListState}
+
+abbrev pub list_of : List TableNumber → List (SmallVec TupleRef) → List Place → ListState
+list_of sources rows columns = record { sources = map (λ t. t.0) sources; rows = map (λ row. row.items) rows; columns = columns }
+
+-- a list has a source, and each of its rows a reference for each source
+pub record IsEven (list : ListState) : Type 0 where
+  pub some : 0 < length list.sources
+  pub rows : All (λ row. length row ≡ length list.sources) list.rows

@@ -1,0 +1,22 @@
+//! Lists of rows of references, which say what a query found and copy no value.
+//!
+//! ```text
+//!  sources   dept     emp          a table's number each
+//!  rows      0.3      0.7          a reference into each source's table
+//!            0.3      1.2
+//!  columns   (1, 0)   (0, 1)       the columns shown: source and column
+//! ```
+//!
+//! Values are read through the relations that a call is lent, when they are asked for. A list does not care which plan found
+//! its rows, nor what becomes of them: its caller reads it while the relations stand as they were.
+//!
+//! - A list has a source, and each of its rows a reference for each source.
+//! - What finds no memory leaves the list as it was.
+#![tactic(auto)]
+
+mod list;
+pub mod search;
+mod standing;
+
+pub use list::TempList;
+pub use standing::stands;

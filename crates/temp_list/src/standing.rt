@@ -1,0 +1,42 @@
+//! How a value stands to that of a test.
+ghost use Rattle.std.specs.Prelude.{◌≡◌};
+ghost use Rattle.plain_tables.specs.Queries.{are_ordered as are_ordered_so, stands_to_null as stands_to_null_so, stands as stands_so};
+
+use plain_tables::{Op, Value};
+use std::cmp::Ordering;
+
+// Whether values that compare so are ordered as the operator says.
+fn are_ordered(op: Op, ordering: Ordering) -> bool
+    ensures { result ≡ are_ordered_so op ordering }
+{
+    match op {
+        Op::Eq => ordering.is_eq(),
+        Op::Ne => ordering.is_ne(),
+        Op::Lt => ordering.is_lt(),
+        Op::Le => ordering.is_le(),
+        Op::Gt => ordering.is_gt(),
+        Op::Ge => ordering.is_ge(),
+    }
+}
+
+// Whether a value stands to null as the operator says.
+fn stands_to_null(op: Op, value: &Value) -> bool
+    ensures { result ≡ stands_to_null_so op value.now }
+{
+    match op {
+        Op::Eq => matches!(value, Value::Null),
+        Op::Ne => !matches!(value, Value::Null),
+        Op::Lt | Op::Le | Op::Gt | Op::Ge => false,
+    }
+}
+
+/// Whether a value stands so to the value of a test.
+pub fn stands(op: Op, value: &Value, asked: &Value) -> bool
+    ensures { result ≡ stands_so op value.now asked.now }
+{
+    match (value, asked) {
+        (_, Value::Null) => stands_to_null(op, value),
+        (Value::Null, _) => false,
+        _ => are_ordered(op, value.cmp(asked)),
+    }
+}
