@@ -1,0 +1,4 @@
+pub mod Comparing
+pub mod Once
+pub mod Picked
+pub mod Reading
