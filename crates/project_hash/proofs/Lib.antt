@@ -2,3 +2,4 @@ pub mod Comparing
 pub mod Once
 pub mod Picked
 pub mod Reading
+pub mod Rising

@@ -6,6 +6,7 @@
 #![tactic(auto)]
 
 mod duplicates;
+pub mod laws;
 mod shown;
 
 pub use duplicates::distinct;
