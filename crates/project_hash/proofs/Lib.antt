@@ -3,3 +3,4 @@ pub mod Once
 pub mod Picked
 pub mod Reading
 pub mod Rising
+pub mod Same

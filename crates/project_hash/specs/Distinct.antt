@@ -1,5 +1,5 @@
 -- Lists without rows that are shown alike.
-use Rattle.std.specs.Prelude.{◌≡◌, ℕ, List, All, AllPairs, Contains, map, fold, bit_xor, ◌*◌, ◌%◌, ◌^◌}
+use Rattle.std.specs.Prelude.{◌≡◌, ◌↔◌, ℕ, List, All, AllPairs, Contains, map, fold, bit_xor, ◌*◌, ◌%◌, ◌^◌}
 use Rattle.std.specs.Cmp.{IsTotalOrder}
 use Rattle.std.specs.Cmp.Lexicographic.{slice_cmp, lists_total}
 use Rattle.std.specs.declared.cmp.Ordering.{Ordering}
@@ -41,6 +41,15 @@ pub record IsDistinctOf (relations : List RelationState) (old new : ListState) :
 -- Law: what a list shows without repeats, in order, is one list of lists of values.
 abbrev pub RisingListsAreOne : Type 0
 RisingListsAreOne = (xs ys : List (List Value)) → AreRising xs → AreRising ys → All (Contains ys) xs → All (Contains xs) ys → xs ≡ ys
+
+-- two lists have the same members, however often
+abbrev pub ShowsTheSame : List (List Value) → List (List Value) → Type 0
+ShowsTheSame xs ys = (values : List Value) → Contains xs values ↔ Contains ys values
+
+-- Law: a list without duplicates shows the values that occur, and no others. So two such lists of one list show the same, in
+-- one order.
+abbrev pub DistinctShowsTheSame : Type 0
+DistinctShowsTheSame = (relations : List RelationState) (old new : ListState) → IsDistinctOf relations old new → ShowsTheSame (shown_rows relations old) (shown_rows relations new)
 
 -- ---- hashes
 
