@@ -1,3 +1,6 @@
 pub mod Reading
 pub mod Lists
 pub mod Seen
+pub mod Ranges
+pub mod Selecting
+pub mod ListLaws
