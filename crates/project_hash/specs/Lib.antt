@@ -1,0 +1,3 @@
+pub mod Alike
+pub mod Distinct
+pub mod Shown
