@@ -1,5 +1,5 @@
 //! The rows of one table.
-ghost use Rattle.std.specs.Prelude.{◌≡◌, ◌≢◌, ◌+◌, ◌-◌, ◌^◌, ◌<◌, ◌≤◌, All, Some, IsSome, IfSome, IfNone, IfOk, OnOk, OnErr, length};
+ghost use Rattle.std.specs.Prelude.{◌≡◌, ◌≢◌, ◌+◌, ◌++◌, ◌-◌, ◌^◌, ◌<◌, ◌≤◌, All, Some, IsSome, IfSome, IfNone, IfOk, OnOk, OnErr, length};
 
 use crate::change::{change_each, copies_for};
 use crate::hashes::{chain_on, is_hash_on};
@@ -12,7 +12,7 @@ use crate::refusal::RowRefusal;
 use crate::relations::{Links, Relations};
 use crate::row::{Cell, Row};
 use crate::tree::{Tree, Walk};
-use crate::trees::{is_tree_on, walk_tree};
+use crate::trees::{is_tree_on, range_of_tree, walk_tree};
 use crate::view::RowView;
 use lin_hash::Chain;
 use mm_index::Probe;
@@ -63,7 +63,7 @@ impl Relation {
     ghost use Rattle.mm_relation.specs.Searching.{IsLogarithmic};
     ghost use Rattle.mm_index.specs.Asking.{IsOnlyAsked};
     ghost use Rattle.mm_index.specs.Bag.{IsSameBag, with_hash};
-    ghost use Rattle.mm_index.specs.Range.{NeverFalls, from_range};
+    ghost use Rattle.mm_index.specs.Range.{NeverFalls, from_range, in_range};
     ghost use Rattle.ttree.specs.Held.{rest_of};
     ghost use Rattle.lin_hash.specs.Rest.{chain_rest};
 
@@ -156,6 +156,26 @@ impl Relation {
             return self.by_key.walk_from(probe);
         }
         walk_tree(self.indexes.trees.as_slice(), column, probe)
+    }
+
+    /// Appends the rows that are in the probe's range, in the order of a column with a tree. At an error nothing is appended.
+    pub fn range_column<P: Probe>(
+        &self,
+        column: ColumnNumber,
+        probe: &mut P,
+        out: &mut Vec<TupleRef>,
+    ) -> Result<(), NoMemory>
+        requires has_tree { HasTree self.now column.0 }
+        requires sound { P.is_sound probe.old }
+        requires placed { All (P.can_place probe.old) (list_of self.now column.0) }
+        requires in_order { NeverFalls (P.place probe.old) (list_of self.now column.0) }
+        ensures ok { OnOk result (out.new.items ≡ out.old.items ++ in_range (P.place probe.old) (list_of self.now column.0)) }
+        ensures err { OnErr result (out.new.items ≡ out.old.items) }
+    {
+        if column.0 == 0 {
+            return self.by_key.range(probe, out);
+        }
+        range_of_tree(self.indexes.trees.as_slice(), column, probe, out)
     }
 
     /// The rows whose value in a column with a hash has this hash, in any order.

@@ -1,8 +1,8 @@
 //! The declared trees of a relation.
-ghost use Rattle.std.specs.Prelude.{◌≡◌, ℕ, ◌≤◌, ◌<◌, ◌-◌, length, slice_index_or, map, OnOk, All, ◌==◌};
+ghost use Rattle.std.specs.Prelude.{◌≡◌, ℕ, ◌≤◌, ◌<◌, ◌-◌, length, slice_index_or, map, ◌++◌, OnOk, OnErr, All, ◌==◌};
 ghost use Rattle.std.specs.List.{list_any};
 ghost use Rattle.mm_index.specs.Asking.{IsOnlyAsked};
-ghost use Rattle.mm_index.specs.Range.{NeverFalls, from_range};
+ghost use Rattle.mm_index.specs.Range.{NeverFalls, from_range, in_range};
 ghost use Rattle.ttree.specs.Held.{rest_of};
 ghost use Rattle.mm_relation.specs.declared.trees.TreeOn.{TreeOn};
 ghost use Rattle.mm_relation.specs.Order.{KeysDiffer};
@@ -132,6 +132,32 @@ pub fn walk_tree<'a, P: Probe>(trees: &'a [TreeOn], column: ColumnNumber, probe:
                 first.tree.walk_from(probe)
             } else {
                 walk_tree(rest, column, probe)
+            }
+        }
+        None => unreachable!(),
+    }
+}
+
+// Appends the part of the first tree on this column that is in the probe's range.
+pub fn range_of_tree<P: Probe>(
+    trees: &[TreeOn],
+    column: ColumnNumber,
+    probe: &mut P,
+    out: &mut Vec<TupleRef>,
+) -> Result<(), NoMemory>
+    requires has_column { HasColumn column.0 (map shown_tree trees.now) }
+    requires sound { P.is_sound probe.old }
+    requires placed { All (P.can_place probe.old) (tree_of column.0 (map shown_tree trees.now)) }
+    requires in_order { NeverFalls (P.place probe.old) (tree_of column.0 (map shown_tree trees.now)) }
+    ensures ok { OnOk result (out.new.items ≡ out.old.items ++ in_range (P.place probe.old) (tree_of column.0 (map shown_tree trees.now))) }
+    ensures err { OnErr result (out.new.items ≡ out.old.items) }
+{
+    match trees.split_first() {
+        Some((first, rest)) => {
+            if first.column == column {
+                first.tree.range(probe, out)
+            } else {
+                range_of_tree(rest, column, probe, out)
             }
         }
         None => unreachable!(),

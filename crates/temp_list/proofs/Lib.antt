@@ -1,2 +1,4 @@
 pub mod ReadingLemmas
 pub mod ListLemmas
+pub mod RangeLemmas
+pub mod SearchLemmas

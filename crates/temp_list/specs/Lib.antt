@@ -1,3 +1,4 @@
 pub mod Reading
 pub mod Lists
 pub mod Seen
+pub mod Ranges

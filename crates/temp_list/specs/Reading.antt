@@ -2,6 +2,7 @@
 use Rattle.std.specs.Prelude.{Bool, ℕ, ◌<◌, List, Option, Some, None, length}
 use Rattle.std.specs.List.{All, filter, list_all}
 use Rattle.part_raw.specs.declared.tuple_ref.TupleRef.{TupleRef}
+use Rattle.plain_tables.specs.declared.condition.Op.{Op}
 use Rattle.plain_tables.specs.declared.resolved.Test.{Test}
 use Rattle.plain_tables.specs.declared.value.Value.{Value}
 use Rattle.plain_tables.specs.declared.value.Value.TheVariants.{Null}
@@ -34,3 +35,7 @@ passing relations s tests = filter (row_passes relations s tests) s.by_key
 -- each test's column is there
 abbrev pub HasColumns : RelationState → List Test → Type 0
 HasColumns s tests = All (λ t. t.column.0 < length s.schema.columns) tests
+
+-- the rows whose value in a column stands so to a value, in the order of their keys
+abbrev pub standing : List RelationState → RelationState → ℕ → Op → Value → List TupleRef
+standing relations s column op value = filter (λ r. stands op (value_in relations s column r) value) s.by_key

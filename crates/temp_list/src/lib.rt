@@ -15,6 +15,7 @@
 #![tactic(auto)]
 
 mod list;
+mod range_probe;
 pub mod search;
 mod standing;
 

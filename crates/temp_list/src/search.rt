@@ -1,14 +1,20 @@
 //! The rows of one relation that a test asks for.
-ghost use Rattle.std.specs.Prelude.{◌≡◌, ◌<◌, IsSome, length};
+ghost use Rattle.std.specs.Prelude.{◌≡◌, ◌<◌, IsTrue, IsSome, OnOk, OnErr, length};
 ghost use Rattle.std.specs.FinMap as finite;
 ghost use Rattle.mm_relation.specs.State.{IsCurrent, linked_keys};
-ghost use Rattle.temp_list.specs.Reading.{HasColumns, value_in, row_passes as row_passes_so};
+ghost use Rattle.mm_relation.specs.Changes.{HasTree, HasHash};
+ghost use Rattle.mm_index.specs.Bag.{AppendsBag};
+ghost use Rattle.plan_chooser.specs.Plans.{is_range};
+ghost use Rattle.plain_tables.specs.declared.condition.Op.TheVariants as operator;
+ghost use Rattle.temp_list.specs.Reading.{standing, HasColumns, value_in, row_passes as row_passes_so};
 
+use crate::range_probe::RangeProbe;
 use crate::standing::stands;
 use mm_relation::laws::a_relation_is_kept;
 use mm_relation::{Relation, Relations};
+use no_memory::NoMemory;
 use part_raw::TupleRef;
-use plain_tables::{ColumnNumber, Test, Value};
+use plain_tables::{ColumnNumber, Op, Test, Value, hash_of};
 
 // The value in a column of a row that is lent.
 pub(crate) fn read<'a, R: Relations>(
@@ -46,4 +52,60 @@ pub fn passes_all<R: Relations>(
         }
     }
     true
+}
+
+/// Appends the rows whose value in a column with a tree stands so to this value, each once. At an error nothing is appended.
+pub fn rows_by_tree<R: Relations>(
+    tables: &R,
+    relation: &Relation,
+    column: ColumnNumber,
+    op: Op,
+    value: &Value,
+    out: &mut Vec<TupleRef>,
+) -> Result<(), NoMemory>
+    requires current { IsCurrent (linked_keys relation.now.targets (R.tables tables.now)) relation.now }
+    requires within { column.0 < length relation.now.schema.columns }
+    requires has_tree { HasTree relation.now column.0 }
+    requires range { IsTrue (is_range op) }
+    ensures ok { OnOk result (AppendsBag out.old.items out.new.items (standing (R.tables tables.now) relation.now column.0 op value.now)) }
+    ensures err { OnErr result (out.new.items ≡ out.old.items) }
+{
+    a_relation_is_kept(relation);
+    let mut probe = RangeProbe {
+        tables,
+        relation,
+        column,
+        op,
+        sought: value,
+        asked: 0,
+    };
+    relation.range_column(column, &mut probe, out)
+}
+
+/// Appends the rows whose value in a column with a hash equals this value, each once. At an error nothing is appended.
+pub fn rows_by_hash<R: Relations>(
+    tables: &R,
+    relation: &Relation,
+    column: ColumnNumber,
+    value: &Value,
+    out: &mut Vec<TupleRef>,
+) -> Result<(), NoMemory>
+    requires current { IsCurrent (linked_keys relation.now.targets (R.tables tables.now)) relation.now }
+    requires within { column.0 < length relation.now.schema.columns }
+    requires has_hash { HasHash relation.now column.0 }
+    ensures ok { OnOk result (AppendsBag out.old.items out.new.items (standing (R.tables tables.now) relation.now column.0 operator.Eq value.now)) }
+    ensures err { OnErr result (out.new.items ≡ out.old.items) }
+{
+    a_relation_is_kept(relation);
+    let before = out.len();
+    for r in relation.chain_of(column, hash_of(value)) {
+        if !stands(Op::Eq, read(tables, relation, r, column), value) {
+            continue;
+        }
+        if out.push(r).is_err() {
+            out.truncate(before);
+            return Err(NoMemory);
+        }
+    }
+    Ok(())
 }
