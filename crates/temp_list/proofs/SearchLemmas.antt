@@ -53,7 +53,7 @@ IsSameBag-filter p xs ys h = record {
 }
 
 -- a test that only those pass which pass another
-filter_inner : {A : Type 0} (p q : A → Bool) (xs : List A) → All (λ x. p x ≡ true → q x ≡ true) xs → filter p (filter q xs) ≡ filter p xs
+pub filter_inner : {A : Type 0} (p q : A → Bool) (xs : List A) → All (λ x. p x ≡ true → q x ≡ true) xs → filter p (filter q xs) ≡ filter p xs
 filter_inner p q [] h = refl
 filter_inner {A} p q (x ∷ xs) h =
     let rest : filter p (filter q xs) ≡ filter p xs = filter_inner p q xs (λ k d l. h (suc k) d (omega arith)) in

@@ -2,3 +2,5 @@ pub mod Reading
 pub mod Lists
 pub mod Seen
 pub mod Ranges
+pub mod Selecting
+pub mod ListLaws

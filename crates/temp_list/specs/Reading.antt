@@ -1,5 +1,5 @@
 -- What is read of the rows of relations that are lent, and which of them pass tests.
-use Rattle.std.specs.Prelude.{Bool, ℕ, ◌<◌, List, Option, Some, None, length}
+use Rattle.std.specs.Prelude.{◌≡◌, Bool, ℕ, ◌<◌, List, Option, Some, None, length, slice_get}
 use Rattle.std.specs.List.{All, filter, list_all}
 use Rattle.part_raw.specs.declared.tuple_ref.TupleRef.{TupleRef}
 use Rattle.plain_tables.specs.declared.condition.Op.{Op}
@@ -39,3 +39,7 @@ HasColumns s tests = All (λ t. t.column.0 < length s.schema.columns) tests
 -- the rows whose value in a column stands so to a value, in the order of their keys
 abbrev pub standing : List RelationState → RelationState → ℕ → Op → Value → List TupleRef
 standing relations s column op value = filter (λ r. stands op (value_in relations s column r) value) s.by_key
+
+-- what is said of the relation of a table
+abbrev pub OfRelation : List RelationState → ℕ → (RelationState → Type 0) → Type 0
+OfRelation relations table P = (s : RelationState) → slice_get relations table ≡ Some s → P s

@@ -14,10 +14,15 @@
 //! - What finds no memory leaves the list as it was.
 #![tactic(auto)]
 
+pub mod laws;
 mod list;
 mod range_probe;
+mod row;
 pub mod search;
+mod selecting;
+mod sorting;
 mod standing;
 
 pub use list::TempList;
+pub use selecting::select;
 pub use standing::stands;

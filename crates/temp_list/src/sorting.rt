@@ -1,0 +1,74 @@
+//! Rows in the order of their keys.
+ghost use Rattle.std.specs.Prelude.{◌≡◌, ◌↔◌, ◌<◌, IsTrue, OnOk, OnErr, length, map};
+ghost use Rattle.std.specs.List.Sorted.{IsPermutation, IsSorted};
+ghost use Rattle.temp_list.specs.Lists.{keys_cmp};
+ghost use Rattle.temp_list.specs.Seen.{AreTables, listed_cmp};
+
+use crate::row::ListedRow;
+use mm_relation::Relations;
+use no_memory::NoMemory;
+use part_raw::TupleRef;
+use plain_tables::TableNumber;
+use std::cmp::Ordering;
+
+// Compares two rows by their keys, the first source's first.
+pub fn compare_rows<R: Relations>(
+    tables: &R,
+    sources: &[TableNumber],
+    a: &[TupleRef],
+    b: &[TupleRef],
+) -> Ordering
+    requires { AreTables (R.tables tables.now) sources.now }
+    ensures { result ≡ keys_cmp (R.tables tables.now) (map (λ t. t.0) sources.now) a.now b.now }
+{
+    let Some((table, sources)) = sources.split_first() else {
+        return Ordering::Equal;
+    };
+    match (a.split_first(), b.split_first()) {
+        (Some((q, a)), Some((r, b))) => {
+            let relation = tables.at(*table);
+            match relation.key_if_held(*q).cmp(&relation.key_if_held(*r)) {
+                Ordering::Equal => compare_rows(tables, sources, a, b),
+                first => first,
+            }
+        }
+        (None, None) => Ordering::Equal,
+        (None, Some(_)) => Ordering::Less,
+        (Some(_), None) => Ordering::Greater,
+    }
+}
+
+// Whether no row stands below the one before it.
+fn rises<R: Relations>(tables: &R, sources: &[TableNumber], rows: &[ListedRow]) -> bool
+    requires { AreTables (R.tables tables.now) sources.now }
+    ensures { IsTrue result ↔ IsSorted (listed_cmp (R.tables tables.now) sources.now) rows.now }
+{
+    rows.is_sorted_by(
+        |a, b| -> bool
+            requires { AreTables (R.tables tables.now) sources.now }
+        { compare_rows(tables, sources, b.as_slice(), a.as_slice()).is_ge() },
+    )
+}
+
+// Puts rows into the order of their keys. Those that rise already, and all at an error, stay where they were.
+pub fn sort_rows<R: Relations>(
+    tables: &R,
+    sources: &[TableNumber],
+    rows: &mut Vec<ListedRow>,
+) -> Result<(), NoMemory>
+    requires { AreTables (R.tables tables.now) sources.now }
+    ensures sorted { OnOk result (IsSorted (listed_cmp (R.tables tables.now) sources.now) rows.new.items) }
+    ensures moved { IsPermutation rows.old.items rows.new.items }
+    ensures risen { IsSorted (listed_cmp (R.tables tables.now) sources.now) rows.old.items → rows.new.items ≡ rows.old.items }
+    ensures unchanged { OnErr result (rows.new.items ≡ rows.old.items) }
+{
+    if rises(tables, sources, rows.as_slice()) {
+        return Ok(());
+    }
+    rows.sort_by(
+        |a, b| -> Ordering
+            requires { AreTables (R.tables tables.now) sources.now }
+        { compare_rows(tables, sources, a.as_slice(), b.as_slice()) },
+    )?;
+    Ok(())
+}
