@@ -43,7 +43,10 @@ pub mod ResolveLists
 pub mod ResolveTables
 pub mod ResolveColumns
 pub mod ResolveNamed
+pub mod ResolveScopes
+pub mod ResolveSources
 pub mod ResolveCommands
+pub mod ResolveSelect
 pub mod UpdateNeeds
 pub mod UpdateRefused
 pub mod UpdateDone

@@ -1,126 +1,249 @@
--- The place of the column that a name means.
-use Rattle.std.proofs.Common.{◌≡◌, ◌≢◌, get_or, ℕ, suc, ◌≤◌, Bool, true, false, cond, eqb, List, [], ◌∷◌, length, map, Some, None, Option, is_some, refl, sym, ap, ◌∙◌, position, slice_get, arith, inl, inr}
-use Rattle.std.specs.Prelude.{not, ◌||◌}
-use Rattle.std.specs.Option.{option_map_or}
+-- The columns that a name fits.
+use Rattle.std.proofs.Common.{◌≡◌, ◌≢◌, ◌+◌, ◌<◌, get_or, ℕ, zero, suc, Bool, true, false, cond, eqb, List, [], ◌∷◌, ◌++◌, length, map, take, drop, slice_get, subst, Some, None, Option, is_some, refl, sym, ap, ◌∙◌, position, arith, inl, inr, add-zero, zero-add, append-nil}
+use Rattle.std.specs.Option.{option_map, option_map_or, option_to_list}
 use Rattle.std.specs.Str.{bytes_eq}
+use Rattle.std.specs.List.{All, AllPairs, filter, find, flat_map, enumerate_from}
 use Rattle.std.proofs.lemmas.Slice.Eq.{bytes_eq-Decides}
-use Rattle.plain_tables.proofs.ListLemmas.{AllPairs-head, AllPairs-tail}
-use Rattle.std.specs.List.{AllPairs, filter, list_any}
-use Rattle.std.proofs.lemmas.Bool.{eqb-true, cases_Bool, and_parts}
+use Rattle.std.proofs.lemmas.Bool.{cases_Bool, and_parts}
 use Rattle.std.proofs.lemmas.Bool.Decides.{nat_tests}
-use Rattle.std.proofs.lemmas.List.Folds.{find_at, list_any_none}
-use Rattle.plain_tables.specs.Queries.{JoinedColumn, fits, fits_one, place_meant, column_meant}
+use Rattle.std.proofs.lemmas.Grind.{flat_map-append}
+use Rattle.std.proofs.lemmas.List.{take_more, take-append-drop, length-take, map-append}
+use Rattle.std.proofs.lemmas.List.Elements.{filter-append, All-nil, All-cons, All-head, All-tail, All-weaker}
+use Rattle.std.proofs.lemmas.Option.{same_Some}
+use Rattle.plain_tables.proofs.ListLemmas.{AllPairs-head, AllPairs-tail, fails_where_not_found}
+use Rattle.plain_tables.specs.Queries.{JoinedColumn, column_number, fits, fits_one, place_meant, column_meant}
+use Rattle.plain_tables.specs.declared.numbers.Place.{Place}
 use Rattle.plain_tables.specs.declared.schema.Column.{Column}
 use Rattle.plain_tables.specs.declared.condition.ColName.{ColName}
-use Rattle.mm_catalog.specs.Resolve.{in_table}
-use Rattle.mm_catalog.proofs.Finding.{position-map, is_some-find}
-use Rattle.mm_catalog.proofs.ResolveLists.{position_or_len-position, is_some-found}
+use Rattle.mm_catalog.specs.declared.scope.Scope.{Scope}
+use Rattle.mm_catalog.specs.declared.scope.NamedColumn.{NamedColumn}
+use Rattle.mm_catalog.proofs.ResolveLists.{none_found, is_some-map}
+use Rattle.mm_catalog.specs.Resolve.{in_table, place_in, columns_of, source_columns, columns_of_all, placed, as_found}
 
--- ---- lists through a map
+-- ---- the only element of a list
 
-count-map : {X Y : Type 0} (p : Y → Bool) (f : X → Y) (xs : List X) → length (filter p (map f xs)) ≡ length (filter (λ x. p (f x)) xs)
-count-map p f [] = refl
-count-map p f (x ∷ xs) =
-    elim (p (f x)) as (λ b. length (cond b (f x ∷ filter p (map f xs)) (filter p (map f xs))) ≡ length (cond b (x ∷ filter (λ z. p (f z)) xs) (filter (λ z. p (f z)) xs))) [
-      | true ↦ ap suc (count-map p f xs)
-      | false ↦ count-map p f xs
+abbrev pub only : {X : Type 0} → List X → Option X
+only [] = None
+only (x ∷ []) = Some x
+only (x ∷ y ∷ ys) = None
+
+two_or_more : (n : ℕ) → eqb (suc (suc n)) 1 ≡ false
+two_or_more n = grind (arith, nat_tests)
+
+only_or_none : {X : Type 0} (x : X) (xs : List X) → cond (eqb (length (x ∷ xs)) 1) (Some x) None ≡ only (x ∷ xs)
+only_or_none x [] = refl
+only_or_none x (y ∷ ys) = ap (λ b. cond b (Some x) None) (two_or_more (length ys))
+
+find_only : {X : Type 0} (p : X → Bool) (xs : List X) → cond (eqb (length (filter p xs)) 1) (find p xs) None ≡ only (filter p xs)
+find_only p [] = refl
+find_only p (x ∷ xs) =
+    elim (p x) as (λ b. cond (eqb (length (cond b (x ∷ filter p xs) (filter p xs))) 1) (cond b (Some x) (find p xs)) None ≡ only (cond b (x ∷ filter p xs) (filter p xs))) [
+      | true ↦ only_or_none x (filter p xs)
+      | false ↦ find_only p xs
     ]
 
--- ---- how many pass
+only-map : {X Y : Type 0} (f : X → Y) (xs : List X) → option_map f (only xs) ≡ only (map f xs)
+only-map f [] = refl
+only-map f (x ∷ []) = refl
+only-map f (x ∷ y ∷ ys) = refl
 
-count_none : {X : Type 0} (q : X → Bool) (xs : List X) → eqb (length (filter q xs)) 0 ≡ not (list_any q xs)
-count_none q [] = refl
-count_none q (x ∷ xs) =
-    elim (q x) as (λ b. eqb (length (cond b (x ∷ filter q xs) (filter q xs))) 0 ≡ not (b || list_any q xs)) [
-      | true ↦ grind (arith, nat_tests)
-      | false ↦ count_none q xs
-    ]
+is_some-only : {X : Type 0} (xs : List X) → is_some (only xs) ≡ eqb (length xs) 1
+is_some-only [] = refl
+is_some-only (x ∷ []) = refl
+is_some-only (x ∷ y ∷ ys) = sym (two_or_more (length ys))
 
-is_some-position : {X : Type 0} (q : X → Bool) (xs : List X) → is_some (position q xs) ≡ list_any q xs
-is_some-position q xs = sym (is_some-found q xs) ∙ is_some-find q xs
+pub only_of_one : {X : Type 0} (o : Option X) → only (option_to_list o) ≡ o
+only_of_one None = refl
+only_of_one (Some x) = refl
 
-one_then_some : {X : Type 0} (q : X → Bool) (xs : List X) → eqb (length (filter q xs)) 1 ≡ true → list_any q xs ≡ true
-one_then_some q xs one = elim (cases_Bool (list_any q xs)) [
-  | inl some ↦ some
-  | inr none ↦
-      let empty : eqb (length (filter q xs)) 0 ≡ true = count_none q xs ∙ rw none refl in
-      absurd (omega (arith, eqb-true (length (filter q xs)) 0 empty, eqb-true (length (filter q xs)) 1 one))
-]
+pub option_map-map : {X Y Z : Type 0} (g : Y → Z) (f : X → Y) (o : Option X) → option_map g (option_map f o) ≡ option_map (λ x. g (f x)) o
+option_map-map g f None = refl
+option_map-map g f (Some x) = refl
 
--- ---- the place of the one that passes
+-- ---- what a name fits, and what it means
 
-abbrev pub one_place : {X : Type 0} → (X → Bool) → List X → Option ℕ
-one_place q xs = cond (eqb (length (filter q xs)) 1) (position q xs) None
+abbrev pub fitted : ColName → List JoinedColumn → List (Place × Column)
+fitted name columns = map placed (filter (fits name) columns)
 
-pub is_some-one_place : {X : Type 0} (q : X → Bool) (xs : List X) → is_some (one_place q xs) ≡ eqb (length (filter q xs)) 1
-is_some-one_place q xs = elim (cases_Bool (eqb (length (filter q xs)) 1)) [
-  | inl one ↦ rw one (is_some-position q xs ∙ one_then_some q xs one)
-  | inr other ↦ rw other refl
-]
+pub meant_only : (columns : List JoinedColumn) (name : ColName) → option_map placed (column_meant columns name) ≡ only (fitted name columns)
+meant_only columns name = ap (option_map placed) (find_only (fits name) columns) ∙ only-map placed (filter (fits name) columns)
 
-no_place : (o : Option ℕ) → is_some o ≡ false → o ≡ None
-no_place None h = refl
-no_place (Some i) h = cc
+pub meant_one : (columns : List JoinedColumn) (name : ColName) (o : Option NamedColumn) → fitted name columns ≡ option_to_list (option_map as_found o)
+    → option_map as_found o ≡ option_map placed (column_meant columns name)
+meant_one columns name o h = sym (meant_only columns name ∙ ap only h ∙ only_of_one (option_map as_found o))
 
-one_place-few : {X : Type 0} (q : X → Bool) (xs : List X) → length (filter q xs) ≤ 1 → one_place q xs ≡ position q xs
-one_place-few q xs few = elim (cases_Bool (eqb (length (filter q xs)) 1)) [
-  | inl one ↦ rw one refl
-  | inr other ↦ rw other (sym (no_place (position q xs) (is_some-position q xs ∙ none_passes other)))
-] where
-  none_passes : eqb (length (filter q xs)) 1 ≡ false → list_any q xs ≡ false
-  none_passes other = elim (cases_Bool (list_any q xs)) [
-    | inl some ↦
-        let not_none : eqb (length (filter q xs)) 0 ≡ false = count_none q xs ∙ ap not some in
-        absurd (grind (arith, nat_tests))
-    | inr none ↦ none
-  ]
+pub fits_one-is : (columns : List JoinedColumn) (name : ColName) → is_some (place_meant columns name) ≡ fits_one columns name
+fits_one-is columns name =
+    is_some-map (λ (j : JoinedColumn). j.place) (column_meant columns name)
+    ∙ ap is_some (find_only (fits name) columns)
+    ∙ is_some-only (filter (fits name) columns)
 
--- ---- columns
+-- the place of a column that is found
+pub place_found : (columns : List JoinedColumn) (name : ColName) (o : Option NamedColumn) → option_map as_found o ≡ option_map placed (column_meant columns name)
+    → option_map (λ (n : NamedColumn). n.place) o ≡ place_meant columns name
+place_found columns name o h =
+    sym (option_map-map (λ (p : Place × Column). p.0) as_found o)
+    ∙ ap (option_map (λ (p : Place × Column). p.0)) h
+    ∙ option_map-map (λ (p : Place × Column). p.0) placed (column_meant columns name)
+
+pub fitted-append : (name : ColName) (columns others : List JoinedColumn) → fitted name (columns ++ others) ≡ fitted name columns ++ fitted name others
+fitted-append name columns others =
+    ap (map placed) (filter-append (fits name) columns others) ∙ map-append placed (filter (fits name) columns) (filter (fits name) others)
+
+-- ---- one table
 
 abbrev pub AreApart : List Column → Type 0
 AreApart columns = AllPairs (λ c d. c.name ≢ d.name) columns
 
--- a name that fits a column fits none of another name
-fits_apart : (table : List ℕ) (name : ColName) (c d : Column) → fits name (in_table table c) ≡ true → c.name ≢ d.name → fits name (in_table table d) ≡ false
-fits_apart table name c d h apart = elim (cases_Bool (fits name (in_table table d))) [
-  | inl both ↦
-      let own = option_map_or (λ t. bytes_eq t table) name.table true in
-      let first = (bytes_eq-Decides name.column c.name).0 (and_parts (bytes_eq name.column c.name) own h).0 in
-      let second = (bytes_eq-Decides name.column d.name).0 (and_parts (bytes_eq name.column d.name) own both).0 in
-      absurd (apart (sym first ∙ second))
-  | inr other ↦ other
-]
-
-none_left : {X : Type 0} (q : X → Bool) (xs : List X) → list_any q xs ≡ false → length (filter q xs) ≡ 0
-none_left q xs h = eqb-true (length (filter q xs)) 0 (count_none q xs ∙ ap not h)
-
-module _ (table : List ℕ) (name : ColName) where
+module _ (source : ℕ) (table : List ℕ) (name : ColName) where
   abbrev fitting : Column → Bool
   fitting c = fits name (in_table table c)
 
-  few_one : (c : Column) (cs : List Column) (b : Bool) → fitting c ≡ b → AreApart (c ∷ cs) → length (filter fitting cs) ≤ 1
-      → length (cond b (c ∷ filter fitting cs) (filter fitting cs)) ≤ 1
-  few_one c cs true e apart few =
-      let others = none_left fitting cs (list_any_none fitting cs (λ k d l. fits_apart table name c (get_or cs k d) e (AllPairs-head (λ p r. p.name ≢ r.name) c cs apart k d l))) in
-      omega arith
-  few_one c cs false e apart few = few
+  -- the columns, numbered from this one on
+  abbrev numbered : ℕ → List Column → List JoinedColumn
+  numbered k columns = map (λ c. record { table = table; place = place_in source (column_number c.0); column = c.1 }) (enumerate_from k columns)
 
-  few : (columns : List Column) → AreApart columns → length (filter fitting columns) ≤ 1
-  few [] apart = omega arith
-  few (c ∷ cs) apart = few_one c cs (fitting c) refl apart (few cs (AllPairs-tail (λ p r. p.name ≢ r.name) c cs apart))
+  -- a name that fits a column fits none of another name
+  fits_apart : (c d : Column) → fitting c ≡ true → c.name ≢ d.name → fitting d ≡ false
+  fits_apart c d h apart = elim (cases_Bool (fitting d)) [
+    | inl both ↦
+        let own = option_map_or (λ t. bytes_eq t table) name.table true in
+        let first = (bytes_eq-Decides name.column c.name).0 (and_parts (bytes_eq name.column c.name) own h).0 in
+        let second = (bytes_eq-Decides name.column d.name).0 (and_parts (bytes_eq name.column d.name) own both).0 in
+        absurd (apart (sym first ∙ second))
+    | inr other ↦ other
+  ]
 
--- The column that a name means is the first that it fits: where columns are apart it fits no other.
-pub place_first : (table : List ℕ) (columns : List Column) (name : ColName) → AreApart columns
-    → place_meant (map (in_table table) columns) name ≡ position (λ c. fits name (in_table table c)) columns
-place_first table columns name apart =
-    rw (count-map (fits name) (in_table table) columns, position-map (fits name) (in_table table) columns)
-    (one_place-few (fitting table name) columns (few table name columns apart))
+  pub fitted_none : (k : ℕ) (columns : List Column) → All (λ c. fitting c ≡ false) columns → fitted name (numbered k columns) ≡ []
+  fitted_none k [] h = refl
+  fitted_none k (c ∷ cs) h =
+      rw (All-head (λ d. fitting d ≡ false) c cs h) (fitted_none (k + 1) cs (All-tail (λ d. fitting d ≡ false) c cs h))
 
-pub fits_one-is : (columns : List JoinedColumn) (name : ColName) → is_some (place_meant columns name) ≡ fits_one columns name
-fits_one-is columns name = is_some-one_place (fits name) columns
+  -- where the columns are apart, a name that fits one of them fits no other
+  pub fitted_one : (k i : ℕ) (columns : List Column) (d : Column) → AreApart columns → i < length columns → fitting (get_or columns i d) ≡ true
+      → fitted name (numbered k columns) ≡ (place_in source (column_number (k + i)), get_or columns i d) ∷ []
+  fitted_one k i [] d apart within h = absurd (omega arith)
+  fitted_one k zero (c ∷ cs) d apart within h =
+      rw (h, add-zero k)
+      (ap (λ others. (place_in source (column_number k), c) ∷ others)
+      (fitted_none (k + 1) cs (All-weaker (λ o. c.name ≢ o.name) (λ o. fitting o ≡ false) (λ o. fits_apart c o h) cs (AllPairs-head (λ p r. p.name ≢ r.name) c cs apart))))
+  fitted_one k (suc i) (c ∷ cs) d apart within h =
+      let differ : (get_or cs i d).name ≢ c.name = λ e. AllPairs-head (λ p r. p.name ≢ r.name) c cs apart i d (omega arith) (sym e) in
+      let other = fits_apart (get_or cs i d) c h differ in
+      let more : (k + 1) + i ≡ k + suc i = omega arith in
+      rw other
+      (fitted_one (k + 1) i cs d (AllPairs-tail (λ p r. p.name ≢ r.name) c cs apart) (omega arith) h
+      ∙ ap (λ n. (place_in source (column_number n), get_or cs i d) ∷ []) more)
 
-pub column_meant-at : (columns : List JoinedColumn) (name : ColName) (place : ℕ) → place_meant columns name ≡ Some place → column_meant columns name ≡ slice_get columns place
-column_meant-at columns name place is = elim (cases_Bool (fits_one columns name)) [
-  | inl one ↦ rw one (find_at (fits name) columns ∙ ap (slice_get columns) (position_or_len-position (fits name) columns place (rw one at is)))
-  | inr other ↦ absurd (let no = rw other at is in cc)
-]
+-- ---- the column at a place
+
+find_satisfies : {X : Type 0} (P : X → Type 0) (p : X → Bool) (xs : List X) (x : X) → All P xs → find p xs ≡ Some x → P x
+find_satisfies P p [] x h e = cc
+find_satisfies P p (y ∷ ys) x h e =
+    elim (p y) as (λ b. cond b (Some y) (find p ys) ≡ Some x → P x) [
+      | true ↦ λ same. subst P (same_Some y x same) (All-head P y ys h)
+      | false ↦ λ rest. find_satisfies P p ys x (All-tail P y ys h) rest
+    ] e
+
+find_meant : {X : Type 0} (b : Bool) (o : Option X) (x : X) → cond b o None ≡ Some x → o ≡ Some x
+find_meant true o x h = h
+find_meant false o x h = cc
+
+module _ (source : ℕ) (table : List ℕ) (whole : List Column) where
+  abbrev IsThere : JoinedColumn → Type 0
+  IsThere joined = slice_get whole joined.place.column.0 ≡ Some joined.column
+
+  numbered_there : (k : ℕ) (columns : List Column) → ((i : ℕ) → slice_get whole (k + i) ≡ slice_get columns i)
+      → All IsThere (map (λ c. record { table = table; place = place_in source (column_number c.0); column = c.1 }) (enumerate_from k columns))
+  numbered_there k [] h = All-nil IsThere
+  numbered_there k (c ∷ cs) h =
+      let first : slice_get whole k ≡ Some c = ap (slice_get whole) (sym (add-zero k)) ∙ h zero in
+      let rest = numbered_there (k + 1) cs (λ i. let more : (k + 1) + i ≡ k + suc i = omega arith in ap (slice_get whole) more ∙ h (suc i)) in
+      All-cons IsThere (record { table = table; place = place_in source (column_number k); column = c })
+      (map (λ d. record { table = table; place = place_in source (column_number d.0); column = d.1 }) (enumerate_from (k + 1) cs)) first rest
+
+-- the column that a name means on a table stands at its place
+pub meant_there : (scope : Scope) (name : ColName) (joined : JoinedColumn) → column_meant (columns_of scope) name ≡ Some joined
+    → slice_get scope.columns.now joined.place.column.0 ≡ Some joined.column
+meant_there scope name joined h =
+    find_satisfies (IsThere 0 scope.name.now scope.columns.now) (fits name) (columns_of scope) joined
+    (numbered_there 0 scope.name.now scope.columns.now 0 scope.columns.now (λ i. ap (slice_get scope.columns.now) (zero-add i)))
+    (find_meant (fits_one (columns_of scope) name) (find (fits name) (columns_of scope)) joined h)
+
+-- where none has a place none passes
+pub position_none : {X : Type 0} (p : X → Bool) (xs : List X) → position p xs ≡ None → All (λ x. p x ≡ false) xs
+position_none p xs h = fails_where_not_found p xs (ap is_some (none_found p xs h))
+
+-- ---- several tables
+
+enumerate_from-append : {X : Type 0} (k : ℕ) (xs ys : List X) → enumerate_from k (xs ++ ys) ≡ enumerate_from k xs ++ enumerate_from (k + length xs) ys
+enumerate_from-append k [] ys = ap (λ n. enumerate_from n ys) (sym (add-zero k))
+enumerate_from-append k (x ∷ xs) ys =
+    let more : (k + 1) + length xs ≡ k + suc (length xs) = omega arith in
+    ap (λ rest. (k, x) ∷ rest) (enumerate_from-append (k + 1) xs ys ∙ ap (λ n. enumerate_from (k + 1) xs ++ enumerate_from n ys) more)
+
+columns-append : (scopes others : List Scope)
+    → columns_of_all (scopes ++ others) ≡ columns_of_all scopes ++ flat_map source_columns (enumerate_from (length scopes) others)
+columns-append scopes others =
+    ap (flat_map source_columns) (enumerate_from-append 0 scopes others ∙ ap (λ n. enumerate_from 0 scopes ++ enumerate_from n others) (zero-add (length scopes)))
+    ∙ flat_map-append source_columns (enumerate_from 0 scopes) (enumerate_from (length scopes) others)
+
+-- one table more
+pub columns-push : (scopes : List Scope) (scope : Scope) → columns_of_all (scopes ++ scope ∷ []) ≡ columns_of_all scopes ++ source_columns (length scopes, scope)
+columns-push scopes scope =
+    columns-append scopes (scope ∷ []) ∙ ap (λ cs. columns_of_all scopes ++ cs) (append-nil (source_columns (length scopes, scope)))
+
+module _ (name : ColName) (scopes : List Scope) (i : ℕ) where
+  pub fitted_more : (d : Scope) → i < length scopes
+      → fitted name (columns_of_all (take (i + 1) scopes)) ≡ fitted name (columns_of_all (take i scopes)) ++ fitted name (source_columns (i, get_or scopes i d))
+  fitted_more d within =
+      let many : length (take i scopes) ≡ i = omega (arith, length-take i scopes) in
+      ap (λ (ss : List Scope). fitted name (columns_of_all ss)) (take_more scopes i d within)
+      ∙ ap (fitted name) (columns-push (take i scopes) (get_or scopes i d))
+      ∙ fitted-append name (columns_of_all (take i scopes)) (source_columns (length (take i scopes), get_or scopes i d))
+      ∙ ap (λ n. fitted name (columns_of_all (take i scopes)) ++ fitted name (source_columns (n, get_or scopes i d))) many
+
+  abbrev behind : List JoinedColumn
+  behind = flat_map source_columns (enumerate_from (length (take i scopes)) (drop i scopes))
+
+  pub fitted_rest : fitted name (columns_of_all scopes) ≡ fitted name (columns_of_all (take i scopes)) ++ fitted name behind
+  fitted_rest =
+      ap (λ (ss : List Scope). fitted name (columns_of_all ss)) (sym (take-append-drop i scopes))
+      ∙ ap (fitted name) (columns-append (take i scopes) (drop i scopes))
+      ∙ fitted-append name (columns_of_all (take i scopes)) behind
+
+  -- what was found before one table, and in it
+  pub found_more : (scope : Scope) → scope ≡ get_or scopes i scope → i < length scopes → (before own : Option NamedColumn)
+      → fitted name (columns_of_all (take i scopes)) ≡ option_to_list (option_map as_found before)
+      → fitted name (source_columns (i, scope)) ≡ option_to_list (option_map as_found own)
+      → fitted name (columns_of_all (take (i + 1) scopes)) ≡ option_to_list (option_map as_found before) ++ option_to_list (option_map as_found own)
+  found_more scope at within before own found here =
+      fitted_more scope within
+      ∙ ap (λ (s : Scope). fitted name (columns_of_all (take i scopes)) ++ fitted name (source_columns (i, s))) (sym at)
+      ∙ ap (λ xs. xs ++ fitted name (source_columns (i, scope))) found
+      ∙ ap (λ ys. option_to_list (option_map as_found before) ++ ys) here
+
+-- a name that fits two columns means none
+none_of_two : (before own : Option NamedColumn) (others : List (Place × Column)) → is_some before ≡ true → is_some own ≡ true
+    → only ((option_to_list (option_map as_found before) ++ option_to_list (option_map as_found own)) ++ others) ≡ None
+none_of_two None own others h k = cc
+none_of_two (Some x) None others h k = cc
+none_of_two (Some x) (Some y) others h k = refl
+
+pub found_twice : (name : ColName) (scopes : List Scope) (i : ℕ) (before own : Option NamedColumn)
+    → fitted name (columns_of_all (take (i + 1) scopes)) ≡ option_to_list (option_map as_found before) ++ option_to_list (option_map as_found own)
+    → is_some before ≡ true → is_some own ≡ true → option_map placed (column_meant (columns_of_all scopes) name) ≡ None
+found_twice name scopes i before own more h k =
+    meant_only (columns_of_all scopes) name
+    ∙ ap only (fitted_rest name scopes (i + 1) ∙ ap (λ xs. xs ++ fitted name (behind name scopes (i + 1))) more)
+    ∙ none_of_two before own (fitted name (behind name scopes (i + 1))) h k
+
+pub none_before : (before own : Option NamedColumn) → is_some before ≡ false
+    → option_to_list (option_map as_found before) ++ option_to_list (option_map as_found own) ≡ option_to_list (option_map as_found own)
+none_before None own h = refl
+none_before (Some x) own h = cc
+
+pub as_before : (before own : Option NamedColumn) → own ≡ None
+    → option_to_list (option_map as_found before) ++ option_to_list (option_map as_found own) ≡ option_to_list (option_map as_found before)
+as_before before own h =
+    ap (λ o. option_to_list (option_map as_found before) ++ option_to_list (option_map as_found o)) h ∙ append-nil (option_to_list (option_map as_found before))

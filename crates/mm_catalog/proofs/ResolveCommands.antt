@@ -1,25 +1,25 @@
 -- What a command means once the names in it are found and its checks are made.
 use Rattle.std.proofs.Common.{◌≡◌, ℕ, Bool, true, false, cond, List, [], ◌∷◌, ◌++◌, Some, None, length, map, refl, sym, ap, ◌∙◌, append-nil}
 use Rattle.std.specs.Prelude.{Result, Ok, Err, not, ◌||◌, ◌==◌, nat_lt}
-use Rattle.std.specs.List.{list_any}
+use Rattle.std.specs.List.{list_any, enumerate_from}
 use Rattle.std.specs.Option.{option_map_or}
 use Rattle.std.specs.Str.{bytes_eq}
 use Rattle.std.proofs.lemmas.List.Folds.{list_any-append}
 use Rattle.plain_tables.specs.Tables.{Table, Row}
 use Rattle.plain_tables.specs.Databases.{Database}
-use Rattle.plain_tables.specs.Queries.{JoinedColumn, place_meant, places_meant, named_items}
+use Rattle.plain_tables.specs.Queries.{JoinedColumn, column_number, place_meant, places_meant}
 use Rattle.plain_tables.specs.Effects.{Check, misses, repeats, condition_names, setting_name, is_long}
-use Rattle.plain_tables.specs.Resolving.{meaning, on_numbered, on_column, column_number, drop_checks, index_checks, drop_index_checks, number_of, own_columns, resolved_of, tests_of, assignments_of, shown_of, mistypes, is_mistyped, insert_checks}
+use Rattle.plain_tables.specs.Resolving.{meaning, on_numbered, on_column, drop_checks, index_checks, drop_index_checks, number_of, own_columns, resolved_of, tests_of, assignments_of, mistypes, is_mistyped, insert_checks}
 use Rattle.plain_tables.specs.References.{is_table_referenced, is_index}
 use Rattle.plain_tables.specs.declared.schema.Column.{Column}
 use Rattle.plain_tables.specs.declared.schema.IndexKind.{IndexKind}
 use Rattle.plain_tables.specs.declared.schema.IndexKind.TheVariants as index
 use Rattle.plain_tables.specs.declared.condition.Cond.{Cond}
 use Rattle.plain_tables.specs.declared.condition.ColName.{ColName}
-use Rattle.plain_tables.specs.declared.command.Items.{Items}
 use Rattle.plain_tables.specs.declared.command.Setting.{Setting}
 use Rattle.plain_tables.specs.declared.command.Command.TheVariants as command
 use Rattle.plain_tables.specs.declared.numbers.ColumnNumber.{ColumnNumber}
+use Rattle.plain_tables.specs.declared.numbers.Place.{Place}
 use Rattle.plain_tables.specs.declared.numbers.TableNumber.{TableNumber}
 use Rattle.plain_tables.specs.declared.refusal.Refusal.{Refusal}
 use Rattle.plain_tables.specs.declared.refusal.Refusal.TheVariants.{NoSuchTable, NoSuchColumn, NoSuchIndex, IndexExists, TableIsReferenced, ColumnNamedTwice, TooMany, WrongType, KeyCannotBeSet, TextTooLong}
@@ -27,10 +27,10 @@ use Rattle.plain_tables.specs.declared.resolved.Resolved.{Resolved}
 use Rattle.plain_tables.specs.declared.resolved.Resolved.TheVariants as resolved
 use Rattle.mm_catalog.specs.declared.scope.Scope.{Scope}
 use Rattle.mm_catalog.specs.Seen.{plain_index}
-use Rattle.mm_catalog.specs.Resolve.{IsScopeOf, bare, columns_of, in_table, shown_places}
-use Rattle.mm_catalog.specs.ResolveChecks.{verdict, row_checks, delete_rest, select_rest, update_rest}
+use Rattle.mm_catalog.specs.Resolve.{IsScopeOf, bare, columns_of, own_place}
+use Rattle.mm_catalog.specs.ResolveChecks.{verdict, row_checks, delete_rest, update_rest}
 use Rattle.mm_catalog.proofs.Finding.{list_any-map}
-use Rattle.mm_catalog.proofs.ResolveNamed.{tests_mistyped, length-tests, assignments_mistyped, long_set, key_set, shown_places-are, length-shown}
+use Rattle.mm_catalog.proofs.ResolveNamed.{tests_mistyped, length-tests, assignments_mistyped, long_set, key_set}
 
 -- ---- checks
 
@@ -56,10 +56,10 @@ misses-append : (columns : List JoinedColumn) (names others : List ColName) → 
 misses-append columns names others = list_any-append _ names others
 
 -- one that is missed is missed among more
-first_missed : (columns : List JoinedColumn) (names others : List ColName) → misses columns names ≡ true → misses columns (names ++ others) ≡ true
+pub first_missed : (columns : List JoinedColumn) (names others : List ColName) → misses columns names ≡ true → misses columns (names ++ others) ≡ true
 first_missed columns names others h = misses-append columns names others ∙ ap (λ b. b || misses columns others) h
 
-rest_missed : (columns : List JoinedColumn) (names others : List ColName) (b : Bool) → misses columns names ≡ false → misses columns others ≡ b → misses columns (names ++ others) ≡ b
+pub rest_missed : (columns : List JoinedColumn) (names others : List ColName) (b : Bool) → misses columns names ≡ false → misses columns others ≡ b → misses columns (names ++ others) ≡ b
 rest_missed columns names others b h rest = misses-append columns names others ∙ ap (λ a. a || misses columns others) h ∙ rest
 
 -- ---- the scope of a command
@@ -70,7 +70,9 @@ module _ (tables : Database) (name : List ℕ) (scope : Scope) (h : IsScopeOf ta
 
   own_columns-are : own_columns h.table ≡ columns_of scope
   own_columns-are =
-      append-nil (map (in_table h.table.name) h.table.columns) ∙ ap (λ own. map (in_table own) h.table.columns) h.called ∙ ap (map (in_table scope.name.now)) h.columns
+      let own : List ℕ → List Column → List JoinedColumn =
+      λ name columns. map (λ c. record { table = name; place = own_place (column_number c.0); column = c.1 }) (enumerate_from 0 columns) in
+      append-nil (own h.table.name h.table.columns) ∙ ap (λ name. own name h.table.columns) h.called ∙ ap (own scope.name.now) h.columns
 
   abbrev columns : List JoinedColumn
   columns = columns_of scope
@@ -88,13 +90,13 @@ module _ (tables : Database) (name : List ℕ) (scope : Scope) (h : IsScopeOf ta
     abbrev declared : List (ℕ × IndexKind)
     declared = map plain_index scope.declared.now
 
-    abbrev index_on : List (ℕ × IndexKind) → ℕ → Result Resolved Refusal
+    abbrev index_on : List (ℕ × IndexKind) → Place → Result Resolved Refusal
     index_on own place =
-        meaning (record { refuses = list_any (is_index (column_number place) k) ((0, index.Tree) ∷ own); refusal = IndexExists } ∷ []) (resolved.Index scope.table (column_number place) k)
+        meaning (record { refuses = list_any (is_index place.column k) ((0, index.Tree) ∷ own); refusal = IndexExists } ∷ []) (resolved.Index scope.table place.column k)
 
-    abbrev drop_index_on : List (ℕ × IndexKind) → ℕ → Result Resolved Refusal
+    abbrev drop_index_on : List (ℕ × IndexKind) → Place → Result Resolved Refusal
     drop_index_on own place =
-        meaning (record { refuses = not (list_any (is_index (column_number place) k) own); refusal = NoSuchIndex } ∷ []) (resolved.DropIndex scope.table (column_number place) k)
+        meaning (record { refuses = not (list_any (is_index place.column k) own); refusal = NoSuchIndex } ∷ []) (resolved.DropIndex scope.table place.column k)
 
     pub index_is : resolved_of tables (command.Index name column k) ≡ option_map_or (index_on declared) (place_meant columns (bare column)) (Err NoSuchColumn)
     index_is =
@@ -115,7 +117,7 @@ module _ (tables : Database) (name : List ℕ) (scope : Scope) (h : IsScopeOf ta
     pub drop_index_missed : place_meant columns (bare column) ≡ None → resolved_of tables (command.DropIndex name column k) ≡ Err NoSuchColumn
     drop_index_missed none = drop_index_is ∙ ap (λ o. option_map_or (drop_index_on declared) o (Err NoSuchColumn)) none
 
-    module _ (c : ColumnNumber) (found : place_meant columns (bare column) ≡ Some c.0) (b : Bool) where
+    module _ (c : ColumnNumber) (found : place_meant columns (bare column) ≡ Some (own_place c)) (b : Bool) where
       pub index_found : (is_index c k (0, index.Tree) || list_any (λ d. is_index c k (plain_index d)) scope.declared.now) ≡ b
           → resolved_of tables (command.Index name column k) ≡ cond b (Err IndexExists) (Ok (resolved.Index scope.table c k))
       index_found is =
@@ -161,7 +163,7 @@ module _ (tables : Database) (name : List ℕ) (scope : Scope) (h : IsScopeOf ta
 
     delete_named : misses columns (condition_names conditions) ≡ false → verdict (delete_on columns) ≡ verdict (delete_rest tables scope.columns.now (tests_of columns conditions))
     delete_named named =
-        rw (named, tests_mistyped tables scope.name.now scope.columns.now conditions named, sym (length-tests columns conditions named)) refl
+        rw (named, tests_mistyped tables scope conditions named, sym (length-tests columns conditions named)) refl
 
     pub delete_missed : misses columns (condition_names conditions) ≡ true → resolved_of tables (command.Delete name conditions) ≡ Err NoSuchColumn
     delete_missed missed = delete_is ∙ rw missed refl
@@ -173,60 +175,6 @@ module _ (tables : Database) (name : List ℕ) (scope : Scope) (h : IsScopeOf ta
     pub delete_refused : misses columns (condition_names conditions) ≡ false → (e : Refusal) → verdict (delete_rest tables scope.columns.now (tests_of columns conditions)) ≡ Err e
         → resolved_of tables (command.Delete name conditions) ≡ Err e
     delete_refused named e err = delete_is ∙ meaning_err (delete_on columns) (resolved.Delete scope.table (tests_of columns conditions)) e (delete_named named ∙ err)
-
-  -- ---- select
-
-  module _ (its : Items) (conditions : List Cond) where
-    abbrev select_names : List ColName
-    select_names = named_items its ++ condition_names conditions
-
-    abbrev select_on : List JoinedColumn → List Check
-    select_on cs =
-        record { refuses = misses cs select_names; refusal = NoSuchColumn }
-        ∷ record { refuses = repeats (λ p q. p == q) (places_meant cs (named_items its)); refusal = ColumnNamedTwice }
-        ∷ record { refuses = list_any (is_mistyped tables cs) conditions; refusal = WrongType }
-        ∷ record { refuses = nat_lt 16 (length (named_items its)) || nat_lt 8 (length conditions); refusal = TooMany }
-        ∷ []
-
-    abbrev selection : Resolved
-    selection = resolved.Select (shown_of columns its) scope.table (tests_of columns conditions)
-
-    select_is : resolved_of tables (command.Select its name conditions) ≡ meaning (select_on columns) selection
-    select_is =
-        in_scope (λ n table. meaning (select_on (own_columns table)) (resolved.Select (shown_of (own_columns table) its) n (tests_of (own_columns table) conditions)))
-        ∙ ap (λ cs. meaning (select_on cs) (resolved.Select (shown_of cs its) scope.table (tests_of cs conditions))) own_columns-are
-
-    select_missed : misses columns select_names ≡ true → resolved_of tables (command.Select its name conditions) ≡ Err NoSuchColumn
-    select_missed missed = select_is ∙ rw missed refl
-
-    pub items_missed : misses columns (named_items its) ≡ true → resolved_of tables (command.Select its name conditions) ≡ Err NoSuchColumn
-    items_missed missed = select_missed (first_missed columns (named_items its) (condition_names conditions) missed)
-
-    module _ (items_named : misses columns (named_items its) ≡ false) where
-      pub conditions_missed : misses columns (condition_names conditions) ≡ true → resolved_of tables (command.Select its name conditions) ≡ Err NoSuchColumn
-      conditions_missed missed = select_missed (rest_missed columns (named_items its) (condition_names conditions) true items_named missed)
-
-      module _ (named : misses columns (condition_names conditions) ≡ false) where
-        many_items : length (named_items its) ≡ length (shown_places (shown_of columns its))
-        many_items = sym (ap length (shown_places-are columns its) ∙ length-shown columns its items_named)
-
-        select_named : verdict (select_on columns) ≡ verdict (select_rest tables scope.columns.now (shown_of columns its) (tests_of columns conditions))
-        select_named =
-            rw (
-              rest_missed columns (named_items its) (condition_names conditions) false items_named named,
-              sym (shown_places-are columns its),
-              tests_mistyped tables scope.name.now scope.columns.now conditions named,
-              many_items,
-              sym (length-tests columns conditions named),
-            ) refl
-
-        pub select_meant : verdict (select_rest tables scope.columns.now (shown_of columns its) (tests_of columns conditions)) ≡ Ok tt
-            → resolved_of tables (command.Select its name conditions) ≡ Ok selection
-        select_meant ok = select_is ∙ meaning_ok (select_on columns) selection (select_named ∙ ok)
-
-        pub select_refused : (e : Refusal) → verdict (select_rest tables scope.columns.now (shown_of columns its) (tests_of columns conditions)) ≡ Err e
-            → resolved_of tables (command.Select its name conditions) ≡ Err e
-        select_refused e err = select_is ∙ meaning_err (select_on columns) selection e (select_named ∙ err)
 
   -- ---- update
 
@@ -240,7 +188,7 @@ module _ (tables : Database) (name : List ℕ) (scope : Scope) (h : IsScopeOf ta
         ∷ record { refuses = repeats bytes_eq (map (λ s. s.column) settings); refusal = ColumnNamedTwice }
         ∷ record { refuses = list_any (λ s. mistypes tables cs (setting_name s) s.value) settings || list_any (is_mistyped tables cs) conditions; refusal = WrongType }
         ∷ record { refuses = list_any (λ s. is_long s.value) settings; refusal = TextTooLong }
-        ∷ record { refuses = list_any (λ place. place == 0) (places_meant cs (map setting_name settings)); refusal = KeyCannotBeSet }
+        ∷ record { refuses = list_any (λ place. place.column.0 == 0) (places_meant cs (map setting_name settings)); refusal = KeyCannotBeSet }
         ∷ record { refuses = nat_lt 8 (length conditions); refusal = TooMany }
         ∷ []
 
@@ -275,8 +223,8 @@ module _ (tables : Database) (name : List ℕ) (scope : Scope) (h : IsScopeOf ta
               rw (
                 all_named,
                 once,
-                assignments_mistyped tables scope.name.now scope.columns.now settings settings_named,
-                tests_mistyped tables scope.name.now scope.columns.now conditions named,
+                assignments_mistyped tables scope settings settings_named,
+                tests_mistyped tables scope conditions named,
                 long_set columns settings settings_named,
                 key_set columns settings,
                 sym (length-tests columns conditions named),

@@ -1,15 +1,14 @@
 -- What conditions, settings and items name, and the types of their values.
-use Rattle.std.proofs.Common.{◌≡◌, ℕ, ◌<◌, ◌≤◌, true, false, List, [], ◌∷◌, length, map, Option, Some, None, is_some, refl, sym, ap, ◌∙◌, slice_get}
+use Rattle.std.proofs.Common.{◌≡◌, ◌<◌, ◌≤◌, true, false, List, [], ◌∷◌, length, map, Option, Some, None, is_some, refl, sym, ap, ◌∙◌, slice_get}
 use Rattle.std.specs.Prelude.{not, ◌||◌, ◌&&◌, ◌==◌}
 use Rattle.std.specs.List.{list_any, filter_map, cons_option}
 use Rattle.std.specs.Option.{option_map, option_map_or}
-use Rattle.std.proofs.lemmas.Option.{slice_get-map}
 use Rattle.plain_tables.specs.Values.{is_null}
 use Rattle.plain_tables.specs.Databases.{Database}
 use Rattle.plain_tables.specs.References.{is_typed}
-use Rattle.plain_tables.specs.Queries.{JoinedColumn, fits_one, place_meant, places_meant, named_items}
+use Rattle.plain_tables.specs.Queries.{JoinedColumn, fits_one, place_meant, column_meant, places_meant, named_items}
 use Rattle.plain_tables.specs.Effects.{misses, condition_names, setting_name, is_long}
-use Rattle.plain_tables.specs.Resolving.{column_number, tests_of, assignments_of, shown_of, mistypes, is_mistyped, asks_order}
+use Rattle.plain_tables.specs.Resolving.{tests_of, assignments_of, shown_of, mistypes, is_mistyped, asks_order}
 use Rattle.plain_tables.specs.declared.value.Value.{Value}
 use Rattle.plain_tables.specs.declared.schema.Column.{Column}
 use Rattle.plain_tables.specs.declared.condition.Cond.{Cond}
@@ -17,18 +16,19 @@ use Rattle.plain_tables.specs.declared.condition.ColName.{ColName}
 use Rattle.plain_tables.specs.declared.command.Items.{Items}
 use Rattle.plain_tables.specs.declared.command.Items.TheVariants as items
 use Rattle.plain_tables.specs.declared.command.Setting.{Setting}
-use Rattle.plain_tables.specs.declared.numbers.ColumnNumber.{ColumnNumber}
+use Rattle.plain_tables.specs.declared.numbers.Place.{Place}
 use Rattle.plain_tables.specs.declared.resolved.Assignment.{Assignment}
 use Rattle.plain_tables.specs.declared.resolved.Test.{Test}
-use Rattle.mm_catalog.specs.Resolve.{in_table, test_at, test_of, assignment_at, assignment_of, shown_places}
+use Rattle.mm_catalog.specs.declared.scope.Scope.{Scope}
+use Rattle.mm_catalog.specs.Resolve.{columns_of, test_at, test_of, assignment_at, assignment_of, shown_places}
 use Rattle.mm_catalog.specs.ResolveChecks.{mistypes_at, is_mistyped_test}
 use Rattle.mm_catalog.proofs.Finding.{list_any-map}
 use Rattle.mm_catalog.proofs.ResolveLists.{list_any-same, is_some-map, option_map-Some, leaves_out, left_out, none_left_out, length-made, any_made}
-use Rattle.mm_catalog.proofs.ResolveColumns.{fits_one-is, column_meant-at}
+use Rattle.mm_catalog.proofs.ResolveColumns.{fits_one-is, meant_there}
 
 -- ---- names that mean no column
 
-module _ {X Y : Type 0} (columns : List JoinedColumn) (name : X → ColName) (make : X → ℕ → Y) where
+module _ {X Y : Type 0} (columns : List JoinedColumn) (name : X → ColName) (make : X → Place → Y) where
   abbrev meant : X → Option Y
   meant x = option_map (make x) (place_meant columns (name x))
 
@@ -67,52 +67,43 @@ module _ (columns : List JoinedColumn) where
   pub conditions_kept : (conditions : List Cond) → misses columns (condition_names conditions) ≡ false → leaves_out (test_of columns) conditions ≡ false
   conditions_kept conditions h = sym (misses-is columns (λ (c : Cond). c.column) test_at conditions) ∙ h
 
+  pub conditions_missed : (conditions : List Cond) → misses columns (condition_names conditions) ≡ list_any (λ c. not (is_some (place_meant columns c.column))) conditions
+  conditions_missed conditions =
+      list_any-map (λ n. not (fits_one columns n)) (λ (c : Cond). c.column) conditions
+      ∙ list_any-same (λ (c : Cond). not (fits_one columns c.column)) (λ c. not (is_some (place_meant columns c.column))) conditions
+      (λ c. ap not (sym (fits_one-is columns c.column)))
+
   -- ---- items
 
-  map-itself : (names : List ColName) → map (λ n. n) names ≡ names
-  map-itself [] = refl
-  map-itself (n ∷ ns) = ap (λ ms. n ∷ ms) (map-itself ns)
+  misses-places : (names : List ColName) → misses columns names ≡ leaves_out (place_meant columns) names
+  misses-places names = list_any-same (λ n. not (fits_one columns n)) (λ n. not (is_some (place_meant columns n))) names (λ n. ap not (sym (fits_one-is columns n)))
 
-  abbrev pub column_meant_by : ColName → Option ColumnNumber
-  column_meant_by name = option_map column_number (place_meant columns name)
+  pub places_fewer : (names : List ColName) → length (places_meant columns names) < length names → misses columns names ≡ true
+  places_fewer names less = misses-places names ∙ left_out (place_meant columns) names less
 
-  pub columns_fewer : (names : List ColName) → length (filter_map column_meant_by names) < length names → misses columns names ≡ true
-  columns_fewer names less = ap (misses columns) (sym (map-itself names)) ∙ named_fewer columns (λ n. n) (λ n. column_number) names less
-
-  pub columns_all : (names : List ColName) → length names ≤ length (filter_map column_meant_by names) → misses columns names ≡ false
-  columns_all names all = ap (misses columns) (sym (map-itself names)) ∙ named_all columns (λ n. n) (λ n. column_number) names all
-
-  one_number : (o : Option ℕ) (places : List ℕ) (numbers : List ColumnNumber) → numbers ≡ map column_number places → cons_option (option_map column_number o) numbers ≡ map column_number (cons_option o places)
-  one_number None places numbers e = e
-  one_number (Some p) places numbers e = ap (λ ns. column_number p ∷ ns) e
-
-  pub columns_meant : (names : List ColName) → filter_map column_meant_by names ≡ map column_number (places_meant columns names)
-  columns_meant [] = refl
-  columns_meant (n ∷ ns) = one_number (place_meant columns n) (places_meant columns ns) (filter_map column_meant_by ns) (columns_meant ns)
-
-  numbers_read : (places : List ℕ) → map (λ (n : ColumnNumber). n.0) (map column_number places) ≡ places
-  numbers_read [] = refl
-  numbers_read (p ∷ ps) = ap (λ qs. p ∷ qs) (numbers_read ps)
+  pub places_all : (names : List ColName) → length names ≤ length (places_meant columns names) → misses columns names ≡ false
+  places_all names all = misses-places names ∙ none_left_out (place_meant columns) names all
 
   -- the places shown are those that the items mean
   pub shown_places-are : (its : Items) → shown_places (shown_of columns its) ≡ places_meant columns (named_items its)
   shown_places-are items.All = refl
-  shown_places-are (items.Named names) = numbers_read (places_meant columns names)
+  shown_places-are (items.Named names) = refl
 
-  pub length-shown : (its : Items) → misses columns (named_items its) ≡ false → length (places_meant columns (named_items its)) ≡ length (named_items its)
-  length-shown its h = length-made (place_meant columns) (named_items its)
-      (list_any-same (λ n. not (is_some (place_meant columns n))) (λ n. not (fits_one columns n)) (named_items its) (λ n. ap not (fits_one-is columns n)) ∙ h)
+  pub length-shown : (its : Items) → misses columns (named_items its) ≡ false → length (shown_places (shown_of columns its)) ≡ length (named_items its)
+  length-shown its h =
+      ap length (shown_places-are its) ∙ length-made (place_meant columns) (named_items its) (sym (misses-places (named_items its)) ∙ h)
 
   -- ---- settings by their places
 
-  one_place : (o : Option ℕ) (v : Value) (places : List ℕ) (others : List Assignment) → list_any (λ p. p == 0) places ≡ list_any (λ (a : Assignment). a.column.0 == 0) others
-      → list_any (λ p. p == 0) (cons_option o places) ≡ list_any (λ (a : Assignment). a.column.0 == 0) (cons_option (option_map (λ (p : ℕ). record { column = column_number p; value = v }) o) others)
-  one_place None v places others e = e
-  one_place (Some p) v places others e = ap (λ b. (p == 0) || b) e
+  one_place : (o : Option Place) (s : Setting) (places : List Place) (others : List Assignment)
+      → list_any (λ (p : Place). p.column.0 == 0) places ≡ list_any (λ (a : Assignment). a.column.0 == 0) others
+      → list_any (λ (p : Place). p.column.0 == 0) (cons_option o places) ≡ list_any (λ (a : Assignment). a.column.0 == 0) (cons_option (option_map (assignment_at s) o) others)
+  one_place None s places others e = e
+  one_place (Some p) s places others e = ap (λ b. (p.column.0 == 0) || b) e
 
-  pub key_set : (settings : List Setting) → list_any (λ p. p == 0) (places_meant columns (map setting_name settings)) ≡ list_any (λ a. a.column.0 == 0) (assignments_of columns settings)
+  pub key_set : (settings : List Setting) → list_any (λ p. p.column.0 == 0) (places_meant columns (map setting_name settings)) ≡ list_any (λ a. a.column.0 == 0) (assignments_of columns settings)
   key_set [] = refl
-  key_set (s ∷ ss) = one_place (place_meant columns (setting_name s)) s.value (places_meant columns (map setting_name ss)) (assignments_of columns ss) (key_set ss)
+  key_set (s ∷ ss) = one_place (place_meant columns (setting_name s)) s (places_meant columns (map setting_name ss)) (assignments_of columns ss) (key_set ss)
 
   long_one : (s : Setting) (a : Assignment) → assignment_of columns s ≡ Some a → is_long s.value ≡ is_long a.value
   long_one s a e = ap (λ (b : Assignment). is_long b.value) (option_map-Some (assignment_at s) (place_meant columns (setting_name s)) a e).2
@@ -122,36 +113,35 @@ module _ (columns : List JoinedColumn) where
 
 -- ---- types
 
-option_map_or-map : {X Y Z : Type 0} (g : Y → Z) (f : X → Y) (o : Option X) (z : Z) → option_map_or g (option_map f o) z ≡ option_map_or (λ x. g (f x)) o z
-option_map_or-map g f None z = refl
-option_map_or-map g f (Some x) z = refl
-
-module _ (tables : Database) (table : List ℕ) (columns : List Column) where
-  abbrev joined : List JoinedColumn
-  joined = map (in_table table) columns
+module _ (tables : Database) (scope : Scope) where
+  abbrev columns : List JoinedColumn
+  columns = columns_of scope
 
   -- a value is none for the column meant where it is none for the column at the place
-  mistypes-place : (name : ColName) (v : Value) (place : ℕ) → place_meant joined name ≡ Some place → mistypes tables joined name v ≡ mistypes_at tables columns place v
+  mistypes-place : (name : ColName) (v : Value) (place : Place) → place_meant columns name ≡ Some place → mistypes tables columns name v ≡ mistypes_at tables scope.columns.now place.column.0 v
   mistypes-place name v place is =
-      ap (λ o. option_map_or (λ j. not (is_typed tables v j.column.kind)) o false) (column_meant-at joined name place is ∙ slice_get-map (in_table table) columns place)
-      ∙ option_map_or-map (λ j. not (is_typed tables v j.column.kind)) (in_table table) (slice_get columns place) false
+      let found = option_map-Some (λ (j : JoinedColumn). j.place) (column_meant columns name) place is in
+      let there : slice_get scope.columns.now place.column.0 ≡ Some found.0.column =
+      ap (λ (p : Place). slice_get scope.columns.now p.column.0) (sym found.2) ∙ meant_there scope name found.0 found.1 in
+      ap (λ o. option_map_or (λ (j : JoinedColumn). not (is_typed tables v j.column.kind)) o false) found.1
+      ∙ sym (ap (λ o. option_map_or (λ (c : Column). not (is_typed tables v c.kind)) o false) there)
 
-  test_mistyped : (c : Cond) (t : Test) → test_of joined c ≡ Some t → is_mistyped tables joined c ≡ is_mistyped_test tables columns t
+  test_mistyped : (c : Cond) (t : Test) → test_of columns c ≡ Some t → is_mistyped tables columns c ≡ is_mistyped_test tables scope.columns.now t
   test_mistyped c t e =
-      let found = option_map-Some (test_at c) (place_meant joined c.column) t e in
-      ap (λ b. b || (is_null c.value && asks_order c.op)) (mistypes-place c.column c.value found.0 found.1) ∙ ap (is_mistyped_test tables columns) found.2
+      let found = option_map-Some (test_at c) (place_meant columns c.column) t e in
+      ap (λ b. b || (is_null c.value && asks_order c.op)) (mistypes-place c.column c.value found.0 found.1) ∙ ap (is_mistyped_test tables scope.columns.now) found.2
 
-  pub tests_mistyped : (conditions : List Cond) → misses joined (condition_names conditions) ≡ false
-      → list_any (is_mistyped tables joined) conditions ≡ list_any (is_mistyped_test tables columns) (tests_of joined conditions)
+  pub tests_mistyped : (conditions : List Cond) → misses columns (condition_names conditions) ≡ false
+      → list_any (is_mistyped tables columns) conditions ≡ list_any (is_mistyped_test tables scope.columns.now) (tests_of columns conditions)
   tests_mistyped conditions h =
-      any_made (test_of joined) (is_mistyped tables joined) (is_mistyped_test tables columns) test_mistyped conditions (conditions_kept joined conditions h)
+      any_made (test_of columns) (is_mistyped tables columns) (is_mistyped_test tables scope.columns.now) test_mistyped conditions (conditions_kept columns conditions h)
 
-  assignment_mistyped : (s : Setting) (a : Assignment) → assignment_of joined s ≡ Some a → mistypes tables joined (setting_name s) s.value ≡ mistypes_at tables columns a.column.0 a.value
+  assignment_mistyped : (s : Setting) (a : Assignment) → assignment_of columns s ≡ Some a → mistypes tables columns (setting_name s) s.value ≡ mistypes_at tables scope.columns.now a.column.0 a.value
   assignment_mistyped s a e =
-      let found = option_map-Some (assignment_at s) (place_meant joined (setting_name s)) a e in
-      mistypes-place (setting_name s) s.value found.0 found.1 ∙ ap (λ (b : Assignment). mistypes_at tables columns b.column.0 b.value) found.2
+      let found = option_map-Some (assignment_at s) (place_meant columns (setting_name s)) a e in
+      mistypes-place (setting_name s) s.value found.0 found.1 ∙ ap (λ (b : Assignment). mistypes_at tables scope.columns.now b.column.0 b.value) found.2
 
-  pub assignments_mistyped : (settings : List Setting) → misses joined (map setting_name settings) ≡ false
-      → list_any (λ s. mistypes tables joined (setting_name s) s.value) settings ≡ list_any (λ a. mistypes_at tables columns a.column.0 a.value) (assignments_of joined settings)
+  pub assignments_mistyped : (settings : List Setting) → misses columns (map setting_name settings) ≡ false
+      → list_any (λ s. mistypes tables columns (setting_name s) s.value) settings ≡ list_any (λ a. mistypes_at tables scope.columns.now a.column.0 a.value) (assignments_of columns settings)
   assignments_mistyped settings h =
-      any_made (assignment_of joined) (λ s. mistypes tables joined (setting_name s) s.value) (λ a. mistypes_at tables columns a.column.0 a.value) assignment_mistyped settings (settings_kept joined settings h)
+      any_made (assignment_of columns) (λ s. mistypes tables columns (setting_name s) s.value) (λ a. mistypes_at tables scope.columns.now a.column.0 a.value) assignment_mistyped settings (settings_kept columns settings h)

@@ -15,3 +15,4 @@ pub mod Assigned
 pub mod Inserted
 pub mod Resolve
 pub mod ResolveChecks
+pub mod Select

@@ -1,11 +1,14 @@
 -- What a command names of a catalog: a table, and columns of it.
 use Rattle.std.specs.Prelude.{◌≡◌, ℕ, List, [], Option, Some, None, map}
-use Rattle.std.specs.Option.{option_map}
+use Rattle.std.specs.List.{enumerate_from, flat_map}
+use Rattle.std.specs.Option.{option_map, option_copied}
 use Rattle.plain_tables.specs.Tables.{Table}
 use Rattle.plain_tables.specs.Databases.{Database, table_named}
-use Rattle.plain_tables.specs.Queries.{JoinedColumn, place_meant}
+use Rattle.plain_tables.specs.Queries.{JoinedColumn, column_number, place_meant}
 use Rattle.plain_tables.specs.Effects.{setting_name}
-use Rattle.plain_tables.specs.Resolving.{column_number, number_of}
+use Rattle.plain_tables.specs.Resolving.{number_of}
+use Rattle.plain_tables.specs.declared.numbers.ColumnNumber.{ColumnNumber}
+use Rattle.plain_tables.specs.declared.numbers.Place.{Place}
 use Rattle.plain_tables.specs.declared.numbers.TableNumber.{TableNumber}
 use Rattle.plain_tables.specs.declared.schema.Column.{Column}
 use Rattle.mm_catalog.specs.Seen.{plain_index}
@@ -17,18 +20,47 @@ use Rattle.plain_tables.specs.declared.resolved.Shown.{Shown}
 use Rattle.plain_tables.specs.declared.resolved.Shown.TheVariants as shown
 use Rattle.plain_tables.specs.declared.resolved.Test.{Test}
 use Rattle.mm_catalog.specs.declared.scope.Scope.{Scope}
+use Rattle.mm_catalog.specs.declared.scope.Name.{Name}
+use Rattle.mm_catalog.specs.declared.scope.NamedColumn.{NamedColumn}
 
 -- the number of a table
 abbrev pub table_number : ℕ → TableNumber
 table_number n = record { 0 = n }
 
--- a column of the table of this name
-abbrev pub in_table : List ℕ → Column → JoinedColumn
-in_table name column = record { table = name; column = column }
+-- a place in the table that is joined as the one of this number, and one in the only table
+abbrev pub place_in : ℕ → ColumnNumber → Place
+place_in source column = record { source = source; column = column }
 
--- the columns that can be named in a scope
+abbrev pub own_place : ColumnNumber → Place
+own_place column = place_in 0 column
+
+-- a column of the table of this name, where its place is not asked for
+abbrev pub in_table : List ℕ → Column → JoinedColumn
+in_table name column = record { table = name; place = own_place (column_number 0); column = column }
+
+-- the columns of the table of a scope, which is joined as the one of this number
+abbrev pub source_columns : ℕ × Scope → List JoinedColumn
+source_columns s =
+    map (λ c. record { table = s.1.name.now; place = place_in s.0 (column_number c.0); column = c.1 }) (enumerate_from 0 s.1.columns.now)
+
+-- the columns that can be named in a command on the table of a scope
 abbrev pub columns_of : Scope → List JoinedColumn
-columns_of scope = map (in_table scope.name.now) scope.columns.now
+columns_of scope = source_columns (0, scope)
+
+-- the columns that can be named in a command on the tables of scopes
+abbrev pub columns_of_all : List Scope → List JoinedColumn
+columns_of_all scopes = flat_map source_columns (enumerate_from 0 scopes)
+
+-- a column and its place, among joined columns and as it was found
+abbrev pub placed : JoinedColumn → Place × Column
+placed joined = (joined.place, joined.column)
+
+abbrev pub as_found : NamedColumn → Place × Column
+as_found named = (named.place, named.column.now)
+
+-- the name that a command writes
+abbrev pub written : Name → ColName
+written name = record { table = option_copied name.table; column = name.column.now }
 
 -- a column's name with no table's before it
 abbrev pub bare : List ℕ → ColName
@@ -44,11 +76,11 @@ pub record IsScopeOf (tables : Database) (name : List ℕ) (scope : Scope) : Typ
   pub indexes : table.indexes ≡ map plain_index scope.declared.now
 
 -- a condition on the column at a place, and a setting of it
-abbrev pub test_at : Cond → ℕ → Test
-test_at c place = record { column = column_number place; op = c.op; value = c.value }
+abbrev pub test_at : Cond → Place → Test
+test_at c place = record { column = place.column; op = c.op; value = c.value }
 
-abbrev pub assignment_at : Setting → ℕ → Assignment
-assignment_at s place = record { column = column_number place; value = s.value }
+abbrev pub assignment_at : Setting → Place → Assignment
+assignment_at s place = record { column = place.column; value = s.value }
 
 -- the test that a condition is, and the assignment that a setting is, if its name means a column
 abbrev pub test_of : List JoinedColumn → Cond → Option Test
@@ -58,6 +90,6 @@ abbrev pub assignment_of : List JoinedColumn → Setting → Option Assignment
 assignment_of columns s = option_map (assignment_at s) (place_meant columns (setting_name s))
 
 -- the places of the columns that are shown by their names
-abbrev pub shown_places : Shown → List ℕ
+abbrev pub shown_places : Shown → List Place
 shown_places shown.All = []
-shown_places (shown.Columns numbers) = map (λ n. n.0) numbers
+shown_places (shown.Columns places) = places

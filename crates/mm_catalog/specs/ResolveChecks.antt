@@ -7,15 +7,13 @@ use Rattle.plain_tables.specs.Databases.{Database}
 use Rattle.plain_tables.specs.Tables.{Row}
 use Rattle.plain_tables.specs.References.{is_typed}
 use Rattle.plain_tables.specs.Resolving.{asks_order, has_mistyped}
-use Rattle.plain_tables.specs.Effects.{Check, is_long, repeats}
+use Rattle.plain_tables.specs.Effects.{Check, is_long}
 use Rattle.plain_tables.specs.declared.value.Value.{Value}
 use Rattle.plain_tables.specs.declared.refusal.Refusal.{Refusal}
-use Rattle.plain_tables.specs.declared.refusal.Refusal.TheVariants.{ColumnNamedTwice, TooMany, WrongType, KeyCannotBeSet, TextTooLong, WrongNumberOfValues}
+use Rattle.plain_tables.specs.declared.refusal.Refusal.TheVariants.{TooMany, WrongType, KeyCannotBeSet, TextTooLong, WrongNumberOfValues}
 use Rattle.plain_tables.specs.declared.schema.Column.{Column}
 use Rattle.plain_tables.specs.declared.resolved.Assignment.{Assignment}
-use Rattle.plain_tables.specs.declared.resolved.Shown.{Shown}
 use Rattle.plain_tables.specs.declared.resolved.Test.{Test}
-use Rattle.mm_catalog.specs.Resolve.{shown_places}
 
 -- the refusal of the first check that refuses
 abbrev pub verdict : List Check → Result (Unit {0}) Refusal
@@ -43,14 +41,6 @@ abbrev pub delete_rest : Database → List Column → List Test → List Check
 delete_rest tables columns tests =
     record { refuses = list_any (is_mistyped_test tables columns) tests; refusal = WrongType }
     ∷ record { refuses = nat_lt 8 (length tests); refusal = TooMany }
-    ∷ []
-
--- the checks of a select that shows these columns under these tests
-abbrev pub select_rest : Database → List Column → Shown → List Test → List Check
-select_rest tables columns shown tests =
-    record { refuses = repeats (λ p q. p == q) (shown_places shown); refusal = ColumnNamedTwice }
-    ∷ record { refuses = list_any (is_mistyped_test tables columns) tests; refusal = WrongType }
-    ∷ record { refuses = nat_lt 16 (length (shown_places shown)) || nat_lt 8 (length tests); refusal = TooMany }
     ∷ []
 
 -- the checks of an update by these assignments under these tests, if no column is set twice

@@ -8,12 +8,15 @@ ghost use Rattle.plain_tables.specs.References as plain;
 ghost use Rattle.plain_tables.specs.Resolving as resolving;
 ghost use Rattle.mm_catalog.specs.Seen.{database_of};
 ghost use Rattle.mm_catalog.specs.Resolve as resolve;
-ghost use Rattle.mm_catalog.specs.ResolveChecks.{verdict, row_checks, delete_rest, select_rest, update_rest};
+ghost use Rattle.mm_catalog.specs.ResolveChecks.{verdict, row_checks, delete_rest, update_rest};
+ghost use Rattle.mm_catalog.specs.Select.{select_rest};
+ghost use Rattle.plain_tables.specs.Queries.{same_place};
 
 use crate::catalog::Catalog;
 use crate::create::referred;
+use crate::joined_scope::JoinedScope;
 use plain_tables::{
-    Assignment, Column, ColumnNumber, Refusal, Schema, Setting, Shown, Test, Text, Value,
+    Assignment, Column, Cond, Place, Refusal, Schema, Setting, Shown, Test, Text, Value,
 };
 
 const MOST_TABLES: usize = 64;
@@ -23,6 +26,8 @@ const MOST_COLUMNS: usize = 16;
 const MOST_ITEMS: usize = 16;
 
 const MOST_CONDITIONS: usize = 8;
+
+const MOST_JOINS: usize = 3;
 
 // The bytes that a stored text may have.
 const LONGEST_TEXT: usize = 1024;
@@ -116,19 +121,19 @@ pub fn repeats_setting(settings: &[Setting]) -> bool
     false
 }
 
-fn shows_column(column: ColumnNumber, columns: &[ColumnNumber]) -> bool
-    ensures { result ≡ list_any (λ q. column.0 == q) (map (λ n. n.0) columns.now) }
+fn shows_place(place: Place, places: &[Place]) -> bool
+    ensures { result ≡ list_any (same_place place) places.now }
 {
-    columns.iter().any(|other| column.0 == other.0)
+    places.iter().any(|other| place.source == other.source && place.column.0 == other.column.0)
 }
 
-// Whether a column stands twice.
-fn repeats_column(columns: &[ColumnNumber]) -> bool
-    ensures { result ≡ effects.repeats (λ p q. p == q) (map (λ n. n.0) columns.now) }
+// Whether a place stands twice.
+fn repeats_place(places: &[Place]) -> bool
+    ensures { result ≡ effects.repeats same_place places.now }
 {
-    let mut rest = columns;
+    let mut rest = places;
     while let Some((first, others)) = rest.split_first() {
-        if shows_column(*first, others) {
+        if shows_place(*first, others) {
             return true;
         }
         rest = others;
@@ -136,13 +141,13 @@ fn repeats_column(columns: &[ColumnNumber]) -> bool
     false
 }
 
-// The columns that are shown by their names.
-fn shown_columns(shown: &Shown) -> &[ColumnNumber]
-    ensures { map (λ n. n.0) result.now ≡ resolve.shown_places shown.now }
+// The places of the columns that are shown by their names.
+fn shown_places(shown: &Shown) -> &[Place]
+    ensures { result.now ≡ resolve.shown_places shown.now }
 {
     match shown {
         Shown::All => &[],
-        Shown::Columns(columns) => columns.as_slice(),
+        Shown::Columns(places) => places.as_slice(),
     }
 }
 
@@ -154,7 +159,7 @@ impl Catalog {
         columns.iter().any(|column| !self.refers_into(column))
     }
 
-    fn has_table(&self, name: &Text) -> bool
+    pub(crate) fn has_table(&self, name: &Text) -> bool
         ensures { result ≡ is_some (table_named name.now (database_of self.now)) }
     {
         self.table_number(name).is_some()
@@ -220,23 +225,30 @@ impl Catalog {
         Ok(())
     }
 
-    /// No column is shown twice, each value of a condition is of its column's type, and there are few enough of both.
+    /// No column is shown twice, no table named twice, each value of a condition is of its column's type, as are the two
+    /// columns of each join of one, and there are few enough items, conditions and joins.
     pub(crate) fn check_select(
         &self,
-        columns: &[Column],
+        scope: &JoinedScope<'_>,
         shown: &Shown,
-        tests: &[Test],
+        conditions: &[Cond],
     ) -> Result<(), Refusal>
-        ensures { result ≡ verdict (select_rest (database_of self.now) columns.now shown.now tests.now) }
+        ensures { result ≡ verdict (select_rest (database_of self.now) scope.now shown.now conditions.now) }
     {
-        let items = shown_columns(shown);
-        if repeats_column(items) {
+        let items = shown_places(shown);
+        let joins = scope.sides.len();
+        if repeats_place(items) {
             return Err(Refusal::ColumnNamedTwice);
         }
-        if self.tests_are_mistyped(columns, tests) {
+        if scope.scopes.len() <= joins {
+            return Err(Refusal::TableNamedTwice);
+        }
+        if self.conditions_are_mistyped(scope, conditions)
+            || self.sides_are_mistyped(scope.sides.as_slice())
+        {
             return Err(Refusal::WrongType);
         }
-        if items.len() > MOST_ITEMS || tests.len() > MOST_CONDITIONS {
+        if items.len() > MOST_ITEMS || conditions.len() > MOST_CONDITIONS || joins > MOST_JOINS {
             return Err(Refusal::TooMany);
         }
         Ok(())

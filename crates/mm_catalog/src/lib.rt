@@ -25,6 +25,7 @@ mod create;
 mod declare;
 mod delete;
 mod insert;
+mod joined_scope;
 pub mod laws;
 mod lowering;
 mod named;
@@ -32,6 +33,7 @@ mod referrers;
 mod removal;
 mod resolve;
 mod scope;
+mod selected;
 mod types;
 mod updating;
 

@@ -8,7 +8,8 @@ ghost use Rattle.mm_catalog.specs.Seen.{database_of};
 use crate::catalog::Catalog;
 use crate::checks::repeats_setting;
 use plain_tables::{
-    Command, Cond, IndexKind, Items, Refusal, Resolved, Schema, Sequence, Setting, Text, Value,
+    Command, Cond, IndexKind, Items, Join, Refusal, Resolved, Schema, Sequence, Setting, Text,
+    Value,
 };
 
 impl Catalog {
@@ -39,10 +40,12 @@ impl Catalog {
             } => self.resolve_update(table, settings, conditions),
             Command::Delete { table, conditions } => self.resolve_delete(table, conditions),
             Command::Select {
+                distinct,
                 items,
                 table,
+                joins,
                 conditions,
-            } => self.resolve_select(items, table, conditions),
+            } => self.resolve_select(distinct, items, table, joins, conditions),
             Command::Tables => Ok(Resolved::Tables),
         }
     }
@@ -149,21 +152,33 @@ impl Catalog {
 
     fn resolve_select(
         &self,
+        distinct: bool,
         items: Items,
         table: Text,
+        joins: Sequence<Join>,
         conditions: Sequence<Cond>,
     ) -> Result<Resolved, Refusal>
-        ensures meant { IfOk result (λ r. resolved_of (database_of self.now) (command.Select items table conditions) ≡ Ok r) }
-        ensures refused { IfErr result (λ e. e ≢ refusal.NoMemory → resolved_of (database_of self.now) (command.Select items table conditions) ≡ Err e) }
+        ensures meant { IfOk result (λ r. resolved_of (database_of self.now) (command.Select distinct items table joins conditions) ≡ Ok r) }
+        ensures refused { IfErr result (λ e. e ≢ refusal.NoMemory → resolved_of (database_of self.now) (command.Select distinct items table joins conditions) ≡ Err e) }
     {
-        let scope = self.scope(&table)?;
+        let joins = joins.into_vec();
+        if self.misses_table(&table, joins.as_slice()) {
+            return Err(Refusal::NoSuchTable);
+        }
+        let scope = self.joined_scope(*joins.allocator(), &table, joins.as_slice())?;
         let shown = scope.shown(items)?;
-        let tests = scope.tests(conditions)?;
-        self.check_select(scope.columns, &shown, tests.as_slice())?;
+        if scope.misses(conditions.as_slice()) {
+            return Err(Refusal::NoSuchColumn);
+        }
+        self.check_select(&scope, &shown, conditions.as_slice())?;
+        let mut sources = scope.sources(conditions)?;
+        let source = sources.remove(0);
+        let joins = scope.joins(sources)?;
         Ok(Resolved::Select {
+            distinct,
             shown,
-            table: scope.table,
-            tests,
+            source,
+            joins,
         })
     }
 }

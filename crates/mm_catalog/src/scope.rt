@@ -1,11 +1,11 @@
 //! The names in a command on one table.
-ghost use Rattle.std.specs.Prelude.{◌≡◌, ◌≢◌, true, ◌||◌, Some, None, IfOk, IfErr};
-ghost use Rattle.std.specs.List.{AllPairs, list_any};
-ghost use Rattle.std.specs.Option.{option_map_or};
+ghost use Rattle.std.specs.Prelude.{◌≡◌, ◌≢◌, true, ◌||◌, Some, None, IfSome, IfOk, IfErr, map};
+ghost use Rattle.std.specs.List.{AllPairs, list_any, filter};
+ghost use Rattle.std.specs.Option.{option_map, option_map_or, option_copied, option_to_list};
 ghost use Rattle.std.specs.Str.{bytes_eq};
 ghost use Rattle.plain_tables.specs.declared.refusal.Refusal.TheVariants.{NoSuchTable, NoSuchColumn};
 ghost use Rattle.plain_tables.specs.Databases.{table_named};
-ghost use Rattle.plain_tables.specs.Queries.{fits as fits_so, place_meant};
+ghost use Rattle.plain_tables.specs.Queries.{fits as fits_so, place_meant, side_name};
 ghost use Rattle.plain_tables.specs.References as plain;
 ghost use Rattle.plain_tables.specs.declared.schema.IndexKind.TheVariants as index;
 ghost use Rattle.mm_catalog.specs.Seen.{database_of, plain_index};
@@ -13,7 +13,23 @@ ghost use Rattle.mm_catalog.specs.Seen.{database_of, plain_index};
 use crate::catalog::Catalog;
 use crate::laws::a_catalog_is_consistent;
 use mm_relation::DeclaredIndex;
-use plain_tables::{Column, ColumnNumber, IndexKind, Refusal, TableNumber, Text};
+use plain_tables::{
+    ColName, Column, ColumnNumber, IndexKind, JoinSide, Place, Refusal, TableNumber, Text,
+};
+
+/// A column's name, and the name of its table where one is written before it.
+#[derive(Clone, Copy)]
+pub struct Name<'a> {
+    pub table: Option<&'a Text>,
+    pub column: &'a Text,
+}
+
+/// A column that a name means, and its place among the tables of the command.
+#[derive(Clone, Copy)]
+pub struct NamedColumn<'a> {
+    pub place: Place,
+    pub column: &'a Column,
+}
 
 /// The table that a command is on, whose columns it can name.
 #[derive(Clone, Copy)]
@@ -65,12 +81,46 @@ impl Catalog {
     }
 }
 
+impl<'a> Name<'a> {
+    ghost use Rattle.mm_catalog.specs.Resolve.{written, bare};
+
+    /// The name in a condition or an item.
+    pub fn of(name: &'a ColName) -> Name<'a>
+        ensures { written result ≡ name.now }
+    {
+        Name {
+            table: name.table.as_ref(),
+            column: &name.column,
+        }
+    }
+
+    /// The name on a side of a join.
+    pub fn of_side(side: &'a JoinSide) -> Name<'a>
+        ensures { written result ≡ side_name side.now }
+    {
+        Name {
+            table: Some(&side.table),
+            column: &side.column,
+        }
+    }
+
+    /// A name with no table's before it.
+    pub fn bare(column: &'a Text) -> Name<'a>
+        ensures { written result ≡ bare column.now }
+    {
+        Name {
+            table: None,
+            column,
+        }
+    }
+}
+
 impl<'a> Scope<'a> {
-    ghost use Rattle.mm_catalog.specs.Resolve.{columns_of, in_table, bare};
+    ghost use Rattle.mm_catalog.specs.Resolve.{columns_of, in_table, bare, written, own_place, source_columns, placed, as_found};
 
     // Whether the table goes by the name before a column's, if one is written.
-    fn is_own(&self, table: &Option<Text>) -> bool
-        ensures { result ≡ option_map_or (λ name. bytes_eq name self.now.name.now) table.now true }
+    fn is_own(&self, table: Option<&Text>) -> bool
+        ensures { result ≡ option_map_or (λ name. bytes_eq name self.now.name.now) (option_copied table.entry) true }
     {
         match table {
             Some(table) => table.as_bytes() == self.name.as_bytes(),
@@ -79,31 +129,47 @@ impl<'a> Scope<'a> {
     }
 
     // Whether a name fits a column.
-    fn fits(&self, column: &Column, table: &Option<Text>, name: &Text) -> bool
-        ensures { result ≡ fits_so (record { table = table.now; column = name.now }) (in_table self.now.name.now column.now) }
+    fn fits(&self, column: &Column, name: Name<'_>) -> bool
+        ensures { result ≡ fits_so (written name.entry) (in_table self.now.name.now column.now) }
     {
-        name.as_bytes() == column.name.as_bytes() && self.is_own(table)
+        name.column.as_bytes() == column.name.as_bytes() && self.is_own(name.table)
     }
 
-    /// The place of the column that a name means, where it fits one. It fits no two, since the columns differ in their names.
-    ///
-    /// `table` is the name before the column's, if one is written.
-    pub fn place(&self, table: &Option<Text>, name: &Text) -> Option<usize>
-        ensures { result ≡ place_meant (columns_of self.now) (record { table = table.now; column = name.now }) }
+    /// The column that a name fits, where this is the table that is joined as the one of that number. It fits no two, since
+    /// the columns differ in their names.
+    pub fn column(&self, source: usize, name: Name<'_>) -> Option<NamedColumn<'a>>
+        ensures found { map placed (filter (fits_so (written name.entry)) (source_columns (source, self.now))) ≡ option_to_list (option_map as_found result) }
+        ensures at { IfSome result (λ named. named.place.source ≡ source) }
     {
-        self.columns
+        let number = self
+            .columns
             .iter()
-            .position(|column| self.fits(column, table, name))
+            .position(|column| self.fits(column, name))?;
+        Some(NamedColumn {
+            place: Place {
+                source,
+                column: ColumnNumber(number),
+            },
+            column: &self.columns[number],
+        })
+    }
+
+    /// The column that a name means in a command on this table alone.
+    pub fn place(&self, name: Name<'_>) -> Option<ColumnNumber>
+        ensures { option_map own_place result ≡ place_meant (columns_of self.now) (written name.entry) }
+    {
+        let named = self.column(0, name)?;
+        Some(named.place.column)
     }
 
     /// The column of that name.
     pub fn own_column(&self, name: &Text) -> Result<ColumnNumber, Refusal>
-        ensures found { IfOk result (λ column. place_meant (columns_of self.now) (bare name.now) ≡ Some column.0) }
+        ensures found { IfOk result (λ column. place_meant (columns_of self.now) (bare name.now) ≡ Some (own_place column)) }
         ensures refused { IfErr result (λ e. e ≡ NoSuchColumn) }
         ensures missed { IfErr result (λ _. place_meant (columns_of self.now) (bare name.now) ≡ None) }
     {
-        match self.place(&None, name) {
-            Some(place) => Ok(ColumnNumber(place)),
+        match self.place(Name::bare(name)) {
+            Some(column) => Ok(column),
             None => Err(Refusal::NoSuchColumn),
         }
     }

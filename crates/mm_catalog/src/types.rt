@@ -8,10 +8,16 @@ ghost use Rattle.plain_tables.specs.Resolving as resolving;
 ghost use Rattle.plain_tables.specs.References as plain;
 ghost use Rattle.mm_catalog.specs.Seen.{database_of};
 ghost use Rattle.mm_catalog.specs.ResolveChecks.{mistypes_at, is_mistyped_test};
+ghost use Rattle.mm_catalog.specs.Resolve.{columns_of_all};
+ghost use Rattle.mm_catalog.specs.Select.{sides_differ};
 
 use crate::catalog::Catalog;
 use crate::create::referred;
-use plain_tables::{Assignment, BaseKind, ColKind, Column, ColumnNumber, Op, Test, Text, Value};
+use crate::joined_scope::{JoinedScope, Sides};
+use crate::scope::Name;
+use plain_tables::{
+    Assignment, BaseKind, ColKind, Column, ColumnNumber, Cond, Op, Test, Text, Value,
+};
 
 // The type of a column's values, unless it refers to a table.
 fn own_type(kind: &ColKind) -> Option<BaseKind>
@@ -36,6 +42,16 @@ fn has_type(value: &Value, base: BaseKind) -> bool
     matches!(
         (value, base),
         (Value::Int(_), BaseKind::Int) | (Value::Text(_), BaseKind::Text)
+    )
+}
+
+// Whether two types are one. Where one is none, they aren't.
+fn same_type(left: Option<BaseKind>, right: Option<BaseKind>) -> bool
+    ensures { result ≡ plain.same_type left right }
+{
+    matches!(
+        (left, right),
+        (Some(BaseKind::Int), Some(BaseKind::Int)) | (Some(BaseKind::Text), Some(BaseKind::Text))
     )
 }
 
@@ -147,5 +163,46 @@ impl Catalog {
             .iter()
             .zip(row)
             .any(|(column, value)| !self.is_typed(value, &column.kind))
+    }
+
+    // Whether a condition has a value that is none for its column, or asks how a null is ordered.
+    fn condition_is_mistyped(&self, scope: &JoinedScope<'_>, condition: &Cond) -> bool
+        ensures { result ≡ resolving.is_mistyped (database_of self.now) (columns_of_all scope.now.scopes.items) condition.now }
+    {
+        let mistyped = match scope.column(Name::of(&condition.column)) {
+            Some(named) => !self.is_typed(&condition.value, &named.column.kind),
+            None => false,
+        };
+        mistyped || (is_null(&condition.value) && asks_order(condition.op))
+    }
+
+    /// Whether one of the conditions has a value that is none for its column.
+    pub(crate) fn conditions_are_mistyped(
+        &self,
+        scope: &JoinedScope<'_>,
+        conditions: &[Cond],
+    ) -> bool
+        ensures { result ≡ list_any (resolving.is_mistyped (database_of self.now) (columns_of_all scope.now.scopes.items)) conditions.now }
+    {
+        conditions
+            .iter()
+            .any(|condition| self.condition_is_mistyped(scope, condition))
+    }
+
+    // Whether the two columns of a join are of different types.
+    fn differ_in_type(&self, sides: &Sides<'_>) -> bool
+        ensures { result ≡ sides_differ (database_of self.now) sides.now }
+    {
+        !same_type(
+            self.type_of(&sides.outer.column.kind),
+            self.type_of(&sides.inner.column.kind),
+        )
+    }
+
+    /// Whether the two columns of one of the joins are of different types.
+    pub(crate) fn sides_are_mistyped(&self, sides: &[Sides<'_>]) -> bool
+        ensures { result ≡ list_any (sides_differ (database_of self.now)) sides.now }
+    {
+        sides.iter().any(|join| self.differ_in_type(join))
     }
 }

@@ -1,0 +1,72 @@
+-- A select by the numbers of its tables and columns.
+use Rattle.std.specs.Prelude.{◌≡◌, ℕ, List, [], ◌∷◌, ◌++◌, Some, Bool, not, ◌||◌, nat_lt, nat_le, length, map}
+use Rattle.std.specs.List.{AllZip, filter, list_any}
+use Rattle.std.specs.Option.{option_map}
+use Rattle.plain_tables.specs.Databases.{Database}
+use Rattle.plain_tables.specs.Queries.{JoinedColumn, same_place}
+use Rattle.plain_tables.specs.References.{same_type, type_of}
+use Rattle.plain_tables.specs.Effects.{Check, repeats}
+use Rattle.plain_tables.specs.Resolving.{once, select_names, behind, join_columns, is_mistyped, is_on_source, tests_of}
+use Rattle.plain_tables.specs.declared.command.Join.{Join}
+use Rattle.plain_tables.specs.declared.condition.Cond.{Cond}
+use Rattle.plain_tables.specs.declared.numbers.Place.{Place}
+use Rattle.plain_tables.specs.declared.refusal.Refusal.TheVariants.{ColumnNamedTwice, TableNamedTwice, TooMany, WrongType}
+use Rattle.plain_tables.specs.declared.resolved.Joined.{Joined}
+use Rattle.plain_tables.specs.declared.resolved.Shown.{Shown}
+use Rattle.plain_tables.specs.declared.resolved.Source.{Source}
+use Rattle.plain_tables.specs.declared.resolved.Test.{Test}
+use Rattle.plain_tables.specs.declared.schema.Column.{Column}
+use Rattle.mm_catalog.specs.declared.scope.Scope.{Scope}
+use Rattle.mm_catalog.specs.declared.joined_scope.Sides.{Sides}
+use Rattle.mm_catalog.specs.declared.joined_scope.JoinedScope.{JoinedScope}
+use Rattle.mm_catalog.specs.Resolve.{IsScopeOf, columns_of_all, placed, as_found, shown_places}
+
+-- ---- the tables and joins
+
+-- the two columns of a join and their places, among joined columns and as they were found
+abbrev pub placed_sides : JoinedColumn × JoinedColumn → (Place × Column) × (Place × Column)
+placed_sides sides = (placed sides.0, placed sides.1)
+
+abbrev pub sides_found : Sides → (Place × Column) × (Place × Column)
+sides_found sides = (as_found sides.outer, as_found sides.inner)
+
+-- The scope of a select from the table of that name and those that are joined with it: the scopes of the tables, each once,
+-- and the columns of each join.
+pub record IsJoinedScopeOf (tables : Database) (name : List ℕ) (joins : List Join) (scope : JoinedScope) : Type 0 where
+  pub scopes : AllZip (IsScopeOf tables) (once (select_names name joins)) scope.scopes.items
+  pub sides : map (λ s. Some (sides_found s)) scope.sides.items ≡ map (λ j. option_map placed_sides (join_columns tables j)) (behind (name ∷ []) joins)
+
+-- ---- checks
+
+-- whether the two columns of a join are of different types
+abbrev pub sides_differ : Database → Sides → Bool
+sides_differ tables s = not (same_type (type_of tables s.outer.column.now.kind) (type_of tables s.inner.column.now.kind))
+
+-- the checks of a select in which each name means a column; a table that is named twice has but one scope
+abbrev pub select_rest : Database → JoinedScope → Shown → List Cond → List Check
+select_rest tables scope shown conditions =
+    let scopes = scope.scopes.items in
+    let sides = scope.sides.items in
+    record { refuses = repeats same_place (shown_places shown); refusal = ColumnNamedTwice }
+    ∷ record { refuses = nat_le (length scopes) (length sides); refusal = TableNamedTwice }
+    ∷ record { refuses = list_any (is_mistyped tables (columns_of_all scopes)) conditions || list_any (sides_differ tables) sides; refusal = WrongType }
+    ∷ record { refuses = nat_lt 16 (length (shown_places shown)) || nat_lt 8 (length conditions) || nat_lt 3 (length sides); refusal = TooMany }
+    ∷ []
+
+-- ---- sources
+
+-- the source of a table that no condition is on
+abbrev pub unjoined : Scope → Source
+unjoined scope = record { table = scope.table; tests = [] }
+
+-- the source of the table that is joined as the one of a number, with the conditions on it
+abbrev pub source_on : List JoinedColumn → List Cond → ℕ × Scope → Source
+source_on columns conditions s = record { table = s.1.table; tests = tests_of columns (filter (is_on_source columns s.0) conditions) }
+
+-- a source with one test more
+abbrev pub with_test : Source → Test → Source
+with_test source test = record { table = source.table; tests = source.tests ++ test ∷ [] }
+
+-- a source that is joined by two columns
+abbrev pub joined_by : Source → Sides → Joined
+joined_by source sides = record { source = source; outer = sides.outer.place; inner = sides.inner.place.column }
