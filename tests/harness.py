@@ -14,6 +14,7 @@ ROOT = TESTS.parent
 ROWS = TESTS / "rows"
 PROGRAM = ROOT / "crates" / "mmdb" / "out" / "mmdb"
 SECONDS = 60
+POLICIES = ("auto", "scan", "hash", "tree", "merge")
 
 
 class Ended:

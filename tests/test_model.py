@@ -152,13 +152,14 @@ def random_pieces(draw, stream):
 class RandomStreams(unittest.TestCase):
     """The program answers as plain lists of rows do."""
 
-    def test_random_streams_whole_and_in_pieces(self):
+    def test_random_streams_under_each_policy_and_in_pieces(self):
         draw = random.Random(SEED)
         for number in range(STREAMS):
             stream = stream_of(draw)
             answers = model.answers_to(stream)
             with self.subTest(stream=number):
-                self.assertEqual(harness.run_whole(stream).out, answers)
+                for policy in harness.POLICIES:
+                    self.assertEqual(harness.run_whole(stream, ["--policy", policy]).out, answers, policy)
                 self.assertEqual(harness.run_in_pieces(random_pieces(draw, stream)).out, answers)
 
     def test_the_rows_are_answered_so_by_the_lists(self):

@@ -39,7 +39,7 @@ class Words(unittest.TestCase):
             self.assertEqual((ended.status, ended.out, ended.err), (0, b"mmdb 0.1.0\n", b""))
 
     def test_wrong_words_end_with_status_2(self):
-        for words in (["file"], ["--nosuch"], ["-x"], ["--help=1"], ["--", "file"], [""]):
+        for words in (["file"], ["--policy", "fast"], ["--policy"], ["--nosuch"], ["-x"], ["--help=1"], ["--", "file"], [""]):
             with self.subTest(words=words):
                 self.check_refused(*words)
 

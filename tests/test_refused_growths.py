@@ -49,7 +49,7 @@ class Program(unittest.TestCase):
 
 
     def test_words_are_never_lost(self):
-        for words in (["--help"], ["--version"], ["nosuch"], ["--nosuch"], [b"\xff"]):
+        for words in (["--help"], ["--version"], ["--policy", "tree"], ["--policy", "fast"], ["--nosuch"], [b"\xff"]):
             ample = harness.run_whole(b"", words)
             for nth, ended, _ in REFUSER.each_run([harness.PROGRAM, *words]):
                 with self.subTest(words=words, refused_call=nth):

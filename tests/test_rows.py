@@ -1,4 +1,4 @@
-"""Each row of tests/rows: a stream and its answers, whole and in pieces of several sizes."""
+"""Each row of tests/rows: a stream and its answers, whole and in pieces of several sizes, and under each policy."""
 
 import unittest
 
@@ -18,11 +18,21 @@ def whole(stream, answers):
     return lambda test: test.check(harness.run_whole(stream), answers)
 
 
+def under_each_policy(stream, answers):
+    def test(self):
+        for policy in harness.POLICIES:
+            with self.subTest(policy=policy):
+                self.check(harness.run_whole(stream, ["--policy", policy]), answers)
+
+    return test
+
+
 def cut(stream, answers, size):
     return lambda test: test.check(harness.run_in_pieces(harness.pieces_of(stream, size)), answers)
 
 
 for name, stream, answers in harness.rows():
     setattr(Rows, f"test_{name}_whole", whole(stream, answers))
+    setattr(Rows, f"test_{name}_under_each_policy", under_each_policy(stream, answers))
     for size in (1, 2, 7):
         setattr(Rows, f"test_{name}_in_pieces_of_{size}", cut(stream, answers, size))

@@ -17,12 +17,12 @@ use std::process::ExitCode;
 const ROOM: usize = 65_536;
 
 // Answers standard input on standard output.
-fn answer_input(rt: &HostRuntime) -> Result<(), RunFault> {
+fn answer_input(rt: &HostRuntime, policy: Policy) -> Result<(), RunFault> {
     let mut reader = rt.stdin();
     let Ok(mut writer) = BufWriter::with_capacity(rt.alloc(), ROOM, rt.stdout()) else {
         return Err(RunFault::NoMemory);
     };
-    run(rt.alloc(), &mut reader, &mut writer, Policy::Auto)
+    run(rt.alloc(), &mut reader, &mut writer, policy)
 }
 
 // Names the fault on standard error, and gives the status to end with.
@@ -47,10 +47,11 @@ fn report_words(rt: &HostRuntime, error: &clap::Error) -> ExitCode {
 }
 
 fn main(rt: HostRuntime) -> ExitCode {
-    if let Err(error) = read_words(&rt) {
-        return report_words(&rt, &error);
-    }
-    match answer_input(&rt) {
+    let policy = match read_words(&rt) {
+        Ok(policy) => policy,
+        Err(error) => return report_words(&rt, &error),
+    };
+    match answer_input(&rt, policy) {
         Ok(()) => ExitCode::SUCCESS,
         Err(fault) => report(&rt, fault),
     }

@@ -1,15 +1,32 @@
 //! The words that the program is started with.
 
 use clap::error::ErrorKind;
-use clap::{Command, Error};
+use clap::{Arg, Command, Error};
+use plan_chooser::Policy;
 use std::alloc::AllocError;
 use std::{env, io};
 
-// The program as `clap` sees it: it takes no words but `--help`, `--version` and their short forms.
-fn command<'a>(rt: &HostRuntime) -> Command<'a> {
-    Command::new(rt.alloc(), "mmdb").version("0.1.0").about(
-        "Answers the command lines of standard input on standard output",
-    )
+// The option that names a policy, and the policies' names.
+const POLICY: &str = "policy";
+
+const POLICIES: &[&str] = &["auto", "scan", "hash", "tree", "merge"];
+
+// The option for the policy. It is auto where none is named.
+fn policy_option<'a>(rt: &HostRuntime) -> Arg<'a> {
+    Arg::new(rt.alloc(), POLICY)
+        .long(POLICY)
+        .value_name("POLICY")
+        .value_parser(POLICIES)
+        .default_value("auto")
+        .help("How plans are chosen; no policy changes an answer")
+}
+
+// The program as `clap` sees it.
+fn command<'a>(rt: &HostRuntime) -> Result<Command<'a>, AllocError> {
+    Command::new(rt.alloc(), "mmdb")
+        .version("0.1.0")
+        .about("Answers the command lines of standard input on standard output")
+        .arg(policy_option(rt))
 }
 
 // What is wrong with words that could not be had: one of them is not UTF-8, or there was no memory.
@@ -17,18 +34,33 @@ fn fault_of(rt: &HostRuntime, error: &io::Error) -> Error {
     if error.kind() == io::ErrorKind::OutOfMemory {
         return Error::from(AllocError);
     }
-    match command(rt).error(ErrorKind::InvalidValue, "a word is not UTF-8") {
+    let Ok(mut command) = command(rt) else {
+        return Error::from(AllocError);
+    };
+    match command.error(ErrorKind::InvalidValue, "a word is not UTF-8") {
         Ok(fault) => fault,
         Err(refused) => Error::from(refused),
     }
 }
 
-/// Reads the words. An error is a wrong word, a wish for help or the version, or want of memory.
-pub fn read_words(rt: &HostRuntime) -> Result<(), Error> {
+// The policy of that name, which `clap` found to be one of theirs.
+fn policy_named(name: &str) -> Policy {
+    match name {
+        "scan" => Policy::Scan,
+        "hash" => Policy::Hash,
+        "tree" => Policy::Tree,
+        "merge" => Policy::Merge,
+        _ => Policy::Auto,
+    }
+}
+
+/// Reads the words, and gives the policy that they name. An error is a wrong word, a wish for help or the version, or want
+/// of memory.
+pub fn read_words(rt: &HostRuntime) -> Result<Policy, Error> {
     let words: Vec<String> = match env::args(rt) {
         Ok(args) => args.collect(rt.alloc())?,
         Err(error) => return Err(fault_of(rt, &error)),
     };
-    command(rt).try_get_matches_from(words.as_slice())?;
-    Ok(())
+    let matches = command(rt)?.try_get_matches_from(words.as_slice())?;
+    Ok(matches.get_str(POLICY).map_or(Policy::Auto, policy_named))
 }
