@@ -1,21 +1,16 @@
 -- Rows that come into the tables of a company, or go with one of them, and what stays of the tables.
-use Rattle.std.proofs.Common.{◌≡◌, ℕ, zero, suc, ◌<◌, ◌≤◌, List, [], ◌∷◌, Option, Some, IsSome, refl, sym, ap, ◌∙◌, subst, arith, length, map}
+use Rattle.std.proofs.Common.{◌≡◌, ℕ, zero, suc, ◌≤◌, List, [], ◌∷◌, refl, sym, ap, ◌∙◌, subst, length, map}
 use Rattle.std.specs.Prelude.{ℤ, Result, Ok, Err, OnOk, IfErr, FitsSigned}
 use Rattle.std.specs.Int.{w64}
-use Rattle.std.specs.FinMap as finite
-use Rattle.std.specs.List.{All, slice_get}
 use Rattle.std.proofs.lemmas.List.Elements.{All-nil, All-cons}
-use Rattle.std.proofs.lemmas.Option.{same_Some}
-use Rattle.part_raw.specs.declared.tuple_ref.TupleRef.{TupleRef}
 use Rattle.plain_tables.specs.Databases.{Database}
-use Rattle.plain_tables.specs.Tables.{Table, Row}
+use Rattle.plain_tables.specs.Tables.{Row}
 use Rattle.plain_tables.specs.Doing.{done}
 use Rattle.plain_tables.specs.ResolvedLaws.{IsMeant, IsStorable, rowless}
 use Rattle.plain_tables.specs.declared.command.Limits.{Limits}
 use Rattle.plain_tables.specs.declared.numbers.TableNumber.{TableNumber}
 use Rattle.plain_tables.specs.declared.refusal.Refusal.{Refusal}
 use Rattle.plain_tables.specs.declared.resolved.Resolved.TheVariants as resolved
-use Rattle.plain_tables.specs.declared.value.Value.{Value}
 use Rattle.plain_tables.specs.declared.value.Value.TheVariants as value
 use Rattle.plain_tables.proofs.ChangeLemmas.{own_rows_change}
 use Rattle.mm_catalog.specs.State.{CatalogState}

@@ -7,6 +7,8 @@ mod changes;
 #[cfg(test)]
 mod company;
 #[cfg(test)]
+mod fields;
+#[cfg(test)]
 mod growths;
 #[cfg(test)]
 mod rows;
@@ -18,3 +20,5 @@ mod shown;
 mod staff;
 #[cfg(test)]
 mod tables;
+#[cfg(test)]
+mod updates;

@@ -1,14 +1,13 @@
 //! Rows of a company: they come in, and go.
-ghost use Rattle.std.specs.Prelude.{◌≡◌, ◌≤◌, [], ◌∷◌, IfOk, Some, length, map};
+ghost use Rattle.std.specs.Prelude.{◌≡◌, ◌≤◌, [], ◌∷◌, IfOk, length, map};
 ghost use Rattle.plain_tables.specs.ResolvedLaws.{rowless};
-ghost use Rattle.mm_relation.specs.Reading.{key_at};
 ghost use Rattle.mm_catalog.specs.Seen.{database_of};
 ghost use Rattle.catalog_tests.specs.Company.{company, indexed, tree_on_names, hash_on_departments};
 
 use crate::company::{DEPARTMENTS, PEOPLE, TASKS, add_hash, add_tree, company};
-use crate::seen::relation;
+use crate::seen::{relation, row_with};
 use mm_catalog::Catalog;
-use mm_relation::{ColumnNumber, Relation, TableNumber, TupleRef};
+use mm_relation::{ColumnNumber, TableNumber};
 use no_memory::NoMemory;
 use plain_tables::{Limits, Refusal, Sequence, Text, Value};
 use std::alloc::Global;
@@ -99,19 +98,19 @@ pub fn add_task(alloc: Global, catalog: &mut Catalog, id: i64, person: i64) -> R
     catalog.insert(TableNumber(TASKS), values)
 }
 
-/// The row with this key, which is there.
-pub fn row_with(rt: &impl Abort, relation: &Relation, key: i64) -> TupleRef
-    ensures { key_at relation.now.rows result ≡ Some (Value.Int key) }
+/// Two departments, two people in the first and one in the second, and three tasks.
+pub fn fill(alloc: Global, catalog: &mut Catalog) -> Result<(), Refusal>
+    requires { map rowless (database_of catalog.old) ≡ indexed (tree_on_names ∷ hash_on_departments ∷ []) }
+    ensures { map rowless (database_of catalog.new) ≡ indexed (tree_on_names ∷ hash_on_departments ∷ []) }
 {
-    relation
-        .find_key(&Value::Int(key))
-        .expect(rt, "a row with this key")
-}
-
-/// How many links name the row with this key, which is there.
-pub fn referrers(rt: &impl Abort, catalog: &Catalog, table: usize, key: i64) -> u64 {
-    let relation = relation(rt, catalog, table);
-    relation.row(row_with(rt, relation, key)).referrers()
+    add_department(alloc, catalog, 1, "North")?;
+    add_department(alloc, catalog, 2, "South")?;
+    add_person(alloc, catalog, 10, "Ann", 1)?;
+    add_person(alloc, catalog, 11, "Bob", 1)?;
+    add_person(alloc, catalog, 12, "Ann", 2)?;
+    add_task(alloc, catalog, 100, 10)?;
+    add_task(alloc, catalog, 101, 10)?;
+    add_task(alloc, catalog, 102, 12)
 }
 
 /// The key of the row that a row's link names. Both are there, and the link leads into this table.

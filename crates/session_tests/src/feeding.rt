@@ -14,13 +14,13 @@ use std::test::Fail;
 pub fn answers_in_pieces(
     alloc: Global,
     mut session: Session,
-    stream: &str,
+    stream: &[u8],
     size: usize,
 ) -> Result<Vec<u8>, Fail>
     requires { 0 < size }
 {
     let mut page = Page::new(alloc, 1000, true)?;
-    for piece in stream.as_bytes().chunks(size) {
+    for piece in stream.chunks(size) {
         session.feed(piece, &mut page)?;
     }
     session.finish(&mut page)?;
@@ -32,7 +32,7 @@ pub fn answers_under_limits(alloc: Global, limits: Limits, stream: &str) -> Resu
     requires { limits.rows ≤ 16777216 }
 {
     let session = Session::with_limits(alloc, Policy::Auto, limits)?;
-    answers_in_pieces(alloc, session, stream, 1000)
+    answers_in_pieces(alloc, session, stream.as_bytes(), 1000)
 }
 
 // Feeds a line until it is not answered by want of memory, which changes nothing.

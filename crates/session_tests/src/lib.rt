@@ -7,6 +7,8 @@ mod commands;
 #[cfg(test)]
 mod feeding;
 #[cfg(test)]
+mod over;
+#[cfg(test)]
 mod pages;
 #[cfg(test)]
 mod references;

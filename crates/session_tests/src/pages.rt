@@ -5,7 +5,7 @@ use std::alloc::Global;
 use std::io;
 use std::io::Write;
 
-/// Takes so many bytes and then fails. It needs no memory for the first 256.
+/// Takes so many bytes and then fails. It needs no memory for them.
 #[derive(Drop)]
 pub struct Page {
     pub got: Vec<u8>,
@@ -15,7 +15,7 @@ pub struct Page {
 
 impl Page {
     pub fn new(alloc: Global, room: usize, flushes: bool) -> Result<Page, NoMemory> {
-        let got = Vec::with_capacity(alloc, 256)?;
+        let got = Vec::with_capacity(alloc, room)?;
         Ok(Page { got, room, flushes })
     }
 }

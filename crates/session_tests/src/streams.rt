@@ -33,9 +33,9 @@ impl Read for OneRead {
     }
 }
 
-// Checks the answers to a stream that comes in pieces of 1, of 7 and of 100 bytes.
-fn check_cuts(rt: &impl Abort, alloc: Global, stream: &str, answers: &str) -> Result<(), Fail> {
-    for size in [1, 7, 100] {
+// Checks the answers to a stream that comes in pieces of 1, of 7 and of 10,000 bytes.
+fn check_cuts(rt: &impl Abort, alloc: Global, stream: &[u8], answers: &str) -> Result<(), Fail> {
+    for size in [1, 7, 10_000] {
         let session = Session::new(alloc, Policy::Auto)?;
         let got = answers_in_pieces(alloc, session, stream, size)?;
         assert_eq!(rt; got.as_slice(), answers.as_bytes(), "in pieces of {size}");
@@ -45,7 +45,7 @@ fn check_cuts(rt: &impl Abort, alloc: Global, stream: &str, answers: &str) -> Re
 
 #[test]
 fn a_stream_is_answered_however_it_is_cut(rt: HostRuntime) -> Result<(), Fail> {
-    check_cuts(&rt, rt.alloc(), FIRST_PATH, FIRST_ANSWERS)
+    check_cuts(&rt, rt.alloc(), FIRST_PATH.as_bytes(), FIRST_ANSWERS)
 }
 
 #[test]
@@ -54,9 +54,28 @@ fn worked_rows_are_answered_however_they_are_cut(rt: HostRuntime) -> Result<(), 
         let Some((stream, answers)) = row.split_once("----\n") else {
             return Err(Fail::from("a row with no answers"));
         };
-        check_cuts(&rt, rt.alloc(), stream, answers)?;
+        check_cuts(&rt, rt.alloc(), stream.as_bytes(), answers)?;
     }
     Ok(())
+}
+
+#[test]
+fn worked_rows_under_refusal(rt: HostRuntime) {
+    for row in WORKED_ROWS.split("====\n") {
+        if let Some((stream, answers)) = row.split_once("----\n") {
+            check_under_refusal(&rt, rt.alloc(), Limits::STANDARD, stream, answers);
+        }
+    }
+}
+
+#[test]
+fn odd_lines_are_answered_however_they_are_cut(rt: HostRuntime) -> Result<(), Fail> {
+    let mut longest = "tables".as_bytes().to_vec(rt.alloc())?;
+    longest.resize(8192, b' ')?;
+    longest.push(b'\n')?;
+    check_cuts(&rt, rt.alloc(), &longest, "ok 0\n")?;
+    let silent = b"#\xff\n\n \t\n  # x\n".as_slice();
+    check_cuts(&rt, rt.alloc(), silent, "error 11 not UTF-8\n")
 }
 
 #[test]
