@@ -1,2 +1,3 @@
+pub mod BlockReading
 pub mod FullNames
 pub mod Records

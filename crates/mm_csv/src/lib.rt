@@ -7,11 +7,18 @@
 #![tactic(auto)]
 
 mod block;
+mod csv_refusal;
+mod field;
 mod fields;
 mod full_name;
 pub mod laws;
 mod record_writer;
+mod rows;
+mod values;
 
 pub use block::block_of;
+pub use csv_refusal::CsvRefusal;
+pub use field::Field;
 pub use full_name::FullName;
 pub use record_writer::RecordWriter;
+pub use rows::rows_of;
