@@ -1,3 +1,4 @@
+pub mod BlockLaws
 pub mod BlockLemmas
 pub mod CsvLemmas
 pub mod FieldLemmas

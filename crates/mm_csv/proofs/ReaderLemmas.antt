@@ -110,7 +110,7 @@ enough (suc n) (suc m) s xs between low high = by (next_record default_config s 
         let fewer : length p.2 < length xs = rw between at less in
         rw (is, more p.1 p.2 next (omega arith) (omega arith)) refl
 
-one-record : (s : State) (xs : List ℕ) (p : Read) → ends_at_end s ≡ false → next_record default_config s [] [] xs ≡ Some p
+pub one-record : (s : State) (xs : List ℕ) (p : Read) → ends_at_end s ≡ false → next_record default_config s [] [] xs ≡ Some p
     → records_behind s xs ≡ p.0 ∷ records_behind p.1 p.2
 unfolding records_from
 one-record s xs p between is =

@@ -102,7 +102,7 @@ texts-same (x ∷ xs) (y ∷ ys) same =
     let (first, others) = and_parts (bytes_eq x y) (pointwise bytes_eq xs ys) same in
     rw (same_text x y (sym first), texts-same xs ys others) refl
 
-same-texts : (a : List (List ℕ)) → pointwise bytes_eq a a ≡ true
+pub same-texts : (a : List (List ℕ)) → pointwise bytes_eq a a ≡ true
 same-texts [] = refl
 same-texts (x ∷ xs) = rw (nat_list_eq_equiv.refl x, same-texts xs) refl
 

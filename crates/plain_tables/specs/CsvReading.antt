@@ -1,8 +1,9 @@
 -- Reading CSV: the rows, or the fault, of the records of a block.
-use Rattle.std.specs.Prelude.{ℕ, ◌+◌, ◌^◌, nat_lt, List, [], ◌∷◌, length, map, take, drop, Bool, ◌&&◌, ◌==◌, not, if◌then◌else◌, Option, Some, None, option_map, is_some, ℤ, pos, negsuc, neg_ℤ}
-use Rattle.std.specs.List.{prefix_len, zip}
+use Rattle.std.specs.Prelude.{◌≡◌, ◌<◌, ℕ, ◌+◌, ◌^◌, nat_lt, List, [], ◌∷◌, length, map, take, drop, Bool, ◌&&◌, ◌==◌, not, if◌then◌else◌, Option, Some, None, option_map, is_some, ℤ, pos, negsuc, neg_ℤ, FitsSigned, IsTrue, IsFalse}
+use Rattle.std.specs.Int.{w64}
+use Rattle.std.specs.List.{AllZip, prefix_len, zip}
 use Rattle.std.specs.Option.{option_map_or}
-use Rattle.std.specs.Str.{all_ascii_digits, bytes_eq, is_utf8}
+use Rattle.std.specs.Str.{IsUtf8, all_ascii_digits, bytes_eq, is_utf8}
 use Rattle.std.specs.Str.Parse.{digits_value, starts_with_minus}
 use lib.Pointwise.{pointwise}
 use Rattle.plain_tables.specs.Effects.{is_long}
@@ -106,3 +107,17 @@ begins_with_mark bytes = bytes_eq (take 3 bytes) mark
 -- bytes without the mark at their front, taken off once
 abbrev pub without_mark : List ℕ → List ℕ
 without_mark bytes = if begins_with_mark bytes then drop 3 bytes else bytes
+
+-- ---- values that are written and read again
+
+-- What a column of a block gives back as it was written: null where it may stand, an integer of 64 bits, and a text that is
+-- UTF-8 and not too long. Where null may stand the text isn't empty, since an empty field is null there.
+abbrev pub Fits : BlockColumn → Value → Type 0
+Fits column value.Null = IsTrue column.null
+Fits column (value.Int z) = (column.kind ≡ kind.Int) × FitsSigned w64 z
+Fits column (value.Text text) =
+    (column.kind ≡ kind.Text) × IsUtf8 text × IsFalse (is_long (value.Text text)) × (IsTrue column.null → 0 < length text)
+
+-- a row has one value for each column, which fits it
+abbrev pub FitsRow : List BlockColumn → Row → Type 0
+FitsRow columns row = AllZip Fits columns row
