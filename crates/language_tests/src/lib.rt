@@ -9,4 +9,6 @@ mod hashes;
 #[cfg(test)]
 mod parser_and_printer;
 #[cfg(test)]
+mod read_blocks;
+#[cfg(test)]
 mod texts_and_refusals;

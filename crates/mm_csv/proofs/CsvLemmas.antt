@@ -8,12 +8,17 @@ use Rattle.std.specs.Io.KnownBytes.{Appends}
 use Rattle.std.proofs.KnownBytes.{Appends-nil, Appends-trans}
 use Rattle.csv.specs.Writing as Csv
 use Rattle.csv.specs.declared.writer.Writer.{Writer}
+use Rattle.csv.specs.declared.writer.WriterBuilder.{WriterBuilder}
 use Rattle.csv.specs.declared.writer.QuoteStyle.TheVariants as style
 use Rattle.csv.proofs.WriteFacts.{blank-more, row-more}
 use Rattle.plain_tables.specs.Csv.{calls_for_quotes, doubled, field_text, joined, needs_quotes, record_text}
 use Rattle.mm_csv.specs.Records.{AddsField, EndsRecord, HasBegun, IsBetweenRecords, setup}
 
 -- ---- the two texts of a record
+
+-- the settings of the crate, for records of any lengths or of one
+abbrev pub set : Bool → WriterBuilder
+set flexible = Csv.with_flexible Csv.default_writer flexible
 
 any-of-five : (p q r s : Bool) → (p || q || (r || s) || (false && false) || false) ≡ (p || q || r || s)
 any-of-five true q r s = refl
@@ -22,33 +27,33 @@ any-of-five false false true s = refl
 any-of-five false false false true = refl
 any-of-five false false false false = refl
 
-calls-same : (b : ℕ) → Csv.needs_byte setup b ≡ calls_for_quotes b
-calls-same b = any-of-five (b == 44) (b == 34) (b == 13) (b == 10)
+calls-same : (w : Bool) (b : ℕ) → Csv.needs_byte (set w) b ≡ calls_for_quotes b
+calls-same w b = any-of-five (b == 44) (b == 34) (b == 13) (b == 10)
 
-needs-same : (field : List ℕ) → Csv.needs_quotes setup field ≡ needs_quotes field
-needs-same [] = refl
-needs-same (b ∷ field) = rw (calls-same b, needs-same field) refl
+needs-same : (w : Bool) (field : List ℕ) → Csv.needs_quotes (set w) field ≡ needs_quotes field
+needs-same w [] = refl
+needs-same w (b ∷ field) = rw (calls-same w b, needs-same w field) refl
 
 double-first : (c : Bool) (b : ℕ) (xs : List ℕ) → (if c then 34 ∷ b ∷ xs else b ∷ xs) ≡ (if c then 34 ∷ b ∷ [] else b ∷ []) ++ xs
 double-first true b xs = refl
 double-first false b xs = refl
 
-doubled-same : (field : List ℕ) → Csv.escaped setup field ≡ flat_map doubled field
+doubled-same : (w : Bool) (field : List ℕ) → Csv.escaped (set w) field ≡ flat_map doubled field
 unfolding Csv.escaped
-doubled-same [] = refl
-doubled-same (b ∷ field) = rw (doubled-same field) (double-first (b == 34) b (flat_map doubled field))
+doubled-same w [] = refl
+doubled-same w (b ∷ field) = rw (doubled-same w field) (double-first (b == 34) b (flat_map doubled field))
 
-field-same : (field : List ℕ) → Csv.field_text setup field ≡ field_text field
-field-same field = rw (needs-same field, doubled-same field) refl
+field-same : (w : Bool) (field : List ℕ) → Csv.field_text (set w) field ≡ field_text field
+field-same w field = rw (needs-same w field, doubled-same w field) refl
 
-fields-same : (fields : List (List ℕ)) → Csv.fields_text setup fields ≡ flat_map (λ f. 44 ∷ field_text f) fields
+fields-same : (w : Bool) (fields : List (List ℕ)) → Csv.fields_text (set w) fields ≡ flat_map (λ f. 44 ∷ field_text f) fields
 unfolding Csv.fields_text
-fields-same [] = refl
-fields-same (field ∷ fields) = rw (field-same field, fields-same fields) refl
+fields-same w [] = refl
+fields-same w (field ∷ fields) = rw (field-same w field, fields-same w fields) refl
 
-body-same : (fields : List (List ℕ)) → Csv.row_body setup fields ≡ joined fields
-body-same [] = refl
-body-same (field ∷ fields) = rw (field-same field, fields-same fields) refl
+body-same : (w : Bool) (fields : List (List ℕ)) → Csv.row_body (set w) fields ≡ joined fields
+body-same w [] = refl
+body-same w (field ∷ fields) = rw (field-same w field, fields-same w fields) refl
 
 choice-shows : (c : Bool) (b : ℕ) (xs ys : List ℕ) → (length (if c then 34 ∷ xs else b ∷ ys) == 0) ≡ false
 choice-shows true b xs ys = ne_eqb (suc (length xs)) 0 (λ e. cc e)
@@ -60,14 +65,14 @@ shown : (blank : Bool) (body text : List ℕ) → blank ≡ false → body ≡ t
 shown blank body text e p = rw (e, p) refl
 
 -- What csv writes of a record is the record.
-pub record-same : (fields : List (List ℕ)) → 0 < length fields → Csv.row_text setup fields ≡ record_text fields
+pub record-same : (w : Bool) (fields : List (List ℕ)) → 0 < length fields → Csv.row_text (set w) fields ≡ record_text fields
 unfolding Csv.is_blank Csv.fields_text
-record-same [] some = absurd (omega arith)
-record-same ([] ∷ []) some = refl
-record-same ((b ∷ field) ∷ []) some =
-    shown _ _ _ (choice-shows (Csv.needs_quotes setup (b ∷ field)) b (Csv.escaped setup (b ∷ field) ++ 34 ∷ []) field) (body-same ((b ∷ field) ∷ []))
-record-same ([] ∷ other ∷ fields) some = shown false _ _ refl (body-same ([] ∷ other ∷ fields))
-record-same ((b ∷ field) ∷ other ∷ fields) some = shown false _ _ refl (body-same ((b ∷ field) ∷ other ∷ fields))
+record-same w [] some = absurd (omega arith)
+record-same w ([] ∷ []) some = refl
+record-same w ((b ∷ field) ∷ []) some =
+    shown _ _ _ (choice-shows (Csv.needs_quotes (set w) (b ∷ field)) b (Csv.escaped (set w) (b ∷ field) ++ 34 ∷ []) field) (body-same w ((b ∷ field) ∷ []))
+record-same w ([] ∷ other ∷ fields) some = shown false _ _ refl (body-same w ([] ∷ other ∷ fields))
+record-same w ((b ∷ field) ∷ other ∷ fields) some = shown false _ _ refl (body-same w ((b ∷ field) ∷ other ∷ fields))
 
 -- ---- field by field
 
@@ -95,4 +100,4 @@ begun-more contents w after field text same count wrote stays before fields fits
 pub record-ended : {W : Type 0} (contents : W → Option (List ℕ)) (before w after : Writer W) (fields : List (List ℕ)) → 0 < length fields
     → HasBegun contents before w fields → EndsRecord contents w after
     → Appends (Csv.text_written contents before) (Csv.text_written contents after) (record_text fields)
-record-ended contents before w after fields some begun ends = rw (record-same fields some) at (ends before fields begun).1
+record-ended contents before w after fields some begun ends = rw (record-same true fields some) at (ends before fields begun).1

@@ -1,2 +1,4 @@
+pub mod BlockLaws
+pub mod BlockReading
 pub mod FullNames
 pub mod Records

@@ -6,6 +6,7 @@ ghost use Rattle.std.specs.Int.{w64};
 ghost use Rattle.std.specs.List.{flat_map, list_any};
 ghost use Rattle.plain_tables.specs.Csv.{needs_quotes, record_text};
 ghost use Rattle.plain_tables.specs.Names.{IsName};
+ghost use Rattle.mm_csv.specs.BlockLaws.{BlocksReadBack, FieldsSpellIntegers};
 
 /// An integer is written without quotes.
 pub fn integers_need_no_quotes()
@@ -21,4 +22,14 @@ pub fn names_need_no_quotes()
 pub fn records_without_quotes()
     ensures { (field : List ℕ) (fields : List (List ℕ)) → list_any needs_quotes (field ∷ fields) ≡ false → 0 < length field + length fields
         → record_text (field ∷ fields) ≡ field ++ (flat_map (λ f. 44 ∷ f) fields ++ 10 ∷ []) }
+{}
+
+/// A block of names and rows is read as these rows.
+pub fn blocks_read_back()
+    ensures { BlocksReadBack }
+{}
+
+/// A field is an integer where a command line could spell it so.
+pub fn fields_spell_integers()
+    ensures { FieldsSpellIntegers }
 {}

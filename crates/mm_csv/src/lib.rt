@@ -3,15 +3,25 @@
 //! `RecordWriter` writes one record at a time, from values that it borrows; `block_of` writes a header and all rows. The
 //! quoting is the library's, by its default settings; what is stated of it is joined to the definition of a record.
 //!
+//! `rows_of` reads a block under a layout of its columns: a header and rows, or the first record that is no row. The records
+//! are those that the library states.
+//!
 //! It doesn't care which rows they are, nor where the bytes go. A writer that has failed fails from then on.
 #![tactic(auto)]
 
 mod block;
+mod csv_refusal;
+mod field;
 mod fields;
 mod full_name;
 pub mod laws;
 mod record_writer;
+mod rows;
+mod values;
 
 pub use block::block_of;
+pub use csv_refusal::CsvRefusal;
+pub use field::Field;
 pub use full_name::FullName;
 pub use record_writer::RecordWriter;
+pub use rows::rows_of;

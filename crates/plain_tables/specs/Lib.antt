@@ -2,6 +2,7 @@ pub mod AnswerText
 pub mod CommandLaws
 pub mod Commands
 pub mod Csv
+pub mod CsvReading
 pub mod Databases
 pub mod Division
 pub mod Doing

@@ -1,0 +1,93 @@
+-- Lemmas on fields: what is read in them is what the definitions say.
+use Rattle.std.proofs.Common.{◌≡◌, ◌<◌, ◌^◌, [], ◌∷◌, ℕ, List, Bool, true, false, Some, None, Result, Ok, Err, refl, sym, length, arith, zero, suc, nat_eq, ◌≤◌}
+use Rattle.std.specs.Prelude.{ℤ, pos, negsuc, FitsSigned, ◌==◌, ◌&&◌, nat_lt, slice_index}
+use Rattle.std.specs.Int.{w64}
+use Rattle.std.specs.List.{starts_with}
+use Rattle.std.specs.Result.{result_ok}
+use Rattle.std.specs.Str.{all_ascii_digits}
+use Rattle.std.specs.Str.Parse.{AllDigits, IsNumeral, ParsesSigned, digits_value}
+use Rattle.std.proofs.lemmas.Str.Parse.{IsNumeralModel, numerals_by_value, tells_all_ascii_digits}
+use Rattle.plain_tables.specs.CsvReading.{digits_of, has_64_bits, integer_of, is_numeral, number_of}
+use Rattle.std.specs.Str.{IsAscii, IsUtf8, is_utf8}
+use Rattle.std.proofs.lemmas.Bool.{and_parts, eqb-true, le-ltb, lt-ltb, ltb-true, ne_eqb}
+use Rattle.std.proofs.lemmas.Fmt.{IsAscii-from_digits}
+use Rattle.std.proofs.lemmas.Str.{IsUtf8-from_ascii, IsUtf8-from_is_utf8, IsUtf8-nil, is_utf8-from_IsUtf8}
+use Rattle.plain_tables.specs.CsvReading.{text_of}
+use Rattle.plain_tables.specs.declared.value.Value.TheVariants as value
+
+-- ---- integers
+
+-- digits as the library tells them
+told : IsNumeralModel (λ ds. all_ascii_digits ds ≡ true) (digits_value 10)
+told = numerals_by_value (λ ds. all_ascii_digits ds ≡ true) tells_all_ascii_digits
+
+pub numeral-is : (ds : List ℕ) → is_numeral ds ≡ true → IsNumeral 10 ds
+numeral-is ds is =
+    let (some, all) = and_parts (nat_lt 0 (length ds)) (all_ascii_digits ds) is in (ltb-true 0 (length ds) some, told.to ds all)
+
+pub is-numeral : (ds : List ℕ) → IsNumeral 10 ds → is_numeral ds ≡ true
+is-numeral ds (some, all) = rw (lt-ltb 0 (length ds) some, told.from ds all) refl
+
+pub has-fits : (z : ℤ) → has_64_bits z ≡ true → FitsSigned w64 z
+has-fits (pos n) has = record { sfits = ltb-true n (2 ^ 63) has }
+has-fits (negsuc n) has = record { sfits = ltb-true n (2 ^ 63) has }
+
+pub fits-has : (z : ℤ) → FitsSigned w64 z → has_64_bits z ≡ true
+fits-has (pos n) fits = lt-ltb n (2 ^ 63) fits.sfits
+fits-has (negsuc n) fits = lt-ltb n (2 ^ 63) fits.sfits
+
+-- The field is digits behind a minus or none, and what they say has 64 bits.
+abbrev pub SaysInteger : List ℕ → Type 0
+SaysInteger field = IsNumeral 10 (digits_of field) × FitsSigned w64 (number_of field)
+
+pub integer-there : (field : List ℕ) → SaysInteger field → integer_of field ≡ Some (number_of field)
+integer-there field (numeral, fits) = rw (is-numeral (digits_of field) numeral, fits-has (number_of field) fits) refl
+
+pub integer-absent : (field : List ℕ) → ¬ (SaysInteger field) → integer_of field ≡ None
+integer-absent field never = by (is_numeral (digits_of field) && has_64_bits (number_of field)) refl
+  where
+    by : (b : Bool) → (is_numeral (digits_of field) && has_64_bits (number_of field)) ≡ b → integer_of field ≡ None
+    by true is =
+        let (numeral, fits) = and_parts (is_numeral (digits_of field)) (has_64_bits (number_of field)) is in
+        absurd (never (numeral-is (digits_of field) numeral, has-fits (number_of field) fits))
+    by false is = rw is refl
+
+-- What the library parses is the integer, where no plus stands in front.
+pub integer-parsed : {E : Type 0} (field : List ℕ) (r : Result ℤ E) → (slice_index field 0 == 43) ≡ false → ParsesSigned w64 10 field r
+    → result_ok r ≡ integer_of field
+integer-parsed field (Ok z) plain (says, e) =
+    let there = integer-there field (rw plain at says) in rw (there, e, plain) refl
+integer-parsed field (Err e) plain never = sym (integer-absent field (rw plain at never))
+
+-- a field that begins with no plus
+pub plus-not : (field : List ℕ) → starts_with nat_eq field (43 ∷ []) ≡ false → (slice_index field 0 == 43) ≡ false
+plus-not [] starts = refl
+plus-not (c ∷ cs) starts = ne_eqb c 43 (λ e. let clash : true ≡ false = rw e at starts in cc clash)
+
+ascii-behind : (c : ℕ) (cs : List ℕ) (i : ℕ) → c < 128 → IsAscii cs → slice_index (c ∷ cs) i < 128
+ascii-behind c cs zero small ascii = small
+ascii-behind c cs (suc i) small ascii = ascii i
+
+-- a number is UTF-8
+pub integer-utf8 : (field : List ℕ) → SaysInteger field → IsUtf8 field
+integer-utf8 [] ((some, all), fits) = IsUtf8-nil
+integer-utf8 (c ∷ cs) says = by (c == 45) refl says.0.1
+  where
+    by : (b : Bool) → (c == 45) ≡ b → AllDigits 10 (digits_of (c ∷ cs)) → IsUtf8 (c ∷ cs)
+    by true minus all = IsUtf8-from_ascii (c ∷ cs) (λ i. ascii-behind c cs i (omega (arith, eqb-true c 45 minus)) (IsAscii-from_digits cs (rw minus at all)))
+    by false plain all = IsUtf8-from_ascii (c ∷ cs) (IsAscii-from_digits (c ∷ cs) (rw plain at all))
+
+pub integer-wild : (field : List ℕ) → ¬ (IsUtf8 field) → integer_of field ≡ None
+integer-wild field wild = integer-absent field (λ says. wild (integer-utf8 field says))
+
+-- ---- texts
+
+pub text-there : (field : List ℕ) → length field ≤ 1024 → IsUtf8 field → text_of field ≡ Some (value.Text field)
+text-there field short utf8 = rw (is_utf8-from_IsUtf8 field utf8, le-ltb 1024 (length field) short) refl
+
+pub text-wild : (field : List ℕ) → ¬ (IsUtf8 field) → text_of field ≡ None
+text-wild field wild = by (is_utf8 field) refl
+  where
+    by : (b : Bool) → is_utf8 field ≡ b → text_of field ≡ None
+    by true is = absurd (wild (IsUtf8-from_is_utf8 field is))
+    by false is = rw is refl

@@ -1,0 +1,11 @@
+//! A column of a block.
+
+use plain_tables::{BaseKind, Text};
+
+/// A column of a block: its name, the type of its values, and whether null may stand there.
+#[derive(Debug, Drop)]
+pub struct Field {
+    pub name: Text,
+    pub kind: BaseKind,
+    pub null: bool,
+}

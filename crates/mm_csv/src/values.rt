@@ -1,0 +1,96 @@
+//! The values of fields, and the row of a record.
+
+ghost use Rattle.std.specs.Prelude.{◌≡◌, IfOk, option_map};
+ghost use Rattle.csv.specs.Records.{fields_of};
+ghost use Rattle.plain_tables.specs.CsvReading as reading;
+ghost use Rattle.plain_tables.specs.declared.value.Value.TheVariants as value;
+ghost use Rattle.mm_csv.specs.BlockReading.{column_of, columns_of};
+
+use crate::Field;
+use csv::ByteRecord;
+use plain_tables::{BaseKind, NoMemory, Sequence, Text, Value};
+use std::alloc::Global;
+
+// How many bytes a text may have.
+const LONGEST_TEXT: usize = 1024;
+
+// The integer that a field spells, if it spells one of 64 bits.
+fn integer_of(field: &[u8]) -> Option<i64>
+    ensures { result ≡ reading.integer_of field.now }
+{
+    if field.starts_with(b"+") {
+        return None;
+    }
+    match str::from_utf8(field) {
+        Ok(digits) => digits.parse::<i64>().ok(),
+        Err(_) => None,
+    }
+}
+
+// The text that a field is, if it is one that a column may hold.
+fn text_of(alloc: Global, field: &[u8]) -> Result<Option<Text>, NoMemory>
+    ensures { IfOk result (λ text. option_map value.Text text ≡ reading.text_of field.now) }
+{
+    if field.len() > LONGEST_TEXT {
+        return Ok(None);
+    }
+    match str::from_utf8(field) {
+        Ok(text) => Ok(Some(Text::from_str(alloc, text)?)),
+        Err(_) => Ok(None),
+    }
+}
+
+// What a field is in a column, if it may stand there.
+fn value_of(alloc: Global, column: &Field, field: &[u8]) -> Result<Option<Value>, NoMemory>
+    ensures { IfOk result (λ value. value ≡ reading.field_value (column_of column.now) field.now) }
+{
+    if column.null && field.is_empty() {
+        return Ok(Some(Value::Null));
+    }
+    match column.kind {
+        BaseKind::Int => Ok(integer_of(field).map(Value::Int)),
+        BaseKind::Text => Ok(text_of(alloc, field)?.map(Value::Text)),
+    }
+}
+
+/// The row of a record, if it has one field for each column and each field may stand in its column.
+pub fn row_of(
+    alloc: Global,
+    layout: &[Field],
+    fields: &ByteRecord,
+) -> Result<Option<Sequence<Value>>, NoMemory>
+    ensures { IfOk result (λ row. row ≡ reading.row_of (columns_of layout.now) (fields_of fields.now)) }
+{
+    if fields.len() != layout.len() {
+        return Ok(None);
+    }
+    let mut row = Vec::with_capacity(alloc, layout.len())?;
+    for (i, column) in layout.iter().enumerate() {
+        let Some(field) = fields.get(i) else {
+            return Ok(None);
+        };
+        match value_of(alloc, column, field)? {
+            Some(value) => row.push(value)?,
+            None => return Ok(None),
+        }
+    }
+    Ok(Some(Sequence::from_vec(row)))
+}
+
+/// Whether a record is the names of the columns in their order.
+pub fn is_header(layout: &[Field], fields: &ByteRecord) -> bool
+    ensures { result ≡ reading.is_header (columns_of layout.now) (fields_of fields.now) }
+{
+    if fields.len() != layout.len() {
+        return false;
+    }
+    for (i, column) in layout.iter().enumerate() {
+        let Some(name) = fields.get(i) else {
+            return false;
+        };
+        if name != column.name.as_bytes() {
+            return false;
+        }
+    }
+    true
+}
