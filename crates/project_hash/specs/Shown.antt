@@ -40,9 +40,10 @@ pub record ShowsOnce (relations : List RelationState) (list : ListState) (rows :
   pub rising : AreRising (values_of rows)
   pub all : All (Contains (values_of rows)) (shown_rows relations list)
 
--- the list with these rows in the place of its own
+-- the references of rows
 abbrev pub references_of : List ShownState → List (List TupleRef)
 references_of rows = map (λ row. row.references) rows
 
+-- the list with these rows in the place of its own
 abbrev pub with_rows : ListState → List ShownState → ListState
 with_rows list rows = record list { rows = references_of rows }
