@@ -185,9 +185,6 @@ module _ (tables : Database) (distinct : Bool) (its : Items) (name : List ℕ) (
   abbrev selection : List JoinedColumn → Resolved
   selection cs = resolved.Select distinct (shown_of cs its) (source_of tables cs conditions 0 name) (joins_of tables cs conditions (behind (name ∷ []) joins))
 
-  pub table_missed : misses_table ≡ true → resolved_so ≡ Err NoSuchTable
-  table_missed h = ap (λ b. cond b (Err NoSuchTable) (meaning (checks (named_columns tables names)) (selection (named_columns tables names)))) h
-
   module _ (there : misses_table ≡ false) where
     found_is : resolved_so ≡ meaning (checks (named_columns tables names)) (selection (named_columns tables names))
     found_is = ap (λ b. cond b (Err NoSuchTable) (meaning (checks (named_columns tables names)) (selection (named_columns tables names)))) there

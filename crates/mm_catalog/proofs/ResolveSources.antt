@@ -1,5 +1,5 @@
 -- The conditions of a select, each as a test of its table.
-use Rattle.std.proofs.Common.{◌≡◌, ◌≢◌, ℕ, zero, suc, ◌+◌, ◌≤◌, Bool, true, false, cond, List, [], ◌∷◌, ◌++◌, Some, None, refl, ap, ◌∙◌, map, set, slice_get, arith, append-nil, add-zero}
+use Rattle.std.proofs.Common.{◌≡◌, ◌≢◌, ℕ, zero, suc, ◌+◌, ◌≤◌, Bool, true, false, cond, List, [], ◌∷◌, ◌++◌, Some, refl, ap, ◌∙◌, map, set, slice_get, arith, append-nil, add-zero}
 use Rattle.std.specs.Prelude.{◌==◌, Result, Ok, Err, OnOk}
 use Rattle.std.specs.List.{filter, enumerate_from}
 use Rattle.std.specs.Option.{option_map_or}
@@ -13,7 +13,7 @@ use Rattle.plain_tables.specs.declared.numbers.Place.{Place}
 use Rattle.plain_tables.specs.declared.resolved.Source.{Source}
 use Rattle.mm_catalog.specs.declared.scope.Scope.{Scope}
 use Rattle.mm_catalog.specs.Resolve.{test_at, test_of}
-use Rattle.mm_catalog.specs.Select.{source_on, unjoined, with_test}
+use Rattle.mm_catalog.specs.Select.{source_on, untested, with_test}
 
 pub on_ok : {X E : Type 0} {P Q : Type 0} (r : Result X E) → OnOk r P → (P → Q) → OnOk r Q
 on_ok (Ok x) h f = f h
@@ -30,9 +30,9 @@ other_number : (m n : ℕ) → m ≢ n → (m == n) ≡ false
 other_number m n h = grind (arith, nat_tests)
 
 module _ (columns : List JoinedColumn) where
-  pub unjoined_are : (k : ℕ) (scopes : List Scope) → map unjoined scopes ≡ map (source_on columns []) (enumerate_from k scopes)
-  unjoined_are k [] = refl
-  unjoined_are k (s ∷ ss) = ap (λ sources. unjoined s ∷ sources) (unjoined_are (k + 1) ss)
+  pub untested_are : (k : ℕ) (scopes : List Scope) → map untested scopes ≡ map (source_on columns []) (enumerate_from k scopes)
+  untested_are k [] = refl
+  untested_are k (s ∷ ss) = ap (λ sources. untested s ∷ sources) (untested_are (k + 1) ss)
 
   module _ (given : List Cond) (c : Cond) where
     -- the sources without the condition and with it
@@ -58,9 +58,6 @@ module _ (columns : List JoinedColumn) where
     sources_same k (s ∷ ss) h =
         ap (λ source. source ∷ after (k + 1) ss) (source_same k s (h k (omega arith)))
         ∙ ap (λ sources. source_on columns given (k, s) ∷ sources) (sources_same (k + 1) ss (λ n l. h n (omega arith)))
-
-    pub on_none : place_meant columns c.column ≡ None → (n : ℕ) → is_on_source columns n c ≡ false
-    on_none h n = ap (λ o. option_map_or (λ (p : Place). p.source == n) o false) h
 
     module _ (place : Place) (is : place_meant columns c.column ≡ Some place) where
       on_place : (n : ℕ) → is_on_source columns n c ≡ (place.source == n)

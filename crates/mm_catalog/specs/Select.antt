@@ -56,8 +56,8 @@ select_rest tables scope shown conditions =
 -- ---- sources
 
 -- the source of a table that no condition is on
-abbrev pub unjoined : Scope → Source
-unjoined scope = record { table = scope.table; tests = [] }
+abbrev pub untested : Scope → Source
+untested scope = record { table = scope.table; tests = [] }
 
 -- the source of the table that is joined as the one of a number, with the conditions on it
 abbrev pub source_on : List JoinedColumn → List Cond → ℕ × Scope → Source

@@ -32,7 +32,7 @@ impl Catalog {
     ghost use Rattle.plain_tables.specs.Databases.{table_named};
     ghost use Rattle.plain_tables.specs.Resolving.{select_names, behind, join_columns};
 
-    // Whether a table that a select names isn't there.
+    /// Whether a table that a select names isn't there.
     pub(crate) fn misses_table(&self, table: &Text, joins: &[Join]) -> bool
         ensures { result ≡ list_any (λ name. not (is_some (table_named name (database_of self.now)))) (select_names table.now joins.now) }
     {

@@ -7,7 +7,7 @@ ghost use Rattle.plain_tables.specs.declared.condition.Cond.{Cond as PlainCond};
 ghost use Rattle.plain_tables.specs.Queries.{named_items, place_meant, places_meant};
 ghost use Rattle.plain_tables.specs.Resolving.{shown_of};
 ghost use Rattle.plain_tables.specs.Effects.{misses, condition_names};
-ghost use Rattle.mm_catalog.specs.Select.{with_test, unjoined, joined_by};
+ghost use Rattle.mm_catalog.specs.Select.{with_test, untested, joined_by};
 
 use crate::joined_scope::JoinedScope;
 use crate::scope::{Name, Scope};
@@ -17,7 +17,7 @@ use std::alloc::Global;
 
 // The source of a table that no condition is on.
 fn source(alloc: Global, scope: &Scope<'_>) -> Source
-    ensures { result ≡ unjoined scope.now }
+    ensures { result ≡ untested scope.now }
 {
     Source {
         table: scope.table,
@@ -85,8 +85,8 @@ impl<'a> JoinedScope<'a> {
     }
 
     // The tables as sources that no condition is on.
-    fn unjoined(&self) -> Result<Vec<Source>, NoMemory>
-        ensures { IfOk result (λ sources. sources.items ≡ map unjoined self.now.scopes.items) }
+    fn untested(&self) -> Result<Vec<Source>, NoMemory>
+        ensures { IfOk result (λ sources. sources.items ≡ map untested self.now.scopes.items) }
     {
         let alloc = *self.scopes.allocator();
         let sources = self
@@ -118,7 +118,7 @@ impl<'a> JoinedScope<'a> {
     pub fn sources(&self, conditions: Sequence<Cond>) -> Result<Vec<Source>, NoMemory>
         ensures { IfOk result (λ sources. sources.items ≡ map (source_on (columns_of_all self.now.scopes.items) conditions) (enumerate_from 0 self.now.scopes.items)) }
     {
-        let mut sources = self.unjoined()?;
+        let mut sources = self.untested()?;
         for condition in conditions.into_vec() {
             self.add_condition(sources.as_mut_slice(), condition)?;
         }
