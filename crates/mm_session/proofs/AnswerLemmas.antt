@@ -1,5 +1,5 @@
 -- Answers that are written out, and the effects that they answer.
-use Rattle.std.proofs.Common.{◌≡◌, ℕ, ◌<◌, ◌≤◌, true, false, List, ◌++◌, [], length, refl, sym, subst, ◌∙◌, Result, Ok, Err, OnOk, OnErr, IfErr, ◌⊎◌, inl, inr}
+use Rattle.std.proofs.Common.{◌≡◌, ℕ, ◌<◌, ◌≤◌, true, false, List, [], length, refl, sym, subst, ◌∙◌, Result, Ok, Err, IfErr, ◌⊎◌, inl, inr}
 use Rattle.std.specs.Fmt.{digits}
 use Rattle.std.specs.Str.{IsUtf8}
 use lib.Chars.{codes}
@@ -14,7 +14,7 @@ use Rattle.plain_tables.specs.declared.command.Command.{Command}
 use Rattle.plain_tables.specs.declared.command.Limits.{Limits}
 use Rattle.plain_tables.specs.declared.refusal.Refusal.{Refusal}
 use Rattle.plain_tables.specs.declared.refusal.Refusal.TheVariants.{LineTooLong, NotUtf8, NotACommand, NoMemory}
-use Rattle.mm_session.specs.Answered.{DoesAll, DoesNothing, Obeys, Declines, no_memory, not_a_command, refuses}
+use Rattle.mm_session.specs.Answered.{DoesNothing, Obeys, Declines, no_memory, not_a_command, refuses}
 
 pub answer_text-one : answer_text (Changed 1) ≡ codes "ok 1\n"
 unfolding digits

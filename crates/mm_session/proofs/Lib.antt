@@ -1,12 +1,14 @@
 pub mod AnswerLemmas
 pub mod KeptLemmas
 pub mod ListingLemmas
+pub mod MemberLemmas
 pub mod PerformLemmas
 pub mod PickLemmas
-pub mod ResolvingLemmas
+pub mod PlaceLemmas
+pub mod QueryLemmas
 pub mod ResultLemmas
+pub mod RisingLemmas
 pub mod RunLemmas
-pub mod ScanLemmas
 pub mod SelectLemmas
-pub mod ShownLemmas
+pub mod ShowLemmas
 pub mod WritingLemmas

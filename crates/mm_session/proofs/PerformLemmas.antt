@@ -1,20 +1,17 @@
 -- What is done to a catalog, and the effect of the command that it is.
-use Rattle.std.proofs.Common.{◌≡◌, ℕ, List, ◌++◌, Some, Ok, Err, refl, sym, ap, ◌∙◌, inl, inr, Result, OnOk, OnErr, IfErr}
-use Rattle.std.specs.List.{slice_get}
+use Rattle.std.proofs.Common.{◌≡◌, ℕ, List, ◌++◌, Ok, Err, refl, sym, ap, ◌∙◌, inl, inr, Result, OnErr, IfErr}
 use lib.Chars.{codes}
 use Rattle.plain_tables.specs.AnswerText.{answer_text}
-use Rattle.plain_tables.specs.Tables.{Table}
 use Rattle.plain_tables.specs.Databases.{Database}
 use Rattle.plain_tables.specs.Effects.{Effect, Outcome, Done, Changed, Refused}
 use Rattle.plain_tables.specs.Runs.{refused}
 use Rattle.plain_tables.specs.Resolving.{resolved_of}
 use Rattle.plain_tables.specs.Doing.{done}
-use Rattle.plain_tables.specs.ResolvedLaws.{IsMeant, OfTable, KeepsIfRefused}
+use Rattle.plain_tables.specs.ResolvedLaws.{IsMeant, KeepsIfRefused}
 use Rattle.plain_tables.proofs.ChangeLemmas.{refused_keeps}
 use Rattle.plain_tables.specs.declared.command.Command.{Command}
 use Rattle.plain_tables.specs.declared.command.Limits.{Limits}
 use Rattle.plain_tables.specs.declared.refusal.Refusal.{Refusal}
-use Rattle.plain_tables.specs.declared.refusal.Refusal.TheVariants.{NoMemory}
 use Rattle.plain_tables.specs.declared.numbers.ColumnNumber.{ColumnNumber}
 use Rattle.plain_tables.specs.declared.numbers.TableNumber.{TableNumber}
 use Rattle.plain_tables.specs.declared.schema.IndexKind.{IndexKind}

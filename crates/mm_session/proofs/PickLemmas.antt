@@ -1,41 +1,42 @@
--- The rows of a table that pass are those that are picked: each is held, each comes once, and their values are the picked rows.
-use Rattle.std.proofs.Common.{◌≡◌, ◌≢◌, ℕ, ◌<◌, Bool, true, false, cond, List, [], ◌∷◌, Some, IsSome, IsTrue, refl, sym, ap, ◌∙◌, subst, arith, length, map, filter, get_or, is_some}
+-- The rows of a table that a plan found are those that are picked: each is held, and each comes once.
+use Rattle.std.proofs.Common.{◌≡◌, ◌≢◌, ℕ, true, List, [], ◌∷◌, ◌++◌, Option, Some, None, IsSome, IsTrue, refl, sym, ap, ◌∙◌, subst, map, get_or, arith}
 use Rattle.std.proofs.lemmas.Cmp.{tied_itself}
-use Rattle.std.proofs.lemmas.List.{length-map}
-use Rattle.std.proofs.lemmas.List.Elements.{All-filter}
 use Rattle.std.proofs.lemmas.List.Kept.{AllPairs-filter}
-use Rattle.std.specs.List.{All, AllPairs, Contains, slice_get}
-use Rattle.std.proofs.lemmas.Option.{slice_get_within, same_Some}
+use Rattle.std.proofs.lemmas.Option.{same_Some, slice_get_within}
+use Rattle.std.specs.List.{All, AllPairs, Contains, slice_get, flat_map}
 use Rattle.std.specs.FinMap as finite
 use Rattle.std.specs.Cmp.{IsTotalOrder}
 use Rattle.std.specs.declared.cmp.Ordering.{Ordering}
 use Rattle.std.specs.declared.cmp.Ordering.TheVariants.{Less, Equal}
 use Rattle.part_raw.specs.declared.tuple_ref.TupleRef.{TupleRef}
+use Rattle.mm_index.specs.Bag.{IsSameBag}
 use Rattle.mm_index.specs.Order.{IsRising}
+use Rattle.mm_index.proofs.Bags.{IsSameBag-sym}
+use Rattle.mm_index.proofs.Distinct.{AllPairs-same_bag}
+use Rattle.mm_index.proofs.Refs.{Contains-same_refs}
+use Rattle.part_raw.specs.TupleRefs.{ref_cmp}
+use Rattle.part_raw.proofs.Refs.{ref_cmp_total}
+use Rattle.part_raw.proofs.Tuples.{same_ref_self, same_ref_true}
+use Rattle.std.specs.Cmp.{eq_by_cmp_equiv}
+use Rattle.std.specs.Ordering.{eq_by_cmp}
+use Rattle.std.proofs.lemmas.List.Concat.{flat_map-cons}
 use Rattle.mm_index.proofs.Members.{Contains-filter, Contains-from_filter}
-use Rattle.plain_tables.specs.Tables.{Table, Row}
-use Rattle.plain_tables.specs.Doing.{passes_all, picked}
-use Rattle.plain_tables.specs.ResolvedLaws.{OfTable, AreTests}
-use Rattle.plain_tables.specs.declared.numbers.TableNumber.{TableNumber}
+use Rattle.plain_tables.specs.Tables.{Table}
+use Rattle.plain_tables.specs.Doing.{passes_all}
+use Rattle.plain_tables.specs.ResolvedLaws.{AreTests}
 use Rattle.plain_tables.specs.declared.resolved.Test.{Test}
 use Rattle.mm_relation.specs.Order.{column_cmp, column_cmp_total}
 use Rattle.mm_relation.specs.State.{RelationState, no_keys}
 use Rattle.mm_catalog.specs.State.{CatalogState}
-use Rattle.mm_catalog.specs.Seen.{database_of, table_of, rows_of, values_of}
-use Rattle.mm_catalog.specs.Consistent.{IsConsistent, IsAmong}
-use Rattle.mm_catalog.specs.Picked.{ArePicked, seen_values}
-use Rattle.mm_catalog.proofs.Declared.{among_at, there_at, named_at, table_at}
-use Rattle.mm_catalog.proofs.Lists.{get_within}
-use Rattle.mm_session.specs.Passing.{HasColumns, ArePassing, row_passes, passing_in}
-
--- what is made of those that pass is what passes of what is made of all
-pub map_passing : {A B : Type 0} (f : A → B) (p : B → Bool) (xs : List A) → map f (filter (λ x. p (f x)) xs) ≡ filter p (map f xs)
-map_passing f p [] = refl
-map_passing f p (x ∷ xs) =
-    elim (p (f x)) as (λ b. map f (cond b (x ∷ filter (λ y. p (f y)) xs) (filter (λ y. p (f y)) xs)) ≡ cond b (f x ∷ filter p (map f xs)) (filter p (map f xs))) [
-      | true ↦ ap (λ ys. f x ∷ ys) (map_passing f p xs)
-      | false ↦ map_passing f p xs
-    ]
+use Rattle.mm_catalog.specs.Seen.{database_of}
+use Rattle.mm_catalog.specs.Consistent.{IsConsistent}
+use Rattle.mm_catalog.specs.Picked.{seen_values}
+use Rattle.mm_catalog.proofs.Declared.{among_at}
+use Rattle.temp_list.specs.Reading.{HasColumns, row_passes, passing}
+use Rattle.join_ops.proofs.BagLemmas.{IsSameBag-flat_map}
+use Rattle.join_ops.proofs.SideLemmas.{All-same_bag}
+use Rattle.mm_session.specs.Passing.{ArePassing}
+use Rattle.mm_session.proofs.MemberLemmas.{passing_held, passes_seen, width_same}
 
 -- a list that rises repeats nothing
 rising_apart : {A : Type 0} (cmp : A → A → Ordering) → IsTotalOrder cmp → (xs : List A) → IsRising cmp xs → AllPairs (λ a b. a ≢ b) xs
@@ -45,46 +46,78 @@ rising_apart cmp total xs rises i j d before within same =
     let no : Less ≡ Equal = sym below ∙ level in
     cc
 
-module _ (c : CatalogState) (ok : IsConsistent c) (n : ℕ) where
-  -- the columns of tests on a table are those of its relation
-  pub has_columns : (tests : List Test) (table : Table) → slice_get (database_of c) n ≡ Some table → AreTests (database_of c) table tests → (s : RelationState) → slice_get c.relations n ≡ Some s → HasColumns s tests
-  unfolding table_of
-  has_columns tests table at are s there =
-      let name = named_at c ok n (there_at c ok n table at) in
-      let columns = ap (λ (t : Table). length t.columns) (table_at c ok n name.0 s table name.1 there at) in
-      λ k d l. let of = are k d l in omega (arith, columns, slice_get_within table.columns (get_or tests k d).column.0 of.0 of.1)
+-- ---- the references of a list of one source
 
-  module _ (tests : List Test) (s : RelationState) (there : slice_get c.relations n ≡ Some s) where
-    one : (t : RelationState) → slice_get c.relations n ≡ Some t → s ≡ t
-    one t at = same_Some s t (sym there ∙ at)
+-- an element, if there is one
+abbrev if_any : {A : Type 0} → Option A → List A
+if_any None = []
+if_any (Some x) = x ∷ []
 
-    among : IsAmong c.names c.relations s
-    among = among_at c ok n s there
+abbrev behind : {A : Type 0} → List A → List A
+behind [] = []
+behind (x ∷ xs) = xs
 
-    held : All (λ r. IsSome (finite.get s.rows r)) (passing_in c tests s)
-    held = All-filter (row_passes c tests s) (λ r. IsSome (finite.get s.rows r)) s.by_key among.kept.keyed.lists.held
+gathered : {A B : Type 0} (g : A → Option B) (bs : List B) (xs : List A) → map (λ b. Some b) bs ≡ map g xs → bs ≡ flat_map (λ x. if_any (g x)) xs
+gathered g [] [] e = refl
+gathered g [] (x ∷ xs) e = cc
+gathered g (b ∷ bs) [] e = cc
+gathered {A} {B} g (b ∷ bs) (x ∷ xs) e =
+    let head : Some b ≡ g x = same_Some (Some b) (g x) (ap (λ (os : List (Option B)). slice_get os 0) e) in
+    ap (λ cs. b ∷ cs) (gathered g bs xs (ap behind e))
+    ∙ ap (λ o. if_any o ++ flat_map (λ y. if_any (g y)) xs) head
+    ∙ sym (flat_map-cons (λ y. if_any (g y)) x xs)
 
-    picks : (r : TupleRef) → IsSome (finite.get s.rows r)
-        → (Contains (passing_in c tests s) r → IsTrue (passes_all tests (seen_values c s r))) × (IsTrue (passes_all tests (seen_values c s r)) → Contains (passing_in c tests s) r)
-    picks r there = (
-      λ inside. (Contains-from_filter (row_passes c tests s) s.by_key r inside).1,
-      λ passes. Contains-filter (row_passes c tests s) s.by_key r (among.kept.keyed.lists.listed r there) passes,
-    )
+firsts : (refs : List TupleRef) → flat_map (λ (row : List TupleRef). if_any (slice_get row 0)) (map (λ r. r ∷ []) refs) ≡ refs
+firsts [] = refl
+firsts (r ∷ refs) =
+    flat_map-cons (λ (row : List TupleRef). if_any (slice_get row 0)) (r ∷ []) (map (λ q. q ∷ []) refs) ∙ ap (λ qs. r ∷ qs) (firsts refs)
 
-    values : (table : Table) → slice_get (database_of c) n ≡ Some table → map (seen_values c s) (passing_in c tests s) ≡ picked (passes_all tests) table
-    unfolding table_of rows_of
-    values table at =
-        let name = named_at c ok n (there_at c ok n table at) in
-        map_passing (seen_values c s) (passes_all tests) s.by_key
-        ∙ ap (λ (t : Table). picked (passes_all tests) t) (sym (table_at c ok n name.0 s table name.1 there at))
+-- they are those of the bag
+pub found_bag : (refs found : List TupleRef) (rows : List (List TupleRef)) → map (λ r. Some r) refs ≡ map (λ row. slice_get row 0) rows → IsSameBag rows (map (λ r. r ∷ []) found) → IsSameBag refs found
+found_bag refs found rows read bag =
+    subst (λ (qs : List TupleRef). IsSameBag refs qs) (firsts found)
+    (subst (λ (qs : List TupleRef). IsSameBag qs (flat_map (λ (row : List TupleRef). if_any (slice_get row 0)) (map (λ r. r ∷ []) found))) (sym (gathered (λ (row : List TupleRef). slice_get row 0) refs rows read))
+    (IsSameBag-flat_map (λ (row : List TupleRef). if_any (slice_get row 0)) bag))
 
-    pub are_passing : ArePassing c n tests (passing_in c tests s)
-    are_passing = record {
-      held = λ t at. subst (λ (u : RelationState). All (λ r. IsSome (finite.get u.rows r)) (passing_in c tests s)) (one t at) held;
-      once = AllPairs-filter (λ (q : TupleRef) (r : TupleRef). q ≢ r) (row_passes c tests s) s.by_key
-          (rising_apart (column_cmp no_keys 0 s.rows) (column_cmp_total no_keys 0 s.rows) s.by_key among.kept.keyed.rising);
-      picks = λ t r at. subst (λ (u : RelationState). IsSome (finite.get u.rows r)
-          → (Contains (passing_in c tests s) r → IsTrue (passes_all tests (seen_values c u r))) × (IsTrue (passes_all tests (seen_values c u r)) → Contains (passing_in c tests s) r))
-          (one t at) (picks r);
-      values = λ table t at of. subst (λ (u : RelationState). map (seen_values c u) (passing_in c tests s) ≡ picked (passes_all tests) table) (one t of) (values table at);
-    }
+-- ---- the rows that pass
+
+-- a bag of references that repeats nothing repeats nothing in another order
+apart_bag : (xs ys : List TupleRef) → IsSameBag xs ys → AllPairs (λ a b. a ≢ b) xs → AllPairs (λ a b. a ≢ b) ys
+apart_bag xs ys bag apart = AllPairs-same_bag (eq_by_cmp ref_cmp) (λ a b. (same_ref_true a b, λ e. subst (λ r. eq_by_cmp ref_cmp a r ≡ true) e (same_ref_self a))) (eq_by_cmp_equiv ref_cmp_total) xs ys bag apart
+
+module _ (c : CatalogState) (ok : IsConsistent c) (n : ℕ) (table : Table) (at : slice_get (database_of c) n ≡ Some table) (tests : List Test) (s : RelationState) (there : slice_get c.relations n ≡ Some s) (columns : HasColumns s tests)
+    (refs : List TupleRef) (bag : IsSameBag refs (passing c.relations s tests)) where
+  held : All (λ r. IsSome (finite.get s.rows r)) refs
+  held = All-same_bag (λ r. IsSome (finite.get s.rows r)) refs (passing c.relations s tests) bag (passing_held c ok n table at s there tests)
+
+  listed_apart : AllPairs (λ q r. q ≢ r) (passing c.relations s tests)
+  listed_apart =
+      AllPairs-filter (λ (q : TupleRef) (r : TupleRef). q ≢ r) (row_passes c.relations s tests) s.by_key
+      (rising_apart (column_cmp no_keys 0 s.rows) (column_cmp_total no_keys 0 s.rows) s.by_key (among_at c ok n s there).kept.keyed.rising)
+
+  picked_so : (r : TupleRef) → IsSome (finite.get s.rows r)
+      → (Contains refs r → IsTrue (passes_all tests (seen_values c s r))) × (IsTrue (passes_all tests (seen_values c s r)) → Contains refs r)
+  picked_so r here = (
+    λ inside. sym (passes_seen c s r here tests columns) ∙ (Contains-from_filter (row_passes c.relations s tests) s.by_key r (Contains-same_refs refs (passing c.relations s tests) r bag inside)).1,
+    λ passes. Contains-same_refs (passing c.relations s tests) refs r (IsSameBag-sym bag)
+        (Contains-filter (row_passes c.relations s tests) s.by_key r ((among_at c ok n s there).kept.keyed.lists.listed r here) (passes_seen c s r here tests columns ∙ passes)),
+  )
+
+  one : (t : RelationState) → slice_get c.relations n ≡ Some t → s ≡ t
+  one t e = same_Some s t (sym there ∙ e)
+
+  pub are_passing : ArePassing c n tests refs
+  are_passing = record {
+    held = λ t e. subst (λ (u : RelationState). All (λ r. IsSome (finite.get u.rows r)) refs) (one t e) held;
+    once = apart_bag (passing c.relations s tests) refs (IsSameBag-sym bag) listed_apart;
+    picks = λ t r e. subst (λ (u : RelationState). IsSome (finite.get u.rows r)
+        → (Contains refs r → IsTrue (passes_all tests (seen_values c u r))) × (IsTrue (passes_all tests (seen_values c u r)) → Contains refs r))
+        (one t e) (picked_so r);
+  }
+
+-- the columns of tests on a table are those of its relation
+pub test_columns : (c : CatalogState) (ok : IsConsistent c) (n : ℕ) (table : Table) → slice_get (database_of c) n ≡ Some table → (tests : List Test) → AreTests (database_of c) table tests
+    → (s : RelationState) → slice_get c.relations n ≡ Some s → HasColumns s tests
+test_columns c ok n table at tests are s there =
+    let same = width_same c ok n table at s there in
+    λ k d l. let is = are k d l in omega (arith, same, slice_get_within table.columns (get_or tests k d).column.0 is.0 is.1)

@@ -1,8 +1,10 @@
 pub mod Answered
 pub mod Kept
 pub mod Listing
+pub mod Members
 pub mod Passing
 pub mod Performed
+pub mod Query
 pub mod Sessions
 pub mod Shown
 pub mod WholeRuns

@@ -10,10 +10,10 @@ ghost use Rattle.mm_catalog.specs.Changes.{IsRefusedFor};
 ghost use Rattle.plain_tables.specs.Commands.{effect_of};
 ghost use Rattle.mm_session.specs.Answered.{DoesAll, DoesNothing};
 ghost use Rattle.mm_session.specs.Performed.{HasPerformed};
-ghost use Rattle.mm_session.specs.Shown.{ShowsSome};
 
 mod listing;
-mod scan;
+mod query;
+mod search;
 mod select;
 
 use crate::answer::Answer;
@@ -21,7 +21,9 @@ use crate::records::push_changed;
 use listing::list_tables;
 use mm_catalog::Catalog;
 use plain_tables::{Assignment, Command, Refusal, Resolved, Sequence, TableNumber, Test};
-use scan::rows_passing;
+use plan_chooser::Policy;
+use query::Query;
+use search::rows_passing;
 use select::select;
 use std::alloc::Global;
 
@@ -34,6 +36,7 @@ const OK_ONE: &[u8] = b"ok 1\n";
 fn update(
     alloc: Global,
     catalog: &mut Catalog,
+    policy: Policy,
     table: TableNumber,
     assignments: Sequence<Assignment>,
     tests: &[Test],
@@ -43,7 +46,7 @@ fn update(
     ensures done { OnOk result (HasPerformed catalog.old catalog.new (done catalog.old.limits (database_of catalog.old) (resolved.Update table assignments tests.now)) answer.old answer.new) }
     ensures refused { IfErr result (IsRefusedFor catalog.old catalog.new (done catalog.old.limits (database_of catalog.old) (resolved.Update table assignments tests.now))) }
 {
-    let rows = rows_passing(alloc, catalog, table, tests)?;
+    let rows = rows_passing(alloc, catalog, policy, table, tests)?;
     push_changed(answer, rows.len())?;
     catalog.update(table, &rows, assignments)
 }
@@ -52,6 +55,7 @@ fn update(
 fn delete(
     alloc: Global,
     catalog: &mut Catalog,
+    policy: Policy,
     table: TableNumber,
     tests: &[Test],
     answer: &mut Answer,
@@ -60,7 +64,7 @@ fn delete(
     ensures done { OnOk result (HasPerformed catalog.old catalog.new (done catalog.old.limits (database_of catalog.old) (resolved.Delete table tests.now)) answer.old answer.new) }
     ensures refused { IfErr result (IsRefusedFor catalog.old catalog.new (done catalog.old.limits (database_of catalog.old) (resolved.Delete table tests.now))) }
 {
-    let rows = rows_passing(alloc, catalog, table, tests)?;
+    let rows = rows_passing(alloc, catalog, policy, table, tests)?;
     push_changed(answer, rows.len())?;
     catalog.delete(table, &rows)
 }
@@ -69,11 +73,11 @@ fn delete(
 fn perform(
     alloc: Global,
     catalog: &mut Catalog,
+    policy: Policy,
     command: Resolved,
     answer: &mut Answer,
 ) -> Result<(), Refusal>
-    requires meant { IsMeant catalog.old.limits (database_of catalog.old) command }
-    requires some { ShowsSome command }
+    requires { IsMeant catalog.old.limits (database_of catalog.old) command }
     ensures done { OnOk result (HasPerformed catalog.old catalog.new (done catalog.old.limits (database_of catalog.old) command) answer.old answer.new) }
     ensures refused { IfErr result (IsRefusedFor catalog.old catalog.new (done catalog.old.limits (database_of catalog.old) command)) }
 {
@@ -110,15 +114,32 @@ fn perform(
             table,
             assignments,
             tests,
-        } => update(alloc, catalog, table, assignments, tests.as_slice(), answer)?,
+        } => update(
+            alloc,
+            catalog,
+            policy,
+            table,
+            assignments,
+            tests.as_slice(),
+            answer,
+        )?,
         Resolved::Delete { table, tests } => {
-            delete(alloc, catalog, table, tests.as_slice(), answer)?
+            delete(alloc, catalog, policy, table, tests.as_slice(), answer)?
         }
         Resolved::Select {
+            distinct,
             shown,
-            table,
-            tests,
-        } => select(alloc, catalog, &shown, table, tests.as_slice(), answer)?,
+            source,
+            joins,
+        } => {
+            let query = Query {
+                distinct,
+                shown: &shown,
+                source: &source,
+                joins: joins.as_slice(),
+            };
+            select(alloc, catalog, policy, &query, answer)?
+        }
         Resolved::Tables => list_tables(alloc, catalog, answer)?,
     }
     Ok(())
@@ -130,6 +151,7 @@ fn perform(
 pub fn execute(
     alloc: Global,
     catalog: &mut Catalog,
+    policy: Policy,
     command: Command,
     answer: &mut Answer,
 ) -> Result<(), Refusal>
@@ -139,5 +161,5 @@ pub fn execute(
     ensures limits { catalog.new.limits ≡ catalog.old.limits }
 {
     let resolved = catalog.resolve(command)?;
-    perform(alloc, catalog, resolved, answer)
+    perform(alloc, catalog, policy, resolved, answer)
 }

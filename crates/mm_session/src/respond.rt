@@ -13,6 +13,7 @@ use crate::records::push_refusal;
 use mm_catalog::Catalog;
 use mm_lang::{ParseRefusal, parse};
 use plain_tables::Refusal;
+use plan_chooser::Policy;
 use std::alloc::Global;
 
 // The greatest number of bytes that a line may have.
@@ -39,6 +40,7 @@ fn refuse(answer: &mut Answer, refusal: Refusal)
 fn obey(
     alloc: Global,
     catalog: &mut Catalog,
+    policy: Policy,
     line: &str,
     answer: &mut Answer,
 ) -> Result<(), Refusal>
@@ -52,11 +54,17 @@ fn obey(
         Err(ParseRefusal::Syntax) => return Err(Refusal::NotACommand),
         Err(ParseRefusal::NoMemory) => return Err(Refusal::NoMemory),
     };
-    execute(alloc, catalog, command, answer)
+    execute(alloc, catalog, policy, command, answer)
 }
 
 /// Answers a line that has ended. A silent line has the empty answer.
-pub fn respond(alloc: Global, catalog: &mut Catalog, line: &[u8], answer: &mut Answer)
+pub fn respond(
+    alloc: Global,
+    catalog: &mut Catalog,
+    policy: Policy,
+    line: &[u8],
+    answer: &mut Answer,
+)
     ensures answers { Answers catalog.old.limits (database_of catalog.old) (without_return line.now) answer.new (database_of catalog.new) }
     ensures limits { catalog.new.limits ≡ catalog.old.limits }
 {
@@ -73,7 +81,7 @@ pub fn respond(alloc: Global, catalog: &mut Catalog, line: &[u8], answer: &mut A
     if is_silent(line) {
         return;
     }
-    if let Err(refusal) = obey(alloc, catalog, text, answer) {
+    if let Err(refusal) = obey(alloc, catalog, policy, text, answer) {
         refuse(answer, refusal);
     }
 }

@@ -9,12 +9,14 @@ use crate::answer::Answer;
 use crate::kept::LineBuffer;
 use crate::respond::{LINE_TOO_LONG, respond};
 use mm_catalog::Catalog;
+use plan_chooser::Policy;
 use std::alloc::Global;
 
 /// Answers the line of which the front is kept and `tail` is the end. What is kept is of no use then.
 pub fn respond_kept(
     alloc: Global,
     catalog: &mut Catalog,
+    policy: Policy,
     kept: &mut LineBuffer,
     tail: &[u8],
     answer: &mut Answer,
@@ -23,11 +25,11 @@ pub fn respond_kept(
     ensures limits { catalog.new.limits ≡ catalog.old.limits }
 {
     if kept.is_empty() {
-        return respond(alloc, catalog, tail, answer);
+        return respond(alloc, catalog, policy, tail, answer);
     }
     kept.extend(tail);
     match kept.line() {
-        Some(line) => respond(alloc, catalog, line, answer),
+        Some(line) => respond(alloc, catalog, policy, line, answer),
         None => answer.set(LINE_TOO_LONG),
     }
 }

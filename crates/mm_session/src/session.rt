@@ -89,6 +89,7 @@ impl Session {
         respond_kept(
             self.alloc,
             &mut self.catalog,
+            self.policy,
             &mut self.kept,
             tail,
             &mut self.answer,
@@ -147,6 +148,7 @@ impl Session {
         respond_kept(
             self.alloc,
             &mut self.catalog,
+            self.policy,
             &mut self.kept,
             &[],
             &mut self.answer,

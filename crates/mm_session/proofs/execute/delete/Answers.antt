@@ -1,7 +1,6 @@
 use Rattle.std.proofs.Common.{◌≡◌, ◌∙◌, ◌++◌, ap, sym, subst, length, inr, rules}
 use Rattle.std.proofs.lemmas.Result.{on_ok_weaker, IfErr-weaker}
 use Rattle.std.proofs.lemmas.Option.{slice_get_within}
-use Rattle.part_raw.specs.declared.tuple_ref.TupleRef.{TupleRef}
 use Rattle.plain_tables.specs.AnswerText.{answer_text}
 use Rattle.plain_tables.specs.Doing.{passes_all}
 use Rattle.plain_tables.specs.Effects.{Changed}

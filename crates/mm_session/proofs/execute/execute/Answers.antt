@@ -3,17 +3,12 @@ use Rattle.plain_tables.proofs.GivenLemmas.{spellable_are_given}
 use Rattle.plain_tables.proofs.ResolvedLemmas.{resolved_are_meant}
 use Rattle.mm_catalog.specs.Seen.{database_of}
 use Rattle.mm_session.proofs.PerformLemmas.{does_nothing_resolved}
-use Rattle.mm_session.proofs.ResolvingLemmas.{shows_some}
 use Rattle.mm_session.proofs.execute.execute.Goals as goal
 
-pub perform-requires-clause-meant : goal.perform-requires-clause-meant
-perform-requires-clause-meant c =
+pub perform-requires : goal.perform-requires
+perform-requires c =
     resolved_are_meant c.args.catalog.now.limits (database_of c.args.catalog.now) c.args.command c.in_ok-resolved.resolved
     (spellable_are_given c.args.command c.requires) c.in_ok-resolved.ensures.meant
-
-pub perform-requires-clause-some : goal.perform-requires-clause-some
-perform-requires-clause-some c =
-    shows_some (database_of c.args.catalog.now) c.args.command c.in_ok-resolved.resolved c.requires c.in_ok-resolved.ensures.meant
 
 pub returns-clause-err : goal.returns-clause-err
 returns-clause-err c =

@@ -1,9 +1,7 @@
-use Rattle.std.proofs.Common.{◌≡◌, ◌∙◌, ◌++◌, sym, ap, subst}
+use Rattle.std.proofs.Common.{◌∙◌, ◌++◌, sym, ap, subst}
 use Rattle.plain_tables.specs.ResolvedLaws.{IsMeant}
 use Rattle.plain_tables.specs.declared.resolved.Resolved.TheVariants as resolved
-use Rattle.plain_tables.specs.Effects.{Changed}
 use Rattle.mm_catalog.specs.Seen.{database_of}
-use Rattle.mm_session.specs.Shown.{ShowsSome}
 use Rattle.mm_session.proofs.AnswerLemmas.{answer_text-one}
 use Rattle.mm_session.proofs.PerformLemmas.{performed_effect}
 use Rattle.mm_session.proofs.execute.perform.Goals as goal
@@ -11,21 +9,17 @@ use Rattle.mm_session.proofs.execute.perform.Goals as goal
 pub update-requires : goal.update-requires
 update-requires c =
     subst (λ tests. IsMeant c.args.catalog.now.limits (database_of c.args.catalog.now) (resolved.Update c.in-Update.table c.in-Update.assignments tests)) (sym c.as_slice.ensures)
-    (rw c.in-Update.is at c.requires.meant)
+    (rw c.in-Update.is at c.requires)
 
 pub delete-requires : goal.delete-requires
 delete-requires c =
     subst (λ tests. IsMeant c.args.catalog.now.limits (database_of c.args.catalog.now) (resolved.Delete c.in-Delete.table tests)) (sym c.as_slice-in-Delete.ensures)
-    (rw c.in-Delete.is at c.requires.meant)
+    (rw c.in-Delete.is at c.requires)
 
-pub select-requires-clause-meant : goal.select-requires-clause-meant
-select-requires-clause-meant c =
-    subst (λ tests. IsMeant c.args.catalog.now.limits (database_of c.args.catalog.now) (resolved.Select c.in-Select.shown c.in-Select.table tests)) (sym c.as_slice-in-Select.ensures)
-    (rw c.in-Select.is at c.requires.meant)
-
-pub select-requires-clause-some : goal.select-requires-clause-some
-select-requires-clause-some c =
-    subst (λ tests. ShowsSome (resolved.Select c.in-Select.shown c.in-Select.table tests)) (sym c.as_slice-in-Select.ensures) (rw c.in-Select.is at c.requires.some)
+pub select-requires : goal.select-requires
+select-requires c =
+    subst (λ joins. IsMeant c.args.catalog.now.limits (database_of c.args.catalog.now) (resolved.Select c.in-Select.distinct c.in-Select.shown c.in-Select.source joins)) (sym c.as_slice-in-Select.ensures)
+    (rw c.in-Select.is at c.requires)
 
 pub returns-in_ok-insert-in-Insert-clause-done : goal.returns-in_ok-insert-in-Insert-clause-done
 returns-in_ok-insert-in-Insert-clause-done c =

@@ -1,10 +1,8 @@
 use Rattle.std.proofs.Common.{◌≡◌, ◌∙◌, ◌++◌, ap, sym, subst, length, inl, inr, rules}
 use Rattle.std.proofs.lemmas.Result.{on_ok_weaker, IfErr-weaker}
-use Rattle.part_raw.specs.declared.tuple_ref.TupleRef.{TupleRef}
 use Rattle.plain_tables.specs.AnswerText.{answer_text}
 use Rattle.plain_tables.specs.Doing.{passes_all}
 use Rattle.plain_tables.specs.Effects.{Changed}
-use Rattle.mm_catalog.specs.Seen.{database_of}
 use Rattle.mm_session.specs.Passing.{ArePassing}
 use Rattle.mm_session.proofs.PerformLemmas.{performed_effect, refused_unchanged}
 use Rattle.mm_session.proofs.execute.update.Goals as goal
