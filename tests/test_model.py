@@ -28,6 +28,8 @@ insert e (1, 1, 'a')
 insert e (2, 2, null)
 """
 COLUMNS_OF = {"t": ["id", "n", "m"], "u": ["id", "n"], "e": ["id", "t", "u"]}
+INTEGERS_OF = {"t": ["id", "n"], "u": ["n"], "e": ["id", "t"]}
+TEXTS_OF = {"t": ["m"], "u": ["id"], "e": ["u"]}
 
 
 def separated(draw, items, between=","):
@@ -69,6 +71,30 @@ def conditions(draw, table):
     return " where " + " and ".join(condition(draw, table) for _ in range(count)) if count else ""
 
 
+def join(draw, tables):
+    """A join of one table more, which joins the list of tables."""
+    table = rarely(draw, [other for other in COLUMNS_OF if other not in tables] or NAMES, NAMES)
+    outer = draw.choice(tables)
+    columns = rarely(draw, [INTEGERS_OF, INTEGERS_OF, TEXTS_OF], [COLUMNS_OF])
+    sides = [f"{other}.{draw.choice(columns.get(other, COLUMNS))}" for other in (table, outer)]
+    tables.append(table)
+    return f" join {table} on " + separated(draw, draw.sample(sides, 2), draw.choice([" = ", "="]))
+
+
+def select_of_joins(draw, name):
+    """A select of several tables, whose columns are mostly named with their tables."""
+    tables = [name]
+    joins = "".join(join(draw, tables) for _ in range(draw.choice([1, 1, 1, 2, 2, 3, 4])))
+
+    def named():
+        table = draw.choice(tables)
+        return own_column(draw, table) if draw.random() < 0.1 else f"{table}.{own_column(draw, table)}"
+
+    shown = "*" if draw.random() < 0.4 else ", ".join(named() for _ in range(draw.choice([1, 1, 2, 3])))
+    tests = " and ".join(f"{named()} {draw.choice(SIGNS)} {value(draw)}" for _ in range(draw.choice([0, 0, 1, 1, 2])))
+    return f"{shown} from {name}{joins}" + (f" where {tests}" if tests else "")
+
+
 def declaration(draw):
     columns = draw.sample(COLUMNS, draw.randrange(1, 4)) if draw.random() < 0.9 else ["id", "n", "id"]
     kinds = [rarely(draw, KINDS[:3], KINDS), *(draw.choice(KINDS) for _ in columns[1:])]
@@ -101,7 +127,7 @@ def row(draw, name):
 def command(draw):
     """A command, which may be wrong in many ways."""
     name = rarely(draw, NAMES[:3], NAMES, 0.2)
-    kind = draw.choice(["table", *["insert"] * 6, "update", "update", "delete", "select", "select", "index", "tables", "noise"])
+    kind = draw.choice(["table", *["insert"] * 6, "update", "update", "delete", *["select"] * 4, "index", "index", "tables", "noise"])
     if kind == "table":
         return f"table {name} ({declaration(draw)})" if draw.random() < 0.8 else f"drop table {name}"
     if kind == "index":
@@ -116,7 +142,10 @@ def command(draw):
     if kind == "delete":
         return f"delete {name}{conditions(draw, name)}"
     if kind == "select":
-        return f"select {items(draw, name)} from {name}{conditions(draw, name)}"
+        words = "select distinct" if draw.random() < 0.3 else "select"
+        if draw.random() < 0.5:
+            return f"{words} {select_of_joins(draw, name)}"
+        return f"{words} {items(draw, name)} from {name}{conditions(draw, name)}"
     return draw.choice(NOISE)
 
 
