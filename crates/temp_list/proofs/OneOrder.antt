@@ -1,5 +1,5 @@
 -- Two lists of one bag that rise are one list.
-use Rattle.std.proofs.Common.{◌≡◌, ℕ, zero, suc, ◌+◌, ◌<◌, ◌≤◌, Bool, true, false, List, [], ◌∷◌, Option, Some, IsSome, length, map, get_or, refl, sym, ap, ◌∙◌, subst, arith, add-one, Ordering}
+use Rattle.std.proofs.Common.{◌≡◌, ℕ, suc, ◌+◌, ◌<◌, Bool, true, false, List, [], ◌∷◌, Some, IsSome, length, get_or, refl, sym, ap, ◌∙◌, subst, arith, add-one, Ordering}
 use Rattle.std.specs.Prelude.{slice_get}
 use Rattle.std.specs.Bool.{Decides}
 use Rattle.std.specs.List.{All, Contains}
@@ -24,7 +24,7 @@ use Rattle.mm_relation.specs.Order.{option_exact}
 use Rattle.mm_relation.specs.Reading.{key_at}
 use Rattle.mm_relation.specs.State.{RelationState}
 use Rattle.temp_list.specs.Reading.{AreSound}
-use Rattle.temp_list.specs.Lists.{ListState, IsOver, IsRowOver, HasPlace, keys_cmp, row_keys, key_in, relation_of}
+use Rattle.temp_list.specs.Lists.{IsRowOver, HasPlace, keys_cmp, row_keys, key_in}
 use Rattle.temp_list.specs.ListLaws.{SortedAreOne, SameAreOver}
 use Rattle.temp_list.proofs.ReadingLemmas.{sound_at}
 use Rattle.temp_list.proofs.SortLemmas.{keys_total}
