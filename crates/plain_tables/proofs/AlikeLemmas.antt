@@ -1,8 +1,9 @@
 -- Declared indexes: of the commands that aren't on them none is resolved by them, and none but a listing reads them.
 use Rattle.std.proofs.Common.{◌≡◌, ◌+◌, ℕ, suc, Bool, false, true, not, map, set, take, drop, List, [], ◌∷◌, ◌++◌, refl, sym, ap, ◌∙◌, subst, Option, Some, None}
-use Rattle.std.specs.Prelude.{Result, Ok, Err, zip, ◌||◌, ◌&&◌}
+use Rattle.std.specs.Prelude.{Result, Ok, Err, ◌||◌, ◌&&◌}
 use Rattle.std.specs.List.{list_any, list_all, slice_get, remove, filter, filter_map, flat_map, cons_option, enumerate_from}
 use Rattle.std.specs.Option.{is_some, option_map, option_map_or, option_and_then}
+use Rattle.std.specs.Result.{result_map_both}
 use Rattle.std.proofs.lemmas.Bool.{false≢true}
 use Rattle.std.proofs.lemmas.List.{length-map, map-set, map_push, map-append, take-map, drop-map}
 use Rattle.std.proofs.lemmas.List.Folds.{flat_map-map}
@@ -11,23 +12,20 @@ use Rattle.plain_tables.specs.Values.{is_null}
 use Rattle.plain_tables.specs.Tables.{Table, Row, has_key_of}
 use Rattle.plain_tables.specs.Databases.{Database, table_named}
 use Rattle.plain_tables.specs.Queries.{JoinedColumn, source_columns, joined_columns, column_meant, sides_meant, full_name}
-use Rattle.plain_tables.specs.Effects.{Effect, Check, Outcome, Refused, Done, checked, setting_name, grown_by, new_table}
-use Rattle.plain_tables.specs.References.{Reference, referred, own_type, key_type, type_of, same_type, has_type, is_typed, references, table_references, is_held, is_to, is_referenced, refers_into, refers_to, is_table_referenced}
-use Rattle.plain_tables.specs.Resolving.{meaning, number_of, on_numbered, own_columns, tests_of, assignments_of, asks_order, mistypes, is_mistyped, has_mistyped, table_checks, drop_checks, insert_checks, update_checks, delete_checks, once, select_names, columns_of, behind, join_columns, differ_in_type, select_checks, joins_of, select_of, resolved_of}
+use Rattle.plain_tables.specs.Effects.{Effect, Check, Outcome, Done, Changed, Rows, Dumped, Listed, Refused, checked, setting_name, grown_by, new_table}
+use Rattle.plain_tables.specs.References.{Reference, referred, key_type, type_of, same_type, is_typed, references, table_references, is_held, is_to, is_referenced, refers_into, refers_to, is_table_referenced}
+use Rattle.plain_tables.specs.Resolving.{meaning, number_of, on_numbered, own_columns, tests_of, assignments_of, asks_order, mistypes, is_mistyped, table_checks, drop_checks, insert_checks, update_checks, delete_checks, once, select_names, columns_of, behind, join_columns, differ_in_type, select_checks, joins_of, select_of, table_reading, load_of, resolved_of}
+use Rattle.plain_tables.specs.CsvReading.{Record}
 use Rattle.plain_tables.specs.Doing as doing
-use Rattle.plain_tables.specs.Doing.{on_table, passes_all, assigned_references, updated, picked, without, with_index, without_index, joined_tables, name_at, headings, done}
+use Rattle.plain_tables.specs.Doing.{on_table, insert, goes_on, loaded, load_effect, load, passes_all, assigned_references, updated, picked, without, with_index, without_index, joined_tables, name_at, headings, done}
 use Rattle.plain_tables.specs.Joining.{Member, source_rows, joined, joined_all, members_of}
 use Rattle.plain_tables.specs.ResolvedLaws.{unindexed, is_on_indexes, shows_indexes, ResolvedAlike, AreDoneAlike, DoneAlike}
 use Rattle.plain_tables.specs.Commands.{effect_of_resolved, effect_of}
 use Rattle.plain_tables.specs.CommandLaws.{IndexesAreNotRead}
 use Rattle.plain_tables.specs.declared.value.Value.{Value}
-use Rattle.plain_tables.specs.declared.value.Value.TheVariants as value
 use Rattle.plain_tables.specs.declared.condition.Cond.{Cond}
 use Rattle.plain_tables.specs.declared.refusal.Refusal.{Refusal}
 use Rattle.plain_tables.specs.declared.refusal.Refusal.TheVariants.{NoSuchTable}
-use Rattle.plain_tables.specs.declared.schema.BaseKind.{BaseKind}
-use Rattle.plain_tables.specs.declared.schema.ColKind.{ColKind}
-use Rattle.plain_tables.specs.declared.schema.Column.{Column}
 use Rattle.plain_tables.specs.declared.schema.Schema.{Schema}
 use Rattle.plain_tables.specs.declared.command.Items.{Items}
 use Rattle.plain_tables.specs.declared.command.Join.{Join}
@@ -43,21 +41,14 @@ use Rattle.plain_tables.specs.declared.resolved.Shown.{Shown}
 use Rattle.plain_tables.specs.declared.resolved.Shown.TheVariants as shown
 use Rattle.plain_tables.specs.declared.resolved.Resolved.{Resolved}
 use Rattle.plain_tables.specs.declared.resolved.Resolved.TheVariants as resolved
-use Rattle.plain_tables.proofs.ListLemmas.{map_agree, is_some-option_map}
+use Rattle.plain_tables.proofs.ListLemmas.{any_agree, all_agree, map_agree, is_some-option_map}
 use Rattle.plain_tables.proofs.ResolvedLemmas.{none_shown}
 use Rattle.plain_tables.proofs.IndexLemmas.{bare, named_unindexed, place_unindexed, found_bare, checked_as}
+use Rattle.plain_tables.proofs.TypeLemmas.{AreKeyedAlike, type_alike, typed_alike, row_alike, reading_alike}
 
 -- the tables with no index declared
 abbrev plain : Database → Database
 plain tables = map unindexed tables
-
-any_agree : {X : Type 0} (p q : X → Bool) → ((x : X) → p x ≡ q x) → (xs : List X) → list_any p xs ≡ list_any q xs
-any_agree p q same [] = refl
-any_agree p q same (x ∷ xs) = rw (same x, any_agree p q same xs) refl
-
-all_agree : {X : Type 0} (p q : X → Bool) → ((x : X) → p x ≡ q x) → (xs : List X) → list_all p xs ≡ list_all q xs
-all_agree p q same [] = refl
-all_agree p q same (x ∷ xs) = rw (same x, all_agree p q same xs) refl
 
 cons_option-map : {X Y : Type 0} (f : X → Y) (o : Option X) (xs : List X) → cons_option (option_map f o) (map f xs) ≡ map f (cons_option o xs)
 cons_option-map f None xs = refl
@@ -75,30 +66,14 @@ key_plain : (found : Option Table) → option_and_then key_type (option_map unin
 key_plain None = refl
 key_plain (Some t) = refl
 
-referred_type : (tables : Database) (found : Option (List ℕ)) (own : Option BaseKind)
-    → option_map_or (λ name. option_and_then key_type (table_named name (plain tables))) found own
-    ≡ option_map_or (λ name. option_and_then key_type (table_named name tables)) found own
-referred_type tables None own = refl
-referred_type tables (Some name) own = ap (option_and_then key_type) (named_unindexed name tables) ∙ key_plain (table_named name tables)
-
-type_plain : (tables : Database) (k : ColKind) → type_of (plain tables) k ≡ type_of tables k
-type_plain tables k = referred_type tables (referred k) (own_type k)
-
-typed_plain : (tables : Database) (v : Value) (k : ColKind) → is_typed (plain tables) v k ≡ is_typed tables v k
-typed_plain tables value.Null k = refl
-typed_plain tables (value.Int z) k = ap (λ t. option_map_or (has_type (value.Int z)) t false) (type_plain tables k)
-typed_plain tables (value.Text text) k = ap (λ t. option_map_or (has_type (value.Text text)) t false) (type_plain tables k)
-
-row_plain : (tables : Database) (columns : List Column) (row : Row) → has_mistyped (plain tables) columns row ≡ has_mistyped tables columns row
-row_plain tables columns row =
-    any_agree (λ c. not (is_typed (plain tables) c.1 c.0.kind)) (λ c. not (is_typed tables c.1 c.0.kind))
-    (λ c. ap not (typed_plain tables c.1 c.0.kind)) (zip columns row)
+keyed_plain : (tables : Database) → AreKeyedAlike (plain tables) tables
+keyed_plain tables name = ap (option_and_then key_type) (named_unindexed name tables) ∙ key_plain (table_named name tables)
 
 column_plain : (tables : Database) (v : Value) (found : Option JoinedColumn)
     → option_map_or (λ joined. not (is_typed (plain tables) v joined.column.kind)) found false
     ≡ option_map_or (λ joined. not (is_typed tables v joined.column.kind)) found false
 column_plain tables v None = refl
-column_plain tables v (Some joined) = ap not (typed_plain tables v joined.column.kind)
+column_plain tables v (Some joined) = ap not (typed_alike (plain tables) tables (keyed_plain tables) v joined.column.kind)
 
 settings_plain : (tables : Database) (columns : List JoinedColumn) (settings : List Setting)
     → list_any (λ s. mistypes (plain tables) columns (setting_name s) s.value) settings
@@ -175,8 +150,10 @@ differ_plain : (tables : Database) (sides : Option (JoinedColumn × JoinedColumn
     → option_map_or (differ_in_type (plain tables)) sides false ≡ option_map_or (differ_in_type tables) sides false
 differ_plain tables None = refl
 differ_plain tables (Some sides) =
-    ap (λ t. not (same_type t (type_of (plain tables) sides.1.column.kind))) (type_plain tables sides.0.column.kind)
-    ∙ ap (λ t. not (same_type (type_of tables sides.0.column.kind) t)) (type_plain tables sides.1.column.kind)
+    ap (λ t. not (same_type t (type_of (plain tables) sides.1.column.kind)))
+    (type_alike (plain tables) tables (keyed_plain tables) sides.0.column.kind)
+    ∙ ap (λ t. not (same_type (type_of tables sides.0.column.kind) t))
+    (type_alike (plain tables) tables (keyed_plain tables) sides.1.column.kind)
 
 select_checks_plain : (tables : Database) (its : Items) (name : List ℕ) (joins : List Join) (conditions : List Cond)
     → select_checks (plain tables) its name joins conditions ≡ select_checks tables its name joins conditions
@@ -218,23 +195,24 @@ referring_plain : (tables : Database) (name : List ℕ) → is_table_referenced 
 referring_plain [] name = refl
 referring_plain (t ∷ tables) name = ap (λ b. list_any (refers_to name) t.columns || b) (referring_plain tables name)
 
-resolved_plain : (tables : Database) (c : Command) → is_on_indexes c ≡ false → resolved_of (plain tables) c ≡ resolved_of tables c
-resolved_plain tables (command.Table name schema) other =
+resolved_plain : (records : List Record) (tables : Database) (c : Command) → is_on_indexes c ≡ false
+    → resolved_of records (plain tables) c ≡ resolved_of records tables c
+resolved_plain records tables (command.Table name schema) other =
     same_checks (table_checks (plain tables) name schema) (table_checks tables name schema) (resolved.Table name schema)
     (table_checks_plain tables name schema)
-resolved_plain tables (command.DropTable name) other =
+resolved_plain records tables (command.DropTable name) other =
     numbered_plain name tables (λ n t. meaning (drop_checks tables t) (resolved.DropTable n))
     (λ n t. meaning (drop_checks (plain tables) t) (resolved.DropTable n))
     (λ n t. same_checks (drop_checks (plain tables) (unindexed t)) (drop_checks tables t) (resolved.DropTable n)
     (rw (referring_plain tables t.name) refl))
-resolved_plain tables (command.Index name column k) other = absurd (false≢true (sym other))
-resolved_plain tables (command.DropIndex name column k) other = absurd (false≢true (sym other))
-resolved_plain tables (command.Insert name row) other =
+resolved_plain records tables (command.Index name column k) other = absurd (false≢true (sym other))
+resolved_plain records tables (command.DropIndex name column k) other = absurd (false≢true (sym other))
+resolved_plain records tables (command.Insert name row) other =
     numbered_plain name tables (λ n t. meaning (insert_checks tables t row) (resolved.Insert n row))
     (λ n t. meaning (insert_checks (plain tables) t row) (resolved.Insert n row))
     (λ n t. same_checks (insert_checks (plain tables) (unindexed t) row) (insert_checks tables t row) (resolved.Insert n row)
-    (rw (row_plain tables t.columns row) refl))
-resolved_plain tables (command.Update name settings conditions) other =
+    (rw (row_alike (plain tables) tables (keyed_plain tables) t.columns row) refl))
+resolved_plain records tables (command.Update name settings conditions) other =
     numbered_plain name tables
     (λ n t. meaning (update_checks tables t settings conditions)
     (resolved.Update n (assignments_of (own_columns t) settings) (tests_of (own_columns t) conditions)))
@@ -243,21 +221,27 @@ resolved_plain tables (command.Update name settings conditions) other =
     (λ n t. same_checks (update_checks (plain tables) (unindexed t) settings conditions) (update_checks tables t settings conditions)
     (resolved.Update n (assignments_of (own_columns t) settings) (tests_of (own_columns t) conditions))
     (rw (settings_plain tables (own_columns t) settings, conditions_plain tables (own_columns t) conditions) refl))
-resolved_plain tables (command.Delete name conditions) other =
+resolved_plain records tables (command.Delete name conditions) other =
     numbered_plain name tables
     (λ n t. meaning (delete_checks tables t conditions) (resolved.Delete n (tests_of (own_columns t) conditions)))
     (λ n t. meaning (delete_checks (plain tables) t conditions) (resolved.Delete n (tests_of (own_columns t) conditions)))
     (λ n t. same_checks (delete_checks (plain tables) (unindexed t) conditions) (delete_checks tables t conditions)
     (resolved.Delete n (tests_of (own_columns t) conditions)) (rw (conditions_plain tables (own_columns t) conditions) refl))
-resolved_plain tables (command.Select distinct its name joins conditions) other =
+resolved_plain records tables (command.Select distinct its name joins conditions) other =
     same_checks (select_checks (plain tables) its name joins conditions) (select_checks tables its name joins conditions)
     (select_of (plain tables) distinct its name joins conditions) (select_checks_plain tables its name joins conditions)
     ∙ ap (meaning (select_checks tables its name joins conditions)) (select_plain tables distinct its name joins conditions)
-resolved_plain tables command.Tables other = refl
+resolved_plain records tables (command.Load name bytes) other =
+    numbered_plain name tables (λ n t. load_of n (table_reading tables t records))
+    (λ n t. load_of n (table_reading (plain tables) t records))
+    (λ n t. ap (load_of n) (reading_alike (plain tables) tables (keyed_plain tables) t records))
+resolved_plain records tables (command.Dump name) other =
+    numbered_plain name tables (λ n t. Ok (resolved.Dump n)) (λ n t. Ok (resolved.Dump n)) (λ n t. refl)
+resolved_plain records tables command.Tables other = refl
 
 pub resolved_alike : ResolvedAlike
-resolved_alike tables others c other alike =
-    sym (resolved_plain tables c other) ∙ ap (λ d. resolved_of d c) alike ∙ resolved_plain others c other
+resolved_alike records tables others c other alike =
+    sym (resolved_plain records tables c other) ∙ ap (λ d. resolved_of records d c) alike ∙ resolved_plain records others c other
 
 -- ---- rows that are named
 
@@ -383,6 +367,55 @@ headings_plain : (joined : List Table) (its : Shown) → headings (plain joined)
 headings_plain joined shown.All = flat_map-map (λ (table : Table). map (full_name table.name) table.columns) unindexed joined
 headings_plain joined (shown.Columns places) = places_plain joined places
 
+-- an insert, and a load of rows
+
+insert_plain : (limits : Limits) (tables : Database) (n : TableNumber) (row : Row)
+    → insert limits (plain tables) n row ≡ bare (insert limits tables n row)
+insert_plain limits tables n row =
+    on_table_plain n tables _ _
+    (λ t. changed_plain tables (doing.insert_checks limits tables t row) (doing.insert_checks limits (plain tables) (unindexed t) row) n.0
+    (grown_by row t) _ (rw (all_held_plain tables (references t.columns row)) refl))
+
+-- what is left, with no index declared
+abbrev plain_left : Result Database Refusal → Result Database Refusal
+plain_left found = result_map_both plain (λ why. why) found
+
+left_plain : (k : ℕ) (tables : Database) (o : Outcome)
+    → doing.left_with k (plain tables) o ≡ plain_left (doing.left_with k tables o)
+left_plain k tables Done = refl
+left_plain k tables (Changed n) = refl
+left_plain k tables (Rows names rows) = refl
+left_plain k tables (Dumped name block) = refl
+left_plain k tables (Listed others) = refl
+left_plain k tables (Refused why) = refl
+
+goes_on_plain : (next : Database → Result Database Refusal) (found : Result Database Refusal)
+    → ((d : Database) → next (plain d) ≡ plain_left (next d))
+    → goes_on next (plain_left found) ≡ plain_left (goes_on next found)
+goes_on_plain next (Ok first) same = same first
+goes_on_plain next (Err why) same = refl
+
+loaded_plain : (limits : Limits) (n : TableNumber) (k : ℕ) (rows : List Row) (tables : Database)
+    → loaded limits (plain tables) n k rows ≡ plain_left (loaded limits tables n k rows)
+loaded_plain limits n k [] tables = refl
+loaded_plain limits n k (row ∷ rows) tables =
+    let next : Database → Result Database Refusal = λ d. loaded limits d n (k + 1) rows in
+    let e : Effect = insert limits tables n row in
+    ap (λ (f : Effect). goes_on next (doing.left_with k f.database f.outcome)) (insert_plain limits tables n row)
+    ∙ ap (goes_on next) (left_plain k e.database e.outcome)
+    ∙ goes_on_plain next (doing.left_with k e.database e.outcome) (loaded_plain limits n (k + 1) rows)
+
+load_effect_plain : (tables : Database) (rows : List Row) (found : Result Database Refusal)
+    → load_effect (plain tables) rows (plain_left found) ≡ bare (load_effect tables rows found)
+load_effect_plain tables rows (Ok new) = refl
+load_effect_plain tables rows (Err why) = refl
+
+load_plain : (limits : Limits) (tables : Database) (n : TableNumber) (rows : List Row)
+    → load limits (plain tables) n rows ≡ bare (load limits tables n rows)
+load_plain limits tables n rows =
+    ap (load_effect (plain tables) rows) (loaded_plain limits n 1 rows tables) ∙ load_effect_plain tables rows
+    (loaded limits tables n 1 rows)
+
 done_plain : (limits : Limits) (tables : Database) (r : Resolved) → shows_indexes r ≡ false → bare (done limits (plain tables) r) ≡ bare (done limits tables r)
 done_plain limits tables (resolved.Table name schema) other =
     ap (λ d. left_with Done (plain d)) (sym (map_push unindexed tables (new_table name schema)))
@@ -395,12 +428,7 @@ done_plain limits tables (resolved.Index n column k) other =
 done_plain limits tables (resolved.DropIndex n column k) other =
     reindexed n tables _ _ (λ t. indexes_changed tables n.0 (without_index column k (unindexed t)) (without_index column k t) Done refl)
 done_plain limits tables (resolved.Insert n row) other =
-    let same : done limits (plain tables) (resolved.Insert n row) ≡ bare (done limits tables (resolved.Insert n row)) =
-    on_table_plain n tables _ _
-    (λ t. changed_plain tables (doing.insert_checks limits tables t row) (doing.insert_checks limits (plain tables) (unindexed t) row) n.0
-    (grown_by row t) _ (rw (all_held_plain tables (references t.columns row)) refl))
-    in
-    ap bare same ∙ bare_twice (done limits tables (resolved.Insert n row))
+    ap bare (insert_plain limits tables n row) ∙ bare_twice (done limits tables (resolved.Insert n row))
 done_plain limits tables (resolved.Update n assignments tests) other =
     let same : done limits (plain tables) (resolved.Update n assignments tests) ≡ bare (done limits tables (resolved.Update n assignments tests)) =
     on_table_plain n tables _ _
@@ -422,6 +450,13 @@ done_plain limits tables (resolved.Select distinct its source joins) other =
     in
     ap (λ o. left_with o (plain (plain tables))) same
     ∙ bare_twice (done limits tables (resolved.Select distinct its source joins))
+done_plain limits tables (resolved.Load n rows) other =
+    ap bare (load_plain limits tables n rows) ∙ bare_twice (done limits tables (resolved.Load n rows))
+done_plain limits tables (resolved.Dump n) other =
+    let same : done limits (plain tables) (resolved.Dump n) ≡ bare (done limits tables (resolved.Dump n)) =
+    on_table_plain n tables _ _ (λ t. checked_as tables (doing.dump_checks limits t) (left_with _ tables)
+    (left_with _ (plain tables)) refl) in
+    ap bare same ∙ bare_twice (done limits tables (resolved.Dump n))
 done_plain limits tables resolved.Tables other = absurd (false≢true (sym other))
 
 pub done_alike : DoneAlike
@@ -440,6 +475,7 @@ effects_alike limits tables others (Ok r) hidden alike = done_alike limits table
 effects_alike limits tables others (Err why) hidden alike = record { answered = refl; left = alike }
 
 pub indexes_are_not_read : IndexesAreNotRead
-indexes_are_not_read limits tables others c off other alike =
-    subst (λ found. AreDoneAlike (effect_of limits tables c) (effect_of_resolved limits others found)) (resolved_alike tables others c off alike)
-    (effects_alike limits tables others (resolved_of tables c) (λ r h. none_shown tables c r other h) alike)
+indexes_are_not_read records limits tables others c off other alike =
+    subst (λ found. AreDoneAlike (effect_of records limits tables c) (effect_of_resolved limits others found))
+    (resolved_alike records tables others c off alike)
+    (effects_alike limits tables others (resolved_of records tables c) (λ r h. none_shown records tables c r other h) alike)

@@ -1,17 +1,17 @@
 -- Canonical: the canonical spelling of a command spells it.
-use Rattle.std.proofs.Common.{◌≡◌, ℕ, suc, List, [], ◌∷◌, ◌++◌, false, inl, inr, refl, sym, ap, arith, append-nil, subst}
+use Rattle.std.proofs.Common.{◌≡◌, ℕ, suc, ◌<◌, ◌^◌, List, [], ◌∷◌, ◌++◌, false, inl, inr, refl, sym, ap, arith, append-nil, subst}
 use Rattle.std.specs.Prelude.{ℤ, pos, negsuc, neg_ℤ, FitsSigned}
 use Rattle.std.specs.Int.{w64}
 use Rattle.std.specs.List.{AllByRecursion}
 use Rattle.std.specs.Fmt.{decimal, signed_decimal}
 use Rattle.std.specs.Str.Parse.{IsNumeral, digits_value}
 use Rattle.std.proofs.lemmas.Fmt.{decimal_is_IsNumeral}
-use Rattle.plain_tables.specs.Spelling.{Mark, Open, Close, Comma, Dot, Star, Operator, Symbol, Keyword, Name, Literal, Sign, symbols_of, AreBlanks, IsInteger, IsSymbol, goes_on_with, EndsBefore, IsMadeOf, NamesSomething, IsSpellable, symbol_text, gap, spaced, canonical_spelling, CanonicalSpells}
+use Rattle.plain_tables.specs.Spelling.{Mark, Open, Close, Comma, Dot, Star, Operator, Symbol, Keyword, Name, Literal, Count, Sign, symbols_of, AreBlanks, IsInteger, IsCount, IsSymbol, goes_on_with, EndsBefore, IsMadeOf, NamesSomething, IsSpellable, symbol_text, gap, spaced, canonical_spelling, CanonicalSpells}
 use Rattle.plain_tables.specs.declared.value.Value.TheVariants as value
 use Rattle.plain_tables.specs.declared.condition.Op.TheVariants as op
 use Rattle.plain_tables.specs.declared.command.Items.TheVariants as items
 use Rattle.plain_tables.specs.declared.command.Command.{Command}
-use Rattle.plain_tables.specs.declared.command.Command.TheVariants.{Table, DropTable, Index, DropIndex, Insert, Update, Delete, Select, Tables}
+use Rattle.plain_tables.specs.declared.command.Command.TheVariants.{Table, DropTable, Index, DropIndex, Insert, Update, Delete, Select, Load, Dump, Tables}
 use Rattle.plain_tables.proofs.Separated.{all-each}
 use Rattle.plain_tables.proofs.WellFormed.{IsSpellableSymbol, command-spellable, made-no_line_feed}
 
@@ -28,12 +28,18 @@ integer-text (negsuc n) fits =
     let digits : IsNumeral 10 (decimal (suc n)) × (digits_value 10 (decimal (suc n)) ≡ suc n) = decimal_is_IsNumeral (suc n) (omega (arith, fits)) in
     (fits, (decimal (suc n), digits.0, inr (refl, ap (λ m. neg_ℤ (pos m)) (sym digits.1))))
 
+count-text : (n : ℕ) → n < 2 ^ 63 → IsCount (decimal n) n
+count-text n fits =
+    let digits : IsNumeral 10 (decimal n) × (digits_value 10 (decimal n) ≡ n) = decimal_is_IsNumeral n (omega (arith, fits)) in
+    (fits, digits.0, sym digits.1)
+
 symbol-text : (symbol : Symbol) → IsSpellableSymbol symbol → HasText symbol
 symbol-text (Keyword word) can = refl
 symbol-text (Name name) can = (refl, can)
 symbol-text (Literal value.Null) can = refl
 symbol-text (Literal (value.Int z)) can = integer-text z can
 symbol-text (Literal (value.Text text)) can = refl
+symbol-text (Count n) can = count-text n can
 symbol-text (Sign mark) can = refl
 
 -- ---- the gaps
@@ -84,6 +90,10 @@ gap-ends (Literal (value.Text text)) (Sign Close) rest = refl
 gap-ends (Literal (value.Text text)) (Sign Comma) rest = refl
 gap-ends (Literal (value.Text text)) (Sign Dot) rest = refl
 gap-ends (Literal (value.Text text)) next rest = refl
+gap-ends (Count n) (Sign Close) rest = refl
+gap-ends (Count n) (Sign Comma) rest = refl
+gap-ends (Count n) (Sign Dot) rest = refl
+gap-ends (Count n) next rest = refl
 gap-ends (Sign (Operator op.Lt)) (Sign Close) rest = refl
 gap-ends (Sign (Operator op.Lt)) (Sign Comma) rest = refl
 gap-ends (Sign (Operator op.Lt)) (Sign Dot) rest = refl
@@ -132,6 +142,8 @@ names-something (Update table settings conditions) can = can.1
 names-something (Delete table conditions) can = tt
 names-something (Select distinct items.All table joins conditions) can = tt
 names-something (Select distinct (items.Named names) table joins conditions) can = can.0.0
+names-something (Load table bytes) can = tt
+names-something (Dump table) can = tt
 names-something Tables can = tt
 
 -- Law: the canonical spelling of a command that can be spelled spells it.

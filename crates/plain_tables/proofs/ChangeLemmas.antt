@@ -1,18 +1,17 @@
 -- What resolved commands leave: of other tables, of rows that aren't picked, of a database that they are refused of.
-use Rattle.std.proofs.Common.{◌≡◌, ◌≢◌, ◌<◌, ℕ, zero, suc, true, false, not, length, map, set, get_or, arith, List, [], ◌∷◌, refl, sym, ap, ◌∙◌, subst, Some}
-use Rattle.std.specs.Prelude.{pos, ◌==◌}
+use Rattle.std.proofs.Common.{◌≡◌, ◌≢◌, ◌<◌, ℕ, zero, suc, true, false, not, length, map, set, get_or, arith, List, [], ◌∷◌, inl, inr, refl, sym, ap, ◌∙◌, subst, Some, ◌⊎◌}
+use Rattle.std.specs.Prelude.{Ok, pos, ◌==◌}
 use Rattle.std.specs.List.{list_any, slice_get}
 use Rattle.std.proofs.lemmas.Bool.{or_parts, eqb-false, cond-true, cond-false}
 use Rattle.std.proofs.lemmas.List.{length-set, get_or-set_same, get_or-set_other}
 use Rattle.std.proofs.lemmas.List.Filters.{length-filter_both}
-use Rattle.std.proofs.lemmas.Option.{none-some, same_Some}
+use Rattle.std.proofs.lemmas.Option.{none-some, same_Some, slice_get_within}
 use Rattle.plain_tables.specs.Tables.{Table, Row}
 use Rattle.plain_tables.specs.Databases.{Database}
 use Rattle.plain_tables.specs.Queries.{value_at}
-use Rattle.plain_tables.specs.Effects.{Done, Changed, Rows, Listed, Refused, grown_by}
-use Rattle.plain_tables.specs.Doing.{passes_all, assigned, insert_checks, update_checks, delete_checks, updated, without, done}
+use Rattle.plain_tables.specs.Effects.{Done, Changed, Rows, Dumped, Listed, Refused, refused, grown_by}
+use Rattle.plain_tables.specs.Doing.{passes_all, assigned, insert_checks, loaded, dump_checks, update_checks, delete_checks, updated, without, done}
 use Rattle.plain_tables.specs.ResolvedLaws.{rows_table, rowless, ChangesRowsOf, OwnRowsChange, KeepsIfRefused, RefusedKeeps, RefusedUpdateKeeps, RefusedDeleteKeeps, UpdateKeepsUnpicked, is_to_column, assigns_twice, HasAssigned, UpdateSetsPicked, DeletesThePicked}
-use Rattle.plain_tables.specs.Runs.{refused}
 use Rattle.plain_tables.specs.declared.value.Value.TheVariants as value
 use Rattle.plain_tables.specs.declared.refusal.Refusal.{Refusal}
 use Rattle.plain_tables.specs.declared.command.Limits.{Limits}
@@ -20,9 +19,8 @@ use Rattle.plain_tables.specs.declared.numbers.TableNumber.{TableNumber}
 use Rattle.plain_tables.specs.declared.resolved.Assignment.{Assignment}
 use Rattle.plain_tables.specs.declared.resolved.Resolved.{Resolved}
 use Rattle.plain_tables.specs.declared.resolved.Resolved.TheVariants as resolved
-use Rattle.plain_tables.proofs.EffectLemmas.{checked_satisfies}
-use Rattle.plain_tables.proofs.ListLemmas.{AllZip-map, filter_others, filter_again}
-use Rattle.plain_tables.proofs.SoundLemmas.{of_table_satisfies}
+use Rattle.plain_tables.proofs.EffectLemmas.{checked_satisfies, of_table_satisfies, insert_satisfies, loaded_satisfies, load_satisfies}
+use Rattle.plain_tables.proofs.ListLemmas.{AllZip-map, filter_others, filter_again, slice_get_set, set_again}
 
 -- ---- the tables that are left
 
@@ -39,6 +37,46 @@ slice_get_other (x ∷ xs) zero zero new other = absurd (other refl)
 slice_get_other (x ∷ xs) zero (suc k) new other = refl
 slice_get_other (x ∷ xs) (suc n) zero new other = refl
 slice_get_other (x ∷ xs) (suc n) (suc k) new other = slice_get_other xs n k new (λ e. other (ap suc e))
+
+-- the tables are as before, or have a table that differs in rows in the place of one
+abbrev HasOtherRows : TableNumber → Database → Database → Type 0
+HasOtherRows n tables others =
+    (others ≡ tables) ⊎ ((old : Table) × (new : Table) × (slice_get tables n.0 ≡ Some old) × (record new { rows = old.rows } ≡ old)
+    × (others ≡ set tables n.0 new))
+
+-- a table that differs in rows once more
+other_rows_again : (tables others : Database) (n : TableNumber) (old new : Table) → HasOtherRows n tables others
+    → slice_get others n.0 ≡ Some old
+    → record new { rows = old.rows } ≡ old → HasOtherRows n tables (set others n.0 new)
+other_rows_again tables others n old new (inl same) there alike =
+    inr (old, new, subst (λ d. slice_get d n.0 ≡ Some old) same there, alike, ap (λ d. set d n.0 new) same)
+other_rows_again tables others n old new (inr (first, last, at, before, same)) there alike =
+    let here : slice_get others n.0 ≡ Some last =
+    ap (λ d. slice_get d n.0) same ∙ slice_get_set tables n.0 last (slice_get_within tables n.0 first at) in
+    let is : old ≡ last = same_Some old last (sym there ∙ here) in
+    inr (
+      first,
+      new,
+      at,
+      ap {A = Table} {B = Table} (λ t. record t { rows = first.rows }) (alike ∙ is) ∙ before,
+      ap (λ d. set d n.0 new) same ∙ set_again tables n.0 last new,
+    )
+
+-- so do the tables with rows loaded
+loaded_has_other_rows : (limits : Limits) (tables : Database) (n : TableNumber) (k : ℕ) (rows : List Row) (new : Database)
+    → loaded limits tables n k rows ≡ Ok new → HasOtherRows n tables new
+loaded_has_other_rows limits tables n k rows new all =
+    loaded_satisfies (λ left d. HasOtherRows n tables d) limits n
+    (λ row left d so_far. insert_satisfies (λ e. HasOtherRows n tables e.database) limits d n row (λ why. so_far)
+    (λ table there passed. other_rows_again tables d n table (grown_by row table) so_far there refl)) tables k rows new all
+    (inl refl)
+
+other_rows_satisfy : (P : Database → Type 0) (tables others : Database) (n : TableNumber) → HasOtherRows n tables others → P tables
+    → ((old new : Table) → slice_get tables n.0 ≡ Some old → record new { rows = old.rows } ≡ old → P (set tables n.0 new))
+    → P others
+other_rows_satisfy P tables others n (inl same) here changed = subst P (sym same) here
+other_rows_satisfy P tables others n (inr (old, new, there, alike, same)) here changed =
+    subst P (sym same) (changed old new there alike)
 
 -- A command on the rows of a table leaves the tables as they are, or with a table that differs in rows in the place of that one.
 pub rows_satisfy : (P : Database → Type 0) (limits : Limits) (tables : Database) (r : Resolved) (n : TableNumber) → rows_table r ≡ Some n → P tables
@@ -64,6 +102,14 @@ rows_satisfy P limits tables (resolved.Delete n tests) m is old new =
     (λ table there. checked_satisfies (λ e. P e.database) tables (delete_checks tables table (passes_all tests)) _ (λ r. old)
     (λ passed. (rw same at new) table (without (passes_all tests) table) there refl))
 rows_satisfy P limits tables (resolved.Select distinct its source joins) m is old new = old
+rows_satisfy P limits tables (resolved.Load n rows) m is old new =
+    let same : m ≡ n = sym (same_Some n m is) in
+    load_satisfies (λ e. P e.database) limits tables n rows (λ why. old)
+    (λ others all. other_rows_satisfy P tables others n (loaded_has_other_rows limits tables n 1 rows others all) old
+    (rw same at new))
+rows_satisfy P limits tables (resolved.Dump n) m is old new =
+    of_table_satisfies (λ e. P e.database) n tables _ (λ r. old)
+    (λ table there. checked_satisfies (λ e. P e.database) tables (dump_checks limits table) _ (λ r. old) (λ passed. old))
 rows_satisfy P limits tables resolved.Tables m is old new = absurd (none-some m is)
 
 pub own_rows_change : OwnRowsChange
@@ -84,6 +130,9 @@ not_changed n why same = cc
 
 not_rows : (names : List (List ℕ)) (rows : List Row) (why : Refusal) → Rows names rows ≡ Refused why → ⊥
 not_rows names rows why same = cc
+
+not_dumped : (name block : List ℕ) (why : Refusal) → Dumped name block ≡ Refused why → ⊥
+not_dumped name block why same = cc
 
 not_listed : (tables : Database) (why : Refusal) → Listed tables ≡ Refused why → ⊥
 not_listed tables why same = cc
@@ -117,6 +166,13 @@ refused_keeps limits tables (resolved.Insert n row) =
 refused_keeps limits tables (resolved.Update n assignments tests) = refused_update_keeps tables n assignments (passes_all tests)
 refused_keeps limits tables (resolved.Delete n tests) = refused_delete_keeps tables n (passes_all tests)
 refused_keeps limits tables (resolved.Select distinct its source joins) = λ why same. absurd (not_rows _ _ why same)
+refused_keeps limits tables (resolved.Load n rows) =
+    load_satisfies (KeepsIfRefused tables) limits tables n rows (refusal_keeps tables)
+    (λ new all why same. absurd (not_changed _ why same))
+refused_keeps limits tables (resolved.Dump n) =
+    of_table_satisfies (KeepsIfRefused tables) n tables _ (refusal_keeps tables)
+    (λ table there. checked_satisfies (KeepsIfRefused tables) tables (dump_checks limits table) _ (refusal_keeps tables)
+    (λ passed why same. absurd (not_dumped _ _ why same)))
 refused_keeps limits tables resolved.Tables = λ why same. absurd (not_listed tables why same)
 
 -- ---- update

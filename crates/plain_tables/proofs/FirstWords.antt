@@ -5,14 +5,14 @@ use Rattle.std.specs.Str.{bytes_eq}
 use Rattle.std.proofs.lemmas.Slice.Eq.{bytes_eq-Decides}
 use lib.Chars.{codes}
 use Rattle.plain_tables.specs.Names.{is_word}
-use Rattle.plain_tables.specs.Spelling.{Symbol, Keyword, Name, Sign, Open, Close, separated, symbols_of, column_symbols, index_symbols, value_symbols, setting_symbols, items_symbols, distinct_symbols, join_symbols, where_symbols, IsMadeOf, NamesSomething, Spells}
+use Rattle.plain_tables.specs.Spelling.{Symbol, Keyword, Name, Count, Sign, Open, Close, separated, symbols_of, column_symbols, index_symbols, value_symbols, setting_symbols, items_symbols, distinct_symbols, join_symbols, where_symbols, IsMadeOf, NamesSomething, Spells}
 use Rattle.plain_tables.specs.Reading.{lexeme, after_lexeme}
 use Rattle.plain_tables.specs.declared.condition.Cond.{Cond}
 use Rattle.plain_tables.specs.declared.command.Join.{Join}
 use Rattle.plain_tables.specs.declared.command.Items.{Items}
 use Rattle.plain_tables.specs.declared.command.Items.TheVariants as items
 use Rattle.plain_tables.specs.declared.command.Command.{Command}
-use Rattle.plain_tables.specs.declared.command.Command.TheVariants.{Table, DropTable, Index, DropIndex, Insert, Update, Delete, Select, Tables}
+use Rattle.plain_tables.specs.declared.command.Command.TheVariants.{Table, DropTable, Index, DropIndex, Insert, Update, Delete, Select, Load, Dump, Tables}
 use Rattle.plain_tables.proofs.Lexemes.{lexeme-of_made}
 
 -- Words that a comparison tells apart are different.
@@ -28,6 +28,8 @@ first_word (Insert table values) = codes "insert"
 first_word (Update table settings conditions) = codes "update"
 first_word (Delete table conditions) = codes "delete"
 first_word (Select distinct items table joins conditions) = codes "select"
+first_word (Load table bytes) = codes "load"
+first_word (Dump table) = codes "dump"
 first_word Tables = codes "tables"
 
 -- from NAME {join ..} [where ..]
@@ -46,6 +48,8 @@ behind_word (Update table settings conditions) =
 behind_word (Delete table conditions) = Name table ∷ where_symbols conditions
 behind_word (Select distinct items table joins conditions) =
     distinct_symbols distinct ++ (items_symbols items ++ from_symbols table joins conditions)
+behind_word (Load table bytes) = Name table ∷ Count bytes ∷ []
+behind_word (Dump table) = Name table ∷ []
 behind_word Tables = []
 
 pub split-word : (command : Command) → (symbols_of command ≡ Keyword (first_word command) ∷ behind_word command) × IsTrue (is_word (first_word command))
@@ -57,6 +61,8 @@ split-word (Insert table values) = (refl, refl)
 split-word (Update table settings conditions) = (refl, refl)
 split-word (Delete table conditions) = (refl, refl)
 split-word (Select distinct items table joins conditions) = (simp append_assoc, refl)
+split-word (Load table bytes) = (refl, refl)
+split-word (Dump table) = (refl, refl)
 split-word Tables = (refl, refl)
 
 -- *, or one column or more

@@ -34,4 +34,6 @@ spellable_are_given (command.Update name settings conditions) is =
     (All-from_recursion IsSpellableSetting settings is.2)
 spellable_are_given (command.Delete name conditions) is = tt
 spellable_are_given (command.Select distinct its name joins conditions) is = named_items its is.0
+spellable_are_given (command.Load name bytes) is = tt
+spellable_are_given (command.Dump name) is = tt
 spellable_are_given command.Tables is = tt

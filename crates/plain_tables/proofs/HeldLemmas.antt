@@ -3,7 +3,8 @@ use Rattle.std.proofs.Common.{◌≡◌, ℕ, zero, suc, true, false, length, se
 use Rattle.std.specs.Prelude.{not}
 use Rattle.std.specs.List.{All, AllZip, flat_map, slice_get}
 use Rattle.std.proofs.lemmas.Bool.{cases_Bool, or_parts, not-false, false≢true}
-use Rattle.std.proofs.lemmas.List.Elements.{All-head, All-tail}
+use Rattle.std.proofs.lemmas.List.Elements.{All-nil, All-head, All-tail}
+use Rattle.std.proofs.lemmas.Option.{none-some, same_Some}
 use Rattle.std.specs.Str.{bytes_eq}
 use Rattle.plain_tables.specs.Tables.{Table, Row, has_key_of}
 use Rattle.plain_tables.specs.Databases.{Database, is_named}
@@ -15,7 +16,7 @@ use Rattle.plain_tables.specs.declared.value.Value.TheVariants as value
 use Rattle.plain_tables.specs.declared.schema.ColKind.{ColKind}
 use Rattle.plain_tables.specs.declared.schema.ColKind.TheVariants as kind
 use Rattle.plain_tables.specs.declared.schema.Column.{Column}
-use Rattle.plain_tables.proofs.ListLemmas.{All-cons_option, All-from_flat_map}
+use Rattle.plain_tables.proofs.ListLemmas.{All-cons_option, All-from_flat_map, one_more}
 
 -- ---- references of a column
 
@@ -78,6 +79,30 @@ row_held tables (c ∷ columns) (v ∷ row) same typed storable held =
       can_hold tables c v (not-false (is_typed tables v c.kind) typed_parts.0) (All-head IsStorable v row storable) held_parts.0,
       row_held tables columns row (omega arith) typed_parts.1 (All-tail IsStorable v row storable) held_parts.1,
     )
+
+holds_of_kind : (tables : Database) (k : ColKind) (v : Value) → CanHold tables k v → IsHeldOf tables (of_kind k) v
+holds_of_kind tables k value.Null can r e = absurd (none-some r e)
+holds_of_kind tables kind.Int (value.Int z) can r e = absurd (none-some r e)
+holds_of_kind tables kind.Int (value.Text text) can r e = absurd can
+holds_of_kind tables kind.Text (value.Int z) can r e = absurd can
+holds_of_kind tables kind.Text (value.Text text) can r e = absurd (none-some r e)
+holds_of_kind tables (kind.Ref name) (value.Int z) can r e =
+    subst (λ m. is_held tables m ≡ true) (same_Some (name, value.Int z) r e) can
+holds_of_kind tables (kind.Ref name) (value.Text text) can r e =
+    subst (λ m. is_held tables m ≡ true) (same_Some (name, value.Text text) r e) can
+holds_of_kind tables (kind.RefOrNull name) (value.Int z) can r e =
+    subst (λ m. is_held tables m ≡ true) (same_Some (name, value.Int z) r e) can
+holds_of_kind tables (kind.RefOrNull name) (value.Text text) can r e =
+    subst (λ m. is_held tables m ≡ true) (same_Some (name, value.Text text) r e) can
+
+-- what a row refers to is held where its columns can hold it
+pub row_holds : (tables : Database) (columns : List Column) (row : Row) → IsRowOf tables columns row
+    → All (λ r. is_held tables r ≡ true) (references columns row)
+row_holds tables [] row fits = All-nil (λ r. is_held tables r ≡ true)
+row_holds tables (c ∷ columns) [] fits = All-nil (λ r. is_held tables r ≡ true)
+row_holds tables (c ∷ columns) (v ∷ row) fits =
+    one_more (λ r. is_held tables r ≡ true) (reference_of c v) (references columns row) (holds_of_kind tables c.kind v fits.0)
+    (row_holds tables columns row fits.1)
 
 -- a row stays one where its references stay held
 pub row_stays : (tables others : Database) (columns : List Column) (row : Row) → All (StaysHeld tables others) (references columns row)

@@ -12,7 +12,7 @@ use Rattle.std.proofs.lemmas.List.{take-append-drop}
 use Rattle.std.proofs.lemmas.Bool.{and_parts, or_parts}
 use Rattle.std.proofs.lemmas.Bool.Decides.{nat_tests}
 use Rattle.plain_tables.specs.Names.{is_word, is_word_character, is_letter}
-use Rattle.plain_tables.specs.Spelling.{Mark, Open, Close, Comma, Dot, Star, Operator, mark_text, doubled, text_literal, Symbol, Keyword, Name, Literal, Sign, IsInteger, AreBlanks, is_blank, IsSymbol, EndsBefore, IsMadeOf, goes_on_with}
+use Rattle.plain_tables.specs.Spelling.{Mark, Open, Close, Comma, Dot, Star, Operator, mark_text, doubled, text_literal, Symbol, Keyword, Name, Literal, Count, Sign, IsInteger, AreBlanks, is_blank, IsSymbol, EndsBefore, IsMadeOf, goes_on_with}
 use Rattle.plain_tables.specs.declared.value.Value.TheVariants as value
 use Rattle.plain_tables.specs.declared.condition.Op.TheVariants as op
 use Rattle.plain_tables.specs.Reading.{behind_blanks, begins_run, is_operator, operator_length, length_behind, lexeme_length, lexeme, after_lexeme}
@@ -105,6 +105,7 @@ abbrev pub IsWellFormed : Symbol → Type 0
 IsWellFormed (Keyword word) = IsTrue (is_word word)
 IsWellFormed (Name name) = Unit {0}
 IsWellFormed (Literal value) = Unit {0}
+IsWellFormed (Count n) = Unit {0}
 IsWellFormed (Sign mark) = Unit {0}
 
 -- a word or a number
@@ -114,6 +115,7 @@ IsWordOrNumber (Name name) = Unit {0}
 IsWordOrNumber (Literal value.Null) = Unit {0}
 IsWordOrNumber (Literal (value.Int z)) = Unit {0}
 IsWordOrNumber (Literal (value.Text text)) = ⊥
+IsWordOrNumber (Count n) = Unit {0}
 IsWordOrNumber (Sign mark) = ⊥
 
 pub symbol-run : (characters : List ℕ) (symbol : Symbol) → IsWordOrNumber symbol → IsWellFormed symbol → IsSymbol characters symbol
@@ -125,6 +127,7 @@ symbol-run characters (Name name) plain well is =
 symbol-run characters (Literal value.Null) plain well is = rw is (word-run (codes "null") refl)
 symbol-run characters (Literal (value.Int z)) plain well is = integer-run characters z is
 symbol-run characters (Literal (value.Text text)) plain well is = elim plain [ ]
+symbol-run characters (Count n) plain well is = digits-run characters is.1
 symbol-run characters (Sign mark) plain well is = elim plain [ ]
 
 -- The characters are a run, and the symbol goes on as a run does.
@@ -148,6 +151,7 @@ symbol-shape characters (Name name) well is = inl (symbol-run characters (Name n
 symbol-shape characters (Literal value.Null) well is = inl (symbol-run characters (Literal value.Null) tt well is, λ c. refl)
 symbol-shape characters (Literal (value.Int z)) well is = inl (symbol-run characters (Literal (value.Int z)) tt well is, λ c. refl)
 symbol-shape characters (Literal (value.Text text)) well is = inr (inl (text, is, λ c. refl))
+symbol-shape characters (Count n) well is = inl (symbol-run characters (Count n) tt well is, λ c. refl)
 symbol-shape characters (Sign mark) well is = inr (inr (mark, is, λ c. refl))
 
 -- ---- from the symbol to its length

@@ -1,8 +1,9 @@
 -- Lists: pairs of elements, the first that passes a test, and filters. What holds of what an option gives.
 use Rattle.std.proofs.Common.{◌≡◌, ◌≢◌, ℕ, zero, suc, ◌+◌, ◌<◌, ◌≤◌, Bool, true, false, length, arith, List, [], ◌∷◌, ◌++◌, sym, ap, ◌∙◌, inl, inr, get_or, set, take, drop, map, Some, None, Option, refl, subst, ◌⊎◌}
-use Rattle.std.specs.Prelude.{nat_lt, not, ◌&&◌}
+use Rattle.std.specs.Prelude.{Result, Ok, Err, nat_lt, not, ◌&&◌}
 use Rattle.std.specs.List.{All, AllPairs, AllZip, Contains, filter, find, position, position_or_len, slice_get, list_any, list_all, flat_map, filter_map, cons_option, enumerate_from, remove}
 use Rattle.std.specs.Option.{is_some, option_map, option_map_or}
+use Rattle.std.specs.Result.{result_ok}
 use Rattle.std.proofs.lemmas.Bool.{cases_Bool, cases_eq, or_parts, or_cases, or_right, and_parts, cond_both, false≢true, not-false, ltb-true}
 use Rattle.std.proofs.lemmas.List.{get_or-set_same, get_or-set_other, length-set, map-append}
 use Rattle.std.proofs.lemmas.List.Elements.{All-nil, All-cons, All-tail, All-head, All-append, All-map, All-take, All-drop, All-weaker, filter-append}
@@ -107,6 +108,17 @@ filter_all p [] all = refl
 filter_all p (x ∷ xs) all =
     rw (All-head (λ y. p y ≡ true) x xs all) (ap (λ ys. x ∷ ys) (filter_all p xs (All-tail (λ y. p y ≡ true) x xs all)))
 
+-- where no element passes, none is kept, and none found
+pub filter_gone : {X : Type 0} (p : X → Bool) (xs : List X) → All (λ x. p x ≡ false) xs → filter p xs ≡ []
+filter_gone p [] all = refl
+filter_gone p (x ∷ xs) all =
+    rw (All-head (λ y. p y ≡ false) x xs all) (filter_gone p xs (All-tail (λ y. p y ≡ false) x xs all))
+
+pub not_found : {X : Type 0} (p : X → Bool) (xs : List X) → All (λ x. p x ≡ false) xs → is_some (find p xs) ≡ false
+not_found p [] all = refl
+not_found p (x ∷ xs) all =
+    rw (All-head (λ y. p y ≡ false) x xs all) (not_found p xs (All-tail (λ y. p y ≡ false) x xs all))
+
 -- none passes of those that don't
 pub filter_others : {X : Type 0} (p : X → Bool) (xs : List X) → filter p (filter (λ x. not (p x)) xs) ≡ []
 filter_others p [] = refl
@@ -125,6 +137,16 @@ pub map_agree : {X Y : Type 0} (f g : X → Y) → ((x : X) → f x ≡ g x) →
 map_agree f g same [] = refl
 map_agree f g same (x ∷ xs) = rw (same x, map_agree f g same xs) refl
 
+-- tests that agree
+pub any_agree : {X : Type 0} (p q : X → Bool) → ((x : X) → p x ≡ q x) → (xs : List X) → list_any p xs ≡ list_any q xs
+any_agree p q same [] = refl
+any_agree p q same (x ∷ xs) = rw (same x, any_agree p q same xs) refl
+
+pub all_agree : {X : Type 0} (p q : X → Bool) → ((x : X) → p x ≡ q x) → (xs : List X) → list_all p xs ≡ list_all q xs
+all_agree p q same [] = refl
+all_agree p q same (x ∷ xs) = rw (same x, all_agree p q same xs) refl
+
+-- maps that agree at each element
 pub flat_map_agree : {X Y : Type 0} (f g : X → List Y) (xs : List X) → All (λ x. f x ≡ g x) xs → flat_map f xs ≡ flat_map g xs
 flat_map_agree f g [] same = refl
 flat_map_agree f g (x ∷ xs) same =
@@ -265,6 +287,22 @@ length_more : {X : Type 0} (o : Option X) (xs : List X) (n : ℕ) → is_some o 
 length_more None xs n there h = absurd (false≢true there)
 length_more (Some x) xs n there h = ap suc h
 
+-- an element put in a place
+pub slice_get_set : {X : Type 0} (xs : List X) (n : ℕ) (x : X) → n < length xs → slice_get (set xs n x) n ≡ Some x
+slice_get_set [] n x within = absurd (omega arith)
+slice_get_set (y ∷ xs) zero x within = refl
+slice_get_set (y ∷ xs) (suc n) x within = slice_get_set xs n x (omega arith)
+
+pub set_again : {X : Type 0} (xs : List X) (n : ℕ) (x y : X) → set (set xs n x) n y ≡ set xs n y
+set_again [] n x y = refl
+set_again (z ∷ xs) zero x y = refl
+set_again (z ∷ xs) (suc n) x y = ap (λ zs. z ∷ zs) (set_again xs n x y)
+
+pub set_itself : {X : Type 0} (xs : List X) (n : ℕ) (x : X) → slice_get xs n ≡ Some x → set xs n x ≡ xs
+set_itself [] n x there = absurd (none-some x there)
+set_itself (y ∷ xs) zero x there = let here : y ≡ x = same_Some y x there in ap (λ z. z ∷ xs) (sym here)
+set_itself (y ∷ xs) (suc n) x there = ap (λ zs. y ∷ zs) (set_itself xs n x there)
+
 -- the element behind others
 pub slice_get_behind : {X : Type 0} (xs ys : List X) (x : X) → slice_get (xs ++ x ∷ ys) (length xs) ≡ Some x
 slice_get_behind [] ys x = refl
@@ -301,7 +339,21 @@ Contains-filter p (x ∷ xs) y passes there =
           cond_both (p x) (x ∷ filter p xs) (filter p xs) (λ ys. Contains ys y) (λ t. Contains-later x (filter p xs) y rest) (λ f. rest)
     ]
 
--- ---- options
+-- each element stands so to one that comes behind it
+pub AllPairs-behind : {X : Type 0} (R : X → X → Type 0) (xs : List X) (y : X) (ys : List X) → AllPairs R (xs ++ y ∷ ys)
+    → All (λ x. R x y) xs
+AllPairs-behind R [] y ys h = All-nil (λ x. R x y)
+AllPairs-behind R (x ∷ xs) y ys h =
+    let parts = All-append_parts (R x) xs (y ∷ ys) (AllPairs-head R x (xs ++ y ∷ ys) h) in
+    All-cons (λ z. R z y) x xs (All-head (R x) y ys parts.1) (AllPairs-behind R xs y ys (AllPairs-tail R x (xs ++ y ∷ ys) h))
+
+-- ---- options and results
+
+pub not_Ok : {X Y : Type 0} (why : Y) (x : X) → ◌≡◌ {A = Result X Y} (Err why) (Ok x) → ⊥
+not_Ok why x same = none-some x (ap result_ok same)
+
+pub same_Ok : {X Y : Type 0} (x y : X) → ◌≡◌ {A = Result X Y} (Ok x) (Ok y) → x ≡ y
+same_Ok x y same = same_Some x y (ap result_ok same)
 
 -- what an option that is mapped gives
 pub option_map_some : {X Y : Type 0} (f : X → Y) (o : Option X) (y : Y) → option_map f o ≡ Some y → (x : X) × (o ≡ Some x) × (f x ≡ y)

@@ -1,12 +1,14 @@
 -- References between tables: that each table still refers to tables before it where a database changes.
-use Rattle.std.proofs.Common.{◌≡◌, ℕ, zero, suc, true, false, get_or, List, [], ◌∷◌, ◌++◌, append-nil, append_assoc, inl, inr, sym, ap, ◌∙◌, refl, subst, Option, Some, None}
+use Rattle.std.proofs.Common.{◌≡◌, ◌≢◌, ℕ, zero, suc, true, false, get_or, List, [], ◌∷◌, ◌++◌, append-nil, append_assoc, inl, inr, sym, ap, ◌∙◌, refl, subst, Option, Some, None}
 use Rattle.std.specs.Prelude.{cond}
-use Rattle.std.specs.List.{All, AllZip, list_any, flat_map, cons_option, slice_get, remove}
+use Rattle.std.specs.List.{All, AllPairs, AllZip, list_any, flat_map, cons_option, slice_get, remove}
 use Rattle.std.specs.Option.{is_some, option_map, option_map_or}
 use Rattle.std.specs.Str.{bytes_eq}
-use Rattle.std.proofs.lemmas.Bool.{cases_Bool, or_parts, false≢true}
+use Rattle.std.proofs.lemmas.Bool.{cases_Bool, or_parts, both_ways, false_from_ne_true, false≢true}
 use Rattle.std.proofs.lemmas.List.Elements.{All-nil, All-cons, All-head, All-tail, All-weaker, AllZip-push}
+use Rattle.std.proofs.lemmas.List.Folds.{list_any_none}
 use Rattle.std.proofs.lemmas.Option.{none-some, same_Some}
+use Rattle.std.proofs.lemmas.Slice.Eq.{bytes_eq-Decides}
 use Rattle.plain_tables.specs.Tables.{Table, Row}
 use Rattle.plain_tables.specs.Databases.{Database, is_named, table_named}
 use Rattle.plain_tables.specs.References.{Reference, referred, reference_of, references, table_references, RefersInto, refers_to, ReferBack}
@@ -14,7 +16,7 @@ use Rattle.plain_tables.specs.declared.value.Value.{Value}
 use Rattle.plain_tables.specs.declared.value.Value.TheVariants as value
 use Rattle.plain_tables.specs.declared.schema.Column.{Column}
 use Rattle.plain_tables.proofs.HeldLemmas.{StaysHeld}
-use Rattle.plain_tables.proofs.ListLemmas.{All-flat_map, fails_where_none}
+use Rattle.plain_tables.proofs.ListLemmas.{AllPairs-behind, All-flat_map, fails_where_none, not_found}
 
 -- ---- tables of the same names and columns
 
@@ -82,6 +84,34 @@ held_with_more r (u ∷ tables) t held =
 abbrev pub RefersElsewhere : List ℕ → Table → Type 0
 RefersElsewhere name table = list_any (refers_to name) table.columns ≡ false
 
+-- a column that refers to a table that is there doesn't refer to one that isn't
+refers_not : (name : List ℕ) (before : Database) (found : Option (List ℕ)) → is_some (table_named name before) ≡ false
+    → option_map_or (λ m. is_some (table_named m before)) found true ≡ true → option_map_or (bytes_eq name) found false ≡ false
+refers_not name before None absent h = refl
+refers_not name before (Some m) absent h =
+    false_from_ne_true (bytes_eq name m)
+    (λ e. both_ways (is_some (table_named name before)) absent
+    (subst (λ n. is_some (table_named n before) ≡ true) (sym ((bytes_eq-Decides name m).0 e)) h))
+
+-- no table refers to itself
+pub refers_not_to_itself : (before after : Database) (n : ℕ) (table : Table) → slice_get after n ≡ Some table
+    → ReferBack before after
+    → AllPairs (λ t u. t.name ≢ u.name) (before ++ after) → RefersElsewhere table.name table
+refers_not_to_itself before [] n table there back apart = absurd (none-some table there)
+refers_not_to_itself before (t ∷ after) zero table there back apart =
+    let others = AllPairs-behind (λ (t u : Table). t.name ≢ u.name) before t after apart in
+    let absent : is_some (table_named t.name before) ≡ false =
+    not_found (is_named t.name) before
+    (All-weaker (λ u. u.name ≢ t.name) (λ u. is_named t.name u ≡ false)
+    (λ u other. false_from_ne_true (bytes_eq u.name t.name) (λ e. other ((bytes_eq-Decides u.name t.name).0 e))) before others) in
+    subst (λ u. RefersElsewhere u.name u) (same_Some t table there)
+    (list_any_none (refers_to t.name) t.columns
+    (All-weaker (RefersInto before) (λ c. refers_to t.name c ≡ false)
+    (λ c h. refers_not t.name before (referred c.kind) absent h) t.columns back.0))
+refers_not_to_itself before (t ∷ after) (suc n) table there back apart =
+    refers_not_to_itself (before ++ t ∷ []) after n table there back.1
+    (subst (AllPairs (λ t u. t.name ≢ u.name)) (sym (append_assoc before (t ∷ []) after)) apart)
+
 -- a table of another name is there without this one as well
 named_without : (name : List ℕ) (before after : Database) (gone : Table) → is_named name gone ≡ false
     → table_named name (before ++ gone ∷ after) ≡ table_named name (before ++ after)
@@ -148,7 +178,7 @@ reference_elsewhere name c (value.Int z) others other h = referred_elsewhere nam
 reference_elsewhere name c (value.Text text) others other h = referred_elsewhere name (referred c.kind) (value.Text text) others other h
 
 -- columns that refer elsewhere make references elsewhere
-references_elsewhere : (name : List ℕ) (columns : List Column) (row : Row) → list_any (refers_to name) columns ≡ false
+pub references_elsewhere : (name : List ℕ) (columns : List Column) (row : Row) → list_any (refers_to name) columns ≡ false
     → All (λ r. bytes_eq name r.0 ≡ false) (references columns row)
 references_elsewhere name [] row other = All-nil (λ r. bytes_eq name r.0 ≡ false)
 references_elsewhere name (c ∷ columns) [] other = All-nil (λ r. bytes_eq name r.0 ≡ false)

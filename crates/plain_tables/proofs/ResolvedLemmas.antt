@@ -3,20 +3,20 @@ use Rattle.std.proofs.Common.{◌≡◌, ◌≢◌, ◌<◌, ℕ, true, false, n
 use Rattle.std.specs.Prelude.{Result, Ok, Err, ◌==◌, nat_lt, nat_le}
 use Rattle.std.specs.List.{All, AllByRecursion, list_any, cons_option, slice_get}
 use Rattle.std.specs.Option.{is_some, option_map, option_map_or, option_and_then}
-use Rattle.std.specs.Result.{result_ok}
 use Rattle.std.specs.Str.{bytes_eq}
 use Rattle.std.specs.declared.cmp.Ordering.TheVariants.{Less}
 use Rattle.std.proofs.lemmas.Bool.{cases_Bool, or_parts, or_from, not-false, both_ways, false≢true, eqb-true, ne_eqb, ltb-false, leb-false}
 use Rattle.std.proofs.lemmas.List.Elements.{All-nil, All-head, All-tail, All-weaker}
 use Rattle.std.proofs.lemmas.List.Folds.{find_at, list_any_none}
-use Rattle.std.proofs.lemmas.Option.{none-some, same_Some}
+use Rattle.std.proofs.lemmas.Option.{same_Some}
 use Rattle.std.proofs.lemmas.Slice.Eq.{bytes_eq-Decides}
-use Rattle.plain_tables.specs.Tables.{Table, key_cmp}
+use Rattle.plain_tables.specs.Tables.{Table, Row, key_cmp}
 use Rattle.plain_tables.specs.Databases.{Database, is_named, table_named}
 use Rattle.plain_tables.specs.Queries.{JoinedColumn, place_meant, places_meant}
 use Rattle.plain_tables.specs.Effects.{Check, repeats, is_long, setting_name}
 use Rattle.plain_tables.specs.References.{referred, own_type, refers_into, is_index, all_indexes, IsKeyTree, IsSound}
-use Rattle.plain_tables.specs.Resolving.{meaning, number_of, on_numbered, own_columns, on_column, tests_of, assignments_of, mistypes, is_mistyped, table_checks, drop_checks, index_checks, drop_index_checks, insert_checks, update_checks, delete_checks, select_checks, select_of, resolved_of}
+use Rattle.plain_tables.specs.Resolving.{meaning, number_of, on_numbered, own_columns, on_column, tests_of, assignments_of, mistypes, is_mistyped, table_checks, drop_checks, index_checks, drop_index_checks, insert_checks, update_checks, delete_checks, select_checks, select_of, table_reading, load_of, resolved_of}
+use Rattle.plain_tables.specs.CsvReading.{Record, Rows}
 use Rattle.plain_tables.specs.ResolvedLaws.{HasWidth, IsGiven, IsStorable, IsDeclarable, IsIndexable, IsAssignable, is_to_column, assigns_twice, IsMeant, ResolvedAreMeant, CommandsKeepSound, shows_indexes, rows_table}
 use Rattle.plain_tables.specs.CommandLaws.{EffectsKeepSound, table_of, is_on_rows, is_listing}
 use Rattle.plain_tables.specs.declared.value.Value.{Value}
@@ -40,20 +40,15 @@ use Rattle.plain_tables.specs.declared.numbers.Place.{Place}
 use Rattle.plain_tables.specs.declared.resolved.Assignment.{Assignment}
 use Rattle.plain_tables.specs.declared.resolved.Resolved.{Resolved}
 use Rattle.plain_tables.specs.declared.resolved.Resolved.TheVariants as resolved
+use Rattle.plain_tables.proofs.BlockLemmas.{read_insertable, load_found}
 use Rattle.plain_tables.proofs.ColumnLemmas.{column_within, named_there, first_behind_key}
 use Rattle.plain_tables.proofs.EffectLemmas.{effect_satisfies}
-use Rattle.plain_tables.proofs.ListLemmas.{AllPairs-nil, fails_where_none, mapped_more}
+use Rattle.plain_tables.proofs.ListLemmas.{AllPairs-nil, fails_where_none, mapped_more, not_Ok, same_Ok}
 use Rattle.plain_tables.proofs.NameLemmas.{columns_differ}
 use Rattle.plain_tables.proofs.SelectLemmas.{of_own_column, own_tests_meant, select_meant}
 use Rattle.plain_tables.proofs.SoundLemmas.{done_keeps_sound}
 
 -- ---- checks
-
-not_Ok : {X Y : Type 0} (why : Y) (x : X) → ◌≡◌ {A = Result X Y} (Err why) (Ok x) → ⊥
-not_Ok why x same = none-some x (ap result_ok same)
-
-same_Ok : {X Y : Type 0} (x y : X) → ◌≡◌ {A = Result X Y} (Ok x) (Ok y) → x ≡ y
-same_Ok x y same = same_Some x y (ap result_ok same)
 
 -- where checks let a command pass, none of them refuses
 passes_checks : (checks : List Check) (r q : Resolved) → meaning checks r ≡ Ok q
@@ -231,22 +226,35 @@ indexable table c k within none =
       no_key_tree = λ own. both_ways (is_index c k (0, index.Tree)) parts.0 (rw (own.0, own.1) refl);
     }
 
+-- ---- a load
+
+-- What holds of the load of each list of rows that the records may be read as holds of the load of the table of a name.
+load_is : (P : Resolved → Type 0) (name : List ℕ) (tables : Database) (records : List Record) (q : Resolved)
+    → on_numbered name tables (λ n table. load_of n (table_reading tables table records)) ≡ Ok q
+    → ((table : Table) (rows : List Row) → slice_get tables (number_of name tables).0 ≡ Some table
+    → table_reading tables table records ≡ Rows rows → P (resolved.Load (number_of name tables) rows))
+    → P q
+load_is P name tables records q h holds =
+    let found = numbered_found name tables (λ n table. load_of n (table_reading tables table records)) q h in
+    let read = load_found (number_of name tables) (table_reading tables found.0 records) q found.2 in
+    subst P read.2 (holds found.0 read.0 found.1 read.1)
+
 -- ---- every command
 
 pub resolved_are_meant : ResolvedAreMeant
-resolved_are_meant limits tables (command.Table name schema) r given h =
+resolved_are_meant records limits tables (command.Table name schema) r given h =
     checked_satisfies (IsMeant limits tables) (table_checks tables name schema) (resolved.Table name schema) r h
     (λ passed. declarable limits tables name schema given passed)
-resolved_are_meant limits tables (command.DropTable name) r given h =
+resolved_are_meant records limits tables (command.DropTable name) r given h =
     numbered_satisfies (IsMeant limits tables) name tables (λ table. drop_checks tables table) (λ n table. resolved.DropTable n) r h
     (λ table there passed. (table, there, passed.0))
-resolved_are_meant limits tables (command.Index name column k) r given h =
+resolved_are_meant records limits tables (command.Index name column k) r given h =
     column_satisfies (IsMeant limits tables) name column tables (λ table c. index_checks table c k) (λ n c. resolved.Index n c k) r h
     (λ table c there within passed. (table, there, indexable table c k within passed.0))
-resolved_are_meant limits tables (command.DropIndex name column k) r given h =
+resolved_are_meant records limits tables (command.DropIndex name column k) r given h =
     column_satisfies (IsMeant limits tables) name column tables (λ table c. drop_index_checks table c k) (λ n c. resolved.DropIndex n c k) r h
     (λ table c there within passed. (table, there, tt))
-resolved_are_meant limits tables (command.Insert name row) r given h =
+resolved_are_meant records limits tables (command.Insert name row) r given h =
     numbered_satisfies (IsMeant limits tables) name tables (λ table. insert_checks tables table row) (λ n table. resolved.Insert n row) r h
     (λ table there passed. (
       table,
@@ -257,7 +265,7 @@ resolved_are_meant limits tables (command.Insert name row) r given h =
         storable = λ k d l. storable_value (get_or row k d) (fails_where_none is_long row passed.1.1.0 k d l) (given k d l);
       },
     ))
-resolved_are_meant limits tables (command.Update name settings conditions) r given h =
+resolved_are_meant records limits tables (command.Update name settings conditions) r given h =
     numbered_satisfies (IsMeant limits tables) name tables (λ table. update_checks tables table settings conditions)
     (λ n table. resolved.Update n (assignments_of (own_columns table) settings) (tests_of (own_columns table) conditions)) r h
     (λ table there passed.
@@ -273,71 +281,89 @@ resolved_are_meant limits tables (command.Update name settings conditions) r giv
         own_tests_meant tables table conditions typed.1,
       ),
     ))
-resolved_are_meant limits tables (command.Delete name conditions) r given h =
+resolved_are_meant records limits tables (command.Delete name conditions) r given h =
     numbered_satisfies (IsMeant limits tables) name tables (λ table. delete_checks tables table conditions)
     (λ n table. resolved.Delete n (tests_of (own_columns table) conditions)) r h
     (λ table there passed. (table, there, own_tests_meant tables table conditions passed.1.0))
-resolved_are_meant limits tables (command.Select distinct its name joins conditions) r given h =
+resolved_are_meant records limits tables (command.Select distinct its name joins conditions) r given h =
     checked_satisfies (IsMeant limits tables) (select_checks tables its name joins conditions)
     (select_of tables distinct its name joins conditions) r h
     (λ passed. select_meant limits tables distinct its name joins conditions given passed)
-resolved_are_meant limits tables command.Tables r given h = subst (IsMeant limits tables) (same_Ok resolved.Tables r h) tt
+resolved_are_meant records limits tables (command.Load name bytes) r given h =
+    load_is (IsMeant limits tables) name tables records r h
+    (λ table rows there read. (table, there, read_insertable tables table records rows read))
+resolved_are_meant records limits tables (command.Dump name) r given h =
+    numbered_satisfies (IsMeant limits tables) name tables (λ table. []) (λ n table. resolved.Dump n) r h
+    (λ table there passed. (table, there, tt))
+resolved_are_meant records limits tables command.Tables r given h = subst (IsMeant limits tables) (same_Ok resolved.Tables r h) tt
 
 pub commands_keep_sound : CommandsKeepSound
-commands_keep_sound limits tables c r given h sound =
-    done_keeps_sound limits tables r sound (resolved_are_meant limits tables c r given h)
+commands_keep_sound records limits tables c r given h sound =
+    done_keeps_sound limits tables r sound (resolved_are_meant records limits tables c r given h)
 
 pub effects_keep_sound : EffectsKeepSound
-effects_keep_sound limits tables c given sound =
-    effect_satisfies (λ e. IsSound limits e.database) limits tables c (λ why. sound)
-    (λ r h. commands_keep_sound limits tables c r given h sound)
+effects_keep_sound records limits tables c given sound =
+    effect_satisfies (λ e. IsSound limits e.database) records limits tables c (λ why. sound)
+    (λ r h. commands_keep_sound records limits tables c r given h sound)
 
 -- a command on rows is resolved to one on the rows of its table
-pub own_rows : (tables : Database) (c : Command) (r : Resolved) → is_on_rows c ≡ true → resolved_of tables c ≡ Ok r
+pub own_rows : (records : List Record) (tables : Database) (c : Command) (r : Resolved) → is_on_rows c ≡ true
+    → resolved_of records tables c ≡ Ok r
     → rows_table r ≡ Some (number_of (table_of c) tables)
-own_rows tables (command.Table name schema) r on h = absurd (false≢true on)
-own_rows tables (command.DropTable name) r on h = absurd (false≢true on)
-own_rows tables (command.Index name column k) r on h = absurd (false≢true on)
-own_rows tables (command.DropIndex name column k) r on h = absurd (false≢true on)
-own_rows tables (command.Insert name row) r on h =
+own_rows records tables (command.Table name schema) r on h = absurd (false≢true on)
+own_rows records tables (command.DropTable name) r on h = absurd (false≢true on)
+own_rows records tables (command.Index name column k) r on h = absurd (false≢true on)
+own_rows records tables (command.DropIndex name column k) r on h = absurd (false≢true on)
+own_rows records tables (command.Insert name row) r on h =
     numbered_satisfies (λ q. rows_table q ≡ Some (number_of name tables)) name tables (λ table. insert_checks tables table row)
     (λ n table. resolved.Insert n row) r h (λ table there passed. refl)
-own_rows tables (command.Update name settings conditions) r on h =
+own_rows records tables (command.Update name settings conditions) r on h =
     numbered_satisfies (λ q. rows_table q ≡ Some (number_of name tables)) name tables (λ table. update_checks tables table settings conditions)
     (λ n table. resolved.Update n (assignments_of (own_columns table) settings) (tests_of (own_columns table) conditions)) r h
     (λ table there passed. refl)
-own_rows tables (command.Delete name conditions) r on h =
+own_rows records tables (command.Delete name conditions) r on h =
     numbered_satisfies (λ q. rows_table q ≡ Some (number_of name tables)) name tables (λ table. delete_checks tables table conditions)
     (λ n table. resolved.Delete n (tests_of (own_columns table) conditions)) r h (λ table there passed. refl)
-own_rows tables (command.Select distinct its name joins conditions) r on h =
+own_rows records tables (command.Select distinct its name joins conditions) r on h =
     checked_satisfies (λ q. rows_table q ≡ Some (number_of name tables)) (select_checks tables its name joins conditions)
     (select_of tables distinct its name joins conditions) r h (λ passed. refl)
-own_rows tables command.Tables r on h = absurd (false≢true on)
+own_rows records tables (command.Load name bytes) r on h =
+    load_is (λ q. rows_table q ≡ Some (number_of name tables)) name tables records r h (λ table rows there read. refl)
+own_rows records tables (command.Dump name) r on h =
+    numbered_satisfies (λ q. rows_table q ≡ Some (number_of name tables)) name tables (λ table. []) (λ n table. resolved.Dump n) r h
+    (λ table there passed. refl)
+own_rows records tables command.Tables r on h = absurd (false≢true on)
 
 -- no command but a listing is resolved to one that shows indexes
-pub none_shown : (tables : Database) (c : Command) (r : Resolved) → is_listing c ≡ false → resolved_of tables c ≡ Ok r → shows_indexes r ≡ false
-none_shown tables (command.Table name schema) r other h =
+pub none_shown : (records : List Record) (tables : Database) (c : Command) (r : Resolved) → is_listing c ≡ false
+    → resolved_of records tables c ≡ Ok r → shows_indexes r ≡ false
+none_shown records tables (command.Table name schema) r other h =
     checked_satisfies (λ q. shows_indexes q ≡ false) (table_checks tables name schema) (resolved.Table name schema) r h (λ passed. refl)
-none_shown tables (command.DropTable name) r other h =
+none_shown records tables (command.DropTable name) r other h =
     numbered_satisfies (λ q. shows_indexes q ≡ false) name tables (λ table. drop_checks tables table) (λ n table. resolved.DropTable n) r h
     (λ table there passed. refl)
-none_shown tables (command.Index name column k) r other h =
+none_shown records tables (command.Index name column k) r other h =
     column_satisfies (λ q. shows_indexes q ≡ false) name column tables (λ table c. index_checks table c k) (λ n c. resolved.Index n c k) r h
     (λ table c there within passed. refl)
-none_shown tables (command.DropIndex name column k) r other h =
+none_shown records tables (command.DropIndex name column k) r other h =
     column_satisfies (λ q. shows_indexes q ≡ false) name column tables (λ table c. drop_index_checks table c k) (λ n c. resolved.DropIndex n c k) r h
     (λ table c there within passed. refl)
-none_shown tables (command.Insert name row) r other h =
+none_shown records tables (command.Insert name row) r other h =
     numbered_satisfies (λ q. shows_indexes q ≡ false) name tables (λ table. insert_checks tables table row)
     (λ n table. resolved.Insert n row) r h (λ table there passed. refl)
-none_shown tables (command.Update name settings conditions) r other h =
+none_shown records tables (command.Update name settings conditions) r other h =
     numbered_satisfies (λ q. shows_indexes q ≡ false) name tables (λ table. update_checks tables table settings conditions)
     (λ n table. resolved.Update n (assignments_of (own_columns table) settings) (tests_of (own_columns table) conditions)) r h
     (λ table there passed. refl)
-none_shown tables (command.Delete name conditions) r other h =
+none_shown records tables (command.Delete name conditions) r other h =
     numbered_satisfies (λ q. shows_indexes q ≡ false) name tables (λ table. delete_checks tables table conditions)
     (λ n table. resolved.Delete n (tests_of (own_columns table) conditions)) r h (λ table there passed. refl)
-none_shown tables (command.Select distinct its name joins conditions) r other h =
+none_shown records tables (command.Select distinct its name joins conditions) r other h =
     checked_satisfies (λ q. shows_indexes q ≡ false) (select_checks tables its name joins conditions)
     (select_of tables distinct its name joins conditions) r h (λ passed. refl)
-none_shown tables command.Tables r other h = absurd (false≢true (sym other))
+none_shown records tables (command.Load name bytes) r other h =
+    load_is (λ q. shows_indexes q ≡ false) name tables records r h (λ table rows there read. refl)
+none_shown records tables (command.Dump name) r other h =
+    numbered_satisfies (λ q. shows_indexes q ≡ false) name tables (λ table. []) (λ n table. resolved.Dump n) r h
+    (λ table there passed. refl)
+none_shown records tables command.Tables r other h = absurd (false≢true (sym other))

@@ -1,10 +1,11 @@
 -- Rows of a table: that they still rise, and are at most one more, where a row is put in.
-use Rattle.std.proofs.Common.{◌≡◌, ◌+◌, ◌<◌, ◌≤◌, ℕ, zero, suc, true, false, length, take, set, map, arith, List, [], ◌∷◌, ◌++◌, length-append, refl}
+use Rattle.std.proofs.Common.{◌≡◌, ◌+◌, ◌<◌, ◌≤◌, ℕ, zero, suc, true, false, length, take, set, map, arith, List, [], ◌∷◌, ◌++◌, length-append, inl, inr, refl, sym, ◌⊎◌}
 use Rattle.std.specs.List.{All, AllPairs, filter}
 use Rattle.std.specs.declared.cmp.Ordering.{Ordering}
 use Rattle.std.specs.declared.cmp.Ordering.TheVariants.{Less, Equal, Greater}
-use Rattle.std.specs.Ordering.{is_lt}
+use Rattle.std.specs.Ordering.{is_eq, is_lt}
 use Rattle.std.specs.Cmp.{IsTotalOrder, on_total}
+use Rattle.std.proofs.lemmas.Bool.{false≢true}
 use Rattle.std.proofs.lemmas.Cmp.{lists_total}
 use Rattle.std.proofs.lemmas.List.Elements.{All-cons, All-filter, All-append, All-weaker, filter_passes}
 use Rattle.std.proofs.lemmas.List.Kept.{AllPairs-cons, AllPairs-filter}
@@ -15,7 +16,7 @@ use Rattle.plain_tables.proofs.ListLemmas.{AllPairs-append, AllPairs-map, length
 
 -- ---- an element put in
 
-from_is_lt : (o : Ordering) → is_lt o ≡ true → o ≡ Less
+pub from_is_lt : (o : Ordering) → is_lt o ≡ true → o ≡ Less
 from_is_lt Less h = refl
 from_is_lt Equal h = cc
 from_is_lt Greater h = cc
@@ -58,8 +59,15 @@ pub key_cmp_total : IsTotalOrder key_cmp
 key_cmp_total = on_total (take 1) (lists_total value_cmp_total)
 
 -- where one row is below another, that one isn't below the first
-key_cmp-one_way : (r s : Row) → is_lt (key_cmp r s) ≡ true → is_lt (key_cmp s r) ≡ false
+pub key_cmp-one_way : (r s : Row) → is_lt (key_cmp r s) ≡ true → is_lt (key_cmp s r) ≡ false
 key_cmp-one_way r s h = rw (key_cmp_total.antisymm s r, from_is_lt (key_cmp r s) h) refl
+
+-- rows of other keys are below or above
+pub apart_by_key : (o : Ordering) (r s : Row) → key_cmp r s ≡ o → is_eq o ≡ false
+    → (is_lt (key_cmp r s) ≡ true) ⊎ (is_lt (key_cmp s r) ≡ true)
+apart_by_key Less r s same other = inl (rw same refl)
+apart_by_key Equal r s same other = absurd (false≢true (sym other))
+apart_by_key Greater r s same other = inr (rw (key_cmp_total.antisymm s r, same) refl)
 
 pub with_row-rises : (row : Row) (rows : List Row) → AreRising rows → AreRising (with_row row rows)
 with_row-rises row rows rise = inserted_rise key_cmp key_cmp_total row rows rise

@@ -3,7 +3,7 @@ use Rattle.std.proofs.Common.{◌≡◌, ℕ, List, [], ◌∷◌, ◌++◌, map
 use Rattle.std.specs.List.{flat_map}
 use Rattle.std.specs.Str.{bytes_eq}
 use lib.Chars.{codes}
-use Rattle.plain_tables.specs.Spelling.{Dot, Symbol, Keyword, Name, Literal, Sign, Operator, operator_text, separated_by, side_symbols, joined_symbols, join_symbols, kind_symbols, column_symbols, index_word, index_symbols, value_symbols, name_symbols, setting_symbols, condition_symbols, IsSymbol, IsMadeOf}
+use Rattle.plain_tables.specs.Spelling.{Dot, Symbol, Keyword, Name, Literal, Count, Sign, Operator, operator_text, separated_by, side_symbols, joined_symbols, join_symbols, kind_symbols, column_symbols, index_word, index_symbols, value_symbols, name_symbols, setting_symbols, condition_symbols, IsSymbol, IsMadeOf}
 use Rattle.plain_tables.specs.Reading.{lexeme, after_lexeme}
 use Rattle.plain_tables.specs.declared.value.Value.{Value}
 use Rattle.plain_tables.specs.declared.schema.ColKind.{ColKind}
@@ -63,7 +63,7 @@ behind-one symbol other well well' line m n made made' =
     let second : IsSymbol (lexeme line) other × IsMadeOf (after_lexeme line) n = lexeme-of_made line other n well' made' in
     (first.0, second.0, first.1, second.1)
 
--- Two names at the front of a line are one, and one rest follows them; so are two literals and two operators.
+-- Two names at the front of a line are one, and one rest follows them; so are two literals, two counts and two operators.
 pub name-and : (line name name' : List ℕ) (m n : List Symbol) → IsMadeOf line (Name name ∷ m) → IsMadeOf line (Name name' ∷ n)
     → (name ≡ name') × HaveOneRest m n
 name-and line name name' m n made made' =
@@ -77,6 +77,13 @@ literal-and line v w m n made made' =
     let both : IsSymbol (lexeme line) (Literal v) × IsSymbol (lexeme line) (Literal w) × IsMadeOf (after_lexeme line) m × IsMadeOf (after_lexeme line) n =
     behind-one (Literal v) (Literal w) tt tt line m n made made' in
     (Literal-only (lexeme line) w v both.1 both.0, (after_lexeme line, both.2, both.3))
+
+pub count-and : (line : List ℕ) (k l : ℕ) (m n : List Symbol) → IsMadeOf line (Count k ∷ m) → IsMadeOf line (Count l ∷ n)
+    → (k ≡ l) × HaveOneRest m n
+count-and line k l m n made made' =
+    let both : IsSymbol (lexeme line) (Count k) × IsSymbol (lexeme line) (Count l) × IsMadeOf (after_lexeme line) m × IsMadeOf (after_lexeme line) n =
+    behind-one (Count k) (Count l) tt tt line m n made made' in
+    (both.0.2 ∙ sym both.1.2, (after_lexeme line, both.2, both.3))
 
 operator-and : (line : List ℕ) (o p : Op) (m n : List Symbol) → IsMadeOf line (Sign (Operator o) ∷ m) → IsMadeOf line (Sign (Operator p) ∷ n)
     → (o ≡ p) × HaveOneRest m n

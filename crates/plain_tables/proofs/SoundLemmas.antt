@@ -5,9 +5,8 @@ use Rattle.std.specs.List.{All, filter, list_any, flat_map, slice_get, remove}
 use Rattle.std.specs.Option.{is_some, option_and_then}
 use Rattle.std.specs.Str.{bytes_eq}
 use Rattle.std.specs.Ordering.{is_eq, is_lt}
-use Rattle.std.specs.declared.cmp.Ordering.{Ordering}
-use Rattle.std.specs.declared.cmp.Ordering.TheVariants.{Less, Equal, Greater}
-use Rattle.std.proofs.lemmas.Bool.{cases_Bool, or_left, or_right, not-false, not_from_false, both_ways, false≢true, leb-false, cond_both, eq-eqb}
+use Rattle.std.specs.declared.cmp.Ordering.TheVariants.{Less}
+use Rattle.std.proofs.lemmas.Bool.{cases_Bool, or_left, or_right, not-false, not_from_false, both_ways, leb-false, cond_both, eq-eqb}
 use Rattle.std.proofs.lemmas.List.{length-map, length-set, length-append, length-take, length-drop, length_push}
 use Rattle.std.proofs.lemmas.List.Elements.{All-nil, All-cons, All-head, All-tail, All-push, All-set, All-map, All-filter, All-weaker}
 use Rattle.std.proofs.lemmas.List.Filters.{length-filter_both}
@@ -17,13 +16,11 @@ use Rattle.std.proofs.lemmas.List.Quantifiers.{all_pairs_push, all_pairs_remove}
 use Rattle.std.proofs.lemmas.Option.{slice_get_within, get_or_from_slice_get, same_Some}
 use Rattle.plain_tables.specs.Tables.{Table, Row, AreRising, key_cmp, has_key_of, with_row}
 use Rattle.plain_tables.specs.Databases.{Database, is_named, table_named}
-use Rattle.plain_tables.specs.Effects.{Effect, new_table, grown_by}
+use Rattle.plain_tables.specs.Effects.{new_table, grown_by}
 use Rattle.plain_tables.specs.References.{Reference, reference_of, references, table_references, is_held, is_to, is_referenced, is_typed, refers_into, refers_to, is_kind, is_index, CanHold, IsRowOf, IsKeyTree, IsSoundTable, IsSound}
-use Rattle.plain_tables.specs.Doing.{on_table, passes_all, assigned, assigned_references, insert_checks, update_checks, delete_checks, updated, picked, without, with_index, without_index, done}
+use Rattle.plain_tables.specs.Doing.{passes_all, assigned, assigned_references, insert_checks, insert, load, dump_checks, update_checks, delete_checks, updated, picked, without, with_index, without_index, done}
 use Rattle.plain_tables.specs.ResolvedLaws.{OfTable, IsIndexable, IsInsertable, IsAssignable, AreAssignable, DoneKeepsSound, UpdateKeepsSound, DeleteKeepsSound}
 use Rattle.plain_tables.specs.declared.value.Value.{Value}
-use Rattle.plain_tables.specs.declared.refusal.Refusal.{Refusal}
-use Rattle.plain_tables.specs.declared.refusal.Refusal.TheVariants.{NoSuchTable}
 use Rattle.plain_tables.specs.declared.schema.Column.{Column}
 use Rattle.plain_tables.specs.declared.schema.IndexKind.{IndexKind}
 use Rattle.plain_tables.specs.declared.schema.IndexKind.TheVariants as index
@@ -32,22 +29,15 @@ use Rattle.plain_tables.specs.declared.numbers.ColumnNumber.{ColumnNumber}
 use Rattle.plain_tables.specs.declared.numbers.TableNumber.{TableNumber}
 use Rattle.plain_tables.specs.declared.resolved.Assignment.{Assignment}
 use Rattle.plain_tables.specs.declared.resolved.Resolved.TheVariants as resolved
-use Rattle.plain_tables.specs.Runs.{refused}
-use Rattle.plain_tables.proofs.EffectLemmas.{checked_satisfies}
+use Rattle.plain_tables.proofs.EffectLemmas.{checked_satisfies, of_table_satisfies, insert_satisfies, loaded_satisfies, load_satisfies}
 use Rattle.plain_tables.proofs.HeldLemmas.{StaysHeld, KeepsKey, keeps_itself, held_stays, RowsFit, rows_stay, row_held, row_stays, row_set, can_hold, can_still_hold}
-use Rattle.plain_tables.proofs.ListLemmas.{AllPairs-nil, AllPairs-set_alike, All-at, All-remove, All-cons_option, All-from_list_all, AllZip-set, any_of_two, fails_where_none, fails_where_not_found, option_map_or_satisfies}
+use Rattle.plain_tables.proofs.ListLemmas.{AllPairs-nil, AllPairs-set_alike, All-at, All-remove, All-cons_option, All-from_list_all, AllZip-set, any_of_two, fails_where_none, fails_where_not_found, slice_get_set}
 use Rattle.plain_tables.proofs.NameLemmas.{differs}
 use Rattle.plain_tables.proofs.ReferLemmas.{HasShape, has_own_shape, RefersElsewhere, refer_back_alike, refer_back_more, held_with_more, refer_back_removed, all_held_removed}
-use Rattle.plain_tables.proofs.RowLemmas.{key_cmp_total, with_row-rises, length-with_row, All-with_row, map_rises, key_stays}
+use Rattle.plain_tables.proofs.RowLemmas.{apart_by_key, with_row-rises, length-with_row, All-with_row, map_rises, key_stays}
+use Rattle.plain_tables.proofs.TypeLemmas.{insertable_alike}
 
 -- ---- commands on a table
-
--- What holds of each refusal, and of the effect where the table is there, holds of a command on a table by its number.
-pub of_table_satisfies : (P : Effect → Type 0) (n : TableNumber) (tables : Database) (effect : Table → Effect)
-    → ((r : Refusal) → P (refused tables r)) → ((table : Table) → slice_get tables n.0 ≡ Some table → P (effect table))
-    → P (on_table n tables effect)
-of_table_satisfies P n tables effect old new =
-    option_map_or_satisfies P effect (slice_get tables n.0) (refused tables NoSuchTable) (old NoSuchTable) new
 
 -- what holds of the table of a number holds of the one that is found there
 of_found : (n : TableNumber) (tables : Database) (P : Table → Type 0) (table : Table) → OfTable n tables P → slice_get tables n.0 ≡ Some table
@@ -224,12 +214,6 @@ same_rows limits tables n old new sound there shape same new_sound =
 
 -- ---- a row more
 
--- rows of other keys are below or above
-apart_by_key : (o : Ordering) (r s : Row) → key_cmp r s ≡ o → is_eq o ≡ false → (is_lt (key_cmp r s) ≡ true) ⊎ (is_lt (key_cmp s r) ≡ true)
-apart_by_key Less r s same other = inl (rw same refl)
-apart_by_key Equal r s same other = absurd (false≢true (sym other))
-apart_by_key Greater r s same other = inr (rw (key_cmp_total.antisymm s r, same) refl)
-
 -- a row of a new key keeps each key
 with_row-keeps : (row : Row) (rows : List Row) (p : Row → Bool) → has_key_of row rows ≡ false → list_any p rows ≡ true
     → list_any p (with_row row rows) ≡ true
@@ -271,6 +255,38 @@ insert_keeps limits tables n row sound of =
     (row_stays tables (set tables n.0 new) table.columns row (each_stays tables n.0 table new there keeps (references table.columns row))
     (row_held tables table.columns row can.counted can.typed can.storable held))
     (old_fit limits tables n.0 table new sound there keeps))))
+
+-- rows that can be inserted into the table of a number
+abbrev CanTake : TableNumber → List Row → Database → Type 0
+CanTake n rows tables = OfTable n tables (λ table. All (λ row. IsInsertable tables row table) rows)
+
+-- rows that come after another can be inserted behind it
+can_take_on : (limits : Limits) (tables : Database) (n : TableNumber) (row : Row) (rows : List Row) → CanTake n (row ∷ rows) tables
+    → CanTake n rows (insert limits tables n row).database
+can_take_on limits tables n row rows (old, at, can) =
+    let later : All (λ r. IsInsertable tables r old) rows = All-tail (λ r. IsInsertable tables r old) row rows can in
+    insert_satisfies (λ e. CanTake n rows e.database) limits tables n row (λ why. (old, at, later))
+    (λ table there passed.
+    let new : Table = grown_by row table in
+    let same : old ≡ table = same_Some old table (sym at ∙ there) in (
+      new,
+      slice_get_set tables n.0 new (slice_get_within tables n.0 table there),
+      All-weaker (λ r. IsInsertable tables r old) (λ r. IsInsertable (set tables n.0 new) r new)
+          (λ r. insertable_alike tables (set tables n.0 new) r old new
+          (AllZip-set HasShape has_own_shape tables n.0 table new there (refl, refl))
+          (ap (λ t. t.columns) same)) rows later,
+    ))
+
+load_keeps : (limits : Limits) (tables : Database) (n : TableNumber) (rows : List Row) → IsSound limits tables
+    → CanTake n rows tables
+    → IsSound limits (load limits tables n rows).database
+load_keeps limits tables n rows sound can =
+    load_satisfies (λ e. IsSound limits e.database) limits tables n rows (λ why. sound)
+    (λ new all. (loaded_satisfies (λ left d. IsSound limits d × CanTake n left d) limits n
+    (λ row left d (fine, takes). (
+      insert_keeps limits d n row fine (takes.0, takes.1, All-head (λ r. IsInsertable d r takes.0) row left takes.2),
+      can_take_on limits d n row left takes,
+    )) tables 1 rows new all (sound, can)).0)
 
 -- ---- other values in rows
 
@@ -410,4 +426,9 @@ done_keeps_sound limits tables (resolved.Update n assignments tests) sound (tabl
     update_keeps_sound limits tables n assignments (passes_all tests) sound (table, there, can)
 done_keeps_sound limits tables (resolved.Delete n tests) sound meant = delete_keeps_sound limits tables n (passes_all tests) sound
 done_keeps_sound limits tables (resolved.Select distinct its source joins) sound meant = sound
+done_keeps_sound limits tables (resolved.Load n rows) sound meant = load_keeps limits tables n rows sound meant
+done_keeps_sound limits tables (resolved.Dump n) sound meant =
+    of_table_satisfies (λ e. IsSound limits e.database) n tables _ (λ r. sound)
+    (λ table there. checked_satisfies (λ e. IsSound limits e.database) tables (dump_checks limits table) _ (λ r. sound)
+    (λ passed. sound))
 done_keeps_sound limits tables resolved.Tables sound meant = sound

@@ -17,7 +17,7 @@ use Rattle.plain_tables.specs.declared.command.Join.{Join}
 use Rattle.plain_tables.specs.declared.command.Items.{Items}
 use Rattle.plain_tables.specs.declared.command.Items.TheVariants as items
 use Rattle.plain_tables.specs.declared.command.Command.{Command}
-use Rattle.plain_tables.specs.declared.command.Command.TheVariants.{Table, DropTable, Index, DropIndex, Insert, Update, Delete, Select, Tables}
+use Rattle.plain_tables.specs.declared.command.Command.TheVariants.{Table, DropTable, Index, DropIndex, Insert, Update, Delete, Select, Load, Dump, Tables}
 use Rattle.plain_tables.proofs.FirstWords.{HasItems, from_symbols, select-items, split-word}
 use Rattle.plain_tables.proofs.Separated.{all-left, all-right, separated-each}
 use Rattle.plain_tables.proofs.LineFeeds.{HasNoFeed, contains-no_feed, literal-feed}
@@ -136,6 +136,8 @@ symbols-spellable (Select distinct items table joins conditions) some all =
     let parts : IsName table × AllByRecursion IsSpellableJoin joins × AllByRecursion IsSpellableCondition conditions =
     from-each table joins conditions list.1 in
     (list.0, parts.0, parts.1, parts.2)
+symbols-spellable (Load table bytes) some all = (all.1.0.1.1, all.1.1.0.1.0)
+symbols-spellable (Dump table) some all = all.1.0.1.1
 symbols-spellable Tables some all = tt
 
 -- Law: what a line spells can be spelled.

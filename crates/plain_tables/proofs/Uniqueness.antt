@@ -4,7 +4,7 @@ use Rattle.std.specs.List.{flat_map}
 use Rattle.std.specs.Str.{bytes_eq}
 use lib.Chars.{codes}
 use Rattle.plain_tables.specs.Names.{is_word, is_name}
-use Rattle.plain_tables.specs.Spelling.{Close, Comma, Dot, Open, Star, Symbol, Keyword, Name, Sign, column_symbols, index_symbols, value_symbols, name_symbols, setting_symbols, condition_symbols, where_symbols, distinct_symbols, joined_symbols, join_symbols, items_symbols, IsMadeOf, Spells, SpellsAtMostOne}
+use Rattle.plain_tables.specs.Spelling.{Close, Comma, Dot, Open, Star, Symbol, Keyword, Name, Count, Sign, column_symbols, index_symbols, value_symbols, name_symbols, setting_symbols, condition_symbols, where_symbols, distinct_symbols, joined_symbols, join_symbols, items_symbols, IsMadeOf, Spells, SpellsAtMostOne}
 use Rattle.plain_tables.specs.Reading.{after_lexeme}
 use Rattle.plain_tables.specs.declared.schema.IndexKind.{IndexKind}
 use Rattle.plain_tables.specs.declared.condition.ColName.{ColName}
@@ -14,11 +14,11 @@ use Rattle.plain_tables.specs.declared.command.Join.{Join}
 use Rattle.plain_tables.specs.declared.command.Items.{Items}
 use Rattle.plain_tables.specs.declared.command.Items.TheVariants as items
 use Rattle.plain_tables.specs.declared.command.Command.{Command}
-use Rattle.plain_tables.specs.declared.command.Command.TheVariants.{Table, DropTable, Index, DropIndex, Insert, Update, Delete, Select, Tables}
+use Rattle.plain_tables.specs.declared.command.Command.TheVariants.{Table, DropTable, Index, DropIndex, Insert, Update, Delete, Select, Load, Dump, Tables}
 use Rattle.plain_tables.proofs.Lexemes.{lexeme-of_made}
 use Rattle.plain_tables.proofs.FirstWords.{HasItems, first_word, from_symbols, select-items, different, spells-word}
 use Rattle.plain_tables.proofs.Lists.{NeverBegins, IsFixed, sign-fixed, word-fixed, fixed-no_fixed, fixed-no_name, fixed-no_end, HaveOneRest, fixed-ends_item, nothing-ends_item, IsOneItem, IsBetween, Ends, list_and, made-more, list-one}
-use Rattle.plain_tables.proofs.SingleItems.{whole_name, name-and, fixed-and, value-one, column-one, setting-one, name-one, condition-one, joined-one, joins-listed, index-one}
+use Rattle.plain_tables.proofs.SingleItems.{whole_name, name-and, count-and, fixed-and, value-one, column-one, setting-one, name-one, condition-one, joined-one, joins-listed, index-one}
 
 -- ---- what ends a list
 
@@ -268,6 +268,14 @@ table-no_index line table table' column k spells spells' =
     (word-fixed (codes "index") refl) refl (index_symbols table' column k) (after_lexeme line) (Name table ∷ [])
     (spells-word line (DropTable table) spells).1 (spells-word line (DropIndex table' column k) spells').1
 
+-- what stands behind a load
+load-one : (line table table' : List ℕ) (bytes bytes' : ℕ) → IsMadeOf line (Name table ∷ Count bytes ∷ [])
+    → IsMadeOf line (Name table' ∷ Count bytes' ∷ []) → (table ≡ table') × (bytes ≡ bytes')
+load-one line table table' bytes bytes' made made' =
+    let names : (table ≡ table') × HaveOneRest (Count bytes ∷ []) (Count bytes' ∷ []) =
+    name-and line table table' (Count bytes ∷ []) (Count bytes' ∷ []) made made' in
+    (names.0, (count-and names.1.0 bytes bytes' [] [] names.1.1 names.1.2).0)
+
 -- ---- commands
 
 -- No line spells two commands with different first words.
@@ -321,4 +329,12 @@ spells-one line (Select d i table xs cs) (Select e j table' ys ds) spells spells
     select-one (after_lexeme line) d e i j table table' xs ys cs ds (select-items d i table xs cs spells.1) (select-items e j table' ys ds spells'.1)
     (spells-word line (Select d i table xs cs) spells).1 (spells-word line (Select e j table' ys ds) spells').1 in
     λ k. Select (all.0 k) (all.1 k) (all.2 k) (all.3 k) (all.4 k)
+spells-one line (Load table bytes) (Load table' bytes') spells spells' =
+    let both : (table ≡ table') × (bytes ≡ bytes') =
+    load-one (after_lexeme line) table table' bytes bytes'
+    (spells-word line (Load table bytes) spells).1 (spells-word line (Load table' bytes') spells').1 in
+    λ i. Load (both.0 i) (both.1 i)
+spells-one line (Dump table) (Dump table') spells spells' =
+    ap Dump (name-and (after_lexeme line) table table' [] []
+    (spells-word line (Dump table) spells).1 (spells-word line (Dump table') spells').1).0
 spells-one line c d spells spells' = absurd (words-differ line c d spells spells' refl)

@@ -1,10 +1,10 @@
 -- Well-formed: the symbols of a command that can be spelled are, and so no line feed stands in a line that they make.
-use Rattle.std.proofs.Common.{◌≢◌, ℕ, List, [], ◌∷◌, ◌++◌, map, IsTrue, Bool, true, false, refl, sym, subst, Option, Some, None}
+use Rattle.std.proofs.Common.{◌≢◌, ℕ, List, [], ◌∷◌, ◌++◌, ◌<◌, ◌^◌, map, IsTrue, Bool, true, false, refl, sym, subst, Option, Some, None}
 use Rattle.std.specs.Prelude.{IfSome}
 use Rattle.std.specs.List.{AllByRecursion, Contains, flat_map}
 use lib.Chars.{codes}
 use Rattle.plain_tables.specs.Names.{is_word, IsName}
-use Rattle.plain_tables.specs.Spelling.{Comma, Symbol, Keyword, Name, Literal, Sign, Close, separated_by, kind_symbols, column_symbols, index_word, index_symbols, value_symbols, name_symbols, setting_symbols, condition_symbols, where_symbols, distinct_symbols, join_symbols, items_symbols, symbols_of, is_blank, IsSymbol, IsMadeOf, IsSpellableKind, IsSpellableColumn, IsSpellableValue, IsSpellableName, IsSpellableSetting, IsSpellableCondition, IsSpellableJoin, AreSpellableItems, IsSpellable}
+use Rattle.plain_tables.specs.Spelling.{Comma, Symbol, Keyword, Name, Literal, Count, Sign, Close, separated_by, kind_symbols, column_symbols, index_word, index_symbols, value_symbols, name_symbols, setting_symbols, condition_symbols, where_symbols, distinct_symbols, join_symbols, items_symbols, symbols_of, is_blank, IsSymbol, IsMadeOf, IsSpellableKind, IsSpellableColumn, IsSpellableValue, IsSpellableName, IsSpellableSetting, IsSpellableCondition, IsSpellableJoin, AreSpellableItems, IsSpellable}
 use Rattle.plain_tables.specs.declared.value.Value.TheVariants as value
 use Rattle.plain_tables.specs.declared.schema.ColKind.{ColKind}
 use Rattle.plain_tables.specs.declared.schema.ColKind.TheVariants as kind
@@ -17,7 +17,7 @@ use Rattle.plain_tables.specs.declared.command.Join.{Join}
 use Rattle.plain_tables.specs.declared.command.Items.{Items}
 use Rattle.plain_tables.specs.declared.command.Items.TheVariants as items
 use Rattle.plain_tables.specs.declared.command.Command.{Command}
-use Rattle.plain_tables.specs.declared.command.Command.TheVariants.{Table, DropTable, Index, DropIndex, Insert, Update, Delete, Select, Tables}
+use Rattle.plain_tables.specs.declared.command.Command.TheVariants.{Table, DropTable, Index, DropIndex, Insert, Update, Delete, Select, Load, Dump, Tables}
 use Rattle.plain_tables.proofs.Lexemes.{symbol-run}
 use Rattle.plain_tables.proofs.FirstWords.{split-word}
 use Rattle.plain_tables.proofs.Separated.{all-append, separated-all}
@@ -25,11 +25,12 @@ use Rattle.plain_tables.proofs.LineFeeds.{HasNoFeed, contains-feed, passing-no_f
 
 -- ---- symbols that can be spelled
 
--- A keyword is a word, a name is one, an integer has 64 bits, and a text has no line feed.
+-- A keyword is a word, a name is one, an integer has 64 bits, a text has no line feed, and a count is below 2^63.
 abbrev pub IsSpellableSymbol : Symbol → Type 0
 IsSpellableSymbol (Keyword word) = IsTrue (is_word word)
 IsSpellableSymbol (Name name) = IsName name
 IsSpellableSymbol (Literal v) = IsSpellableValue v
+IsSpellableSymbol (Count n) = n < 2 ^ 63
 IsSpellableSymbol (Sign mark) = Unit {0}
 
 abbrev pub AreSpellableSymbols : List Symbol → Type 0
@@ -136,6 +137,8 @@ command-spellable (Select distinct items table joins conditions) is =
           (all-append IsSpellableSymbol (items_symbols items) _ (items-spellable items is.0)
           (refl, (is.1, all-append IsSpellableSymbol (flat_map join_symbols joins) _ (joins-spellable joins is.2) (where-spellable conditions is.3)))),
     )
+command-spellable (Load table bytes) is = (refl, (is.0, (is.1, tt)))
+command-spellable (Dump table) is = (refl, (is, tt))
 command-spellable Tables is = (refl, tt)
 
 -- ---- line feeds
@@ -147,6 +150,7 @@ symbol-no_feed characters (Name name) can is = run-no_feed characters (symbol-ru
 symbol-no_feed characters (Literal value.Null) can is = run-no_feed characters (symbol-run characters (Literal value.Null) tt tt is)
 symbol-no_feed characters (Literal (value.Int z)) can is = run-no_feed characters (symbol-run characters (Literal (value.Int z)) tt tt is)
 symbol-no_feed characters (Literal (value.Text text)) can is = rw is (literal-no_feed text can)
+symbol-no_feed characters (Count n) can is = run-no_feed characters (symbol-run characters (Count n) tt tt is)
 
 made-no_feed : (symbols : List Symbol) → AreSpellableSymbols symbols → (line : List ℕ) → IsMadeOf line symbols → HasNoFeed line
 made-no_feed [] can line made = passing-no_feed is_blank refl line made

@@ -8,7 +8,7 @@ use Rattle.plain_tables.specs.Refusals.{number_of, text_of}
 use Rattle.plain_tables.specs.Csv.{block_text}
 use Rattle.plain_tables.specs.Tables.{Table}
 use Rattle.plain_tables.specs.Spelling.{canonical_spelling}
-use Rattle.plain_tables.specs.Effects.{Outcome, Done, Changed, Rows, Listed, Refused}
+use Rattle.plain_tables.specs.Effects.{Outcome, Done, Changed, Rows, Dumped, Listed, Refused}
 use Rattle.plain_tables.specs.declared.refusal.Refusal.{Refusal}
 use Rattle.plain_tables.specs.declared.refusal.Refusal.TheVariants as refusal
 use Rattle.plain_tables.specs.declared.command.Command.{Command}
@@ -40,12 +40,13 @@ declarations table =
 abbrev pub declaration_lines : List Table → List ℕ
 declaration_lines tables = flat_map (λ c. text_line (canonical_spelling c)) (flat_map declarations tables)
 
--- ok; ok and how many rows changed; rows, how many there are, and below that the names and the rows as CSV; what declares
--- the tables, and below that ok and how many there are; or the refusal
+-- ok; ok and how many rows changed; rows, how many there are, and below that the names and the rows as CSV; the load of a
+-- block, and the block; what declares the tables, and below that ok and how many there are; or the refusal
 abbrev pub answer_text : Outcome → List ℕ
 answer_text Done = text_line (codes "ok")
 answer_text (Changed n) = text_line (codes "ok " ++ decimal n)
 answer_text (Rows names rows) =
     text_line (codes "rows " ++ decimal (length rows)) ++ block_text names rows
+answer_text (Dumped name block) = text_line (canonical_spelling (command.Load name (length block))) ++ block
 answer_text (Listed tables) = declaration_lines tables ++ text_line (codes "ok " ++ decimal (length tables))
 answer_text (Refused r) = refusal_text r

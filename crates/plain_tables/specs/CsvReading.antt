@@ -13,6 +13,10 @@ use Rattle.plain_tables.specs.declared.schema.BaseKind.TheVariants as kind
 use Rattle.plain_tables.specs.declared.value.Value.{Value}
 use Rattle.plain_tables.specs.declared.value.Value.TheVariants as value
 
+-- a record is its fields
+abbrev pub Record : Type 0
+Record = List (List ℕ)
+
 -- A column of a block has a name and the type of its values, and null may stand there or not.
 pub record BlockColumn : Type 0 where
   pub name : List ℕ
@@ -75,24 +79,24 @@ all_of (None ∷ xs) = None
 all_of (Some x ∷ xs) = option_map (λ others. x ∷ others) (all_of xs)
 
 -- The row of a record, if it is one: it has a field for each column, and each field is a value there.
-abbrev pub row_of : List BlockColumn → List (List ℕ) → Option Row
+abbrev pub row_of : List BlockColumn → Record → Option Row
 row_of columns fields =
     if length fields == length columns then all_of (map (λ pair. field_value pair.0 pair.1) (zip columns fields)) else None
 
 -- A header is the names of the columns in their order.
-abbrev pub is_header : List BlockColumn → List (List ℕ) → Bool
+abbrev pub is_header : List BlockColumn → Record → Bool
 is_header columns fields = pointwise bytes_eq fields (map (λ c. c.name) columns)
 
 -- ---- a block
 
 -- The rows of records, if each is one. Else the first that isn't is bad: as many as are rows stand before it.
-abbrev pub rows_reading : List BlockColumn → List (List (List ℕ)) → Reading
+abbrev pub rows_reading : List BlockColumn → List Record → Reading
 rows_reading columns records =
     option_map_or Rows (all_of (map (row_of columns) records))
     (BadRecord (prefix_len (λ fields. is_some (row_of columns fields)) records + 1))
 
 -- The first record is the header, and behind it stand the rows.
-abbrev pub records_reading : List BlockColumn → List (List (List ℕ)) → Reading
+abbrev pub records_reading : List BlockColumn → List Record → Reading
 records_reading columns [] = BadHeader
 records_reading columns (header ∷ records) = if is_header columns header then rows_reading columns records else BadHeader
 

@@ -14,11 +14,12 @@ use Rattle.plain_tables.specs.declared.schema.Column.{Column}
 use Rattle.plain_tables.specs.declared.command.Setting.{Setting}
 
 -- What a command answers: that it is done, how many rows it changed, the rows of a table under the names of
--- their columns, what tables there are, or why it is refused.
+-- their columns, a table's name and the block of its rows, what tables there are, or why it is refused.
 pub data Outcome : Type 0 where
   Done : Outcome
   Changed : ℕ → Outcome
   Rows : List (List ℕ) → List Row → Outcome
+  Dumped : List ℕ → List ℕ → Outcome
   Listed : Database → Outcome
   Refused : Refusal → Outcome
 
@@ -26,6 +27,10 @@ pub data Outcome : Type 0 where
 pub record Effect : Type 0 where
   pub database : Database
   pub outcome : Outcome
+
+-- a refusal, which leaves the database as it was
+abbrev pub refused : Database → Refusal → Effect
+refused tables refusal = record { database = tables; outcome = Refused refusal }
 
 -- ---- checks
 
@@ -39,7 +44,7 @@ pub record Check : Type 0 where
 abbrev pub checked : Database → List Check → Effect → Effect
 checked tables [] effect = effect
 checked tables (check ∷ checks) effect =
-    if check.refuses then record { database = tables; outcome = Refused check.refusal }
+    if check.refuses then refused tables check.refusal
     else checked tables checks effect
 
 -- ---- what checks ask

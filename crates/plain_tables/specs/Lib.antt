@@ -4,7 +4,6 @@ pub mod Commands
 pub mod Csv
 pub mod CsvReading
 pub mod Databases
-pub mod Division
 pub mod Doing
 pub mod Effects
 pub mod Hashes
@@ -17,7 +16,6 @@ pub mod References
 pub mod Refusals
 pub mod ResolvedLaws
 pub mod Resolving
-pub mod Runs
 pub mod SequenceLends
 pub mod Spelling
 pub mod Tables

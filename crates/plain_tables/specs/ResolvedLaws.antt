@@ -4,18 +4,20 @@ use Rattle.std.specs.Prelude.{◌≡◌, ◌≢◌, ◌+◌, ◌==◌, ℕ, ◌<
 use Rattle.std.specs.Int.{w64}
 use Rattle.std.specs.List.{All, AllZip, Contains, list_any}
 use Rattle.plain_tables.specs.Names.{IsName}
-use Rattle.plain_tables.specs.Tables.{Table, Row}
+use Rattle.plain_tables.specs.Tables.{Table, Row, has_key_of}
 use Rattle.plain_tables.specs.Databases.{Database, table_named}
 use Rattle.plain_tables.specs.Queries.{value_at}
-use Rattle.plain_tables.specs.Effects.{Effect, Rows, Refused, repeats, new_table}
+use Rattle.plain_tables.specs.Effects.{Effect, Changed, Rows, Refused, refused, repeats, new_table}
 use Rattle.plain_tables.specs.References.{RefersInto, is_typed, is_table_referenced, is_index, IsKeyTree, IsSoundTable, IsSound}
+use Rattle.plain_tables.specs.CsvReading.{Record}
 use Rattle.plain_tables.specs.Resolving.{has_mistyped, resolved_of}
 use Rattle.plain_tables.specs.Joining.{members_of}
-use Rattle.plain_tables.specs.Doing.{updated, picked, update, without, delete, joined_tables, shown_rows, headings, done}
+use Rattle.plain_tables.specs.Doing.{goes_on, loaded, load, updated, picked, update, without, delete, joined_tables, shown_rows, headings, done}
 use Rattle.plain_tables.specs.Spelling.{IsSpellable}
 use Rattle.plain_tables.specs.declared.value.Value.{Value}
 use Rattle.plain_tables.specs.declared.value.Value.TheVariants as value
 use Rattle.plain_tables.specs.declared.refusal.Refusal.{Refusal}
+use Rattle.plain_tables.specs.declared.refusal.Refusal.TheVariants.{KeyExists, NoReferencedRow, TableFull}
 use Rattle.plain_tables.specs.declared.schema.Column.{Column}
 use Rattle.plain_tables.specs.declared.schema.Schema.{Schema}
 use Rattle.plain_tables.specs.declared.schema.IndexKind.{IndexKind}
@@ -150,6 +152,8 @@ IsMeant limits tables (resolved.Delete n tests) = OfTable n tables (λ table. Ar
 IsMeant limits tables (resolved.Select distinct its source joins) =
     OfTable source.table tables (λ table. AreTests tables table source.tests × AreJoins tables (table ∷ []) joins)
     × IsShown (joined_tables tables source joins) its
+IsMeant limits tables (resolved.Load n rows) = OfTable n tables (λ table. All (λ row. IsInsertable tables row table) rows)
+IsMeant limits tables (resolved.Dump n) = OfTable n tables (λ table. Unit {0})
 IsMeant limits tables resolved.Tables = Unit {0}
 
 -- ---- databases stay sound
@@ -157,7 +161,8 @@ IsMeant limits tables resolved.Tables = Unit {0}
 -- a command is resolved to one of these tables
 abbrev pub ResolvedAreMeant : Type 0
 ResolvedAreMeant =
-    (limits : Limits) (tables : Database) (c : Command) (r : Resolved) → IsGiven c → resolved_of tables c ≡ Ok r → IsMeant limits tables r
+    (records : List Record) (limits : Limits) (tables : Database) (c : Command) (r : Resolved)
+    → IsGiven c → resolved_of records tables c ≡ Ok r → IsMeant limits tables r
 
 -- what a resolved command of a sound database leaves is sound
 abbrev pub DoneKeepsSound : Type 0
@@ -181,8 +186,8 @@ DeleteKeepsSound =
 -- a command that a line can give, and that is resolved, leaves a sound database sound
 abbrev pub CommandsKeepSound : Type 0
 CommandsKeepSound =
-    (limits : Limits) (tables : Database) (c : Command) (r : Resolved) → IsGiven c → resolved_of tables c ≡ Ok r
-    → IsSound limits tables → IsSound limits (done limits tables r).database
+    (records : List Record) (limits : Limits) (tables : Database) (c : Command) (r : Resolved)
+    → IsGiven c → resolved_of records tables c ≡ Ok r → IsSound limits tables → IsSound limits (done limits tables r).database
 
 -- ---- declared indexes
 
@@ -204,8 +209,8 @@ shows_indexes r = false
 -- Of databases that are alike but for the declared indexes each command is resolved alike, but for those on indexes.
 abbrev pub ResolvedAlike : Type 0
 ResolvedAlike =
-    (tables others : Database) (c : Command) → IsFalse (is_on_indexes c) → map unindexed tables ≡ map unindexed others
-    → resolved_of tables c ≡ resolved_of others c
+    (records : List Record) (tables others : Database) (c : Command) → IsFalse (is_on_indexes c) → map unindexed tables ≡ map unindexed others
+    → resolved_of records tables c ≡ resolved_of records others c
 
 -- two effects that have one answer, and leave databases that are alike but for the declared indexes
 pub record AreDoneAlike (e f : Effect) : Type 0 where
@@ -226,6 +231,8 @@ rows_table (resolved.Insert n row) = Some n
 rows_table (resolved.Update n assignments tests) = Some n
 rows_table (resolved.Delete n tests) = Some n
 rows_table (resolved.Select distinct its source joins) = Some source.table
+rows_table (resolved.Load n rows) = Some n
+rows_table (resolved.Dump n) = Some n
 rows_table r = None
 
 -- the table with no rows
@@ -288,6 +295,38 @@ pub record DeleteLeaves (picks : Row → Bool) (table : Table) : Type 0 where
 
 abbrev pub DeletesThePicked : Type 0
 DeletesThePicked = (picks : Row → Bool) (table : Table) → DeleteLeaves picks table
+
+-- ---- load
+
+-- Rows and more behind them are loaded as the rows first and then the others, by numbers that go on from theirs.
+abbrev pub LoadGoesOn : Type 0
+LoadGoesOn =
+    (limits : Limits) (tables : Database) (n : TableNumber) (k : ℕ) (rows more : List Row)
+    → loaded limits tables n k (rows ++ more)
+    ≡ goes_on (λ next. loaded limits next n (k + length rows) more) (loaded limits tables n k rows)
+
+-- what a row can be refused by that is loaded as this record
+abbrev pub record_refusals : ℕ → List Refusal
+record_refusals k = KeyExists (Some k) ∷ NoReferencedRow (Some k) ∷ TableFull (Some k) ∷ []
+
+-- All rows are loaded, or none is: then one of them is refused, told by the number of its record, and the tables are as before.
+pub data IsLoad (tables : Database) (rows : List Row) : Effect → Type 0 where
+  all_rows : (new : Database) → IsLoad tables rows (record { database = new; outcome = Changed (length rows) })
+  no_row : (k : ℕ) (why : Refusal) → 1 ≤ k → k ≤ length rows → Contains (record_refusals k) why
+      → IsLoad tables rows (refused tables why)
+
+abbrev pub LoadsAreTold : Type 0
+LoadsAreTold =
+    (limits : Limits) (tables : Database) (n : TableNumber) (rows : List Row) → OfTable n tables (λ table. Unit {0})
+    → IsLoad tables rows (load limits tables n rows)
+
+-- What was loaded into a sound database can be taken back: a delete of the rows with keys of those takes out as many as were
+-- loaded, and leaves the tables as they were.
+abbrev pub LoadCanBeTakenBack : Type 0
+LoadCanBeTakenBack =
+    (limits : Limits) (tables new : Database) (n : TableNumber) (k : ℕ) (rows : List Row)
+    → IsSound limits tables → OfTable n tables (λ table. Unit {0}) → loaded limits tables n k rows ≡ Ok new
+    → delete new n (λ row. has_key_of row rows) ≡ record { database = tables; outcome = Changed (length rows) }
 
 -- ---- select
 

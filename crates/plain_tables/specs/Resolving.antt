@@ -8,7 +8,9 @@ use Rattle.plain_tables.specs.Tables.{Table, Row}
 use Rattle.plain_tables.specs.Databases.{Database, is_named, table_named}
 use Rattle.plain_tables.specs.Queries.{JoinedColumn, joined_columns, column_meant, place_meant, places_meant, same_place, sides_meant, named_items}
 use Rattle.plain_tables.specs.Effects.{Check, repeats, column_names, misses, is_long, setting_name, condition_names}
-use Rattle.plain_tables.specs.References.{referred, type_of, same_type, is_typed, refers_into, is_table_referenced, is_index, all_indexes}
+use Rattle.plain_tables.specs.CsvReading.{Record, BlockColumn, Reading, Rows, BadHeader, BadRecord, all_of, records_reading}
+use Rattle.plain_tables.specs.declared.refusal.Refusal.TheVariants as refusal
+use Rattle.plain_tables.specs.References.{referred, takes_null, type_of, same_type, is_typed, refers_into, is_table_referenced, is_index, all_indexes}
 use Rattle.plain_tables.specs.declared.value.Value.{Value}
 use Rattle.plain_tables.specs.declared.condition.Op.{Op}
 use Rattle.plain_tables.specs.declared.condition.Op.TheVariants as op
@@ -221,25 +223,49 @@ select_of tables distinct its name joins conditions =
     resolved.Select distinct (shown_of columns its) (source_of tables columns conditions 0 name)
     (joins_of tables columns conditions (behind (name ∷ []) joins))
 
+-- ---- load
+
+-- What a column of a table is in a block, if it has a type. A reference column's values are the keys that it names.
+abbrev pub block_column : Database → Column → Option BlockColumn
+block_column tables column =
+    option_map (λ k. record { name = column.name; kind = k; null = takes_null column.kind }) (type_of tables column.kind)
+
+-- the columns of a block of a table; each has a type in a sound database
+abbrev pub block_columns : Database → Table → Option (List BlockColumn)
+block_columns tables table = all_of (map (block_column tables) table.columns)
+
+-- what the records of a block are read as in a table
+abbrev pub table_reading : Database → Table → List Record → Reading
+table_reading tables table records = option_map_or (λ columns. records_reading columns records) (block_columns tables table) BadHeader
+
+-- a load of what a block is read as into the table of a number
+abbrev pub load_of : TableNumber → Reading → Result Resolved Refusal
+load_of n (Rows rows) = Ok (resolved.Load n rows)
+load_of n BadHeader = Err refusal.BadHeader
+load_of n (BadRecord k) = Err (refusal.BadRecord k)
+
 -- ---- all commands
 
--- what a command means of these tables, or why it is refused before a row is looked at
-abbrev pub resolved_of : Database → Command → Result Resolved Refusal
-resolved_of tables (command.Table name schema) = meaning (table_checks tables name schema) (resolved.Table name schema)
-resolved_of tables (command.DropTable name) =
+-- What a command means of these tables, with the records of its block, or why it is refused before a row is looked at. A
+-- command without a block has no records.
+abbrev pub resolved_of : List Record → Database → Command → Result Resolved Refusal
+resolved_of records tables (command.Table name schema) = meaning (table_checks tables name schema) (resolved.Table name schema)
+resolved_of records tables (command.DropTable name) =
     on_numbered name tables (λ n table. meaning (drop_checks tables table) (resolved.DropTable n))
-resolved_of tables (command.Index name column k) =
+resolved_of records tables (command.Index name column k) =
     on_numbered name tables (λ n table. on_column column table (λ c. meaning (index_checks table c k) (resolved.Index n c k)))
-resolved_of tables (command.DropIndex name column k) =
+resolved_of records tables (command.DropIndex name column k) =
     on_numbered name tables (λ n table. on_column column table (λ c. meaning (drop_index_checks table c k) (resolved.DropIndex n c k)))
-resolved_of tables (command.Insert name row) =
+resolved_of records tables (command.Insert name row) =
     on_numbered name tables (λ n table. meaning (insert_checks tables table row) (resolved.Insert n row))
-resolved_of tables (command.Update name settings conditions) =
+resolved_of records tables (command.Update name settings conditions) =
     on_numbered name tables (λ n table. meaning (update_checks tables table settings conditions)
     (resolved.Update n (assignments_of (own_columns table) settings) (tests_of (own_columns table) conditions)))
-resolved_of tables (command.Delete name conditions) =
+resolved_of records tables (command.Delete name conditions) =
     on_numbered name tables (λ n table. meaning (delete_checks tables table conditions)
     (resolved.Delete n (tests_of (own_columns table) conditions)))
-resolved_of tables (command.Select distinct its name joins conditions) =
+resolved_of records tables (command.Select distinct its name joins conditions) =
     meaning (select_checks tables its name joins conditions) (select_of tables distinct its name joins conditions)
-resolved_of tables command.Tables = Ok resolved.Tables
+resolved_of records tables (command.Load name bytes) = on_numbered name tables (λ n table. load_of n (table_reading tables table records))
+resolved_of records tables (command.Dump name) = on_numbered name tables (λ n table. Ok (resolved.Dump n))
+resolved_of records tables command.Tables = Ok resolved.Tables

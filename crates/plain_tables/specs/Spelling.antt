@@ -2,12 +2,12 @@
 --
 -- A command is a list of symbols. A line spells it where the line is those symbols in their order, each as
 -- long as it can be, with blanks before, between and after them.
-use Rattle.std.specs.Prelude.{◌≡◌, length, ℕ, ℤ, pos, ◌<◌, List, [], ◌∷◌, ◌++◌, map, Bool, false, ◌||◌, ◌==◌, IsTrue, IsFalse, if◌then◌else◌, FitsSigned, neg_ℤ, IfSome, ◌⊎◌}
+use Rattle.std.specs.Prelude.{◌≡◌, length, ℕ, ℤ, pos, ◌<◌, List, [], ◌∷◌, ◌++◌, map, Bool, false, ◌||◌, ◌==◌, IsTrue, IsFalse, if◌then◌else◌, FitsSigned, neg_ℤ, IfSome, ◌⊎◌, ◌^◌}
 use Rattle.std.specs.Int.{w64}
 use Rattle.std.specs.List.{AllByRecursion, Contains, flat_map}
 use Rattle.std.specs.Option.{option_map_or}
 use Rattle.std.specs.Str.Parse.{IsNumeral, digits_value}
-use Rattle.std.specs.Fmt.{signed_decimal}
+use Rattle.std.specs.Fmt.{decimal, signed_decimal}
 use lib.Chars.{codes}
 use Rattle.plain_tables.specs.Names.{is_word_character, IsName}
 use Rattle.plain_tables.specs.declared.value.Value.{Value}
@@ -27,7 +27,7 @@ use Rattle.plain_tables.specs.declared.command.JoinSide.{JoinSide}
 use Rattle.plain_tables.specs.declared.command.Items.{Items}
 use Rattle.plain_tables.specs.declared.command.Items.TheVariants as items
 use Rattle.plain_tables.specs.declared.command.Command.{Command}
-use Rattle.plain_tables.specs.declared.command.Command.TheVariants.{Table, DropTable, Index, DropIndex, Insert, Update, Delete, Select, Tables}
+use Rattle.plain_tables.specs.declared.command.Command.TheVariants.{Table, DropTable, Index, DropIndex, Insert, Update, Delete, Select, Load, Dump, Tables}
 
 -- ---- the symbols of a command
 
@@ -40,11 +40,12 @@ pub data Mark : Type 0 where
   Star : Mark
   Operator : Op → Mark
 
--- A symbol is a keyword, a name, a value, or a sign.
+-- A symbol is a keyword, a name, a value, a count, or a sign.
 pub data Symbol : Type 0 where
   Keyword : List ℕ → Symbol
   Name : List ℕ → Symbol
   Literal : Value → Symbol
+  Count : ℕ → Symbol
   Sign : Mark → Symbol
 
 -- lists of symbols, with a symbol between two of them
@@ -129,6 +130,8 @@ items_symbols (items.Named names) = separated (map name_symbols names)
 -- update NAME set NAME = VALUE {, NAME = VALUE} [where ..]
 -- delete NAME [where ..]
 -- select [distinct] ITEMS from NAME {join ..} [where ..]
+-- load NAME COUNT
+-- dump NAME
 -- tables
 abbrev pub symbols_of : Command → List Symbol
 symbols_of (Table name schema) =
@@ -144,6 +147,8 @@ symbols_of (Delete table conditions) = Keyword (codes "delete") ∷ Name table �
 symbols_of (Select distinct items table joins conditions) =
     Keyword (codes "select") ∷ distinct_symbols distinct ++ items_symbols items ++ Keyword (codes "from") ∷ Name table
     ∷ flat_map join_symbols joins ++ where_symbols conditions
+symbols_of (Load table bytes) = Keyword (codes "load") ∷ Name table ∷ Count bytes ∷ []
+symbols_of (Dump table) = Keyword (codes "dump") ∷ Name table ∷ []
 symbols_of Tables = Keyword (codes "tables") ∷ []
 
 -- ---- the characters of a symbol
@@ -155,6 +160,10 @@ IsInteger characters z =
     FitsSigned w64 z × ((digits : List ℕ) × IsNumeral 10 digits
     × (((characters ≡ digits) × (z ≡ pos (digits_value 10 digits)))
     ⊎ ((characters ≡ 45 ∷ digits) × (z ≡ neg_ℤ (pos (digits_value 10 digits))))))
+
+-- A count is spelled by one or more digits, and is below 2^63. Zeros in front change nothing.
+abbrev pub IsCount : List ℕ → ℕ → Type 0
+IsCount characters n = (n < 2 ^ 63) × IsNumeral 10 characters × (n ≡ digits_value 10 characters)
 
 -- A text is spelled between quote marks. A quote mark in it is doubled: another stands before it.
 abbrev pub doubled : ℕ → List ℕ
@@ -189,6 +198,7 @@ IsSymbol characters (Name name) = (characters ≡ name) × IsName name
 IsSymbol characters (Literal value.Null) = characters ≡ codes "null"
 IsSymbol characters (Literal (value.Int z)) = IsInteger characters z
 IsSymbol characters (Literal (value.Text text)) = characters ≡ text_literal text
+IsSymbol characters (Count n) = IsCount characters n
 IsSymbol characters (Sign mark) = characters ≡ mark_text mark
 
 -- Whether a symbol would go on with the character behind it: words and numbers do with a letter or a digit, a text
@@ -199,6 +209,7 @@ goes_on_with (Name name) c = is_word_character c
 goes_on_with (Literal value.Null) c = is_word_character c
 goes_on_with (Literal (value.Int z)) c = is_word_character c
 goes_on_with (Literal (value.Text text)) c = c == 39
+goes_on_with (Count n) c = is_word_character c
 goes_on_with (Sign (Operator op.Lt)) c = (c == 61) || (c == 62)
 goes_on_with (Sign (Operator op.Gt)) c = c == 61
 goes_on_with (Sign mark) c = false
@@ -238,6 +249,8 @@ NamesSomething (Update table settings conditions) = 0 < length settings
 NamesSomething (Delete table conditions) = Unit {0}
 NamesSomething (Select distinct items.All table joins conditions) = Unit {0}
 NamesSomething (Select distinct (items.Named names) table joins conditions) = 0 < length names
+NamesSomething (Load table bytes) = Unit {0}
+NamesSomething (Dump table) = Unit {0}
 NamesSomething Tables = Unit {0}
 
 -- A line spells a command where it has no line feed in it and is made of the command's symbols, and no list of the command
@@ -287,7 +300,7 @@ AreSpellableItems items.All = Unit {0}
 AreSpellableItems (items.Named names) = (0 < length names) × AllByRecursion IsSpellableName names
 
 -- A command can be spelled where its names are names, its lists but those of joins and conditions aren't empty, its integers
--- have 64 bits, and no text of it holds a line feed.
+-- have 64 bits, its count is below 2^63, and no text of it holds a line feed.
 abbrev pub IsSpellable : Command → Type 0
 IsSpellable (Table name schema) =
     IsName name × (0 < length schema.columns) × AllByRecursion IsSpellableColumn schema.columns
@@ -301,6 +314,8 @@ IsSpellable (Update table settings conditions) =
 IsSpellable (Delete table conditions) = IsName table × AllByRecursion IsSpellableCondition conditions
 IsSpellable (Select distinct items table joins conditions) =
     AreSpellableItems items × IsName table × AllByRecursion IsSpellableJoin joins × AllByRecursion IsSpellableCondition conditions
+IsSpellable (Load table bytes) = IsName table × (bytes < 2 ^ 63)
+IsSpellable (Dump table) = IsName table
 IsSpellable Tables = Unit {0}
 
 -- The characters of a symbol in the canonical spelling. Numbers have no zeros in front, and 0 has no sign.
@@ -310,6 +325,7 @@ symbol_text (Name name) = name
 symbol_text (Literal value.Null) = codes "null"
 symbol_text (Literal (value.Int z)) = signed_decimal z
 symbol_text (Literal (value.Text text)) = text_literal text
+symbol_text (Count n) = decimal n
 symbol_text (Sign mark) = mark_text mark
 
 -- What stands between two symbols: no blank behind an opening parenthesis, before a closing one, before a comma, or on

@@ -51,6 +51,15 @@ pub enum Command {
         joins: Sequence<Join>,
         conditions: Sequence<Cond>,
     },
+    /// `load NAME COUNT`: the rows of the block of that many bytes behind the line, all of them or none.
+    Load {
+        table: Text,
+        bytes: u64,
+    },
+    /// `dump NAME`: all rows of the table, as a load and its block.
+    Dump {
+        table: Text,
+    },
     /// `tables`: what tables there are.
     Tables,
 }

@@ -50,6 +50,15 @@ pub enum Resolved {
         source: Source,
         joins: Sequence<Joined>,
     },
+    /// These rows more, all of them or none.
+    Load {
+        table: TableNumber,
+        rows: Sequence<Sequence<Value>>,
+    },
+    /// All rows of the table, as a load and its block.
+    Dump {
+        table: TableNumber,
+    },
     /// What tables there are.
     Tables,
 }

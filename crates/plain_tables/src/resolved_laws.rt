@@ -3,7 +3,7 @@
 ghost use Rattle.std.specs.Prelude.{[]};
 ghost use Rattle.plain_tables.specs.declared.command.Limits.{Limits};
 ghost use Rattle.plain_tables.specs.References.{IsSound};
-ghost use Rattle.plain_tables.specs.ResolvedLaws.{SpellableAreGiven, ResolvedAreMeant, DoneKeepsSound, UpdateKeepsSound, DeleteKeepsSound, CommandsKeepSound, ResolvedAlike, DoneAlike, OwnRowsChange, RefusedKeeps, RefusedUpdateKeeps, RefusedDeleteKeeps, UpdateKeepsUnpicked, UpdateSetsPicked, DeletesThePicked, SelectsRows, ShownFitHeadings};
+ghost use Rattle.plain_tables.specs.ResolvedLaws.{SpellableAreGiven, ResolvedAreMeant, DoneKeepsSound, UpdateKeepsSound, DeleteKeepsSound, CommandsKeepSound, ResolvedAlike, DoneAlike, OwnRowsChange, RefusedKeeps, RefusedUpdateKeeps, RefusedDeleteKeeps, UpdateKeepsUnpicked, UpdateSetsPicked, DeletesThePicked, LoadGoesOn, LoadsAreTold, LoadCanBeTakenBack, SelectsRows, ShownFitHeadings};
 
 /// A database of no tables is sound.
 pub fn no_tables_are_sound()
@@ -75,6 +75,21 @@ pub fn update_sets_the_picked()
 /// A delete takes out the rows that it picks, and leaves the others as they are and in order.
 pub fn delete_takes_the_picked()
     ensures { DeletesThePicked }
+{}
+
+/// A load of rows goes on from the load of the first of them.
+pub fn load_goes_on()
+    ensures { LoadGoesOn }
+{}
+
+/// A load adds all its rows, or tells the record of one that is refused and adds none.
+pub fn loads_are_told()
+    ensures { LoadsAreTold }
+{}
+
+/// What was loaded can be taken back by a delete.
+pub fn load_can_be_taken_back()
+    ensures { LoadCanBeTakenBack }
 {}
 
 /// A select of all columns, with no tests, shows the rows of its table.

@@ -1,5 +1,0 @@
-use Rattle.plain_tables.proofs.DivisionLemmas.{divides_in_one_way}
-use Rattle.plain_tables.proofs.laws.divides_in_one_way.Goals as goal
-
-pub returns : goal.returns
-returns c = divides_in_one_way

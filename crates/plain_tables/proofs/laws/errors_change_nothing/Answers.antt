@@ -1,5 +1,0 @@
-use Rattle.plain_tables.proofs.RunLemmas.{errors_change_nothing}
-use Rattle.plain_tables.proofs.laws.errors_change_nothing.Goals as goal
-
-pub returns : goal.returns
-returns c = errors_change_nothing

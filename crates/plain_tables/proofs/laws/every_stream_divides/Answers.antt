@@ -1,5 +1,0 @@
-use Rattle.plain_tables.proofs.DivisionLemmas.{every_stream_divides}
-use Rattle.plain_tables.proofs.laws.every_stream_divides.Goals as goal
-
-pub returns : goal.returns
-returns c = every_stream_divides

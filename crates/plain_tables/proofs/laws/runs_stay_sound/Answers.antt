@@ -1,5 +1,0 @@
-use Rattle.plain_tables.proofs.RunLemmas.{runs_stay_sound}
-use Rattle.plain_tables.proofs.laws.runs_stay_sound.Goals as goal
-
-pub returns : goal.returns
-returns c = runs_stay_sound
