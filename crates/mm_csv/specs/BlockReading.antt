@@ -8,7 +8,7 @@ use Rattle.csv.specs.Reading as Csv
 use Rattle.csv.specs.declared.parser.State.{State}
 use Rattle.csv.specs.declared.reader.Reader.{Reader}
 use Rattle.csv.specs.declared.reader.Trim.TheVariants as trim
-use Rattle.plain_tables.specs.CsvReading.{BlockColumn, Reading, BadHeader, BadRecord, begins_with_mark, records_reading, without_mark}
+use Rattle.plain_tables.specs.CsvReading.{Record, BlockColumn, Reading, BadHeader, BadRecord, begins_with_mark, records_reading, without_mark}
 use Rattle.mm_csv.specs.declared.csv_refusal.CsvRefusal.{CsvRefusal}
 use Rattle.mm_csv.specs.declared.csv_refusal.CsvRefusal.TheVariants as refusal
 use Rattle.mm_csv.specs.declared.field.Field.{Field}
@@ -21,12 +21,15 @@ column_of field = record { name = field.name; kind = field.kind; null = field.nu
 abbrev pub columns_of : List Field → List BlockColumn
 columns_of layout = map column_of layout
 
--- What a block is read as. The mark at its front is taken off once, and no other may stand there. Then its records are those
--- that the crate csv states of a text, with the settings that it begins with.
+-- The records of a block. The mark at its front is taken off once; if another stands behind it there are none. Else the
+-- records are those that the crate csv states of a text, with the settings that it begins with.
+abbrev pub block_records : List ℕ → List Record
+block_records block =
+    if begins_with_mark (without_mark block) then [] else Csv.records Csv.default_config (without_mark block)
+
+-- what a block is read as
 abbrev pub block_reading : List BlockColumn → List ℕ → Reading
-block_reading columns block =
-    if begins_with_mark (without_mark block) then BadHeader
-    else records_reading columns (Csv.records Csv.default_config (without_mark block))
+block_reading columns block = records_reading columns (block_records block)
 
 -- A refusal says what the block is read as. Where no memory was found it says nothing.
 abbrev pub Tells : CsvRefusal → Reading → Type 0
