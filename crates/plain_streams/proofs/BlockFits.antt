@@ -1,0 +1,237 @@
+-- Blocks of a sound table: its columns have types, and its rows fit them.
+use Rattle.std.proofs.Common.{◌≡◌, ℕ, zero, suc, ◌≤◌, List, [], ◌∷◌, ◌++◌, length, map, get_or, Bool, true, false, Option, Some, None, inl, inr, refl, sym, ap, ◌∙◌, subst, append_assoc}
+use Rattle.std.specs.Prelude.{FitsSigned, IfSome, IsTrue, nat_lt}
+use Rattle.std.specs.Int.{w64}
+use Rattle.std.specs.List.{All, AllPairs, AllZip, find, list_any, slice_get}
+use Rattle.std.specs.FinSet.{slice_cmp-IsAntisymmetric}
+use Rattle.std.specs.Option.{is_some, option_and_then, option_map, option_map_or}
+use Rattle.std.specs.Ordering.{is_eq}
+use Rattle.std.specs.declared.cmp.Ordering.{Ordering}
+use Rattle.std.specs.declared.cmp.Ordering.TheVariants.{Less, Equal, Greater}
+use Rattle.std.proofs.lemmas.Bool.{cases_Bool, false≢true, false_from_ne_true, le-ltb}
+use Rattle.std.proofs.lemmas.List.Elements.{All-nil, All-cons, All-head, All-tail}
+use Rattle.std.proofs.lemmas.Option.{none-some, same_Some}
+use Rattle.std.proofs.lemmas.Slice.Eq.{bytes_eq-Decides}
+use Rattle.plain_tables.specs.Names.{IsName}
+use Rattle.plain_tables.specs.Tables.{Table, Row, key_cmp, has_key_of}
+use Rattle.plain_tables.specs.Databases.{Database, is_named, table_named}
+use Rattle.plain_tables.specs.References.{IsSound, IsSoundTable, CanHold, IsRowOf, RefersInto, ReferBack, is_held, key_type, own_type, referred, takes_null, type_of}
+use Rattle.plain_tables.specs.CsvReading.{BlockColumn, Fits, FitsRow, all_of}
+use Rattle.plain_tables.specs.Resolving.{block_column}
+use Rattle.plain_tables.specs.declared.value.Value.{Value}
+use Rattle.plain_tables.specs.declared.value.Value.TheVariants as value
+use Rattle.plain_tables.specs.declared.schema.BaseKind.{BaseKind}
+use Rattle.plain_tables.specs.declared.schema.BaseKind.TheVariants as base
+use Rattle.plain_tables.specs.declared.schema.ColKind.{ColKind}
+use Rattle.plain_tables.specs.declared.schema.ColKind.TheVariants as kind
+use Rattle.plain_tables.specs.declared.schema.Column.{Column}
+use Rattle.plain_tables.specs.declared.command.Limits.{Limits}
+use Rattle.plain_tables.proofs.HeldLemmas.{RowsFit}
+use Rattle.plain_tables.proofs.ListLemmas.{AllPairs-behind, find_satisfies, option_map_some}
+use Rattle.plain_tables.proofs.ValueLemmas.{value_cmp-exact}
+use Rattle.plain_streams.specs.Dumps.{IsReadBack}
+
+-- ---- lists
+
+-- one of the elements passes, and holds what all hold
+any_satisfies : {X : Type 0} (P : X → Type 0) (p : X → Bool) (xs : List X) → All P xs → list_any p xs ≡ true → (x : X) × P x × (p x ≡ true)
+any_satisfies P p [] all some = absurd (false≢true some)
+any_satisfies P p (x ∷ xs) all some = elim (cases_Bool (p x)) [
+  | inl passes ↦ (x, All-head P x xs all, passes)
+  | inr fails ↦ any_satisfies P p xs (All-tail P x xs all) (rw fails at some)
+]
+
+found-in_front : {X : Type 0} (p : X → Bool) (xs ys : List X) (x : X) → find p xs ≡ Some x → find p (xs ++ ys) ≡ Some x
+found-in_front p [] ys x found = absurd (none-some x found)
+found-in_front p (z ∷ xs) ys x found = elim (cases_Bool (p z)) [
+  | inl passes ↦ rw passes (rw passes at found)
+  | inr fails ↦ rw fails (found-in_front p xs ys x (rw fails at found))
+]
+
+some-there : {X : Type 0} (o : Option X) → is_some o ≡ true → (x : X) × (o ≡ Some x)
+some-there None some = absurd (false≢true some)
+some-there (Some x) some = (x, refl)
+
+-- ---- the tables that a table refers to
+
+-- the tables before one, to which it refers
+refers-before : (before after : Database) (n : ℕ) (t : Table) → ReferBack before after → slice_get after n ≡ Some t
+    → (front : Database) × (back : Database) × (before ++ after ≡ front ++ t ∷ back) × All (RefersInto front) t.columns
+refers-before before [] n t back there = absurd (none-some t there)
+refers-before before (u ∷ after) zero t back there =
+    let same : u ≡ t = same_Some u t there in
+    (before, after, ap (λ v. before ++ v ∷ after) same, subst (λ (v : Table). All (RefersInto before) v.columns) same back.0)
+refers-before before (u ∷ after) (suc n) t back there =
+    let (front, rest, whole, refer) = refers-before (before ++ u ∷ []) after n t back.1 there in
+    (front, rest, sym (append_assoc before (u ∷ []) after) ∙ whole, refer)
+
+-- It is there, and isn't this one.
+abbrev pub IsElsewhere : Database → Table → List ℕ → Type 0
+IsElsewhere tables t name = (u : Table) × (table_named name tables ≡ Some u) × (is_named name t ≡ false)
+
+elsewhere : (tables front back : Database) (t : Table) → tables ≡ front ++ t ∷ back → AllPairs (λ u v. u.name ≡ v.name → ⊥) tables
+    → (o : Option (List ℕ)) → option_map_or (λ name. is_some (table_named name front)) o true ≡ true → IfSome o (IsElsewhere tables t)
+elsewhere tables front back t whole apart None refers = tt
+elsewhere tables front back t whole apart (Some name) refers =
+    let (u, found) = some-there (table_named name front) refers in
+    let differ = AllPairs-behind (λ v w. v.name ≡ w.name → ⊥) front t back (subst (AllPairs (λ v w. v.name ≡ w.name → ⊥)) whole apart) in
+    let (other, named) = find_satisfies (λ v. v.name ≡ t.name → ⊥) (is_named name) front u differ found in (
+      u,
+      ap (table_named name) whole ∙ found-in_front (is_named name) front (t ∷ back) u found,
+      false_from_ne_true (is_named name t) (λ same. other ((bytes_eq-Decides u.name name).0 named ∙ sym ((bytes_eq-Decides t.name name).0 same))),
+    )
+
+pub refers_elsewhere : (limits : Limits) (tables : Database) (n : ℕ) (t : Table) → IsSound limits tables → slice_get tables n ≡ Some t
+    → All (λ c. IfSome (referred c.kind) (IsElsewhere tables t)) t.columns
+refers_elsewhere limits tables n t sound there =
+    let (front, back, whole, refer) = refers-before [] tables n t sound.refer_back there in
+    λ k c within. elsewhere tables front back t whole sound.apart (referred (get_or t.columns k c).kind) (refer k c within)
+
+-- ---- the columns of a block
+
+-- what each of a list gives, where it gives all of it
+all_parts : {X : Type 0} (o : Option X) (os : List (Option X)) (ys : List X) → all_of (o ∷ os) ≡ Some ys
+    → (x : X) × (xs : List X) × (o ≡ Some x) × (all_of os ≡ Some xs) × (x ∷ xs ≡ ys)
+all_parts None os ys h = absurd (none-some ys h)
+all_parts (Some x) os ys h =
+    let rest = option_map_some (λ others. x ∷ others) (all_of os) ys h in (x, rest.0, refl, rest.1, rest.2)
+
+all_more : {X : Type 0} (o : Option X) (x : X) (os : List (Option X)) (xs : List X) → o ≡ Some x → all_of os ≡ Some xs → all_of (o ∷ os) ≡ Some (x ∷ xs)
+all_more o x os xs first rest = rw (first, rest) refl
+
+type_there : (limits : Limits) (tables : Database) (t : Table) → IsSound limits tables → (c : Column) → IfSome (referred c.kind) (IsElsewhere tables t)
+    → is_some (type_of tables c.kind) ≡ true
+type_there limits tables t sound c elsewhere = by c.kind elsewhere
+  where
+    keyed : (name : List ℕ) → IsElsewhere tables t name → is_some (option_and_then key_type (table_named name tables)) ≡ true
+    keyed name (u, found, other) = rw found ((find_satisfies (IsSoundTable limits) (is_named name) tables u sound.each found).0.keyed)
+
+    by : (k : ColKind) → IfSome (referred k) (IsElsewhere tables t) → is_some (type_of tables k) ≡ true
+    by kind.Int there = refl
+    by kind.Text there = refl
+    by (kind.Ref name) there = keyed name there
+    by (kind.RefOrNull name) there = keyed name there
+
+pub columns-typed : (tables : Database) (columns : List Column) → All (λ c. is_some (type_of tables c.kind) ≡ true) columns
+    → (blocks : List BlockColumn) × (all_of (map (block_column tables) columns) ≡ Some blocks)
+columns-typed tables [] typed = ([], refl)
+columns-typed tables (c ∷ columns) typed =
+    let (k, type) = some-there (type_of tables c.kind) (All-head (λ d. is_some (type_of tables d.kind) ≡ true) c columns typed) in
+    let (blocks, rest) = columns-typed tables columns (All-tail (λ d. is_some (type_of tables d.kind) ≡ true) c columns typed) in
+    let of : BaseKind → BlockColumn = λ b. record { name = c.name; kind = b; null = takes_null c.kind } in
+    (of k ∷ blocks, all_more (block_column tables c) (of k) (map (block_column tables) columns) blocks (ap (option_map of) type) rest)
+
+-- a sound table has the columns of a block
+pub table-typed : (limits : Limits) (tables : Database) (n : ℕ) (t : Table) → IsSound limits tables → slice_get tables n ≡ Some t
+    → (blocks : List BlockColumn) × (all_of (map (block_column tables) t.columns) ≡ Some blocks)
+table-typed limits tables n t sound there =
+    let elsewhere = refers_elsewhere limits tables n t sound there in
+    columns-typed tables t.columns (λ k c within. type_there limits tables t sound (get_or t.columns k c) (elsewhere k c within))
+
+pub block-names : (tables : Database) (columns : List Column) (blocks : List BlockColumn) → all_of (map (block_column tables) columns) ≡ Some blocks
+    → map (λ b. b.name) blocks ≡ map (λ c. c.name) columns
+block-names tables [] blocks of = let none : [] ≡ blocks = same_Some [] blocks of in rw (← none) refl
+block-names tables (c ∷ columns) blocks of =
+    let (b, bs, first, rest, whole) = all_parts (block_column tables c) (map (block_column tables) columns) blocks of in
+    let (k, type, same) = option_map_some (λ k. record { name = c.name; kind = k; null = takes_null c.kind }) (type_of tables c.kind) b first in
+    rw (← whole, block-names tables columns bs rest, ← same) refl
+
+pub blocks-named : (tables : Database) (columns : List Column) (blocks : List BlockColumn) → all_of (map (block_column tables) columns) ≡ Some blocks
+    → All (λ c. IsName c.name) columns → All (λ b. IsName b.name) blocks
+blocks-named tables [] blocks of named =
+    let none : [] ≡ blocks = same_Some [] blocks of in rw (← none) (All-nil (λ (b : BlockColumn). IsName b.name))
+blocks-named tables (c ∷ columns) blocks of named =
+    let (b, bs, first, rest, whole) = all_parts (block_column tables c) (map (block_column tables) columns) blocks of in
+    let (k, type, same) = option_map_some (λ k. record { name = c.name; kind = k; null = takes_null c.kind }) (type_of tables c.kind) b first in
+    let head : IsName b.name = subst (λ (d : BlockColumn). IsName d.name) same (All-head (λ d. IsName d.name) c columns named) in
+    rw (← whole) (All-cons (λ d. IsName d.name) b bs head (blocks-named tables columns bs rest (All-tail (λ d. IsName d.name) c columns named)))
+
+-- ---- keys
+
+-- a key of this type; a null is none
+abbrev IsKey : BaseKind → Value → Type 0
+IsKey k value.Null = Unit {0}
+IsKey k (value.Int z) = (k ≡ base.Int) × FitsSigned w64 z
+IsKey k (value.Text text) = (k ≡ base.Text) × (length text ≤ 1024)
+
+key-of_own : (tables : Database) (c : ColKind) (k : BaseKind) (v : Value) → own_type c ≡ Some k → CanHold tables c v → IsKey k v
+key-of_own tables c k value.Null type holds = tt
+key-of_own tables kind.Int k (value.Int z) type holds = (sym (same_Some base.Int k type), holds)
+key-of_own tables kind.Int k (value.Text text) type holds = absurd holds
+key-of_own tables kind.Text k (value.Int z) type holds = absurd holds
+key-of_own tables kind.Text k (value.Text text) type holds = (sym (same_Some base.Text k type), holds)
+key-of_own tables (kind.Ref name) k (value.Int z) type holds = absurd (none-some k type)
+key-of_own tables (kind.Ref name) k (value.Text text) type holds = absurd (none-some k type)
+key-of_own tables (kind.RefOrNull name) k (value.Int z) type holds = absurd (none-some k type)
+key-of_own tables (kind.RefOrNull name) k (value.Text text) type holds = absurd (none-some k type)
+
+key-value : (w v : Value) → is_eq (key_cmp (w ∷ []) (v ∷ [])) ≡ true → w ≡ v
+key-value w v same = by (key_cmp (w ∷ []) (v ∷ [])) refl same
+  where
+    by : (o : Ordering) → key_cmp (w ∷ []) (v ∷ []) ≡ o → is_eq o ≡ true → w ≡ v
+    by Less is eq = absurd (false≢true eq)
+    by Greater is eq = absurd (false≢true eq)
+    by Equal is eq =
+        let whole : w ∷ [] ≡ v ∷ [] = slice_cmp-IsAntisymmetric (λ x y. (value_cmp-exact x y).0) (w ∷ []) (v ∷ []) is in cc
+
+key-of_row : (tables : Database) (columns : List Column) (row : Row) (k : BaseKind) (v : Value)
+    → option_and_then (λ c. own_type c.kind) (slice_get columns 0) ≡ Some k → IsRowOf tables columns row
+    → is_eq (key_cmp row (v ∷ [])) ≡ true → IsKey k v
+key-of_row tables [] row k v type fits same = absurd (none-some k type)
+key-of_row tables (c ∷ columns) [] k v type fits same = absurd fits
+key-of_row tables (c ∷ columns) (w ∷ row) k v type fits same =
+    subst (IsKey k) (key-value w v same) (key-of_own tables c.kind k w type fits.0)
+
+-- a value that names a row has the type of its table's keys
+key-held : (limits : Limits) (tables : Database) (name : List ℕ) (k : BaseKind) (v : Value) → IsSound limits tables
+    → option_and_then key_type (table_named name tables) ≡ Some k → is_held tables (name, v) ≡ true → IsKey k v
+key-held limits tables name k v sound type held = by (table_named name tables) refl type held
+  where
+    by : (o : Option Table) → table_named name tables ≡ o → option_and_then key_type o ≡ Some k
+        → option_map_or (λ t. has_key_of (v ∷ []) t.rows) o false ≡ true → IsKey k v
+    by None found typed has = absurd (none-some k typed)
+    by (Some u) found typed has =
+        let fit = (find_satisfies (RowsFit tables) (is_named name) tables u sound.rows_fit found).0 in
+        let (row, fits, same) = any_satisfies (IsRowOf tables u.columns) (λ r. is_eq (key_cmp r (v ∷ []))) u.rows fit has in
+        key-of_row tables u.columns row k v typed fits same
+
+-- ---- rows
+
+short-text : (text : List ℕ) → length text ≤ 1024 → nat_lt 1024 (length text) ≡ false
+short-text text few = le-ltb 1024 (length text) few
+
+-- a key that is read back fits a column of its type
+key-fits : (c : Column) (k : BaseKind) (v : Value) → (v ≡ value.Null → IsTrue (takes_null c.kind)) → IsKey k v → IsReadBack c v
+    → Fits (record { name = c.name; kind = k; null = takes_null c.kind }) v
+key-fits c k value.Null null key read = null refl
+key-fits c k (value.Int z) null key read = key
+key-fits c k (value.Text text) null key read = (key.0, read.0, short-text text key.1, read.1)
+
+-- what a column of this type holds is a key of it
+holds-key : (limits : Limits) (tables : Database) (c : ColKind) (k : BaseKind) (v : Value) → IsSound limits tables → type_of tables c ≡ Some k
+    → CanHold tables c v → IsKey k v
+holds-key limits tables c k value.Null sound type holds = tt
+holds-key limits tables kind.Int k (value.Int z) sound type holds = key-of_own tables kind.Int k (value.Int z) type holds
+holds-key limits tables kind.Int k (value.Text text) sound type holds = absurd holds
+holds-key limits tables kind.Text k (value.Int z) sound type holds = absurd holds
+holds-key limits tables kind.Text k (value.Text text) sound type holds = key-of_own tables kind.Text k (value.Text text) type holds
+holds-key limits tables (kind.Ref name) k (value.Int z) sound type holds = key-held limits tables name k (value.Int z) sound type holds
+holds-key limits tables (kind.Ref name) k (value.Text text) sound type holds = key-held limits tables name k (value.Text text) sound type holds
+holds-key limits tables (kind.RefOrNull name) k (value.Int z) sound type holds = key-held limits tables name k (value.Int z) sound type holds
+holds-key limits tables (kind.RefOrNull name) k (value.Text text) sound type holds = key-held limits tables name k (value.Text text) sound type holds
+
+value-fits : (limits : Limits) (tables : Database) (c : Column) (b : BlockColumn) (v : Value) → IsSound limits tables → block_column tables c ≡ Some b
+    → CanHold tables c.kind v → IsReadBack c v → Fits b v
+value-fits limits tables c b v sound of holds read =
+    let (k, type, same) = option_map_some (λ k. record { name = c.name; kind = k; null = takes_null c.kind }) (type_of tables c.kind) b of in
+    subst (λ d. Fits d v) same
+    (key-fits c k v (λ null. subst (CanHold tables c.kind) null holds) (holds-key limits tables c.kind k v sound type holds) read)
+
+pub row-fits : (limits : Limits) (tables : Database) (columns : List Column) (blocks : List BlockColumn) (row : Row) → IsSound limits tables
+    → all_of (map (block_column tables) columns) ≡ Some blocks → IsRowOf tables columns row → AllZip IsReadBack columns row → FitsRow blocks row
+row-fits limits tables [] blocks [] sound of fits read = let none : [] ≡ blocks = same_Some [] blocks of in rw (← none) tt
+row-fits limits tables [] blocks (v ∷ row) sound of fits read = absurd fits
+row-fits limits tables (c ∷ columns) blocks [] sound of fits read = absurd fits
+row-fits limits tables (c ∷ columns) blocks (v ∷ row) sound of fits read =
+    let (b, bs, first, rest, whole) = all_parts (block_column tables c) (map (block_column tables) columns) blocks of in
+    rw (← whole) (value-fits limits tables c b v sound first fits.0 read.0, row-fits limits tables columns bs row sound rest fits.1 read.1)

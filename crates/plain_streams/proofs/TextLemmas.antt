@@ -1,0 +1,336 @@
+-- Each request, and so each run, keeps the texts of a database UTF-8.
+use Rattle.std.proofs.Common.{◌≡◌, ℕ, List, [], ◌∷◌, ◌++◌, map, set, length, Bool, cond, sym, subst, Option, Some, None}
+use Rattle.std.specs.Prelude.{ℤ, Result, Ok, Err, IfSome, not, slice_get, zip, ◌&&◌, ◌==◌}
+use Rattle.std.specs.List.{All, AllZip}
+use Rattle.std.specs.Option.{option_map, option_map_or}
+use Rattle.std.specs.Str.{is_utf8}
+use Rattle.std.proofs.lemmas.Bool.{cond_both, and_parts}
+use Rattle.std.proofs.lemmas.List.Elements.{All-nil, All-cons, All-head, All-tail, All-append, All-set, All-map, All-filter, All-weaker}
+use Rattle.std.proofs.lemmas.Str.{IsUtf8-from_is_utf8}
+use Rattle.plain_tables.specs.Tables.{Table, Row}
+use Rattle.plain_tables.specs.Databases.{Database, is_named, table_named}
+use Rattle.plain_tables.specs.Queries.{JoinedColumn, place_meant}
+use Rattle.plain_tables.specs.Effects.{Effect, Check, setting_name, new_table, grown_by, is_long}
+use Rattle.plain_tables.specs.CsvReading.{Record, BlockColumn, Reading, Rows, BadHeader, BadRecord, integer_of, plain_value, field_value, all_of, row_of, is_header, rows_reading, records_reading}
+use Rattle.plain_tables.specs.Resolving.{meaning, number_of, own_columns, on_numbered, on_column, tests_of, assignments_of, block_columns, table_reading, load_of, resolved_of, table_checks, drop_checks, index_checks, drop_index_checks, insert_checks, update_checks, delete_checks, select_checks, select_of}
+use Rattle.plain_tables.specs.Doing.{assigned, passes_all, dump_checks, delete_checks as row_delete_checks, update_checks as row_update_checks, updated, without, with_index, without_index, insert, done}
+use Rattle.plain_tables.specs.declared.value.Value.{Value}
+use Rattle.plain_tables.specs.declared.value.Value.TheVariants as value
+use Rattle.plain_tables.specs.declared.schema.BaseKind.{BaseKind}
+use Rattle.plain_tables.specs.declared.schema.BaseKind.TheVariants as kind
+use Rattle.plain_tables.specs.declared.schema.Column.{Column}
+use Rattle.plain_tables.specs.declared.refusal.Refusal.{Refusal}
+use Rattle.plain_tables.specs.declared.refusal.Refusal.TheVariants.{NoSuchTable, NoSuchColumn}
+use Rattle.plain_tables.specs.declared.command.Setting.{Setting}
+use Rattle.plain_tables.specs.declared.command.Limits.{Limits}
+use Rattle.plain_tables.specs.declared.command.Command.{Command}
+use Rattle.plain_tables.specs.declared.command.Command.TheVariants as command
+use Rattle.plain_tables.specs.declared.numbers.ColumnNumber.{ColumnNumber}
+use Rattle.plain_tables.specs.declared.numbers.TableNumber.{TableNumber}
+use Rattle.plain_tables.specs.declared.resolved.Assignment.{Assignment}
+use Rattle.plain_tables.specs.declared.resolved.Resolved.{Resolved}
+use Rattle.plain_tables.specs.declared.resolved.Resolved.TheVariants as resolved
+use Rattle.plain_tables.proofs.EffectLemmas.{checked_satisfies, of_table_satisfies, effect_satisfies, insert_satisfies, loaded_satisfies, load_satisfies}
+use Rattle.plain_tables.proofs.ListLemmas.{All-at, All-remove, mapped_more, option_map_or_satisfies, find_satisfies}
+use Rattle.plain_tables.proofs.RowLemmas.{All-with_row}
+use Rattle.plain_tables.proofs.SoundLemmas.{no_tables_are_sound}
+use Rattle.mm_csv.specs.BlockReading.{block_records}
+use Rattle.plain_streams.specs.Requests.{Request}
+use Rattle.plain_streams.specs.Division.{last_request}
+use Rattle.plain_streams.specs.Dumps.{IsReadBack}
+use Rattle.plain_streams.specs.Runs.{IsEffect, too_long, not_utf8, not_a_command, block_too_long, block_cut_short, command as does, Answers, silent, effect, no_memory, AnswersAll, line_of}
+use Rattle.plain_streams.specs.Texts.{IsTextUtf8, HasTextsUtf8, AreTextsUtf8, IsUnlikeNull, ReachedAreReadBack, TextsStayUtf8, DumpsOfRunsLoadAgain}
+use Rattle.plain_streams.proofs.DumpLemmas.{dumps_load_again}
+use Rattle.plain_streams.proofs.RunLemmas.{runs_stay_sound}
+use Rattle.plain_streams.proofs.SpelledTexts.{StoresUtf8, spelled-stored}
+
+-- ---- records of a block
+
+if_mapped : {X Y : Type 0} (P : X → Type 0) (Q : Y → Type 0) (f : X → Y) → ((x : X) → P x → Q (f x)) → (o : Option X) → IfSome o P
+    → IfSome (option_map f o) Q
+if_mapped P Q f each None one = tt
+if_mapped P Q f each (Some x) one = each x one
+
+all_of-one : {Y : Type 0} (P : Y → Type 0) (first : Option Y) (others : List (Option Y)) → IfSome first P
+    → IfSome (all_of others) (All P) → IfSome (all_of (first ∷ others)) (All P)
+all_of-one P None others one rest = tt
+all_of-one P (Some y) others one rest =
+    if_mapped (All P) (All P) (λ ys. y ∷ ys) (λ ys all. All-cons P y ys one all) (all_of others) rest
+
+all_of-each : {X Y : Type 0} (P : Y → Type 0) (f : X → Option Y) → ((x : X) → IfSome (f x) P) → (xs : List X)
+    → IfSome (all_of (map f xs)) (All P)
+all_of-each P f each [] = All-nil P
+all_of-each P f each (x ∷ xs) = all_of-one P (f x) (map f xs) (each x) (all_of-each P f each xs)
+
+integer-utf8 : (o : Option ℤ) → IfSome (option_map value.Int o) IsTextUtf8
+integer-utf8 None = tt
+integer-utf8 (Some z) = tt
+
+plain-utf8 : (k : BaseKind) (field : List ℕ) → IfSome (plain_value k field) IsTextUtf8
+plain-utf8 kind.Int field = integer-utf8 (integer_of field)
+plain-utf8 kind.Text field =
+    cond_both (is_utf8 field && not (is_long (value.Text field))) (Some (value.Text field)) None (λ o. IfSome o IsTextUtf8)
+    (λ both. IsUtf8-from_is_utf8 field (and_parts (is_utf8 field) (not (is_long (value.Text field))) both).0) (λ f. tt)
+
+field-utf8 : (column : BlockColumn) (field : List ℕ) → IfSome (field_value column field) IsTextUtf8
+field-utf8 column field =
+    cond_both (column.null && (length field == 0)) (Some value.Null) (plain_value column.kind field) (λ o. IfSome o IsTextUtf8)
+    (λ t. tt) (λ f. plain-utf8 column.kind field)
+
+row-utf8 : (columns : List BlockColumn) (fields : Record) → IfSome (row_of columns fields) (All IsTextUtf8)
+row-utf8 columns fields =
+    cond_both (length fields == length columns) (all_of (map (λ pair. field_value pair.0 pair.1) (zip columns fields))) None
+    (λ o. IfSome o (All IsTextUtf8))
+    (λ t. all_of-each IsTextUtf8 (λ (pair : BlockColumn × List ℕ). field_value pair.0 pair.1)
+    (λ pair. field-utf8 pair.0 pair.1) (zip columns fields))
+    (λ f. tt)
+
+-- the texts of the rows that are read, if rows are
+abbrev ReadsUtf8 : Reading → Type 0
+ReadsUtf8 (Rows rows) = All (All IsTextUtf8) rows
+ReadsUtf8 reading = Unit {0}
+
+found-utf8 : (found : Option (List Row)) (bad : ℕ) → IfSome found (All (All IsTextUtf8))
+    → ReadsUtf8 (option_map_or Rows found (BadRecord bad))
+found-utf8 None bad all = tt
+found-utf8 (Some rows) bad all = all
+
+records-utf8 : (columns : List BlockColumn) (records : List Record) → ReadsUtf8 (records_reading columns records)
+records-utf8 columns [] = tt
+records-utf8 columns (header ∷ records) =
+    cond_both (is_header columns header) (rows_reading columns records) BadHeader ReadsUtf8
+    (λ t. found-utf8 (all_of (map (row_of columns) records)) _
+    (all_of-each (All IsTextUtf8) (row_of columns) (row-utf8 columns) records))
+    (λ f. tt)
+
+reading-utf8 : (tables : Database) (table : Table) (records : List Record) → ReadsUtf8 (table_reading tables table records)
+reading-utf8 tables table records =
+    option_map_or_satisfies ReadsUtf8 (λ columns. records_reading columns records) (block_columns tables table) BadHeader tt
+    (λ columns there. records-utf8 columns records)
+
+-- ---- what a command is resolved to
+
+-- the texts that a resolved command is to store
+abbrev SetsUtf8 : Resolved → Type 0
+SetsUtf8 (resolved.Insert n row) = All IsTextUtf8 row
+SetsUtf8 (resolved.Update n assignments tests) = All (λ a. IsTextUtf8 a.value) assignments
+SetsUtf8 (resolved.Load n rows) = All (All IsTextUtf8) rows
+SetsUtf8 r = Unit {0}
+
+-- the texts that a command is to store, if it isn't refused
+abbrev MeansUtf8 : Result Resolved Refusal → Type 0
+MeansUtf8 (Ok r) = SetsUtf8 r
+MeansUtf8 (Err why) = Unit {0}
+
+meaning-utf8 : (checks : List Check) (r : Resolved) → SetsUtf8 r → MeansUtf8 (meaning checks r)
+meaning-utf8 [] r is = is
+meaning-utf8 (c ∷ checks) r is =
+    cond_both c.refuses (Err c.refusal) (meaning checks r) MeansUtf8 (λ t. tt) (λ f. meaning-utf8 checks r is)
+
+numbered-utf8 : (name : List ℕ) (tables : Database) (means : TableNumber → Table → Result Resolved Refusal)
+    → ((table : Table) → MeansUtf8 (means (number_of name tables) table)) → MeansUtf8 (on_numbered name tables means)
+numbered-utf8 name tables means each =
+    option_map_or_satisfies MeansUtf8 (means (number_of name tables)) (table_named name tables) (Err NoSuchTable) tt
+    (λ table there. each table)
+
+column-utf8 : (column : List ℕ) (table : Table) (means : ColumnNumber → Result Resolved Refusal)
+    → ((c : ColumnNumber) → MeansUtf8 (means c)) → MeansUtf8 (on_column column table means)
+column-utf8 column table means each =
+    option_map_or_satisfies MeansUtf8 (λ place. means place.column)
+    (place_meant (own_columns table) (record { table = None; column = column })) (Err NoSuchColumn) tt
+    (λ place there. each place.column)
+
+assignments-utf8 : (columns : List JoinedColumn) (settings : List Setting) → All (λ s. IsTextUtf8 s.value) settings
+    → All (λ a. IsTextUtf8 a.value) (assignments_of columns settings)
+assignments-utf8 columns [] all = All-nil (λ a. IsTextUtf8 a.value)
+assignments-utf8 columns (s ∷ settings) all =
+    mapped_more (λ (a : Assignment). IsTextUtf8 a.value) (λ place. record { column = place.column; value = s.value })
+    (place_meant columns (setting_name s)) (assignments_of columns settings)
+    (λ place meant. All-head (λ (t : Setting). IsTextUtf8 t.value) s settings all)
+    (assignments-utf8 columns settings (All-tail (λ (t : Setting). IsTextUtf8 t.value) s settings all))
+
+load-utf8 : (n : TableNumber) (reading : Reading) → ReadsUtf8 reading → MeansUtf8 (load_of n reading)
+load-utf8 n (Rows rows) all = all
+load-utf8 n BadHeader all = tt
+load-utf8 n (BadRecord k) all = tt
+
+resolved-utf8 : (records : List Record) (tables : Database) (c : Command) → StoresUtf8 c → MeansUtf8 (resolved_of records tables c)
+resolved-utf8 records tables (command.Table name schema) stores =
+    meaning-utf8 (table_checks tables name schema) (resolved.Table name schema) tt
+resolved-utf8 records tables (command.DropTable name) stores =
+    numbered-utf8 name tables (λ n table. meaning (drop_checks tables table) (resolved.DropTable n))
+    (λ table. meaning-utf8 (drop_checks tables table) (resolved.DropTable (number_of name tables)) tt)
+resolved-utf8 records tables (command.Index name column k) stores =
+    numbered-utf8 name tables (λ n table. on_column column table (λ c. meaning (index_checks table c k) (resolved.Index n c k)))
+    (λ table. column-utf8 column table (λ c. meaning (index_checks table c k) (resolved.Index (number_of name tables) c k))
+    (λ c. meaning-utf8 (index_checks table c k) (resolved.Index (number_of name tables) c k) tt))
+resolved-utf8 records tables (command.DropIndex name column k) stores =
+    numbered-utf8 name tables (λ n table. on_column column table
+    (λ c. meaning (drop_index_checks table c k) (resolved.DropIndex n c k)))
+    (λ table. column-utf8 column table (λ c. meaning (drop_index_checks table c k) (resolved.DropIndex (number_of name tables) c k))
+    (λ c. meaning-utf8 (drop_index_checks table c k) (resolved.DropIndex (number_of name tables) c k) tt))
+resolved-utf8 records tables (command.Insert name row) stores =
+    numbered-utf8 name tables (λ n table. meaning (insert_checks tables table row) (resolved.Insert n row))
+    (λ table. meaning-utf8 (insert_checks tables table row) (resolved.Insert (number_of name tables) row) stores)
+resolved-utf8 records tables (command.Update name settings conditions) stores =
+    numbered-utf8 name tables (λ n table. meaning (update_checks tables table settings conditions)
+    (resolved.Update n (assignments_of (own_columns table) settings) (tests_of (own_columns table) conditions)))
+    (λ table. meaning-utf8 (update_checks tables table settings conditions)
+    (resolved.Update (number_of name tables) (assignments_of (own_columns table) settings)
+    (tests_of (own_columns table) conditions))
+    (assignments-utf8 (own_columns table) settings stores))
+resolved-utf8 records tables (command.Delete name conditions) stores =
+    numbered-utf8 name tables (λ n table. meaning (delete_checks tables table conditions)
+    (resolved.Delete n (tests_of (own_columns table) conditions)))
+    (λ table. meaning-utf8 (delete_checks tables table conditions)
+    (resolved.Delete (number_of name tables) (tests_of (own_columns table) conditions)) tt)
+resolved-utf8 records tables (command.Select distinct its name joins conditions) stores =
+    meaning-utf8 (select_checks tables its name joins conditions) (select_of tables distinct its name joins conditions) tt
+resolved-utf8 records tables (command.Load name bytes) stores =
+    numbered-utf8 name tables (λ n table. load_of n (table_reading tables table records))
+    (λ table. load-utf8 (number_of name tables) (table_reading tables table records) (reading-utf8 tables table records))
+resolved-utf8 records tables (command.Dump name) stores =
+    numbered-utf8 name tables (λ n table. Ok (resolved.Dump n)) (λ table. tt)
+resolved-utf8 records tables command.Tables stores = tt
+
+-- ---- what is done
+
+-- the texts of the database afterwards
+abbrev LeavesUtf8 : Effect → Type 0
+LeavesUtf8 e = AreTextsUtf8 e.database
+
+assigned-utf8 : (assignments : List Assignment) (row : Row) → All (λ a. IsTextUtf8 a.value) assignments → All IsTextUtf8 row
+    → All IsTextUtf8 (assigned assignments row)
+assigned-utf8 [] row sets all = all
+assigned-utf8 (a ∷ assignments) row sets all =
+    assigned-utf8 assignments (set row a.column.0 a.value) (All-tail (λ (b : Assignment). IsTextUtf8 b.value) a assignments sets)
+    (All-set IsTextUtf8 row a.column.0 a.value (All-head (λ (b : Assignment). IsTextUtf8 b.value) a assignments sets) all)
+
+updated-utf8 : (assignments : List Assignment) (picks : Row → Bool) (table : Table) → All (λ a. IsTextUtf8 a.value) assignments
+    → HasTextsUtf8 table → HasTextsUtf8 (updated assignments picks table)
+updated-utf8 assignments picks table sets all =
+    All-map (All IsTextUtf8) (λ row. cond (picks row) (assigned assignments row) row) table.rows
+    (All-weaker (All IsTextUtf8) (λ row. All IsTextUtf8 (cond (picks row) (assigned assignments row) row))
+    (λ row texts. cond_both (picks row) (assigned assignments row) row (All IsTextUtf8)
+    (λ t. assigned-utf8 assignments row sets texts) (λ f. texts)) table.rows all)
+
+-- a table in the place of one
+with-utf8 : (tables : Database) (n : TableNumber) (old new : Table) → AreTextsUtf8 tables → slice_get tables n.0 ≡ Some old
+    → (HasTextsUtf8 old → HasTextsUtf8 new) → AreTextsUtf8 (set tables n.0 new)
+with-utf8 tables n old new all there keeps =
+    All-set HasTextsUtf8 tables n.0 new (keeps (All-at HasTextsUtf8 tables n.0 old all there)) all
+
+insert-utf8 : (limits : Limits) (tables : Database) (n : TableNumber) (row : Row) → All IsTextUtf8 row → AreTextsUtf8 tables
+    → LeavesUtf8 (insert limits tables n row)
+insert-utf8 limits tables n row sets all =
+    insert_satisfies LeavesUtf8 limits tables n row (λ why. all)
+    (λ table there passed. with-utf8 tables n table (grown_by row table) all there
+    (λ texts. All-with_row (All IsTextUtf8) row table.rows sets texts))
+
+done-utf8 : (limits : Limits) (tables : Database) (r : Resolved) → SetsUtf8 r → AreTextsUtf8 tables
+    → LeavesUtf8 (done limits tables r)
+done-utf8 limits tables (resolved.Table name schema) sets all =
+    All-append HasTextsUtf8 tables (new_table name schema ∷ []) all
+    (All-cons HasTextsUtf8 (new_table name schema) [] (All-nil (All IsTextUtf8)) (All-nil HasTextsUtf8))
+done-utf8 limits tables (resolved.DropTable n) sets all = All-remove HasTextsUtf8 tables n.0 all
+done-utf8 limits tables (resolved.Index n column k) sets all =
+    of_table_satisfies LeavesUtf8 n tables _ (λ why. all)
+    (λ table there. with-utf8 tables n table (with_index column k table) all there (λ texts. texts))
+done-utf8 limits tables (resolved.DropIndex n column k) sets all =
+    of_table_satisfies LeavesUtf8 n tables _ (λ why. all)
+    (λ table there. with-utf8 tables n table (without_index column k table) all there (λ texts. texts))
+done-utf8 limits tables (resolved.Insert n row) sets all = insert-utf8 limits tables n row sets all
+done-utf8 limits tables (resolved.Update n assignments tests) sets all =
+    of_table_satisfies LeavesUtf8 n tables _ (λ why. all)
+    (λ table there. checked_satisfies LeavesUtf8 tables (row_update_checks tables table assignments) _ (λ why. all)
+    (λ passed. with-utf8 tables n table (updated assignments (passes_all tests) table) all there
+    (updated-utf8 assignments (passes_all tests) table sets)))
+done-utf8 limits tables (resolved.Delete n tests) sets all =
+    of_table_satisfies LeavesUtf8 n tables _ (λ why. all)
+    (λ table there. checked_satisfies LeavesUtf8 tables (row_delete_checks tables table (passes_all tests)) _ (λ why. all)
+    (λ passed. with-utf8 tables n table (without (passes_all tests) table) all there
+    (All-filter (λ row. not (passes_all tests row)) (All IsTextUtf8) table.rows)))
+done-utf8 limits tables (resolved.Select distinct its source joins) sets all = all
+done-utf8 limits tables (resolved.Load n rows) sets all =
+    load_satisfies LeavesUtf8 limits tables n rows (λ why. all)
+    (λ new h. (loaded_satisfies (λ others d. All (All IsTextUtf8) others × AreTextsUtf8 d) limits n
+    (λ row others d both. (
+      All-tail (All IsTextUtf8) row others both.0,
+      insert-utf8 limits d n row (All-head (All IsTextUtf8) row others both.0) both.1,
+    ))
+    tables 1 rows new h (sets, all)).1)
+done-utf8 limits tables (resolved.Dump n) sets all =
+    of_table_satisfies LeavesUtf8 n tables _ (λ why. all)
+    (λ table there. checked_satisfies LeavesUtf8 tables (dump_checks limits table) _ (λ why. all) (λ passed. all))
+done-utf8 limits tables resolved.Tables sets all = all
+
+-- ---- runs
+
+effect-utf8 : (limits : Limits) (tables : Database) (request : Request) (e : Effect) → IsEffect limits tables request e
+    → AreTextsUtf8 tables → LeavesUtf8 e
+effect-utf8 limits tables request e (too_long h) all = all
+effect-utf8 limits tables request e (not_utf8 h u) all = all
+effect-utf8 limits tables request e (not_a_command h s n) all = all
+effect-utf8 limits tables request e (block_too_long n asks h) all = all
+effect-utf8 limits tables request e (block_cut_short n asks few h) all = all
+effect-utf8 limits tables request e (does c readable s spells has) all =
+    let records : List Record = block_records request.block in
+    let means : MeansUtf8 (resolved_of records tables c) =
+    resolved-utf8 records tables c (spelled-stored (line_of request) c readable.utf8 spells) in
+    effect_satisfies LeavesUtf8 records limits tables c (λ why. all)
+    (λ r is. done-utf8 limits tables r (subst MeansUtf8 is means) all)
+
+answer-utf8 : (limits : Limits) (tables : Database) (request : Request) (answer : List ℕ) (after : Database)
+    → Answers limits tables request answer after → AreTextsUtf8 tables → AreTextsUtf8 after
+answer-utf8 limits tables request answer after (silent r s) all = all
+answer-utf8 limits tables request answer after (effect e h) all = effect-utf8 limits tables request e h all
+answer-utf8 limits tables request answer after (no_memory r s has) all = all
+
+answers-utf8 : (limits : Limits) (tables : Database) (requests : List Request) (answers : List ℕ) (after : Database)
+    → AnswersAll limits tables requests answers after → AreTextsUtf8 tables → AreTextsUtf8 after
+answers-utf8 limits tables [] answers after h all = subst AreTextsUtf8 (sym h.1) all
+answers-utf8 limits tables (request ∷ requests) answers after (first, others, next, here, rest, joined) all =
+    answers-utf8 limits next requests others after rest (answer-utf8 limits tables request first next here all)
+
+pub texts_stay_utf8 : TextsStayUtf8
+texts_stay_utf8 limits from stream finished answers after (requests, rest, divides, run) all =
+    answers-utf8 limits from (requests ++ last_request finished rest) answers after run all
+
+pub no_texts : AreTextsUtf8 []
+no_texts = All-nil HasTextsUtf8
+
+-- ---- dumps
+
+value-back : (column : Column) (v : Value) → IsTextUtf8 v → IsUnlikeNull column v → IsReadBack column v
+value-back column value.Null utf8 some = tt
+value-back column (value.Int z) utf8 some = tt
+value-back column (value.Text text) utf8 some = (utf8, some)
+
+row-back : (columns : List Column) (row : Row) → All IsTextUtf8 row → AllZip IsUnlikeNull columns row
+    → AllZip IsReadBack columns row
+row-back [] [] utf8 some = tt
+row-back [] (v ∷ row) utf8 some = absurd some
+row-back (c ∷ columns) [] utf8 some = absurd some
+row-back (c ∷ columns) (v ∷ row) utf8 some = (
+  value-back c v (All-head IsTextUtf8 v row utf8) some.0,
+  row-back columns row (All-tail IsTextUtf8 v row utf8) some.1,
+)
+
+rows-back : (columns : List Column) (rows : List Row) → All (All IsTextUtf8) rows → All (AllZip IsUnlikeNull columns) rows
+    → All (AllZip IsReadBack columns) rows
+rows-back columns [] utf8 some = All-nil (AllZip IsReadBack columns)
+rows-back columns (row ∷ rows) utf8 some =
+    All-cons (AllZip IsReadBack columns) row rows
+    (row-back columns row (All-head (All IsTextUtf8) row rows utf8) (All-head (AllZip IsUnlikeNull columns) row rows some))
+    (rows-back columns rows (All-tail (All IsTextUtf8) row rows utf8) (All-tail (AllZip IsUnlikeNull columns) row rows some))
+
+pub reached_are_read_back : ReachedAreReadBack
+reached_are_read_back limits from stream finished answers tables table name utf8 run named some =
+    let all : AreTextsUtf8 tables = texts_stay_utf8 limits from stream finished answers tables run utf8 in
+    rows-back table.columns table.rows (find_satisfies HasTextsUtf8 (is_named name) tables table all named).0 some
+
+pub dumps_of_runs_load_again : DumpsOfRunsLoadAgain
+dumps_of_runs_load_again limits stream finished answers tables table others copy name shown block run named some empty dumped =
+    dumps_load_again limits tables table others copy name shown block
+    (runs_stay_sound limits [] stream finished answers tables (no_tables_are_sound limits) run) named
+    (reached_are_read_back limits [] stream finished answers tables table name no_texts run named some) empty dumped

@@ -1,0 +1,5 @@
+use Rattle.plain_streams.proofs.RunLemmas.{errors_change_nothing}
+use Rattle.plain_streams.proofs.laws.errors_change_nothing.Goals as goal
+
+pub returns : goal.returns
+returns c = errors_change_nothing

@@ -1,0 +1,5 @@
+pub mod Division
+pub mod Dumps
+pub mod Requests
+pub mod Runs
+pub mod Texts
