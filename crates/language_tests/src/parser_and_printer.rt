@@ -1,6 +1,6 @@
 //! Worked lines, and calls that find memory and that don't.
 
-use mm_lang::{ParseRefusal, parse, print};
+use mm_lang::{ParseRefusal, block_length, parse, print, print_load};
 use plain_tables::NoMemory;
 use std::alloc::Global;
 use std::test::Fail;
@@ -19,6 +19,13 @@ index\temp  trees hash\t => index emp trees hash\n\
 drop index emp dept hash => drop index emp dept hash\n\
 \tdrop index Tree hash_ tree => drop index Tree hash_ tree\n\
 \x20tables\t => tables\n\
+load t 12 => load t 12\n\
+\x20load\tload_  007\t => load load_ 7\n\
+load t 0 => load t 0\n\
+load t 00000000000000000000000000000000 => load t 0\n\
+load t 9223372036854775807 => load t 9223372036854775807\n\
+dump t => dump t\n\
+\x20dump\tDump  => dump Dump\n\
 insert t (2) => insert t (2)\n\
 insert t(null,'null' , null) => insert t (null, 'null', null)\n\
 insert t(1,-2,  3 ) => insert t (1, -2, 3)\n\
@@ -88,6 +95,8 @@ drop table t => Ok(DropTable { table: Text { text: \"t\" } })|\
 index t a tree => Ok(Index { table: Text { text: \"t\" }, column: Text { text: \"a\" }, kind: Tree })|\
 drop index t a hash => Ok(DropIndex { table: Text { text: \"t\" }, column: Text { text: \"a\" }, kind: Hash })|\
 tables => Ok(Tables)|\
+load t 012 => Ok(Load { table: Text { text: \"t\" }, bytes: 12 })|\
+dump t => Ok(Dump { table: Text { text: \"t\" } })|\
 insert t (null) => Ok(Insert { table: Text { text: \"t\" }, values: Sequence { items: [Null] } })|\
 insert t (-1, 'it''s') => Ok(Insert { table: Text { text: \"t\" }, values: Sequence { items: [Int(-1), \
 Text(Text { text: \"it's\" })] } })|\
@@ -294,6 +303,42 @@ index t a b tree|\
 index null a tree|\
 index table t a tree|\
 indext a tree|\
+load|\
+load t|\
+load 12|\
+load t -1|\
+load t -0|\
+load t +1|\
+load t - 1|\
+load t 1.0|\
+load t 1,|\
+load t 1x|\
+load t x|\
+load t null|\
+load t '1'|\
+load t 1 2|\
+load t 12 x|\
+load t 9223372036854775808|\
+load t 18446744073709551617|\
+load t t 1|\
+load t.a 1|\
+load load 1|\
+load dump 1|\
+load 't' 1|\
+load t1|\
+loadt 1|\
+Load t 1|\
+load t 1\r|\
+dump|\
+dump t 1|\
+dump t u|\
+dump t, u|\
+dump t.a|\
+dump 't'|\
+dump dump|\
+dump load|\
+dumpt|\
+Dump t|\
 insert t ('a\nb')";
 
 #[test]
@@ -306,12 +351,14 @@ fn parse_reads_the_parts_of_a_command(rt: HostRuntime) -> Result<(), Fail> {
     Ok(())
 }
 
-// A list that grows, and texts in settings and conditions; joins; references; two names.
-const LINES: [&str; 4] = [
+// A list that grows, and texts in settings and conditions; joins; references; two names; a count; a name.
+const LINES: [&str; 6] = [
     "update t set a = 1, b = 2, c = 3, d = 4, e = 'it''s' where t.b = 'x' and c = 'y'",
     "select distinct a, t.b from t join u on u.a = t.id join v on v.b = u.id where v.id < 3",
     "table t (a int, b ref u null, c ref v)",
     "drop index t a tree",
+    "load t 9223372036854775807",
+    "dump t",
 ];
 
 #[test]
@@ -322,4 +369,40 @@ fn parse_and_print_under_refusal(rt: HostRuntime) {
             Err(refusal) => assert_eq!(rt; refusal, ParseRefusal::NoMemory),
         }
     }
+}
+
+#[test]
+fn a_load_tells_the_length_of_its_block(rt: HostRuntime) {
+    let lengths = [
+        ("load t 12", Some(12)),
+        ("\tload  t 007 ", Some(7)),
+        ("load t 0", Some(0)),
+        (
+            "load t 9223372036854775807",
+            Some(9_223_372_036_854_775_807),
+        ),
+        ("load t 9223372036854775808", None),
+        ("load t 18446744073709551617", None),
+        ("load t 12 x", None),
+        ("load t -1", None),
+        ("load t", None),
+        ("load table 12", None),
+        ("load t 1\n2", None),
+        ("load t 12\n", None),
+        ("dump t", None),
+        ("dump t 12", None),
+        ("insert t (12)", None),
+        ("", None),
+    ];
+    for (line, length) in lengths {
+        assert_eq!(rt; block_length(line), length, "at {line}");
+    }
+}
+
+#[test]
+fn a_load_is_printed_behind_what_stands(rt: HostRuntime) -> Result<(), Fail> {
+    let mut lines = String::from_str(rt.alloc(), "ok\n")?;
+    print_load(&mut lines, "t", 12)?;
+    assert_eq!(rt; lines.as_str(), "ok\nload t 12");
+    Ok(())
 }

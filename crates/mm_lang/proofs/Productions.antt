@@ -3,7 +3,7 @@ use Rattle.std.proofs.Common.{◌≡◌, ◌≢◌, ℕ, ◌<◌, List, [], ◌�
 use Rattle.std.specs.Str.{bytes_eq}
 use lib.Chars.{codes}
 use Rattle.plain_tables.specs.Names.{IsName}
-use Rattle.plain_tables.specs.Spelling.{Symbol, Keyword, Name, Sign, Open, Close, Comma, separated, column_symbols, index_word, index_symbols, value_symbols, setting_symbols, condition_symbols, where_symbols, NamesSomething}
+use Rattle.plain_tables.specs.Spelling.{Symbol, Keyword, Name, Count, Sign, Open, Close, Comma, separated, column_symbols, index_word, index_symbols, value_symbols, setting_symbols, condition_symbols, where_symbols, NamesSomething}
 use Rattle.plain_tables.specs.Reading.{lexeme, after_lexeme}
 use Rattle.plain_tables.specs.declared.value.Value.{Value}
 use Rattle.plain_tables.specs.declared.schema.Column.{Column}
@@ -12,7 +12,7 @@ use Rattle.plain_tables.specs.declared.schema.IndexKind.{IndexKind}
 use Rattle.plain_tables.specs.declared.condition.Cond.{Cond}
 use Rattle.plain_tables.specs.declared.command.Setting.{Setting}
 use Rattle.plain_tables.specs.declared.command.Command.{Command}
-use Rattle.plain_tables.specs.declared.command.Command.TheVariants.{Table, DropTable, Index, DropIndex, Insert, Update, Delete, Tables}
+use Rattle.plain_tables.specs.declared.command.Command.TheVariants.{Table, DropTable, Index, DropIndex, Insert, Update, Delete, Load, Dump, Tables}
 use Rattle.plain_tables.proofs.FirstWords.{different, first_word, behind_word, split-word}
 use Rattle.mm_lang.specs.Parsing.{Reads, IsWhole, ReadsList, IsOfText, EndsItem, BeginsWithList, BeginsWithNoList, IsNameAndList, IsWhere, Completes}
 use Rattle.mm_lang.proofs.Fronts.{no-name, reads-append, reads-split, not-word, word-ends_item}
@@ -259,6 +259,34 @@ pub tables-only : (line : List ℕ) → lexeme line ≢ [] → (command : Comman
 tables-only line more Tables completes =
     let made : IsWhole line [] = behind-first line Tables completes in more (ap lexeme made.1 ∙ made.2)
 tables-only line more command completes = other-word line (codes "tables") command refl completes
+
+-- ---- load and dump
+
+pub load-completed : (line table rest : List ℕ) (bytes : ℕ) → IsName (lexeme line) → table ≡ lexeme line → rest ≡ after_lexeme line
+    → IsWhole rest (Count bytes ∷ []) → Completes (codes "load") line (Load table bytes)
+load-completed line table rest bytes is e f tail =
+    let behind : IsWhole (after_lexeme line) (Count bytes ∷ []) = subst (λ l. IsWhole l (Count bytes ∷ [])) f tail in
+    completed line (Load table bytes) tt (behind.0, ((sym e, subst IsName (sym e) is), behind.1), behind.2)
+
+pub load-no_name : (line : List ℕ) → (IsName (lexeme line) → ⊥) → (command : Command) → Completes (codes "load") line command → ⊥
+load-no_name line not (Load table bytes) completes =
+    let made : IsWhole line (behind_word (Load table bytes)) = behind-first line (Load table bytes) completes in no-name line table not made.1.0
+load-no_name line not command completes = other-word line (codes "load") command refl completes
+
+pub load-only : (line rest : List ℕ) → rest ≡ after_lexeme line → ((bytes : ℕ) → IsWhole rest (Count bytes ∷ []) → ⊥)
+    → (command : Command) → Completes (codes "load") line command → ⊥
+load-only line rest f not (Load table bytes) completes =
+    let made : IsWhole line (behind_word (Load table bytes)) = behind-first line (Load table bytes) completes in
+    not bytes (subst (λ l. IsWhole l (Count bytes ∷ [])) (sym f) (made.0, made.1.1, made.2))
+load-only line rest f not command completes = other-word line (codes "load") command refl completes
+
+pub dump-completed : (line table : List ℕ) → IsWhole line (Name table ∷ []) → Completes (codes "dump") line (Dump table)
+dump-completed line table is = completed line (Dump table) tt is
+
+pub dump-only : (line : List ℕ) → ((table : List ℕ) → IsWhole line (Name table ∷ []) → ⊥)
+    → (command : Command) → Completes (codes "dump") line command → ⊥
+dump-only line not (Dump table) completes = not table (behind-first line (Dump table) completes)
+dump-only line not command completes = other-word line (codes "dump") command refl completes
 
 -- ---- update
 

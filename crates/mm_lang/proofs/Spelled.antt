@@ -15,7 +15,7 @@ use Rattle.plain_tables.specs.declared.command.Join.{Join}
 use Rattle.plain_tables.specs.declared.command.Items.{Items}
 use Rattle.plain_tables.specs.declared.command.Items.TheVariants as items
 use Rattle.plain_tables.specs.declared.command.Command.{Command}
-use Rattle.plain_tables.specs.declared.command.Command.TheVariants.{Table, DropTable, Index, DropIndex, Insert, Update, Delete, Select, Tables}
+use Rattle.plain_tables.specs.declared.command.Command.TheVariants.{Table, DropTable, Index, DropIndex, Insert, Update, Delete, Select, Load, Dump, Tables}
 use Rattle.plain_tables.proofs.Lexemes.{IsWellFormed, lexeme-of_made, made-from_lexeme, blanks-no_lexeme, no_lexeme-blanks}
 use Rattle.plain_tables.proofs.Separated.{all-append}
 use Rattle.plain_tables.proofs.FirstWords.{first_word, behind_word, split-word}
@@ -118,6 +118,8 @@ command-well (Select distinct items table joins conditions) =
           (all-append IsWellFormed (items_symbols items) _ (items-well items)
           (refl, (tt, all-append IsWellFormed (flat_map join_symbols joins) _ (joins-well joins) (where-well conditions)))),
     )
+command-well (Load table bytes) = (refl, (tt, (tt, tt)))
+command-well (Dump table) = (refl, (tt, tt))
 command-well Tables = (refl, tt)
 
 -- ---- the line by its lexemes
@@ -146,7 +148,7 @@ spelled line word rest command free e f completes =
     (free, completes.some, whole-made (symbols_of command) (command-well command) line whole)
 
 -- A line that spells a command begins with the command's first word, and what follows it completes the command.
-spelled-completes : (line : List ℕ) (command : Command) → Spells line command
+pub spelled-completes : (line : List ℕ) (command : Command) → Spells line command
     → (lexeme line ≡ first_word command) × Completes (first_word command) (after_lexeme line) command
 spelled-completes line command spells =
     let split : symbols_of command ≡ Keyword (first_word command) ∷ behind_word command = (split-word command).0 in
@@ -164,22 +166,24 @@ not-spelled line word rest e f not command spells =
 
 known-word : (command : Command) (word : List ℕ) → word ≡ first_word command → word ≢ codes "insert" → word ≢ codes "select"
     → word ≢ codes "update" → word ≢ codes "delete" → word ≢ codes "table" → word ≢ codes "drop" → word ≢ codes "index"
-    → word ≢ codes "tables" → ⊥
-known-word (Table name schema) word e insert select update delete table drop index tables = table e
-known-word (DropTable t) word e insert select update delete table drop index tables = drop e
-known-word (Index t c k) word e insert select update delete table drop index tables = index e
-known-word (DropIndex t c k) word e insert select update delete table drop index tables = drop e
-known-word (Insert t values) word e insert select update delete table drop index tables = insert e
-known-word (Update t settings conditions) word e insert select update delete table drop index tables = update e
-known-word (Delete t conditions) word e insert select update delete table drop index tables = delete e
-known-word (Select distinct items t joins conditions) word e insert select update delete table drop index tables = select e
-known-word Tables word e insert select update delete table drop index tables = tables e
+    → word ≢ codes "tables" → word ≢ codes "load" → word ≢ codes "dump" → ⊥
+known-word (Table name schema) word e insert select update delete table drop index tables load dump = table e
+known-word (DropTable t) word e insert select update delete table drop index tables load dump = drop e
+known-word (Index t c k) word e insert select update delete table drop index tables load dump = index e
+known-word (DropIndex t c k) word e insert select update delete table drop index tables load dump = drop e
+known-word (Insert t values) word e insert select update delete table drop index tables load dump = insert e
+known-word (Update t settings conditions) word e insert select update delete table drop index tables load dump = update e
+known-word (Delete t conditions) word e insert select update delete table drop index tables load dump = delete e
+known-word (Select distinct items t joins conditions) word e insert select update delete table drop index tables load dump = select e
+known-word (Load t bytes) word e insert select update delete table drop index tables load dump = load e
+known-word (Dump t) word e insert select update delete table drop index tables load dump = dump e
+known-word Tables word e insert select update delete table drop index tables load dump = tables e
 
 pub unknown-word : (line : List ℕ) → lexeme line ≢ codes "insert" → lexeme line ≢ codes "select" → lexeme line ≢ codes "update"
     → lexeme line ≢ codes "delete" → lexeme line ≢ codes "table" → lexeme line ≢ codes "drop" → lexeme line ≢ codes "index"
-    → lexeme line ≢ codes "tables" → (command : Command) → Spells line command → ⊥
-unknown-word line insert select update delete table drop index tables command spells =
-    known-word command (lexeme line) (spelled-completes line command spells).0 insert select update delete table drop index tables
+    → lexeme line ≢ codes "tables" → lexeme line ≢ codes "load" → lexeme line ≢ codes "dump" → (command : Command) → Spells line command → ⊥
+unknown-word line insert select update delete table drop index tables load dump command spells =
+    known-word command (lexeme line) (spelled-completes line command spells).0 insert select update delete table drop index tables load dump
 
 -- ---- the tests of the parser
 

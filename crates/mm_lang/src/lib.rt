@@ -4,8 +4,9 @@
 //!
 //! A line is symbols with blanks between them. The module `lexemes` finds the characters of a line's first symbol,
 //! `symbols`, `numbers`, `texts`, `items` and `joins` read what they stand for, and `parser` has a function for each production of
-//! the grammar. No memory is taken but for what the command holds. The module `printer` writes a command in its one
-//! canonical spelling, which `items`, `joins`, `numbers` and `texts` have the parts of.
+//! the grammar. No memory is taken but for what the command holds, and none to tell the length of the block behind a
+//! line. The module `printer` writes a command in its one canonical spelling, which `items`, `joins`, `numbers` and
+//! `texts` have the parts of.
 #![tactic(auto)]
 
 mod items;
@@ -18,6 +19,6 @@ mod refusal;
 mod symbols;
 mod texts;
 
-pub use parser::parse;
-pub use printer::{print, print_index, print_table};
+pub use parser::{block_length, parse};
+pub use printer::{print, print_index, print_load, print_table};
 pub use refusal::ParseRefusal;

@@ -1,10 +1,10 @@
-//! Integers and their digits.
+//! Integers and counts, and their digits.
 
-ghost use Rattle.std.specs.Prelude.{◌≡◌, ◌++◌, ℤ, ◌^◌, ◌<◌, MatchOption, OnOk, SomeIff};
-ghost use Rattle.std.specs.Fmt.{signed_decimal};
+ghost use Rattle.std.specs.Prelude.{◌≡◌, ◌++◌, ℕ, ℤ, ◌^◌, ◌<◌, MatchOption, OnOk, SomeIff};
+ghost use Rattle.std.specs.Fmt.{decimal, signed_decimal};
 ghost use Rattle.std.specs.Str.Parse.{IsNumeral, digits_value};
 ghost use Rattle.std.specs.String.{string_bytes};
-ghost use Rattle.plain_tables.specs.Spelling.{IsInteger};
+ghost use Rattle.plain_tables.specs.Spelling.{IsInteger, IsCount};
 
 use itoa::Buffer;
 use plain_tables::NoMemory;
@@ -36,9 +36,26 @@ pub fn integer(characters: &[u8]) -> Option<i64>
     }
 }
 
+/// The count that these characters spell, if they spell one below 2 to the 63rd.
+pub fn count(characters: &[u8]) -> Option<u64>
+    ensures { MatchOption result ((n : ℕ) → IsCount characters.now n → ⊥) (λ n. IsCount characters.now n) }
+{
+    let number = magnitude(characters)?;
+    (number < 1 << 63).then_some(number)
+}
+
 /// Writes an integer, with no zeros in front.
 pub fn push_integer(line: &mut String, number: i64) -> Result<(), NoMemory>
     ensures { OnOk result (string_bytes line.new ≡ string_bytes line.old ++ signed_decimal number) }
+{
+    let mut buffer = Buffer::new();
+    line.push_str(buffer.format(number))?;
+    Ok(())
+}
+
+/// Writes a count, with no zeros in front.
+pub fn push_count(line: &mut String, number: u64) -> Result<(), NoMemory>
+    ensures { OnOk result (string_bytes line.new ≡ string_bytes line.old ++ decimal number) }
 {
     let mut buffer = Buffer::new();
     line.push_str(buffer.format(number))?;

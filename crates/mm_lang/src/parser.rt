@@ -1,9 +1,10 @@
 //! A function for each production of the grammar.
 
-ghost use Rattle.std.specs.Prelude.{◌≡◌, ◌≢◌, ℕ, List, [], ◌∷◌, codes, IfOk, IsErrOf, MatchResult};
-ghost use Rattle.plain_tables.specs.Spelling.{Name, Spells, index_symbols};
+ghost use Rattle.std.specs.Prelude.{◌≡◌, ◌≢◌, ℕ, List, [], ◌∷◌, codes, IfOk, IsErrOf, MatchOption, MatchResult};
+ghost use Rattle.plain_tables.specs.Spelling.{Name, Count, Spells, index_symbols};
 ghost use Rattle.plain_tables.specs.Reading.{lexeme};
 ghost use Rattle.plain_tables.specs.declared.command.Command.{Command};
+ghost use Rattle.plain_tables.specs.declared.command.Command.TheVariants.{Load};
 ghost use Rattle.plain_tables.specs.declared.command.Join.{Join};
 ghost use Rattle.plain_tables.specs.declared.condition.Cond.{Cond};
 ghost use Rattle.plain_tables.specs.declared.schema.IndexKind.{IndexKind};
@@ -13,7 +14,8 @@ use crate::ParseRefusal;
 use crate::items::{Item, list};
 use crate::joins::joins;
 use crate::lexemes::split_lexeme;
-use crate::symbols::{after, expect, index_kind, name};
+use crate::numbers::count;
+use crate::symbols::{after, after_name, expect, index_kind, name};
 use plain_tables::{Command, Cond, IndexKind, Items, Join, Schema, Sequence, Text};
 use std::alloc::Global;
 
@@ -45,9 +47,27 @@ pub fn parse(alloc: Global, line: &str) -> Result<Command, ParseRefusal>
         index(alloc, rest)
     } else if word == b"tables".as_slice() {
         tables(rest)
+    } else if word == b"load".as_slice() {
+        load(alloc, rest)
+    } else if word == b"dump".as_slice() {
+        dump(alloc, rest)
     } else {
         Err(ParseRefusal::Syntax)
     }
+}
+
+/// The length of the block that follows a line: the count of bytes of the load that the line spells, if it spells one.
+/// No memory is taken.
+pub fn block_length(line: &str) -> Option<u64>
+    ensures { MatchOption result ((n : ℕ) (table : List ℕ) → ¬ (Spells line.now (Load table n))) (λ n. (table : List ℕ) × Spells line.now (Load table n)) }
+{
+    let bytes = line.as_bytes();
+    let behind_word = after(bytes, b"load")?;
+    let behind_name = after_name(behind_word)?;
+    if bytes.contains(&b'\n') {
+        return None;
+    }
+    only_count(behind_name).ok()
 }
 
 // NAME ( COLUMN {, COLUMN} )
@@ -102,6 +122,25 @@ fn tables(line: &[u8]) -> Result<Command, ParseRefusal>
 {
     end(line)?;
     Ok(Command::Tables)
+}
+
+// NAME COUNT
+fn load(alloc: Global, line: &[u8]) -> Result<Command, ParseRefusal>
+    ensures command { IfOk result (λ c. Completes (codes "load") line.now c) }
+    ensures syntax { IsErrOf result ParseRefusal.Syntax → (c : Command) → Completes (codes "load") line.now c → ⊥ }
+{
+    let (table, rest) = name(alloc, line)?;
+    let bytes = only_count(rest)?;
+    Ok(Command::Load { table, bytes })
+}
+
+// NAME
+fn dump(alloc: Global, line: &[u8]) -> Result<Command, ParseRefusal>
+    ensures command { IfOk result (λ c. Completes (codes "dump") line.now c) }
+    ensures syntax { IsErrOf result ParseRefusal.Syntax → (c : Command) → Completes (codes "dump") line.now c → ⊥ }
+{
+    let table = only_name(alloc, line)?;
+    Ok(Command::Dump { table })
 }
 
 // NAME ( VALUE {, VALUE} )
@@ -220,6 +259,18 @@ fn only_name(alloc: Global, line: &[u8]) -> Result<Text, ParseRefusal>
     let (name, rest) = name(alloc, line)?;
     end(rest)?;
     Ok(name)
+}
+
+// COUNT, and the end of the line
+fn only_count(line: &[u8]) -> Result<u64, ParseRefusal>
+    ensures { MatchResult result (λ n. IsWhole line.now (Count n ∷ [])) (λ _. (n : ℕ) → IsWhole line.now (Count n ∷ []) → ⊥) }
+{
+    let (characters, rest) = split_lexeme(line);
+    let Some(number) = count(characters) else {
+        return Err(ParseRefusal::Syntax);
+    };
+    end(rest)?;
+    Ok(number)
 }
 
 // NAME NAME KIND, an index, and the end of the line

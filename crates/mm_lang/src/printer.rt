@@ -8,6 +8,7 @@ ghost use Rattle.mm_lang.specs.Printing.{behind};
 
 use crate::items::{Item, push_list};
 use crate::joins::push_joins;
+use crate::numbers::push_count;
 use plain_tables::{
     Command, Cond, IndexKind, Items, Join, NoMemory, Schema, Sequence, Setting, Text,
 };
@@ -57,6 +58,8 @@ fn push_command(line: &mut String, command: &Command) -> Result<(), NoMemory>
             joins,
             conditions,
         } => push_select(line, *distinct, items, table, joins, conditions),
+        Command::Load { table, bytes } => print_load(line, table.as_str(), *bytes),
+        Command::Dump { table } => push_dump(line, table),
         Command::Tables => {
             line.push_str("tables")?;
             Ok(())
@@ -83,6 +86,16 @@ pub fn print_index(
     push_index(line, "index ", table, column, kind)
 }
 
+/// Puts the canonical spelling of the command that loads a block of so many bytes behind the line.
+pub fn print_load(line: &mut String, table: &str, bytes: u64) -> Result<(), NoMemory>
+    ensures { OnOk result (string_bytes line.new ≡ string_bytes line.old ++ canonical_spelling (command.Load table.now bytes)) }
+{
+    line.push_str("load ")?;
+    line.push_str(table)?;
+    line.push_str(" ")?;
+    push_count(line, bytes)
+}
+
 // WORD NAME ( ITEM {, ITEM} )
 fn push_name_and_list<T: Item>(
     line: &mut String,
@@ -104,6 +117,14 @@ fn push_drop_table(line: &mut String, table: &Text) -> Result<(), NoMemory>
     ensures { OnOk result (string_bytes line.new ≡ string_bytes line.old ++ spaced (symbols_of (command.DropTable table.now))) }
 {
     line.push_str("drop table ")?;
+    line.push_str(table.as_str())?;
+    Ok(())
+}
+
+fn push_dump(line: &mut String, table: &Text) -> Result<(), NoMemory>
+    ensures { OnOk result (string_bytes line.new ≡ string_bytes line.old ++ spaced (symbols_of (command.Dump table.now))) }
+{
+    line.push_str("dump ")?;
     line.push_str(table.as_str())?;
     Ok(())
 }

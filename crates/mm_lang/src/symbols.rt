@@ -114,6 +114,18 @@ pub fn name(alloc: Global, line: &[u8]) -> Result<(Text, &[u8]), ParseRefusal>
     Ok((Text::from_str(alloc, text)?, rest))
 }
 
+/// What stands behind the name at the front, if a name stands there.
+pub fn after_name(line: &[u8]) -> Option<&[u8]>
+    ensures { MatchOption result (IsName (lexeme line.now) → ⊥) (λ rest. IsName (lexeme line.now) × (rest.now ≡ after_lexeme line.now)) }
+{
+    let (characters, rest) = split_lexeme(line);
+    if is_whole_name(characters) {
+        Some(rest)
+    } else {
+        None
+    }
+}
+
 // The operator that these characters are.
 fn operator_of(characters: &[u8]) -> Option<Op>
     ensures { MatchOption result ((op : Op) → characters.now ≢ operator_text op) (λ op. characters.now ≡ operator_text op) }

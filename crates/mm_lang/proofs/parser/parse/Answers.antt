@@ -169,8 +169,48 @@ returns-then-eq-8-clause-syntax c = λ syntax.
     not-spelled c.args.line.now (codes "tables") c.split_lexeme.result.1.now word rest
     (c.tables.ensures.syntax syntax)
 
-pub returns-else-eq-8-clause-syntax : goal.returns-else-eq-8-clause-syntax
-returns-else-eq-8-clause-syntax c = λ _.
+pub returns-then-eq-9-clause-command : goal.returns-then-eq-9-clause-command
+returns-then-eq-9-clause-command c =
+    let word : lexeme c.args.line.now ≡ codes "load" =
+    lexeme-is _ _ _ _ _ c.eq-else-eq-8.result c.as_bytes-bytes.ensures.value c.split_lexeme.ensures.lexeme c.if-eq-9.true c.eq-else-eq-8.ensures c.as_slice-else-eq-8.ensures in
+    let rest : c.split_lexeme.result.1.now ≡ after_lexeme c.args.line.now =
+    c.split_lexeme.ensures.after ∙ ap after_lexeme c.as_bytes-bytes.ensures.value in
+    IfOk-weaker c.load.result (Completes (codes "load") c.split_lexeme.result.1.now) (Spells c.args.line.now)
+    (λ command. spelled c.args.line.now (codes "load") c.split_lexeme.result.1.now command
+    (no-feed c.args.line.now _ c.contains.result c.as_bytes-bytes.ensures.value c.if-contains.false c.contains.ensures.value) word rest)
+    c.load.ensures.command
+
+pub returns-then-eq-9-clause-syntax : goal.returns-then-eq-9-clause-syntax
+returns-then-eq-9-clause-syntax c = λ syntax.
+    let word : lexeme c.args.line.now ≡ codes "load" =
+    lexeme-is _ _ _ _ _ c.eq-else-eq-8.result c.as_bytes-bytes.ensures.value c.split_lexeme.ensures.lexeme c.if-eq-9.true c.eq-else-eq-8.ensures c.as_slice-else-eq-8.ensures in
+    let rest : c.split_lexeme.result.1.now ≡ after_lexeme c.args.line.now =
+    c.split_lexeme.ensures.after ∙ ap after_lexeme c.as_bytes-bytes.ensures.value in
+    not-spelled c.args.line.now (codes "load") c.split_lexeme.result.1.now word rest
+    (c.load.ensures.syntax syntax)
+
+pub returns-then-eq-10-clause-command : goal.returns-then-eq-10-clause-command
+returns-then-eq-10-clause-command c =
+    let word : lexeme c.args.line.now ≡ codes "dump" =
+    lexeme-is _ _ _ _ _ c.eq-else-eq-9.result c.as_bytes-bytes.ensures.value c.split_lexeme.ensures.lexeme c.if-eq-10.true c.eq-else-eq-9.ensures c.as_slice-else-eq-9.ensures in
+    let rest : c.split_lexeme.result.1.now ≡ after_lexeme c.args.line.now =
+    c.split_lexeme.ensures.after ∙ ap after_lexeme c.as_bytes-bytes.ensures.value in
+    IfOk-weaker c.dump.result (Completes (codes "dump") c.split_lexeme.result.1.now) (Spells c.args.line.now)
+    (λ command. spelled c.args.line.now (codes "dump") c.split_lexeme.result.1.now command
+    (no-feed c.args.line.now _ c.contains.result c.as_bytes-bytes.ensures.value c.if-contains.false c.contains.ensures.value) word rest)
+    c.dump.ensures.command
+
+pub returns-then-eq-10-clause-syntax : goal.returns-then-eq-10-clause-syntax
+returns-then-eq-10-clause-syntax c = λ syntax.
+    let word : lexeme c.args.line.now ≡ codes "dump" =
+    lexeme-is _ _ _ _ _ c.eq-else-eq-9.result c.as_bytes-bytes.ensures.value c.split_lexeme.ensures.lexeme c.if-eq-10.true c.eq-else-eq-9.ensures c.as_slice-else-eq-9.ensures in
+    let rest : c.split_lexeme.result.1.now ≡ after_lexeme c.args.line.now =
+    c.split_lexeme.ensures.after ∙ ap after_lexeme c.as_bytes-bytes.ensures.value in
+    not-spelled c.args.line.now (codes "dump") c.split_lexeme.result.1.now word rest
+    (c.dump.ensures.syntax syntax)
+
+pub returns-else-eq-10-clause-syntax : goal.returns-else-eq-10-clause-syntax
+returns-else-eq-10-clause-syntax c = λ _.
     unknown-word c.args.line.now
     (lexeme-is_not _ _ _ _ _ c.eq.result c.as_bytes-bytes.ensures.value c.split_lexeme.ensures.lexeme c.if-eq.false c.eq.ensures c.as_slice.ensures)
     (lexeme-is_not _ _ _ _ _ c.eq-else-eq.result c.as_bytes-bytes.ensures.value c.split_lexeme.ensures.lexeme c.if-eq-2.false c.eq-else-eq.ensures c.as_slice-else-eq.ensures)
@@ -180,3 +220,5 @@ returns-else-eq-8-clause-syntax c = λ _.
     (lexeme-is_not _ _ _ _ _ c.eq-else-eq-5.result c.as_bytes-bytes.ensures.value c.split_lexeme.ensures.lexeme c.if-eq-6.false c.eq-else-eq-5.ensures c.as_slice-else-eq-5.ensures)
     (lexeme-is_not _ _ _ _ _ c.eq-else-eq-6.result c.as_bytes-bytes.ensures.value c.split_lexeme.ensures.lexeme c.if-eq-7.false c.eq-else-eq-6.ensures c.as_slice-else-eq-6.ensures)
     (lexeme-is_not _ _ _ _ _ c.eq-else-eq-7.result c.as_bytes-bytes.ensures.value c.split_lexeme.ensures.lexeme c.if-eq-8.false c.eq-else-eq-7.ensures c.as_slice-else-eq-7.ensures)
+    (lexeme-is_not _ _ _ _ _ c.eq-else-eq-8.result c.as_bytes-bytes.ensures.value c.split_lexeme.ensures.lexeme c.if-eq-9.false c.eq-else-eq-8.ensures c.as_slice-else-eq-8.ensures)
+    (lexeme-is_not _ _ _ _ _ c.eq-else-eq-9.result c.as_bytes-bytes.ensures.value c.split_lexeme.ensures.lexeme c.if-eq-10.false c.eq-else-eq-9.ensures c.as_slice-else-eq-9.ensures)
