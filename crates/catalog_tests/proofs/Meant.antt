@@ -36,13 +36,13 @@ nth_schema n = record { columns = nth_columns n }
 -- each table can be declared behind those before it
 pub table_meant : (limits : Limits) (n : ℕ) → n < 4 → IsMeant limits (take n company) (resolved.Table (nth_name n) (nth_schema n))
 table_meant limits zero h =
-    resolved_are_meant limits (take 0 company) (command.Table (nth_name 0) (nth_schema 0)) (resolved.Table (nth_name 0) (nth_schema 0)) (refl, lit< tt, all_named (nth_columns 0) refl) refl
+    resolved_are_meant [] limits (take 0 company) (command.Table (nth_name 0) (nth_schema 0)) (resolved.Table (nth_name 0) (nth_schema 0)) (refl, lit< tt, all_named (nth_columns 0) refl) refl
 table_meant limits (suc zero) h =
-    resolved_are_meant limits (take 1 company) (command.Table (nth_name 1) (nth_schema 1)) (resolved.Table (nth_name 1) (nth_schema 1)) (refl, lit< tt, all_named (nth_columns 1) refl) refl
+    resolved_are_meant [] limits (take 1 company) (command.Table (nth_name 1) (nth_schema 1)) (resolved.Table (nth_name 1) (nth_schema 1)) (refl, lit< tt, all_named (nth_columns 1) refl) refl
 table_meant limits (suc (suc zero)) h =
-    resolved_are_meant limits (take 2 company) (command.Table (nth_name 2) (nth_schema 2)) (resolved.Table (nth_name 2) (nth_schema 2)) (refl, lit< tt, all_named (nth_columns 2) refl) refl
+    resolved_are_meant [] limits (take 2 company) (command.Table (nth_name 2) (nth_schema 2)) (resolved.Table (nth_name 2) (nth_schema 2)) (refl, lit< tt, all_named (nth_columns 2) refl) refl
 table_meant limits (suc (suc (suc zero))) h =
-    resolved_are_meant limits (take 3 company) (command.Table (nth_name 3) (nth_schema 3)) (resolved.Table (nth_name 3) (nth_schema 3)) (refl, lit< tt, all_named (nth_columns 3) refl) refl
+    resolved_are_meant [] limits (take 3 company) (command.Table (nth_name 3) (nth_schema 3)) (resolved.Table (nth_name 3) (nth_schema 3)) (refl, lit< tt, all_named (nth_columns 3) refl) refl
 table_meant limits (suc (suc (suc (suc n)))) h = absurd (omega arith)
 
 pub next_table : (n : ℕ) → n < 4 → take n company ++ nth_table n ∷ [] ≡ take (n + 1) company

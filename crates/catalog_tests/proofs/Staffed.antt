@@ -2,11 +2,12 @@
 use Rattle.std.proofs.Common.{◌≡◌, ℕ, zero, suc, ◌≤◌, List, [], ◌∷◌, refl, sym, ap, ◌∙◌, subst, length, map}
 use Rattle.std.specs.Prelude.{ℤ, Result, Ok, Err, OnOk, IfErr, FitsSigned}
 use Rattle.std.specs.Int.{w64}
-use Rattle.std.proofs.lemmas.List.Elements.{All-nil, All-cons}
+use Rattle.std.specs.List.{All}
+use Rattle.std.proofs.lemmas.List.Elements.{All-nil, All-cons, All-weaker}
 use Rattle.plain_tables.specs.Databases.{Database}
 use Rattle.plain_tables.specs.Tables.{Row}
 use Rattle.plain_tables.specs.Doing.{done}
-use Rattle.plain_tables.specs.ResolvedLaws.{IsMeant, IsStorable, rowless}
+use Rattle.plain_tables.specs.ResolvedLaws.{IsInsertable, IsMeant, IsStorable, rowless}
 use Rattle.plain_tables.specs.declared.command.Limits.{Limits}
 use Rattle.plain_tables.specs.declared.numbers.TableNumber.{TableNumber}
 use Rattle.plain_tables.specs.declared.refusal.Refusal.{Refusal}
@@ -15,8 +16,8 @@ use Rattle.plain_tables.specs.declared.value.Value.TheVariants as value
 use Rattle.plain_tables.proofs.ChangeLemmas.{own_rows_change}
 use Rattle.mm_catalog.specs.State.{CatalogState}
 use Rattle.mm_catalog.specs.Seen.{database_of}
-use Rattle.mm_catalog.specs.Changes.{HasEffect, IsRefusedFor}
-use Rattle.catalog_tests.specs.Company.{nth_table, indexed, tree_on_names, hash_on_departments}
+use Rattle.mm_catalog.specs.Changes.{HasEffect, IsRefusedFor, IsDeclinedFor}
+use Rattle.catalog_tests.specs.Company.{IsPerson, nth_table, indexed, tree_on_names, hash_on_departments}
 
 -- tables with these rows, by their numbers
 abbrev with_rows : Database → (ℕ → List Row) → Database
@@ -64,6 +65,20 @@ module _ (limits : Limits) (tables : Database) (same : map rowless tables ≡ st
         },
       )
 
+  pub people_meant : (rows : List Row) → All IsPerson rows → IsMeant limits tables (resolved.Load (record { 0 = 2 }) rows)
+  people_meant rows are =
+      subst (λ ts. IsMeant limits ts (resolved.Load (record { 0 = 2 }) rows)) (sym (its_rows tables same)) (
+        record (nth_table 2) { indexes = tree_on_names ∷ hash_on_departments ∷ []; rows = rows_at tables 2 },
+        refl,
+        All-weaker IsPerson (λ row. IsInsertable (with_rows staffed (rows_at tables)) row (record (nth_table 2) { indexes = tree_on_names ∷ hash_on_departments ∷ []; rows = rows_at tables 2 }))
+            (λ row (id, name, department, fits, short, also, is). subst (λ r. IsInsertable (with_rows staffed (rows_at tables)) r (record (nth_table 2) { indexes = tree_on_names ∷ hash_on_departments ∷ []; rows = rows_at tables 2 })) (sym is) (record {
+              counted = refl;
+              typed = refl;
+              storable = All-cons IsStorable (value.Int id) (value.Text name ∷ value.Int department ∷ []) fits
+                  (All-cons IsStorable (value.Text name) (value.Int department ∷ []) short (All-cons IsStorable (value.Int department) [] also (All-nil IsStorable)));
+            })) rows are,
+      )
+
   pub task_meant : (id person : ℤ) → FitsSigned w64 id → FitsSigned w64 person → IsMeant limits tables (resolved.Insert (record { 0 = 3 }) (value.Int id ∷ value.Int person ∷ []))
   task_meant id person fits also =
       subst (λ ts. IsMeant limits ts (resolved.Insert (record { 0 = 3 }) (value.Int id ∷ value.Int person ∷ []))) (sym (its_rows tables same)) (
@@ -84,3 +99,9 @@ pub still_staffed : {A : Type 0} (old new : CatalogState) (n : TableNumber) (row
 still_staffed old new n row (Ok x) inserted refused same =
     ap (map rowless) inserted.database ∙ (own_rows_change old.limits (database_of old) (resolved.Insert n row) n refl).all_but_rows ∙ same
 still_staffed old new n row (Err e) inserted refused same = ap (λ (c : CatalogState). map rowless (database_of c)) refused.0 ∙ same
+
+-- so does a load
+pub still_staffed_loaded : {A : Type 0} (old new : CatalogState) (n : TableNumber) (rows : List Row) (r : Result A Refusal) → OnOk r (HasEffect old new (done old.limits (database_of old) (resolved.Load n rows)) (length rows)) → IfErr r (IsDeclinedFor old new (done old.limits (database_of old) (resolved.Load n rows))) → map rowless (database_of old) ≡ staffed → map rowless (database_of new) ≡ staffed
+still_staffed_loaded old new n rows (Ok x) came declined same =
+    ap (map rowless) came.database ∙ (own_rows_change old.limits (database_of old) (resolved.Load n rows) n refl).all_but_rows ∙ same
+still_staffed_loaded old new n rows (Err e) came declined same = ap (map rowless) declined.0.database ∙ same

@@ -1,7 +1,9 @@
 -- The tables of a company, with no rows, and what becomes of them.
-use Rattle.std.specs.Prelude.{ℕ, zero, suc, List, [], ◌∷◌, codes}
-use Rattle.plain_tables.specs.Tables.{Table}
+use Rattle.std.specs.Prelude.{◌≡◌, ◌≤◌, ℕ, zero, suc, ℤ, FitsSigned, List, [], ◌∷◌, codes, length}
+use Rattle.std.specs.Int.{w64}
+use Rattle.plain_tables.specs.Tables.{Table, Row}
 use Rattle.plain_tables.specs.Databases.{Database}
+use Rattle.plain_tables.specs.declared.value.Value.TheVariants as value
 use Rattle.plain_tables.specs.declared.schema.ColKind.{ColKind}
 use Rattle.plain_tables.specs.declared.schema.ColKind.TheVariants as kind
 use Rattle.plain_tables.specs.declared.schema.Column.{Column}
@@ -39,6 +41,12 @@ without_sites = nth_table 0 ∷ nth_table 2 ∷ nth_table 3 ∷ []
 -- with these declared indexes of the people
 abbrev pub indexed : List (ℕ × IndexKind) → Database
 indexed indexes = nth_table 0 ∷ nth_table 1 ∷ (record (nth_table 2) { indexes = indexes }) ∷ nth_table 3 ∷ []
+
+-- the values of a person: a key, a name that isn't too long, and the key of a department
+abbrev pub IsPerson : Row → Type 0
+IsPerson row =
+    (id : ℤ) × (name : List ℕ) × (department : ℤ) × FitsSigned w64 id × (length name ≤ 1024) × FitsSigned w64 department
+    × (row ≡ value.Int id ∷ value.Text name ∷ value.Int department ∷ [])
 
 -- a tree on their names, and a hash on their departments
 abbrev pub tree_on_names : ℕ × IndexKind

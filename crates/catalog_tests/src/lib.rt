@@ -11,6 +11,8 @@ mod fields;
 #[cfg(test)]
 mod growths;
 #[cfg(test)]
+mod loads;
+#[cfg(test)]
 mod rows;
 #[cfg(test)]
 mod seen;

@@ -71,8 +71,8 @@ fn the_links_of_a_row_go_with_it(rt: HostRuntime) {
     assert!(&rt; !is_there(&rt, &catalog, PEOPLE, 10));
 }
 
-// One department, and so many people in it.
-fn shows_people(rt: &impl Abort, catalog: &Catalog, count: u8) {
+/// One department, and so many people in it.
+pub fn shows_people(rt: &impl Abort, catalog: &Catalog, count: u8) {
     assert_eq!(rt; row_count(rt, catalog, DEPARTMENTS), 1);
     let north = (DEPARTMENTS, 1);
     shows_row(

@@ -33,7 +33,13 @@ fn department(alloc: Global, id: i64, name: &str) -> Result<Sequence<Value>, NoM
     Ok(values)
 }
 
-fn person(alloc: Global, id: i64, name: &str, department: i64) -> Result<Sequence<Value>, NoMemory>
+/// The values of a person of a department.
+pub fn person(
+    alloc: Global,
+    id: i64,
+    name: &str,
+    department: i64,
+) -> Result<Sequence<Value>, NoMemory>
     ensures { IfOk result (λ values. values ≡ Value.Int id ∷ Value.Text name.now ∷ Value.Int department ∷ []) }
 {
     let mut values = Sequence::new(alloc);

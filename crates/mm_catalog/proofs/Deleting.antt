@@ -236,10 +236,14 @@ module _ (c : CatalogState) (ok : IsConsistent c) where
 -- ---- what a call answers
 
 module _ (c : CatalogState) (ok : IsConsistent c) (n : TableNumber) (refs : List TupleRef) (relations : List RelationState) (held : (s : RelationState) → slice_get c.relations n.0 ≡ Some s → All (λ r. IsSome (get s.rows r)) refs) (once : AllPairs (λ q r. q ≢ r) refs) where
-  pub deleted_consistent : {A E : Type 0} (r : Result A E) → OnOk r (AllFree c.relations n.0 refs) → OnOk r (AreDeleted c.relations relations n.0 refs) → OnErr r (relations ≡ c.relations) → IsConsistent (record c { relations = relations })
-  deleted_consistent (Ok u) free deleted same =
+  -- rows that no link names go
+  pub taken_out : AllFree c.relations n.0 refs → AreDeleted c.relations relations n.0 refs → IsConsistent (record c { relations = relations })
+  taken_out free deleted =
       subst (λ rs. IsConsistent (record c { relations = rs })) (sym deleted.list)
       (stays_consistent c ok n refs deleted.before deleted.there (held deleted.before deleted.there) once deleted.front deleted.after deleted.unlinked deleted.removed deleted.kept deleted.current (free deleted.before deleted.there))
+
+  pub deleted_consistent : {A E : Type 0} (r : Result A E) → OnOk r (AllFree c.relations n.0 refs) → OnOk r (AreDeleted c.relations relations n.0 refs) → OnErr r (relations ≡ c.relations) → IsConsistent (record c { relations = relations })
+  deleted_consistent (Ok u) free deleted same = taken_out free deleted
   deleted_consistent (Err e) free deleted same = subst (λ rs. IsConsistent (record c { relations = rs })) (sym same) ok
 
   abbrev IsEffect : Type 0

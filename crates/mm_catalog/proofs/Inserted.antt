@@ -1,7 +1,7 @@
 -- A catalog into which a row comes: what it shows, that it stays consistent, and why one does not come.
 use Rattle.std.proofs.Common.{◌≡◌, ◌≢◌, ℕ, suc, ◌+◌, ◌<◌, ◌≤◌, ◌==◌, ◌⊎◌, Bool, false, cond, List, [], ◌∷◌, ◌++◌, Option, Some, None, refl, sym, ap, ◌∙◌, subst, arith, length, map, take, drop, set, get_or, length-take, zero-add, inl, inr}
 use Rattle.std.specs.List.{All, count_by, slice_get, flat_map, range_with_len}
-use Rattle.std.specs.Prelude.{Result, Ok, Err, OnOk, OnErr, IfErr}
+use Rattle.std.specs.Prelude.{Result, Ok, Err, IfOk, OnOk, OnErr, IfErr}
 use Rattle.std.specs.Option.{option_and_then, option_map_or}
 use Rattle.std.specs.Ordering.{is_eq}
 use Rattle.std.specs.FinMap as finite
@@ -37,6 +37,7 @@ use Rattle.mm_catalog.specs.Changes.{HasEffect, IsRefusedFor}
 use Rattle.mm_catalog.specs.Recounted.{HaveReferrers, IsRewritten}
 use Rattle.mm_catalog.specs.Raised.{HaveRoom}
 use Rattle.mm_catalog.specs.Cells.{AreCellsOf}
+use Rattle.mm_catalog.specs.Loaded.{HasCome}
 use Rattle.mm_catalog.specs.Inserted.{IsKeptOut, no_memory, key_there, none_named, full, IsTakenIn, IsInsertedAt, IsRefusedAt}
 use Rattle.mm_catalog.proofs.Lists.{get-take}
 use Rattle.mm_catalog.proofs.Outlines.{keys_before}
@@ -130,7 +131,7 @@ pub record IsGrown (c : CatalogState) (relations : List RelationState) (n : Tabl
   pub effect : HasEffect c (record c { relations = relations }) (done c.limits (database_of c) (resolved.Insert n values)) 1
   pub consistent : IsConsistent (record c { relations = relations })
 
-module _ (c : CatalogState) (ok : IsConsistent c) (n : TableNumber) (key : Value) (rest : List Value) (meant : IsMeant c.limits (database_of c) (resolved.Insert n (key ∷ rest))) (b a : RelationState) (front : List RelationState) (cells : List Cell) (there : slice_get c.relations n.0 ≡ Some b) (fresh : HasKey b.rows key → ⊥) (are : AreCellsOf (take n.0 c.relations) b.targets rest cells) (room : finite.len b.rows < c.limits.rows) (taken : IsTakenIn (take n.0 c.relations) front b a (new_row key cells)) where
+module _ (c : CatalogState) (ok : IsConsistent c) (n : TableNumber) (key : Value) (rest : List Value) (meant : IsMeant c.limits (database_of c) (resolved.Insert n (key ∷ rest))) (b a : RelationState) (front : List RelationState) (cells : List Cell) (there : slice_get c.relations n.0 ≡ Some b) (fresh : HasKey b.rows key → ⊥) (are : AreCellsOf (take n.0 c.relations) b.targets rest cells) (room : finite.len b.rows < c.limits.rows) (q : TupleRef) (taken : IsTakenIn (take n.0 c.relations) front b a q (new_row key cells)) where
   abbrev values : List Value
   values = key ∷ rest
 
@@ -149,14 +150,14 @@ module _ (c : CatalogState) (ok : IsConsistent c) (n : TableNumber) (key : Value
   name : (called : List ℕ) × (slice_get c.names n.0 ≡ Some called)
   name = named_at c ok n.0 within
 
-  other_rows : (r : TupleRef) → r ≢ taken.r → get a.rows r ≡ get b.rows r
-  other_rows r other = ap (λ m. get m r) taken.inserted.rows ∙ get-insert_other b.rows taken.r r t other
+  other_rows : (r : TupleRef) → r ≢ q → get a.rows r ≡ get b.rows r
+  other_rows r other = ap (λ m. get m r) taken.inserted.rows ∙ get-insert_other b.rows q r t other
 
-  not_new : (r : TupleRef) (u : Row) → get b.rows r ≡ Some u → r ≢ taken.r
+  not_new : (r : TupleRef) (u : Row) → get b.rows r ≡ Some u → r ≢ q
   not_new r u found e = none-some u (sym taken.inserted.free ∙ ap (get b.rows) (sym e) ∙ found)
 
-  this_row : (u : Row) → get a.rows taken.r ≡ Some u → t ≡ u
-  this_row u found = same_Some t u (sym (ap (λ m. get m taken.r) taken.inserted.rows ∙ get-insert_same b.rows taken.r t) ∙ found)
+  this_row : (u : Row) → get a.rows q ≡ Some u → t ≡ u
+  this_row u found = same_Some t u (sym (ap (λ m. get m q) taken.inserted.rows ∙ get-insert_same b.rows q t) ∙ found)
 
   rewritten : IsRewritten c.relations new n.0 b a
   rewritten =
@@ -174,7 +175,7 @@ module _ (c : CatalogState) (ok : IsConsistent c) (n : TableNumber) (key : Value
   rows_now : rows_of (linked_keys a.targets c.relations) a ≡ with_row values (rows_of (linked_keys b.targets c.relations) b)
   rows_now =
       (λ i. rows_of (linked_keys (taken.inserted.keeps.targets i) c.relations) (record a { schema = taken.inserted.keeps.schema i }))
-      ∙ rows_inserted b a (among_at c ok n.0 b there).kept taken.kept taken.r t taken.inserted fresh (linked_keys b.targets c.relations) (some_column c ok n.0 b there)
+      ∙ rows_inserted b a (among_at c ok n.0 b there).kept taken.kept q t taken.inserted fresh (linked_keys b.targets c.relations) (some_column c ok n.0 b there)
       ∙ ap (λ v. with_row v (rows_of (linked_keys b.targets c.relations) b)) values_here
 
   table_now : table_of c.relations name.0 a ≡ grown_by values (table_of c.relations name.0 b)
@@ -195,7 +196,7 @@ module _ (c : CatalogState) (ok : IsConsistent c) (n : TableNumber) (key : Value
       ∙ ap (λ (e : Effect). e.database) (sym effect_is)
 
   linked_now : (r : TupleRef) (u : Row) → get a.rows r ≡ Some u → HasLinksOrNulls a.targets u
-  linked_now r u found = subst (λ targets. HasLinksOrNulls targets u) (sym taken.inserted.keeps.targets) (elim (same_or_other r taken.r) [
+  linked_now r u found = subst (λ targets. HasLinksOrNulls targets u) (sym taken.inserted.keeps.targets) (elim (same_or_other r q) [
     | inl same ↦
         subst (HasLinksOrNulls b.targets) (this_row u (ap (get a.rows) (sym same) ∙ found)) (cells_linked (take n.0 c.relations) b.targets key rest cells are wide)
     | inr other ↦ (among_at c ok n.0 b there).linked r u (sym (other_rows r other) ∙ found)
@@ -214,13 +215,13 @@ module _ (c : CatalogState) (ok : IsConsistent c) (n : TableNumber) (key : Value
 
   counts : (table : ℕ) (r : TupleRef) → table < n.0 → count table r + count_by (is_link_to table r) (relation_links b) ≡ links_to c.relations table r + count_by (is_link_to table r) (relation_links a)
   counts table r below =
-      omega (arith, links_inserted b a (among_at c ok n.0 b there).kept taken.kept taken.r t taken.inserted fresh (is_link_to table r))
+      omega (arith, links_inserted b a (among_at c ok n.0 b there).kept taken.kept q t taken.inserted fresh (is_link_to table r))
 
   own : (r : TupleRef) (u : Row) → get a.rows r ≡ Some u → u.referrers ≡ links_to c.relations n.0 r
-  own r u found = elim (same_or_other r taken.r) [
+  own r u found = elim (same_or_other r q) [
     | inl same ↦
         ap (λ (v : Row). v.referrers) (sym (this_row u (ap (get a.rows) (sym same) ∙ found)))
-        ∙ sym (no_links_to c ok n.0 b there taken.r taken.inserted.free) ∙ ap (links_to c.relations n.0) (sym same)
+        ∙ sym (no_links_to c ok n.0 b there q taken.inserted.free) ∙ ap (links_to c.relations n.0) (sym same)
     | inr other ↦ ok.counted n.0 b r u there (sym (other_rows r other) ∙ found)
   ]
 
@@ -242,12 +243,12 @@ module _ (c : CatalogState) (ok : IsConsistent c) (n : TableNumber) (key : Value
   }
 
 module _ (c : CatalogState) (ok : IsConsistent c) (n : TableNumber) (values : List Value) (meant : IsMeant c.limits (database_of c) (resolved.Insert n values)) where
-  pub grown_from : (relations : List RelationState) → IsInsertedAt c.relations relations n.0 c.limits.rows values → IsGrown c relations n values
-  grown_from relations h =
+  pub grown_from : (relations : List RelationState) (r : TupleRef) → IsInsertedAt c.relations relations n.0 c.limits.rows values r → IsGrown c relations n values
+  grown_from relations r h =
       let e = h.row.split in
       subst (λ rs. IsGrown c rs n values) (sym h.list)
       (subst (IsGrown c (h.front ++ set (drop n.0 c.relations) 0 h.after) n) (sym e)
-      (grown_now c ok n h.key h.row.rest (subst (λ vs. IsMeant c.limits (database_of c) (resolved.Insert n vs)) e meant) h.before h.after h.front h.cells h.there h.row.fresh h.row.cells h.row.room h.taken))
+      (grown_now c ok n h.key h.row.rest (subst (λ vs. IsMeant c.limits (database_of c) (resolved.Insert n vs)) e meant) h.before h.after h.front h.cells h.there h.row.fresh h.row.cells h.row.room r h.taken))
 
   -- ---- a row that did not come
 
@@ -270,14 +271,18 @@ module _ (c : CatalogState) (ok : IsConsistent c) (n : TableNumber) (values : Li
 
   -- ---- the answer
 
-  pub inserted_consistent : (relations : List RelationState) (result : Result (Unit {0}) Refusal) → OnOk result (IsInsertedAt c.relations relations n.0 c.limits.rows values) → OnErr result (relations ≡ c.relations) → IsConsistent (record c { relations = relations })
-  inserted_consistent relations (Ok u) h same = (grown_from relations h).consistent
+  pub inserted_consistent : (relations : List RelationState) (result : Result TupleRef Refusal) → IfOk result (IsInsertedAt c.relations relations n.0 c.limits.rows values) → OnErr result (relations ≡ c.relations) → IsConsistent (record c { relations = relations })
+  inserted_consistent relations (Ok r) h same = (grown_from relations r h).consistent
   inserted_consistent relations (Err e) h same = subst (λ rs. IsConsistent (record c { relations = rs })) (sym same) ok
 
-  pub inserted_effect : (relations : List RelationState) (result : Result (Unit {0}) Refusal) → OnOk result (IsInsertedAt c.relations relations n.0 c.limits.rows values) → OnOk result (HasEffect c (record c { relations = relations }) (done c.limits (database_of c) (resolved.Insert n values)) 1)
-  inserted_effect relations (Ok u) h = (grown_from relations h).effect
+  pub inserted_effect : (relations : List RelationState) (result : Result TupleRef Refusal) → IfOk result (IsInsertedAt c.relations relations n.0 c.limits.rows values) → OnOk result (HasEffect c (record c { relations = relations }) (done c.limits (database_of c) (resolved.Insert n values)) 1)
+  inserted_effect relations (Ok r) h = (grown_from relations r h).effect
   inserted_effect relations (Err e) h = tt
 
-  pub inserted_refused : (relations : List RelationState) (result : Result (Unit {0}) Refusal) → IfErr result (IsRefusedAt c.relations n.0 c.limits.rows values) → OnErr result (relations ≡ c.relations) → IfErr result (IsRefusedFor c (record c { relations = relations }) (done c.limits (database_of c) (resolved.Insert n values)))
-  inserted_refused relations (Ok u) h same = tt
+  pub inserted_came : (relations : List RelationState) (result : Result TupleRef Refusal) → IfOk result (IsInsertedAt c.relations relations n.0 c.limits.rows values) → IfOk result (HasCome c (record c { relations = relations }) n.0 values)
+  inserted_came relations (Ok r) h = record { inserted = h; same = refl }
+  inserted_came relations (Err e) h = tt
+
+  pub inserted_refused : (relations : List RelationState) (result : Result TupleRef Refusal) → IfErr result (IsRefusedAt c.relations n.0 c.limits.rows values) → OnErr result (relations ≡ c.relations) → IfErr result (IsRefusedFor c (record c { relations = relations }) (done c.limits (database_of c) (resolved.Insert n values)))
+  inserted_refused relations (Ok r) h same = tt
   inserted_refused relations (Err e) h same = refused_from relations e h same

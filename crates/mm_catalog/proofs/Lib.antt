@@ -39,6 +39,9 @@ pub mod Bounded
 pub mod Checked
 pub mod Taking
 pub mod Inserted
+pub mod Loaded
+pub mod TakenBack
+pub mod LoadSteps
 pub mod ResolveLists
 pub mod ResolveTables
 pub mod ResolveColumns

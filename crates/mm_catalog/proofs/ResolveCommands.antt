@@ -79,7 +79,7 @@ module _ (tables : Database) (name : List ℕ) (scope : Scope) (h : IsScopeOf ta
 
   -- ---- drop table
 
-  pub drop_is : resolved_of tables (command.DropTable name) ≡ meaning (record { refuses = is_table_referenced tables scope.name.now; refusal = TableIsReferenced } ∷ []) (resolved.DropTable scope.table)
+  pub drop_is : resolved_of [] tables (command.DropTable name) ≡ meaning (record { refuses = is_table_referenced tables scope.name.now; refusal = TableIsReferenced } ∷ []) (resolved.DropTable scope.table)
   drop_is =
       in_scope (λ n table. meaning (drop_checks tables table) (resolved.DropTable n))
       ∙ ap (λ (own : List ℕ). meaning (record { refuses = is_table_referenced tables own; refusal = TableIsReferenced } ∷ []) (resolved.DropTable scope.table)) h.called
@@ -98,35 +98,35 @@ module _ (tables : Database) (name : List ℕ) (scope : Scope) (h : IsScopeOf ta
     drop_index_on own place =
         meaning (record { refuses = not (list_any (is_index place.column k) own); refusal = NoSuchIndex } ∷ []) (resolved.DropIndex scope.table place.column k)
 
-    pub index_is : resolved_of tables (command.Index name column k) ≡ option_map_or (index_on declared) (place_meant columns (bare column)) (Err NoSuchColumn)
+    pub index_is : resolved_of [] tables (command.Index name column k) ≡ option_map_or (index_on declared) (place_meant columns (bare column)) (Err NoSuchColumn)
     index_is =
         in_scope (λ n table. on_column column table (λ c. meaning (index_checks table c k) (resolved.Index n c k)))
         ∙ ap (λ cs. option_map_or (index_on h.table.indexes) (place_meant cs (bare column)) (Err NoSuchColumn)) own_columns-are
         ∙ ap (λ own. option_map_or (index_on own) (place_meant columns (bare column)) (Err NoSuchColumn)) h.indexes
 
-    pub drop_index_is : resolved_of tables (command.DropIndex name column k) ≡ option_map_or (drop_index_on declared) (place_meant columns (bare column)) (Err NoSuchColumn)
+    pub drop_index_is : resolved_of [] tables (command.DropIndex name column k) ≡ option_map_or (drop_index_on declared) (place_meant columns (bare column)) (Err NoSuchColumn)
     drop_index_is =
         in_scope (λ n table. on_column column table (λ c. meaning (drop_index_checks table c k) (resolved.DropIndex n c k)))
         ∙ ap (λ cs. option_map_or (drop_index_on h.table.indexes) (place_meant cs (bare column)) (Err NoSuchColumn)) own_columns-are
         ∙ ap (λ own. option_map_or (drop_index_on own) (place_meant columns (bare column)) (Err NoSuchColumn)) h.indexes
 
     -- no such column
-    pub index_missed : place_meant columns (bare column) ≡ None → resolved_of tables (command.Index name column k) ≡ Err NoSuchColumn
+    pub index_missed : place_meant columns (bare column) ≡ None → resolved_of [] tables (command.Index name column k) ≡ Err NoSuchColumn
     index_missed none = index_is ∙ ap (λ o. option_map_or (index_on declared) o (Err NoSuchColumn)) none
 
-    pub drop_index_missed : place_meant columns (bare column) ≡ None → resolved_of tables (command.DropIndex name column k) ≡ Err NoSuchColumn
+    pub drop_index_missed : place_meant columns (bare column) ≡ None → resolved_of [] tables (command.DropIndex name column k) ≡ Err NoSuchColumn
     drop_index_missed none = drop_index_is ∙ ap (λ o. option_map_or (drop_index_on declared) o (Err NoSuchColumn)) none
 
     module _ (c : ColumnNumber) (found : place_meant columns (bare column) ≡ Some (own_place c)) (b : Bool) where
       pub index_found : (is_index c k (0, index.Tree) || list_any (λ d. is_index c k (plain_index d)) scope.declared.now) ≡ b
-          → resolved_of tables (command.Index name column k) ≡ cond b (Err IndexExists) (Ok (resolved.Index scope.table c k))
+          → resolved_of [] tables (command.Index name column k) ≡ cond b (Err IndexExists) (Ok (resolved.Index scope.table c k))
       index_found is =
           index_is ∙ ap (λ o. option_map_or (index_on declared) o (Err NoSuchColumn)) found
           ∙ ap (λ x. cond (is_index c k (0, index.Tree) || x) (Err IndexExists) (Ok (resolved.Index scope.table c k))) (list_any-map (is_index c k) plain_index scope.declared.now)
           ∙ ap (λ x. cond x (Err IndexExists) (Ok (resolved.Index scope.table c k))) is
 
       pub drop_index_found : not (list_any (λ d. is_index c k (plain_index d)) scope.declared.now) ≡ b
-          → resolved_of tables (command.DropIndex name column k) ≡ cond b (Err NoSuchIndex) (Ok (resolved.DropIndex scope.table c k))
+          → resolved_of [] tables (command.DropIndex name column k) ≡ cond b (Err NoSuchIndex) (Ok (resolved.DropIndex scope.table c k))
       drop_index_found is =
           drop_index_is ∙ ap (λ o. option_map_or (drop_index_on declared) o (Err NoSuchColumn)) found
           ∙ ap (λ x. cond (not x) (Err NoSuchIndex) (Ok (resolved.DropIndex scope.table c k))) (list_any-map (is_index c k) plain_index scope.declared.now)
@@ -135,15 +135,15 @@ module _ (tables : Database) (name : List ℕ) (scope : Scope) (h : IsScopeOf ta
   -- ---- insert
 
   module _ (row : Row) where
-    insert_is : resolved_of tables (command.Insert name row) ≡ meaning (row_checks tables scope.columns.now row) (resolved.Insert scope.table row)
+    insert_is : resolved_of [] tables (command.Insert name row) ≡ meaning (row_checks tables scope.columns.now row) (resolved.Insert scope.table row)
     insert_is =
         in_scope (λ n table. meaning (insert_checks tables table row) (resolved.Insert n row))
         ∙ ap (λ (cs : List Column). meaning (row_checks tables cs row) (resolved.Insert scope.table row)) h.columns
 
-    pub insert_meant : verdict (row_checks tables scope.columns.now row) ≡ Ok tt → resolved_of tables (command.Insert name row) ≡ Ok (resolved.Insert scope.table row)
+    pub insert_meant : verdict (row_checks tables scope.columns.now row) ≡ Ok tt → resolved_of [] tables (command.Insert name row) ≡ Ok (resolved.Insert scope.table row)
     insert_meant ok = insert_is ∙ meaning_ok (row_checks tables scope.columns.now row) (resolved.Insert scope.table row) ok
 
-    pub insert_refused : (e : Refusal) → verdict (row_checks tables scope.columns.now row) ≡ Err e → resolved_of tables (command.Insert name row) ≡ Err e
+    pub insert_refused : (e : Refusal) → verdict (row_checks tables scope.columns.now row) ≡ Err e → resolved_of [] tables (command.Insert name row) ≡ Err e
     insert_refused e err = insert_is ∙ meaning_err (row_checks tables scope.columns.now row) (resolved.Insert scope.table row) e err
 
   -- ---- delete
@@ -156,7 +156,7 @@ module _ (tables : Database) (name : List ℕ) (scope : Scope) (h : IsScopeOf ta
         ∷ record { refuses = nat_lt 8 (length conditions); refusal = TooMany }
         ∷ []
 
-    delete_is : resolved_of tables (command.Delete name conditions) ≡ meaning (delete_on columns) (resolved.Delete scope.table (tests_of columns conditions))
+    delete_is : resolved_of [] tables (command.Delete name conditions) ≡ meaning (delete_on columns) (resolved.Delete scope.table (tests_of columns conditions))
     delete_is =
         in_scope (λ n table. meaning (delete_on (own_columns table)) (resolved.Delete n (tests_of (own_columns table) conditions)))
         ∙ ap (λ cs. meaning (delete_on cs) (resolved.Delete scope.table (tests_of cs conditions))) own_columns-are
@@ -165,15 +165,15 @@ module _ (tables : Database) (name : List ℕ) (scope : Scope) (h : IsScopeOf ta
     delete_named named =
         rw (named, tests_mistyped tables scope conditions named, sym (length-tests columns conditions named)) refl
 
-    pub delete_missed : misses columns (condition_names conditions) ≡ true → resolved_of tables (command.Delete name conditions) ≡ Err NoSuchColumn
+    pub delete_missed : misses columns (condition_names conditions) ≡ true → resolved_of [] tables (command.Delete name conditions) ≡ Err NoSuchColumn
     delete_missed missed = delete_is ∙ rw missed refl
 
     pub delete_meant : misses columns (condition_names conditions) ≡ false → verdict (delete_rest tables scope.columns.now (tests_of columns conditions)) ≡ Ok tt
-        → resolved_of tables (command.Delete name conditions) ≡ Ok (resolved.Delete scope.table (tests_of columns conditions))
+        → resolved_of [] tables (command.Delete name conditions) ≡ Ok (resolved.Delete scope.table (tests_of columns conditions))
     delete_meant named ok = delete_is ∙ meaning_ok (delete_on columns) (resolved.Delete scope.table (tests_of columns conditions)) (delete_named named ∙ ok)
 
     pub delete_refused : misses columns (condition_names conditions) ≡ false → (e : Refusal) → verdict (delete_rest tables scope.columns.now (tests_of columns conditions)) ≡ Err e
-        → resolved_of tables (command.Delete name conditions) ≡ Err e
+        → resolved_of [] tables (command.Delete name conditions) ≡ Err e
     delete_refused named e err = delete_is ∙ meaning_err (delete_on columns) (resolved.Delete scope.table (tests_of columns conditions)) e (delete_named named ∙ err)
 
   -- ---- update
@@ -195,26 +195,26 @@ module _ (tables : Database) (name : List ℕ) (scope : Scope) (h : IsScopeOf ta
     abbrev change : Resolved
     change = resolved.Update scope.table (assignments_of columns settings) (tests_of columns conditions)
 
-    update_is : resolved_of tables (command.Update name settings conditions) ≡ meaning (update_on columns) change
+    update_is : resolved_of [] tables (command.Update name settings conditions) ≡ meaning (update_on columns) change
     update_is =
         in_scope (λ n table. meaning (update_on (own_columns table)) (resolved.Update n (assignments_of (own_columns table) settings) (tests_of (own_columns table) conditions)))
         ∙ ap (λ cs. meaning (update_on cs) (resolved.Update scope.table (assignments_of cs settings) (tests_of cs conditions))) own_columns-are
 
-    update_missed : misses columns update_names ≡ true → resolved_of tables (command.Update name settings conditions) ≡ Err NoSuchColumn
+    update_missed : misses columns update_names ≡ true → resolved_of [] tables (command.Update name settings conditions) ≡ Err NoSuchColumn
     update_missed missed = update_is ∙ rw missed refl
 
-    pub settings_missed : misses columns (map setting_name settings) ≡ true → resolved_of tables (command.Update name settings conditions) ≡ Err NoSuchColumn
+    pub settings_missed : misses columns (map setting_name settings) ≡ true → resolved_of [] tables (command.Update name settings conditions) ≡ Err NoSuchColumn
     settings_missed missed = update_missed (first_missed columns (map setting_name settings) (condition_names conditions) missed)
 
     module _ (settings_named : misses columns (map setting_name settings) ≡ false) where
-      pub tests_missed : misses columns (condition_names conditions) ≡ true → resolved_of tables (command.Update name settings conditions) ≡ Err NoSuchColumn
+      pub tests_missed : misses columns (condition_names conditions) ≡ true → resolved_of [] tables (command.Update name settings conditions) ≡ Err NoSuchColumn
       tests_missed missed = update_missed (rest_missed columns (map setting_name settings) (condition_names conditions) true settings_named missed)
 
       module _ (named : misses columns (condition_names conditions) ≡ false) where
         all_named : misses columns update_names ≡ false
         all_named = rest_missed columns (map setting_name settings) (condition_names conditions) false settings_named named
 
-        pub set_twice : repeats bytes_eq (map (λ s. s.column) settings) ≡ true → resolved_of tables (command.Update name settings conditions) ≡ Err ColumnNamedTwice
+        pub set_twice : repeats bytes_eq (map (λ s. s.column) settings) ≡ true → resolved_of [] tables (command.Update name settings conditions) ≡ Err ColumnNamedTwice
         set_twice twice = update_is ∙ rw (all_named, twice) refl
 
         module _ (once : repeats bytes_eq (map (λ s. s.column) settings) ≡ false) where
@@ -231,9 +231,9 @@ module _ (tables : Database) (name : List ℕ) (scope : Scope) (h : IsScopeOf ta
               ) refl
 
           pub update_meant : verdict (update_rest tables scope.columns.now (assignments_of columns settings) (tests_of columns conditions)) ≡ Ok tt
-              → resolved_of tables (command.Update name settings conditions) ≡ Ok change
+              → resolved_of [] tables (command.Update name settings conditions) ≡ Ok change
           update_meant ok = update_is ∙ meaning_ok (update_on columns) change (update_named ∙ ok)
 
           pub update_refused : (e : Refusal) → verdict (update_rest tables scope.columns.now (assignments_of columns settings) (tests_of columns conditions)) ≡ Err e
-              → resolved_of tables (command.Update name settings conditions) ≡ Err e
+              → resolved_of [] tables (command.Update name settings conditions) ≡ Err e
           update_refused e err = update_is ∙ meaning_err (update_on columns) change e (update_named ∙ err)

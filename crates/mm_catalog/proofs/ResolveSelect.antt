@@ -167,7 +167,7 @@ module _ (tables : Database) (distinct : Bool) (its : Items) (name : List ℕ) (
   sides = map (join_columns tables) (behind (name ∷ []) joins)
 
   abbrev resolved_so : Result Resolved Refusal
-  resolved_so = resolved_of tables (command.Select distinct its name joins conditions)
+  resolved_so = resolved_of [] tables (command.Select distinct its name joins conditions)
 
   abbrev pub misses_table : Bool
   misses_table = list_any (λ n. not (is_some (table_named n tables))) names

@@ -24,6 +24,15 @@ pub record HasEffect (old new : CatalogState) (effect : Effect) (count : ℕ) : 
 abbrev pub IsRefusedFor : CatalogState → CatalogState → Effect → Refusal → Type 0
 IsRefusedFor old new effect refusal = (new ≡ old) × ((refusal ≡ NoMemory) ⊎ (effect.outcome ≡ Refused refusal))
 
+-- the database and the limits are as before
+pub record KeepsDatabase (old new : CatalogState) : Type 0 where
+  pub database : database_of new ≡ database_of old
+  pub limits : new.limits ≡ old.limits
+
+-- The database is as before: no memory was found, or the effect is this refusal.
+abbrev pub IsDeclinedFor : CatalogState → CatalogState → Effect → Refusal → Type 0
+IsDeclinedFor old new effect refusal = KeepsDatabase old new × ((refusal ≡ NoMemory) ⊎ (effect.outcome ≡ Refused refusal))
+
 -- what a call of this effect answers: how many rows changed, or why none did
 abbrev pub IsAnswered : CatalogState → CatalogState → Effect → Result ℕ Refusal → Type 0
 IsAnswered old new effect (Ok count) = HasEffect old new effect count

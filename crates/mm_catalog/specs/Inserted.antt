@@ -36,9 +36,8 @@ pub record CannotComeIn (relations : List RelationState) (s : RelationState) (mo
   pub split : values ≡ key ∷ rest
   pub why : IsKeptOut relations s most key rest refusal
 
--- A row came into a relation, and each row of those before it that its links name has a referrer more for each.
-pub record IsTakenIn (before now : List RelationState) (old new : RelationState) (row : Row) : Type 0 where
-  pub r : TupleRef
+-- A row came into a relation under a reference, and each row of those before it that its links name has a referrer more for each.
+pub record IsTakenIn (before now : List RelationState) (old new : RelationState) (r : TupleRef) (row : Row) : Type 0 where
   pub inserted : IsInserted old new r row
   pub kept : IsKept new
   pub current : IsCurrent (linked_keys old.targets before) new
@@ -46,8 +45,8 @@ pub record IsTakenIn (before now : List RelationState) (old new : RelationState)
   pub others_kept : All IsKept now
   pub raised : AreRaised before now (row_links old.targets row)
 
--- the row of these values came into the relation of a number
-pub record IsInsertedAt (old new : List RelationState) (n most : ℕ) (values : List Value) : Type 0 where
+-- the row of these values came into the relation of a number, under this reference
+pub record IsInsertedAt (old new : List RelationState) (n most : ℕ) (values : List Value) (r : TupleRef) : Type 0 where
   pub before : RelationState
   pub after : RelationState
   pub front : List RelationState
@@ -56,7 +55,7 @@ pub record IsInsertedAt (old new : List RelationState) (n most : ℕ) (values : 
   pub there : slice_get old n ≡ Some before
   pub list : new ≡ front ++ slice_set (drop n old) 0 after
   pub row : CanComeIn (take n old) before most values key cells
-  pub taken : IsTakenIn (take n old) front before after (new_row key cells)
+  pub taken : IsTakenIn (take n old) front before after r (new_row key cells)
 
 -- the row of these values cannot come into the relation of a number
 pub record IsRefusedAt (relations : List RelationState) (n most : ℕ) (values : List Value) (refusal : Refusal) : Type 0 where

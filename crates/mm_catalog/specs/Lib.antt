@@ -13,6 +13,7 @@ pub mod Raised
 pub mod Cells
 pub mod Assigned
 pub mod Inserted
+pub mod Loaded
 pub mod Resolve
 pub mod ResolveChecks
 pub mod Select

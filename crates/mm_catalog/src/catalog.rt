@@ -1,12 +1,14 @@
 //! The tables, and what they are called.
-ghost use Rattle.std.specs.Prelude.{◌≡◌, ◌≢◌, ◌<◌, ◌≤◌, ◌⊎◌, Bool, [], Some, IfErr, OnOk, OnErr, length, map, position, slice_get};
+ghost use Rattle.std.specs.Prelude.{◌≡◌, ◌≢◌, ◌<◌, ◌≤◌, ◌⊎◌, Bool, [], Some, IfErr, IfOk, OnOk, OnErr, length, map, position, slice_get};
 ghost use Rattle.std.specs.List.{AllPairs};
 ghost use Rattle.std.specs.Option.{option_map};
 
 use crate::create::{aimed, any_refers_to};
 use crate::declare::{declare, undeclare};
-use crate::delete::delete;
+use crate::delete::{delete, take_out};
 use crate::insert::insert;
+use crate::laws::a_catalog_is_consistent;
+use crate::load::{in_record, room_for};
 use crate::removal::{renumber_behind, unlink};
 use crate::updating::set_rows;
 use indexmap::IndexSet;
@@ -54,7 +56,8 @@ impl Catalog {
     ghost use Rattle.plain_tables.specs.Doing.{done};
     ghost use Rattle.plain_tables.specs.Effects.{Refused};
     ghost use Rattle.plain_tables.specs.Tables.{Row};
-    ghost use Rattle.mm_catalog.specs.Changes.{IsDone, HasEffect, IsRefusedFor};
+    ghost use Rattle.mm_catalog.specs.Changes.{IsDone, HasEffect, IsRefusedFor, IsDeclinedFor};
+    ghost use Rattle.mm_catalog.specs.Loaded.{HasCome, HaveGone, AreFreeRows};
     ghost use Rattle.mm_catalog.specs.Picked.{ArePicked, HoldsRows};
     ghost use Rattle.plain_tables.specs.Databases.{is_named};
     ghost use Rattle.mm_catalog.specs.Resolve.{table_number};
@@ -95,7 +98,7 @@ impl Catalog {
     }
 
     /// The columns of a table.
-    pub(crate) fn columns(&self, table: TableNumber) -> &[Column]
+    pub fn columns(&self, table: TableNumber) -> &[Column]
         requires { table.0 < length (database_of self.now) }
         ensures { option_map (λ t. t.columns) (slice_get (database_of self.now) table.0) ≡ Some result.now }
     {
@@ -118,7 +121,7 @@ impl Catalog {
     }
 
     /// The number of the table of that name.
-    pub(crate) fn table_number(&self, name: &Text) -> Option<TableNumber>
+    pub fn table_number(&self, name: &Text) -> Option<TableNumber>
         ensures { result ≡ option_map table_number (position (is_named name.now) (database_of self.now)) }
     {
         let number = self.names.get_index_of(name.as_str())?;
@@ -190,6 +193,17 @@ impl Catalog {
         ensures inserted { OnOk result (HasEffect self.old self.new (done self.old.limits (database_of self.old) (resolved.Insert table values)) 1) }
         ensures refused { IfErr result (IsRefusedFor self.old self.new (done self.old.limits (database_of self.old) (resolved.Insert table values))) }
     {
+        self.take_in(table, values)?;
+        Ok(())
+    }
+
+    // Puts a row into a table, and gives its reference.
+    fn take_in(&mut self, table: TableNumber, values: Sequence<Value>) -> Result<TupleRef, Refusal>
+        requires { IsMeant self.old.limits (database_of self.old) (resolved.Insert table values) }
+        ensures inserted { OnOk result (HasEffect self.old self.new (done self.old.limits (database_of self.old) (resolved.Insert table values)) 1) }
+        ensures came { IfOk result (HasCome self.old self.new table.0 values) }
+        ensures refused { IfErr result (IsRefusedFor self.old self.new (done self.old.limits (database_of self.old) (resolved.Insert table values))) }
+    {
         let alloc = *self.relations.allocator();
         insert(
             alloc,
@@ -198,6 +212,46 @@ impl Catalog {
             table,
             values,
         )
+    }
+
+    // Takes rows out of a table that no link names.
+    fn take_back(&mut self, table: TableNumber, rows: &[TupleRef])
+        requires there { table.0 < length (database_of self.old) }
+        requires held { HoldsRows self.old table.0 rows.now }
+        requires once { AllPairs (λ q r. q ≢ r) rows.now }
+        requires free { AreFreeRows self.old table.0 rows.now }
+        ensures { HaveGone self.old self.new table.0 rows.now }
+    {
+        take_out(self.relations.as_mut_slice(), table, rows)
+    }
+
+    /// Puts rows into a table, all of them or none, as inserts one after the other do. Where one of them cannot come in, the
+    /// answer is that of its insert, with its number among the rows, counted from 1; and 90 where no memory is found.
+    pub fn load_rows(
+        &mut self,
+        table: TableNumber,
+        rows: Sequence<Sequence<Value>>,
+    ) -> Result<(), Refusal>
+        requires { IsMeant self.old.limits (database_of self.old) (resolved.Load table rows) }
+        ensures loaded { OnOk result (HasEffect self.old self.new (done self.old.limits (database_of self.old) (resolved.Load table rows)) (length rows)) }
+        ensures refused { IfErr result (IsDeclinedFor self.old self.new (done self.old.limits (database_of self.old) (resolved.Load table rows))) }
+    {
+        a_catalog_is_consistent(self);
+        let mut taken = room_for(self.allocator(), rows.len())?;
+        for row in rows.into_vec() {
+            match self.take_in(table, row) {
+                Ok(r) => taken.push_reserved(r),
+                Err(refusal) => {
+                    self.take_back(table, taken.as_slice());
+                    return Err(in_record(refusal, taken.len() as u64 + 1));
+                }
+            }
+        }
+        Ok(())
+    }
+
+    fn allocator(&self) -> Global {
+        *self.relations.allocator()
     }
 
     /// Assigns values to rows of a table. Where a reference that is assigned names no row, whether a row is given or not, and

@@ -50,6 +50,20 @@ fn remove_each(before: &mut [Relation], relation: &mut Relation, rows: &[TupleRe
     }
 }
 
+/// Takes rows out of the relation of this number, whose links lead into those before it. It takes no memory.
+pub fn take_out(relations: &mut [Relation], table: TableNumber, rows: &[TupleRef])
+    requires there { table.0 < length relations.old }
+    requires kept { All IsKept relations.old }
+    requires held { (s : RelationState) → slice_get relations.old table.0 ≡ Some s → All (λ r. IsSome (finite.get s.rows r)) rows.now }
+    requires once { AllPairs (λ q r. q ≢ r) rows.now }
+    requires current { IsCurrentAt relations.old table.0 }
+    requires counted { (s : RelationState) → slice_get relations.old table.0 ≡ Some s → HaveAtLeast (take table.0 relations.old) (λ n q. count_by (is_link_to n q) (relation_links s)) }
+    ensures { AreDeleted relations.old relations.new table.0 rows.now }
+{
+    let (before, rest) = relations.split_at_mut(table.0);
+    remove_each(before, &mut rest[0], rows);
+}
+
 /// Takes rows out of the relation of this number, where no link names any of them. Its links lead into those before it.
 pub fn delete(
     relations: &mut [Relation],
@@ -70,7 +84,6 @@ pub fn delete(
     if any_referenced(&relations[table.0], rows) {
         return Err(Refusal::RowIsReferenced);
     }
-    let (before, rest) = relations.split_at_mut(table.0);
-    remove_each(before, &mut rest[0], rows);
+    take_out(relations, table, rows);
     Ok(())
 }

@@ -14,6 +14,7 @@ use crate::referrers::raise_links;
 use mm_relation::laws::a_relation_is_kept;
 use mm_relation::{Cell, Relation, RowRefusal};
 use no_memory::NoMemory;
+use part_raw::TupleRef;
 use plain_tables::{Limits, Refusal, Sequence, TableNumber, Value};
 use std::alloc::Global;
 
@@ -42,13 +43,13 @@ fn row_for(
     Ok((key, cells))
 }
 
-// Takes a row with a new key in, where there is room for it, and counts its links.
+// Takes a row with a new key in, where there is room for it, and counts its links. It gives the reference of the row.
 fn take_in(
     before: &mut [Relation],
     relation: &mut Relation,
     key: Value,
     cells: Sequence<Cell>,
-) -> Result<(), NoMemory>
+) -> Result<TupleRef, NoMemory>
     requires kept { All IsKept before.old }
     requires readable { IsReadable (linked_keys relation.old.targets before.old) (length relation.old.targets) (new_row key cells) }
     requires current { IsCurrent (linked_keys relation.old.targets before.old) relation.old }
@@ -56,7 +57,7 @@ fn take_in(
     requires few { finite.len relation.old.rows < 16777216 }
     requires links { All (IsHeldIn before.old) (row_links relation.old.targets (new_row key cells)) }
     requires room { HaveRoom before.old (length relation.old.targets) }
-    ensures taken { OnOk result (IsTakenIn before.old before.new relation.old relation.new (new_row key cells)) }
+    ensures taken { IfOk result (λ r. IsTakenIn before.old before.new relation.old relation.new r (new_row key cells)) }
     ensures others { OnErr result (before.new ≡ before.old) }
     ensures unchanged { OnErr result (relation.new ≡ relation.old) }
 {
@@ -65,21 +66,22 @@ fn take_in(
         Ok(r) => {
             a_relation_is_kept(relation);
             raise_links(before, relation, r);
-            Ok(())
+            Ok(r)
         }
         Err(RowRefusal::NoMemory) => Err(NoMemory),
         Err(RowRefusal::KeyExists | RowRefusal::Full) => unreachable!(),
     }
 }
 
-// Puts the row of these values into the relation of this number, whose links lead into those before it.
+// Puts the row of these values into the relation of this number, whose links lead into those before it. It gives the
+// reference of the row.
 pub fn insert(
     alloc: Global,
     relations: &mut [Relation],
     limits: Limits,
     table: TableNumber,
     values: Sequence<Value>,
-) -> Result<(), Refusal>
+) -> Result<TupleRef, Refusal>
     requires few { limits.rows ≤ 16777216 }
     requires there { table.0 < length relations.old }
     requires kept { All IsKept relations.old }
@@ -88,13 +90,13 @@ pub fn insert(
     requires some { 0 < length values }
     requires width { (s : RelationState) → slice_get relations.old table.0 ≡ Some s → length values ≡ length s.targets }
     requires room { (s : RelationState) → slice_get relations.old table.0 ≡ Some s → HaveRoom (take table.0 relations.old) (length s.targets) }
-    ensures inserted { OnOk result (IsInsertedAt relations.old relations.new table.0 limits.rows values) }
+    ensures inserted { IfOk result (IsInsertedAt relations.old relations.new table.0 limits.rows values) }
     ensures refused { IfErr result (IsRefusedAt relations.old table.0 limits.rows values) }
     ensures unchanged { OnErr result (relations.new ≡ relations.old) }
 {
     let (before, rest) = relations.split_at_mut(table.0);
     let relation = &mut rest[0];
     let (key, cells) = row_for(alloc, before, relation, limits, values)?;
-    take_in(before, relation, key, cells)?;
-    Ok(())
+    let r = take_in(before, relation, key, cells)?;
+    Ok(r)
 }

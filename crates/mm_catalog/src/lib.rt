@@ -27,6 +27,7 @@ mod delete;
 mod insert;
 mod joined_scope;
 pub mod laws;
+mod load;
 mod lowering;
 mod named;
 mod referrers;

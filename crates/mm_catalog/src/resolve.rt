@@ -1,5 +1,5 @@
 //! Commands by the numbers of tables and columns.
-ghost use Rattle.std.specs.Prelude.{◌≡◌, ◌≢◌, Ok, Err, IfOk, IfErr};
+ghost use Rattle.std.specs.Prelude.{◌≡◌, ◌≢◌, [], Ok, Err, IfOk, IfErr};
 ghost use Rattle.plain_tables.specs.declared.refusal.Refusal.TheVariants as refusal;
 ghost use Rattle.plain_tables.specs.declared.command.Command.TheVariants as command;
 ghost use Rattle.plain_tables.specs.Resolving.{resolved_of};
@@ -14,10 +14,10 @@ use plain_tables::{
 
 impl Catalog {
     /// What a command means of these tables, with numbers in the place of names. It is refused where a check that needs no
-    /// row refuses it, by the first that does, or where there is no memory.
+    /// row refuses it, by the first that does, or where there is no memory. A load is resolved as one without records.
     pub fn resolve(&self, command: Command) -> Result<Resolved, Refusal>
-        ensures meant { IfOk result (λ r. resolved_of (database_of self.now) command ≡ Ok r) }
-        ensures refused { IfErr result (λ e. e ≢ refusal.NoMemory → resolved_of (database_of self.now) command ≡ Err e) }
+        ensures meant { IfOk result (λ r. resolved_of [] (database_of self.now) command ≡ Ok r) }
+        ensures refused { IfErr result (λ e. e ≢ refusal.NoMemory → resolved_of [] (database_of self.now) command ≡ Err e) }
     {
         match command {
             Command::Table { name, schema } => self.resolve_table(name, schema),
@@ -46,19 +46,21 @@ impl Catalog {
                 joins,
                 conditions,
             } => self.resolve_select(distinct, items, table, joins, conditions),
+            Command::Load { table, bytes } => self.resolve_load(table, bytes),
+            Command::Dump { table } => self.resolve_dump(table),
             Command::Tables => Ok(Resolved::Tables),
         }
     }
 
     fn resolve_table(&self, name: Text, schema: Schema) -> Result<Resolved, Refusal>
-        ensures { result ≡ resolved_of (database_of self.now) (command.Table name schema) }
+        ensures { result ≡ resolved_of [] (database_of self.now) (command.Table name schema) }
     {
         self.check_table(&name, &schema)?;
         Ok(Resolved::Table { name, schema })
     }
 
     fn resolve_drop_table(&self, table: Text) -> Result<Resolved, Refusal>
-        ensures { result ≡ resolved_of (database_of self.now) (command.DropTable table) }
+        ensures { result ≡ resolved_of [] (database_of self.now) (command.DropTable table) }
     {
         let scope = self.scope(&table)?;
         if self.is_table_referenced(scope.name) {
@@ -68,7 +70,7 @@ impl Catalog {
     }
 
     fn resolve_index(&self, table: Text, column: Text, kind: IndexKind) -> Result<Resolved, Refusal>
-        ensures { result ≡ resolved_of (database_of self.now) (command.Index table column kind) }
+        ensures { result ≡ resolved_of [] (database_of self.now) (command.Index table column kind) }
     {
         let scope = self.scope(&table)?;
         let column = scope.own_column(&column)?;
@@ -88,7 +90,7 @@ impl Catalog {
         column: Text,
         kind: IndexKind,
     ) -> Result<Resolved, Refusal>
-        ensures { result ≡ resolved_of (database_of self.now) (command.DropIndex table column kind) }
+        ensures { result ≡ resolved_of [] (database_of self.now) (command.DropIndex table column kind) }
     {
         let scope = self.scope(&table)?;
         let column = scope.own_column(&column)?;
@@ -103,7 +105,7 @@ impl Catalog {
     }
 
     fn resolve_insert(&self, table: Text, values: Sequence<Value>) -> Result<Resolved, Refusal>
-        ensures { result ≡ resolved_of (database_of self.now) (command.Insert table values) }
+        ensures { result ≡ resolved_of [] (database_of self.now) (command.Insert table values) }
     {
         let scope = self.scope(&table)?;
         self.check_row(scope.columns, values.as_slice())?;
@@ -119,8 +121,8 @@ impl Catalog {
         settings: Sequence<Setting>,
         conditions: Sequence<Cond>,
     ) -> Result<Resolved, Refusal>
-        ensures meant { IfOk result (λ r. resolved_of (database_of self.now) (command.Update table settings conditions) ≡ Ok r) }
-        ensures refused { IfErr result (λ e. e ≢ refusal.NoMemory → resolved_of (database_of self.now) (command.Update table settings conditions) ≡ Err e) }
+        ensures meant { IfOk result (λ r. resolved_of [] (database_of self.now) (command.Update table settings conditions) ≡ Ok r) }
+        ensures refused { IfErr result (λ e. e ≢ refusal.NoMemory → resolved_of [] (database_of self.now) (command.Update table settings conditions) ≡ Err e) }
     {
         let scope = self.scope(&table)?;
         let repeated = repeats_setting(settings.as_slice());
@@ -138,8 +140,8 @@ impl Catalog {
     }
 
     fn resolve_delete(&self, table: Text, conditions: Sequence<Cond>) -> Result<Resolved, Refusal>
-        ensures meant { IfOk result (λ r. resolved_of (database_of self.now) (command.Delete table conditions) ≡ Ok r) }
-        ensures refused { IfErr result (λ e. e ≢ refusal.NoMemory → resolved_of (database_of self.now) (command.Delete table conditions) ≡ Err e) }
+        ensures meant { IfOk result (λ r. resolved_of [] (database_of self.now) (command.Delete table conditions) ≡ Ok r) }
+        ensures refused { IfErr result (λ e. e ≢ refusal.NoMemory → resolved_of [] (database_of self.now) (command.Delete table conditions) ≡ Err e) }
     {
         let scope = self.scope(&table)?;
         let tests = scope.tests(conditions)?;
@@ -158,8 +160,8 @@ impl Catalog {
         joins: Sequence<Join>,
         conditions: Sequence<Cond>,
     ) -> Result<Resolved, Refusal>
-        ensures meant { IfOk result (λ r. resolved_of (database_of self.now) (command.Select distinct items table joins conditions) ≡ Ok r) }
-        ensures refused { IfErr result (λ e. e ≢ refusal.NoMemory → resolved_of (database_of self.now) (command.Select distinct items table joins conditions) ≡ Err e) }
+        ensures meant { IfOk result (λ r. resolved_of [] (database_of self.now) (command.Select distinct items table joins conditions) ≡ Ok r) }
+        ensures refused { IfErr result (λ e. e ≢ refusal.NoMemory → resolved_of [] (database_of self.now) (command.Select distinct items table joins conditions) ≡ Err e) }
     {
         let joins = joins.into_vec();
         if self.misses_table(&table, joins.as_slice()) {
@@ -180,5 +182,19 @@ impl Catalog {
             source,
             joins,
         })
+    }
+
+    fn resolve_load(&self, table: Text, bytes: u64) -> Result<Resolved, Refusal>
+        ensures { result ≡ resolved_of [] (database_of self.now) (command.Load table bytes) }
+    {
+        self.scope(&table)?;
+        Err(Refusal::BadHeader)
+    }
+
+    fn resolve_dump(&self, table: Text) -> Result<Resolved, Refusal>
+        ensures { result ≡ resolved_of [] (database_of self.now) (command.Dump table) }
+    {
+        let scope = self.scope(&table)?;
+        Ok(Resolved::Dump { table: scope.table })
     }
 }

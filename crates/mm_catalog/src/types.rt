@@ -91,8 +91,8 @@ impl Catalog {
         own_type(&key.kind)
     }
 
-    // The type of a column's values. A reference column's are keys of the table that it refers to.
-    fn type_of(&self, kind: &ColKind) -> Option<BaseKind>
+    /// The type of a column's values. A reference column's are keys of the table that it refers to.
+    pub fn type_of(&self, kind: &ColKind) -> Option<BaseKind>
         ensures { result ≡ plain.type_of (database_of self.now) kind.now }
     {
         match kind {

@@ -1,9 +1,8 @@
-use Rattle.std.proofs.Common.{Some, ◌++◌, get_or, set, sym, ap, ◌∙◌, subst}
+use Rattle.std.proofs.Common.{get_or, sym, ◌∙◌, subst}
 use Rattle.std.specs.List.{All}
 use Rattle.std.proofs.lemmas.Option.{same_Some, slice_get-get_or}
-use Rattle.mm_relation.specs.State.{RelationState, IsCurrent, linked_keys}
-use Rattle.mm_catalog.specs.Deleted.{AreUnlinked, IsFree}
-use Rattle.mm_catalog.proofs.Lists.{first_behind}
+use Rattle.mm_relation.specs.State.{RelationState}
+use Rattle.mm_catalog.specs.Deleted.{IsFree}
 use Rattle.mm_catalog.proofs.delete.delete.Goals as goal
 
 pub returns-clause-free : goal.returns-clause-free
@@ -11,21 +10,3 @@ returns-clause-free c s at =
     let d = c.index-relations-table.result in
     let same = same_Some (get_or c.args.relations.now c.args.table.0 d) s (sym (slice_get-get_or c.args.relations.now c.args.table.0 d c.requires.there) ∙ at) in
     subst (λ (t : RelationState). All (IsFree t) c.args.rows.now) same c.if-any_referenced.ensures.free
-
-pub returns-clause-deleted : goal.returns-clause-deleted
-returns-clause-deleted c =
-    let d = c.index-rest-0.result in
-    let n = c.args.table.0 in
-    let s : RelationState = get_or c.split_at_mut-before.result.1.now 0 d in
-    let new : RelationState = c.remove_each.new.relation in
-    record {
-      front = c.remove_each.new.before;
-      before = s;
-      after = new;
-      there = first_behind c.args.relations.now n d c.requires.there ∙ ap (λ rs. Some (get_or rs 0 d)) (sym c.split_at_mut-before.ensures.back);
-      list = ap (λ rs. c.remove_each.new.before ++ set rs 0 new) c.split_at_mut-before.ensures.back;
-      unlinked = subst (λ rs. AreUnlinked rs c.remove_each.new.before s new) c.split_at_mut-before.ensures.front c.remove_each.ensures.unlinked;
-      removed = c.remove_each.ensures.removed;
-      kept = c.remove_each.ensures.kept;
-      current = subst (λ rs. IsCurrent (linked_keys s.targets rs) new) c.split_at_mut-before.ensures.front c.remove_each.ensures.current;
-    }

@@ -61,8 +61,8 @@ take_in-requires-clause-room c =
     let at : slice_get c.args.relations.now n ≡ Some s = split_here c.args.relations.now c.split_at_mut-before.result.1.now n d c.requires.there c.split_at_mut-before.ensures.back in
     subst (λ rs. HaveRoom rs (length s.targets)) (sym c.split_at_mut-before.ensures.front) (c.requires.room s at)
 
-pub returns-in_err-take_in-clause-refused : goal.returns-in_err-take_in-clause-refused
-returns-in_err-take_in-clause-refused c =
+pub returns-in_err-r-clause-refused : goal.returns-in_err-r-clause-refused
+returns-in_err-r-clause-refused c =
     let n = c.args.table.0 in
     let d = c.index-rest-0.result in
     let s : RelationState = get_or c.split_at_mut-before.result.1.now 0 d in
@@ -73,7 +73,7 @@ returns-in_err-take_in-clause-refused c =
       there = at;
       row = record { key = c.in_ok-key.key; rest = row.rest; split = row.split; why = no_memory };
     } in
-    let p = err_from_is_err_and c.from_residual-in_err-take_in.result c.from_residual-in_err-take_in.ensures.1 in
+    let p = err_from_is_err_and c.from_residual-in_err-r.result c.from_residual-in_err-r.ensures.1 in
     rw (p.1, p.2) out
 
 pub returns-clause-inserted : goal.returns-clause-inserted
@@ -93,5 +93,5 @@ returns-clause-inserted c =
       there = at;
       list = ap (λ rs. c.take_in.new.before ++ set rs 0 c.take_in.new.relation) c.split_at_mut-before.ensures.back;
       row = subst (λ rs. CanComeIn rs s c.args.limits.rows c.args.values key cells) c.split_at_mut-before.ensures.front c.in_ok-key.ensures.row;
-      taken = subst (λ rs. IsTakenIn rs c.take_in.new.before s c.take_in.new.relation (new_row key cells)) c.split_at_mut-before.ensures.front c.in_ok-take_in.ensures.taken;
+      taken = subst (λ rs. IsTakenIn rs c.take_in.new.before s c.take_in.new.relation c.in_ok-r.r (new_row key cells)) c.split_at_mut-before.ensures.front c.in_ok-r.ensures.taken;
     }

@@ -25,7 +25,6 @@ returns-in-Ok-clause-taken c =
     let new = c.insert_row-taken.new.self in
     let t = new_row c.args.key c.args.cells in
     record {
-      r = c.in-Ok.r;
       inserted = c.in-Ok.ensures.inserted;
       kept = c.a_relation_is_kept.ensures;
       current = c.in-Ok.ensures.current;

@@ -1,5 +1,5 @@
 use Rattle.std.proofs.Common.{◌≡◌, ◌<◌, ◌++◌, ℕ, List, Some, length, map, take, drop, sym, ap, subst, arith}
-use Rattle.std.specs.Prelude.{OnOk, IfErr}
+use Rattle.std.specs.Prelude.{IfOk, OnOk, IfErr}
 use Rattle.std.specs.List.{slice_get}
 use Rattle.std.specs.String.{string_bytes}
 use Rattle.plain_tables.specs.Doing.{done}
@@ -11,12 +11,13 @@ use Rattle.mm_catalog.specs.Seen.{database_of}
 use Rattle.mm_catalog.specs.Linked.{target_at}
 use Rattle.mm_catalog.specs.Consistent.{IsConsistent}
 use Rattle.mm_catalog.specs.Changes.{IsCurrentAt, HasEffect, IsRefusedFor}
+use Rattle.mm_catalog.specs.Loaded.{HasCome}
 use Rattle.mm_catalog.specs.Raised.{HaveRoom}
 use Rattle.mm_catalog.proofs.Lists.{whole, get_within}
 use Rattle.mm_catalog.proofs.Back.{lead_back}
 use Rattle.mm_catalog.proofs.Declared.{there_at, current_at}
-use Rattle.mm_catalog.proofs.Inserted.{room_for_links, some_value, values_width, inserted_consistent, inserted_effect, inserted_refused}
-use Rattle.mm_catalog.proofs.catalog.Catalog.insert.Goals as goal
+use Rattle.mm_catalog.proofs.Inserted.{room_for_links, some_value, values_width, inserted_consistent, inserted_effect, inserted_came, inserted_refused}
+use Rattle.mm_catalog.proofs.catalog.Catalog.take_in.Goals as goal
 
 pub insert-requires-clause-there : goal.insert-requires-clause-there
 insert-requires-clause-there c =
@@ -74,6 +75,17 @@ returns-clause-inserted c =
     rw (← c.self.view_is)
     (subst (λ rs. OnOk c.insert.result (HasEffect s (record s { relations = rs }) (done s.limits (database_of s) (resolved.Insert c.args.table c.args.values)) 1)) (sym back)
     (inserted_effect s c.self.invariant c.args.table c.args.values meant c.insert.new.relations c.insert.result
+    (rw c.as_mut_slice.ensures.value at c.insert.ensures.inserted)))
+
+pub returns-clause-came : goal.returns-clause-came
+returns-clause-came c =
+    let s : CatalogState = record { limits = c.self.inside.limits; names = map string_bytes c.self.inside.names.keys; relations = c.self.inside.relations.items } in
+    let meant : IsMeant s.limits (database_of s) (resolved.Insert c.args.table c.args.values) = rw (← c.self.view_is) at c.requires in
+    let back : take c.self.inside.relations.len (c.insert.new.relations ++ drop (length c.insert.new.relations) c.self.inside.relations.items) ≡ c.insert.new.relations =
+    whole c.insert.new.relations (drop (length c.insert.new.relations) c.self.inside.relations.items) c.self.inside.relations.len (omega (arith, c.insert.auto.relations, ap length c.as_mut_slice.ensures.value, c.self.inside.relations.ok.0)) in
+    rw (← c.self.view_is)
+    (subst (λ rs. IfOk c.insert.result (HasCome s (record s { relations = rs }) c.args.table.0 c.args.values)) (sym back)
+    (inserted_came s c.self.invariant c.args.table c.args.values meant c.insert.new.relations c.insert.result
     (rw c.as_mut_slice.ensures.value at c.insert.ensures.inserted)))
 
 pub returns-clause-refused : goal.returns-clause-refused

@@ -1,0 +1,138 @@
+-- Rows that come into a table one after the other.
+use Rattle.std.proofs.Common.{◌≡◌, ◌≢◌, ℕ, List, [], ◌∷◌, ◌++◌, Some, None, IsSome, is_some, refl, sym, ap, ◌∙◌, subst, arith, get_or}
+use Rattle.std.specs.List.{Contains, slice_get}
+use Rattle.std.specs.Option.{option_and_then}
+use Rattle.std.specs.FinMap.{get, insert}
+use Rattle.std.proofs.lemmas.Bool.{false≢true}
+use Rattle.std.proofs.lemmas.List.Elements.{All-contains, All-push, Contains-append_left, Contains-push}
+use Rattle.std.proofs.lemmas.List.Quantifiers.{all_pairs_push}
+use Rattle.std.proofs.lemmas.Option.{none-some, same_Some, slice_get_within}
+use Rattle.part_raw.specs.declared.tuple_ref.TupleRef.{TupleRef}
+use Rattle.part_raw.proofs.Tuples.{get-insert_same, get-insert_other}
+use Rattle.plain_tables.proofs.ListLemmas.{AllPairs-nil}
+use Rattle.plain_tables.specs.declared.value.Value.{Value}
+use Rattle.mm_relation.specs.declared.row.Row.{Row}
+use Rattle.mm_relation.specs.Changes.{KeepsSchema, new_row}
+use Rattle.mm_relation.specs.Reading.{key_at}
+use Rattle.mm_relation.specs.State.{RelationState}
+use Rattle.mm_catalog.specs.State.{CatalogState}
+use Rattle.mm_catalog.specs.Deleted.{IsFree}
+use Rattle.mm_catalog.specs.Loaded.{HasCome, HasMore}
+use Rattle.mm_catalog.specs.Recounted.{IsRewritten}
+use Rattle.mm_catalog.proofs.Lists.{get_within}
+use Rattle.mm_catalog.proofs.Elsewhere.{rewritten_from}
+use Rattle.mm_catalog.proofs.Fewer.{IsRecounted-trans}
+use Rattle.mm_catalog.proofs.Raising.{recounted_same}
+
+-- ---- one relation is another one, twice
+
+pub rewritten_then : (old mid new : List RelationState) (n : ℕ) (b m a : RelationState) → IsRewritten old mid n b m → IsRewritten mid new n m a → ((r : TupleRef) (row : Row) → get b.rows r ≡ Some row → key_at a.rows r ≡ key_at b.rows r) → IsRewritten old new n b a
+rewritten_then old mid new n b m a h l keys = record {
+  there = h.there;
+  here = l.here;
+  count = l.count ∙ h.count;
+  others = λ k s u other at now.
+      let t = get_within mid k (omega (arith, h.count, slice_get_within old k s at)) in
+      IsRecounted-trans s t.0 u (h.others k s t.0 other at t.1) (l.others k t.0 u other t.1 now);
+  keeps = record {
+    schema = l.keeps.schema ∙ h.keeps.schema;
+    targets = l.keeps.targets ∙ h.keeps.targets;
+    declared = l.keeps.declared ∙ h.keeps.declared;
+  };
+  keys = λ r row found some. keys r row found;
+}
+
+-- ---- rows that come in
+
+pub more_none : (c : CatalogState) (n : ℕ) (s : RelationState) → slice_get c.relations n ≡ Some s → HasMore c c n []
+more_none c n s there = record {
+  before = s;
+  after = s;
+  rewritten = record {
+    there = there;
+    here = there;
+    count = refl;
+    others = λ k t u other at now. (recounted_same c.relations).each k t u at now;
+    keeps = record { schema = refl; targets = refl; declared = refl };
+    keys = λ r row found some. refl;
+  };
+  same = refl;
+  held = λ k d l. absurd (omega arith);
+  free = λ k d l. absurd (omega arith);
+  fresh = λ k d l. absurd (omega arith);
+  once = AllPairs-nil (λ q r. q ≢ r);
+  others = λ r no. refl;
+}
+
+module _ (c d e : CatalogState) (n : ℕ) (values : List Value) (refs : List TupleRef) (r : TupleRef) (h : HasMore c d n refs) (come : HasCome d e n values r) where
+  abbrev b : RelationState
+  b = h.before
+
+  abbrev m : RelationState
+  m = h.after
+
+  abbrev a : RelationState
+  a = come.inserted.after
+
+  abbrev row : Row
+  row = new_row come.inserted.key come.inserted.cells
+
+  this : come.inserted.before ≡ m
+  this = same_Some come.inserted.before m (sym come.inserted.there ∙ h.rewritten.here)
+
+  is_free : get m.rows r ≡ None
+  is_free = subst (λ (s : RelationState). get s.rows r ≡ None) this come.inserted.taken.inserted.free
+
+  rows_now : a.rows ≡ insert m.rows r row
+  rows_now = come.inserted.taken.inserted.rows ∙ ap (λ (s : RelationState). insert s.rows r row) this
+
+  keeps : KeepsSchema m a
+  keeps = subst (λ s. KeepsSchema s a) this come.inserted.taken.inserted.keeps
+
+  stays : (q : TupleRef) → q ≢ r → get a.rows q ≡ get m.rows q
+  stays q other = ap (λ rows. get rows q) rows_now ∙ get-insert_other m.rows r q row other
+
+  itself : get a.rows r ≡ Some row
+  itself = ap (λ rows. get rows r) rows_now ∙ get-insert_same m.rows r row
+
+  not_new : (q : TupleRef) → IsSome (get m.rows q) → q ≢ r
+  not_new q some same = false≢true (subst IsSome (ap (get m.rows) same ∙ is_free) some)
+
+  still : (q : TupleRef) → IsSome (get m.rows q) → get a.rows q ≡ get m.rows q
+  still q some = stays q (not_new q some)
+
+  step : IsRewritten d.relations e.relations n m a
+  step =
+      subst (λ rs. IsRewritten d.relations rs n m a) (sym come.inserted.list)
+      (rewritten_from d.relations come.inserted.front n m a h.rewritten.here come.inserted.taken.recounted keeps
+      (λ q t found some. ap (option_and_then (λ (u : Row). Some u.key)) (still q (ap is_some found))))
+
+  not_among : (q : TupleRef) (t : Row) → get b.rows q ≡ Some t → Contains refs q → ⊥
+  not_among q t found there = none-some t (sym (All-contains (λ p. get b.rows p ≡ None) refs q h.fresh there) ∙ found)
+
+  old_rows : (q : TupleRef) (t : Row) → get b.rows q ≡ Some t → get a.rows q ≡ get b.rows q
+  old_rows q t found =
+      let same : get m.rows q ≡ get b.rows q = h.others q (not_among q t found) in
+      still q (subst IsSome (sym (same ∙ found)) refl) ∙ same
+
+  pub more_then : HasMore c e n (refs ++ r ∷ [])
+  more_then = record {
+    before = b;
+    after = a;
+    rewritten = rewritten_then c.relations d.relations e.relations n b m a h.rewritten step (λ q t found. ap (option_and_then (λ (u : Row). Some u.key)) (old_rows q t found));
+    same = come.same ∙ ap (λ (x : CatalogState). record x { relations = e.relations }) h.same;
+    held = All-push (λ q. IsSome (get a.rows q)) refs r
+        (λ k d l. subst IsSome (sym (still (get_or refs k d) (h.held k d l))) (h.held k d l))
+        (subst IsSome (sym itself) refl);
+    free = All-push (IsFree a) refs r
+        (λ k d l t found. h.free k d l t (sym (still (get_or refs k d) (h.held k d l)) ∙ found))
+        (λ t found. ap (λ (u : Row). u.referrers) (same_Some t row (sym found ∙ itself)));
+    fresh = All-push (λ q. get b.rows q ≡ None) refs r h.fresh (sym (h.others r new_here) ∙ is_free);
+    once = all_pairs_push (λ p q. p ≢ q) refs r h.once (λ k d l. not_new (get_or refs k d) (h.held k d l));
+    others = λ q no.
+        stays q (λ same. no (subst (Contains (refs ++ r ∷ [])) (sym same) (Contains-push refs r)))
+        ∙ h.others q (λ there. no (Contains-append_left refs (r ∷ []) q there));
+  }
+    where
+      new_here : Contains refs r → ⊥
+      new_here there = not_new r (All-contains (λ q. IsSome (get m.rows q)) refs r h.held there) refl
