@@ -1,15 +1,20 @@
 -- The places of values beside those that stand so to a value: they tell which stand so, and never fall in the order of values.
-use Rattle.std.proofs.Common.{◌≡◌, ◌≢◌, ◌≤◌, Bool, true, false, not, ◌&&◌, cond, ◌⊎◌, inl, inr, refl, arith, Ordering}
+use Rattle.std.proofs.Common.{◌≡◌, ◌≢◌, ◌≤◌, ℕ, Bool, true, false, not, ◌&&◌, cond, ◌⊎◌, inl, inr, List, [], ◌∷◌, refl, sym, ap, ◌∙◌, arith, Ordering}
+use Rattle.std.specs.Cmp.{tied_then}
 use Rattle.std.specs.declared.cmp.Ordering.TheVariants.{Less, Equal, Greater}
-use Rattle.std.specs.Ordering.{ordering_index, is_eq, is_lt, is_le, is_gt, is_ge}
+use Rattle.std.specs.Ordering.{ordering_index, ordering_then, is_eq, is_lt, is_le, is_gt, is_ge}
+use Rattle.std.proofs.lemmas.Bool.{cases_Bool}
 use Rattle.plain_tables.specs.declared.value.Value.{Value}
 use Rattle.plain_tables.specs.declared.value.Value.TheVariants.{Null, Int, Text}
 use Rattle.plain_tables.specs.declared.condition.Op.{Op}
 use Rattle.plain_tables.specs.declared.condition.Op.TheVariants as op
+use Rattle.plain_tables.specs.declared.resolved.Test.{Test}
 use Rattle.plain_tables.specs.Values.{is_null, value_cmp, value_cmp_total}
 use Rattle.plain_tables.specs.Queries.{stands, are_ordered}
 use Rattle.mm_relation.proofs.Placing.{rises_beside}
-use Rattle.temp_list.specs.Ranges.{place_of}
+use Rattle.plan_chooser.specs.Plans.{is_range}
+use Rattle.temp_list.specs.Reading.{bounds, is_between}
+use Rattle.temp_list.specs.Ranges.{place_of, place_beside, place_between}
 
 -- two values in their order
 abbrev pub Rises : Value → Value → Type 0
@@ -143,3 +148,44 @@ range_stands op.Lt range v w = equal_where (stands op.Lt v w) (cond (is_null v) 
 range_stands op.Le range v w = equal_where (stands op.Le v w) (cond (is_null v) Less Greater) (not_equal (is_null v))
 range_stands op.Gt range v w = equal_where (stands op.Gt v w) Less refl
 range_stands op.Ge range v w = equal_where (stands op.Ge v w) Less refl
+
+-- ---- the bounds that tests set
+
+-- the operator of a test that bounds a column
+bounds_not_ne : (operator : Op) (same : Bool) → (is_range operator && same) ≡ true → operator ≢ op.Ne
+bounds_not_ne operator same h e = let f : (is_range op.Ne && same) ≡ true = ap (λ o. is_range o && same) (sym e) ∙ h in cc
+
+-- a place that follows two that never fall never falls
+then_rises : (o p q r : Ordering) → ordering_index o ≤ ordering_index p → ordering_index q ≤ ordering_index r → ordering_index (ordering_then o q) ≤ ordering_index (ordering_then p r)
+then_rises Less p q r h k = omega arith
+then_rises Equal Less q r h k = absurd (omega arith)
+then_rises Equal Equal q r h k = k
+then_rises Equal Greater Less r h k = omega arith
+then_rises Equal Greater Equal r h k = omega arith
+then_rises Equal Greater Greater r h k = omega arith
+then_rises Greater Less q r h k = absurd (omega arith)
+then_rises Greater Equal q r h k = absurd (omega arith)
+then_rises Greater Greater q r h k = omega arith
+
+beside_rises : (column : ℕ) (test : Test) (a b : Value) → Rises a b → ordering_index (place_beside column test a) ≤ ordering_index (place_beside column test b)
+beside_rises column test a b h =
+    elim (cases_Bool (bounds column test)) [
+      | inl e ↦ rw e (places_rise test.op (bounds_not_ne test.op _ e) a b test.value h)
+      | inr f ↦ rw f (omega arith)
+    ]
+
+-- the places beside all of the bounds never fall in the order of values
+pub between_rises : (column : ℕ) (tests : List Test) (a b : Value) → Rises a b → ordering_index (place_between column tests a) ≤ ordering_index (place_between column tests b)
+between_rises column [] a b h = omega arith
+between_rises column (test ∷ tests) a b h =
+    then_rises (place_beside column test a) (place_beside column test b) (place_between column tests a) (place_between column tests b) (beside_rises column test a b h) (between_rises column tests a b h)
+
+-- the range is what passes each
+pub between_stands : (column : ℕ) (tests : List Test) (v : Value) → is_eq (place_between column tests v) ≡ is_between column tests v
+between_stands column [] v = refl
+between_stands column (test ∷ tests) v =
+    sym (tied_then (place_beside column test v) (place_between column tests v)) ∙ ap (λ b. is_eq (place_beside column test v) && b) (between_stands column tests v)
+    ∙ elim (cases_Bool (bounds column test)) [
+      | inl e ↦ rw e (ap (λ b. b && is_between column tests v) (range_stands test.op (bounds_not_ne test.op _ e) v test.value))
+      | inr f ↦ rw f refl
+    ]

@@ -1,8 +1,8 @@
 -- The rows that a tree's range and a hash's chain give are those whose values stand so.
-use Rattle.std.proofs.Common.{◌≡◌, ◌≢◌, ℕ, suc, ◌+◌, ◌<◌, Bool, true, false, cond, ◌==◌, ◌&&◌, ◌⊎◌, inl, inr, List, [], ◌∷◌, Option, Some, IsSome, IsTrue, length, map, refl, sym, ap, ◌∙◌, subst, arith, get_or, Ordering}
+use Rattle.std.proofs.Common.{◌≡◌, ◌≢◌, ◌≤◌, ℕ, suc, ◌+◌, ◌<◌, Bool, true, false, cond, ◌==◌, ◌&&◌, ◌⊎◌, inl, inr, List, [], ◌∷◌, Option, Some, IsSome, IsTrue, length, map, refl, sym, ap, ◌∙◌, subst, arith, get_or, Ordering}
 use Rattle.std.specs.List.{All, Contains, filter, count_by}
 use Rattle.std.specs.declared.cmp.Ordering.TheVariants.{Less, Equal, Greater}
-use Rattle.std.specs.Ordering.{is_eq, ordering_then}
+use Rattle.std.specs.Ordering.{is_eq, ordering_index, ordering_then}
 use Rattle.std.specs.Option.{option_cmp, option_and_then}
 use Rattle.std.specs.FinMap as finite
 use Rattle.std.proofs.lemmas.Bool.{cases_Bool, eqb-true, eq-eqb}
@@ -20,6 +20,7 @@ use Rattle.mm_index.proofs.Refs.{Contains-same_refs}
 use Rattle.mm_index.proofs.Listed.{NeverFalls-from_rising}
 use Rattle.plain_tables.specs.declared.condition.Op.{Op}
 use Rattle.plain_tables.specs.declared.condition.Op.TheVariants as op
+use Rattle.plain_tables.specs.declared.resolved.Test.{Test}
 use Rattle.plain_tables.specs.declared.value.Value.{Value}
 use Rattle.plain_tables.specs.Values.{value_cmp}
 use Rattle.plain_tables.specs.Hashes.{hash_of}
@@ -32,9 +33,9 @@ use Rattle.mm_relation.specs.Order.{column_cmp}
 use Rattle.mm_relation.specs.Changes.{HasTree, HasHash, list_of, entries_of}
 use Rattle.mm_relation.specs.State.{RelationState, IsKept, IsCurrent, TreeServes, HashServes, HasColumn, HasHashColumn, tree_of, entries_on, linked_keys}
 use Rattle.mm_relation.proofs.Searches.{declared_tree}
-use Rattle.temp_list.specs.Reading.{value_in, or_null, standing}
-use Rattle.temp_list.specs.Ranges.{place_of}
-use Rattle.temp_list.proofs.RangeLemmas.{Rises, places_rise, range_stands}
+use Rattle.temp_list.specs.Reading.{value_in, or_null, standing, between, is_between}
+use Rattle.temp_list.specs.Ranges.{place_of, place_between}
+use Rattle.temp_list.proofs.RangeLemmas.{Rises, places_rise, range_stands, between_rises, between_stands}
 
 -- ---- bags
 
@@ -132,7 +133,7 @@ module _ (relations : List RelationState) (s : RelationState) (column : ℕ) (ke
       some_read (value_at keys column s.rows r)
       (subst (λ o. IsSome (option_and_then (row_value keys column) o)) (sym row.1) (current.readable r row.0 row.1 column (omega (arith, kept.width))))
 
-  serves_tree : HasTree s column → TreeServes keys s.rows s.by_key (column, list_of s column)
+  pub serves_tree : HasTree s column → TreeServes keys s.rows s.by_key (column, list_of s column)
   serves_tree has =
       elim (cases_Bool (column == 0)) [
         | inl e ↦ rw e (record { bag = IsSameBag-refl s.by_key; rising = subst (λ c. IsRising (column_cmp keys c s.rows) s.by_key) (sym (eqb-true column 0 e)) kept.keyed.rising })
@@ -146,33 +147,49 @@ module _ (relations : List RelationState) (s : RelationState) (column : ℕ) (ke
     pub tree_held : All (λ r. IsSome (finite.get s.rows r)) (list_of s column)
     tree_held = λ k d l. listed_held (get_or (list_of s column) k d) (listed_tree (get_or (list_of s column) k d) (All-contains_itself (list_of s column) k d l))
 
-    module _ (operator : Op) (range : IsTrue (is_range operator)) (sought : Value) where
-      abbrev place : TupleRef → Ordering
-      place r = place_of operator (value_in relations s column r) sought
+    rises : (p q : TupleRef) → Contains (list_of s column) p → Contains (list_of s column) q → column_cmp keys column s.rows p q ≡ Less → Rises (value_in relations s column p) (value_in relations s column q)
+    rises p q hp hq less =
+        let ep = has_value p (listed_held p (listed_tree p hp)) in
+        let eq = has_value q (listed_held q (listed_tree q hq)) in
+        first_of_then (value_cmp (value_in relations s column p) (value_in relations s column q)) (option_cmp value_cmp (key_at s.rows p) (key_at s.rows q))
+        (ap (λ o. ordering_then (option_cmp value_cmp o (Some (value_in relations s column q))) (option_cmp value_cmp (key_at s.rows p) (key_at s.rows q))) (sym ep)
+        ∙ ap (λ o. ordering_then (option_cmp value_cmp (value_at keys column s.rows p) o) (option_cmp value_cmp (key_at s.rows p) (key_at s.rows q))) (sym eq) ∙ less)
 
-      rises : (p q : TupleRef) → Contains (list_of s column) p → Contains (list_of s column) q → column_cmp keys column s.rows p q ≡ Less → Rises (value_in relations s column p) (value_in relations s column q)
-      rises p q hp hq less =
-          let ep = has_value p (listed_held p (listed_tree p hp)) in
-          let eq = has_value q (listed_held q (listed_tree q hq)) in
-          first_of_then (value_cmp (value_in relations s column p) (value_in relations s column q)) (option_cmp value_cmp (key_at s.rows p) (key_at s.rows q))
-          (ap (λ o. ordering_then (option_cmp value_cmp o (Some (value_in relations s column q))) (option_cmp value_cmp (key_at s.rows p) (key_at s.rows q))) (sym ep)
-          ∙ ap (λ o. ordering_then (option_cmp value_cmp (value_at keys column s.rows p) o) (option_cmp value_cmp (key_at s.rows p) (key_at s.rows q))) (sym eq) ∙ less)
-
-      -- the places never fall along the tree's list
-      pub tree_in_order : NeverFalls place (list_of s column)
-      tree_in_order =
-          NeverFalls-from_rising (column_cmp keys column s.rows) place (list_of s column)
-          (λ p q hp hq less. places_rise operator (not_ne operator range) (value_in relations s column p) (value_in relations s column q) sought (rises p q hp hq less))
+    -- places that never fall in the order of values
+    module _ (place : Value → Ordering) (up : (a b : Value) → Rises a b → ordering_index (place a) ≤ ordering_index (place b)) where
+      -- never fall along the tree's list
+      places_in_order : NeverFalls (λ r. place (value_in relations s column r)) (list_of s column)
+      places_in_order =
+          NeverFalls-from_rising (column_cmp keys column s.rows) (λ r. place (value_in relations s column r)) (list_of s column)
+          (λ p q hp hq less. up (value_in relations s column p) (value_in relations s column q) (rises p q hp hq less))
           (serves_tree has).rising
 
-      -- its range is the rows whose values stand so
-      pub tree_range : IsSameBag (in_range place (list_of s column)) (standing relations s column operator sought)
-      tree_range =
-          let so : TupleRef → Bool = λ r. stands operator (value_in relations s column r) sought in
+      -- and their range is the rows whose values stand so
+      places_range : (so : Value → Bool) → ((v : Value) → is_eq (place v) ≡ so v) → IsSameBag (in_range (λ r. place (value_in relations s column r)) (list_of s column)) (filter (λ r. so (value_in relations s column r)) s.by_key)
+      places_range so told =
+          let passes : TupleRef → Bool = λ r. so (value_in relations s column r) in
           IsSameBag-trans
-          (IsSameBag-from_same (in_range place (list_of s column)) (filter so (list_of s column))
-          (filter_agree (λ r. is_eq (place r)) so (λ r. range_stands operator (not_ne operator range) (value_in relations s column r) sought) (list_of s column)))
-          (IsSameBag-filter so (list_of s column) s.by_key (serves_tree has).bag)
+          (IsSameBag-from_same (in_range (λ r. place (value_in relations s column r)) (list_of s column)) (filter passes (list_of s column))
+          (filter_agree (λ r. is_eq (place (value_in relations s column r))) passes (λ r. told (value_in relations s column r)) (list_of s column)))
+          (IsSameBag-filter passes (list_of s column) s.by_key (serves_tree has).bag)
+
+    -- those of one test
+    module _ (operator : Op) (range : IsTrue (is_range operator)) (sought : Value) where
+      pub tree_in_order : NeverFalls (λ r. place_of operator (value_in relations s column r) sought) (list_of s column)
+      tree_in_order = places_in_order (λ v. place_of operator v sought) (λ a b. places_rise operator (not_ne operator range) a b sought)
+
+      pub tree_range : IsSameBag (in_range (λ r. place_of operator (value_in relations s column r) sought) (list_of s column)) (standing relations s column operator sought)
+      tree_range =
+          places_range (λ v. place_of operator v sought) (λ a b. places_rise operator (not_ne operator range) a b sought)
+          (λ v. stands operator v sought) (λ v. range_stands operator (not_ne operator range) v sought)
+
+    -- those of all tests that bound the column
+    module _ (tests : List Test) where
+      pub between_in_order : NeverFalls (λ r. place_between column tests (value_in relations s column r)) (list_of s column)
+      between_in_order = places_in_order (place_between column tests) (between_rises column tests)
+
+      pub between_range : IsSameBag (in_range (λ r. place_between column tests (value_in relations s column r)) (list_of s column)) (between relations s column tests)
+      between_range = places_range (place_between column tests) (between_rises column tests) (is_between column tests) (between_stands column tests)
 
   module _ (has : HasHash s column) (sought : Value) where
     pub hash_listed : IsSameBag (with_hash (hash_of sought) (entries_of s column)) (filter (λ r. hash_at keys column s.rows r == hash_of sought) s.by_key)

@@ -1,10 +1,12 @@
 -- What a select finds is the rows that pass.
-use Rattle.std.proofs.Common.{◌≡◌, ℕ, zero, suc, ◌<◌, Bool, true, false, ◌&&◌, IsTrue, List, [], ◌∷◌, ◌++◌, Some, IsSome, length, map, filter, get_or, refl, sym, ap, ◌∙◌, subst, arith, inl, inr}
+use Rattle.std.proofs.Common.{◌≡◌, ℕ, zero, suc, ◌<◌, Bool, true, false, ◌==◌, IsTrue, List, [], ◌∷◌, ◌++◌, Some, IsSome, length, map, filter, get_or, refl, sym, ap, ◌∙◌, subst, arith, inl, inr}
 use Rattle.std.specs.Prelude.{slice_get}
 use Rattle.std.specs.List.{All, HoldsAt}
 use Rattle.std.specs.FinMap as finite
+use Rattle.std.specs.Cmp.{first_so, second_so}
+use Rattle.std.specs.Cmp.Derive.{both_true}
 use Rattle.std.proofs.lemmas.List.Elements.{All-contains, All-contains_itself, All-map, All-filter}
-use Rattle.std.proofs.lemmas.Bool.{cases_Bool}
+use Rattle.std.proofs.lemmas.Bool.{cases_Bool, eqb-true}
 use Rattle.std.proofs.lemmas.List.Folds.{list_all_at}
 use Rattle.std.proofs.lemmas.Option.{slice_get_within}
 use Rattle.part_raw.specs.declared.tuple_ref.TupleRef.{TupleRef}
@@ -12,7 +14,7 @@ use Rattle.plain_tables.specs.declared.resolved.Test.{Test}
 use Rattle.plain_tables.specs.declared.condition.Op.{Op}
 use Rattle.plain_tables.specs.declared.condition.Op.TheVariants as op
 use Rattle.plain_tables.specs.Queries.{stands}
-use Rattle.plan_chooser.specs.Plans.{is_equality, hash_serves}
+use Rattle.plan_chooser.specs.Plans.{is_equality, is_range, hash_serves}
 use Rattle.mm_relation.specs.Changes.{has_hash_on}
 use Rattle.mm_index.specs.Bag.{IsSameBag, AppendsBag}
 use Rattle.mm_index.proofs.Bags.{IsSameBag-trans, IsSameBag-from_same}
@@ -21,7 +23,7 @@ use Rattle.mm_index.proofs.Refs.{Contains-same_refs}
 use Rattle.mm_relation.proofs.Serving.{map_bag}
 use Rattle.mm_relation.proofs.KeyOrder.{some_alike}
 use Rattle.mm_relation.specs.State.{RelationState, IsKept}
-use Rattle.temp_list.specs.Reading.{OfRelation, value_in, row_passes, passing}
+use Rattle.temp_list.specs.Reading.{OfRelation, value_in, row_passes, passing, bounds, is_between}
 use Rattle.temp_list.specs.Lists.{ListState, IsOver, IsRowOver, relation_of}
 use Rattle.temp_list.specs.Selecting.{IsSelected}
 use Rattle.temp_list.proofs.ListLemmas.{same_at}
@@ -84,6 +86,23 @@ passes_each relations s tests n test within item r e =
       | inr failed ↦ absurd (let none : row_passes relations s tests r ≡ false = list_all_at p tests n test within (ap p (sym item) ∙ failed) in cc)
     ]
 
+-- a row that passes all tests passes those that bound a column
+pub passes_between : (relations : List RelationState) (s : RelationState) (column : ℕ) (r : TupleRef) (tests : List Test) → row_passes relations s tests r ≡ true → is_between column tests (value_in relations s column r) ≡ true
+passes_between relations s column r [] e = refl
+passes_between relations s column r (test ∷ tests) e =
+    let so : Bool = stands test.op (value_in relations s test.column.0 r) test.value in
+    let rest : is_between column tests (value_in relations s column r) ≡ true =
+    passes_between relations s column r tests (second_so so (row_passes relations s tests r) e) in
+    elim (cases_Bool (bounds column test)) [
+      | inl b ↦
+          rw b
+          (both_true
+          (subst (λ n. stands test.op (value_in relations s n r) test.value ≡ true)
+          (eqb-true test.column.0 column (second_so (is_range test.op) (test.column.0 == column) b)) (first_so so (row_passes relations s tests r) e))
+          rest)
+      | inr f ↦ rw f rest
+    ]
+
 -- a hash serves an equality alone
 equality_op : (operator : Op) → is_equality operator ≡ true → operator ≡ op.Eq
 equality_op op.Eq e = refl
@@ -93,15 +112,11 @@ equality_op op.Le e = cc
 equality_op op.Gt e = cc
 equality_op op.Ge e = cc
 
-first_of_both : (a b : Bool) → (a && b) ≡ true → a ≡ true
-first_of_both true b e = refl
-first_of_both false b e = cc
-
 pub passes_equality : (relations : List RelationState) (s : RelationState) (tests : List Test) (n : ℕ) (test : Test) → n < length tests → test ≡ get_or tests n test → HoldsAt (λ t. IsTrue (hash_serves s t)) tests n → (r : TupleRef) → row_passes relations s tests r ≡ true → stands op.Eq (value_in relations s test.column.0 r) test.value ≡ true
 passes_equality relations s tests n test within item served r e =
     let serves : IsTrue (hash_serves s test) = subst (λ (t : Test). IsTrue (hash_serves s t)) (sym item) (served test) in
     subst (λ (o : Op). stands o (value_in relations s test.column.0 r) test.value ≡ true)
-    (equality_op test.op (first_of_both (is_equality test.op) (has_hash_on s test.column.0) serves))
+    (equality_op test.op (first_so (is_equality test.op) (has_hash_on s test.column.0) serves))
     (passes_each relations s tests n test within item r e)
 
 -- what is read of a vector to which nothing but a bag was appended

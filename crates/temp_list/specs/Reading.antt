@@ -1,5 +1,5 @@
 -- What is read of the rows of relations that are lent, and which of them pass tests.
-use Rattle.std.specs.Prelude.{◌≡◌, Bool, ℕ, ◌<◌, List, Option, Some, None, length, slice_get}
+use Rattle.std.specs.Prelude.{◌≡◌, ◌==◌, ◌&&◌, Bool, ℕ, ◌<◌, List, Option, Some, None, length, slice_get}
 use Rattle.std.specs.List.{All, filter, list_all}
 use Rattle.part_raw.specs.declared.tuple_ref.TupleRef.{TupleRef}
 use Rattle.plain_tables.specs.declared.condition.Op.{Op}
@@ -7,6 +7,7 @@ use Rattle.plain_tables.specs.declared.resolved.Test.{Test}
 use Rattle.plain_tables.specs.declared.value.Value.{Value}
 use Rattle.plain_tables.specs.declared.value.Value.TheVariants.{Null}
 use Rattle.plain_tables.specs.Queries.{stands}
+use Rattle.plan_chooser.specs.Plans.{is_range}
 use Rattle.mm_relation.specs.Reading.{value_at}
 use Rattle.mm_relation.specs.State.{RelationState, IsKept, IsCurrent, linked_keys}
 
@@ -39,6 +40,18 @@ HasColumns s tests = All (λ t. t.column.0 < length s.schema.columns) tests
 -- the rows whose value in a column stands so to a value, in the order of their keys
 abbrev pub standing : List RelationState → RelationState → ℕ → Op → Value → List TupleRef
 standing relations s column op value = filter (λ r. stands op (value_in relations s column r) value) s.by_key
+
+-- whether a test bounds the values of a column: it is on that column, by any operator but <>
+abbrev pub bounds : ℕ → Test → Bool
+bounds column test = is_range test.op && (test.column.0 == column)
+
+-- whether a value passes each test that bounds its column
+abbrev pub is_between : ℕ → List Test → Value → Bool
+is_between column tests v = list_all (λ t. stands t.op v t.value) (filter (bounds column) tests)
+
+-- the rows whose value in a column passes each test that bounds it, in the order of their keys
+abbrev pub between : List RelationState → RelationState → ℕ → List Test → List TupleRef
+between relations s column tests = filter (λ r. is_between column tests (value_in relations s column r)) s.by_key
 
 -- what is said of the relation of a table
 abbrev pub OfRelation : List RelationState → ℕ → (RelationState → Type 0) → Type 0

@@ -14,6 +14,7 @@
 //! - What finds no memory leaves the list as it was.
 #![tactic(auto)]
 
+mod bounds_probe;
 pub mod laws;
 mod list;
 mod range_probe;

@@ -14,7 +14,7 @@ use plain_tables::{ColumnNumber, Op, Value};
 use std::cmp::Ordering;
 
 // Where a value stands beside those that stand so to the value that is sought.
-fn place_of(op: Op, value: &Value, sought: &Value) -> Ordering
+pub(crate) fn place_of(op: Op, value: &Value, sought: &Value) -> Ordering
     ensures { result ≡ place_of_so op value.now sought.now }
 {
     match op {

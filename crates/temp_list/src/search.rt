@@ -6,8 +6,9 @@ ghost use Rattle.mm_relation.specs.Changes.{HasTree, HasHash};
 ghost use Rattle.mm_index.specs.Bag.{AppendsBag};
 ghost use Rattle.plan_chooser.specs.Plans.{is_range};
 ghost use Rattle.plain_tables.specs.declared.condition.Op.TheVariants as operator;
-ghost use Rattle.temp_list.specs.Reading.{standing, HasColumns, value_in, row_passes as row_passes_so};
+ghost use Rattle.temp_list.specs.Reading.{standing, between, HasColumns, value_in, row_passes as row_passes_so};
 
+use crate::bounds_probe::BoundsProbe;
 use crate::range_probe::RangeProbe;
 use crate::standing::stands;
 use mm_relation::laws::a_relation_is_kept;
@@ -77,6 +78,32 @@ pub fn rows_by_tree<R: Relations>(
         column,
         op,
         sought: value,
+        asked: 0,
+    };
+    relation.range_column(column, &mut probe, out)
+}
+
+/// Appends the rows whose value in a column with a tree passes each test on it, those by `<>` aside, each once. At an error
+/// nothing is appended.
+pub fn rows_between<R: Relations>(
+    tables: &R,
+    relation: &Relation,
+    column: ColumnNumber,
+    tests: &[Test],
+    out: &mut Vec<TupleRef>,
+) -> Result<(), NoMemory>
+    requires current { IsCurrent (linked_keys relation.now.targets (R.tables tables.now)) relation.now }
+    requires within { column.0 < length relation.now.schema.columns }
+    requires has_tree { HasTree relation.now column.0 }
+    ensures ok { OnOk result (AppendsBag out.old.items out.new.items (between (R.tables tables.now) relation.now column.0 tests.now)) }
+    ensures err { OnErr result (out.new.items ≡ out.old.items) }
+{
+    a_relation_is_kept(relation);
+    let mut probe = BoundsProbe {
+        tables,
+        relation,
+        column,
+        tests,
         asked: 0,
     };
     relation.range_column(column, &mut probe, out)

@@ -8,7 +8,7 @@ ghost use Rattle.temp_list.specs.Reading.{AreSound, OfRelation, HasColumns, pass
 ghost use Rattle.temp_list.specs.Selecting.{IsSelected};
 
 use crate::list::TempList;
-use crate::search::{passes_all, rows_by_hash, rows_by_tree};
+use crate::search::{passes_all, rows_between, rows_by_hash};
 use mm_relation::laws::a_relation_is_kept;
 use mm_relation::{Relation, Relations};
 use no_memory::NoMemory;
@@ -103,7 +103,7 @@ fn select_by_hash<R: Relations>(
     Ok(list)
 }
 
-// By the tree on the column of a test.
+// By the tree on the column of a test: the rows between all bounds on that column.
 fn select_by_tree<R: Relations>(
     alloc: Global,
     tables: &R,
@@ -121,14 +121,7 @@ fn select_by_tree<R: Relations>(
     a_relation_is_kept(relation);
     let test = &tests[n];
     let mut found = Vec::new(alloc);
-    rows_by_tree(
-        tables,
-        relation,
-        test.column,
-        test.op,
-        &test.value,
-        &mut found,
-    )?;
+    rows_between(tables, relation, test.column, tests, &mut found)?;
     let mut list = TempList::new(alloc, &[table])?;
     push_passing(tables, relation, found.as_slice(), tests, &mut list)?;
     Ok(list)
