@@ -3,7 +3,17 @@
 #![tactic(auto)]
 
 #[cfg(test)]
+mod counts;
+#[cfg(test)]
+mod duplicates;
+#[cfg(test)]
 mod growths;
+#[cfg(test)]
+mod joins;
+#[cfg(test)]
+mod later_joins;
+#[cfg(test)]
+mod linked;
 #[cfg(test)]
 mod lists;
 #[cfg(test)]

@@ -1,0 +1,3 @@
+pub mod LinkLemmas
+pub mod LaterLemmas
+pub mod ShownLemmas
