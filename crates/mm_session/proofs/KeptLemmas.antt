@@ -1,53 +1,146 @@
--- What is kept of a line says what the line is.
-use Rattle.std.proofs.Common.{◌≡◌, ℕ, ◌<◌, ◌≤◌, ◌+◌, true, false, cond, Bool, List, [], ◌∷◌, ◌++◌, length, leb, refl, sym, ◌∙◌, arith, length-append, length-take, Some, None}
-use Rattle.std.proofs.lemmas.Bool.Decides.{nat_tests}
-use Rattle.std.specs.Prelude.{slice_index, take, ◌-◌, ◌==◌}
-use Rattle.plain_tables.specs.Runs.{without_return}
-use Rattle.mm_session.specs.Kept.{Kept, PartOfLine, LongLine, kept_of, grown, line_kept, is_start}
+-- What is kept of a rest once more bytes have come, and when the rest is a whole request.
+use Rattle.std.proofs.Common.{◌≡◌, ◌≢◌, ℕ, ◌<◌, ◌≤◌, ◌+◌, ◌-◌, true, false, List, [], ◌∷◌, ◌++◌, length, Option, Some, None, refl, sym, ap, ◌∙◌, subst, arith, append_assoc, append-nil, length-append}
+use Rattle.std.specs.Prelude.{MatchOption, is_some, not, ◌&&◌}
+use Rattle.plain_tables.specs.declared.command.Limits.{Limits}
+use Rattle.plain_streams.specs.Requests.{Request, Asks, Takes, asked, unasked}
+use Rattle.plain_streams.specs.Division.{IsUnbroken, IsWhole, IsUnfinished, in_line, in_block, request_bytes}
+use Rattle.plain_streams.proofs.Asking.{IsUnbroken-nil}
+use Rattle.plain_streams.proofs.DivisionLemmas.{IsUnbroken-append}
+use Rattle.mm_session.specs.Buffers.{KeptLine, PartOfLine, kept_of, grown, is_start}
+use Rattle.mm_session.specs.declared.block.Block.{Block}
+use Rattle.mm_session.specs.declared.block.Block.TheVariants.{Storing, Counting}
+use Rattle.mm_session.specs.declared.block.Unkept.TheVariants.{TooLong, NoMemory}
+use Rattle.mm_session.specs.declared.kept.Kept.{Kept}
+use Rattle.mm_session.specs.Kept.{Keeps, KeepsLine, KeepsRequest, KeepsBlock, to_come, with_bytes, is_too_long, nothing, is_nothing}
+use Rattle.mm_session.proofs.LineLemmas.{grown-kept_of, start}
 
-part : (b : Bool) (x l : List ℕ) → cond b (PartOfLine x) LongLine ≡ PartOfLine l → l ≡ x
-part true x l h = cc
-part false x l h = cc
+-- ---- a line
 
-pub kept_of-part : (x l : List ℕ) → kept_of x ≡ PartOfLine l → l ≡ x
-kept_of-part x l = part (leb (length x) 8193) x l
+pub keeps_line-grown : (rest more : List ℕ) (line : KeptLine) → IsUnbroken more → KeepsLine rest line → KeepsLine (rest ++ more) (grown line more)
+keeps_line-grown rest more line unbroken (before, is) =
+    (IsUnbroken-append rest more before unbroken, ap (λ k. grown k more) is ∙ grown-kept_of rest more)
 
-long : (b : Bool) (x : List ℕ) → cond b (PartOfLine x) LongLine ≡ LongLine → b ≡ false
-long true x h = cc
-long false x h = refl
+-- a line that has ended and asks for no block
+pub whole-unasked : (line : List ℕ) → IsUnbroken line → ((n : ℕ) → ¬ (Asks line n)) → IsWhole (record { line = line; block = [] })
+whole-unasked line unbroken none = record { line = unbroken; block = unasked none }
 
-without_return-le : (x : List ℕ) → length x ≤ length (without_return x) + 1
-without_return-le x =
-    let last = length x - 1 in
-    elim (slice_index x last == 13) as (λ b. length x ≤ length (cond b (take last x) x) + 1) [
-      | true ↦ rw length-take (omega arith)
-      | false ↦ omega arith
-    ]
+-- a line and the block that it asks for
+pub whole-asked : (request : Request) → IsUnbroken request.line → Asks request.line (length request.block) → IsWhole request
+whole-asked request unbroken asks = record { line = unbroken; block = asked (length request.block) asks }
 
-pub kept_of-long : (x : List ℕ) → kept_of x ≡ LongLine → 8192 < length (without_return x)
-kept_of-long x h =
-    let no : leb (length x) 8193 ≡ false = long (leb (length x) 8193) x h in
-    let more : 8193 < length x = grind (arith, nat_tests) in
-    omega (arith, without_return-le x)
+-- ---- a block
 
-pub grown-kept_of : (rest more : List ℕ) → grown (kept_of rest) more ≡ kept_of (rest ++ more)
-grown-kept_of rest more =
-    elim (leb (length rest) 8193) as (λ b. leb (length rest) 8193 ≡ b → grown (cond b (PartOfLine rest) LongLine) more ≡ kept_of (rest ++ more)) [
-      | true ↦ λ h. refl
-      | false ↦ λ h.
-          let longer : leb (length (rest ++ more)) 8193 ≡ false = grind (arith, nat_tests, length-append rest more) in
-          rw longer refl
-    ] refl
+pub keeps_block-more : (limit n : ℕ) (bytes more : List ℕ) (block : Block) → length more ≤ to_come block → KeepsBlock limit n bytes block
+    → KeepsBlock limit n (bytes ++ more) (with_bytes block more)
+keeps_block-more limit n bytes more (Storing part) room (within, is, size) =
+    (within, ap (λ b. b ++ more) is, omega (arith, length-append bytes more))
+keeps_block-more limit n bytes more (Counting k why) room (because, size) = (because, omega (arith, length-append bytes more))
 
-pub start : (kept : Kept) (rest : List ℕ) → is_start kept ≡ true → kept ≡ kept_of rest → [] ≡ rest
-start (PartOfLine []) rest h is = kept_of-part rest [] (sym is)
-start (PartOfLine (b ∷ bs)) rest h is = cc
-start LongLine rest h is = cc
+pub keeps_block-size : (limit n : ℕ) (bytes : List ℕ) (block : Block) → KeepsBlock limit n bytes block → length bytes + to_come block ≡ n
+keeps_block-size limit n bytes (Storing part) (within, is, size) = size
+keeps_block-size limit n bytes (Counting k why) (because, size) = size
 
-pub line_of-kept : (kept : Kept) (x line : List ℕ) → line_kept kept ≡ Some line → kept ≡ kept_of x → line ≡ x
-line_of-kept (PartOfLine l) x line h is = let same : l ≡ line = cc in sym same ∙ kept_of-part x l (sym is)
-line_of-kept LongLine x line h is = cc
+pub keeps_block-long : (limit n : ℕ) (bytes : List ℕ) (block : Block) → is_too_long block ≡ true → KeepsBlock limit n bytes block → limit < n
+keeps_block-long limit n bytes (Storing part) long keeps = cc
+keeps_block-long limit n bytes (Counting k TooLong) long keeps = keeps.0
+keeps_block-long limit n bytes (Counting k NoMemory) long keeps = cc
 
-pub long-kept : (kept : Kept) (x : List ℕ) → line_kept kept ≡ None → kept ≡ kept_of x → 8192 < length (without_return x)
-long-kept (PartOfLine l) x h is = cc
-long-kept LongLine x h is = kept_of-long x (sym is)
+pub keeps_block-within : (limit n : ℕ) (bytes : List ℕ) (block : Block) → is_too_long block ≡ false → KeepsBlock limit n bytes block → n ≤ limit
+keeps_block-within limit n bytes (Storing part) short keeps = keeps.0
+keeps_block-within limit n bytes (Counting k TooLong) short keeps = cc
+keeps_block-within limit n bytes (Counting k NoMemory) short keeps = keeps.0
+
+module _ (limits : Limits) (rest : List ℕ) (line : KeptLine) (block : Block) (keeps : KeepsRequest limits rest line block) where
+  -- the request once more bytes of its block have come
+  longer : List ℕ → Request
+  longer more = record { line = keeps.request.line; block = keeps.request.block ++ more }
+
+  longer-bytes : (more : List ℕ) → rest ++ more ≡ request_bytes (longer more)
+  unfolding longer
+  longer-bytes more = ap (λ r. r ++ more) keeps.bytes ∙ append_assoc keeps.request.line (10 ∷ keeps.request.block) more
+
+  pub keeps_request-more : (more : List ℕ) → length more < to_come block → KeepsRequest limits (rest ++ more) line (with_bytes block more)
+  unfolding longer
+  keeps_request-more more few =
+      let size = keeps_block-size limits.block keeps.asked keeps.request.block block keeps.keeps_block in
+      record {
+        request = longer more;
+        asked = keeps.asked;
+        bytes = longer-bytes more;
+        unbroken = keeps.unbroken;
+        asks = keeps.asks;
+        cut = omega (arith, length-append keeps.request.block more);
+        keeps_line = keeps.keeps_line;
+        keeps_block = keeps_block-more limits.block keeps.asked keeps.request.block more block (omega arith) keeps.keeps_block;
+      }
+
+  -- With the last of its bytes the block is whole, and of no more bytes.
+  pub request-whole : (last : List ℕ) → length last ≡ to_come block
+      → (request : Request) × IsWhole request × (rest ++ last ≡ request_bytes request) × Asks request.line (length request.block)
+      × (line ≡ kept_of request.line) × KeepsBlock limits.block (length request.block) request.block (with_bytes block last)
+  unfolding longer
+  request-whole last all =
+      let size = keeps_block-size limits.block keeps.asked keeps.request.block block keeps.keeps_block in
+      let whole : keeps.asked ≡ length (keeps.request.block ++ last) = omega (arith, length-append keeps.request.block last) in
+      let asks : Asks keeps.request.line (length (keeps.request.block ++ last)) = rw (← whole) keeps.asks in
+      let kept : KeepsBlock limits.block keeps.asked (keeps.request.block ++ last) (with_bytes block last) =
+      keeps_block-more limits.block keeps.asked keeps.request.block last block (omega arith) keeps.keeps_block in
+      (longer last, whole-asked (longer last) keeps.unbroken asks, longer-bytes last, asks, keeps.keeps_line, subst (λ n. KeepsBlock limits.block n (keeps.request.block ++ last) (with_bytes block last)) whole kept)
+
+-- a line that has ended, and a block of which nothing has come
+pub keeps_request-begun : (limits : Limits) (rest line : List ℕ) (kept : KeptLine) (block : Block) (n : ℕ) → rest ≡ line ++ 10 ∷ []
+    → IsUnbroken line → Asks line n → 0 < n → kept ≡ kept_of line → KeepsBlock limits.block n [] block → KeepsRequest limits rest kept block
+keeps_request-begun limits rest line kept block n is unbroken asks some keeps_line keeps_block = record {
+  request = record { line = line; block = [] };
+  asked = n;
+  bytes = is;
+  unbroken = unbroken;
+  asks = asks;
+  cut = some;
+  keeps_line = keeps_line;
+  keeps_block = keeps_block;
+}
+
+-- ---- what is kept
+
+pub keeps-unfinished : (limits : Limits) (rest : List ℕ) (kept : Kept) → Keeps limits rest kept → IsUnfinished rest
+keeps-unfinished limits rest kept keeps = by kept.block keeps where
+  by : (b : Option Block) → MatchOption b (KeepsLine rest kept.line) (KeepsRequest limits rest kept.line) → IsUnfinished rest
+  by None (unbroken, is) = in_line unbroken
+  by (Some block) k = in_block k.request k.asked k.unbroken k.asks k.cut k.bytes
+
+pub nothing-is : (line : KeptLine) (block : Option Block) → line ≡ PartOfLine [] → block ≡ None → let kept : Kept = record { line = line; block = block } in kept ≡ nothing
+nothing-is line block lines blocks =
+    let of_line : KeptLine → Kept = λ l. record { line = l; block = block } in
+    let of_block : Option Block → Kept = λ b. record { line = PartOfLine []; block = b } in
+    ap of_line lines ∙ ap of_block blocks
+
+-- where no block is waited for the rest is the front of a line
+pub keeps-no_block : (limits : Limits) (rest : List ℕ) (kept : Kept) → kept.block ≡ None → Keeps limits rest kept → KeepsLine rest kept.line
+keeps-no_block limits rest kept none keeps =
+    subst (λ (b : Option Block). MatchOption b (KeepsLine rest kept.line) (KeepsRequest limits rest kept.line)) none keeps
+
+pub keeps-block : (limits : Limits) (rest : List ℕ) (kept : Kept) (block : Block) → kept.block ≡ Some block → Keeps limits rest kept → KeepsRequest limits rest kept.line block
+keeps-block limits rest kept block some keeps =
+    subst (λ (b : Option Block). MatchOption b (KeepsLine rest kept.line) (KeepsRequest limits rest kept.line)) some keeps
+
+pub keeps-nothing : (limits : Limits) → Keeps limits [] nothing
+keeps-nothing limits = (IsUnbroken-nil, refl)
+
+-- where nothing is kept the rest is empty
+pub nothing-kept : (limits : Limits) (rest : List ℕ) (kept : Kept) → is_nothing kept ≡ true → Keeps limits rest kept → [] ≡ rest
+nothing-kept limits rest kept none keeps = by kept.block none keeps where
+  by : (b : Option Block) → not (is_some b) && is_start kept.line ≡ true → MatchOption b (KeepsLine rest kept.line) (KeepsRequest limits rest kept.line) → [] ≡ rest
+  by None none (unbroken, is) = start kept.line rest none is
+  by (Some block) none k = cc
+
+-- where something is kept the rest is not empty
+pub something-kept : (limits : Limits) (rest : List ℕ) (kept : Kept) → is_nothing kept ≡ false → Keeps limits rest kept → rest ≢ []
+something-kept limits rest kept some keeps = by kept.block some keeps where
+  by : (b : Option Block) → not (is_some b) && is_start kept.line ≡ false → MatchOption b (KeepsLine rest kept.line) (KeepsRequest limits rest kept.line) → rest ≢ []
+  by None some (unbroken, is) none = let yes : true ≡ false = ap is_start (sym (is ∙ ap kept_of none)) ∙ some in cc
+  by (Some block) some k none = no_bytes k.request.line k.request.block (sym k.bytes ∙ none)
+    where
+      no_bytes : (line block : List ℕ) → line ++ 10 ∷ block ≡ [] → ⊥
+      no_bytes [] block e = cc
+      no_bytes (c ∷ line) block e = cc

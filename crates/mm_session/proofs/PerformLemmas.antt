@@ -3,8 +3,8 @@ use Rattle.std.proofs.Common.{◌≡◌, ℕ, List, ◌++◌, Ok, Err, refl, sym
 use lib.Chars.{codes}
 use Rattle.plain_tables.specs.AnswerText.{answer_text}
 use Rattle.plain_tables.specs.Databases.{Database}
-use Rattle.plain_tables.specs.Effects.{Effect, Outcome, Done, Changed, Refused}
-use Rattle.plain_tables.specs.Runs.{refused}
+use Rattle.plain_tables.specs.CsvReading.{Record}
+use Rattle.plain_tables.specs.Effects.{Effect, Outcome, Done, Changed, Refused, refused}
 use Rattle.plain_tables.specs.Resolving.{resolved_of}
 use Rattle.plain_tables.specs.Doing.{done}
 use Rattle.plain_tables.specs.ResolvedLaws.{IsMeant, KeepsIfRefused}
@@ -19,7 +19,7 @@ use Rattle.plain_tables.specs.declared.resolved.Resolved.{Resolved}
 use Rattle.plain_tables.specs.declared.resolved.Resolved.TheVariants as resolved
 use Rattle.mm_catalog.specs.State.{CatalogState}
 use Rattle.mm_catalog.specs.Seen.{database_of}
-use Rattle.mm_catalog.specs.Changes.{IsDone, HasEffect, IsRefusedFor}
+use Rattle.mm_catalog.specs.Changes.{IsDone, HasEffect, IsDeclinedFor}
 use Rattle.mm_session.specs.Answered.{DoesNothing}
 use Rattle.plain_tables.specs.Commands.{effect_of, effect_of_resolved}
 use Rattle.mm_session.specs.Performed.{HasPerformed}
@@ -61,10 +61,11 @@ refused_so tables e why keeps is =
     ap (λ (d : Database). record { database = d; outcome = e.outcome }) (keeps why is)
     ∙ ap (λ (o : Outcome). record { database = tables; outcome = o }) is
 
-pub does_nothing_resolved : (old new : CatalogState) (c : Command) (r : Resolved) (why : Refusal) → resolved_of (database_of old) c ≡ Ok r
-    → IsRefusedFor old new (done old.limits (database_of old) r) why → DoesNothing (effect_of old.limits (database_of old) c) (database_of old) (database_of new) why
-does_nothing_resolved old new c r why is (same, because) = (
-  ap database_of same,
+pub does_nothing_resolved : (records : List Record) (old new : CatalogState) (c : Command) (r : Resolved) (why : Refusal)
+    → resolved_of records (database_of old) c ≡ Ok r → IsDeclinedFor old new (done old.limits (database_of old) r) why
+    → DoesNothing (effect_of records old.limits (database_of old) c) (database_of old) (database_of new) why
+does_nothing_resolved records old new c r why is (same, because) = (
+  same.database,
   elim because [
     | inl none ↦ inl none
     | inr so ↦ inr (ap (effect_of_resolved old.limits (database_of old)) is ∙ refused_so (database_of old) (done old.limits (database_of old) r) why (refused_keeps old.limits (database_of old) r) so)

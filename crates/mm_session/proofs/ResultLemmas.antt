@@ -1,5 +1,5 @@
 -- What a clause on one variant of a result says.
-use Rattle.std.proofs.Common.{◌≡◌, false, Result, Ok, Err, OnOk, OnErr}
+use Rattle.std.proofs.Common.{◌≡◌, true, false, Result, Ok, Err, OnOk, OnErr}
 use Rattle.std.specs.Prelude.{is_err, IsErrOf}
 
 pub on_ok : {T E : Type 0} (r : Result T E) (P : Type 0) → false ≡ is_err r → OnOk r P → P
@@ -13,3 +13,7 @@ on_err (Err d) e P h p = p
 pub OnOk-map : {T E : Type 0} (r : Result T E) (P Q : Type 0) → (P → Q) → OnOk r P → OnOk r Q
 OnOk-map (Ok x) P Q f p = f p
 OnOk-map (Err e) P Q f p = tt
+
+pub on_error : {T E : Type 0} (r : Result T E) (P : Type 0) → true ≡ is_err r → OnErr r P → P
+on_error (Ok x) P h p = cc
+on_error (Err e) P h p = p

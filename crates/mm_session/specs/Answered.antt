@@ -1,13 +1,13 @@
 -- What a command did, or why it did nothing.
 use Rattle.std.specs.Prelude.{◌≡◌, ℕ, List, ◌++◌, ◌⊎◌}
 use Rattle.plain_tables.specs.Databases.{Database}
-use Rattle.plain_tables.specs.Effects.{Effect}
+use Rattle.plain_tables.specs.CsvReading.{Record}
+use Rattle.plain_tables.specs.Effects.{Effect, refused}
 use Rattle.plain_tables.specs.Commands.{effect_of}
 use Rattle.plain_tables.specs.Spelling.{Spells}
 use Rattle.plain_tables.specs.declared.command.Command.{Command}
 use Rattle.plain_tables.specs.declared.command.Limits.{Limits}
 use Rattle.plain_tables.specs.AnswerText.{answer_text}
-use Rattle.plain_tables.specs.Runs.{refused}
 use Rattle.plain_tables.specs.declared.refusal.Refusal.{Refusal}
 use Rattle.plain_tables.specs.declared.refusal.Refusal.TheVariants.{NoMemory, NotACommand}
 
@@ -19,14 +19,14 @@ DoesAll effect new before after = (effect.database ≡ new) × (after ≡ before
 abbrev pub DoesNothing : Effect → Database → Database → Refusal → Type 0
 DoesNothing effect old new refusal = (new ≡ old) × ((refusal ≡ NoMemory) ⊎ (effect ≡ refused old refusal))
 
--- The line spells a command, whose effect came about, and its answer was added.
-abbrev pub Obeys : Limits → Database → List ℕ → Database → List ℕ → List ℕ → Type 0
-Obeys limits old line new before after =
-    (c : Command) × Spells line c × DoesAll (effect_of limits old c) new before after
+-- The line spells a command, whose effect came about with these records in its block, and its answer was added.
+abbrev pub Obeys : List Record → Limits → Database → List ℕ → Database → List ℕ → List ℕ → Type 0
+Obeys records limits old line new before after =
+    (c : Command) × Spells line c × DoesAll (effect_of records limits old c) new before after
 
 -- Nothing has changed: no memory was found, or the line spells no command, or it spells one that is refused so.
-pub data Declines (limits : Limits) (old : Database) (line : List ℕ) : Refusal → Type 0 where
-  no_memory : Declines limits old line NoMemory
-  not_a_command : ((c : Command) → ¬ (Spells line c)) → Declines limits old line NotACommand
-  refuses : (c : Command) (refusal : Refusal) → Spells line c → effect_of limits old c ≡ refused old refusal
-      → Declines limits old line refusal
+pub data Declines (records : List Record) (limits : Limits) (old : Database) (line : List ℕ) : Refusal → Type 0 where
+  no_memory : Declines records limits old line NoMemory
+  not_a_command : ((c : Command) → ¬ (Spells line c)) → Declines records limits old line NotACommand
+  refuses : (c : Command) (refusal : Refusal) → Spells line c → effect_of records limits old c ≡ refused old refusal
+      → Declines records limits old line refusal

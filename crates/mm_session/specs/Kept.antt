@@ -1,27 +1,64 @@
--- What is kept of a line that has not ended.
-use Rattle.std.specs.Prelude.{ℕ, List, [], ◌∷◌, ◌++◌, Bool, true, false, length, nat_le, Option, Some, None, if◌then◌else◌}
+-- What is kept of the rest of a stream that is not a whole request yet.
+use Rattle.std.specs.Prelude.{◌≡◌, ℕ, ◌+◌, ◌-◌, ◌<◌, ◌≤◌, List, [], ◌++◌, length, None, MatchOption, Bool, true, false, not, is_some, ◌&&◌}
+use Rattle.plain_tables.specs.declared.command.Limits.{Limits}
+use Rattle.plain_streams.specs.Requests.{Request, Asks}
+use Rattle.plain_streams.specs.Division.{IsUnbroken, request_bytes}
+use Rattle.mm_session.specs.Buffers.{KeptLine, PartOfLine, kept_of, is_start}
+use Rattle.mm_session.specs.declared.block.Unkept.{Unkept}
+use Rattle.mm_session.specs.declared.block.Unkept.TheVariants.{TooLong, NoMemory}
+use Rattle.mm_session.specs.declared.block.Block.{Block}
+use Rattle.mm_session.specs.declared.block.Block.TheVariants.{Storing, Counting}
+use Rattle.mm_session.specs.declared.kept.Kept.{Kept}
 
--- its bytes, or only that it is too long
-pub data Kept : Type 0 where
-  PartOfLine : List ℕ → Kept
-  LongLine : Kept
+-- how many bytes of a block are to come
+abbrev pub to_come : Block → ℕ
+to_come (Storing part) = part.to_come
+to_come (Counting n why) = n
 
--- A line of 8,192 bytes may have a carriage return behind it, so no more than 8,193 bytes are kept.
-abbrev pub kept_of : List ℕ → Kept
-kept_of rest = if nat_le (length rest) 8193 then PartOfLine rest else LongLine
+-- a block once more of its bytes have come
+abbrev pub with_bytes : Block → List ℕ → Block
+with_bytes (Storing part) more = Storing (record { bytes = part.bytes ++ more; to_come = part.to_come - length more })
+with_bytes (Counting n why) more = Counting (n - length more) why
 
--- what is kept once more bytes of the line have come
-abbrev pub grown : Kept → List ℕ → Kept
-grown (PartOfLine rest) more = kept_of (rest ++ more)
-grown LongLine more = LongLine
+-- whether a block passes the limit
+abbrev pub is_too_long : Block → Bool
+is_too_long (Storing part) = false
+is_too_long (Counting n TooLong) = true
+is_too_long (Counting n NoMemory) = false
 
--- the line, where it is kept
-abbrev pub line_kept : Kept → Option (List ℕ)
-line_kept (PartOfLine rest) = Some rest
-line_kept LongLine = None
+-- why a block of n bytes is not kept: it passes the limit; or it doesn't, and no memory was found for it
+abbrev pub IsUnkept : ℕ → ℕ → Unkept → Type 0
+IsUnkept limit n TooLong = limit < n
+IsUnkept limit n NoMemory = n ≤ limit
 
--- whether nothing of the line has come
-abbrev pub is_start : Kept → Bool
-is_start (PartOfLine []) = true
-is_start (PartOfLine (b ∷ rest)) = false
-is_start LongLine = false
+-- This is kept of a block of n bytes, of which these have come: they, if it is within the limit; or only how many are to come.
+abbrev pub KeepsBlock : ℕ → ℕ → List ℕ → Block → Type 0
+KeepsBlock limit n bytes (Storing part) = (n ≤ limit) × (part.bytes ≡ bytes) × (length bytes + part.to_come ≡ n)
+KeepsBlock limit n bytes (Counting to_come why) = IsUnkept limit n why × (length bytes + to_come ≡ n)
+
+-- The rest is the front of a line.
+abbrev pub KeepsLine : List ℕ → KeptLine → Type 0
+KeepsLine rest line = IsUnbroken rest × (line ≡ kept_of rest)
+
+-- The rest is a line and the front of the block that it asks for, and not all of it.
+pub record KeepsRequest (limits : Limits) (rest : List ℕ) (line : KeptLine) (block : Block) : Type 0 where
+  pub request : Request
+  pub asked : ℕ
+  pub bytes : rest ≡ request_bytes request
+  pub unbroken : IsUnbroken request.line
+  pub asks : Asks request.line asked
+  pub cut : length request.block < asked
+  pub keeps_line : line ≡ kept_of request.line
+  pub keeps_block : KeepsBlock limits.block asked request.block block
+
+-- This is kept of the rest of a stream.
+abbrev pub Keeps : Limits → List ℕ → Kept → Type 0
+Keeps limits rest kept = MatchOption kept.block (KeepsLine rest kept.line) (KeepsRequest limits rest kept.line)
+
+-- nothing has come of a request
+abbrev pub nothing : Kept
+nothing = record { line = PartOfLine []; block = None }
+
+-- whether nothing has come of a request
+abbrev pub is_nothing : Kept → Bool
+is_nothing kept = not (is_some kept.block) && is_start kept.line

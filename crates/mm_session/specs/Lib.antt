@@ -1,10 +1,12 @@
 pub mod Answered
+pub mod Buffers
 pub mod Kept
 pub mod Listing
 pub mod Members
 pub mod Passing
 pub mod Performed
 pub mod Query
+pub mod Responding
 pub mod Sessions
 pub mod Shown
 pub mod WholeRuns

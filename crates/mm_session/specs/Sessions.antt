@@ -1,26 +1,28 @@
 -- What a session is seen as, and what its calls do to the run that it is in.
 use Rattle.std.specs.Prelude.{◌≡◌, ℕ, List, [], ◌++◌, Bool, true, false, Option}
 use Rattle.std.specs.Io.KnownBytes.{Appends}
-use Rattle.mm_session.specs.Kept.{Kept, kept_of}
+use Rattle.mm_session.specs.Kept.{Keeps, nothing}
+use Rattle.mm_session.specs.declared.kept.Kept.{Kept}
 use Rattle.plain_tables.specs.Databases.{Database}
-use Rattle.plain_tables.specs.Division.{Divides}
-use Rattle.plain_tables.specs.Runs.{RunOf}
 use Rattle.plain_tables.specs.declared.command.Limits.{Limits}
+use Rattle.plain_streams.specs.Requests.{Request}
+use Rattle.plain_streams.specs.Division.{Divides}
+use Rattle.plain_streams.specs.Runs.{RunOf}
 
--- A session is seen as its limits, its tables, whether it has ended, and what it keeps of the line that has not.
+-- A session is seen as its limits, its tables, whether it has ended, and what it keeps of the request that has not.
 pub record State : Type 0 where
   pub limits : Limits
   pub database : Database
   pub ended : Bool
   pub kept : Kept
 
--- This is kept of the stream: what is kept of the rest that it leaves behind its lines.
-abbrev pub KeepsOf : Kept → List ℕ → Type 0
-KeepsOf kept stream = (lines : List (List ℕ)) × (rest : List ℕ) × Divides stream lines rest × (kept ≡ kept_of rest)
+-- This is kept of the stream: what is kept of the rest that it leaves behind its requests.
+abbrev pub KeepsOf : Limits → Kept → List ℕ → Type 0
+KeepsOf limits kept stream = (requests : List Request) × (rest : List ℕ) × Divides stream requests rest × Keeps limits rest kept
 
 -- The session stands in a run: from that database the stream had these answers so far.
 pub record StandsIn (session : State) (from : Database) (stream answers : List ℕ) : Type 0 where
-  pub keeps : KeepsOf session.kept stream
+  pub keeps : KeepsOf session.limits session.kept stream
   pub run : RunOf session.limits from stream false answers session.database
 
 -- the writer, whose bytes are known or not, gained some bytes of which that holds
@@ -56,4 +58,4 @@ BreaksOff old piece finished gained =
 
 -- a session over these tables that has been fed nothing
 abbrev pub new_session : Limits → Database → State
-new_session limits tables = record { limits = limits; database = tables; ended = false; kept = kept_of [] }
+new_session limits tables = record { limits = limits; database = tables; ended = false; kept = nothing }

@@ -2,7 +2,7 @@
 use Rattle.std.specs.Prelude.{ℕ, List, [], Bool, true, false, Option}
 use Rattle.std.specs.Io.KnownBytes.{Consumes}
 use Rattle.plain_tables.specs.Databases.{Database}
-use Rattle.plain_tables.specs.Runs.{RunOf}
+use Rattle.plain_streams.specs.Runs.{RunOf}
 use Rattle.plain_tables.specs.declared.command.TheConstants.Limits.{STANDARD}
 use Rattle.mm_session.specs.Sessions.{IsFrontOfRun}
 
@@ -14,7 +14,7 @@ Reads before after says = (stream : List ℕ) × Consumes before after stream ×
 abbrev pub IsAnsweredAll : List ℕ → List ℕ → Type 0
 IsAnsweredAll stream answers = (after : Database) × RunOf STANDARD [] stream true answers after
 
--- From no tables, these are the answers of the stream's lines that have ended.
+-- From no tables, these are the answers of the stream's requests that are whole.
 abbrev pub IsAnsweredSoFar : List ℕ → List ℕ → Type 0
 IsAnsweredSoFar stream answers = (after : Database) × RunOf STANDARD [] stream false answers after
 

@@ -1,6 +1,6 @@
 //! The bytes of one answer, made whole before the first of them is written.
 
-ghost use Rattle.std.specs.Prelude.{◌≡◌, ◌++◌, ◌≤◌, [], length, IfOk, OnOk};
+ghost use Rattle.std.specs.Prelude.{◌≡◌, ◌++◌, ◌+◌, ◌≤◌, [], length, IsOk, IfOk, OnOk};
 ghost use Rattle.std.specs.Fmt.{decimal};
 
 use itoa::Buffer;
@@ -59,17 +59,19 @@ impl Answer {
         let _ = self.bytes.extend_from_slice(text);
     }
 
-    /// Puts bytes at the end.
+    /// Puts bytes at the end. While the answer is short it needs no memory.
     pub fn push(&mut self, bytes: &[u8]) -> Result<(), NoMemory>
-        ensures { OnOk result (self.new ≡ self.old ++ bytes.now) }
+        ensures pushed { OnOk result (self.new ≡ self.old ++ bytes.now) }
+        ensures short { length self.old + length bytes.now ≤ 64 → IsOk result }
     {
         self.bytes.extend_from_slice(bytes)?;
         Ok(())
     }
 
-    /// Puts a number at the end, in decimal digits.
+    /// Puts a number at the end, in decimal digits. While the answer is short it needs no memory.
     pub fn push_number(&mut self, n: u64) -> Result<(), NoMemory>
-        ensures { OnOk result (self.new ≡ self.old ++ decimal n) }
+        ensures pushed { OnOk result (self.new ≡ self.old ++ decimal n) }
+        ensures short { length self.old + length (decimal n) ≤ 64 → IsOk result }
     {
         let mut buffer = Buffer::new();
         self.push(buffer.format(n).as_bytes())

@@ -1,9 +1,10 @@
-//! What is kept of a line that has not ended.
+//! What is kept of a request that has not come whole.
 
 ghost use Rattle.std.specs.Prelude.{◌≡◌, [], IfOk};
-ghost use Rattle.mm_session.specs.Kept.{PartOfLine, grown, line_kept, is_start};
+ghost use Rattle.mm_session.specs.Buffers.{PartOfLine, grown, line_kept, is_start};
 ghost use Rattle.std.specs.Option.{option_copied};
 
+use crate::block::Block;
 use plain_tables::NoMemory;
 use std::alloc::Global;
 use std::marker::Model;
@@ -21,9 +22,9 @@ pub struct LineBuffer {
 impl Model for LineBuffer {
     ghost use Rattle.std.specs.Prelude.{◌≤◌, if◌then◌else◌};
     ghost use Rattle.std.specs.Vec.{vec_capacity, vec_len};
-    ghost use Rattle.mm_session.specs.Kept.{Kept, PartOfLine, LongLine};
+    ghost use Rattle.mm_session.specs.Buffers.{KeptLine, PartOfLine, LongLine};
 
-    ghost Value = { Kept };
+    ghost Value = { KeptLine };
 
     ghost view = { λ b. if b.is_too_long then LongLine else PartOfLine b.bytes.items };
 
@@ -77,5 +78,32 @@ impl LineBuffer {
     {
         self.bytes.clear();
         self.is_too_long = false;
+    }
+}
+
+/// What is kept of a request that has not come whole: of its line, and once the line has ended, of its block too.
+#[derive(Drop)]
+pub struct Kept {
+    pub line: LineBuffer,
+    pub block: Option<Block>,
+}
+
+impl Kept {
+    ghost use Rattle.mm_session.specs.Kept.{nothing, is_nothing};
+
+    /// Nothing, with room for the longest line.
+    pub fn new(alloc: Global) -> Result<Kept, NoMemory>
+        ensures { IfOk result (λ kept. kept ≡ nothing) }
+    {
+        Ok(Kept {
+            line: LineBuffer::new(alloc)?,
+            block: None,
+        })
+    }
+    /// Whether nothing has come of a request.
+    pub fn is_nothing(&self) -> bool
+        ensures { result ≡ is_nothing self.now }
+    {
+        self.block.is_none() && self.line.is_empty()
     }
 }

@@ -1,30 +1,32 @@
-//! Streams of command lines, answered: the one crate through which bytes come in and go out.
+//! Streams of requests, answered: the one crate through which bytes come in and go out.
 //!
 //! ```text
-//!  pieces of bytes ──▶ lines ──▶ command ──▶ effect on the tables ──▶ answer ──▶ bytes
-//!   whole_run           respond     parse of    execute, scan             answer     writing
-//!   session, lines      respond_    mm_lang     select, listing           records
-//!   kept                kept                    mm_catalog                mm_csv
+//!  pieces of bytes ──▶ requests ──▶ command ──▶ effect on the tables ──▶ answer ──▶ bytes
+//!   whole_run           responder   respond     execute, scan             answer     writing
+//!   session             lines       parse of    select, listing           records
+//!                       kept, block mm_lang     mm_catalog                mm_csv
 //! ```
 //!
 //! It doesn't care how a line spells its command, how a record is quoted, nor how tables are kept and what a command may do
 //! to them: mm_lang, mm_csv and mm_catalog say that. It promises that the bytes answered are those of plain tables, whatever
 //! the pieces.
 //!
-//! - What is kept between two pieces is the unfinished line and nothing else, in a buffer that never grows.
+//! - What is kept between two pieces is the unfinished request and nothing else: its line in a buffer that never grows, and its
+//!   block in memory that is asked for once, when the line has ended. A block that cannot be kept is counted down.
 //! - A command is done whole or not at all: its answer is made before the tables change, and a refused change leaves all as it was.
 //! - An answer is whole before its first byte is written, so that a refusal can still stand in its place.
 //! - A session that met a write fault has ended, and writes nothing more.
 #![tactic(auto)]
 
 mod answer;
+mod block;
 mod execute;
 mod fault;
 mod kept;
 mod lines;
 mod records;
 mod respond;
-mod respond_kept;
+mod responder;
 mod session;
 mod whole_run;
 mod writing;

@@ -1,10 +1,14 @@
 //! How a stream is cut into lines, and what a line is before it is read as a command.
 
-ghost use Rattle.std.specs.Prelude.{◌≡◌, ◌++◌, ◌∷◌, MatchOption, IsTrue};
-ghost use Rattle.plain_tables.specs.Division.{IsUnbroken};
-ghost use Rattle.plain_tables.specs.Runs.{without_return, is_silent as is_silent_line};
+ghost use Rattle.std.specs.Prelude.{◌≡◌, ◌++◌, ◌∷◌, ℕ, MatchOption, IsTrue};
+ghost use Rattle.plain_streams.specs.Division.{IsUnbroken};
+ghost use Rattle.plain_streams.specs.Requests.{Asks, without_return, is_silent as is_silent_line};
 
 use memchr::memchr;
+use mm_lang::block_length;
+
+/// The greatest number of bytes that a line may have.
+pub const LONGEST_LINE: usize = 8192;
 
 /// The bytes before the first line feed and those behind it, where there is one.
 pub fn split_line(bytes: &[u8]) -> Option<(&[u8], &[u8])>
@@ -35,4 +39,18 @@ pub fn is_silent(line: &[u8]) -> bool
         }
     }
     true
+}
+
+/// How long a block the line asks for, if it asks for one.
+pub fn asked_length(line: &[u8]) -> Option<u64>
+    ensures { MatchOption result ((n : ℕ) → ¬ (Asks line.now n)) (λ n. Asks line.now n) }
+{
+    let line = trim_return(line);
+    if line.len() > LONGEST_LINE {
+        return None;
+    }
+    let Ok(text) = std::str::from_utf8(line) else {
+        return None;
+    };
+    block_length(text)
 }

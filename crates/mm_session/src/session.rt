@@ -1,14 +1,10 @@
-//! A session: tables, and a stream of command lines that comes in pieces.
+//! A session: tables, and a stream of requests that comes in pieces.
 
 ghost use Rattle.std.specs.Prelude.{◌≡◌, ◌≤◌, ◌++◌, ◌∷◌, ◌↔◌, [], Err, true, false, IsTrue, IsErrOf, IfOk, OnOk, OnErr};
 ghost use Rattle.std.specs.Io.KnownBytes.{Keeps};
-ghost use Rattle.plain_tables.specs.Division.{IsUnbroken};
 
-use crate::answer::Answer;
 use crate::fault::SessionFault;
-use crate::kept::LineBuffer;
-use crate::lines::split_line;
-use crate::respond_kept::respond_kept;
+use crate::responder::Responder;
 use crate::writing::write_whole;
 use mm_catalog::Catalog;
 use plain_tables::{Limits, NoMemory};
@@ -17,14 +13,10 @@ use std::alloc::Global;
 use std::io::Write;
 use std::marker::Model;
 
-/// A session answers each command line that is fed to it, however the stream is cut into pieces.
+/// A session answers each request that is fed to it, however the stream is cut into pieces.
 #[derive(Drop)]
 pub struct Session {
-    alloc: Global,
-    policy: Policy,
-    catalog: Catalog,
-    kept: LineBuffer,
-    answer: Answer,
+    responder: Responder,
     ended: bool,
 }
 
@@ -34,7 +26,7 @@ impl Model for Session {
 
     ghost Value = { State };
 
-    ghost view = { λ s. record { limits = s.catalog.limits; database = database_of s.catalog; ended = s.ended; kept = s.kept } };
+    ghost view = { λ s. record { limits = s.responder.catalog.limits; database = database_of s.responder.catalog; ended = s.ended; kept = s.responder.kept } };
 }
 
 impl Session {
@@ -61,11 +53,7 @@ impl Session {
         ensures { IfOk result (λ s. s ≡ new_session catalog.limits (database_of catalog)) }
     {
         Ok(Session {
-            alloc,
-            policy,
-            catalog,
-            kept: LineBuffer::new(alloc)?,
-            answer: Answer::new(alloc)?,
+            responder: Responder::new(alloc, policy, catalog)?,
             ended: false,
         })
     }
@@ -75,36 +63,10 @@ impl Session {
         ensures tables { database_of result.now ≡ self.now.database }
         ensures limits { result.now.limits ≡ self.now.limits }
     {
-        &self.catalog
+        &self.responder.catalog
     }
 
-    // Answers the line of which the front is kept and `tail` is the end.
-    fn end_line<W: Write>(&mut self, tail: &[u8], w: &mut W) -> Result<(), SessionFault>
-        requires going_on { self.old.ended ≡ false }
-        requires unbroken { IsUnbroken tail.now }
-        ensures ok { OnOk result (Gains (W.contents w.old) (W.contents w.new) (Feeds self.old self.new (tail.now ++ 10 ∷ []))) }
-        ensures fault { OnErr result (Gains (W.contents w.old) (W.contents w.new) (BreaksOff self.old (tail.now ++ 10 ∷ []) false)) }
-        ensures ended { OnErr result ((self.new.ended ≡ true) × (self.new.limits ≡ self.old.limits) × (result ≡ Err SessionFault.Write)) }
-    {
-        respond_kept(
-            self.alloc,
-            &mut self.catalog,
-            self.policy,
-            &mut self.kept,
-            tail,
-            &mut self.answer,
-        );
-        self.kept.clear();
-        match write_whole(w, self.answer.as_slice()) {
-            Ok(()) => Ok(()),
-            Err(_) => {
-                self.ended = true;
-                Err(SessionFault::Write)
-            }
-        }
-    }
-
-    /// Takes the next bytes of the stream, and answers each line that ends in them.
+    /// Takes the next bytes of the stream, and answers each request that ends in them.
     ///
     /// After `Write` the session has ended: each later call answers `Ended` and writes nothing.
     pub fn feed<W: Write>(&mut self, piece: &[u8], w: &mut W) -> Result<(), SessionFault>
@@ -112,7 +74,7 @@ impl Session {
         ensures ended { IsErrOf result SessionFault.Ended ↔ IsTrue self.old.ended }
         ensures unchanged { IsErrOf result SessionFault.Ended → (self.new ≡ self.old) × Keeps (W.contents w.old) (W.contents w.new) }
 
-        // Each line that ended was answered.
+        // Each request that ended was answered.
         ensures ok { OnOk result (Gains (W.contents w.old) (W.contents w.new) (Feeds self.old self.new piece.now)) }
 
         // A write failed, and the answers stop somewhere.
@@ -124,15 +86,17 @@ impl Session {
             return Err(SessionFault::Ended);
         }
         let mut rest = piece;
-        while let Some((line, others)) = split_line(rest) {
-            self.end_line(line, w)?;
+        while let Some(others) = self.responder.take(rest) {
+            if write_whole(w, self.responder.answer.as_slice()).is_err() {
+                self.ended = true;
+                return Err(SessionFault::Write);
+            }
             rest = others;
         }
-        self.kept.extend(rest);
         Ok(())
     }
 
-    /// Answers the last line of the stream, which has no line feed, where there is one.
+    /// Answers the last request of the stream, which it ends in, where there is one.
     pub fn finish<W: Write>(mut self, w: &mut W) -> Result<(), SessionFault>
         ensures ended { IsErrOf result SessionFault.Ended ↔ IsTrue self.ended }
         ensures unchanged { IsErrOf result SessionFault.Ended → Keeps (W.contents w.old) (W.contents w.new) }
@@ -142,18 +106,11 @@ impl Session {
         if self.ended {
             return Err(SessionFault::Ended);
         }
-        if self.kept.is_empty() {
+        if self.responder.kept.is_nothing() {
             return Ok(());
         }
-        respond_kept(
-            self.alloc,
-            &mut self.catalog,
-            self.policy,
-            &mut self.kept,
-            &[],
-            &mut self.answer,
-        );
-        match write_whole(w, self.answer.as_slice()) {
+        self.responder.finish();
+        match write_whole(w, self.responder.answer.as_slice()) {
             Ok(()) => Ok(()),
             Err(_) => Err(SessionFault::Write),
         }

@@ -51,8 +51,8 @@ fn finish_and_flush<W: Write>(session: Session, w: &mut W) -> Result<(), RunFaul
 
 /// Answers a whole stream. The answers are flushed after each piece that was read, and at the end.
 ///
-/// At `Read` a read answered an error, or 2^40 reads did not reach the end; the line that had not ended has no
-/// answer. At `Write` a write or a flush answered an error, or a write took no byte. At `NoMemory` the session
+/// At `Read` a read answered an error, or 2^40 reads did not reach the end; the request that had not ended has
+/// no answer. At `Write` a write or a flush answered an error, or a write took no byte. At `NoMemory` the session
 /// could not be made.
 pub fn run<R: Read, W: Write>(
     alloc: Global,
@@ -64,7 +64,7 @@ pub fn run<R: Read, W: Write>(
     ensures ok { OnOk result (Reads (R.remaining r.old) (R.remaining r.new) (λ stream.
         IsAtEnd (R.remaining r.new) × Gains (W.contents w.old) (W.contents w.new) (IsAnsweredAll stream))) }
 
-    // What was written is the answers of all whole lines of what was read.
+    // What was written is the answers of all whole requests of what was read.
     ensures read { IsErrOf result RunFault.Read → Reads (R.remaining r.old) (R.remaining r.new) (λ stream.
         Gains (W.contents w.old) (W.contents w.new) (IsAnsweredSoFar stream)) }
 

@@ -29,7 +29,7 @@ returns-clause-done c =
     on_ok_weaker c.delete.result
     (λ has. performed_effect c.args.catalog.now c.delete.new.self _ (length c.deref.result.now) c.args.answer.now c.push_changed.new.answer
     (has (passes_all c.args.tests.now) are.picks)
-    (c.in_ok-push_changed.ensures ∙ ap (λ n. c.args.answer.now ++ answer_text (Changed n)) counted))
+    (c.in_ok-push_changed.ensures.pushed ∙ ap (λ n. c.args.answer.now ++ answer_text (Changed n)) counted))
     c.delete.ensures.deleted
 
 pub returns-clause-refused : goal.returns-clause-refused

@@ -25,4 +25,4 @@ pub returns-in_ok-insert-in-Insert-clause-done : goal.returns-in_ok-insert-in-In
 returns-in_ok-insert-in-Insert-clause-done c =
     rw c.in-Insert.is
     (performed_effect c.args.catalog.now c.insert.new.self _ 1 c.args.answer.now c.push-in-Insert.new.self c.in_ok-insert-in-Insert.ensures.inserted
-    (c.in_ok-push-in-Insert.ensures ∙ ap (λ text. c.args.answer.now ++ text) (sym answer_text-one)))
+    (c.in_ok-push-in-Insert.ensures.pushed ∙ ap (λ text. c.args.answer.now ++ text) (sym answer_text-one)))

@@ -1,5 +1,5 @@
 use Rattle.std.proofs.Common.{◌≡◌, drop}
-use Rattle.plain_tables.specs.Runs.{is_silent}
+use Rattle.plain_streams.specs.Requests.{is_silent}
 use Rattle.mm_session.proofs.lines.is_silent.Given as goal
 
 -- what has been read was blank

@@ -1,6 +1,7 @@
 use Rattle.std.proofs.Common.{◌∙◌, ap, Err}
 use Rattle.mm_session.specs.Answered.{no_memory, not_a_command}
 use Rattle.plain_tables.proofs.Spellable.{spelled-spellable}
+use Rattle.mm_csv.specs.BlockReading.{block_records}
 use Rattle.mm_catalog.specs.Seen.{database_of}
 use Rattle.mm_session.proofs.AnswerLemmas.{declines}
 use Rattle.mm_session.proofs.respond.obey.Goals as goal
@@ -16,4 +17,4 @@ execute-requires c = spelled-spellable c.args.line.now c.in-Ok.command c.in-Ok.e
 
 pub returns-clause-err : goal.returns-clause-err
 returns-clause-err c =
-    declines c.args.catalog.now.limits (database_of c.args.catalog.now) (database_of c.execute.new.catalog) c.args.line.now c.in-Ok.command c.execute.result c.in-Ok.ensures.command c.execute.ensures.err
+    declines (block_records c.args.block.now) c.args.catalog.now.limits (database_of c.args.catalog.now) (database_of c.execute.new.catalog) c.args.line.now c.in-Ok.command c.execute.result c.in-Ok.ensures.command c.execute.ensures.err

@@ -1,13 +1,17 @@
-use Rattle.std.proofs.Common.{◌≡◌, ◌++◌, ℕ, List, length}
+use Rattle.std.proofs.Common.{◌≡◌, ◌+◌, ◌++◌, ℕ, List, length}
 use Rattle.std.specs.Io.KnownBytes.{Appends}
-use Rattle.mm_session.specs.Sessions.{Feeds}
+use Rattle.mm_catalog.specs.Seen.{database_of}
+use Rattle.mm_session.specs.Responding.{waits}
+use Rattle.mm_session.specs.Sessions.{State, Feeds}
 use Rattle.mm_session.proofs.session.Session.feed.Given as goal
 
 -- what was done of the piece was fed to the session, and what is left follows it
-abbrev pub invariant-loop-line : goal.invariant-loop-line
-invariant-loop-line g l =
+abbrev pub invariant-loop-others : goal.invariant-loop-others
+invariant-loop-others g l =
+    let r = l.self-inside.responder in
+    let now : State = record { limits = r.catalog.limits; database = database_of r.catalog; ended = l.self-inside.ended; kept = r.kept } in
     (done : List ℕ) × (gained : List ℕ) × Appends (g.W.Write.contents l.fn.w) (g.W.Write.contents l.w) gained
-    × Feeds l.fn.self l.self done gained × (l.piece ≡ done ++ l.rest)
+    × Feeds l.fn.self now done gained × (l.piece ≡ done ++ l.rest)
 
-abbrev pub decreases-loop-line : goal.decreases-loop-line
-decreases-loop-line g l = length l.rest
+abbrev pub decreases-loop-others : goal.decreases-loop-others
+decreases-loop-others g l = length l.rest + waits l.self-inside.responder.kept

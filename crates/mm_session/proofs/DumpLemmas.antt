@@ -1,0 +1,60 @@
+-- The rows of a relation, as the records of its table's block.
+use Rattle.std.proofs.Common.{◌≡◌, ℕ, List, [], ◌∷◌, ◌++◌, Option, Some, IsSome, ap, ◌∙◌, sym, subst, length, map}
+use Rattle.std.specs.Prelude.{slice_get}
+use Rattle.std.specs.Option.{option_map_or}
+use Rattle.std.specs.FinMap as finite
+use Rattle.std.specs.Io.KnownBytes.{Appends, Keeps}
+use Rattle.std.specs.List.{All, flat_map}
+use Rattle.std.proofs.KnownBytes.{Appends-kept, Appends-nil, Appends-trans}
+use Rattle.std.proofs.lemmas.List.{flat_map_more, map_push}
+use Rattle.std.proofs.lemmas.List.FromFn.{length-map-range_with_len}
+use Rattle.std.proofs.lemmas.List.Elements.{All-head}
+use Rattle.part_raw.proofs.Tuples.{held_tuple}
+use Rattle.part_raw.specs.declared.tuple_ref.TupleRef.{TupleRef}
+use Rattle.plain_tables.proofs.ListLemmas.{All-append_parts}
+use Rattle.plain_tables.specs.Csv.{record_text, row_record}
+use Rattle.plain_tables.specs.Tables.{Table, Row}
+use Rattle.mm_relation.specs.State.{RelationState, linked_keys}
+use Rattle.mm_relation.specs.Reading.{row_value}
+use Rattle.mm_catalog.specs.State.{CatalogState}
+use Rattle.mm_catalog.specs.Seen.{database_of, table_of, values_of, row_values, or_null}
+use Rattle.mm_catalog.specs.Consistent.{IsConsistent}
+use Rattle.mm_catalog.specs.Picked.{seen_values}
+use Rattle.mm_catalog.proofs.Declared.{there_at, named_at, table_at}
+
+-- what holds of each element holds of the one that comes next
+pub holds_next : {A : Type 0} (P : A → Type 0) (all front rest : List A) (x : A) → all ≡ front ++ x ∷ rest → All P all → P x
+holds_next P all front rest x split each = All-head P x rest (All-append_parts P front (x ∷ rest) (subst (All P) split each)).1
+
+-- a row that is held has a value in each column
+pub seen_long : (c : CatalogState) (s : RelationState) (r : TupleRef) → IsSome (finite.get s.rows r) → length (seen_values c s r) ≡ length s.schema.columns
+unfolding values_of row_values
+seen_long c s r held =
+    let found = held_tuple s.rows r held in
+    ap (λ o. length (option_map_or (row_values (linked_keys s.targets c.relations) (length s.schema.columns)) o [])) found.1
+    ∙ length-map-range_with_len (λ column. or_null (row_value (linked_keys s.targets c.relations) column found.0)) 0 (length s.schema.columns)
+
+-- a table has the columns of its relation
+pub columns_same : (c : CatalogState) → IsConsistent c → (n : ℕ) (table : Table) → slice_get (database_of c) n ≡ Some table
+    → (s : RelationState) → slice_get c.relations n ≡ Some s → table.columns ≡ s.schema.columns
+unfolding table_of
+columns_same c ok n table at s there =
+    let name = named_at c ok n (there_at c ok n table at) in
+    ap (λ (t : Table). t.columns) (table_at c ok n name.0 s table name.1 there at)
+
+-- one record more
+pub records_more : (f : TupleRef → Row) (first old new : Option (List ℕ)) (rs : List TupleRef) (r : TupleRef) (row : Row)
+    → Appends first old (flat_map row_record (map f rs)) → Appends old new (row_record row) → row ≡ f r
+    → Appends first new (flat_map row_record (map f (rs ++ r ∷ [])))
+records_more f first old new rs r row before more is =
+    subst (Appends first new)
+    (ap (λ v. flat_map row_record (map f rs) ++ row_record v) is ∙ flat_map_more row_record [] (map f rs) (f r) ∙ ap (flat_map row_record) (sym (map_push f rs r)))
+    (Appends-trans first old new (flat_map row_record (map f rs)) (row_record row) before more)
+
+-- a block that was written from nothing: the names, and then the records
+pub block_whole : (start first last : Option (List ℕ)) (names : List (List ℕ)) (records block : List ℕ) → Keeps (Some []) start
+    → Appends start first (record_text names) → Appends first last records → Keeps last (Some block) → block ≡ record_text names ++ records
+block_whole start first last names records block fresh begun more whole =
+    Appends-kept (Some []) last (Some block) (record_text names ++ records)
+    (Appends-trans (Some []) first last (record_text names) records
+    (Appends-trans (Some []) start first [] (record_text names) (Appends-kept (Some []) (Some []) start [] (Appends-nil (Some [])) fresh) begun) more) whole

@@ -1,0 +1,58 @@
+-- What is kept of a line says what the line is.
+use Rattle.std.proofs.Common.{◌≡◌, ℕ, ◌<◌, ◌≤◌, ◌+◌, true, false, cond, Bool, List, [], ◌∷◌, ◌++◌, length, leb, refl, sym, ◌∙◌, arith, length-append, length-take, Some, None}
+use Rattle.std.proofs.lemmas.Bool.Decides.{nat_tests}
+use Rattle.std.specs.Prelude.{slice_index, take, ◌-◌, ◌==◌}
+use Rattle.plain_streams.specs.Requests.{without_return}
+use Rattle.mm_session.specs.Buffers.{KeptLine, PartOfLine, LongLine, kept_of, grown, line_kept, is_start}
+
+part : (b : Bool) (x l : List ℕ) → cond b (PartOfLine x) LongLine ≡ PartOfLine l → l ≡ x
+part true x l h = cc
+part false x l h = cc
+
+pub kept_of-part : (x l : List ℕ) → kept_of x ≡ PartOfLine l → l ≡ x
+kept_of-part x l = part (leb (length x) 8193) x l
+
+long : (b : Bool) (x : List ℕ) → cond b (PartOfLine x) LongLine ≡ LongLine → b ≡ false
+long true x h = cc
+long false x h = refl
+
+without_return-le : (x : List ℕ) → length x ≤ length (without_return x) + 1
+without_return-le x =
+    let last = length x - 1 in
+    elim (slice_index x last == 13) as (λ b. length x ≤ length (cond b (take last x) x) + 1) [
+      | true ↦ rw length-take (omega arith)
+      | false ↦ omega arith
+    ]
+
+pub kept_of-long : (x : List ℕ) → kept_of x ≡ LongLine → 8192 < length (without_return x)
+kept_of-long x h =
+    let no : leb (length x) 8193 ≡ false = long (leb (length x) 8193) x h in
+    let more : 8193 < length x = grind (arith, nat_tests) in
+    omega (arith, without_return-le x)
+
+pub grown-kept_of : (rest more : List ℕ) → grown (kept_of rest) more ≡ kept_of (rest ++ more)
+grown-kept_of rest more =
+    elim (leb (length rest) 8193) as (λ b. leb (length rest) 8193 ≡ b → grown (cond b (PartOfLine rest) LongLine) more ≡ kept_of (rest ++ more)) [
+      | true ↦ λ h. refl
+      | false ↦ λ h.
+          let longer : leb (length (rest ++ more)) 8193 ≡ false = grind (arith, nat_tests, length-append rest more) in
+          rw longer refl
+    ] refl
+
+pub start : (kept : KeptLine) (rest : List ℕ) → is_start kept ≡ true → kept ≡ kept_of rest → [] ≡ rest
+start (PartOfLine []) rest h is = kept_of-part rest [] (sym is)
+start (PartOfLine (b ∷ bs)) rest h is = cc
+start LongLine rest h is = cc
+
+pub line_of-kept : (kept : KeptLine) (x line : List ℕ) → line_kept kept ≡ Some line → kept ≡ kept_of x → line ≡ x
+line_of-kept (PartOfLine l) x line h is = let same : l ≡ line = cc in sym same ∙ kept_of-part x l (sym is)
+line_of-kept LongLine x line h is = cc
+
+pub long-kept : (kept : KeptLine) (x : List ℕ) → line_kept kept ≡ None → kept ≡ kept_of x → 8192 < length (without_return x)
+long-kept (PartOfLine l) x h is = cc
+long-kept LongLine x h is = kept_of-long x (sym is)
+
+pub start-nothing : (kept : KeptLine) → is_start kept ≡ true → kept ≡ PartOfLine []
+start-nothing (PartOfLine []) h = refl
+start-nothing (PartOfLine (b ∷ bs)) h = cc
+start-nothing LongLine h = cc

@@ -1,0 +1,79 @@
+-- A block that is read into rows, as a load of them.
+use Rattle.std.proofs.Common.{◌≡◌, ℕ, ◌<◌, List, Option, Some, None, IsSome, refl, sym, ap, ◌∙◌, subst, length}
+use Rattle.std.specs.Prelude.{position, slice_get, Result, Err}
+use Rattle.std.specs.List.{All, position_or_len}
+use Rattle.std.proofs.lemmas.Option.{same_Some}
+use Rattle.std.specs.Option.{option_map, option_map_or}
+use Rattle.plain_tables.proofs.ListLemmas.{option_map_some}
+use Rattle.plain_tables.specs.CsvReading.{Record, Reading, BadHeader, records_reading}
+use Rattle.plain_tables.specs.Databases.{Database, is_named}
+use Rattle.plain_tables.specs.Resolving.{block_column, block_columns, load_of, on_numbered, resolved_of, table_reading}
+use Rattle.plain_tables.specs.Tables.{Table}
+use Rattle.plain_tables.specs.declared.command.Command.TheVariants as command
+use Rattle.plain_tables.specs.declared.numbers.TableNumber.{TableNumber}
+use Rattle.plain_tables.specs.declared.refusal.Refusal.{Refusal}
+use Rattle.plain_tables.specs.declared.refusal.Refusal.TheVariants.{NoSuchTable}
+use Rattle.plain_tables.specs.declared.resolved.Resolved.{Resolved}
+use Rattle.plain_tables.specs.declared.schema.Column.{Column}
+use Rattle.mm_csv.specs.BlockReading.{columns_of}
+use Rattle.mm_csv.specs.declared.field.Field.{Field}
+use Rattle.plain_streams.proofs.BlockFits.{table-typed}
+use Rattle.mm_catalog.specs.Consistent.{IsConsistent}
+use Rattle.mm_catalog.specs.Resolve.{table_number}
+use Rattle.mm_catalog.specs.Seen.{database_of}
+use Rattle.mm_catalog.specs.State.{CatalogState}
+use Rattle.mm_catalog.proofs.Lists.{get_within}
+use Rattle.mm_catalog.proofs.ResolveLists.{position_or_len-position, position-within, found_at, none_found}
+use Rattle.mm_session.proofs.BlockLemmas.{each_there}
+
+-- ---- the table of a name
+
+module _ (tables : Database) (name : List ℕ) where
+  pub table_within : (table : TableNumber) → option_map table_number (position (is_named name) tables) ≡ Some table → table.0 < length tables
+  table_within table found =
+      let (n, there, is) = option_map_some table_number (position (is_named name) tables) table found in
+      subst (λ (t : TableNumber). t.0 < length tables) is (position-within (is_named name) tables n there)
+
+  -- a command on a table that is there is one on the table of its number
+  numbered : (means : TableNumber → Table → Result Resolved Refusal) (table : TableNumber) → option_map table_number (position (is_named name) tables) ≡ Some table
+      → (t : Table) × (slice_get tables table.0 ≡ Some t) × (on_numbered name tables means ≡ means table t)
+  numbered means table found =
+      let (n, there, is) = option_map_some table_number (position (is_named name) tables) table found in
+      let (t, at) = get_within tables n (position-within (is_named name) tables n there) in (
+        t,
+        subst (λ (u : TableNumber). slice_get tables u.0 ≡ Some t) is at,
+        ap (λ o. option_map_or (means (record { 0 = position_or_len (is_named name) tables })) o (Err NoSuchTable)) (found_at (is_named name) tables n there ∙ at)
+            ∙ ap (λ k. means (record { 0 = k }) t) (position_or_len-position (is_named name) tables n there)
+            ∙ ap (λ u. means u t) is,
+      )
+
+  module _ (records : List Record) (bytes : ℕ) where
+    -- a load into no table
+    pub load_nowhere : option_map table_number (position (is_named name) tables) ≡ None → resolved_of records tables (command.Load name bytes) ≡ Err NoSuchTable
+    load_nowhere missing =
+        let means : Table → Result Resolved Refusal = λ u. load_of (record { 0 = position_or_len (is_named name) tables }) (table_reading tables u records) in
+        ap (λ o. option_map_or means o (Err NoSuchTable)) (none_found (is_named name) tables (no_number (position (is_named name) tables) missing))
+      where
+        no_number : (o : Option ℕ) → option_map table_number o ≡ None → o ≡ None
+        no_number None e = refl
+        no_number (Some n) e = cc
+
+    -- a load of what a block is read as, by the fields of its table
+    pub load_meant : (table : TableNumber) (fields lent : List Field) (reading : Reading) → option_map table_number (position (is_named name) tables) ≡ Some table
+        → ((t : Table) → slice_get tables table.0 ≡ Some t → block_columns tables t ≡ Some (columns_of fields)) → lent ≡ fields
+        → records_reading (columns_of lent) records ≡ reading → resolved_of records tables (command.Load name bytes) ≡ load_of table reading
+    load_meant table fields lent reading found layout same read =
+        let (t, at, is) = numbered (λ n u. load_of n (table_reading tables u records)) table found in
+        is ∙ ap (λ o. load_of table (option_map_or (λ columns. records_reading columns records) o BadHeader)) (layout t at ∙ ap (λ (fs : List Field). Some (columns_of fs)) (sym same))
+        ∙ ap (load_of table) read
+
+-- ---- the columns of a table in a catalog
+
+-- each column of a table has a type
+pub columns_typed : (c : CatalogState) → IsConsistent c → (n : ℕ) (columns : List Column) → n < length (database_of c)
+    → option_map (λ (t : Table). t.columns) (slice_get (database_of c) n) ≡ Some columns → All (λ column. IsSome (block_column (database_of c) column)) columns
+columns_typed c ok n columns within told =
+    let (t, at) = get_within (database_of c) n within in
+    let (blocks, all) = table-typed c.limits (database_of c) n t ok.sound at in
+    let same : t.columns ≡ columns = same_Some t.columns columns (sym (ap (option_map (λ (u : Table). u.columns)) at) ∙ told) in
+    subst (All (λ column. IsSome (block_column (database_of c) column))) same (each_there (block_column (database_of c)) t.columns blocks all)

@@ -1,0 +1,193 @@
+//! Load and dump: the rows of one table as a block of CSV.
+
+ghost use Rattle.std.specs.Prelude.{◌≡◌, ◌≢◌, ◌++◌, ◌<◌, ℕ, Ok, Err, Some, IsSome, IfOk, IfErr, OnOk, length, map, slice_get, ◌⊎◌};
+ghost use Rattle.std.specs.FinMap as finite;
+ghost use Rattle.std.specs.List.{flat_map};
+ghost use Rattle.std.specs.Io.KnownBytes.{Appends};
+ghost use Rattle.plain_tables.specs.AnswerText.{answer_text, text_line};
+ghost use Rattle.plain_tables.specs.Csv.{row_record};
+ghost use Rattle.plain_tables.specs.Doing.{done, dump_block};
+ghost use Rattle.plain_tables.specs.Effects.{Refused, column_names};
+ghost use Rattle.plain_tables.specs.Resolving.{block_column, block_columns, resolved_of};
+ghost use Rattle.plain_tables.specs.Spelling.{canonical_spelling};
+ghost use Rattle.plain_tables.specs.Tables.{Table};
+ghost use Rattle.plain_tables.specs.declared.command.Command.TheVariants as command;
+ghost use Rattle.plain_tables.specs.declared.refusal.Refusal.TheVariants as refusal;
+ghost use Rattle.plain_tables.specs.declared.resolved.Resolved.TheVariants as resolved;
+ghost use Rattle.mm_csv.specs.BlockReading.{block_records, column_of, columns_of};
+ghost use Rattle.mm_relation.specs.State.{IsCurrent, linked_keys};
+ghost use Rattle.mm_catalog.specs.Picked.{seen_values};
+ghost use Rattle.mm_catalog.specs.Seen.{database_of};
+
+use crate::answer::Answer;
+use mm_catalog::Catalog;
+use mm_catalog::laws::a_catalog_is_consistent;
+use mm_csv::{CsvRefusal, Field, RecordWriter, rows_of};
+use mm_lang::print_load;
+use mm_relation::laws::a_relation_is_kept;
+use mm_relation::{Relation, Relations, TupleRef};
+use no_memory::NoMemory;
+use plain_tables::{
+    ColKind, Column, ColumnNumber, Refusal, Resolved, Sequence, TableNumber, Text, Value,
+};
+use std::alloc::Global;
+
+// ---- load
+
+// A column as a block has it. In a reference column stand the keys that it names.
+fn field(alloc: Global, catalog: &Catalog, column: &Column) -> Result<Field, NoMemory>
+    requires { IsSome (block_column (database_of catalog.now) column.now) }
+    ensures { IfOk result (λ field. block_column (database_of catalog.now) column.now ≡ Some (column_of field)) }
+{
+    let Some(kind) = catalog.type_of(&column.kind) else {
+        unreachable!()
+    };
+    Ok(Field {
+        name: Text::from_str(alloc, column.name.as_str())?,
+        kind,
+        null: matches!(&column.kind, ColKind::RefOrNull(_)),
+    })
+}
+
+// The columns of a table as a block has them.
+fn layout_of(alloc: Global, catalog: &Catalog, table: TableNumber) -> Result<Vec<Field>, NoMemory>
+    requires { table.0 < length (database_of catalog.now) }
+    ensures { IfOk result (λ layout. (t : Table) → slice_get (database_of catalog.now) table.0 ≡ Some t → block_columns (database_of catalog.now) t ≡ Some (columns_of layout.items)) }
+{
+    a_catalog_is_consistent(catalog);
+    let columns = catalog.columns(table);
+    let mut layout = Vec::with_capacity(alloc, columns.len())?;
+    for column in columns {
+        layout.push(field(alloc, catalog, column)?)?;
+    }
+    Ok(layout)
+}
+
+/// What a load of a block into the table of that name means: its rows, by the number of the table.
+pub fn resolve_load(
+    alloc: Global,
+    catalog: &Catalog,
+    name: &Text,
+    block: &[u8],
+) -> Result<Resolved, Refusal>
+    ensures meant { IfOk result (λ r. (bytes : ℕ) → resolved_of (block_records block.now) (database_of catalog.now) (command.Load name.now bytes) ≡ Ok r) }
+    ensures refused { IfErr result (λ e. e ≢ refusal.NoMemory → (bytes : ℕ) → resolved_of (block_records block.now) (database_of catalog.now) (command.Load name.now bytes) ≡ Err e) }
+{
+    let Some(table) = catalog.table_number(name) else {
+        return Err(Refusal::NoSuchTable);
+    };
+    let layout = layout_of(alloc, catalog, table)?;
+    match rows_of(alloc, &layout, block) {
+        Ok(rows) => Ok(Resolved::Load {
+            table,
+            rows: Sequence::from_vec(rows),
+        }),
+        Err(CsvRefusal::Header) => Err(Refusal::BadHeader),
+        Err(CsvRefusal::BadRow(record)) => Err(Refusal::BadRecord { record }),
+        Err(CsvRefusal::NoMemory) => Err(Refusal::NoMemory),
+    }
+}
+
+// ---- dump
+
+// The names of columns.
+fn names_of(alloc: Global, columns: &[Column]) -> Result<Vec<Text>, NoMemory>
+    ensures { IfOk result (λ names. names.items ≡ column_names columns.now) }
+{
+    let mut names = Vec::with_capacity(alloc, columns.len())?;
+    for column in columns {
+        names.push(Text::from_str(alloc, column.name.as_str())?)?;
+    }
+    Ok(names)
+}
+
+// Puts the values of a row behind the others.
+fn push_lent_row<'a>(
+    values: &mut Vec<&'a Value>,
+    catalog: &'a Catalog,
+    relation: &'a Relation,
+    r: TupleRef,
+) -> Result<(), NoMemory>
+    requires held { IsSome (finite.get relation.now.rows r) }
+    requires current { IsCurrent (linked_keys relation.now.targets catalog.now.relations) relation.now }
+    ensures { OnOk result (map (λ v. v.now) values.new.items ≡ map (λ v. v.now) values.old.items ++ seen_values catalog.now relation.now r) }
+{
+    a_relation_is_kept(relation);
+    let row = relation.row(r);
+    for column in 0..relation.schema().columns.len() {
+        values.push(row.value(ColumnNumber(column), catalog))?;
+    }
+    Ok(())
+}
+
+// Each row as a record, in the order of their keys.
+fn push_rows(
+    alloc: Global,
+    records: &mut RecordWriter<Answer>,
+    catalog: &Catalog,
+    relation: &Relation,
+) -> Result<(), NoMemory>
+    requires some { 0 < length relation.now.schema.columns }
+    requires current { IsCurrent (linked_keys relation.now.targets catalog.now.relations) relation.now }
+    ensures { OnOk result (Appends records.old.bytes records.new.bytes (flat_map row_record (map (seen_values catalog.now relation.now) relation.now.by_key))) }
+{
+    a_relation_is_kept(relation);
+    let mut values = Vec::with_capacity(alloc, relation.schema().columns.len())?;
+    for r in relation.walk() {
+        values.clear();
+        push_lent_row(&mut values, catalog, relation, r)?;
+        records.push_values(&values)?;
+    }
+    Ok(())
+}
+
+// The block of a table: the names of its columns, and its rows.
+fn block_of(alloc: Global, catalog: &Catalog, table: TableNumber) -> Result<Answer, NoMemory>
+    requires { table.0 < length (database_of catalog.now) }
+    ensures { IfOk result (λ block. (t : Table) → slice_get (database_of catalog.now) table.0 ≡ Some t → block ≡ dump_block t) }
+{
+    a_catalog_is_consistent(catalog);
+    let relation = catalog.at(table);
+    let names = names_of(alloc, relation.schema().columns.as_slice())?;
+    let mut records = RecordWriter::new(Answer::new(alloc)?);
+    records.push_names(&names)?;
+    push_rows(alloc, &mut records, catalog, relation)?;
+    records.finish()
+}
+
+// Puts the line that loads a block of so many bytes into the table behind the answer.
+fn push_load_line(
+    alloc: Global,
+    name: &str,
+    bytes: usize,
+    answer: &mut Answer,
+) -> Result<(), NoMemory>
+    ensures { OnOk result (answer.new ≡ answer.old ++ text_line (canonical_spelling (command.Load name.now bytes))) }
+{
+    let mut line = String::new(alloc);
+    print_load(&mut line, name, bytes as u64)?;
+    line.push_str("\n")?;
+    answer.push(line.as_bytes())
+}
+
+/// Adds the line that loads a table's rows to the answer, and the block that it loads. Where the block passes its limit, the
+/// answer is 64 in their place.
+pub fn dump(
+    alloc: Global,
+    catalog: &Catalog,
+    table: TableNumber,
+    answer: &mut Answer,
+) -> Result<(), Refusal>
+    requires { table.0 < length (database_of catalog.now) }
+    ensures done { OnOk result (answer.new ≡ answer.old ++ answer_text (done catalog.now.limits (database_of catalog.now) (resolved.Dump table)).outcome) }
+    ensures refused { IfErr result (λ e. (e ≡ refusal.NoMemory) ⊎ ((done catalog.now.limits (database_of catalog.now) (resolved.Dump table)).outcome ≡ Refused e)) }
+{
+    let block = block_of(alloc, catalog, table)?;
+    let bytes = block.as_slice().len();
+    if bytes > catalog.limits().block as usize {
+        return Err(Refusal::DumpTooLong);
+    }
+    push_load_line(alloc, catalog.table_name(table), bytes, answer)?;
+    answer.push(block.as_slice())?;
+    Ok(())
+}

@@ -1,0 +1,220 @@
+//! Requests that come in pieces, each answered once it is whole.
+
+use crate::answer::Answer;
+use crate::block::{Block, Unkept};
+use crate::kept::Kept;
+use crate::lines::{asked_length, split_line};
+use crate::respond::{LINE_TOO_LONG, respond};
+use mm_catalog::Catalog;
+use plain_tables::NoMemory;
+use plan_chooser::Policy;
+use std::alloc::Global;
+
+const BLOCK_TOO_LONG: &[u8] = b"error 12 block too long\n";
+
+const BLOCK_CUT_SHORT: &[u8] = b"error 13 block cut short\n";
+
+const NO_MEMORY: &[u8] = b"error 90 no memory\n";
+
+/// Takes the bytes of a stream until a request is whole, and makes its answer. It writes nothing.
+#[derive(Drop)]
+pub struct Responder {
+    alloc: Global,
+    policy: Policy,
+    pub catalog: Catalog,
+    pub kept: Kept,
+    pub answer: Answer,
+}
+
+impl Responder {
+    ghost use Rattle.std.specs.Prelude.{◌≡◌, ◌≢◌, ◌<◌, ◌≤◌, ◌+◌, ◌++◌, ◌∷◌, [], ℕ, List, Some, None, IfOk, IfSome, MatchOption, true, false, length, is_some, if◌then◌else◌, codes};
+    ghost use Rattle.std.specs.Option.{option_copied};
+    ghost use Rattle.plain_streams.specs.Requests.{Asks};
+    ghost use Rattle.plain_streams.specs.Division.{IsUnbroken};
+    ghost use Rattle.plain_streams.specs.Runs.{Answers, HasBlock};
+    ghost use Rattle.mm_catalog.specs.Seen.{database_of};
+    ghost use Rattle.mm_session.specs.Buffers.{kept_of, line_kept, is_start};
+    ghost use Rattle.mm_session.specs.Kept.{KeepsBlock, nothing};
+    ghost use Rattle.mm_session.specs.Responding.{IsRest, IsRestWith, IsLoadLine, IsLineWith, Responds, Takes, Ends, waits};
+
+    /// A responder over the tables of a catalog, to which nothing has come.
+    pub fn new(alloc: Global, policy: Policy, catalog: Catalog) -> Result<Responder, NoMemory>
+        ensures catalog { IfOk result (λ r. r.catalog ≡ catalog) }
+        ensures kept { IfOk result (λ r. r.kept ≡ nothing) }
+    {
+        Ok(Responder {
+            alloc,
+            policy,
+            catalog,
+            kept: Kept::new(alloc)?,
+            answer: Answer::new(alloc)?,
+        })
+    }
+
+    // How long a block the line that is kept asks for, if it asks for one.
+    fn asked(&self) -> Option<u64>
+        ensures { (line : List ℕ) → self.now.kept.line ≡ kept_of line → MatchOption result ((n : ℕ) → ¬ (Asks line n)) (λ n. Asks line n) }
+    {
+        asked_length(self.kept.line.line()?)
+    }
+
+    // Answers the request of the line that is kept and this block. Nothing of the line is kept then.
+    fn respond_kept(&mut self, block: &[u8])
+        ensures answers { (line : List ℕ) → self.old.kept.line ≡ kept_of line → HasBlock self.old.catalog.limits (record { line = line; block = block.now })
+            → Responds self.old self.new (record { line = line; block = block.now }) }
+        ensures kept { self.new.kept ≡ record self.old.kept { line = kept_of [] } }
+        ensures limits { self.new.catalog.limits ≡ self.old.catalog.limits }
+    {
+        match self.kept.line.line() {
+            Some(line) => respond(
+                self.alloc,
+                &mut self.catalog,
+                self.policy,
+                line,
+                block,
+                &mut self.answer,
+            ),
+            None => self.answer.set(LINE_TOO_LONG),
+        }
+        self.kept.line.clear();
+    }
+
+    // Answers the request of the line that is kept and a block that has come whole.
+    fn end_block(&mut self, block: Block)
+        requires { self.old.kept.block ≡ None }
+        ensures answers { (line bytes : List ℕ) → self.old.kept.line ≡ kept_of line → Asks line (length bytes)
+            → KeepsBlock self.old.catalog.limits.block (length bytes) bytes block
+            → Responds self.old self.new (record { line = line; block = bytes }) }
+        ensures kept { self.new.kept ≡ nothing }
+        ensures limits { self.new.catalog.limits ≡ self.old.catalog.limits }
+    {
+        match block {
+            Block::Storing(buffer) => self.respond_kept(buffer.as_slice()),
+            Block::Counting { why, .. } => {
+                self.answer.set(match why {
+                    Unkept::TooLong => BLOCK_TOO_LONG,
+                    Unkept::NoMemory => NO_MEMORY,
+                });
+                self.kept.line.clear();
+            }
+        }
+    }
+
+    // Takes the next bytes of a block.
+    fn take_block<'a>(&mut self, mut block: Block, bytes: &'a [u8]) -> Option<&'a [u8]>
+        requires { self.old.kept.block ≡ None }
+        ensures takes { Takes (IsRestWith self.old block) self.old self.new bytes.now (option_copied result) }
+        ensures limits { self.new.catalog.limits ≡ self.old.catalog.limits }
+    {
+        let to_come = block.to_come();
+        if (bytes.len() as u64) < to_come {
+            block.extend(bytes);
+            self.kept.block = Some(block);
+            return None;
+        }
+        let (last, others) = bytes.split_at(to_come as usize);
+        block.extend(last);
+        self.end_block(block);
+        Some(others)
+    }
+
+    // Takes the bytes behind a line that asks for a block of this length. A block that is there whole is not copied.
+    fn begin_block<'a>(&mut self, length: u64, bytes: &'a [u8]) -> Option<&'a [u8]>
+        requires { self.old.kept.block ≡ None }
+        ensures takes { Takes (IsLoadLine self.old length) self.old self.new bytes.now (option_copied result) }
+        ensures limits { self.new.catalog.limits ≡ self.old.catalog.limits }
+    {
+        let limit = u64::from(self.catalog.limits().block);
+        if length <= limit.min(bytes.len() as u64) {
+            let (block, others) = bytes.split_at(length as usize);
+            self.respond_kept(block);
+            return Some(others);
+        }
+        let block = Block::new(self.alloc, length, limit);
+        self.take_block(block, bytes)
+    }
+
+    // Takes the end of a line, and the bytes behind its line feed.
+    fn end_line<'a>(&mut self, tail: &[u8], bytes: &'a [u8]) -> Option<&'a [u8]>
+        requires block { self.old.kept.block ≡ None }
+        requires unbroken { IsUnbroken tail.now }
+        ensures takes { Takes (IsLineWith self.old tail.now) self.old self.new bytes.now (option_copied result) }
+        ensures limits { self.new.catalog.limits ≡ self.old.catalog.limits }
+    {
+        if self.kept.line.is_empty() && asked_length(tail).is_none() {
+            respond(
+                self.alloc,
+                &mut self.catalog,
+                self.policy,
+                tail,
+                &[],
+                &mut self.answer,
+            );
+            return Some(bytes);
+        }
+        self.kept.line.extend(tail);
+        match self.asked() {
+            Some(length) => self.begin_block(length, bytes),
+            None => {
+                self.respond_kept(&[]);
+                Some(bytes)
+            }
+        }
+    }
+
+    /// Takes the bytes up to the end of a request, makes its answer, and gives the others. Where no request ends in the bytes, it
+    /// takes them all.
+    pub fn take<'a>(&mut self, bytes: &'a [u8]) -> Option<&'a [u8]>
+        ensures takes { Takes (IsRest self.old) self.old self.new bytes.now (option_copied result) }
+        ensures shorter { IfSome result (λ others. length others.now < length bytes.now + waits self.old.kept) }
+        ensures limits { self.new.catalog.limits ≡ self.old.catalog.limits }
+    {
+        if let Some(block) = self.kept.block.take() {
+            return self.take_block(block, bytes);
+        }
+        match split_line(bytes) {
+            Some((line, others)) => self.end_line(line, others),
+            None => {
+                self.kept.line.extend(bytes);
+                None
+            }
+        }
+    }
+
+    // Refuses a block that passes the limit, or that the stream ends in.
+    fn refuse_block(&mut self, passes: bool)
+        ensures { self.new ≡ record self.old { answer = if passes then codes "error 12 block too long\n" else codes "error 13 block cut short\n" } }
+    {
+        self.answer.set(if passes {
+            BLOCK_TOO_LONG
+        } else {
+            BLOCK_CUT_SHORT
+        });
+    }
+
+    // Answers a line that the stream ends in, behind which no line feed and no block is.
+    fn finish_line(&mut self)
+        ensures { (line : List ℕ) → self.old.kept.line ≡ kept_of line → Responds self.old self.new (record { line = line; block = [] }) }
+    {
+        let length = self.asked().unwrap_or(0);
+        if length == 0 {
+            return self.respond_kept(&[]);
+        }
+        let limit = u64::from(self.catalog.limits().block);
+        let passes = length > limit;
+        self.refuse_block(passes);
+    }
+
+    /// Makes the answer to the last request, where the stream has ended in one.
+    pub fn finish(&mut self)
+        ensures { Ends self.old self.new }
+    {
+        match self.kept.block.take() {
+            Some(block) => {
+                let passes = block.is_too_long();
+                self.refuse_block(passes);
+            }
+            None => self.finish_line(),
+        }
+    }
+}
