@@ -3,9 +3,13 @@
 #![tactic(auto)]
 
 #[cfg(test)]
+mod blocks;
+#[cfg(test)]
 mod commands;
 #[cfg(test)]
 mod feeding;
+#[cfg(test)]
+mod joins;
 #[cfg(test)]
 mod over;
 #[cfg(test)]

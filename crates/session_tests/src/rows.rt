@@ -269,6 +269,9 @@ update emp set id = 5\n\
 update emp set name = 'x', name = 'y'\n\
 update emp set dept = 99 where id = 77\n\
 update emp set name = 'Z' where id = 77\n\
+select name from emp join dept on emp.dept = dept.id\n\
+select * from emp join emp on emp.id = emp.id\n\
+select * from emp join dept on emp.name = dept.id\n\
 select emp.id, id from emp\n\
 select * from emp where id = 1 and id = 1 and id = 1 and id = 1 and id = 1 and id = 1 and id = 1 and id = 1 and id = 1\n\
 select * from emp where id < > 3\n\
@@ -300,6 +303,9 @@ error 36 key cannot be set\n\
 error 33 column named twice\n\
 error 42 no referenced row\n\
 ok 0\n\
+error 32 no such column\n\
+error 34 table named twice\n\
+error 35 wrong type\n\
 error 33 column named twice\n\
 error 37 too many\n\
 error 20 not a command\n\

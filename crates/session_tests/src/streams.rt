@@ -1,6 +1,9 @@
 //! Worked streams, writers and readers that fail, and want of memory.
 
-use crate::feeding::{answers_in_pieces, answers_under_limits, check_under_refusal};
+use crate::feeding::{
+    answers_in_pieces, answers_under_limits, check_cuts, check_requests_under_refusal,
+    check_under_refusal,
+};
 use crate::pages::Page;
 use crate::rows::WORKED_ROWS;
 use mm_session::{RunFault, Session, SessionFault, run};
@@ -33,19 +36,16 @@ impl Read for OneRead {
     }
 }
 
-// Checks the answers to a stream that comes in pieces of 1, of 7 and of 10,000 bytes.
-fn check_cuts(rt: &impl Abort, alloc: Global, stream: &[u8], answers: &str) -> Result<(), Fail> {
-    for size in [1, 7, 10_000] {
-        let session = Session::new(alloc, Policy::Auto)?;
-        let got = answers_in_pieces(alloc, session, stream, size)?;
-        assert_eq!(rt; got.as_slice(), answers.as_bytes(), "in pieces of {size}");
-    }
-    Ok(())
-}
-
 #[test]
 fn a_stream_is_answered_however_it_is_cut(rt: HostRuntime) -> Result<(), Fail> {
-    check_cuts(&rt, rt.alloc(), FIRST_PATH.as_bytes(), FIRST_ANSWERS)
+    check_cuts(
+        &rt,
+        rt.alloc(),
+        Limits::STANDARD,
+        Policy::Auto,
+        FIRST_PATH.as_bytes(),
+        FIRST_ANSWERS,
+    )
 }
 
 #[test]
@@ -54,7 +54,14 @@ fn worked_rows_are_answered_however_they_are_cut(rt: HostRuntime) -> Result<(), 
         let Some((stream, answers)) = row.split_once("----\n") else {
             return Err(Fail::from("a row with no answers"));
         };
-        check_cuts(&rt, rt.alloc(), stream.as_bytes(), answers)?;
+        check_cuts(
+            &rt,
+            rt.alloc(),
+            Limits::STANDARD,
+            Policy::Auto,
+            stream.as_bytes(),
+            answers,
+        )?;
     }
     Ok(())
 }
@@ -68,14 +75,78 @@ fn worked_rows_under_refusal(rt: HostRuntime) {
     }
 }
 
+// A line of as many bytes as a line may have, and one of one more.
+fn longest_lines(alloc: Global) -> Result<[Vec<u8>; 2], NoMemory> {
+    let mut longest = "tables".as_bytes().to_vec(alloc)?;
+    longest.resize(8192, b' ')?;
+    let mut longer = longest.clone()?;
+    longest.push(b'\n')?;
+    longer.extend_from_slice(b" \n")?;
+    Ok([longest, longer])
+}
+
+const ODD_LINES: [&[u8]; 5] = [b"#\xff\n", b"\n", b" \t\n", b"  # x\n", b"tables\r\n"];
+
+#[test]
+fn the_longest_lines_are_answered_however_they_are_cut(rt: HostRuntime) -> Result<(), Fail> {
+    let [longest, longer] = longest_lines(rt.alloc())?;
+    check_cuts(
+        &rt,
+        rt.alloc(),
+        Limits::STANDARD,
+        Policy::Auto,
+        &longest,
+        "ok 0\n",
+    )?;
+    check_cuts(
+        &rt,
+        rt.alloc(),
+        Limits::STANDARD,
+        Policy::Auto,
+        &longer,
+        "error 10 line too long\n",
+    )
+}
+
+#[test]
+fn the_longest_lines_under_refusal(rt: HostRuntime) {
+    if let Ok([longest, longer]) = longest_lines(rt.alloc()) {
+        let lines = [longest.as_slice(), longer.as_slice(), b"tables\n"];
+        check_requests_under_refusal(
+            &rt,
+            rt.alloc(),
+            Limits::STANDARD,
+            &lines,
+            "ok 0\nerror 10 line too long\nok 0\n",
+        );
+    }
+}
+
 #[test]
 fn odd_lines_are_answered_however_they_are_cut(rt: HostRuntime) -> Result<(), Fail> {
-    let mut longest = "tables".as_bytes().to_vec(rt.alloc())?;
-    longest.resize(8192, b' ')?;
-    longest.push(b'\n')?;
-    check_cuts(&rt, rt.alloc(), &longest, "ok 0\n")?;
-    let silent = b"#\xff\n\n \t\n  # x\n".as_slice();
-    check_cuts(&rt, rt.alloc(), silent, "error 11 not UTF-8\n")
+    let mut stream = Vec::new(rt.alloc());
+    for line in ODD_LINES {
+        stream.extend_from_slice(line)?;
+    }
+    check_cuts(
+        &rt,
+        rt.alloc(),
+        Limits::STANDARD,
+        Policy::Auto,
+        &stream,
+        "error 11 not UTF-8\nok 0\n",
+    )
+}
+
+#[test]
+fn odd_lines_under_refusal(rt: HostRuntime) {
+    check_requests_under_refusal(
+        &rt,
+        rt.alloc(),
+        Limits::STANDARD,
+        &ODD_LINES,
+        "error 11 not UTF-8\nok 0\n",
+    );
 }
 
 #[test]
