@@ -4,16 +4,19 @@ import array
 import fcntl
 import os
 import pathlib
+import select
 import subprocess
 import tempfile
 import termios
 import time
 
+import sizes
+
 TESTS = pathlib.Path(__file__).resolve().parent
 ROOT = TESTS.parent
 ROWS = TESTS / "rows"
 PROGRAM = ROOT / "crates" / "mmdb" / "out" / "mmdb"
-SECONDS = 60
+SECONDS = sizes.size(60, 3_600)
 POLICIES = ("auto", "scan", "hash", "tree", "merge")
 
 
@@ -58,6 +61,17 @@ def wait_until_read(program):
         if held[0] == 0 or program.poll() is not None:
             return
     raise TimeoutError("the program stopped reading")
+
+
+def read_bytes(pipe, most):
+    """What a pipe gives until there are so many bytes, or it ends, or nothing comes for long."""
+    got = b""
+    while len(got) < most and select.select([pipe], [], [], SECONDS)[0]:
+        more = pipe.read(most - len(got))
+        if not more:
+            break
+        got += more
+    return got
 
 
 def pieces_of(stream, size):

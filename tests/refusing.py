@@ -1,5 +1,6 @@
 """Runs of a program in which one call for memory finds none."""
 
+import bisect
 import os
 import subprocess
 
@@ -36,6 +37,10 @@ class Refuser:
             finally:
                 os.close(tells)
             return Ended(ran.returncode, ran.stdout, ran.stderr), heard.read() != b""
+
+    def calls(self, command, stream):
+        """How many calls for memory a command makes that answers a stream."""
+        return bisect.bisect_left(range(1, MOST_CALLS), True, key=lambda nth: not self.run(command, stream, nth)[1])
 
     def each_run(self, command, stream=b""):
         """Refuses each call for memory in turn, until a run makes no further one, and gives how each run ended."""

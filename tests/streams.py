@@ -1,29 +1,49 @@
 """Streams of command lines and the answers to them, taken apart."""
 
+import re
+
 import model
+
+# A record of CSV, and an answer without the block that a dump has. What a listing declares stands before its `ok`.
+RECORD = re.compile(rb'(?:[^"\n]|"[^"]*")*\n')
+LINES = re.compile(rb"(?:(?:table|index) .*\n)*.*\n")
 
 
 def units_of(stream):
-    """The lines of a stream that have an answer, each with its line feed."""
-    return [line + b"\n" for line in model.lines_of(stream) if not model.is_silent(model.without_return(line))]
+    """The units of a stream that have an answer, each with its line feed and its block."""
+    return [line + b"\n" + block for line, block in model.units_of(stream) if not model.is_silent(model.without_return(line))]
 
 
-def lines_of_the_first(lines):
-    """How many lines the first of these answers has. One that begins with `rows N` has N + 1 further lines, and a listing
-    ends with the first line that declares nothing."""
+def whole_units_of(stream):
+    """The front of a stream where its last whole unit ends: each has its line feed, and all bytes of its block."""
+    end = 0
+    for line, block in model.units_of(stream):
+        behind = end + len(line) + 1 + model.block_length(line)
+        if behind > len(stream):
+            break
+        end = behind
+    return stream[:end]
+
+
+def end_of_the_first(out, at):
+    """Where the answer ends that begins there. One that begins with `rows N` has N + 1 records, and `load T N` has N bytes."""
+    lines = LINES.match(out, at)
+    if lines is None:
+        raise AssertionError("the last answer does not end with a line feed")
+    end = lines.end()
     if lines[0].startswith(b"rows "):
-        return int(lines[0][5:]) + 2
-    return next(count for count, line in enumerate(lines, 1) if not line.startswith((b"table ", b"index ")))
+        for _ in range(int(lines[0][5:]) + 1):
+            end = RECORD.match(out, end).end()
+    return end + model.block_length(lines[0][:-1])
 
 
 def answers_of(out):
     """The answers that the program wrote, one by one."""
-    lines = out.split(b"\n")
-    if lines.pop() != b"":
-        raise AssertionError("the last answer does not end with a line feed")
-    answers = []
-    while lines:
-        count = lines_of_the_first(lines)
-        answers.append(b"".join(line + b"\n" for line in lines[:count]))
-        del lines[:count]
+    answers, at = [], 0
+    while at < len(out):
+        end = end_of_the_first(out, at)
+        answers.append(out[at:end])
+        at = end
+    if at > len(out):
+        raise AssertionError("the last answer is cut short")
     return answers

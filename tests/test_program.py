@@ -2,7 +2,6 @@
 
 import os
 import resource
-import select
 import subprocess
 import unittest
 
@@ -94,28 +93,28 @@ class open_folder:
 
 
 class Flushes(unittest.TestCase):
-    """Answers come as soon as their lines have ended."""
+    """Answers come as soon as their lines have ended, or the blocks behind them."""
 
-    def test_each_answer_comes_before_the_next_line(self):
-        stream = [(b"table t (id int)\n", b"ok\n"), (b"insert t (1)\n", b"ok 1\n"), (b"select * from t\n", b"rows 1\nt.id\n1\n")]
+    def check(self, pieces, last, answer):
+        """Each piece is answered before the next is sent, and the last once the stream has ended."""
         how = {"stdin": subprocess.PIPE, "stdout": subprocess.PIPE, "bufsize": 0}
         with subprocess.Popen([harness.PROGRAM], **how) as program:
-            for line, answer in stream:
-                program.stdin.write(line)
-                self.assertEqual(self.read(program, len(answer)), answer)
-            program.stdin.write(b"select * from t")
+            for sent, expected in pieces:
+                program.stdin.write(sent)
+                self.assertEqual(harness.read_bytes(program.stdout, len(expected)), expected)
+            program.stdin.write(last)
             program.stdin.close()
-            self.assertEqual(self.read(program, 100), stream[-1][1])
+            self.assertEqual(harness.read_bytes(program.stdout, 100), answer)
             self.assertEqual(program.wait(timeout=harness.SECONDS), 0)
 
-    def read(self, program, most):
-        got = b""
-        while len(got) < most and select.select([program.stdout], [], [], harness.SECONDS)[0]:
-            more = program.stdout.read(most - len(got))
-            if not more:
-                break
-            got += more
-        return got
+    def test_each_answer_comes_before_the_next_line(self):
+        lines = [(b"table t (id int)\n", b"ok\n"), (b"insert t (1)\n", b"ok 1\n"), (b"select * from t\n", b"rows 1\nt.id\n1\n")]
+        self.check(lines, b"select * from t", lines[-1][1])
+
+    def test_a_load_is_answered_at_the_last_byte_of_its_block(self):
+        loads = [(b"load t 0\n", b"error 61 bad header\n"), (b"load t 4\nid\n", b""), (b"1", b"ok 1\n")]
+        pieces = [(b"table t (id int)\n", b"ok\n"), *loads, (b"dump t\n", b"load t 5\nid\n1\n")]
+        self.check(pieces, b"load t 6\nid\n2\n", b"error 13 block cut short\n")
 
 
 class Memory(unittest.TestCase):

@@ -1,0 +1,123 @@
+"""Ends of the program that fail: files that are full, readers that leave, and reads that find a fault."""
+
+import os
+import resource
+import subprocess
+import tempfile
+import unittest
+
+import harness
+import model
+import sizes
+import streams
+
+LINES = (harness.ROWS / "departments-and-employees.in").read_bytes() + b"tables\n"
+BLOCKS = (harness.ROWS / "load-of-references.in").read_bytes()
+APART = sizes.size(41, 1)
+READ_FAULT = (1, b"mmdb: read fault\n")
+WRITE_FAULT = (3, b"mmdb: write fault\n")
+
+
+def have_small_files(most):
+    return lambda: resource.setrlimit(resource.RLIMIT_FSIZE, (most, most))
+
+
+def close_input():
+    os.close(0)
+
+
+class FullFiles(unittest.TestCase):
+    """A file that takes some bytes and no further one has these bytes of the answers, and the status tells of it."""
+
+    def check(self, stream):
+        answers = model.answers_to(stream)
+        for most in range(0, len(answers), APART):
+            with self.subTest(most=most):
+                self.assertEqual(self.run_to_a_file(stream, most), (*WRITE_FAULT, answers[:most]))
+        self.assertEqual(self.run_to_a_file(stream, len(answers)), (0, b"", answers))
+
+    def run_to_a_file(self, stream, most):
+        """The status, what is on standard error, and what a file has that takes so many bytes. The signal of it is ignored."""
+        with tempfile.TemporaryFile() as out:
+            how = {"stdout": out, "stderr": subprocess.PIPE, "preexec_fn": have_small_files(most), "restore_signals": False}
+            ran = subprocess.run([harness.PROGRAM], input=stream, timeout=harness.SECONDS, check=False, **how)
+            out.seek(0)
+            return ran.returncode, ran.stderr, out.read()
+
+    def test_full_files_of_lines(self):
+        self.check(LINES)
+
+    def test_full_files_of_dumps(self):
+        self.check(BLOCKS)
+
+
+class ReadersThatLeave(unittest.TestCase):
+    """Who reads some answers and leaves has got those of the lines so far. The next answer is a write fault."""
+
+    def check(self, stream):
+        units = streams.units_of(stream)
+        for count in range(1, len(units), sizes.size(5, 1)):
+            read, unread = b"".join(units[:count]), b"".join(units[count:])
+            with self.subTest(units=count):
+                self.assertEqual(self.run_and_leave(read, unread), (*WRITE_FAULT, model.answers_to(read)))
+
+    def run_and_leave(self, read, unread):
+        how = {"stdin": subprocess.PIPE, "stdout": subprocess.PIPE, "stderr": subprocess.PIPE, "bufsize": 0}
+        length = len(model.answers_to(read))
+        with subprocess.Popen([harness.PROGRAM], **how) as program:
+            program.stdin.write(read)
+            got = harness.read_bytes(program.stdout, length)
+            program.stdout.close()
+            program.stdin.write(unread)
+            program.stdin.close()
+            return program.wait(timeout=harness.SECONDS), program.stderr.read(), got
+
+    def test_a_reader_of_lines_leaves(self):
+        self.check(LINES)
+
+    def test_a_reader_of_dumps_leaves(self):
+        self.check(BLOCKS)
+
+
+class FaultsOfReads(unittest.TestCase):
+    """Where a read fails, the units that have ended are answered, and the one that hasn't has no answer. Here a pipe that
+    doesn't wait is empty, and its other end is open."""
+
+    def check(self, stream):
+        for length in range(0, len(stream) + 1, APART):
+            with self.subTest(length=length):
+                ended = self.run_until_empty(stream[:length])
+                self.assertEqual((ended.status, ended.err), READ_FAULT)
+                self.assertEqual(ended.out, model.answers_to(streams.whole_units_of(stream[:length])))
+
+    def run_until_empty(self, stream):
+        reads, writes = os.pipe()
+        try:
+            os.set_blocking(reads, False)
+            os.write(writes, stream)
+            ran = subprocess.run([harness.PROGRAM], stdin=reads, capture_output=True, timeout=harness.SECONDS, check=False)
+        finally:
+            os.close(reads)
+            os.close(writes)
+        return harness.Ended(ran.returncode, ran.stdout, ran.stderr)
+
+    def test_a_read_fails_behind_lines(self):
+        self.check(LINES)
+
+    def test_a_read_fails_behind_blocks(self):
+        self.check(BLOCKS)
+
+    def test_an_input_that_is_closed(self):
+        self.check_unread(preexec_fn=close_input)
+
+    def test_an_input_that_is_open_for_writing_alone(self):
+        with tempfile.TemporaryFile() as file:
+            writes = os.open(f"/proc/self/fd/{file.fileno()}", os.O_WRONLY)
+            try:
+                self.check_unread(stdin=writes)
+            finally:
+                os.close(writes)
+
+    def check_unread(self, **how):
+        ran = subprocess.run([harness.PROGRAM], capture_output=True, timeout=harness.SECONDS, check=False, **how)
+        self.assertEqual((ran.returncode, ran.stderr, ran.stdout), (*READ_FAULT, b""))

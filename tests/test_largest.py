@@ -1,0 +1,168 @@
+"""The largest lines, tables, blocks and dumps that there can be, and one more of each."""
+
+import unittest
+
+import harness
+import model
+import sizes
+
+LIMITS = model.Limits()
+TABLES = 64
+COLUMNS = 16
+LONGEST = "x" * model.LONGEST_TEXT
+NAME = "n" * 30
+TOO_LONG = b"error 12 block too long\n"
+
+
+class Lines(unittest.TestCase):
+    """Lines of 8,192 bytes are read to their end."""
+
+    def check(self, *lines, front=b""):
+        for end in (b"\n", b"\r\n"):
+            stream = front + b"".join(line + end for line in lines)
+            self.assertEqual(harness.run_whole(stream).out, model.answers_to(stream))
+
+    def filled(self, front, back, fill=b" "):
+        """A line of 8,192 bytes, filled between its front and its back."""
+        return front + (fill * model.LONGEST_LINE)[: model.LONGEST_LINE - len(front) - len(back)] + back
+
+    def test_each_command_fills_a_line(self):
+        fronts = [b"table t (id int, s text", b"index t s tree", b"insert t (1, 'a'", b"update t set s = 'b'", b"select * from t"]
+        backs = [b")", b"", b")", b" where id = 1", b" where s = 'b'"]
+        lines = [self.filled(front, back) for front, back in zip(fronts, backs)]
+        self.check(*lines, *(line + b" " for line in lines), self.filled(b"drop index t s", b" tree"), self.filled(b"tables", b""))
+
+    def test_a_load_and_a_dump_fill_a_line(self):
+        block = b"id\n7\n" + self.filled(b"0", b"8", b"0") + b"\n9"
+        loads = [self.filled(b"load t ", b"%d" % len(block), b"0"), self.filled(b"load", b"t 9"), self.filled(b"# load t 9", b"")]
+        front = b"table t (id int)\n" + loads[0] + b"\n" + block + loads[1] + b" \n" + loads[2] + b"\n"
+        self.check(self.filled(b"dump", b"t"), self.filled(b"dump", b"t") + b" ", front=front)
+
+    def test_the_longest_numbers_and_texts(self):
+        front = b"table t (id int, s text)\n"
+        zeros = [self.filled(b"insert t (", b"7, '')", b"0"), self.filled(b"insert t (-", b"7, '')", b"0")]
+        past = [self.filled(b"insert t (", b", '')", b"7"), self.filled(b"insert t (1, '", b"')", b"x")]
+        quotes = [self.filled(b"select * from t where s %s '" % sign, b"'", b"''") for sign in (b">", b"<=")]
+        self.check(*zeros, *past, *quotes, self.filled(b"select * from t where s = '", b"'", b"x"), front=front)
+
+    def test_the_longest_select(self):
+        columns = [f"{NAME}{number:02}" for number in range(COLUMNS)]
+        front = f"table t ({', '.join(name + ' text' for name in columns)})\n".encode()
+        shown = ", ".join("t." + name for name in columns)
+        tests = [f"{name} >= '{'y' * 700}'" for name in columns[:8]]
+        self.check(f"select {shown} from t where {' and '.join(tests)}".encode(), front=front)
+        joined = f"select {shown}, u.id from t join u on u.id = t.{columns[0]}"
+        self.check(b"table u (id text)", joined.encode(), front=front)
+        self.check(f"select * from t where {' and '.join([*tests, columns[0]])} = ''".encode(), front=front)
+
+    def test_the_longest_texts_that_are_stored(self):
+        wide = "é" * (model.LONGEST_TEXT // 2)
+        front = b"table t (id int, a text, b text, c text, d text, e text, f text, g text)\n"
+        most = ", ".join(f"'{LONGEST}'" for _ in range(6))
+        lines = [f"insert t (1, {most}, '{wide}')", f"insert t (2, {most}, '{wide}x')", f"insert t (2, {most}, '{LONGEST}')"]
+        quotes = [b"update t set a = '%s'" % (b"''" * count) for count in (model.LONGEST_TEXT, model.LONGEST_TEXT + 1)]
+        self.check(*(line.encode() for line in lines), *quotes, b"select * from t", front=front)
+
+
+class Tables(unittest.TestCase):
+    """64 tables of 16 columns, each with every index, and rows that refer to those of the tables before."""
+
+    def setUp(self):
+        columns = [f"{NAME}{number:02}" for number in range(1, COLUMNS)]
+        self.stream = b""
+        for table in range(TABLES):
+            kinds = [f"ref t{other} null" for other in range(max(0, table - 7), table)]
+            kinds += ["int", "text"] * COLUMNS
+            self.add(f"table t{table} (id int, {', '.join(map(' '.join, zip(columns, kinds)))})")
+            for column in columns:
+                self.add(f"index t{table} {column} tree", f"index t{table} {column} hash")
+            values = ["null" if kind.startswith("ref") else "1" if kind == "int" else "'x'" for kind in kinds[: len(columns)]]
+            self.add(*(f"insert t{table} ({key}, {', '.join(values)})" for key in range(2)))
+            self.add(*(f"update t{table} set {column} = 1 where id = 0" for column, kind in zip(columns, kinds) if kind[0] == "r"))
+
+    def add(self, *lines):
+        self.stream += "".join(f"{line}\n" for line in lines).encode()
+
+    def check(self):
+        ended = harness.run_whole(self.stream)
+        self.assertEqual((ended.status, ended.err), (0, b""))
+        self.assertEqual(ended.out, model.answers_to(self.stream))
+
+    def test_most_tables_and_one_more(self):
+        self.add("table more (id int)", "drop table t0", f"drop table t{TABLES - 1}", "table more (id int)", "table yet (id int)")
+        self.add("tables", *(f"select * from t{table}" for table in range(TABLES)))
+        self.check()
+
+    def test_most_tables_lose_their_rows_and_go(self):
+        self.add(*(f"delete t{table} where id = 1" for table in range(TABLES)))
+        self.add(*(f"delete t{table}" for table in reversed(range(TABLES))))
+        self.add(*(f"drop table t{table}" for table in reversed(range(TABLES))), "tables")
+        self.check()
+
+    def test_one_column_more(self):
+        columns = [f"c{number} int" for number in range(COLUMNS + 1)]
+        self.stream = b""
+        self.add(f"table t ({', '.join(columns)})", f"table t ({', '.join(columns[1:])})", "tables")
+        self.check()
+
+
+class Blocks(unittest.TestCase):
+    """A block as long as the limit is loaded and dumped, and one that is longer isn't."""
+
+    HEADER = f"{','.join(f'c{number}' for number in range(COLUMNS))}\n".encode()
+    FRONT = f"table t (c0 int, {', '.join(f'c{number} text' for number in range(1, COLUMNS))})\n".encode()
+
+    def load(self, length):
+        """A load of a block that is so long, and how many rows that has. All are as wide as they can be, save the last."""
+        wide, narrow = f",{LONGEST}" * (COLUMNS - 1), "," * (COLUMNS - 1)
+        rows, left = divmod(length - len(self.HEADER) - len(f"99999{narrow}\n"), len(f"10000{wide}\n"))
+        last = "".join(f",{LONGEST[: max(0, left - at * len(LONGEST))]}" for at in range(COLUMNS - 1))
+        records = [*(f"{key}{wide}\n" for key in range(10_000, 10_000 + rows)), f"99999{last}\n"]
+        block = self.HEADER + "".join(records).encode()
+        self.assertEqual(len(block), length)
+        return b"load t %d\n" % length + block, rows + 1
+
+    def check(self, stream, *answers):
+        ended = harness.run_whole(stream)
+        self.assertEqual((ended.status, ended.err), (0, b""))
+        self.assertTrue(ended.out == b"".join(answers), ended.out[:100])
+
+    def test_the_longest_block(self):
+        load, rows = self.load(LIMITS.block)
+        more = b"insert t (1%s)\n" % (b", ''" * (COLUMNS - 1))
+        again = b"delete t where c0 = 1\n" + load + b"delete t\n" + load
+        self.check(
+            self.FRONT + load + b"dump t\n" + more + b"dump t\n" + again + b"dump t\n",
+            b"ok\nok %d\n" % rows + load + b"ok 1\nerror 64 dump too long\n",
+            b"ok 1\nerror 41 key exists (record 1)\nok %d\nok %d\n" % (rows, rows) + load,
+        )
+
+    def test_a_longer_block(self):
+        load, _ = self.load(LIMITS.block + 1)
+        dumped = b"load t %d\n" % len(self.HEADER) + self.HEADER
+        self.check(self.FRONT + load + load + b"dump t\n" + load[:-1], b"ok\n", 2 * TOO_LONG, dumped, TOO_LONG)
+
+    def test_a_block_of_short_records(self):
+        rows = sizes.size(20_000, 2_000_000)
+        block = b"id\n" + b"".join(b"%d\n" % key for key in range(rows))
+        load = b"load t %d\n" % len(block) + block
+        self.check(b"table t (id int)\n" + load + b"dump t\n", b"ok\nok %d\n" % rows, load)
+
+    def test_a_block_of_empty_lines_and_one_of_quotes(self):
+        length = sizes.size(100_000, LIMITS.block)
+        empty = b"id" + b"\n" * (length - 2)
+        quotes = b'id\n"' + b'""' * (length // 2 - 3) + b'"\n'
+        loads = [b"load t %d\n" % len(block) + block for block in (empty, quotes)]
+        self.check(b"table t (id text)\n" + b"".join(loads), b"ok\nok 0\nerror 62 bad record 1\n")
+
+    @unittest.skipUnless(sizes.is_large, "16,777,216 rows take long, and some gigabytes")
+    def test_a_full_table(self):
+        keys = [range(at, at + 2**20) for at in range(0, LIMITS.rows, 2**20)]
+        blocks = [b"id\n" + b"".join(b"%d\n" % key for key in some) for some in keys]
+        loads = b"".join(b"load t %d\n" % len(block) + block for block in blocks)
+        full = b"error 43 table full\nerror 43 table full (record 1)\n"
+        there = b"error 41 key exists\nerror 41 key exists (record 1)\n"
+        self.check(
+            b"table t (id int)\n" + loads + b"insert t (-1)\nload t 6\nid\n-1\ninsert t (5)\nload t 5\nid\n5\n",
+            b"ok\n" + b"ok 1048576\n" * len(blocks) + full + there,
+        )

@@ -1,0 +1,120 @@
+"""Rounds of changes, each from no rows to no rows: each is answered as the first, and holds no more memory at its end."""
+
+import os
+import random
+import re
+import unittest
+
+import harness
+import model
+import preloading
+import sizes
+
+SEED = 19800101
+ROUNDS = sizes.size(6, 60)
+ROWS = sizes.size(150, 2_000)
+HELD = re.compile(rb"\n\[held (\d+)\]\n")
+MARK = b"select * from marks\n"
+MARKED = b"rows 0\nmarks.id\n"
+TABLES = b"""table dept (id int, name text)
+table emp (id text, n int, dept ref dept null)
+"""
+INDEXES = b"""index dept name hash
+index emp n tree
+index emp n hash
+index emp dept tree
+index emp dept hash
+"""
+DROPS = b"drop table emp\ndrop table dept\n"
+FRONT = b"table marks (id int)\n"
+
+
+def text(draw):
+    return draw.choice([b"", b"a", b"b", b"c" * draw.randrange(100), b"d" * model.LONGEST_TEXT])
+
+
+def changes(draw):
+    """Rows come, change, go by halves, come again, and go."""
+    depts, emps = draw.sample(range(-ROWS, ROWS), ROWS // 3), draw.sample(range(10**6), ROWS)
+    lines = [b"insert dept (%d, '%s')" % (key, text(draw)) for key in depts]
+    inserts = [b"insert emp ('%06d', %d, %d)" % (key, draw.randrange(9), draw.choice(depts)) for key in emps]
+    lines += inserts
+    lines += [b"update emp set n = %d where n = %d" % (number, (number + 3) % 9) for number in range(9)]
+    lines += [b"update dept set name = '%s' where id = %d" % (text(draw), key) for key in draw.sample(depts, len(depts) // 2)]
+    lines += [b"update emp set dept = null where dept < 0", b"delete dept where id < 0", b"delete dept", b"delete emp where n > 4"]
+    lines += [b"insert dept (%d, '')" % key for key in depts] + inserts
+    lines += [b"select * from emp", b"select emp.id, name from emp join dept on emp.dept = dept.id where n < 4"]
+    lines += [b"select distinct n, name from emp join dept on emp.dept = dept.id"]
+    lines += [b"delete emp where id = '%06d'" % key for key in draw.sample(emps, ROWS // 2)]
+    return b"".join(line + b"\n" for line in [*lines, b"delete emp", b"delete dept"])
+
+
+def loads(draw):
+    """Loads, of which some are refused, and dumps."""
+    depts, emps = draw.sample(range(-ROWS, ROWS), ROWS // 3), draw.sample(range(10**6), ROWS)
+    names = model.record([b"id", b"name"]), model.record([b"id", b"n", b"dept"])
+    some = [model.record([key, text(draw)]) for key in depts]
+    others = [model.record([b"%06d" % key, draw.randrange(9), draw.choice([None, *depts])]) for key in emps]
+    blocks = [
+        (b"dept", [names[0], *some, model.record([b"x", b"y"])]),
+        (b"dept", [names[0], *some, some[0]]),
+        (b"dept", [names[1], *some]),
+        (b"dept", [names[0], *some]),
+        (b"emp", [names[1], *others, model.record([b"z", 1, 2 * ROWS])]),
+        (b"emp", [names[1], *others]),
+        (b"emp", [names[1], *others]),
+        (b"nosuch", some),
+    ]
+    stream = b""
+    for table, records in blocks:
+        block = b"".join(records)
+        stream += b"load %s %d\n" % (table, len(block)) + block
+    return stream + b"dump dept\ndump emp\ndump nosuch\nselect id from emp where n = 3\ndelete emp\ndelete dept\n"
+
+
+class Rounds(unittest.TestCase):
+    """The lines of a round stand between selects of an empty table, at which the memory is looked at."""
+
+    @classmethod
+    def setUpClass(cls):
+        cls.counter = preloading.Library("count_held")
+        cls.addClassCleanup(cls.counter.close)
+
+    def run_counted(self, pieces):
+        """Runs the program, and gives its answers, and the bytes that it held at each of these selects."""
+        ended = harness.run_in_pieces(pieces, env={**os.environ, "LD_PRELOAD": str(self.counter.path)})
+        self.assertEqual((ended.status, ended.err), (0, b""))
+        held = [int(number) for number in re.findall(HELD.pattern + MARKED, ended.out)]
+        self.assertEqual(len(held), pieces.count(MARK))
+        return HELD.sub(b"", ended.out), held
+
+    def check(self, front, lines):
+        out, held = self.run_counted([front, *[lines, MARK] * ROUNDS])
+        answers = model.answers_to(front)
+        of_a_round = model.answers_to(front + lines + MARK)[len(answers) :]
+        self.assertTrue(out == answers + of_a_round * ROUNDS, "a round is answered otherwise")
+        self.assertEqual(set(held), {held[0]}, held)
+
+    def test_rounds_of_rows(self):
+        self.check(FRONT + TABLES, changes(random.Random(SEED)))
+
+    def test_rounds_of_rows_under_indexes(self):
+        self.check(FRONT + TABLES + INDEXES, changes(random.Random(SEED)))
+
+    def test_rounds_of_tables(self):
+        self.check(FRONT, TABLES + INDEXES + changes(random.Random(SEED)) + DROPS)
+
+    def test_rounds_of_indexes(self):
+        lines = INDEXES.splitlines(keepends=True)
+        dropped = b"".join(b"drop " + line for line in reversed(lines))
+        rows = changes(random.Random(SEED)).partition(b"delete emp\n")[0]
+        self.check(FRONT + TABLES, rows + (INDEXES + dropped) * 3 + b"delete emp\ndelete dept\n")
+
+    def test_rounds_of_loads(self):
+        self.check(FRONT + TABLES + INDEXES, loads(random.Random(SEED)))
+
+    def test_tables_that_go_give_all_back(self):
+        rows = changes(random.Random(SEED)).partition(b"delete emp\n")[0]
+        _, held = self.run_counted([FRONT, MARK, TABLES + INDEXES, MARK, rows, MARK, DROPS, MARK])
+        self.assertEqual(sorted(held), [held[0], held[3], held[1], held[2]])
+        self.assertEqual(held[3], held[0])
