@@ -86,41 +86,41 @@ fn parts(alloc: Global, line: &str) -> Result<String, NoMemory> {
 
 // A line, an arrow, and its command part by part.
 const PARTS: &str = "\
-table t (a int, b text) => Ok(Table { name: Text { text: \"t\" }, schema: Schema { columns: Sequence { items: [\
-Column { name: Text { text: \"a\" }, kind: Int }, Column { name: Text { text: \"b\" }, kind: Text }] } } })|\
-table t (a ref u, b ref t null) => Ok(Table { name: Text { text: \"t\" }, schema: Schema { columns: Sequence { items: [\
-Column { name: Text { text: \"a\" }, kind: Ref(Text { text: \"u\" }) }, \
-Column { name: Text { text: \"b\" }, kind: RefOrNull(Text { text: \"t\" }) }] } } })|\
-drop table t => Ok(DropTable { table: Text { text: \"t\" } })|\
-index t a tree => Ok(Index { table: Text { text: \"t\" }, column: Text { text: \"a\" }, kind: Tree })|\
-drop index t a hash => Ok(DropIndex { table: Text { text: \"t\" }, column: Text { text: \"a\" }, kind: Hash })|\
+table t (a int, b text) => Ok(Table { name: \"t\", schema: Schema { columns: Sequence { items: [\
+Column { name: \"a\", kind: Int }, Column { name: \"b\", kind: Text }] } } })|\
+table t (a ref u, b ref t null) => Ok(Table { name: \"t\", schema: Schema { columns: Sequence { items: [\
+Column { name: \"a\", kind: Ref(\"u\") }, \
+Column { name: \"b\", kind: RefOrNull(\"t\") }] } } })|\
+drop table t => Ok(DropTable { table: \"t\" })|\
+index t a tree => Ok(Index { table: \"t\", column: \"a\", kind: Tree })|\
+drop index t a hash => Ok(DropIndex { table: \"t\", column: \"a\", kind: Hash })|\
 tables => Ok(Tables)|\
-load t 012 => Ok(Load { table: Text { text: \"t\" }, bytes: 12 })|\
-dump t => Ok(Dump { table: Text { text: \"t\" } })|\
-insert t (null) => Ok(Insert { table: Text { text: \"t\" }, values: Sequence { items: [Null] } })|\
-insert t (-1, 'it''s') => Ok(Insert { table: Text { text: \"t\" }, values: Sequence { items: [Int(-1), \
-Text(Text { text: \"it's\" })] } })|\
-update t set a = -1 where t.b >= '' => Ok(Update { table: Text { text: \"t\" }, settings: Sequence { items: [\
-Setting { column: Text { text: \"a\" }, value: Int(-1) }] }, conditions: Sequence { items: [\
-Cond { column: ColName { table: Some(Text { text: \"t\" }), column: Text { text: \"b\" } }, op: Ge, \
-value: Text(Text { text: \"\" }) }] } })|\
-delete t where a < 1 and b = 2 => Ok(Delete { table: Text { text: \"t\" }, conditions: Sequence { items: [\
-Cond { column: ColName { table: None, column: Text { text: \"a\" } }, op: Lt, value: Int(1) }, \
-Cond { column: ColName { table: None, column: Text { text: \"b\" } }, op: Eq, value: Int(2) }] } })|\
-select * from t where a > 1 => Ok(Select { distinct: false, items: All, table: Text { text: \"t\" }, \
+load t 012 => Ok(Load { table: \"t\", bytes: 12 })|\
+dump t => Ok(Dump { table: \"t\" })|\
+insert t (null) => Ok(Insert { table: \"t\", values: Sequence { items: [Null] } })|\
+insert t (-1, 'it''s') => Ok(Insert { table: \"t\", values: Sequence { items: [Int(-1), \
+Text(\"it's\")] } })|\
+update t set a = -1 where t.b >= '' => Ok(Update { table: \"t\", settings: Sequence { items: [\
+Setting { column: \"a\", value: Int(-1) }] }, conditions: Sequence { items: [\
+Cond { column: ColName { table: Some(\"t\"), column: \"b\" }, op: Ge, \
+value: Text(\"\") }] } })|\
+delete t where a < 1 and b = 2 => Ok(Delete { table: \"t\", conditions: Sequence { items: [\
+Cond { column: ColName { table: None, column: \"a\" }, op: Lt, value: Int(1) }, \
+Cond { column: ColName { table: None, column: \"b\" }, op: Eq, value: Int(2) }] } })|\
+select * from t where a > 1 => Ok(Select { distinct: false, items: All, table: \"t\", \
 joins: Sequence { items: [] }, conditions: Sequence { items: [\
-Cond { column: ColName { table: None, column: Text { text: \"a\" } }, op: Gt, value: Int(1) }] } })|\
-select distinct * from t join u on v.a = t.b => Ok(Select { distinct: true, items: All, table: Text { text: \"t\" }, \
-joins: Sequence { items: [Join { table: Text { text: \"u\" }, \
-left: JoinSide { table: Text { text: \"v\" }, column: Text { text: \"a\" } }, \
-right: JoinSide { table: Text { text: \"t\" }, column: Text { text: \"b\" } } }] }, conditions: Sequence { items: [] } })|\
+Cond { column: ColName { table: None, column: \"a\" }, op: Gt, value: Int(1) }] } })|\
+select distinct * from t join u on v.a = t.b => Ok(Select { distinct: true, items: All, table: \"t\", \
+joins: Sequence { items: [Join { table: \"u\", \
+left: JoinSide { table: \"v\", column: \"a\" }, \
+right: JoinSide { table: \"t\", column: \"b\" } }] }, conditions: Sequence { items: [] } })|\
 select a, T.b from T where T.c <= 'it''s' and d <> 5 => Ok(Select { distinct: false, items: Named(Sequence { items: [\
-ColName { table: None, column: Text { text: \"a\" } }, \
-ColName { table: Some(Text { text: \"T\" }), column: Text { text: \"b\" } }] }), \
-table: Text { text: \"T\" }, joins: Sequence { items: [] }, conditions: Sequence { items: [\
-Cond { column: ColName { table: Some(Text { text: \"T\" }), column: Text { text: \"c\" } }, op: Le, \
-value: Text(Text { text: \"it's\" }) }, \
-Cond { column: ColName { table: None, column: Text { text: \"d\" } }, op: Ne, value: Int(5) }] } })";
+ColName { table: None, column: \"a\" }, \
+ColName { table: Some(\"T\"), column: \"b\" }] }), \
+table: \"T\", joins: Sequence { items: [] }, conditions: Sequence { items: [\
+Cond { column: ColName { table: Some(\"T\"), column: \"c\" }, op: Le, \
+value: Text(\"it's\") }, \
+Cond { column: ColName { table: None, column: \"d\" }, op: Ne, value: Int(5) }] } })";
 
 // Lines that spell no command.
 const MISSPELLINGS: &str = "\

@@ -4,6 +4,9 @@ use plain_tables::{NoMemory, Refusal, Sequence, Text};
 use std::alloc::{AllocError, Global};
 use std::test::Fail;
 
+// A text that takes memory.
+const LONG: &str = "a text that doesn't lie in the value itself";
+
 // A refusal of each kind, in the order of `TOLD`.
 const REFUSALS: [Refusal; 26] = [
     Refusal::LineTooLong,
@@ -85,14 +88,16 @@ fn a_text_is_copied(rt: HostRuntime) -> Result<(), Fail> {
     let copy = Text::from_str(rt.alloc(), "é_1")?;
     assert_eq!(rt; copy.as_str(), "é_1");
     assert_eq!(rt; copy.as_bytes(), [0xc3, 0xa9, b'_', b'1'].as_slice());
-    assert_eq!(rt; Text::from_string(copy.into_string()).as_str(), "é_1");
+    let copy = Text::from_str(rt.alloc(), LONG)?;
+    assert_eq!(rt; copy.as_str(), LONG);
+    assert_eq!(rt; copy.as_bytes(), LONG.as_bytes());
     Ok(())
 }
 
 #[test]
 fn a_text_is_copied_under_refusal(rt: HostRuntime) {
-    match Text::from_str(rt.alloc(), "Ann") {
-        Ok(copy) => assert_eq!(rt; copy.as_str(), "Ann"),
+    match Text::from_str(rt.alloc(), LONG) {
+        Ok(copy) => assert_eq!(rt; copy.as_str(), LONG),
         Err(refused) => assert_eq!(rt; refused, NoMemory),
     }
 }

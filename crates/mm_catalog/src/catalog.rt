@@ -135,8 +135,9 @@ impl Catalog {
         ensures unchanged { OnErr result (self.new ≡ self.old) }
     {
         self.relations.reserve(1)?;
-        let relation = aimed(*self.relations.allocator(), schema, &self.names)?;
-        self.names.insert(name.into_string())?;
+        let alloc = *self.relations.allocator();
+        let relation = aimed(alloc, schema, &self.names)?;
+        self.names.insert(String::from_str(alloc, name.as_str())?)?;
         self.relations.push_reserved(relation);
         Ok(())
     }

@@ -19,8 +19,9 @@ fn between_marks(characters: &[u8]) -> Option<&str>
     behind.strip_suffix('\'')
 }
 
-// The text in which each of these quote marks is doubled.
-fn undoubled(alloc: Global, marked: &str) -> Result<Text, ParseRefusal>
+// The text in which each of these quote marks is doubled, put together of the parts between them. It takes one growth for
+// the parts, of no more bytes than these.
+fn joined(alloc: Global, marked: &str) -> Result<Text, ParseRefusal>
     ensures text { IfOk result (λ text. marked.now ≡ flat_map doubled text) }
     ensures syntax { IsErrOf result ParseRefusal.Syntax → (text : List ℕ) → marked.now ≡ flat_map doubled text → ⊥ }
 {
@@ -35,10 +36,22 @@ fn undoubled(alloc: Global, marked: &str) -> Result<Text, ParseRefusal>
         rest = more;
     }
     text.push_str(rest)?;
-    Ok(Text::from_string(text))
+    Ok(Text::from_str(alloc, text.as_str())?)
 }
 
-/// The text that these characters spell. It takes one growth, of no more bytes than stand between the marks.
+// The text in which each of these quote marks is doubled. One without a quote mark is copied as it stands.
+fn undoubled(alloc: Global, marked: &str) -> Result<Text, ParseRefusal>
+    ensures text { IfOk result (λ text. marked.now ≡ flat_map doubled text) }
+    ensures syntax { IsErrOf result ParseRefusal.Syntax → (text : List ℕ) → marked.now ≡ flat_map doubled text → ⊥ }
+{
+    if marked.contains('\'') {
+        joined(alloc, marked)
+    } else {
+        Ok(Text::from_str(alloc, marked)?)
+    }
+}
+
+/// The text that these characters spell. A short one without quote marks takes no memory.
 pub fn text(alloc: Global, characters: &[u8]) -> Result<Text, ParseRefusal>
     ensures text { IfOk result (λ text. characters.now ≡ text_literal text) }
     ensures syntax { IsErrOf result ParseRefusal.Syntax → IsUtf8 characters.now → (text : List ℕ) → characters.now ≡ text_literal text → ⊥ }

@@ -8,6 +8,7 @@ pub mod Doing
 pub mod Effects
 pub mod Hashes
 pub mod Joining
+pub mod Kept
 pub mod Names
 pub mod Queries
 pub mod QueryLaws

@@ -26,6 +26,7 @@ mod resolved;
 pub mod resolved_laws;
 mod schema;
 mod sequence;
+mod short_text;
 pub mod spelling_laws;
 mod text;
 mod value;

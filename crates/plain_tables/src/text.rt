@@ -1,6 +1,6 @@
 //! A text or a name, seen by contracts as its bytes.
 
-ghost use Rattle.std.specs.Prelude.{◌≡◌, IfOk, length};
+ghost use Rattle.std.specs.Prelude.{◌≡◌, ◌≤◌, IsOk, IfOk, length};
 ghost use Rattle.std.specs.Ordering.{nat_cmp, as_partial_cmp, eq_by_cmp};
 ghost use Rattle.std.specs.Cmp.Lexicographic.{slice_cmp, nat_list_cmp_total};
 ghost use Rattle.std.specs.Cmp.{eq_by_cmp_equiv, partial_order_from_total};
@@ -8,64 +8,70 @@ ghost use Rattle.std.specs.Cmp.Rules.{comparing};
 ghost use Rattle.std.proofs.Common.{rules};
 
 use crate::NoMemory;
+use crate::short_text::ShortText;
 use std::alloc::Global;
 use std::cmp::Ordering;
+use std::fmt;
 use std::marker::Model;
 
-/// A text. It is a `String` of which contracts see the bytes alone. Texts are ordered by their bytes.
-#[derive(Debug, Drop)]
+// Where the bytes of a text lie.
+#[derive(Drop)]
+enum Kept {
+    Short(ShortText),
+    Long(Box<String>),
+}
+
+/// A text, of which contracts see the bytes alone. One of at most 22 bytes takes no memory, and a longer one lies
+/// behind a box. Texts are ordered by their bytes.
+#[derive(Drop)]
 pub struct Text {
-    text: String,
+    kept: Kept,
 }
 
 impl Model for Text {
     ghost use Rattle.std.specs.Prelude.{List, ℕ};
-    ghost use Rattle.std.specs.String.{string_bytes};
 
     ghost Value = { List ℕ };
 
-    ghost view = { λ t. string_bytes t.text };
+    ghost use Rattle.plain_tables.specs.Kept.{kept_bytes};
+
+    ghost view = { λ t. kept_bytes t.kept };
 }
 
 impl Text {
-    ghost use Rattle.std.specs.String.{string_bytes};
-
-    /// A copy of a text.
+    /// A copy of a text. It takes no memory where the text has at most 22 bytes.
     pub fn from_str(alloc: Global, text: &str) -> Result<Text, NoMemory>
-        ensures { IfOk result (λ copy. copy ≡ text.now) }
+        ensures copy { IfOk result (λ copy. copy ≡ text.now) }
+        ensures short { length text.now ≤ 22 → IsOk result }
     {
-        Ok(Text {
-            text: String::from_str(alloc, text)?,
-        })
-    }
-
-    /// The text of a `String`, which is kept as it is.
-    pub fn from_string(text: String) -> Text
-        ensures { result ≡ string_bytes text }
-    {
-        Text { text }
-    }
-
-    /// The `String` that is kept.
-    pub fn into_string(self) -> String
-        ensures { string_bytes result ≡ self }
-    {
-        let Text { text } = self;
-        text
+        let kept = match ShortText::from_str(text) {
+            Some(short) => Kept::Short(short),
+            None => Kept::Long(Box::new(alloc, String::from_str(alloc, text)?)?),
+        };
+        Ok(Text { kept })
     }
 
     /// The text as it is kept.
     pub fn as_str(&self) -> &str
         ensures { result.now ≡ self.now }
     {
-        self.text.as_str()
+        match &self.kept {
+            Kept::Short(text) => text.as_str(),
+            Kept::Long(text) => text.as_str(),
+        }
     }
 
     /// Its bytes, which are UTF-8.
     pub fn as_bytes(&self) -> &[u8]
         ensures { result.now ≡ self.now }
     {
-        self.text.as_bytes()
+        self.as_str().as_bytes()
+    }
+}
+
+impl fmt::Debug for Text {
+    fn fmt<W: fmt::Write>(&self, f: &mut fmt::Formatter<W>) -> fmt::Result {
+        fmt::Debug::fmt(&self.as_str(), f)
     }
 }
 

@@ -16,14 +16,15 @@ use Rattle.mm_catalog.proofs.catalog.Catalog.create.Goals as goal
 pub invariant_of-self-2 : goal.invariant_of-self-2
 invariant_of-self-2 c =
     let keys = c.self.inside.names.keys in
-    let k = c.into_string.result in
+    let k = c.in_ok-from_str.field-0 in
+    let named : string_bytes k ≡ c.args.name = c.in_ok-from_str.ensures.ok ∙ c.as_str.ensures in
     let s : CatalogState = record { limits = c.self.inside.limits; names = map string_bytes keys; relations = c.self.inside.relations.items } in
     let meant : IsDeclarable s.limits (database_of s) c.args.name c.args.schema = rw (← c.self.view_is) at c.requires in
-    let absent : is_some (table_named (string_bytes k) (database_of s)) ≡ false = subst (λ n. is_some (table_named n (database_of s)) ≡ false) (sym c.into_string.ensures) meant.is_new in
+    let absent : is_some (table_named (string_bytes k) (database_of s)) ≡ false = subst (λ n. is_some (table_named n (database_of s)) ≡ false) (sym named) meant.is_new in
     let names : map string_bytes c.insert.new.self.keys ≡ s.names ++ c.args.name ∷ [] =
     ap (map string_bytes) c.in_ok-insert.ensures.keys
     ∙ ap (λ b. map string_bytes (cond b keys (keys ++ k ∷ []))) (new_key s c.self.invariant keys k refl absent)
-    ∙ map-append string_bytes keys (k ∷ []) ∙ ap (λ n. s.names ++ n ∷ []) c.into_string.ensures in
+    ∙ map-append string_bytes keys (k ∷ []) ∙ ap (λ n. s.names ++ n ∷ []) named in
     let relations : c.push_reserved.new.self.items ≡ s.relations ++ aimed_relation s.names c.args.schema ∷ [] =
     c.push_reserved.ensures.items ∙ ap (λ rs. rs ++ c.in_ok-relation.relation ∷ []) c.in_ok-reserve.ensures.items
     ∙ ap (λ r. s.relations ++ r ∷ []) c.in_ok-relation.ensures.made in
@@ -34,14 +35,15 @@ invariant_of-self-2 c =
 pub returns-clause-done : goal.returns-clause-done
 returns-clause-done c =
     let keys = c.self.inside.names.keys in
-    let k = c.into_string.result in
+    let k = c.in_ok-from_str.field-0 in
+    let named : string_bytes k ≡ c.args.name = c.in_ok-from_str.ensures.ok ∙ c.as_str.ensures in
     let s : CatalogState = record { limits = c.self.inside.limits; names = map string_bytes keys; relations = c.self.inside.relations.items } in
     let meant : IsDeclarable s.limits (database_of s) c.args.name c.args.schema = rw (← c.self.view_is) at c.requires in
-    let absent : is_some (table_named (string_bytes k) (database_of s)) ≡ false = subst (λ n. is_some (table_named n (database_of s)) ≡ false) (sym c.into_string.ensures) meant.is_new in
+    let absent : is_some (table_named (string_bytes k) (database_of s)) ≡ false = subst (λ n. is_some (table_named n (database_of s)) ≡ false) (sym named) meant.is_new in
     let names : map string_bytes c.insert.new.self.keys ≡ s.names ++ c.args.name ∷ [] =
     ap (map string_bytes) c.in_ok-insert.ensures.keys
     ∙ ap (λ b. map string_bytes (cond b keys (keys ++ k ∷ []))) (new_key s c.self.invariant keys k refl absent)
-    ∙ map-append string_bytes keys (k ∷ []) ∙ ap (λ n. s.names ++ n ∷ []) c.into_string.ensures in
+    ∙ map-append string_bytes keys (k ∷ []) ∙ ap (λ n. s.names ++ n ∷ []) named in
     let relations : c.push_reserved.new.self.items ≡ s.relations ++ aimed_relation s.names c.args.schema ∷ [] =
     c.push_reserved.ensures.items ∙ ap (λ rs. rs ++ c.in_ok-relation.relation ∷ []) c.in_ok-reserve.ensures.items
     ∙ ap (λ r. s.relations ++ r ∷ []) c.in_ok-relation.ensures.made in

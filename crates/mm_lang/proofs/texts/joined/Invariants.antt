@@ -3,7 +3,7 @@ use Rattle.std.specs.List.{flat_map}
 use Rattle.std.specs.Str.{IsUtf8}
 use Rattle.std.specs.String.{string_bytes}
 use Rattle.plain_tables.specs.Spelling.{doubled}
-use Rattle.mm_lang.proofs.texts.undoubled.Given as goal
+use Rattle.mm_lang.proofs.texts.joined.Given as goal
 
 -- what is read is the text so far
 abbrev pub invariant-loop-part : goal.invariant-loop-part

@@ -1,0 +1,52 @@
+//! A text that takes no memory.
+
+ghost use Rattle.std.specs.Prelude.{◌≡◌, ◌≤◌, ◌↔◌, length, IsSome, IfSome};
+
+use std::marker::Model;
+
+// The most bytes of a short text. With its length and the mark beside it in `Text` they take 24 bytes, so a text of
+// either form is as large as a `String`, and a value of a row no larger than with one.
+const MOST: usize = 22;
+
+/// A text of at most 22 bytes, which lie in the value itself. Contracts see the bytes alone.
+#[derive(Drop)]
+pub struct ShortText {
+    length: u8,
+    bytes: [u8; MOST],
+}
+
+impl Model for ShortText {
+    ghost use Rattle.std.specs.Prelude.{List, ℕ, ◌≤◌, take, IsUtf8};
+
+    ghost Value = { List ℕ };
+
+    ghost view = { λ s. take s.length s.bytes };
+
+    ghost invariant = { λ s. (s.length ≤ 22) × ∥ IsUtf8 (take s.length s.bytes) ∥₁ };
+}
+
+impl ShortText {
+    /// A copy of a text, if it is short.
+    pub fn from_str(text: &str) -> Option<ShortText>
+        ensures short { IsSome result ↔ (length text.now ≤ 22) }
+        ensures copy { IfSome result (λ copy. copy ≡ text.now) }
+    {
+        let length = text.len();
+        if length > MOST {
+            return None;
+        }
+        let mut bytes = [0; MOST];
+        bytes[..length].copy_from_slice(text.as_bytes());
+        Some(ShortText {
+            length: length as u8,
+            bytes,
+        })
+    }
+
+    /// The text as it is kept.
+    pub fn as_str(&self) -> &str
+        ensures { result.now ≡ self.now }
+    {
+        unsafe { str::from_utf8_unchecked(&self.bytes[..usize::from(self.length)]) }
+    }
+}
