@@ -1,10 +1,12 @@
 //! A row that comes into one relation among others.
-ghost use Rattle.std.specs.Prelude.{◌≡◌, ℕ, ◌<◌, ◌≤◌, Some, All, IfOk, IfErr, OnOk, OnErr, length, slice_get, take};
+ghost use Rattle.std.specs.Prelude.{◌≡◌, ◌⊎◌, ℕ, ◌+◌, ◌<◌, ◌≤◌, List, Some, All, IfOk, IfErr, OnOk, OnErr, length, slice_get, take};
 ghost use Rattle.std.specs.FinMap as finite;
+ghost use Rattle.plain_tables.specs.declared.value.Value.{Value};
 ghost use Rattle.mm_relation.specs.Changes.{new_row};
 ghost use Rattle.mm_relation.specs.State.{RelationState, IsKept, IsCurrent, IsReadable, HasKey, linked_keys};
+ghost use Rattle.mm_catalog.specs.Cells.{AreCellsOf};
 ghost use Rattle.mm_catalog.specs.Changes.{IsCurrentAt};
-ghost use Rattle.mm_catalog.specs.Inserted.{CanComeIn, CannotComeIn, IsTakenIn, IsInsertedAt, IsRefusedAt};
+ghost use Rattle.mm_catalog.specs.Inserted.{IsKeptOut, IsTakenIn, IsInsertedAt, IsRefusedAt};
 ghost use Rattle.mm_catalog.specs.Linked.{target_at, row_links};
 ghost use Rattle.mm_catalog.specs.Raised.{IsHeldIn, HaveRoom};
 
@@ -13,51 +15,65 @@ use crate::cells::cells_of;
 use crate::referrers::raise_links;
 use mm_relation::laws::a_relation_is_kept;
 use mm_relation::{Cell, Relation, RowRefusal};
-use no_memory::NoMemory;
 use part_raw::TupleRef;
 use plain_tables::{Limits, Refusal, Sequence, TableNumber, Value};
 use std::alloc::Global;
 
-// The key and the cells of a row that can come in.
-fn row_for(
+// The refusal of a row with this key that cannot come in: its key is held already, or there is this reason.
+fn kept_out(relation: &Relation, key: &Value, reason: Refusal) -> Refusal
+    ensures { (HasKey relation.now.rows key.now × (result ≡ Refusal.KeyExists None)) ⊎ ((HasKey relation.now.rows key.now → ⊥) × (result ≡ reason)) }
+{
+    if relation.find_key(key).is_some() {
+        Refusal::KeyExists { record: None }
+    } else {
+        reason
+    }
+}
+
+// The cells of the values behind this key, where nothing but the key can keep their row out.
+fn cells_for(
     alloc: Global,
     before: &[Relation],
     relation: &Relation,
     limits: Limits,
-    mut values: Sequence<Value>,
-) -> Result<(Value, Sequence<Cell>), Refusal>
-    requires some { 0 < length values }
-    requires width { length values ≤ length relation.now.targets }
+    key: &Value,
+    values: Vec<Value>,
+) -> Result<Sequence<Cell>, Refusal>
+    requires width { length values.items + 1 ≤ length relation.now.targets }
     requires back { (column : ℕ) (table : ℕ) → target_at relation.now.targets column ≡ Some table → table < length before.now }
-    ensures row { IfOk result (λ row. CanComeIn before.now relation.now limits.rows values row.0 row.1) }
-    ensures refused { IfErr result (CannotComeIn before.now relation.now limits.rows values) }
+    ensures cells { IfOk result (AreCellsOf before.now relation.now.targets values.items) }
+    ensures room { IfOk result (λ _. finite.len relation.now.rows < limits.rows) }
+    ensures refused { IfErr result (IsKeptOut before.now relation.now limits.rows key.now values.items) }
 {
-    let key = values.remove(0);
-    if relation.find_key(&key).is_some() {
-        return Err(Refusal::KeyExists { record: None });
+    match cells_of(alloc, before, relation, values) {
+        Ok(cells) => {
+            if relation.len() >= u64::from(limits.rows) {
+                let full = Refusal::TableFull { record: None };
+                return Err(kept_out(relation, key, full));
+            }
+            Ok(cells)
+        }
+        Err(refusal) => Err(kept_out(relation, key, refusal)),
     }
-    let cells = cells_of(alloc, before, relation, values.into_vec())?;
-    if relation.len() >= u64::from(limits.rows) {
-        return Err(Refusal::TableFull { record: None });
-    }
-    Ok((key, cells))
 }
 
-// Takes a row with a new key in, where there is room for it, and counts its links. It gives the reference of the row.
+// Takes a row in, unless its key is held already, where there is room for it, and counts its links. It gives the reference
+// of the row.
 fn take_in(
     before: &mut [Relation],
     relation: &mut Relation,
     key: Value,
     cells: Sequence<Cell>,
-) -> Result<TupleRef, NoMemory>
+) -> Result<TupleRef, Refusal>
     requires kept { All IsKept before.old }
     requires readable { IsReadable (linked_keys relation.old.targets before.old) (length relation.old.targets) (new_row key cells) }
     requires current { IsCurrent (linked_keys relation.old.targets before.old) relation.old }
-    requires fresh { HasKey relation.old.rows key → ⊥ }
     requires few { finite.len relation.old.rows < 16777216 }
     requires links { All (IsHeldIn before.old) (row_links relation.old.targets (new_row key cells)) }
     requires room { HaveRoom before.old (length relation.old.targets) }
     ensures taken { IfOk result (λ r. IsTakenIn before.old before.new relation.old relation.new r (new_row key cells)) }
+    ensures fresh { IfOk result (λ _. HasKey relation.old.rows key → ⊥) }
+    ensures refused { IfErr result (λ refusal. (most : ℕ) (rest : List Value) → IsKeptOut before.old relation.old most key rest refusal) }
     ensures others { OnErr result (before.new ≡ before.old) }
     ensures unchanged { OnErr result (relation.new ≡ relation.old) }
 {
@@ -68,8 +84,9 @@ fn take_in(
             raise_links(before, relation, r);
             Ok(r)
         }
-        Err(RowRefusal::NoMemory) => Err(NoMemory),
-        Err(RowRefusal::KeyExists | RowRefusal::Full) => unreachable!(),
+        Err(RowRefusal::KeyExists) => Err(Refusal::KeyExists { record: None }),
+        Err(RowRefusal::NoMemory) => Err(Refusal::NoMemory),
+        Err(RowRefusal::Full) => unreachable!(),
     }
 }
 
@@ -80,7 +97,7 @@ pub fn insert(
     relations: &mut [Relation],
     limits: Limits,
     table: TableNumber,
-    values: Sequence<Value>,
+    mut values: Sequence<Value>,
 ) -> Result<TupleRef, Refusal>
     requires few { limits.rows ≤ 16777216 }
     requires there { table.0 < length relations.old }
@@ -96,7 +113,7 @@ pub fn insert(
 {
     let (before, rest) = relations.split_at_mut(table.0);
     let relation = &mut rest[0];
-    let (key, cells) = row_for(alloc, before, relation, limits, values)?;
-    let r = take_in(before, relation, key, cells)?;
-    Ok(r)
+    let key = values.remove(0);
+    let cells = cells_for(alloc, before, relation, limits, &key, values.into_vec())?;
+    take_in(before, relation, key, cells)
 }

@@ -1,7 +1,9 @@
-use Rattle.std.proofs.Common.{◌≡◌, sym, ap, ◌∙◌, subst, is_some}
+use Rattle.std.proofs.Common.{◌≡◌, Err, sym, ap, ◌∙◌, subst, is_some}
 use Rattle.std.specs.List.{All}
 use Rattle.std.proofs.lemmas.Option.{same_Some}
-use Rattle.mm_relation.specs.Changes.{new_row}
+use Rattle.mm_relation.specs.declared.refusal.RowRefusal.TheVariants.{KeyExists}
+use Rattle.mm_relation.specs.Changes.{IsToldRightly, new_row}
+use Rattle.mm_catalog.specs.Inserted.{key_there, no_memory}
 use Rattle.mm_catalog.specs.Linked.{row_links}
 use Rattle.mm_catalog.specs.Raised.{IsHeldIn, AreRaised}
 use Rattle.mm_catalog.proofs.Taking.{row_here}
@@ -33,3 +35,11 @@ returns-in-Ok-clause-taken c =
       raised = subst (λ targets. AreRaised c.args.before.now c.raise_links.new.before (row_links targets t)) c.in-Ok.ensures.inserted.keeps.targets
           (c.raise_links.ensures.raised t (row_here old new c.in-Ok.r t c.in-Ok.ensures.inserted));
     }
+
+pub returns-in-Err-KeyExists-clause-refused : goal.returns-in-Err-KeyExists-clause-refused
+returns-in-Err-KeyExists-clause-refused c most rest =
+    let refused : c.in-Err-KeyExists.field-0 ≡ KeyExists = rw c.in-Err-KeyExists.is at c.in-Err-KeyExists.field-0-is in
+    key_there (subst (IsToldRightly c.args.relation.now c.args.key) (c.in-Err-KeyExists.is ∙ ap Err refused) c.insert_row-taken.ensures.told)
+
+pub returns-in-Err-NoMemory-clause-refused : goal.returns-in-Err-NoMemory-clause-refused
+returns-in-Err-NoMemory-clause-refused c most rest = no_memory
