@@ -1,18 +1,13 @@
 -- Lemmas on what the crate csv writes: it is what the definitions of CSV say.
-use Rattle.std.proofs.Common.{◌≡◌, ◌∙◌, ◌++◌, ◌∷◌, [], ℕ, List, Bool, true, false, Option, length, refl, arith, suc}
-use Rattle.std.proofs.Common.{length-append}
-use Rattle.std.specs.Prelude.{◌==◌, ◌||◌, ◌&&◌, ◌<◌, ◌+◌, ◌-◌, ◌^◌, ◌≢◌, min, not, if◌then◌else◌}
+use Rattle.std.proofs.Common.{◌∙◌, Option, Some, sym, ap, append-nil, ◌≡◌, ◌++◌, ◌∷◌, [], ℕ, List, Bool, true, false, length, refl, arith, suc}
+use Rattle.std.specs.Prelude.{◌==◌, ◌||◌, ◌&&◌, ◌<◌, if◌then◌else◌}
 use Rattle.std.proofs.lemmas.Bool.{ne_eqb}
 use Rattle.std.specs.List.{flat_map}
-use Rattle.std.specs.Io.KnownBytes.{Appends}
-use Rattle.std.proofs.KnownBytes.{Appends-nil, Appends-trans}
+use Rattle.std.specs.Io.KnownBytes.{Appends, Keeps, append_known}
+use Rattle.std.proofs.KnownBytes.{Appends-kept}
 use Rattle.csv.specs.Writing as Csv
-use Rattle.csv.specs.declared.writer.Writer.{Writer}
 use Rattle.csv.specs.declared.writer.WriterBuilder.{WriterBuilder}
-use Rattle.csv.specs.declared.writer.QuoteStyle.TheVariants as style
-use Rattle.csv.proofs.WriteFacts.{blank-more, row-more}
 use Rattle.plain_tables.specs.Csv.{calls_for_quotes, doubled, field_text, joined, needs_quotes, record_text}
-use Rattle.mm_csv.specs.Records.{AddsField, EndsRecord, HasBegun, IsBetweenRecords, setup}
 
 -- ---- the two texts of a record
 
@@ -74,30 +69,11 @@ record-same w ((b ∷ field) ∷ []) some =
 record-same w ([] ∷ other ∷ fields) some = shown false _ _ refl (body-same w ([] ∷ other ∷ fields))
 record-same w ((b ∷ field) ∷ other ∷ fields) some = shown false _ _ refl (body-same w ((b ∷ field) ∷ other ∷ fields))
 
--- ---- field by field
+-- ---- a writer that is used again
 
-pub begun-none : {W : Type 0} (contents : W → Option (List ℕ)) (w : Writer W) → IsBetweenRecords w → HasBegun contents w w []
-unfolding Csv.is_blank
-begun-none contents w (same, count, wrote) = (same, count, Appends-nil _, rw wrote refl)
-
-pub begun-more : {W : Type 0} (contents : W → Option (List ℕ)) (w after : Writer W) (field : List ℕ)
-    → ((Csv.writer_setup w).style ≢ style.NonNumeric → Appends (Csv.text_written contents w) (Csv.text_written contents after) (Csv.next_sep (Csv.writer_setup w) (Csv.fields_written w) ++ Csv.field_text (Csv.writer_setup w) field))
-    → Csv.writer_setup after ≡ Csv.writer_setup w
-    → Csv.fields_written after ≡ min (Csv.fields_written w + 1) (2 ^ 64 - 1)
-    → (Csv.has_written w ≡ false → (Csv.writer_setup w).style ≢ style.NonNumeric → Csv.has_written after ≡ not (length (Csv.field_text (Csv.writer_setup w) field) == 0))
-    → (Csv.has_written w ≡ true → Csv.has_written after ≡ true)
-    → AddsField contents w after field
-begun-more contents w after field text same count wrote stays before fields fits (is, so_far, body, blank) =
-    let necessary : (Csv.writer_setup w).style ≢ style.NonNumeric = rw is (λ e. cc e) in
-    let size = length-append fields (field ∷ []) in
-    let more = rw (is, so_far) at (text necessary) in (
-      same ∙ is,
-      count ∙ rw (so_far, size) (omega arith),
-      rw (row-more setup fields field) (Appends-trans _ _ _ _ _ body more),
-      rw size (blank-more setup fields field (Csv.has_written w) (Csv.has_written after) blank (λ none. rw is at (wrote none necessary)) stays),
-    )
-
-pub record-ended : {W : Type 0} (contents : W → Option (List ℕ)) (before w after : Writer W) (fields : List (List ℕ)) → 0 < length fields
-    → HasBegun contents before w fields → EndsRecord contents w after
-    → Appends (Csv.text_written contents before) (Csv.text_written contents after) (record_text fields)
-record-ended contents before w after fields some begun ends = rw (record-same true fields some) at (ends before fields begun).1
+-- What was put behind the bytes of a vector, with nothing before it and nothing behind it that is not yet written, stands there.
+pub text-added : (old new before behind : List ℕ) (put : Option (List ℕ)) (text : List ℕ) → before ≡ [] → behind ≡ []
+    → Appends (append_known (Some old) before) put text → Keeps put (append_known (Some new) behind) → new ≡ old ++ text
+text-added old new before behind put text first last grown kept =
+    let whole : new ++ behind ≡ (old ++ before) ++ text = Appends-kept (Some (old ++ before)) put (Some (new ++ behind)) text grown kept in
+    sym (append-nil new) ∙ ap (λ p. new ++ p) (sym last) ∙ whole ∙ ap (λ p. (old ++ p) ++ text) first ∙ ap (λ t. t ++ text) (append-nil old)

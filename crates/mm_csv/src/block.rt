@@ -19,7 +19,7 @@ pub fn block_of(
     requires fitting { All (λ row. length row ≡ length names.now) rows.now }
     ensures { IfOk result (λ block. block.items ≡ block_text names.now rows.now) }
 {
-    let mut records = RecordWriter::new(Vec::new(alloc));
+    let mut records = RecordWriter::new(alloc, Vec::new(alloc));
     records.push_names(names)?;
     for row in rows {
         records.push_record(row.as_slice())?;

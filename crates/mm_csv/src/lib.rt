@@ -1,7 +1,8 @@
 //! Rows as CSV: fields between commas, each record ended by a line feed, a field quoted only where it must be.
 //!
-//! `RecordWriter` writes one record at a time, from values that it borrows; `block_of` writes a header and all rows. The
-//! quoting is the library's, by its default settings; what is stated of it is joined to the definition of a record.
+//! `RecordWriter` writes one record at a time, from values that it borrows; `block_of` writes a header and all rows. Both
+//! write straight to where the record goes. The quoting is the library's, by its default settings: a field that stands
+//! between quotes goes through its writer, and what is stated of that is joined to the definition of a record.
 //!
 //! `rows_of` reads a block under a layout of its columns: a header and rows, or the first record that is no row. The records
 //! are those that the library states.
@@ -15,6 +16,9 @@ mod field;
 mod fields;
 mod full_name;
 pub mod laws;
+mod output;
+mod plain;
+mod quotes;
 mod record_writer;
 mod rows;
 mod values;

@@ -7,7 +7,7 @@ ghost use Rattle.mm_csv.specs.FullNames.{full_name_text};
 
 use crate::FullName;
 use crate::fields::{write_full_names, write_names, write_row, write_values};
-use csv::{Writer, WriterBuilder};
+use crate::output::Output;
 use plain_tables::{NoMemory, Text, Value};
 use std::alloc::Global;
 use std::io::Write;
@@ -15,34 +15,30 @@ use std::marker::Model;
 
 /// Writes records to `W`, which is to take every byte unless it finds no memory, as a `Vec<u8>`.
 ///
-/// Contracts see what `W` holds with what is still kept here behind it, and whether a call has failed. A call that
-/// fails may leave a part of its record behind, and every later one fails.
+/// Contracts see what `W` holds, and whether a call has failed. A call that fails may leave a part of its record behind,
+/// and every later one fails.
 #[derive(Drop)]
 pub struct RecordWriter<W: Write + Drop> {
-    writer: Writer<W>,
+    output: Output<W>,
     failed: bool,
 }
 
 impl<W: Write + Drop> Model for RecordWriter<W> {
-    ghost use Rattle.std.specs.Prelude.{◌≡◌, false};
-    ghost use Rattle.csv.specs.Writing.{text_written};
-    ghost use Rattle.mm_csv.specs.Records.{IsBetweenRecords, Written};
+    ghost use Rattle.mm_csv.specs.Records.{Written};
 
     ghost Value = { Written };
 
-    ghost view = { λ r. record { failed = r.failed; bytes = text_written W.contents r.writer } };
-
-    ghost invariant = { λ r. r.failed ≡ false → IsBetweenRecords r.writer };
+    ghost view = { λ r. record { failed = r.failed; bytes = r.output } };
 }
 
 impl<W: Write + Drop> RecordWriter<W> {
-    /// A writer of what follows the bytes in `to`.
-    pub fn new(to: W) -> RecordWriter<W>
+    /// A writer of what follows the bytes in `to`. It needs memory for fields between quotes alone.
+    pub fn new(alloc: Global, to: W) -> RecordWriter<W>
         ensures fresh { result.failed ≡ false }
         ensures bytes { Keeps (W.contents to) result.bytes }
     {
         RecordWriter {
-            writer: WriterBuilder::new().flexible(true).from_writer(to),
+            output: Output::new(alloc, to),
             failed: false,
         }
     }
@@ -58,7 +54,7 @@ impl<W: Write + Drop> RecordWriter<W> {
             return Err(NoMemory);
         }
         self.failed = true;
-        write_row(&mut self.writer, row)?;
+        write_row(&mut self.output, row)?;
         self.failed = false;
         Ok(())
     }
@@ -74,7 +70,7 @@ impl<W: Write + Drop> RecordWriter<W> {
             return Err(NoMemory);
         }
         self.failed = true;
-        write_values(&mut self.writer, values)?;
+        write_values(&mut self.output, values)?;
         self.failed = false;
         Ok(())
     }
@@ -90,13 +86,13 @@ impl<W: Write + Drop> RecordWriter<W> {
             return Err(NoMemory);
         }
         self.failed = true;
-        write_names(&mut self.writer, names)?;
+        write_names(&mut self.output, names)?;
         self.failed = false;
         Ok(())
     }
 
     /// Full names as a record.
-    pub fn push_full_names(&mut self, alloc: Global, names: &[FullName]) -> Result<(), NoMemory>
+    pub fn push_full_names(&mut self, names: &[FullName]) -> Result<(), NoMemory>
         requires { 0 < length names.now }
         ensures bytes { OnOk result (Appends self.old.bytes self.new.bytes (record_text (map full_name_text names.now))) }
         ensures goes { OnOk result ((self.old.failed ≡ false) × (self.new.failed ≡ false)) }
@@ -106,7 +102,7 @@ impl<W: Write + Drop> RecordWriter<W> {
             return Err(NoMemory);
         }
         self.failed = true;
-        write_full_names(alloc, &mut self.writer, names)?;
+        write_full_names(&mut self.output, names)?;
         self.failed = false;
         Ok(())
     }
@@ -116,13 +112,10 @@ impl<W: Write + Drop> RecordWriter<W> {
         ensures bytes { IfOk result (λ to. Keeps self.bytes (W.contents to)) }
         ensures goes { OnOk result (self.failed ≡ false) }
     {
-        let RecordWriter { writer, failed } = self;
+        let RecordWriter { output, failed } = self;
         if failed {
             return Err(NoMemory);
         }
-        match writer.into_inner() {
-            Ok(to) => Ok(to),
-            Err(_) => Err(NoMemory),
-        }
+        Ok(output.into_inner())
     }
 }

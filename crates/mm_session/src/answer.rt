@@ -1,6 +1,6 @@
 //! The bytes of one answer, made whole before the first of them is written.
 
-ghost use Rattle.std.specs.Prelude.{◌≡◌, ◌++◌, ◌+◌, ◌≤◌, [], length, IsOk, IfOk, OnOk};
+ghost use Rattle.std.specs.Prelude.{◌≡◌, ◌++◌, ◌+◌, ◌-◌, ◌*◌, ◌≤◌, [], length, IsOk, IfOk, OnOk};
 ghost use Rattle.std.specs.Fmt.{decimal};
 
 use itoa::Buffer;
@@ -27,7 +27,16 @@ impl Model for Answer {
     ghost invariant = { λ a. 64 ≤ vec_capacity a.bytes };
 }
 
+// The number that two digits are.
+fn two_digits(tens: u8, ones: u8) -> u32
+    ensures { result ≡ (tens - 48) * 10 + (ones - 48) }
+{
+    u32::from(tens.saturating_sub(b'0')) * 10 + u32::from(ones.saturating_sub(b'0'))
+}
+
 impl Answer {
+    ghost use Rattle.mm_session.specs.Refused.{TellsRefusal};
+
     /// An empty answer, with the room that short answers need.
     pub fn new(alloc: Global) -> Result<Answer, NoMemory>
         ensures { IfOk result (λ answer. answer ≡ []) }
@@ -41,6 +50,26 @@ impl Answer {
         ensures { result.now ≡ self.now }
     {
         self.bytes.as_slice()
+    }
+
+    /// The vector of the bytes so far.
+    pub fn as_vec(&self) -> &Vec<u8>
+        ensures { result.now.items ≡ self.now }
+    {
+        &self.bytes
+    }
+
+    /// The number of the refusal that the bytes begin with, or 0 where they are no refusal's.
+    pub fn refusal(&self) -> u32
+        ensures { TellsRefusal self.now result }
+    {
+        let Some(words) = self.bytes.strip_prefix(b"error ") else {
+            return 0;
+        };
+        match words {
+            [tens, ones, ..] => two_digits(*tens, *ones),
+            _ => 0,
+        }
     }
 
     /// Lets the bytes go, and keeps their room.
@@ -76,15 +105,6 @@ impl Answer {
         let mut buffer = Buffer::new();
         self.push(buffer.format(n).as_bytes())
     }
-
-    /// The same bytes in memory of their own.
-    pub fn try_clone(&self) -> Result<Answer, NoMemory>
-        ensures { IfOk result (λ copy. copy ≡ self.now) }
-    {
-        let mut copy = Answer::new(*self.bytes.allocator())?;
-        copy.push(self.bytes.as_slice())?;
-        Ok(copy)
-    }
 }
 
 impl Write for Answer {
@@ -98,6 +118,11 @@ impl Write for Answer {
     }
 
     fn flush(&mut self) -> io::Result<()> {
+        Ok(())
+    }
+
+    fn write_all(&mut self, buf: &[u8]) -> io::Result<()> {
+        self.bytes.extend_from_slice(buf)?;
         Ok(())
     }
 }

@@ -149,7 +149,7 @@ fn block_of(alloc: Global, catalog: &Catalog, table: TableNumber) -> Result<Answ
     a_catalog_is_consistent(catalog);
     let relation = catalog.at(table);
     let names = names_of(alloc, relation.schema().columns.as_slice())?;
-    let mut records = RecordWriter::new(Answer::new(alloc)?);
+    let mut records = RecordWriter::new(alloc, Answer::new(alloc)?);
     records.push_names(&names)?;
     push_rows(alloc, &mut records, catalog, relation)?;
     records.finish()

@@ -1,7 +1,9 @@
-use Rattle.std.proofs.Common.{map, take}
+use Rattle.std.proofs.Common.{length, map, take}
+use Rattle.std.specs.Prelude.{◌==◌}
+use Rattle.std.specs.Io.KnownBytes.{Appends}
 use Rattle.mm_csv.specs.FullNames.{full_name_text}
-use Rattle.mm_csv.specs.Records.{HasBegun}
+use Rattle.mm_csv.specs.Records.{shown_fields}
 use Rattle.mm_csv.proofs.fields.write_full_names.Given as goal
 
-abbrev pub invariant-loop-full_name : goal.invariant-loop-full_name
-invariant-loop-full_name g l = HasBegun g.W.Write.contents l.fn.writer l.writer (map full_name_text (take l.full_name-index l.names))
+abbrev pub invariant-loop-place : goal.invariant-loop-place
+invariant-loop-place g l = Appends l.fn.output l.output (shown_fields (length l.names == 1) (map full_name_text (take l.place l.names)))

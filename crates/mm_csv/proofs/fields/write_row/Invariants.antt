@@ -1,7 +1,9 @@
-use Rattle.std.proofs.Common.{map, take}
+use Rattle.std.proofs.Common.{length, map, take}
+use Rattle.std.specs.Prelude.{◌==◌}
+use Rattle.std.specs.Io.KnownBytes.{Appends}
 use Rattle.plain_tables.specs.Csv.{value_field}
-use Rattle.mm_csv.specs.Records.{HasBegun}
+use Rattle.mm_csv.specs.Records.{shown_fields}
 use Rattle.mm_csv.proofs.fields.write_row.Given as goal
 
-abbrev pub invariant-loop-value : goal.invariant-loop-value
-invariant-loop-value g l = HasBegun g.W.Write.contents l.fn.writer l.writer (map value_field (take l.value-index l.row))
+abbrev pub invariant-loop-place : goal.invariant-loop-place
+invariant-loop-place g l = Appends l.fn.output l.output (shown_fields (length l.row == 1) (map value_field (take l.place l.row)))

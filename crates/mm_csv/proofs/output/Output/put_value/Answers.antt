@@ -1,0 +1,5 @@
+use Rattle.std.proofs.Common.{rules}
+use Rattle.mm_csv.proofs.output.Output.put_value.Goals as goal
+
+pub returns-in-Int : goal.returns-in-Int
+returns-in-Int g c = search (rules, c.put_integer.ensures c.args.alone)

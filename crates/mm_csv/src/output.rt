@@ -1,0 +1,148 @@
+//! The fields of records, written straight to where they go.
+
+ghost use Rattle.std.specs.Prelude.{Bool, ◌∷◌, [], OnOk};
+ghost use Rattle.std.specs.Fmt.{signed_decimal};
+ghost use Rattle.std.specs.Io.KnownBytes.{Appends, Keeps};
+ghost use Rattle.plain_tables.specs.Csv.{quoted, value_field};
+ghost use Rattle.mm_csv.specs.Records.{AddsField, StandsInQuotes, comma};
+ghost use Rattle.mm_csv.specs.FullNames.{full_name_text};
+
+use crate::FullName;
+use crate::plain::must_be_quoted;
+use crate::quotes::Quotes;
+use itoa::Buffer;
+use plain_tables::{NoMemory, Value};
+use std::alloc::Global;
+use std::io::Write;
+use std::marker::Model;
+
+/// Where records go. Contracts see the bytes that it holds, where they are known.
+#[derive(Drop)]
+pub struct Output<W: Write + Drop> {
+    alloc: Global,
+    to: W,
+    quotes: Quotes,
+}
+
+impl<W: Write + Drop> Model for Output<W> {
+    ghost use Rattle.std.specs.Prelude.{Option, List, ℕ};
+
+    ghost Value = { Option (List ℕ) };
+
+    ghost view = { λ o. W.contents o.to };
+}
+
+impl<W: Write + Drop> Output<W> {
+    /// What follows the bytes in `to`.
+    pub fn new(alloc: Global, to: W) -> Output<W>
+        ensures { Keeps (W.contents to) result }
+    {
+        Output {
+            alloc,
+            to,
+            quotes: Quotes::new(alloc),
+        }
+    }
+
+    /// Gives back what was written to.
+    pub fn into_inner(self) -> W
+        ensures { Keeps self (W.contents result) }
+    {
+        let Output { to, .. } = self;
+        to
+    }
+
+    #[inline]
+    fn put(&mut self, bytes: &[u8]) -> Result<(), NoMemory>
+        ensures { OnOk result (Appends self.old self.new bytes.now) }
+    {
+        match self.to.write_all(bytes) {
+            Ok(()) => Ok(()),
+            Err(_) => Err(NoMemory),
+        }
+    }
+
+    // What stands before the field at this place of its record.
+    #[inline]
+    fn put_comma(&mut self, place: usize) -> Result<(), NoMemory>
+        ensures { OnOk result (Appends self.old self.new (comma place)) }
+    {
+        if place > 0 {
+            return self.put(b",");
+        }
+        Ok(())
+    }
+
+    fn put_quoted(&mut self, field: &[u8]) -> Result<(), NoMemory>
+        requires { StandsInQuotes field.now }
+        ensures { OnOk result (Appends self.old self.new (quoted field.now)) }
+    {
+        self.quotes.write(&mut self.to, field)
+    }
+
+    /// The field at a place of its record, where it may be alone.
+    #[inline]
+    pub fn put_field(&mut self, place: usize, alone: bool, field: &[u8]) -> Result<(), NoMemory>
+        ensures { OnOk result (AddsField alone place self.old self.new field.now) }
+    {
+        self.put_comma(place)?;
+        if must_be_quoted(field) || (alone && field.is_empty()) {
+            return self.put_quoted(field);
+        }
+        self.put(field)
+    }
+
+    #[inline]
+    fn put_integer(&mut self, place: usize, z: i64) -> Result<(), NoMemory>
+        ensures { (alone : Bool) → OnOk result (AddsField alone place self.old self.new (signed_decimal z)) }
+    {
+        self.put_comma(place)?;
+        self.put(Buffer::new().format(z).as_bytes())
+    }
+
+    /// The field of a value.
+    #[inline]
+    pub fn put_value(&mut self, place: usize, alone: bool, value: &Value) -> Result<(), NoMemory>
+        ensures { OnOk result (AddsField alone place self.old self.new (value_field value.now)) }
+    {
+        match value {
+            Value::Null => self.put_field(place, alone, b""),
+            Value::Int(z) => self.put_integer(place, *z),
+            Value::Text(text) => self.put_field(place, alone, text.as_bytes()),
+        }
+    }
+
+    // A full name of which a part must be quoted.
+    #[cold]
+    fn put_name_quoted(&mut self, name: &FullName) -> Result<(), NoMemory>
+        requires { StandsInQuotes (full_name_text name.now) }
+        ensures { OnOk result (Appends self.old self.new (quoted (full_name_text name.now))) }
+    {
+        let mut text = Vec::new(self.alloc);
+        text.extend_from_slice(name.table.as_bytes())?;
+        text.push(b'.')?;
+        text.extend_from_slice(name.column.as_bytes())?;
+        self.put_quoted(&text)
+    }
+
+    /// The field of a full name.
+    pub fn put_full_name(&mut self, place: usize, name: &FullName) -> Result<(), NoMemory>
+        ensures { (alone : Bool) → OnOk result (AddsField alone place self.old self.new (full_name_text name.now)) }
+    {
+        self.put_comma(place)?;
+        if must_be_quoted(name.table.as_bytes()) || must_be_quoted(name.column.as_bytes()) {
+            return self.put_name_quoted(name);
+        }
+        self.put(name.table.as_bytes())?;
+        self.put(b".")?;
+        self.put(name.column.as_bytes())
+    }
+
+    /// The end of a record.
+    #[inline]
+    pub fn put_end(&mut self) -> Result<(), NoMemory>
+        ensures { OnOk result (Appends self.old self.new (10 ∷ [])) }
+    {
+        self.put(b"\n")
+    }
+}
