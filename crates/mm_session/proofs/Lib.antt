@@ -1,5 +1,6 @@
 pub mod AnswerLemmas
 pub mod AskLemmas
+pub mod BesideLemmas
 pub mod BlockLemmas
 pub mod DumpLemmas
 pub mod KeptLemmas
@@ -11,6 +12,7 @@ pub mod PerformLemmas
 pub mod PickLemmas
 pub mod PlaceLemmas
 pub mod QueryLemmas
+pub mod RefusedLemmas
 pub mod RequestLemmas
 pub mod ResultLemmas
 pub mod RisingLemmas
@@ -19,4 +21,5 @@ pub mod SelectLemmas
 pub mod ShortTexts
 pub mod ShowLemmas
 pub mod TakeLemmas
+pub mod WholeLemmas
 pub mod WritingLemmas

@@ -120,14 +120,14 @@ front_goes_on limits from stream more finished bytes (a, d, run, (behind, is)) =
 -- ---- a session in a run
 
 -- the requests and the rest of the stream, with what the session has of both
-record Standing (session : State) (from : Database) (stream answers : List ℕ) : Type 0 where
-  requests : List Request
-  rest : List ℕ
-  divides : Divides stream requests rest
-  keeps : Keeps session.limits rest session.kept
-  answered : AnswersAll session.limits from requests answers session.database
+pub record Standing (session : State) (from : Database) (stream answers : List ℕ) : Type 0 where
+  pub requests : List Request
+  pub rest : List ℕ
+  pub divides : Divides stream requests rest
+  pub keeps : Keeps session.limits rest session.kept
+  pub answered : AnswersAll session.limits from requests answers session.database
 
-standing : (session : State) (from : Database) (stream answers : List ℕ) → StandsIn session from stream answers → Standing session from stream answers
+pub standing : (session : State) (from : Database) (stream answers : List ℕ) → StandsIn session from stream answers → Standing session from stream answers
 standing session from stream answers stands =
     let (requests, rest, divides, keeps) = stands.keeps in
     let (others, last, divided, all) = stands.run in
@@ -140,7 +140,7 @@ standing session from stream answers stands =
       answered = subst (λ rs. AnswersAll session.limits from rs answers session.database) same (rw append-nil at all);
     }
 
-stands : (session : State) (from : Database) (stream answers : List ℕ) (requests : List Request) (rest : List ℕ) → Divides stream requests rest
+pub stands : (session : State) (from : Database) (stream answers : List ℕ) (requests : List Request) (rest : List ℕ) → Divides stream requests rest
     → Keeps session.limits rest session.kept → AnswersAll session.limits from requests answers session.database → StandsIn session from stream answers
 stands session from stream answers requests rest divides keeps all = record {
   keeps = (requests, rest, divides, keeps);

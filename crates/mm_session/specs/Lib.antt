@@ -3,9 +3,11 @@ pub mod Buffers
 pub mod Kept
 pub mod Listing
 pub mod Members
+pub mod OneRequest
 pub mod Passing
 pub mod Performed
 pub mod Query
+pub mod Refused
 pub mod Responding
 pub mod Sessions
 pub mod Shown

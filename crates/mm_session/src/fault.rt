@@ -1,4 +1,4 @@
-//! Why a session or a run stopped.
+//! Why a session or a run stopped, and what is no request.
 
 use thiserror::Error;
 
@@ -26,3 +26,9 @@ pub enum RunFault {
     #[error("no memory")]
     NoMemory,
 }
+
+/// A line and a block are not one whole request: the line has a line feed in it, or asks for another number of bytes than the
+/// block has.
+#[derive(Clone, Copy, Debug, PartialEq, Eq, Error)]
+#[error("not one whole request")]
+pub struct NotOneRequest;

@@ -16,6 +16,7 @@
 //! - A command is done whole or not at all: its answer is made before the tables change, and a refused change leaves all as it was.
 //! - An answer is whole before its first byte is written, so that a refusal can still stand in its place.
 //! - A session that met a write fault has ended, and writes nothing more.
+//! - A request can be asked by itself, with its answer in a buffer of the caller's. It leaves the stream where it is.
 #![tactic(auto)]
 
 mod answer;
@@ -31,6 +32,7 @@ mod session;
 mod whole_run;
 mod writing;
 
-pub use fault::{RunFault, SessionFault};
+pub use answer::Answer;
+pub use fault::{NotOneRequest, RunFault, SessionFault};
 pub use session::Session;
 pub use whole_run::run;

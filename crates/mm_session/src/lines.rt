@@ -1,7 +1,7 @@
 //! How a stream is cut into lines, and what a line is before it is read as a command.
 
-ghost use Rattle.std.specs.Prelude.{◌≡◌, ◌++◌, ◌∷◌, ℕ, MatchOption, IsTrue};
-ghost use Rattle.plain_streams.specs.Division.{IsUnbroken};
+ghost use Rattle.std.specs.Prelude.{◌≡◌, ◌++◌, ◌∷◌, ℕ, MatchOption, IsTrue, ◌↔◌};
+ghost use Rattle.plain_streams.specs.Division.{IsUnbroken, IsWhole};
 ghost use Rattle.plain_streams.specs.Requests.{Asks, without_return, is_silent as is_silent_line};
 
 use memchr::memchr;
@@ -53,4 +53,12 @@ pub fn asked_length(line: &[u8]) -> Option<u64>
         return None;
     };
     block_length(text)
+}
+
+/// Whether a line and a block are one whole request.
+pub fn is_whole(line: &[u8], block: &[u8]) -> bool
+    ensures { IsTrue result ↔ IsWhole (record { line = line.now; block = block.now }) }
+{
+    let length = asked_length(line).unwrap_or(0);
+    split_line(line).is_none() && length == block.len() as u64
 }

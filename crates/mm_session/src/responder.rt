@@ -2,8 +2,9 @@
 
 use crate::answer::Answer;
 use crate::block::{Block, Unkept};
+use crate::fault::NotOneRequest;
 use crate::kept::Kept;
-use crate::lines::{asked_length, split_line};
+use crate::lines::{asked_length, is_whole, split_line};
 use crate::respond::{LINE_TOO_LONG, respond};
 use mm_catalog::Catalog;
 use plain_tables::NoMemory;
@@ -27,14 +28,15 @@ pub struct Responder {
 }
 
 impl Responder {
-    ghost use Rattle.std.specs.Prelude.{◌≡◌, ◌≢◌, ◌<◌, ◌≤◌, ◌+◌, ◌++◌, ◌∷◌, [], ℕ, List, Some, None, IfOk, IfSome, MatchOption, true, false, length, is_some, if◌then◌else◌, codes};
+    ghost use Rattle.std.specs.Prelude.{◌≡◌, ◌≢◌, ◌<◌, ◌≤◌, ◌+◌, ◌++◌, ◌∷◌, [], ℕ, List, Some, None, IfOk, OnOk, OnErr, IfSome, MatchOption, true, false, length, is_some, if◌then◌else◌, codes};
     ghost use Rattle.std.specs.Option.{option_copied};
     ghost use Rattle.plain_streams.specs.Requests.{Asks};
-    ghost use Rattle.plain_streams.specs.Division.{IsUnbroken};
+    ghost use Rattle.plain_streams.specs.Division.{IsUnbroken, IsWhole};
     ghost use Rattle.plain_streams.specs.Runs.{Answers, HasBlock};
     ghost use Rattle.mm_catalog.specs.Seen.{database_of};
     ghost use Rattle.mm_session.specs.Buffers.{kept_of, line_kept, is_start};
     ghost use Rattle.mm_session.specs.Kept.{KeepsBlock, nothing};
+    ghost use Rattle.mm_session.specs.OneRequest.{AnswersOne};
     ghost use Rattle.mm_session.specs.Responding.{IsRest, IsRestWith, IsLoadLine, IsLineWith, Responds, Takes, Ends, waits};
 
     /// A responder over the tables of a catalog, to which nothing has come.
@@ -216,5 +218,36 @@ impl Responder {
             }
             None => self.finish_line(),
         }
+    }
+
+    /// Answers one request beside the stream. Of the stream it keeps what it did.
+    pub fn answer_request(
+        &mut self,
+        line: &[u8],
+        block: &[u8],
+        answer: &mut Answer,
+    ) -> Result<(), NotOneRequest>
+        ensures ok { OnOk result (AnswersOne self.old.catalog.limits (database_of self.old.catalog) (record { line = line.now; block = block.now }) answer.new (database_of self.new.catalog)) }
+        ensures err { OnErr result (¬ (IsWhole (record { line = line.now; block = block.now }))) }
+        ensures unchanged { OnErr result ((self.new ≡ self.old) × (answer.new ≡ answer.old)) }
+        ensures kept { self.new.kept ≡ self.old.kept }
+        ensures limits { self.new.catalog.limits ≡ self.old.catalog.limits }
+    {
+        if !is_whole(line, block) {
+            return Err(NotOneRequest);
+        }
+        if block.len() as u64 > u64::from(self.catalog.limits().block) {
+            answer.set(BLOCK_TOO_LONG);
+            return Ok(());
+        }
+        respond(
+            self.alloc,
+            &mut self.catalog,
+            self.policy,
+            line,
+            block,
+            answer,
+        );
+        Ok(())
     }
 }

@@ -3,7 +3,8 @@
 ghost use Rattle.std.specs.Prelude.{◌≡◌, ◌≤◌, ◌++◌, ◌∷◌, ◌↔◌, [], Err, true, false, IsTrue, IsErrOf, IfOk, OnOk, OnErr};
 ghost use Rattle.std.specs.Io.KnownBytes.{Keeps};
 
-use crate::fault::SessionFault;
+use crate::answer::Answer;
+use crate::fault::{NotOneRequest, SessionFault};
 use crate::responder::Responder;
 use crate::writing::write_whole;
 use mm_catalog::Catalog;
@@ -31,6 +32,8 @@ impl Model for Session {
 
 impl Session {
     ghost use Rattle.mm_catalog.specs.Seen.{database_of};
+    ghost use Rattle.plain_streams.specs.Division.{IsWhole};
+    ghost use Rattle.mm_session.specs.OneRequest.{AnswersOne, StaysInStream, GoesBetween};
     ghost use Rattle.mm_session.specs.Sessions.{Gains, Feeds, Finishes, BreaksOff, new_session};
 
     /// A session with no tables, under the standard limits.
@@ -64,6 +67,35 @@ impl Session {
         ensures limits { result.now.limits ≡ self.now.limits }
     {
         &self.responder.catalog
+    }
+
+    /// Whether the session has ended.
+    pub fn has_ended(&self) -> bool
+        ensures { result ≡ self.now.ended }
+    {
+        self.ended
+    }
+
+    /// Answers one request by itself, beside the stream: a line without its line feed, and the block behind it, which is empty
+    /// for a line that asks for none. The stream goes on as if the request had not been there.
+    pub fn answer_request(
+        &mut self,
+        line: &[u8],
+        block: &[u8],
+        answer: &mut Answer,
+    ) -> Result<(), NotOneRequest>
+        // The request is one, and was answered.
+        ensures ok { OnOk result (AnswersOne self.old.limits self.old.database (record { line = line.now; block = block.now }) answer.new self.new.database) }
+
+        // It isn't: the line has a line feed in it, or takes another number of bytes than the block has.
+        ensures err { OnErr result (¬ (IsWhole (record { line = line.now; block = block.now }))) }
+        ensures unchanged { OnErr result ((self.new ≡ self.old) × (answer.new ≡ answer.old)) }
+
+        // The stream goes on as before, and the request stands behind what of it was answered.
+        ensures stream { StaysInStream self.old self.new }
+        ensures run { OnOk result (GoesBetween self.old self.new (record { line = line.now; block = block.now }) answer.new) }
+    {
+        self.responder.answer_request(line, block, answer)
     }
 
     /// Takes the next bytes of the stream, and answers each request that ends in them.

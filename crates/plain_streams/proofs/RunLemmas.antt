@@ -58,7 +58,7 @@ listing_is_no_error [] words same = let first = begins_otherwise 111 _ words sam
 listing_is_no_error (t ∷ tables) words same = let first = begins_otherwise 116 _ words same in omega arith
 
 -- an answer that begins with error is that of a refusal
-error_is_refused : (o : Outcome) (words : List ℕ) → answer_text o ≡ codes "error " ++ words → (why : Refusal) × (o ≡ Refused why)
+pub error_is_refused : (o : Outcome) (words : List ℕ) → answer_text o ≡ codes "error " ++ words → (why : Refusal) × (o ≡ Refused why)
 error_is_refused Done words same = let first = begins_otherwise 111 _ words same in absurd (omega arith)
 error_is_refused (Changed n) words same = let first = begins_otherwise 111 _ words same in absurd (omega arith)
 error_is_refused (Rows names rows) words same = let first = begins_otherwise 114 _ words same in absurd (omega arith)

@@ -9,10 +9,10 @@ use std::alloc::Global;
 use std::process::Abort;
 use std::test::Fail;
 
-// The rows, parted by `====`: each its requests, parted by `~~~~`, and behind `----` their answers. They are a load of which
-// the last record is bad; the block of a refused load; blocks that are no such block, or have quotes, carriage returns or a
-// mark; a load into a table with indexes; a dump; one that is loaded and dumped again.
-const ROWS_WITH_BLOCKS: &str = "\
+/// The rows, parted by `====`: each its requests, parted by `~~~~`, and behind `----` their answers. They are a load of which
+/// the last record is bad; the block of a refused load; blocks that are no such block, or have quotes, carriage returns or a
+/// mark; a load into a table with indexes; a dump; one that is loaded and dumped again.
+pub const ROWS_WITH_BLOCKS: &str = "\
 table t (id int)\n\
 ~~~~\n\
 load t 9\n\
@@ -152,14 +152,16 @@ const CUT_SHORT: &str =
 
 const CUT_SHORT_ANSWERS: &str = "ok\nerror 13 block cut short\n";
 
-// Two rows and blocks of six bytes are as many as there may be.
-const SMALL: Limits = Limits { rows: 2, block: 6 };
+/// Two rows and blocks of six bytes are as many as there may be.
+pub const SMALL: Limits = Limits { rows: 2, block: 6 };
 
-const SMALL_STREAM: &str =
+/// Requests that meet these limits.
+pub const SMALL_STREAM: &str =
     "table t (id int)\n~~~~\ninsert t (1)\n~~~~\ninsert t (2)\n~~~~\ninsert t (3)\n~~~~\n\
 insert t (1)\n~~~~\nload t 5\nid\n3\n~~~~\nload t 7\nid\n3\n4\n~~~~\ndump t\n~~~~\nload nosuch 7\nid\n3\n4\n";
 
-const SMALL_ANSWERS: &str =
+/// Their answers.
+pub const SMALL_ANSWERS: &str =
     "ok\nok 1\nok 1\nerror 43 table full\nerror 41 key exists\nerror 43 table full (record 1)\n\
 error 12 block too long\nerror 64 dump too long\nerror 12 block too long\n";
 

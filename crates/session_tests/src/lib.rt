@@ -17,6 +17,8 @@ mod pages;
 #[cfg(test)]
 mod references;
 #[cfg(test)]
+mod requests;
+#[cfg(test)]
 mod rows;
 #[cfg(test)]
 mod streams;

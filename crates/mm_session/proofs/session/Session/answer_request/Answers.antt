@@ -1,0 +1,20 @@
+use Rattle.std.proofs.Common.{refl, subst}
+use Rattle.std.specs.Prelude.{OnOk}
+use Rattle.plain_streams.specs.Requests.{Request}
+use Rattle.mm_catalog.specs.Seen.{database_of}
+use Rattle.mm_session.specs.OneRequest.{GoesBetween}
+use Rattle.mm_session.specs.Sessions.{State}
+use Rattle.mm_session.proofs.BesideLemmas.{goes_between-if_ok}
+use Rattle.mm_session.proofs.session.Session.answer_request.Goals as goal
+
+pub returns-clause-run : goal.returns-clause-run
+returns-clause-run c =
+    let before = c.self.inside.responder in
+    let after = c.answer_request.new.self in
+    let ended = c.self.inside.ended in
+    let old : State = record { limits = before.catalog.limits; database = database_of before.catalog; ended = ended; kept = before.kept } in
+    let new : State = record { limits = after.catalog.limits; database = database_of after.catalog; ended = ended; kept = after.kept } in
+    let request : Request = record { line = c.args.line.now; block = c.args.block.now } in
+    subst (λ (s : State). OnOk c.answer_request.result (GoesBetween s new request c.answer_request.new.answer)) c.self.view_is
+    (goes_between-if_ok c.answer_request.result old new request c.answer_request.new.answer
+    (record { limits = c.answer_request.ensures.limits; ended = refl; kept = c.answer_request.ensures.kept }) c.answer_request.ensures.ok)
