@@ -1,0 +1,16 @@
+-- An empty answer becomes what it gains.
+use Rattle.std.proofs.Common.{◌≡◌, ◌∙◌, List, ℕ, [], ◌++◌, Some, subst, sym, ap}
+use Rattle.mm_session.specs.Sessions.{Gains}
+use Rattle.mmdb_c.proofs.database.Database.feed.Goals as goal
+
+-- what an empty answer has gained is the answer
+gained_all : (P : List ℕ → Type 0) (old new : List ℕ) → old ≡ [] → Gains (Some old) (Some new) P → P new
+gained_all P old new empty g = subst P (sym (g.1 ∙ ap (λ (bytes : List ℕ). bytes ++ g.0) empty)) g.2
+
+-- src/database.rt:43:5
+pub returns-clause-write : goal.returns-clause-write
+returns-clause-write c is = record {
+  breaks_off = gained_all _ _ _ c.clear.ensures (c.feed.ensures.write is);
+  over = c.feed.ensures.over is;
+  limits = c.feed.ensures.limits;
+}

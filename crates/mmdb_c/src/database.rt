@@ -1,0 +1,55 @@
+//! A session, and the answers to the last call.
+
+ghost use Rattle.std.specs.Prelude.{◌≡◌, ◌≤◌, ◌↔◌, [], IsTrue, IsErrOf, IfOk, OnOk, OnErr};
+ghost use Rattle.plain_streams.specs.Division.{IsWhole};
+ghost use Rattle.mm_session.specs.Sessions.{new_session};
+
+use mm_session::{Answer, NotOneRequest, Session, SessionFault};
+use plain_tables::{Limits, NoMemory};
+use plan_chooser::Policy;
+use std::alloc::Global;
+
+/// A session, and the answers to the last call.
+#[derive(Drop)]
+pub struct Database {
+    pub session: Session,
+    pub answer: Answer,
+}
+
+impl Database {
+    ghost use Rattle.mmdb_c.specs.Calls.{request, AnswersRequest, TakesPiece, LosesStream};
+
+    /// A database with no tables, and an empty answer.
+    pub fn new(alloc: Global, policy: Policy, limits: Limits) -> Result<Database, NoMemory>
+        requires { limits.rows ≤ 16777216 }
+        ensures { IfOk result (λ d. (d.session ≡ new_session limits []) × (d.answer ≡ [])) }
+    {
+        Ok(Database {
+            session: Session::with_limits(alloc, policy, limits)?,
+            answer: Answer::new(alloc)?,
+        })
+    }
+
+    /// Answers the request of a line and a block, beside the stream.
+    pub fn answer_request(&mut self, line: &[u8], block: &[u8]) -> Result<(), NotOneRequest>
+        ensures ok { OnOk result (AnswersRequest (request line.now block.now) self.old self.new) }
+        ensures err { OnErr result (¬ (IsWhole (request line.now block.now))) }
+        ensures unchanged { OnErr result (self.new ≡ self.old) }
+    {
+        self.session.answer_request(line, block, &mut self.answer)
+    }
+
+    /// Takes the next bytes of the stream, and keeps the answers of the requests that end in them.
+    pub fn feed(&mut self, piece: &[u8]) -> Result<(), SessionFault>
+        ensures ok { OnOk result (TakesPiece piece.now self.old self.new) }
+        ensures write { IsErrOf result SessionFault.Write → LosesStream piece.now self.old self.new }
+        ensures ended { IsErrOf result SessionFault.Ended ↔ IsTrue self.old.session.ended }
+        ensures unchanged { IsErrOf result SessionFault.Ended → self.new ≡ self.old }
+    {
+        if self.session.has_ended() {
+            return Err(SessionFault::Ended);
+        }
+        self.answer.clear();
+        self.session.feed(piece, &mut self.answer)
+    }
+}

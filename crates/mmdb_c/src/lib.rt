@@ -1,0 +1,245 @@
+//! mmdb for C: handles, and the calls on them.
+//!
+//! A handle owns a database: a session, and the answers to the last call. Each call takes the database out of the handle, does what
+//! the session's call does, and puts it back. The header that C reads is `include/mmdb.h`.
+//!
+//! - A handle that is closed owns nothing, and a call on it does nothing.
+//! - After each status but `DONE` the tables are as they were, unless a piece found no room for its answers.
+#![tactic(auto)]
+
+ghost use Rattle.std.specs.Prelude.{◌≡◌, ◌≢◌, ◌↔◌, ◌<◌, ◌≤◌, ◌⊎◌, [], Some, None, IfSome, IsSome, IsNone, IsSomeAnd, IsTrue, length, false};
+ghost use Rattle.std.specs.Vec.{vec_ptr, vec_len};
+ghost use Rattle.plain_streams.specs.Division.{IsWhole};
+ghost use Rattle.mm_session.specs.Refused.{TellsRefusal};
+ghost use Rattle.mmdb_c.specs.Calls.{AreLimits, new_database, request, Becomes, AnswersRequest, TakesPiece, LosesStream};
+
+mod block;
+mod database;
+mod handle;
+
+use crate::database::Database;
+use crate::handle::Handle;
+use mm_session::SessionFault;
+use plain_tables::Limits;
+use plan_chooser::Policy;
+use std::alloc::Global;
+
+const DONE: u32 = 0;
+
+const NOT_OPEN: u32 = 1;
+
+const IS_OPEN: u32 = 2;
+
+const NO_SUCH_POLICY: u32 = 3;
+
+const LIMIT_OUT_OF_RANGE: u32 = 4;
+
+const NO_LINE: u32 = 5;
+
+const NOT_ONE_REQUEST: u32 = 6;
+
+const NO_MEMORY: u32 = 7;
+
+const ENDED: u32 = 8;
+
+// The greatest number of rows of a table, and of bytes of a block.
+const MOST: u32 = 16_777_216;
+
+/// The bytes of an answer.
+#[repr(C)]
+#[derive(Drop)]
+pub struct Bytes {
+    pub at: *const u8,
+    pub length: usize,
+}
+
+// The policy of that number.
+fn policy_of(number: u32) -> Option<Policy>
+    ensures { IsNone result ↔ (4 < number) }
+{
+    match number {
+        0 => Some(Policy::Auto),
+        1 => Some(Policy::Scan),
+        2 => Some(Policy::Hash),
+        3 => Some(Policy::Tree),
+        4 => Some(Policy::Merge),
+        _ => None,
+    }
+}
+
+/// Opens a database with no tables.
+#[unsafe(no_mangle)]
+pub extern "C" fn mmdb_open(
+    alloc: Global,
+    handle: &mut Handle,
+    policy: u32,
+    rows: u32,
+    block: u32,
+) -> u32
+    ensures is_open { (result ≡ IS_OPEN) ↔ IsSome handle.old.database }
+    ensures no_such_policy { (result ≡ NO_SUCH_POLICY) ↔ (IsNone handle.old.database × (4 < policy)) }
+    ensures out_of_range { (result ≡ LIMIT_OUT_OF_RANGE) ↔ (IsNone handle.old.database × (policy ≤ 4) × ¬ (AreLimits rows block)) }
+    ensures opened { IsNone handle.old.database × (policy ≤ 4) × AreLimits rows block → (result ≡ DONE) ⊎ (result ≡ NO_MEMORY) }
+    ensures done { result ≡ DONE → handle.new.database ≡ Some (new_database rows block) }
+    ensures unchanged { result ≢ DONE → handle.new.database ≡ handle.old.database }
+{
+    if let Some(database) = handle.take(alloc) {
+        handle.put(alloc, database);
+        return IS_OPEN;
+    }
+    let Some(policy) = policy_of(policy) else {
+        return NO_SUCH_POLICY;
+    };
+    if rows == 0 || rows > MOST || block > MOST {
+        return LIMIT_OUT_OF_RANGE;
+    }
+    let Ok(database) = Database::new(alloc, policy, Limits { rows, block }) else {
+        return NO_MEMORY;
+    };
+    let Ok(database) = Box::new(alloc, database) else {
+        return NO_MEMORY;
+    };
+    handle.put(alloc, database);
+    DONE
+}
+
+// Tells where bytes lie, and how many they are.
+fn tell(bytes: &Vec<u8>, told: &mut Bytes)
+    ensures { told.new ≡ record { at = vec_ptr bytes.now; length = vec_len bytes.now } }
+{
+    told.at = bytes.as_ptr();
+    told.length = bytes.len();
+}
+
+// Answers the request of a line and a block, and tells where its answer lies.
+fn answer_request(
+    alloc: Global,
+    handle: &mut Handle,
+    line: &[u8],
+    block: &[u8],
+    answer: &mut Bytes,
+) -> u32
+    ensures not_open { (result ≡ NOT_OPEN) ↔ IsNone handle.old.database }
+    ensures no_line { (result ≡ NO_LINE) ↔ (IsSome handle.old.database × (line.now ≡ [])) }
+    ensures not_one_request { (result ≡ NOT_ONE_REQUEST) ↔ (IsSome handle.old.database × (line.now ≢ []) × ¬ (IsWhole (request line.now block.now))) }
+    ensures one_request { IsSome handle.old.database × (line.now ≢ []) × IsWhole (request line.now block.now) → result ≡ DONE }
+    ensures done { result ≡ DONE → Becomes handle.old.database handle.new.database (AnswersRequest (request line.now block.now)) }
+    ensures told { result ≡ DONE → IsSomeAnd handle.new.database (λ d. answer.new.length ≡ length d.answer) }
+    ensures unchanged { result ≢ DONE → (handle.new.database ≡ handle.old.database) × (answer.new ≡ answer.old) }
+{
+    let Some(mut database) = handle.take(alloc) else {
+        return NOT_OPEN;
+    };
+    if line.is_empty() {
+        handle.put(alloc, database);
+        return NO_LINE;
+    }
+    if database.answer_request(line, block).is_err() {
+        handle.put(alloc, database);
+        return NOT_ONE_REQUEST;
+    }
+    tell(database.answer.as_vec(), answer);
+    handle.put(alloc, database);
+    DONE
+}
+
+/// Answers one command line, given without its line feed, beside the stream.
+#[unsafe(no_mangle)]
+pub extern "C" fn mmdb_command(
+    alloc: Global,
+    handle: &mut Handle,
+    line: &[u8],
+    answer: &mut Bytes,
+) -> u32
+    ensures not_open { (result ≡ NOT_OPEN) ↔ IsNone handle.old.database }
+    ensures no_line { (result ≡ NO_LINE) ↔ (IsSome handle.old.database × (line.now ≡ [])) }
+    ensures not_one_request { (result ≡ NOT_ONE_REQUEST) ↔ (IsSome handle.old.database × (line.now ≢ []) × ¬ (IsWhole (request line.now []))) }
+    ensures one_request { IsSome handle.old.database × (line.now ≢ []) × IsWhole (request line.now []) → result ≡ DONE }
+    ensures done { result ≡ DONE → Becomes handle.old.database handle.new.database (AnswersRequest (request line.now [])) }
+    ensures told { result ≡ DONE → IsSomeAnd handle.new.database (λ d. answer.new.length ≡ length d.answer) }
+    ensures unchanged { result ≢ DONE → (handle.new.database ≡ handle.old.database) × (answer.new ≡ answer.old) }
+{
+    answer_request(alloc, handle, line, &[], answer)
+}
+
+/// Answers a command line and the block that it asks for, beside the stream.
+#[unsafe(no_mangle)]
+pub extern "C" fn mmdb_load(
+    alloc: Global,
+    handle: &mut Handle,
+    line: &[u8],
+    block: &[u8],
+    answer: &mut Bytes,
+) -> u32
+    ensures not_open { (result ≡ NOT_OPEN) ↔ IsNone handle.old.database }
+    ensures no_line { (result ≡ NO_LINE) ↔ (IsSome handle.old.database × (line.now ≡ [])) }
+    ensures not_one_request { (result ≡ NOT_ONE_REQUEST) ↔ (IsSome handle.old.database × (line.now ≢ []) × ¬ (IsWhole (request line.now block.now))) }
+    ensures one_request { IsSome handle.old.database × (line.now ≢ []) × IsWhole (request line.now block.now) → result ≡ DONE }
+    ensures done { result ≡ DONE → Becomes handle.old.database handle.new.database (AnswersRequest (request line.now block.now)) }
+    ensures told { result ≡ DONE → IsSomeAnd handle.new.database (λ d. answer.new.length ≡ length d.answer) }
+    ensures unchanged { result ≢ DONE → (handle.new.database ≡ handle.old.database) × (answer.new ≡ answer.old) }
+{
+    answer_request(alloc, handle, line, block, answer)
+}
+
+/// Takes the next bytes of the stream, and keeps the answers of the requests that end in them.
+#[unsafe(no_mangle)]
+pub extern "C" fn mmdb_feed(alloc: Global, handle: &mut Handle, piece: &[u8]) -> u32
+    ensures not_open { (result ≡ NOT_OPEN) ↔ IsNone handle.old.database }
+    ensures ended { (result ≡ ENDED) ↔ IsSomeAnd handle.old.database (λ d. IsTrue d.session.ended) }
+    ensures goes_on { IsSomeAnd handle.old.database (λ d. d.session.ended ≡ false) → (result ≡ DONE) ⊎ (result ≡ NO_MEMORY) }
+    ensures done { result ≡ DONE → Becomes handle.old.database handle.new.database (TakesPiece piece.now) }
+    ensures no_memory { result ≡ NO_MEMORY → Becomes handle.old.database handle.new.database (LosesStream piece.now) }
+    ensures unchanged { (result ≡ NOT_OPEN) ⊎ (result ≡ ENDED) → handle.new.database ≡ handle.old.database }
+{
+    let Some(mut database) = handle.take(alloc) else {
+        return NOT_OPEN;
+    };
+    let fed = database.feed(piece);
+    handle.put(alloc, database);
+    match fed {
+        Ok(()) => DONE,
+        Err(SessionFault::Write) => NO_MEMORY,
+        Err(SessionFault::Ended) => ENDED,
+    }
+}
+
+/// Tells where the answers to the last call lie, until the next call that changes them.
+#[unsafe(no_mangle)]
+pub extern "C" fn mmdb_answer(alloc: Global, handle: &mut Handle, answer: &mut Bytes) -> u32
+    ensures not_open { (result ≡ NOT_OPEN) ↔ IsNone handle.old.database }
+    ensures open { (result ≡ DONE) ↔ IsSome handle.old.database }
+    ensures told { result ≡ DONE → IsSomeAnd handle.new.database (λ d. answer.new.length ≡ length d.answer) }
+    ensures untold { result ≢ DONE → answer.new ≡ answer.old }
+    ensures unchanged { handle.new.database ≡ handle.old.database }
+{
+    let Some(database) = handle.take(alloc) else {
+        return NOT_OPEN;
+    };
+    tell(database.answer.as_vec(), answer);
+    handle.put(alloc, database);
+    DONE
+}
+
+/// The number of the refusal that the answers to the last call begin with, or 0.
+#[unsafe(no_mangle)]
+pub extern "C" fn mmdb_refusal(alloc: Global, handle: &mut Handle) -> u32
+    ensures not_open { IsNone handle.old.database → result ≡ 0 }
+    ensures tells { IfSome handle.old.database (λ d. TellsRefusal d.answer result) }
+    ensures unchanged { handle.new.database ≡ handle.old.database }
+{
+    let Some(database) = handle.take(alloc) else {
+        return 0;
+    };
+    let number = database.answer.refusal();
+    handle.put(alloc, database);
+    number
+}
+
+/// Closes the handle, and frees its database where it was open.
+#[unsafe(no_mangle)]
+pub extern "C" fn mmdb_close(alloc: Global, handle: &mut Handle)
+    ensures { handle.new.database ≡ None }
+{
+    drop(handle.take(alloc));
+}
