@@ -1,0 +1,117 @@
+//! The columns of tables, as a listing declares them, and how a row of values is written for a load.
+
+use std::collections::HashMap;
+use std::fmt::Write;
+
+use crate::error::Error;
+use crate::value::Value;
+
+/// What the values of a column are: for a reference what the keys of its table are.
+#[derive(Clone, Copy, Debug, PartialEq, Eq)]
+pub(crate) enum Kind {
+    Integer,
+    Text,
+}
+
+/// A column as it is declared.
+#[derive(Clone, Debug)]
+pub(crate) struct Column {
+    pub(crate) name: String,
+    pub(crate) kind: Kind,
+    pub(crate) takes_null: bool,
+    pub(crate) refers_to: Option<String>,
+}
+
+/// The columns of each table, by the table's name.
+pub(crate) type Tables = HashMap<String, Vec<Column>>;
+
+/// The columns of each table of a listing. A table stands behind those that it refers to.
+pub(crate) fn tables_of(listing: &str) -> Tables {
+    let mut tables = Tables::new();
+    for declared in listing.lines().filter_map(|line| line.strip_prefix("table ")) {
+        let (name, columns) = declared.split_once(' ').unwrap_or((declared, ""));
+        let columns = columns.trim_start_matches('(').trim_end_matches(')').split(", ");
+        let columns = columns.map(|column| column_of(column, &tables)).collect();
+        tables.insert(name.to_string(), columns);
+    }
+    tables
+}
+
+fn column_of(declared: &str, before: &Tables) -> Column {
+    let words: Vec<&str> = declared.split(' ').collect();
+    let refers_to = words.get(2).map(|table| table.to_string());
+    let kind = match &refers_to {
+        Some(table) => before[table][0].kind,
+        None if words[1] == "int" => Kind::Integer,
+        None => Kind::Text,
+    };
+    Column {
+        name: words[0].to_string(),
+        kind,
+        takes_null: words.len() == 4,
+        refers_to,
+    }
+}
+
+/// The block of a load that has these rows.
+pub(crate) fn block_of<R: AsRef<[Value]>>(
+    columns: &[Column],
+    rows: impl IntoIterator<Item = R>,
+) -> Result<String, Error> {
+    let names: Vec<&str> = columns.iter().map(|column| column.name.as_str()).collect();
+    let mut block = names.join(",");
+    for (before, row) in rows.into_iter().enumerate() {
+        block.push('\n');
+        push_row(&mut block, columns, row.as_ref(), before + 1)?;
+    }
+    Ok(block)
+}
+
+fn push_row(block: &mut String, columns: &[Column], values: &[Value], row: usize) -> Result<(), Error> {
+    if values.len() != columns.len() {
+        return Err(Error::RowLength {
+            row,
+            values: values.len(),
+            columns: columns.len(),
+        });
+    }
+    let from = block.len();
+    for (place, (value, column)) in values.iter().zip(columns).enumerate() {
+        if place > 0 {
+            block.push(',');
+        }
+        push_field(block, value, column, row)?;
+    }
+    if block.len() == from {
+        block.push_str("\"\"");
+    }
+    Ok(())
+}
+
+fn push_field(block: &mut String, value: &Value, column: &Column, row: usize) -> Result<(), Error> {
+    match (value, column.kind) {
+        (Value::Null, _) if column.takes_null => {}
+        (Value::Integer(integer), Kind::Integer) => {
+            write!(block, "{integer}").expect("a string takes what is written");
+        }
+        (Value::Text(text), Kind::Text) if text.is_empty() && column.takes_null => {
+            return Err(Error::EmptyText {
+                row,
+                column: column.name.clone(),
+            });
+        }
+        (Value::Text(text), Kind::Text) if text.contains(&[',', '"', '\r', '\n'][..]) => {
+            block.push('"');
+            block.push_str(&text.replace('"', "\"\""));
+            block.push('"');
+        }
+        (Value::Text(text), Kind::Text) => block.push_str(text),
+        _ => {
+            return Err(Error::WrongType {
+                row,
+                column: column.name.clone(),
+            })
+        }
+    }
+    Ok(())
+}
