@@ -38,7 +38,10 @@ class Copies(unittest.TestCase):
         shutil.copytree(harness.ROOT / "release", self.top / "release")
         for file in ("run", "crates.txt"):
             shutil.copy(harness.ROOT / file, self.top / file)
-        for crate in self.said_by("release/digest", "--crates").decode().split():
+        for folder in ("include", "lib"):
+            shutil.copytree(harness.ROOT / folder, self.top / folder)
+        crates = [self.said_by("release/digest", "--crates", *words).decode().split() for words in ([], ["--library"])]
+        for crate in {crate for named in crates for crate in named}:
             for part in ("src", "specs", "proofs"):
                 if (harness.ROOT / "crates" / crate / part).is_dir():
                     shutil.copytree(harness.ROOT / "crates" / crate / part, self.top / "crates" / crate / part)
@@ -173,6 +176,8 @@ class Comparisons(Copies):
         built = self.top / "crates" / "mmdb" / "out" / "mmdb"
         built.parent.mkdir()
         shutil.copy(harness.PROGRAM, built)
+        digests = self.said_by("release/digest", "--library", "release")
+        (self.top / "release" / "libmmdb.digests").write_bytes(digests)
         self.path = self.put_toolchain(PROVES)
 
     def check(self, passed, failed):
@@ -180,20 +185,29 @@ class Comparisons(Copies):
         self.assertEqual(ran.stdout.splitlines()[-1], b"%d passed, %d failed" % (passed, failed))
         self.assertEqual(ran.returncode, failed)
 
-    def test_equal_programs_pass(self):
-        self.check(1, 0)
+    def test_equal_files_pass(self):
+        self.check(2, 0)
 
-    def test_one_changed_byte_fails(self):
+    def test_one_changed_byte_of_the_program_fails(self):
         self.change("release/mmdb", at=self.released.stat().st_size // 2)
-        self.check(0, 1)
+        self.check(1, 1)
         self.note(self.released)
-        self.check(0, 1)
+        self.check(1, 1)
 
     def test_a_digest_of_another_program_fails(self):
         self.change("release/mmdb.digests", at=-15)
-        self.check(0, 1)
+        self.check(1, 1)
+
+    def test_one_changed_byte_of_the_library_fails(self):
+        for file in ("libmmdb.a", "libmmdb.so", "mmdb.h", "mmdb.pc"):
+            with self.subTest(file):
+                self.change(f"release/{file}", at=20)
+                self.check(1, 1)
+                shutil.copy(harness.ROOT / "release" / file, self.top / "release" / file)
 
     def test_other_sources_count_for_nothing(self):
+        self.change("include/mmdb.h")
+        self.check(1, 0)
         self.change("crates/plain_tables/src/lib.rt")
         self.check(0, 0)
 

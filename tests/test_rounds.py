@@ -114,7 +114,9 @@ class Rounds(unittest.TestCase):
         self.check(FRONT + TABLES + INDEXES, loads(random.Random(SEED)))
 
     def test_tables_that_go_give_all_back(self):
+        """What is kept of them is the room of the largest answer, so that is there before the first look."""
         rows = changes(random.Random(SEED)).partition(b"delete emp\n")[0]
-        _, held = self.run_counted([FRONT, MARK, TABLES + INDEXES, MARK, rows, MARK, DROPS, MARK])
+        tables = TABLES + INDEXES
+        _, held = self.run_counted([FRONT, tables, rows, DROPS, MARK, tables, MARK, rows, MARK, DROPS, MARK])
         self.assertEqual(sorted(held), [held[0], held[3], held[1], held[2]])
         self.assertEqual(held[3], held[0])

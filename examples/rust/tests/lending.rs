@@ -1,0 +1,42 @@
+//! Tests that share a fixture: each begins with the same library, which is its own.
+
+use lending::{fixture, give_back, lend, overdue, Refusal};
+
+#[test]
+fn a_book_that_is_out_is_not_lent() {
+    let mut db = fixture::library().unwrap();
+    assert_eq!(lend(&mut db, 1, "Bo O'Hara", 200), Ok(Err(Refusal::IsOut)));
+    assert!(give_back(&mut db, 1).unwrap());
+    assert_eq!(lend(&mut db, 1, "Bo O'Hara", 200), Ok(Ok(())));
+}
+
+#[test]
+fn a_book_is_given_back_once() {
+    let mut db = fixture::library().unwrap();
+    assert!(give_back(&mut db, 4).unwrap());
+    assert!(!give_back(&mut db, 4).unwrap());
+    assert!(!give_back(&mut db, 3).unwrap());
+}
+
+#[test]
+fn strangers_and_unknown_books() {
+    let mut db = fixture::library().unwrap();
+    let before = db.dump("loan").unwrap();
+    assert_eq!(lend(&mut db, 3, "Eve", 200), Ok(Err(Refusal::Unknown)));
+    assert_eq!(lend(&mut db, 9, "Ann", 200), Ok(Err(Refusal::Unknown)));
+    assert_eq!(lend(&mut db, 3, "Ann', 0)", 200), Ok(Err(Refusal::Unknown)));
+    assert_eq!(db.dump("loan").unwrap(), before);
+}
+
+#[test]
+fn what_is_overdue() {
+    let mut db = fixture::library().unwrap();
+    let told = |title: &str, mail: &str| (title.to_string(), mail.to_string());
+    let of_ann = [told("Middlemarch", "ann@example.org"), told("1984", "ann@example.org")];
+    assert_eq!(overdue(&mut db, 90).unwrap(), []);
+    assert_eq!(overdue(&mut db, 101).unwrap(), of_ann);
+    assert_eq!(
+        overdue(&mut db, 141).unwrap()[1],
+        told("Tinker, Tailor, Soldier, Spy", "bo@example.org")
+    );
+}

@@ -1,0 +1,84 @@
+/* Counts the blocks of memory that are given and given back, and refuses the calls for memory that it is told to. At
+ * the end of the program it says both counts on standard error. */
+#include "allocations.h"
+
+#include <stdio.h>
+#include <stdlib.h>
+
+void *__real_malloc(size_t size);
+void *__real_calloc(size_t count, size_t size);
+void *__real_realloc(void *block, size_t size);
+void __real_free(void *block);
+void *__wrap_malloc(size_t size);
+void *__wrap_calloc(size_t count, size_t size);
+void *__wrap_realloc(void *block, size_t size);
+void __wrap_free(void *block);
+
+static long left_to_meet = 0;
+static long left_to_refuse = 0;
+static long refused_calls = 0;
+static long given_blocks = 0;
+static long returned_blocks = 0;
+
+void allocations_refuse(long met, long refused)
+{
+    left_to_meet = met;
+    left_to_refuse = refused;
+    refused_calls = 0;
+}
+
+long allocations_refused(void)
+{
+    return refused_calls;
+}
+
+long allocations_held(void)
+{
+    return given_blocks - returned_blocks;
+}
+
+__attribute__((destructor)) static void tell(void)
+{
+    fprintf(stderr, "%ld blocks given, %ld given back\n", given_blocks, returned_blocks);
+}
+
+static int is_refused(void)
+{
+    if (left_to_meet > 0) {
+        left_to_meet--;
+        return 0;
+    }
+    if (left_to_refuse == 0)
+        return 0;
+    left_to_refuse--;
+    refused_calls++;
+    return 1;
+}
+
+static void *counted(void *block)
+{
+    given_blocks += block != NULL;
+    return block;
+}
+
+void *__wrap_malloc(size_t size)
+{
+    return is_refused() ? NULL : counted(__real_malloc(size));
+}
+
+void *__wrap_calloc(size_t count, size_t size)
+{
+    return is_refused() ? NULL : counted(__real_calloc(count, size));
+}
+
+void *__wrap_realloc(void *block, size_t size)
+{
+    void *grown = is_refused() ? NULL : __real_realloc(block, size);
+    return block == NULL ? counted(grown) : grown;
+}
+
+void __wrap_free(void *block)
+{
+    returned_blocks += block != NULL;
+    __real_free(block);
+}

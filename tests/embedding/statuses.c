@@ -1,0 +1,212 @@
+/* Meets each status of each call, each kind of null pointer, and the ends of what an answer is good for. */
+#include "allocations.h"
+#include "checking.h"
+
+static const char TABLE[] = "table t (id int, s text)";
+
+/* An answer that no call has given, to see that a call gives one. */
+static mmdb_bytes another(void)
+{
+    mmdb_bytes answer = { (const unsigned char *)"before", 6 };
+    return answer;
+}
+
+static void open_gives_each_status(void)
+{
+    mmdb db = MMDB_CLOSED;
+    void *inside;
+    GIVES(mmdb_open(NULL, MMDB_AUTO, MMDB_MOST, MMDB_MOST), MMDB_NOT_OPEN);
+    GIVES(mmdb_open(&db, MMDB_MERGE + 1, MMDB_MOST, MMDB_MOST), MMDB_NO_SUCH_POLICY);
+    GIVES(mmdb_open(&db, UINT32_MAX, MMDB_MOST, MMDB_MOST), MMDB_NO_SUCH_POLICY);
+    GIVES(mmdb_open(&db, MMDB_AUTO, 0, MMDB_MOST), MMDB_LIMIT_OUT_OF_RANGE);
+    GIVES(mmdb_open(&db, MMDB_AUTO, MMDB_MOST + 1, MMDB_MOST), MMDB_LIMIT_OUT_OF_RANGE);
+    GIVES(mmdb_open(&db, MMDB_AUTO, UINT32_MAX, 0), MMDB_LIMIT_OUT_OF_RANGE);
+    GIVES(mmdb_open(&db, MMDB_AUTO, 1, MMDB_MOST + 1), MMDB_LIMIT_OUT_OF_RANGE);
+    allocations_refuse(0, 1);
+    GIVES(mmdb_open(&db, MMDB_AUTO, MMDB_MOST, MMDB_MOST), MMDB_NO_MEMORY);
+    CHECK(allocations_refused() == 1);
+    CHECK(db.inside == NULL);
+    GIVES(mmdb_open(&db, MMDB_AUTO, MMDB_MOST, MMDB_MOST), MMDB_DONE);
+    inside = db.inside;
+    GIVES(mmdb_open(&db, MMDB_AUTO, MMDB_MOST, MMDB_MOST), MMDB_IS_OPEN);
+    GIVES(mmdb_open(&db, UINT32_MAX, 0, UINT32_MAX), MMDB_IS_OPEN);
+    CHECK(inside != NULL && db.inside == inside);
+    mmdb_close(&db);
+    CHECK(db.inside == NULL);
+}
+
+static void each_policy_and_the_ends_of_the_limits_are_opened(void)
+{
+    mmdb_bytes answer;
+    for (uint32_t policy = MMDB_AUTO; policy <= MMDB_MERGE; policy++) {
+        mmdb db = MMDB_CLOSED;
+        GIVES(mmdb_open(&db, policy, 1, 0), MMDB_DONE);
+        GIVES(command(&db, TABLE, &answer), MMDB_DONE);
+        GIVES(command(&db, "insert t (1, 'a')", &answer), MMDB_DONE);
+        CHECK(reads(answer, "ok 1\n"));
+        GIVES(command(&db, "insert t (2, 'b')", &answer), MMDB_DONE);
+        CHECK(reads(answer, "error 43 table full\n"));
+        GIVES(load(&db, "load t 5", "id,s\n", &answer), MMDB_DONE);
+        CHECK(reads(answer, "error 12 block too long\n"));
+        mmdb_close(&db);
+    }
+}
+
+static void a_closed_handle_is_told(mmdb *db)
+{
+    mmdb_bytes answer = another();
+    GIVES(command(db, TABLE, &answer), MMDB_NOT_OPEN);
+    CHECK(reads(answer, ""));
+    answer = another();
+    GIVES(load(db, "load t 5", "id,s\n", &answer), MMDB_NOT_OPEN);
+    CHECK(reads(answer, ""));
+    answer = another();
+    GIVES(mmdb_answer(db, &answer), MMDB_NOT_OPEN);
+    CHECK(reads(answer, ""));
+    GIVES(mmdb_command(db, NULL, 0, NULL), MMDB_NOT_OPEN);
+    GIVES(mmdb_load(db, NULL, 0, NULL, 1, NULL), MMDB_NOT_OPEN);
+    GIVES(mmdb_feed(db, NULL, 1), MMDB_NOT_OPEN);
+    GIVES(feed(db, "tables\n"), MMDB_NOT_OPEN);
+    GIVES(mmdb_answer(db, NULL), MMDB_NOT_OPEN);
+    GIVES(mmdb_refusal(db), 0);
+    mmdb_close(db);
+}
+
+static void command_gives_each_status(mmdb *db)
+{
+    mmdb_bytes answer;
+    GIVES(command(db, TABLE, &answer), MMDB_DONE);
+    CHECK(reads(answer, "ok\n"));
+    GIVES(command(db, "tables\r", NULL), MMDB_DONE);
+    GIVES(mmdb_command(db, "insert t (1, 'a')nothing of this", 17, &answer), MMDB_DONE);
+    CHECK(reads(answer, "ok 1\n"));
+    GIVES(command(db, " # a comment", &answer), MMDB_DONE);
+    CHECK(reads(answer, ""));
+    answer = another();
+    GIVES(mmdb_command(db, NULL, 0, &answer), MMDB_NO_LINE);
+    CHECK(reads(answer, ""));
+    GIVES(mmdb_command(db, NULL, 5, &answer), MMDB_NO_LINE);
+    GIVES(mmdb_command(db, "tables", 0, &answer), MMDB_NO_LINE);
+    answer = another();
+    GIVES(command(db, "delete t\n", &answer), MMDB_NOT_ONE_REQUEST);
+    CHECK(reads(answer, ""));
+    GIVES(command(db, "\n", &answer), MMDB_NOT_ONE_REQUEST);
+    GIVES(command(db, "delete t\ndelete t", &answer), MMDB_NOT_ONE_REQUEST);
+    GIVES(command(db, "load t 5", &answer), MMDB_NOT_ONE_REQUEST);
+    GIVES(command(db, "load t 0", &answer), MMDB_DONE);
+    CHECK(reads(answer, "error 61 bad header\n"));
+    GIVES(command(db, "select * from t", &answer), MMDB_DONE);
+    CHECK(reads(answer, "rows 1\nt.id,t.s\n1,a\n"));
+}
+
+static void load_gives_each_status(mmdb *db)
+{
+    mmdb_bytes answer;
+    GIVES(load(db, "load t 9", "id,s\n2,b\n", &answer), MMDB_DONE);
+    CHECK(reads(answer, "ok 1\n"));
+    GIVES(load(db, "load t 9\r", "id,s\n2,b\n", &answer), MMDB_DONE);
+    CHECK(reads(answer, "error 41 key exists (record 1)\n"));
+    GIVES(mmdb_load(db, "load t 0", 8, NULL, 0, &answer), MMDB_DONE);
+    CHECK(reads(answer, "error 61 bad header\n"));
+    GIVES(mmdb_load(db, "tables", 6, NULL, 0, NULL), MMDB_DONE);
+    answer = another();
+    GIVES(mmdb_load(db, NULL, 0, "id,s\n", 5, &answer), MMDB_NO_LINE);
+    CHECK(reads(answer, ""));
+    GIVES(mmdb_load(db, "load t 5", 0, "id,s\n", 5, &answer), MMDB_NO_LINE);
+    GIVES(mmdb_load(db, "load t 5", 8, NULL, 5, &answer), MMDB_NO_LINE);
+    answer = another();
+    GIVES(load(db, "load t 5\n", "id,s\n", &answer), MMDB_NOT_ONE_REQUEST);
+    CHECK(reads(answer, ""));
+    GIVES(load(db, "load t 5", "id,s", &answer), MMDB_NOT_ONE_REQUEST);
+    GIVES(load(db, "load t 4", "id,s\n", &answer), MMDB_NOT_ONE_REQUEST);
+    GIVES(load(db, "delete t", "id,s\n", &answer), MMDB_NOT_ONE_REQUEST);
+    GIVES(mmdb_load(db, "load t 5", 8, NULL, 0, &answer), MMDB_NOT_ONE_REQUEST);
+    GIVES(command(db, "select id from t", &answer), MMDB_DONE);
+    CHECK(reads(answer, "rows 2\nt.id\n1\n2\n"));
+}
+
+static void feed_gives_each_status(mmdb *db)
+{
+    mmdb_bytes answer;
+    GIVES(mmdb_feed(db, NULL, 0), MMDB_DONE);
+    GIVES(mmdb_feed(db, NULL, 1), MMDB_NO_LINE);
+    GIVES(feed(db, "insert t (3, 'c')\nload t 9\nid,"), MMDB_DONE);
+    GIVES(mmdb_answer(db, &answer), MMDB_DONE);
+    CHECK(reads(answer, "ok 1\n"));
+    GIVES(command(db, "delete t where id = 3", &answer), MMDB_DONE);
+    CHECK(reads(answer, "ok 1\n"));
+    GIVES(feed(db, "s\n3,d\ninsert t (3, 'e')\n"), MMDB_DONE);
+    GIVES(mmdb_answer(db, NULL), MMDB_DONE);
+    GIVES(mmdb_answer(db, &answer), MMDB_DONE);
+    CHECK(reads(answer, "ok 1\nerror 41 key exists\n"));
+    GIVES(feed(db, "select s from t where id"), MMDB_DONE);
+    GIVES(mmdb_answer(db, &answer), MMDB_DONE);
+    CHECK(reads(answer, ""));
+    GIVES(feed(db, " = 3\n"), MMDB_DONE);
+    GIVES(mmdb_answer(db, &answer), MMDB_DONE);
+    CHECK(reads(answer, "rows 1\nt.s\nd\n"));
+}
+
+/* A hundred answers in one piece, with no memory for them, end the stream and nothing else. */
+static void a_stream_ends_where_its_answers_find_no_room(mmdb *db)
+{
+    mmdb_bytes answer;
+    char piece[2000] = "";
+    for (int line = 0; line < 100; line++)
+        strcat(piece, "select * from t\n");
+    allocations_refuse(0, 1000000);
+    GIVES(feed(db, piece), MMDB_NO_MEMORY);
+    CHECK(allocations_refused() > 0);
+    allocations_refuse(0, 0);
+    GIVES(feed(db, "tables\n"), MMDB_ENDED);
+    GIVES(mmdb_feed(db, NULL, 0), MMDB_ENDED);
+    GIVES(command(db, "select id from t", &answer), MMDB_DONE);
+    CHECK(reads(answer, "rows 3\nt.id\n1\n2\n3\n"));
+    GIVES(load(db, "load t 9", "id,s\n4,f\n", &answer), MMDB_DONE);
+    CHECK(reads(answer, "ok 1\n"));
+}
+
+static void answers_and_refusals_are_those_of_the_last_call(mmdb *db)
+{
+    mmdb_bytes answer, again;
+    GIVES(command(db, "insert t (1, 'x')", &answer), MMDB_DONE);
+    GIVES(mmdb_refusal(db), 41);
+    GIVES(mmdb_refusal(db), 41);
+    GIVES(mmdb_answer(db, &again), MMDB_DONE);
+    CHECK(reads(again, "error 41 key exists\n"));
+    CHECK(again.at == answer.at && again.length == answer.length);
+    GIVES(command(db, "select id from t where id = 1", NULL), MMDB_DONE);
+    GIVES(mmdb_refusal(db), 0);
+    GIVES(command(db, "# nothing", &answer), MMDB_DONE);
+    GIVES(mmdb_refusal(db), 0);
+    GIVES(command(db, "noise", &answer), MMDB_DONE);
+    GIVES(mmdb_refusal(db), 20);
+}
+
+static void each_status_has_words_of_its_own(void)
+{
+    for (uint32_t one = MMDB_DONE; one <= MMDB_ENDED + 1; one++)
+        for (uint32_t other = MMDB_DONE; other < one; other++)
+            CHECK(strcmp(mmdb_status_text(one), mmdb_status_text(other)) != 0);
+}
+
+int main(void)
+{
+    mmdb db = MMDB_CLOSED;
+    open_gives_each_status();
+    each_policy_and_the_ends_of_the_limits_are_opened();
+    a_closed_handle_is_told(NULL);
+    a_closed_handle_is_told(&db);
+    GIVES(mmdb_open(&db, MMDB_AUTO, MMDB_MOST, MMDB_MOST), MMDB_DONE);
+    command_gives_each_status(&db);
+    load_gives_each_status(&db);
+    feed_gives_each_status(&db);
+    answers_and_refusals_are_those_of_the_last_call(&db);
+    a_stream_ends_where_its_answers_find_no_room(&db);
+    answers_and_refusals_are_those_of_the_last_call(&db);
+    mmdb_close(&db);
+    a_closed_handle_is_told(&db);
+    each_status_has_words_of_its_own();
+    CHECK(allocations_held() == 0);
+    return checks_failed != 0;
+}

@@ -1,0 +1,63 @@
+/* Four threads with a handle each, at the same time. Each has its own tables, and is given its own answers. */
+#include "checking.h"
+
+#include <pthread.h>
+
+enum { THREADS = 4, ROWS = 500 };
+
+/* One thread's handle and number, and how many of its answers were none of its own. */
+typedef struct worker {
+    mmdb db;
+    int number;
+    int wrong;
+} worker;
+
+static void expects(worker *of, const char *line, const char *expected)
+{
+    mmdb_bytes answer;
+    of->wrong += command(&of->db, line, &answer) != MMDB_DONE || !reads(answer, expected);
+}
+
+static void works_on_row(worker *of, int row)
+{
+    char line[200], expected[200];
+    snprintf(line, sizeof line, "insert t (%d, 'row %d of %d')", row, row, of->number);
+    expects(of, line, "ok 1\n");
+    expects(of, line, "error 41 key exists\n");
+    of->wrong += mmdb_refusal(&of->db) != 41;
+    snprintf(line, sizeof line, "select s from t where id = %d", row);
+    snprintf(expected, sizeof expected, "rows 1\nt.s\nrow %d of %d\n", row, of->number);
+    expects(of, line, expected);
+}
+
+static void *work(void *given)
+{
+    worker *of = (worker *)given;
+    char line[200], expected[200];
+    of->wrong += mmdb_open(&of->db, (uint32_t)of->number, MMDB_MOST, MMDB_MOST) != MMDB_DONE;
+    expects(of, "table t (id int, s text)", "ok\n");
+    expects(of, "index t s hash", "ok\n");
+    for (int row = 0; row < ROWS; row++)
+        works_on_row(of, row);
+    snprintf(line, sizeof line, "delete t where id >= %d", of->number);
+    snprintf(expected, sizeof expected, "ok %d\n", ROWS - of->number);
+    expects(of, line, expected);
+    mmdb_close(&of->db);
+    return NULL;
+}
+
+int main(void)
+{
+    pthread_t threads[THREADS];
+    worker workers[THREADS];
+    for (int i = 0; i < THREADS; i++) {
+        const worker fresh = { MMDB_CLOSED, i, 0 };
+        workers[i] = fresh;
+        CHECK(pthread_create(&threads[i], NULL, work, &workers[i]) == 0);
+    }
+    for (int i = 0; i < THREADS; i++) {
+        CHECK(pthread_join(threads[i], NULL) == 0);
+        CHECK(workers[i].wrong == 0);
+    }
+    return checks_failed != 0;
+}

@@ -1,0 +1,208 @@
+"""The library in C and C++ programs: the header, the examples, each status, memory and its refusal, threads, rows."""
+
+import os
+import re
+import shutil
+import subprocess
+import unittest
+
+import compiling
+import harness
+import library
+import model
+import refusing
+import streams
+
+EXAMPLES = harness.ROOT / "examples" / "c"
+PAGE = harness.ROOT / "docs" / "c.md"
+SANITIZED = ["-fsanitize=address,undefined", "-fno-sanitize-recover=all"]
+COUNT = re.compile(rb"(\d+) blocks given, (\d+) given back\n")
+EXPORTS = {"mmdb_open", "mmdb_command", "mmdb_load", "mmdb_feed", "mmdb_answer", "mmdb_refusal", "mmdb_close"}
+PIECES = (1, 7, 4_096)
+ROOM = compiling.Room()
+
+
+def tearDownModule():
+    ROOM.close()
+
+
+class Programs(unittest.TestCase):
+    """What the tests of programs share."""
+
+    def check_ran(self, program, out=b"", **how):
+        ended = compiling.ran(program, **how)
+        self.assertEqual((ended.status, ended.out, ended.err), (0, out, b""))
+
+    def check_counted(self, program, out=b""):
+        """A program that counts its memory gave all of it back."""
+        ended = compiling.ran(program)
+        count = COUNT.fullmatch(ended.err)
+        self.assertIsNotNone(count, ended.err.decode(errors="replace"))
+        self.assertEqual((ended.status, ended.out), (0, out))
+        self.assertEqual(count[1], count[2])
+        self.assertGreater(int(count[1]), 0)
+
+
+class Header(unittest.TestCase):
+    """The header by itself, and the names that a library shows."""
+
+    def test_it_compiles_alone_as_c_and_as_cpp(self):
+        source = ROOM.path / "alone.c"
+        source.write_text('#include "mmdb.h"\n')
+        warned = [*compiling.WARNINGS, f"-I{compiling.INCLUDE}", "-c", source, "-o", ROOM.path / "alone.o"]
+        for standard in ("c99", "c17"):
+            with self.subTest(standard):
+                subprocess.run(["cc", f"-std={standard}", *warned], check=True)
+        for standard in ("c++11", "c++20"):
+            with self.subTest(standard):
+                subprocess.run(["c++", "-x", "c++", f"-std={standard}", *warned], check=True)
+
+    def test_the_shared_library_shows_its_calls_alone(self):
+        words = ["nm", "-D", "--defined-only", "--format=posix", library.folder() / "libmmdb.so"]
+        shown = subprocess.run(words, stdout=subprocess.PIPE, text=True, check=True).stdout
+        self.assertEqual({line.split()[0] for line in shown.splitlines()}, EXPORTS)
+
+
+class Examples(Programs):
+    """Each example writes what stands beside it, however it is built, and whichever call for memory is refused."""
+
+    def each(self, name, words=compiling.C, and_with=()):
+        examples = sorted(EXAMPLES.glob("*.c"))
+        self.assertGreater(len(examples), 0)
+        for source in examples:
+            with self.subTest(source.name):
+                program = ROOM.compiled(f"{source.stem}-{name}", source, words, and_with)
+                yield program, source.with_suffix(".expected").read_bytes()
+
+    def test_as_c(self):
+        for program, expected in self.each("c"):
+            self.check_ran(program, expected)
+
+    def test_as_cpp(self):
+        for program, expected in self.each("cpp", compiling.CPP):
+            self.check_ran(program, expected)
+
+    def test_under_sanitizers(self):
+        for program, expected in self.each("sanitized", [*compiling.C, *SANITIZED]):
+            self.check_ran(program, expected)
+
+    def test_all_memory_is_given_back(self):
+        for program, expected in self.each("counted", and_with=compiling.COUNTED):
+            self.check_counted(program, expected)
+
+    def test_with_the_shared_library_and_each_call_for_memory_refused(self):
+        refuser = refusing.Refuser()
+        self.addCleanup(refuser.close)
+        for source in sorted(EXAMPLES.glob("*.c")):
+            program = ROOM.sharing(f"{source.stem}-shared", source)
+            expected = source.with_suffix(".expected").read_bytes()
+            self.check_ran(program, expected)
+            runs = [self.refused(*run, expected) for run in refuser.each_run([program])]
+            self.assertIn(True, runs, "no call for memory of the library was refused")
+
+    def refused(self, nth, ended, is_met, expected):
+        """Checks a run with one refusal, and gives whether it ended early for want of memory."""
+        with self.subTest(refused_call=nth):
+            self.assertIn(ended.status, (0, 1))
+            if ended.status == 0:
+                self.assertEqual((ended.out, ended.err), (expected, b""))
+            else:
+                self.assertTrue(is_met)
+                self.assertIn(b"no memory", ended.err)
+        return ended.status == 1
+
+
+class Page(Programs):
+    """The first program of docs/c.md writes what the page says."""
+
+    def setUp(self):
+        program, expected = re.search(r"```c\n(.*?)```.*?```text\n(.*?)```", PAGE.read_text(), re.S).groups()
+        self.source, self.expected = ROOM.path / "first.c", expected.encode()
+        self.source.write_text(program)
+
+    def test_as_c_and_as_cpp(self):
+        self.check_ran(ROOM.compiled("first-c", self.source), self.expected)
+        self.check_ran(ROOM.compiled("first-cpp", self.source, compiling.CPP), self.expected)
+
+    @unittest.skipUnless(shutil.which("pkg-config"), "pkg-config is not there")
+    def test_as_pkg_config_tells(self):
+        found = {**os.environ, "PKG_CONFIG_PATH": str(library.folder()), "LD_LIBRARY_PATH": str(library.folder())}
+        words = ["pkg-config", "--cflags", "--libs", "mmdb"]
+        told = subprocess.run(words, stdout=subprocess.PIPE, text=True, check=True, env=found).stdout.split()
+        program = ROOM.path / "first-told"
+        subprocess.run([*compiling.C, self.source, *told, "-o", program], check=True)
+        self.check_ran(program, self.expected, env=found)
+
+
+class Embedding(Programs):
+    """The programs of tests/embedding, which check the calls themselves."""
+
+    def check_program(self, name):
+        source = compiling.EMBEDDING / f"{name}.c"
+        self.check_counted(ROOM.compiled(name, source, and_with=compiling.COUNTED))
+        self.check_counted(ROOM.compiled(f"{name}-sanitized", source, [*compiling.C, *SANITIZED], compiling.COUNTED))
+
+    def test_each_status_is_met(self):
+        self.check_program("statuses")
+
+    def test_each_call_for_memory_is_refused(self):
+        self.check_program("refused")
+
+    def test_threads_have_a_handle_each(self):
+        for name, words in (("threads", []), ("threads-sanitized", ["-fsanitize=thread"])):
+            program = ROOM.compiled(name, compiling.EMBEDDING / "threads.c", [*compiling.C, "-pthread", *words])
+            self.check_ran(program)
+
+
+def call(name, first, second=None):
+    """A call as tests/embedding/requests.c reads it."""
+    if second is None:
+        return b"%s %d\n%s" % (name, len(first), first)
+    return b"%s %d %d\n%s%s" % (name, len(first), len(second), first, second)
+
+
+def line_by_line(stream):
+    """The calls that ask each request of a stream: one call a request, and none of a line without bytes."""
+    for line, block in model.units_of(stream):
+        if model.block_length(line):
+            yield call(b"load", line, block)
+        elif line:
+            yield call(b"command", line)
+
+
+class Rows(Programs):
+    """The streams of tests/rows have their answers from the library too, request by request, and fed in pieces."""
+
+    @classmethod
+    def setUpClass(cls):
+        source = compiling.EMBEDDING / "requests.c"
+        cls.program = ROOM.compiled("requests", source, [*compiling.C, *SANITIZED])
+
+    def check_row(self, stream, answers):
+        stream, answers = whole(stream, answers)
+        with self.subTest("line by line"):
+            self.check_ran(self.program, answers, stream=b"".join(line_by_line(stream)))
+        for size in PIECES:
+            with self.subTest(pieces_of=size):
+                pieces = harness.pieces_of(stream, size)
+                self.check_ran(self.program, answers, stream=b"".join(call(b"feed", piece) for piece in pieces))
+
+
+def whole(stream, answers):
+    """A stream and its answers without a load at its end whose block is cut short, and with a line feed behind its last
+    line. A stream that is fed has no end that the library is told of, so such a load isn't answered."""
+    units = list(model.units_of(stream))
+    if units and len(units[-1][1]) < model.block_length(units[-1][0]):
+        stream = streams.whole_units_of(stream)
+        answers = b"".join(streams.answers_of(answers)[:-1])
+    if stream and not units[-1][1] and not stream.endswith(b"\n"):
+        stream += b"\n"
+    return stream, answers
+
+
+def row(stream, answers):
+    return lambda test: test.check_row(stream, answers)
+
+
+for name, stream, answers in harness.rows():
+    setattr(Rows, f"test_{name}", row(stream, answers))
