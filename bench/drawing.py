@@ -5,7 +5,7 @@ from xml.sax.saxutils import escape
 LEFT, WIDTH, BAR, GAP, TOP = 240, 480, 9, 10, 60
 COLOURS = ["#1b4965", "#2f7ca3", "#62b6cb", "#a9d6e5", "#cfe8ef"]
 # A ratio of this is as long as the picture is wide; longer bars are cut, and their number tells.
-MOST = 1.2
+MOST = 2.4
 
 
 def bar(y, ratio, colour):
