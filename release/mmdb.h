@@ -1,0 +1,232 @@
+/* mmdb: a relational database in main memory, in your own process. For C99 and C++11 and what came after them.
+
+       mmdb db = MMDB_CLOSED;
+       mmdb_bytes answer;
+       if (mmdb_open(&db, MMDB_AUTO, MMDB_MOST, MMDB_MOST) == MMDB_DONE &&
+           mmdb_command(&db, "table t (id int)", 16, &answer) == MMDB_DONE)
+           fwrite(answer.at, 1, answer.length, stdout);
+       mmdb_close(&db);
+
+   A handle is one pointer, which is the library's. Make it MMDB_CLOSED before its first use; each call takes its
+   address. The calls on one handle come one after another; each thread may have handles of its own, which share
+   nothing. Nothing here is to be called from a signal handler.
+
+   Nothing is kept on disk, and no call reads or writes a file or a socket. No call ends the process: want of memory
+   is answered, by MMDB_NO_MEMORY or by `error 90`. What a handle holds is given back by mmdb_close, and by nothing
+   else.
+
+   Bytes go in by a pointer and a length. They need no zero byte behind them, are read during the call alone, and stay
+   the caller's. They are not what the same handle answered: to give that back to it, copy it first. None of the
+   pointers of a call points into what another of them points to.
+
+   A null pointer means the same wherever it stands: a null handle is a closed one; null with the length 0 is no
+   bytes; null in the place of an answer says that the answer isn't wanted. Null with any other length is
+   MMDB_NO_LINE.
+
+   What lines there are and how they are answered is told by docs/language.md, the calls at length by docs/c.md. */
+#ifndef MMDB_H
+#define MMDB_H
+
+#include <stddef.h>
+#include <stdint.h>
+
+#ifdef __cplusplus
+extern "C" {
+#endif
+
+/* An open database, or none where inside is null. It is never copied: a copy would be freed twice. */
+typedef struct mmdb {
+    void *inside;
+} mmdb;
+
+#define MMDB_CLOSED { NULL }
+
+/* Bytes that the library keeps. They do not end in a zero byte. `at` is never null, also of no bytes. */
+typedef struct mmdb_bytes {
+    const unsigned char *at;
+    size_t length;
+} mmdb_bytes;
+
+/* What a call gives. After each but MMDB_DONE an answer has no bytes, and the tables are as they were, save where a
+   piece found no room for its answers. MMDB_DONE says that a line was judged and answered; whether it was refused is
+   told by the answer, and by mmdb_refusal. */
+typedef enum mmdb_status {
+    MMDB_DONE = 0,
+    MMDB_NOT_OPEN = 1,           /* the handle is closed, or null */
+    MMDB_IS_OPEN = 2,            /* mmdb_open of a handle that is open, which stays as it is */
+    MMDB_NO_SUCH_POLICY = 3,     /* mmdb_open with a number that is none of mmdb_policy */
+    MMDB_LIMIT_OUT_OF_RANGE = 4, /* mmdb_open with rows that are not 1 to MMDB_MOST, or a block past MMDB_MOST */
+    MMDB_NO_LINE = 5,            /* a line that is null or has no bytes; a block or a piece that is null and has some */
+    MMDB_NOT_ONE_REQUEST = 6,    /* a line feed in a line; a line that asks for a block of another length than given */
+    MMDB_NO_MEMORY = 7,          /* mmdb_open: none was found. mmdb_feed: none for the answers; the stream is over */
+    MMDB_ENDED = 8               /* mmdb_feed of a stream that is over; mmdb_command and mmdb_load go on */
+} mmdb_status;
+
+/* How plans are chosen. No policy changes an answer, only what it costs. MMDB_AUTO is the one to take. */
+typedef enum mmdb_policy {
+    MMDB_AUTO = 0,
+    MMDB_SCAN = 1,
+    MMDB_HASH = 2,
+    MMDB_TREE = 3,
+    MMDB_MERGE = 4
+} mmdb_policy;
+
+/* The greatest number of rows of a table, and of bytes of a block. */
+#define MMDB_MOST UINT32_C(16777216)
+
+/* The calls. Each gives an mmdb_status, but for the two that say otherwise. */
+
+/* Opens a database without tables. A table takes `rows` rows at most, from 1 to MMDB_MOST, and a block that is loaded
+   or dumped has `block` bytes at most, from 0 to MMDB_MOST; no memory is taken ahead for either.
+   Gives MMDB_DONE, and then the handle is open until mmdb_close; or MMDB_NOT_OPEN where db is null, MMDB_IS_OPEN,
+   MMDB_NO_SUCH_POLICY, MMDB_LIMIT_OUT_OF_RANGE or MMDB_NO_MEMORY, and then it is as it was. */
+uint32_t mmdb_open(mmdb *db, uint32_t policy, uint32_t rows, uint32_t block);
+
+/* Answers one line, which has no line feed. One carriage return at its end is dropped, so the line may be what stands
+   before a line feed in any file. A line that asks for a block, as `load T 20` does, goes to mmdb_load.
+   Gives MMDB_DONE and the answer, which is good until the next call on this handle: the bytes that the program mmdb
+   writes for the line, none for blanks and comments. Or gives MMDB_NOT_OPEN, MMDB_NO_LINE or MMDB_NOT_ONE_REQUEST. */
+uint32_t mmdb_command(mmdb *db, const void *line, size_t length, mmdb_bytes *answer);
+
+/* Answers one line with the block that it asks for: `load T 20` with 20 bytes. Answer and statuses are as those of
+   mmdb_command; MMDB_NOT_ONE_REQUEST is also given where the line asks for no block and one is given. */
+uint32_t mmdb_load(mmdb *db, const void *line, size_t length, const void *block, size_t block_length,
+                   mmdb_bytes *answer);
+
+/* Takes the next bytes of a stream of lines and blocks, cut wherever it may be, and answers each request that ends in
+   them, at its line feed or with the last byte of its block; mmdb_answer gives these answers. A request whose end is
+   yet to come waits for the next piece. mmdb_command and mmdb_load stand beside the stream and leave what waits.
+   Gives MMDB_DONE; MMDB_NOT_OPEN; MMDB_NO_LINE; MMDB_NO_MEMORY where the answers found no room, and then the stream is
+   over, and requests of this piece may have been done; or MMDB_ENDED where it was over before. */
+uint32_t mmdb_feed(mmdb *db, const void *piece, size_t length);
+
+/* The answers of the last call that was done, one behind the other: of the piece that was fed, or of the line. Of a
+   piece whose answers found no room it is a front of them.
+   Gives MMDB_DONE, and bytes that are good until the next call but this one and mmdb_refusal; or MMDB_NOT_OPEN. */
+uint32_t mmdb_answer(mmdb *db, mmdb_bytes *answer);
+
+/* Gives no status, but the number of the refusal that the last answers begin with, as 41 of `error 41 key exists`; or
+   0 where they begin with none, or there are none, or the handle is closed. */
+uint32_t mmdb_refusal(mmdb *db);
+
+/* Closes a handle and gives back all that it holds; its answers are good no longer. It is MMDB_CLOSED then, and may be
+   opened again. Of a closed handle and of null nothing is done. */
+void mmdb_close(mmdb *db);
+
+/* Words for a status, which stay good. */
+static inline const char *mmdb_status_text(uint32_t status)
+{
+    switch (status) {
+    case MMDB_DONE:
+        return "done";
+    case MMDB_NOT_OPEN:
+        return "the database is not open";
+    case MMDB_IS_OPEN:
+        return "the database is open already";
+    case MMDB_NO_SUCH_POLICY:
+        return "no such policy";
+    case MMDB_LIMIT_OUT_OF_RANGE:
+        return "a limit is out of range";
+    case MMDB_NO_LINE:
+        return "no line, or null with a length";
+    case MMDB_NOT_ONE_REQUEST:
+        return "not one line with the block that it asks for";
+    case MMDB_NO_MEMORY:
+        return "no memory";
+    case MMDB_ENDED:
+        return "the stream is over";
+    default:
+        return "no such status";
+    }
+}
+
+/* From here on: how null is met. The library's own functions, which are those above, take no null pointer, not even to
+   no bytes. So a program calls them through the functions below, under the same names, and these cost no call. Who
+   reaches the library without this header, from another language or by dlsym, sees to it that no pointer is null. */
+
+static inline int mmdb_checked_is_closed(const mmdb *db)
+{
+    return db == NULL || db->inside == NULL;
+}
+
+static inline const void *mmdb_checked_bytes(const void *bytes)
+{
+    return bytes == NULL ? "" : bytes;
+}
+
+/* Where the answer goes: to the caller, or where it isn't wanted to a place of its own. It has no bytes at first. */
+static inline mmdb_bytes *mmdb_checked_answer_at(mmdb_bytes *answer, mmdb_bytes *unwanted)
+{
+    mmdb_bytes *to = answer == NULL ? unwanted : answer;
+    to->at = (const unsigned char *)"";
+    to->length = 0;
+    return to;
+}
+
+static inline mmdb_status mmdb_checked_open(mmdb *db, uint32_t policy, uint32_t rows, uint32_t block)
+{
+    return db == NULL ? MMDB_NOT_OPEN : (mmdb_status)mmdb_open(db, policy, rows, block);
+}
+
+static inline mmdb_status mmdb_checked_command(mmdb *db, const void *line, size_t length, mmdb_bytes *answer)
+{
+    mmdb_bytes unwanted;
+    mmdb_bytes *to = mmdb_checked_answer_at(answer, &unwanted);
+    if (mmdb_checked_is_closed(db))
+        return MMDB_NOT_OPEN;
+    if (line == NULL)
+        return MMDB_NO_LINE;
+    return (mmdb_status)mmdb_command(db, line, length, to);
+}
+
+static inline mmdb_status mmdb_checked_load(mmdb *db, const void *line, size_t length, const void *block,
+                                            size_t block_length, mmdb_bytes *answer)
+{
+    mmdb_bytes unwanted;
+    mmdb_bytes *to = mmdb_checked_answer_at(answer, &unwanted);
+    if (mmdb_checked_is_closed(db))
+        return MMDB_NOT_OPEN;
+    if (line == NULL || (block == NULL && block_length != 0))
+        return MMDB_NO_LINE;
+    return (mmdb_status)mmdb_load(db, line, length, mmdb_checked_bytes(block), block_length, to);
+}
+
+static inline mmdb_status mmdb_checked_feed(mmdb *db, const void *piece, size_t length)
+{
+    if (mmdb_checked_is_closed(db))
+        return MMDB_NOT_OPEN;
+    if (piece == NULL && length != 0)
+        return MMDB_NO_LINE;
+    return (mmdb_status)mmdb_feed(db, mmdb_checked_bytes(piece), length);
+}
+
+static inline mmdb_status mmdb_checked_answer(mmdb *db, mmdb_bytes *answer)
+{
+    mmdb_bytes unwanted;
+    mmdb_bytes *to = mmdb_checked_answer_at(answer, &unwanted);
+    return mmdb_checked_is_closed(db) ? MMDB_NOT_OPEN : (mmdb_status)mmdb_answer(db, to);
+}
+
+static inline uint32_t mmdb_checked_refusal(mmdb *db)
+{
+    return mmdb_checked_is_closed(db) ? 0 : mmdb_refusal(db);
+}
+
+static inline void mmdb_checked_close(mmdb *db)
+{
+    if (!mmdb_checked_is_closed(db))
+        mmdb_close(db);
+}
+
+#define mmdb_open mmdb_checked_open
+#define mmdb_command mmdb_checked_command
+#define mmdb_load mmdb_checked_load
+#define mmdb_feed mmdb_checked_feed
+#define mmdb_answer mmdb_checked_answer
+#define mmdb_refusal mmdb_checked_refusal
+#define mmdb_close mmdb_checked_close
+
+#ifdef __cplusplus
+}
+#endif
+#endif
