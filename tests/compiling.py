@@ -1,6 +1,7 @@
 """C programs that embed the library, compiled into a temporary folder."""
 
 import pathlib
+import re
 import subprocess
 import tempfile
 
@@ -16,6 +17,8 @@ CPP = ["c++", "-std=c++11", *WARNINGS]
 # and not of the C library itself.
 CALLS = ("malloc", "calloc", "realloc", "free")
 COUNTED = [*(f"-Wl,--wrap={call}" for call in CALLS), EMBEDDING / "allocations.c"]
+# What it says at the end: the blocks given and given back, and the calls refused.
+COUNT = re.compile(rb"(\d+) blocks given, (\d+) given back, (\d+) calls refused\n")
 
 
 class Room:
@@ -44,7 +47,21 @@ class Room:
         return path
 
 
+def counting_library(folder):
+    """Puts a library into a folder, archive and shared, of which tests/embedding/allocations.c counts and refuses the calls for
+    memory. It doesn't count those of a program that embeds it."""
+    archive, counting = folder / "libmmdb.a", folder / "allocations.o"
+    others = [word for call in CALLS for word in ("--redefine-sym", f"{call}=__wrap_{call}")]
+    subprocess.run(["objcopy", *others, library.folder() / "libmmdb.a", archive], check=True)
+    real = [f"-D__real_{call}={call}" for call in CALLS]
+    subprocess.run([*C, "-fPIC", *real, "-c", EMBEDDING / "allocations.c", "-o", counting], check=True)
+    subprocess.run(["ar", "rc", archive, counting], check=True)
+    whole = ["-Wl,--whole-archive", archive, "-Wl,--no-whole-archive"]
+    subprocess.run(["cc", "-shared", "-o", folder / "libmmdb.so", *whole], check=True)
+
+
 def ran(program, stream=b"", **how):
     """Runs a program over a stream, and tells how it ended."""
-    done = subprocess.run([program], input=stream, capture_output=True, timeout=harness.SECONDS, check=False, **how)
+    words = program if isinstance(program, list) else [program]
+    done = subprocess.run(words, input=stream, capture_output=True, timeout=harness.SECONDS, check=False, **how)
     return harness.Ended(done.returncode, done.stdout, done.stderr)

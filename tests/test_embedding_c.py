@@ -16,7 +16,6 @@ import streams
 EXAMPLES = harness.ROOT / "examples" / "c"
 PAGE = harness.ROOT / "docs" / "c.md"
 SANITIZED = ["-fsanitize=address,undefined", "-fno-sanitize-recover=all"]
-COUNT = re.compile(rb"(\d+) blocks given, (\d+) given back\n")
 EXPORTS = {"mmdb_open", "mmdb_command", "mmdb_load", "mmdb_feed", "mmdb_answer", "mmdb_refusal", "mmdb_close"}
 PIECES = (1, 7, 4_096)
 ROOM = compiling.Room()
@@ -36,7 +35,7 @@ class Programs(unittest.TestCase):
     def check_counted(self, program, out=b""):
         """A program that counts its memory gave all of it back."""
         ended = compiling.ran(program)
-        count = COUNT.fullmatch(ended.err)
+        count = compiling.COUNT.fullmatch(ended.err)
         self.assertIsNotNone(count, ended.err.decode(errors="replace"))
         self.assertEqual((ended.status, ended.out), (0, out))
         self.assertEqual(count[1], count[2])

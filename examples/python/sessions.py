@@ -80,9 +80,9 @@ def main() -> None:
         print("sessions of ann:", sessions.of("ann"))
         print("sign out ann:", sessions.sign_out("ann"), "session")
 
-        rows = [(f"t{number:04}", ("ann", "o'hara")[number % 2], 1_000 + number) for number in range(5_000)]
+        rows = [(f"t{number:04}", ("ann", "o'hara")[number % 2], 1_000 + number) for number in range(500)]
         print("loaded:", db.load("session", rows))
-        print("ended by 2000:", sessions.sweep(2_000))
+        print("ended by 1200:", sessions.sweep(1_200))
         print("left:", len(db.dump("session")), "the first", db.dump("session")[0])
 
 

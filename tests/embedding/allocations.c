@@ -1,5 +1,5 @@
-/* Counts the blocks of memory that are given and given back, and refuses the calls for memory that it is told to. At
- * the end of the program it says both counts on standard error. */
+/* Counts the blocks of memory that are given and given back, and refuses the calls for memory that it is told to, or
+ * the one of the number in REFUSE_NTH. At the end of the program it says the counts on standard error. */
 #include "allocations.h"
 
 #include <stdio.h>
@@ -37,9 +37,16 @@ long allocations_held(void)
     return given_blocks - returned_blocks;
 }
 
+__attribute__((constructor)) static void begin(void)
+{
+    const char *nth = getenv("REFUSE_NTH");
+    if (nth)
+        allocations_refuse(atol(nth) - 1, 1);
+}
+
 __attribute__((destructor)) static void tell(void)
 {
-    fprintf(stderr, "%ld blocks given, %ld given back\n", given_blocks, returned_blocks);
+    fprintf(stderr, "%ld blocks given, %ld given back, %ld calls refused\n", given_blocks, returned_blocks, refused_calls);
 }
 
 static int is_refused(void)

@@ -1,0 +1,64 @@
+"""The examples in Python and in Rust over a library that counts its memory: whichever of its calls for memory is refused, it has
+given back all that it was given when the program ends. Those in C are in test_embedding_c.py."""
+
+import itertools
+import os
+import subprocess
+import sys
+import unittest
+
+import compiling
+import harness
+import sizes
+
+BINDING = harness.ROOT / "bindings" / "python"
+PYTHON = harness.ROOT / "examples" / "python" / "sessions.py"
+RUST = harness.ROOT / "examples" / "rust"
+# The example in Python makes some 1,200 calls, so that not each is refused in the gate.
+APART = sizes.size(31, 1)
+ROOM = compiling.Room()
+
+
+def setUpModule():
+    compiling.counting_library(ROOM.path)
+
+
+def tearDownModule():
+    ROOM.close()
+
+
+class Examples(unittest.TestCase):
+    """Each writes what it shall, or ends for want of memory."""
+
+    def check(self, words, expected, apart):
+        """Refuses the first call for memory and each so many behind it, until a run makes no such call."""
+        for nth in itertools.count(1, apart):
+            with self.subTest(refused_call=nth):
+                refused = self.check_run(words, expected, nth)
+            if not refused:
+                self.assertGreater(nth, 1)
+                return
+
+    def check_run(self, words, expected, nth):
+        """Gives whether a call was refused."""
+        how = {**os.environ, "MMDB_LIBRARY": str(ROOM.path), "PYTHONPATH": str(BINDING), "REFUSE_NTH": str(nth)}
+        ended = compiling.ran(words, env=how)
+        count = compiling.COUNT.search(ended.err)
+        self.assertIsNotNone(count, ended.err.decode(errors="replace"))
+        given, given_back, refused = map(int, count.groups())
+        self.assertEqual(given, given_back)
+        if ended.status == 0:
+            self.assertEqual((ended.out, ended.err), (expected, count[0]))
+        else:
+            self.assertEqual((ended.status, refused), (1, 1))
+            self.assertIn(b"no memory", ended.err)
+        return refused > 0
+
+    def test_in_python(self):
+        self.check([sys.executable, PYTHON], PYTHON.with_suffix(".txt").read_bytes(), APART)
+
+    def test_in_rust(self):
+        target = ROOM.path / "target"
+        how = {**os.environ, "MMDB_LIBRARY": str(ROOM.path), "CARGO_TARGET_DIR": str(target)}
+        subprocess.run(["cargo", "build", "--quiet", "--offline", "--locked"], cwd=RUST, check=True, env=how)
+        self.check([target / "debug" / "lending"], (RUST / "expected.txt").read_bytes(), 1)
