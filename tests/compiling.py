@@ -48,8 +48,8 @@ class Room:
 
 
 def counting_library(folder):
-    """Puts a library into a folder, archive and shared, of which tests/embedding/allocations.c counts and refuses the calls for
-    memory. It doesn't count those of a program that embeds it."""
+    """Puts a library into a folder, archive and shared, whose calls for memory tests/embedding/allocations.c counts and
+    refuses. It doesn't count those of a program that embeds it."""
     archive, counting = folder / "libmmdb.a", folder / "allocations.o"
     others = [word for call in CALLS for word in ("--redefine-sym", f"{call}=__wrap_{call}")]
     subprocess.run(["objcopy", *others, library.folder() / "libmmdb.a", archive], check=True)

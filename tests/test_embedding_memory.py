@@ -1,5 +1,5 @@
-"""The examples in Python and in Rust over a library that counts its memory: whichever of its calls for memory is refused, it has
-given back all that it was given when the program ends. Those in C are in test_embedding_c.py."""
+"""The examples in Python and in Rust over a library that counts its memory: whichever of its calls for memory is
+refused, it has given back all that it was given when the program ends. Those in C are in test_embedding_c.py."""
 
 import itertools
 import os
@@ -31,8 +31,9 @@ class Examples(unittest.TestCase):
     """Each writes what it shall, or ends for want of memory."""
 
     def check(self, words, expected, apart):
-        """Refuses the first call for memory and each so many behind it, until a run makes no such call."""
+        """Refuses the first call for memory and each so many behind it, until a run makes no such call, or fails."""
         for nth in itertools.count(1, apart):
+            refused = False
             with self.subTest(refused_call=nth):
                 refused = self.check_run(words, expected, nth)
             if not refused:
