@@ -1,5 +1,5 @@
-"""The examples in Python and in Rust over a library that counts its memory: whichever of its calls for memory is
-refused, it has given back all that it was given when the program ends. Those in C are in test_embedding_c.py."""
+"""The examples over a library that counts its memory: whichever of its calls for memory is refused, it has given back
+all that it was given when the program ends."""
 
 import itertools
 import os
@@ -12,6 +12,7 @@ import harness
 import sizes
 
 BINDING = harness.ROOT / "bindings" / "python"
+C = harness.ROOT / "examples" / "c"
 PYTHON = harness.ROOT / "examples" / "python" / "sessions.py"
 RUST = harness.ROOT / "examples" / "rust"
 # The example in Python makes some 1,200 calls, so that not each is refused in the gate.
@@ -54,6 +55,13 @@ class Examples(unittest.TestCase):
             self.assertEqual((ended.status, refused), (1, 1))
             self.assertIn(b"no memory", ended.err)
         return refused > 0
+
+    def test_in_c(self):
+        examples = sorted(C.glob("*.c"))
+        self.assertGreater(len(examples), 0)
+        for source in examples:
+            program = ROOM.compiled(source.stem, source, and_with=compiling.COUNTED)
+            self.check([program], source.with_suffix(".expected").read_bytes(), 1)
 
     def test_in_python(self):
         self.check([sys.executable, PYTHON], PYTHON.with_suffix(".txt").read_bytes(), APART)
