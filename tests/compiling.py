@@ -13,6 +13,7 @@ INCLUDE = harness.ROOT / "include"
 WARNINGS = ["-Wall", "-Wextra", "-Wpedantic", "-Werror", "-g", "-O1"]
 C = ["cc", "-std=c99", *WARNINGS]
 CPP = ["c++", "-std=c++11", *WARNINGS]
+SANITIZED = ["-fsanitize=address,undefined", "-fno-sanitize-recover=all"]
 # The calls for memory that tests/embedding/allocations.c counts and refuses. It does so of the library and the program,
 # and not of the C library itself.
 CALLS = ("malloc", "calloc", "realloc", "free")

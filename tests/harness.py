@@ -10,6 +10,7 @@ import tempfile
 import termios
 import time
 
+import model
 import sizes
 
 TESTS = pathlib.Path(__file__).resolve().parent
@@ -82,6 +83,14 @@ def rows():
     """The rows: streams beside the answers that they must have, by name."""
     for stream in sorted(ROWS.glob("*.in")):
         yield stream.stem, stream.read_bytes(), stream.with_suffix(".out").read_bytes()
+
+
+def limited_rows():
+    """The rows under limits of their own, which the program doesn't take and the library does, with these limits."""
+    for stream in sorted((ROWS / "limited").glob("*.in")):
+        most = map(str.split, stream.with_suffix(".limits").read_text().splitlines())
+        limits = model.Limits(**{what: int(number) for what, number in most})
+        yield stream.stem, limits, stream.read_bytes(), stream.with_suffix(".out").read_bytes()
 
 
 def crate_tests(ending):

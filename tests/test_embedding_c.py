@@ -1,4 +1,4 @@
-"""The library in C and C++ programs: the header, the examples, each status, memory and its refusal, threads, rows."""
+"""The library in C and C++ programs: the header, the examples, each status, memory and its refusal, threads."""
 
 import os
 import re
@@ -9,15 +9,11 @@ import unittest
 import compiling
 import harness
 import library
-import model
 import refusing
-import streams
 
 EXAMPLES = harness.ROOT / "examples" / "c"
 PAGE = harness.ROOT / "docs" / "c.md"
-SANITIZED = ["-fsanitize=address,undefined", "-fno-sanitize-recover=all"]
 EXPORTS = {"mmdb_open", "mmdb_command", "mmdb_load", "mmdb_feed", "mmdb_answer", "mmdb_refusal", "mmdb_close"}
-PIECES = (1, 7, 4_096)
 ROOM = compiling.Room()
 
 
@@ -82,7 +78,7 @@ class Examples(Programs):
             self.check_ran(program, expected)
 
     def test_under_sanitizers(self):
-        for program, expected in self.each("sanitized", [*compiling.C, *SANITIZED]):
+        for program, expected in self.each("sanitized", [*compiling.C, *compiling.SANITIZED]):
             self.check_ran(program, expected)
 
     def test_all_memory_is_given_back(self):
@@ -139,7 +135,7 @@ class Embedding(Programs):
     def check_program(self, name):
         source = compiling.EMBEDDING / f"{name}.c"
         self.check_counted(ROOM.compiled(name, source, and_with=compiling.COUNTED))
-        self.check_counted(ROOM.compiled(f"{name}-sanitized", source, [*compiling.C, *SANITIZED], compiling.COUNTED))
+        self.check_counted(ROOM.compiled(f"{name}-sanitized", source, [*compiling.C, *compiling.SANITIZED], compiling.COUNTED))
 
     def test_each_status_is_met(self):
         self.check_program("statuses")
@@ -151,57 +147,3 @@ class Embedding(Programs):
         for name, words in (("threads", []), ("threads-sanitized", ["-fsanitize=thread"])):
             program = ROOM.compiled(name, compiling.EMBEDDING / "threads.c", [*compiling.C, "-pthread", *words])
             self.check_ran(program)
-
-
-def call(name, first, second=None):
-    """A call as tests/embedding/requests.c reads it."""
-    if second is None:
-        return b"%s %d\n%s" % (name, len(first), first)
-    return b"%s %d %d\n%s%s" % (name, len(first), len(second), first, second)
-
-
-def line_by_line(stream):
-    """The calls that ask each request of a stream: one call a request, and none of a line without bytes."""
-    for line, block in model.units_of(stream):
-        if model.block_length(line):
-            yield call(b"load", line, block)
-        elif line:
-            yield call(b"command", line)
-
-
-class Rows(Programs):
-    """The streams of tests/rows have their answers from the library too, request by request, and fed in pieces."""
-
-    @classmethod
-    def setUpClass(cls):
-        source = compiling.EMBEDDING / "requests.c"
-        cls.program = ROOM.compiled("requests", source, [*compiling.C, *SANITIZED])
-
-    def check_row(self, stream, answers):
-        stream, answers = whole(stream, answers)
-        with self.subTest("line by line"):
-            self.check_ran(self.program, answers, stream=b"".join(line_by_line(stream)))
-        for size in PIECES:
-            with self.subTest(pieces_of=size):
-                pieces = harness.pieces_of(stream, size)
-                self.check_ran(self.program, answers, stream=b"".join(call(b"feed", piece) for piece in pieces))
-
-
-def whole(stream, answers):
-    """A stream and its answers without a load at its end whose block is cut short, and with a line feed behind its last
-    line. A stream that is fed has no end that the library is told of, so such a load isn't answered."""
-    units = list(model.units_of(stream))
-    if units and len(units[-1][1]) < model.block_length(units[-1][0]):
-        stream = streams.whole_units_of(stream)
-        answers = b"".join(streams.answers_of(answers)[:-1])
-    if stream and not units[-1][1] and not stream.endswith(b"\n"):
-        stream += b"\n"
-    return stream, answers
-
-
-def row(stream, answers):
-    return lambda test: test.check_row(stream, answers)
-
-
-for name, stream, answers in harness.rows():
-    setattr(Rows, f"test_{name}", row(stream, answers))

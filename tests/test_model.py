@@ -245,21 +245,10 @@ class RandomStreams(unittest.TestCase):
             with self.subTest(row=name):
                 self.assertEqual(model.answers_to(stream), answers)
 
-    def test_small_limits_are_answered_so_by_the_lists(self):
-        """These limits can't be given to the program. The crates' tests have this row."""
-        units = [
-            (b"table t (id int)\n", b"ok\n"),
-            (b"insert t (1)\n", b"ok 1\n"),
-            (b"insert t (2)\n", b"ok 1\n"),
-            (b"insert t (3)\n", b"error 43 table full\n"),
-            (b"insert t (1)\n", b"error 41 key exists\n"),
-            (b"load t 5\nid\n3\n", b"error 43 table full (record 1)\n"),
-            (b"load t 7\nid\n3\n4\n", b"error 12 block too long\n"),
-            (b"dump t\n", b"error 64 dump too long\n"),
-            (b"load nosuch 7\n0000000", b"error 12 block too long\n"),
-        ]
-        stream, answers = map(b"".join, zip(*units))
-        self.assertEqual(model.answers_to(stream, model.Limits(rows=2, block=6)), answers)
+    def test_the_rows_under_limits_are_answered_so_by_the_lists(self):
+        for name, limits, stream, answers in harness.limited_rows():
+            with self.subTest(row=name):
+                self.assertEqual(model.answers_to(stream, limits), answers)
 
     def test_ten_thousand_rows_in_any_order(self):
         keys = random.Random(SEED).sample(range(-(2**40), 2**40), 10_000)

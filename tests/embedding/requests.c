@@ -1,50 +1,25 @@
-/* Gives the calls of standard input to one handle, and writes their answers. A call is the line `command LENGTH`,
-   `load LENGTH BLOCK_LENGTH` or `feed LENGTH`, and behind it so many bytes. */
-#include "checking.h"
+/* Makes the calls of standard input on one handle, and writes their answers. Its words are the handle's limits. */
+#include "calls.h"
 
-#include <stdlib.h>
-
-typedef struct call {
-    char name[16];
-    size_t length;
-    size_t block_length;
-    unsigned char *bytes;
-} call;
-
-/* Reads the next call. Gives 0 where the input has ended. Its bytes lie in a block of just their length, so that what
-   reads past their end reads past the block. */
-static int read_call(call *to)
+/* The number of the refusal that answers begin with, or 0. */
+static uint32_t refusal_of(mmdb_bytes answers)
 {
-    char line[80];
-    if (fgets(line, sizeof line, stdin) == NULL)
+    static const char ERROR[] = "error ";
+    const size_t length = strlen(ERROR);
+    if (answers.length < length || memcmp(answers.at, ERROR, length) != 0)
         return 0;
-    to->block_length = 0;
-    if (sscanf(line, "%15s %zu %zu", to->name, &to->length, &to->block_length) < 2)
-        exit(3);
-    to->bytes = (unsigned char *)malloc(to->length + to->block_length);
-    if (fread(to->bytes, 1, to->length + to->block_length, stdin) != to->length + to->block_length)
-        exit(3);
-    return 1;
+    return (uint32_t)strtoul((const char *)answers.at + length, NULL, 10);
 }
 
-static mmdb_status answer_to(mmdb *db, call of, mmdb_bytes *answer)
-{
-    if (strcmp(of.name, "command") == 0)
-        return mmdb_command(db, of.bytes, of.length, answer);
-    if (strcmp(of.name, "load") == 0)
-        return mmdb_load(db, of.bytes, of.length, of.bytes + of.length, of.block_length, answer);
-    GIVES(mmdb_feed(db, of.bytes, of.length), MMDB_DONE);
-    return mmdb_answer(db, answer);
-}
-
-int main(void)
+int main(int count, char **words)
 {
     mmdb db = MMDB_CLOSED;
     mmdb_bytes answer;
     call next;
-    GIVES(mmdb_open(&db, MMDB_AUTO, MMDB_MOST, MMDB_MOST), MMDB_DONE);
+    GIVES(open_by_words(&db, count, words), MMDB_DONE);
     while (read_call(&next)) {
         GIVES(answer_to(&db, next, &answer), MMDB_DONE);
+        GIVES(mmdb_refusal(&db), refusal_of(answer));
         free(next.bytes);
         fwrite(answer.at, 1, answer.length, stdout);
     }

@@ -4,14 +4,12 @@
 //! - `order` has the order of books and the probe for one. Both read the author behind the link, and then the book.
 //! - `shelf` keeps a store of books under an ordered and an exact index. It is proved for any two indexes, by the
 //!   clauses of their traits alone: each call's `requires` is met, and nothing is taken on trust.
-//! - `runs` has what a user would see: what is found, and in which order the books are listed.
-//! - `memory` fills and empties shelves. `tests/test_given_back.py` counts from outside what they hold.
+//! - `memory` fills shelves, gives each book another author, and empties them by what the links then name.
+//!   `tests/test_given_back.py` counts from outside what they hold.
 #![tactic(auto)]
 
 #[cfg(test)]
 mod memory;
 pub mod order;
-#[cfg(test)]
-mod runs;
 #[cfg(test)]
 mod shelf;

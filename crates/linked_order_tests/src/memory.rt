@@ -6,21 +6,24 @@ use crate::order::{Author, Book};
 use crate::shelf::{Refused, Shelf};
 use lin_hash::LinHash;
 use mm_index::{ExactIndex, OrderedIndex, PlainBag, SortedVec};
+use no_memory::NoMemory;
 use part_raw::{MAX_TUPLES, Partitions, TupleRef};
-use std::alloc::Global;
-use std::process::Abort;
 use std::test::Fail;
 use ttree::TTree;
 
-// The key of the one author.
-const AUTHOR: u64 = 7;
+// The keys of the two authors, of whom the first comes last by the key.
+const FIRST: u64 = 7;
+
+const SECOND: u64 = 5;
 
 const BOOKS: u64 = 1_000;
 
-fn put_author<R: Abort>(rt: &R, authors: &mut Partitions<Author>) -> TupleRef {
-    assert!(rt; authors.len() < MAX_TUPLES);
-    authors.reserve().expect(rt, "memory");
-    authors.put(Author { key: AUTHOR })
+fn put_author(authors: &mut Partitions<Author>, key: u64) -> Result<TupleRef, NoMemory> {
+    if authors.len() >= MAX_TUPLES {
+        return Err(NoMemory);
+    }
+    authors.reserve()?;
+    Ok(authors.put(Author { key }))
 }
 
 // A book with each key below 1,000, in a scattered order.
@@ -38,99 +41,98 @@ fn fill<I: OrderedIndex, E: ExactIndex>(
     Ok(())
 }
 
-// Takes all books out, and releases what the indexes then don't use.
-fn empty<I: OrderedIndex, E: ExactIndex>(shelf: &mut Shelf<'_, I, E>)
+// Gives the books of the first author another one.
+fn relink<I: OrderedIndex, E: ExactIndex>(
+    shelf: &mut Shelf<'_, I, E>,
+    to: TupleRef,
+) -> Result<(), Refused>
     requires { IsKept shelf.old.authors.now.tuples shelf.old.books.tuples (I.items shelf.old.tree) (E.entries shelf.old.hash) }
     ensures { IsKept shelf.new.authors.now.tuples shelf.new.books.tuples (I.items shelf.new.tree) (E.entries shelf.new.hash) }
 {
     for key in 0..BOOKS {
-        if let Some(r) = shelf.find((AUTHOR, key)) {
-            shelf.remove(r);
+        match shelf.find((FIRST, key)) {
+            Some(r) => shelf.relink(r, to)?,
+            None => return Err(Refused::NoBook),
         }
     }
+    Ok(())
+}
+
+// Takes the books of the author with that key out, and releases what the indexes then don't use.
+fn empty<I: OrderedIndex, E: ExactIndex>(
+    shelf: &mut Shelf<'_, I, E>,
+    by: u64,
+) -> Result<(), Refused>
+    requires { IsKept shelf.old.authors.now.tuples shelf.old.books.tuples (I.items shelf.old.tree) (E.entries shelf.old.hash) }
+    ensures { IsKept shelf.new.authors.now.tuples shelf.new.books.tuples (I.items shelf.new.tree) (E.entries shelf.new.hash) }
+{
+    for key in 0..BOOKS {
+        match shelf.find((by, key)) {
+            Some(r) => shelf.remove(r),
+            None => return Err(Refused::NoBook),
+        };
+    }
     shelf.release_spares();
+    Ok(())
 }
 
 fn fill_and_empty<I: OrderedIndex, E: ExactIndex>(
     rt: &HostRuntime,
     shelf: &mut Shelf<'_, I, E>,
-    by: TupleRef,
+    first: TupleRef,
+    second: TupleRef,
 ) -> Result<(), Fail>
     requires { IsKept shelf.old.authors.now.tuples shelf.old.books.tuples (I.items shelf.old.tree) (E.entries shelf.old.hash) }
 {
-    fill(shelf, by)?;
-    empty(shelf);
+    fill(shelf, first)?;
+    relink(shelf, second)?;
+    empty(shelf, SECOND)?;
     println!(rt; "held: emptied")?;
-    fill(shelf, by)?;
+    fill(shelf, first)?;
     shelf.release_spares();
     println!(rt; "held: full")?;
     shelf.reserve(1_000)?;
     println!(rt; "held: reserved")?;
     shelf.release_spares();
     println!(rt; "held: released")?;
-    empty(shelf);
+    empty(shelf, FIRST)?;
     println!(rt; "held: emptied again")?;
     Ok(())
 }
 
-// Two indexes with nothing in them are filled and emptied.
+// Two indexes with nothing in them are filled, emptied and dropped.
 fn hold<I: OrderedIndex + Drop, E: ExactIndex + Drop>(
     rt: &HostRuntime,
-    authors: &Partitions<Author>,
-    by: TupleRef,
     tree: I,
     hash: E,
 ) -> Result<(), Fail>
     requires { I.items tree ≡ [] }
 {
-    let mut shelf = Shelf::new(rt.alloc(), authors, tree, hash);
-    fill_and_empty(rt, &mut shelf, by)
+    let mut authors = Partitions::new(rt.alloc());
+    let first = put_author(&mut authors, FIRST)?;
+    let second = put_author(&mut authors, SECOND)?;
+    let mut shelf = Shelf::new(rt.alloc(), &authors, tree, hash);
+    println!(rt; "held: nothing")?;
+    fill_and_empty(rt, &mut shelf, first, second)?;
+    drop(shelf);
+    println!(rt; "held: dropped")?;
+    Ok(())
 }
 
 #[test]
 fn plain_indexes_are_given_back(rt: HostRuntime) -> Result<(), Fail> {
-    let mut authors = Partitions::new(rt.alloc());
-    let by = put_author(&rt, &mut authors);
-    println!(rt; "held: nothing")?;
-    hold(
-        &rt,
-        &authors,
-        by,
-        SortedVec::new(rt.alloc()),
-        PlainBag::new(rt.alloc()),
-    )?;
-    println!(rt; "held: dropped")?;
-    Ok(())
+    let alloc = rt.alloc();
+    hold(&rt, SortedVec::new(alloc), PlainBag::new(alloc))
 }
 
 #[test]
 fn t_tree_nodes_are_given_back(rt: HostRuntime) -> Result<(), Fail> {
-    let mut authors = Partitions::new(rt.alloc());
-    let by = put_author(&rt, &mut authors);
-    println!(rt; "held: nothing")?;
-    hold(
-        &rt,
-        &authors,
-        by,
-        TTree::<30, 32>::new(rt.alloc()),
-        PlainBag::new(rt.alloc()),
-    )?;
-    println!(rt; "held: dropped")?;
-    Ok(())
+    let alloc = rt.alloc();
+    hold(&rt, TTree::<30, 32>::new(alloc), PlainBag::new(alloc))
 }
 
 #[test]
 fn hash_nodes_are_given_back(rt: HostRuntime) -> Result<(), Fail> {
-    let mut authors = Partitions::new(rt.alloc());
-    let by = put_author(&rt, &mut authors);
-    println!(rt; "held: nothing")?;
-    hold(
-        &rt,
-        &authors,
-        by,
-        SortedVec::new(rt.alloc()),
-        LinHash::new(rt.alloc()),
-    )?;
-    println!(rt; "held: dropped")?;
-    Ok(())
+    let alloc = rt.alloc();
+    hold(&rt, SortedVec::new(alloc), LinHash::new(alloc))
 }

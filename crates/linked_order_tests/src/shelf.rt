@@ -12,7 +12,7 @@ use part_raw::{MAX_TUPLES, Partitions, TupleRef};
 use std::alloc::Global;
 
 /// Why a shelf stays as it is.
-#[derive(Debug, PartialEq, Eq, Drop)]
+#[derive(Debug, Drop)]
 pub enum Refused {
     NoMemory,
     NoAuthor,

@@ -1,168 +1,270 @@
 //! Which plan each policy chooses.
+ghost use Rattle.std.specs.Prelude.{◌<◌, length};
 
-use crate::tables::{are_found, are_joined, are_joined_next, test};
-use mm_session::{Session, SessionFault};
-use plain_tables::{Op, Value};
+use crate::tables::Table;
+use mm_relation::Relation;
+use mm_relation::laws::a_relation_is_kept;
+use plain_tables::Op::{Eq, Ge, Gt, Lt, Ne};
+use plain_tables::{ColumnNumber, IndexKind, IndexKind as Kind, Op, TableNumber, Test, Value};
 use plan_chooser::JoinPlan::{HashJoin, Nested, Precomputed, TreeJoin, TreeMerge};
-use plan_chooser::Policy;
 use plan_chooser::SelectPlan::{Hash, Scan, Tree};
-use std::io::sink;
+use plan_chooser::{
+    JoinPlan, Policy, SelectPlan, Side, choose_join, choose_next_join, choose_select,
+};
+use std::alloc::Global;
+use std::process::Abort;
 use std::test::Fail;
 
-// The lines are done.
-fn run(session: &mut Session, lines: &str) -> Result<(), SessionFault> {
-    session.feed(lines.as_bytes(), &mut sink())
+// The policies, in the order in which a case tells the plans.
+const POLICIES: [Policy; 5] = [
+    Policy::Auto,
+    Policy::Scan,
+    Policy::Hash,
+    Policy::Tree,
+    Policy::Merge,
+];
+
+// The indexes that are declared on a table's second column.
+const NONE: &[IndexKind] = &[];
+
+const TREE: &[IndexKind] = &[Kind::Tree];
+
+const HASH: &[IndexKind] = &[Kind::Hash];
+
+const BOTH: &[IndexKind] = &[Kind::Hash, Kind::Tree];
+
+// A select by two tests, each on a column of a table with these indexes, and what each policy chooses.
+#[derive(Clone, Copy, Debug)]
+struct Select {
+    indexes: &'static [IndexKind],
+    tests: [(usize, Op); 2],
+    plans: [SelectPlan; 5],
+}
+
+const SELECTS: [Select; 6] = [
+    Select {
+        indexes: NONE,
+        tests: [(1, Eq), (1, Gt)],
+        plans: [Scan; 5],
+    },
+    Select {
+        indexes: NONE,
+        tests: [(1, Eq), (0, Ge)],
+        plans: [Tree(1), Scan, Tree(1), Tree(1), Tree(1)],
+    },
+    Select {
+        indexes: TREE,
+        tests: [(1, Ne), (1, Lt)],
+        plans: [Tree(1), Scan, Tree(1), Tree(1), Tree(1)],
+    },
+    Select {
+        indexes: HASH,
+        tests: [(1, Ne), (1, Gt)],
+        plans: [Scan; 5],
+    },
+    Select {
+        indexes: HASH,
+        tests: [(0, Eq), (1, Eq)],
+        plans: [Hash(1), Scan, Hash(1), Tree(0), Hash(1)],
+    },
+    Select {
+        indexes: BOTH,
+        tests: [(1, Eq), (1, Gt)],
+        plans: [Hash(0), Scan, Hash(0), Tree(0), Hash(0)],
+    },
+];
+
+// A side of a join: a column of a table with so many rows and these indexes, whose second column refers to the other side's
+// table or to none.
+#[derive(Clone, Copy, Debug)]
+struct End {
+    column: usize,
+    rows: i64,
+    indexes: &'static [IndexKind],
+    refers: bool,
+}
+
+// A join of two tables, or of so many rows that were joined before with one table more; and what each policy chooses.
+#[derive(Clone, Copy, Debug)]
+struct Join {
+    before: Option<usize>,
+    outer: End,
+    inner: End,
+    plans: [JoinPlan; 5],
+}
+
+const KEY_OF_THREE: End = End {
+    column: 0,
+    rows: 3,
+    indexes: NONE,
+    refers: false,
+};
+
+const KEY_OF_FOUR: End = End {
+    column: 0,
+    rows: 4,
+    indexes: NONE,
+    refers: false,
+};
+
+const TWO: End = End {
+    column: 1,
+    rows: 2,
+    indexes: NONE,
+    refers: false,
+};
+
+const TWO_IN_A_TREE: End = End {
+    column: 1,
+    rows: 2,
+    indexes: TREE,
+    refers: false,
+};
+
+const REFERENCE: End = End {
+    column: 1,
+    rows: 0,
+    indexes: BOTH,
+    refers: true,
+};
+
+const JOINS: [Join; 10] = [
+    Join {
+        before: None,
+        outer: TWO,
+        inner: KEY_OF_FOUR,
+        plans: [TreeJoin, Nested, HashJoin, TreeJoin, TreeJoin],
+    },
+    Join {
+        before: None,
+        outer: TWO,
+        inner: KEY_OF_THREE,
+        plans: [HashJoin, Nested, HashJoin, TreeJoin, HashJoin],
+    },
+    Join {
+        before: None,
+        outer: KEY_OF_FOUR,
+        inner: TWO,
+        plans: [HashJoin, Nested, HashJoin, HashJoin, HashJoin],
+    },
+    Join {
+        before: None,
+        outer: TWO_IN_A_TREE,
+        inner: KEY_OF_FOUR,
+        plans: [TreeMerge, Nested, HashJoin, TreeJoin, TreeMerge],
+    },
+    Join {
+        before: None,
+        outer: REFERENCE,
+        inner: KEY_OF_FOUR,
+        plans: [Precomputed, Nested, HashJoin, TreeJoin, TreeMerge],
+    },
+    Join {
+        before: None,
+        outer: KEY_OF_FOUR,
+        inner: REFERENCE,
+        plans: [Precomputed, Nested, HashJoin, TreeJoin, TreeMerge],
+    },
+    Join {
+        before: Some(2),
+        outer: TWO_IN_A_TREE,
+        inner: KEY_OF_FOUR,
+        plans: [TreeJoin, Nested, HashJoin, TreeJoin, TreeJoin],
+    },
+    Join {
+        before: Some(3),
+        outer: TWO_IN_A_TREE,
+        inner: KEY_OF_FOUR,
+        plans: [HashJoin, Nested, HashJoin, TreeJoin, HashJoin],
+    },
+    Join {
+        before: Some(9),
+        outer: REFERENCE,
+        inner: KEY_OF_FOUR,
+        plans: [Precomputed, Nested, HashJoin, TreeJoin, Precomputed],
+    },
+    Join {
+        before: Some(1),
+        outer: KEY_OF_FOUR,
+        inner: REFERENCE,
+        plans: [HashJoin, Nested, HashJoin, TreeJoin, HashJoin],
+    },
+];
+
+// A table with so many rows and these indexes.
+fn table(alloc: Global, rows: i64, indexes: &[IndexKind]) -> Result<Table, Fail> {
+    let mut table = Table::new(alloc)?;
+    for id in 0..rows {
+        table.insert(alloc, id)?;
+    }
+    for kind in indexes {
+        table.add_index(*kind)?;
+    }
+    Ok(table)
+}
+
+// The relation of a side, where the other one is that table.
+fn relation(alloc: Global, end: &End, other: TableNumber) -> Result<Relation, Fail> {
+    let table = table(alloc, end.rows, end.indexes)?;
+    Ok(if end.refers {
+        table.referring(other)
+    } else {
+        table.relation
+    })
+}
+
+// A side with its relation at hand.
+fn side<'a>(rt: &impl Abort, table: TableNumber, relation: &'a Relation, column: usize) -> Side<'a>
+    ensures { result.column.0 < length result.relation.now.targets }
+{
+    a_relation_is_kept(relation);
+    assert!(rt; column < relation.schema().columns.len());
+    Side {
+        table,
+        relation,
+        column: ColumnNumber(column),
+    }
+}
+
+fn test(of: (usize, Op)) -> Test {
+    Test {
+        column: ColumnNumber(of.0),
+        op: of.1,
+        value: Value::Int(1),
+    }
+}
+
+// What is chosen for a select.
+fn found(alloc: Global, policy: Policy, select: &Select) -> Result<SelectPlan, Fail> {
+    let table = table(alloc, 0, select.indexes)?;
+    let [first, second] = select.tests;
+    let tests = [test(first), test(second)];
+    Ok(choose_select(policy, &table.relation, &tests))
+}
+
+// What is chosen for a join of the tables 0 and 1.
+fn joined(rt: &impl Abort, alloc: Global, policy: Policy, join: &Join) -> Result<JoinPlan, Fail> {
+    let outer = relation(alloc, &join.outer, TableNumber(1))?;
+    let inner = relation(alloc, &join.inner, TableNumber(0))?;
+    let outer = side(rt, TableNumber(0), &outer, join.outer.column);
+    let inner = side(rt, TableNumber(1), &inner, join.inner.column);
+    Ok(match join.before {
+        None => choose_join(policy, &outer, &inner),
+        Some(rows) => choose_next_join(policy, rows, &outer, &inner),
+    })
 }
 
 #[test]
-fn plans_follow_indexes_and_sizes(rt: HostRuntime) -> Result<(), Fail> {
-    let mut session = Session::new(rt.alloc(), Policy::Auto)?;
-    run(
-        &mut session,
-        "table l (id int, k int)\n\
-         table r (id int, k int)\n\
-         insert l (1, 1)\n\
-         insert l (2, 2)\n\
-         insert r (1, 1)\n\
-         insert r (2, 2)\n\
-         insert r (3, 3)\n\
-         insert r (4, 4)\n",
-    )?;
-    let by_size = [TreeJoin, Nested, HashJoin, TreeJoin, TreeJoin];
-    are_joined(&rt, session.catalog(), (0, 1), (1, 0), by_size);
-    are_joined_next(&rt, session.catalog(), 2, (0, 1), (1, 0), by_size);
-    run(&mut session, "insert l (3, 3)\n")?;
-    let by_size = [HashJoin, Nested, HashJoin, TreeJoin, HashJoin];
-    are_joined(&rt, session.catalog(), (0, 1), (1, 0), by_size);
-    are_joined_next(&rt, session.catalog(), 3, (0, 1), (1, 0), by_size);
-    are_joined_next(&rt, session.catalog(), usize::MAX, (0, 1), (1, 0), by_size);
-    are_joined(
-        &rt,
-        session.catalog(),
-        (0, 1),
-        (1, 1),
-        [HashJoin, Nested, HashJoin, HashJoin, HashJoin],
-    );
-    run(&mut session, "index l k tree\n")?;
-    are_joined(
-        &rt,
-        session.catalog(),
-        (0, 1),
-        (1, 0),
-        [TreeMerge, Nested, HashJoin, TreeJoin, TreeMerge],
-    );
-    are_joined_next(&rt, session.catalog(), 3, (0, 1), (1, 0), by_size);
-    let scan = [Scan; 5];
-    let tree = [Tree(0), Scan, Tree(0), Tree(0), Tree(0)];
-    are_found(
-        &rt,
-        session.catalog(),
-        0,
-        &[test(1, Op::Eq, Value::Int(1))],
-        tree,
-    );
-    are_found(
-        &rt,
-        session.catalog(),
-        0,
-        &[test(1, Op::Gt, Value::Int(1))],
-        tree,
-    );
-    are_found(
-        &rt,
-        session.catalog(),
-        0,
-        &[test(1, Op::Ne, Value::Int(1))],
-        scan,
-    );
-    run(&mut session, "index l k hash\n")?;
-    let hash = [Hash(0), Scan, Hash(0), Tree(0), Hash(0)];
-    are_found(
-        &rt,
-        session.catalog(),
-        0,
-        &[test(1, Op::Eq, Value::Int(1))],
-        hash,
-    );
-    are_found(
-        &rt,
-        session.catalog(),
-        0,
-        &[test(1, Op::Gt, Value::Int(1))],
-        tree,
-    );
-    Ok(())
-}
-
-// A hash serves the second test, a tree the first.
-#[test]
-fn the_leftmost_hash_goes_before_any_tree(rt: HostRuntime) -> Result<(), Fail> {
-    let mut session = Session::new(rt.alloc(), Policy::Auto)?;
-    run(&mut session, "table t (id int, k int)\nindex t k hash\n")?;
-    let tests = [
-        test(0, Op::Eq, Value::Int(1)),
-        test(1, Op::Eq, Value::Int(1)),
-    ];
-    let plans = [Hash(1), Scan, Hash(1), Tree(0), Hash(1)];
-    are_found(&rt, session.catalog(), 0, &tests, plans);
-    Ok(())
-}
-
-#[test]
-fn references_are_followed(rt: HostRuntime) -> Result<(), Fail> {
-    let mut session = Session::new(rt.alloc(), Policy::Auto)?;
-    run(
-        &mut session,
-        "table dept (id int, name text)\n\
-         table emp (id int, dept ref dept null)\n\
-         index emp dept hash\n\
-         index emp dept tree\n",
-    )?;
-    are_joined(
-        &rt,
-        session.catalog(),
-        (1, 1),
-        (0, 0),
-        [Precomputed, Nested, HashJoin, TreeJoin, TreeMerge],
-    );
-    are_joined(
-        &rt,
-        session.catalog(),
-        (0, 0),
-        (1, 1),
-        [Precomputed, Nested, HashJoin, TreeJoin, TreeMerge],
-    );
-    are_joined_next(
-        &rt,
-        session.catalog(),
-        0,
-        (1, 1),
-        (0, 0),
-        [Precomputed, Nested, HashJoin, TreeJoin, Precomputed],
-    );
-    are_joined_next(
-        &rt,
-        session.catalog(),
-        0,
-        (0, 0),
-        (1, 1),
-        [TreeJoin, Nested, HashJoin, TreeJoin, TreeJoin],
-    );
-    are_joined_next(
-        &rt,
-        session.catalog(),
-        1,
-        (0, 0),
-        (1, 1),
-        [HashJoin, Nested, HashJoin, TreeJoin, HashJoin],
-    );
-    let null = [Hash(0), Scan, Hash(0), Tree(0), Hash(0)];
-    are_found(
-        &rt,
-        session.catalog(),
-        1,
-        &[test(1, Op::Eq, Value::Null)],
-        null,
-    );
+fn plans_follow_indexes_links_and_sizes(rt: HostRuntime) -> Result<(), Fail> {
+    for i in 0..POLICIES.len() {
+        for select in SELECTS {
+            let plans = select.plans;
+            assert_eq!(&rt; found(rt.alloc(), POLICIES[i], &select)?, plans[i], "{select:?}");
+        }
+        for join in JOINS {
+            let plans = join.plans;
+            assert_eq!(&rt; joined(&rt, rt.alloc(), POLICIES[i], &join)?, plans[i], "{join:?}");
+        }
+    }
     Ok(())
 }

@@ -1,5 +1,5 @@
-//! The tests of plan_chooser, by its public calls alone. They stand in a crate of their own, since a crate with tests is
-//! proved twice.
+//! The test of plan_chooser, by its public calls alone. It stands in a crate of its own, since a crate with tests is proved
+//! twice.
 #![tactic(auto)]
 
 #[cfg(test)]

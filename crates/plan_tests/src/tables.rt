@@ -1,96 +1,98 @@
-//! Tables that a session made, and what is chosen on them.
-ghost use Rattle.std.specs.Prelude.{◌<◌, length};
+//! Tables of two columns of integers.
+ghost use Rattle.std.specs.Prelude.{◌≡◌, ◌∷◌, [], IfOk, length};
+ghost use Rattle.plain_tables.specs.declared.value.Value.{Value};
+ghost use Rattle.mm_relation.specs.declared.row.Cell.{Cell};
 
-use mm_catalog::Catalog;
-use mm_catalog::laws::a_catalog_is_consistent;
-use mm_relation::laws::a_relation_is_kept;
-use mm_relation::{Relation, Relations};
-use plain_tables::{ColumnNumber, Op, TableNumber, Test, Value};
-use plan_chooser::{
-    JoinPlan, Policy, SelectPlan, Side, choose_join, choose_next_join, choose_select,
-};
-use std::process::Abort;
+use mm_relation::{Cell, ColumnNumber, Relation, Relations, RowRefusal, TableNumber};
+use no_memory::NoMemory;
+use plain_tables::{ColKind, Column, IndexKind, Schema, Sequence, Text, Value};
+use std::alloc::Global;
+use std::marker::Model;
 
-// The policies, in the order in which a test tells the plans.
-const POLICIES: [Policy; 5] = [
-    Policy::Auto,
-    Policy::Scan,
-    Policy::Hash,
-    Policy::Tree,
-    Policy::Merge,
-];
-
-fn relation<'a>(rt: &impl Abort, catalog: &'a Catalog, table: usize) -> &'a Relation {
-    assert!(rt; table < catalog.table_count());
-    a_catalog_is_consistent(catalog);
-    catalog.at(TableNumber(table))
+// The tables that links lead into.
+#[derive(Drop)]
+struct Tables<'a> {
+    relations: &'a [Relation],
 }
 
-// One side of a join by this column of a table, both counted from 0.
-fn side<'a>(rt: &impl Abort, catalog: &'a Catalog, place: (usize, usize)) -> Side<'a>
-    ensures { result.column.0 < length result.relation.now.targets }
+impl<'a> Relations for Tables<'a> {
+    ghost tables = { λ t. t.relations.now };
+
+    fn at(&self, table: TableNumber) -> &Relation {
+        &self.relations[table.0]
+    }
+}
+
+/// A table with any rows and any indexes on its second column.
+#[derive(Drop)]
+pub struct Table {
+    pub relation: Relation,
+}
+
+impl Model for Table {
+    ghost use Rattle.std.specs.Prelude.{◌≡◌, [], length};
+    ghost use Rattle.mm_relation.specs.State.{RelationState, IsCurrent, linked_keys};
+    ghost use Rattle.mm_relation.specs.contracts.relation.Relation.{the_row as relation_row};
+
+    ghost Value = { RelationState };
+
+    ghost coded = { relation_row.coded };
+
+    ghost view = { λ t. t.relation };
+
+    ghost invariant = { λ t. IsCurrent (linked_keys t.relation.targets []) t.relation × (length t.relation.targets ≡ 2) };
+}
+
+fn column(alloc: Global, name: &str) -> Result<Column, NoMemory> {
+    Ok(Column {
+        name: Text::from_str(alloc, name)?,
+        kind: ColKind::Int,
+    })
+}
+
+fn schema(alloc: Global) -> Result<Schema, NoMemory>
+    ensures { IfOk result (λ schema. length schema.columns ≡ 2) }
 {
-    let (table, column) = place;
-    let relation = relation(rt, catalog, table);
-    assert!(rt; column < relation.schema().columns.len());
-    a_relation_is_kept(relation);
-    Side {
-        table: TableNumber(table),
-        relation,
-        column: ColumnNumber(column),
-    }
+    let mut columns = Sequence::new(alloc);
+    columns.push(column(alloc, "id")?)?;
+    columns.push(column(alloc, "n")?)?;
+    Ok(Schema { columns })
 }
 
-/// The policies choose these plans for a join of two columns.
-pub fn are_joined(
-    rt: &impl Abort,
-    catalog: &Catalog,
-    outer: (usize, usize),
-    inner: (usize, usize),
-    wanted: [JoinPlan; 5],
-) {
-    let outer = side(rt, catalog, outer);
-    let inner = side(rt, catalog, inner);
-    for (policy, plan) in POLICIES.into_iter().zip(wanted) {
-        assert_eq!(rt; choose_join(policy, &outer, &inner), plan);
-    }
+// The one cell of a row.
+fn cells(alloc: Global) -> Result<Sequence<Cell>, NoMemory>
+    ensures { IfOk result (λ cells. (value : Value) × (cells ≡ Cell.Held value ∷ [])) }
+{
+    let mut cells = Sequence::new(alloc);
+    cells.push(Cell::Held(Value::Int(0)))?;
+    Ok(cells)
 }
 
-/// The policies choose these plans for a later join of two columns, where so many rows were joined before.
-pub fn are_joined_next(
-    rt: &impl Abort,
-    catalog: &Catalog,
-    rows: usize,
-    outer: (usize, usize),
-    inner: (usize, usize),
-    wanted: [JoinPlan; 5],
-) {
-    let outer = side(rt, catalog, outer);
-    let inner = side(rt, catalog, inner);
-    for (policy, plan) in POLICIES.into_iter().zip(wanted) {
-        assert_eq!(rt; choose_next_join(policy, rows, &outer, &inner), plan);
+impl Table {
+    /// One with no rows and no declared index.
+    pub fn new(alloc: Global) -> Result<Table, NoMemory> {
+        let relation = Relation::new(alloc, schema(alloc)?)?;
+        Ok(Table { relation })
     }
-}
 
-/// The policies choose these plans for the rows of a table that pass tests.
-pub fn are_found(
-    rt: &impl Abort,
-    catalog: &Catalog,
-    table: usize,
-    tests: &[Test],
-    wanted: [SelectPlan; 5],
-) {
-    let relation = relation(rt, catalog, table);
-    for (policy, plan) in POLICIES.into_iter().zip(wanted) {
-        assert_eq!(rt; choose_select(policy, relation, tests), plan);
+    pub fn insert(&mut self, alloc: Global, id: i64) -> Result<(), RowRefusal> {
+        let Ok(cells) = cells(alloc) else {
+            return Err(RowRefusal::NoMemory);
+        };
+        let none = Tables { relations: &[] };
+        self.relation.insert_row(&none, Value::Int(id), cells)?;
+        Ok(())
     }
-}
 
-/// The test of a column against a value.
-pub fn test(column: usize, op: Op, value: Value) -> Test {
-    Test {
-        column: ColumnNumber(column),
-        op,
-        value,
+    pub fn add_index(&mut self, kind: IndexKind) -> Result<(), NoMemory> {
+        let none = Tables { relations: &[] };
+        self.relation.add_index(&none, ColumnNumber(1), kind)
+    }
+
+    /// Its relation, with a second column that refers to a table.
+    pub fn referring(self, to: TableNumber) -> Relation {
+        let mut relation = self.relation;
+        relation.set_target(ColumnNumber(1), to);
+        relation
     }
 }

@@ -1,3 +1,1 @@
 pub mod LinkLemmas
-pub mod LaterLemmas
-pub mod ShownLemmas

@@ -1,4 +1,4 @@
--- Two tables that every method can join.
+-- A key and a column that refers to it, which every method can join.
 use Rattle.std.specs.Prelude.{List}
 use Rattle.mm_relation.specs.State.{RelationState}
 use Rattle.temp_list.specs.Reading.{AreSound}

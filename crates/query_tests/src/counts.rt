@@ -5,25 +5,34 @@
 //! the links themselves asks far less often.
 ghost use Rattle.query_tests.specs.Linked.{AreJoinable};
 
-use crate::linked::{find_link, join};
-use crate::tables::run;
-use join_ops::Joinable;
+use crate::linked::{Link, find_link};
+use join_ops::{hash_join, precomputed, tree_join, tree_merge};
 use mm_catalog::Catalog;
 use mm_relation::{Relation, Relations};
-use mm_session::Session;
+use mm_session::{Session, SessionFault};
 use no_memory::NoMemory;
 use plain_tables::TableNumber;
-use plan_chooser::{JoinPlan, Policy};
+use plan_chooser::Policy;
 use std::alloc::Global;
 use std::cell::Cell;
-use std::process::Abort;
+use std::io::sink;
 use std::test::Fail;
+use temp_list::TempList;
 
 // How many rows each table has.
 const ROWS: u64 = 1_000;
 
 // More than this is no join by an index, a hash or links.
 const MANY: u64 = 200_000;
+
+// The methods that don't compare every pair.
+#[derive(Clone, Copy, Debug)]
+enum Method {
+    Hash,
+    Tree,
+    Merge,
+    Links,
+}
 
 // The relations of a catalog, and how often they were asked for.
 #[derive(Drop)]
@@ -41,6 +50,11 @@ impl<'a> Relations for Counting<'a> {
     }
 }
 
+// The lines are done.
+fn run(session: &mut Session, lines: &str) -> Result<(), SessionFault> {
+    session.feed(lines.as_bytes(), &mut sink())
+}
+
 // Declares both tables, and puts rows in: each fourth department has four employees.
 fn fill(rt: &HostRuntime, session: &mut Session) -> Result<(), Fail> {
     run(
@@ -54,25 +68,23 @@ fn fill(rt: &HostRuntime, session: &mut Session) -> Result<(), Fail> {
     Ok(())
 }
 
-// The method joins each employee with a department, and asks for few relations.
-fn asks_for_few(
-    rt: &impl Abort,
+// What a method makes of two tables.
+fn join(
     alloc: Global,
-    catalog: &Catalog,
-    plan: JoinPlan,
-    outer: &Joinable<'_>,
-    inner: &Joinable<'_>,
-) -> Result<(), NoMemory>
-    requires { AreJoinable catalog.now.relations outer.now inner.now }
+    tables: &Counting<'_>,
+    method: Method,
+    link: &Link,
+) -> Result<TempList, NoMemory>
+    requires { AreJoinable tables.now.catalog.now.relations link.now.key link.now.reference }
 {
-    let counting = Counting {
-        catalog,
-        calls: Cell::new(0),
-    };
-    let list = join(alloc, &counting, plan, outer, inner)?;
-    assert_eq!(rt; list.len() as u64, ROWS);
-    assert!(rt; counting.calls.get() < MANY, "{plan:?}");
-    Ok(())
+    let outer = &link.key;
+    let inner = &link.reference;
+    match method {
+        Method::Hash => hash_join(alloc, tables, outer, inner),
+        Method::Tree => tree_join(alloc, tables, outer, inner),
+        Method::Merge => tree_merge(alloc, tables, outer, inner),
+        Method::Links => precomputed(alloc, tables, outer, inner),
+    }
 }
 
 // Where one of these methods has the body of the one that compares every pair, its contract is still met, and this test
@@ -83,14 +95,14 @@ fn joins_by_an_index_compare_few_pairs(rt: HostRuntime) -> Result<(), Fail> {
     fill(&rt, &mut session)?;
     let catalog = session.catalog();
     let link = find_link(&rt, catalog);
-    let plans = [
-        JoinPlan::HashJoin,
-        JoinPlan::TreeJoin,
-        JoinPlan::TreeMerge,
-        JoinPlan::Precomputed,
-    ];
-    for plan in plans {
-        asks_for_few(&rt, rt.alloc(), catalog, plan, &link.to, &link.from)?;
+    for method in [Method::Hash, Method::Tree, Method::Merge, Method::Links] {
+        let counting = Counting {
+            catalog,
+            calls: Cell::new(0),
+        };
+        let list = join(rt.alloc(), &counting, method, &link)?;
+        assert_eq!(&rt; list.len() as u64, ROWS);
+        assert!(&rt; counting.calls.get() < MANY, "{method:?}");
     }
     Ok(())
 }

@@ -1,22 +1,6 @@
-//! The tests of mm_relation, by its public calls alone. They stand in a crate of their own, since a crate with tests
-//! is proved twice.
+//! The test of mm_relation that no statement of the language can make, by its public calls alone. It stands in a crate of
+//! its own, since a crate with tests is proved twice.
 #![tactic(auto)]
 
 #[cfg(test)]
-mod beside;
-#[cfg(test)]
-mod growths;
-#[cfg(test)]
-mod linking;
-#[cfg(test)]
-mod links;
-#[cfg(test)]
-mod plain;
-#[cfg(test)]
-mod rows;
-#[cfg(test)]
-mod seen;
-#[cfg(test)]
-mod shown;
-#[cfg(test)]
-mod worked;
+mod searches;

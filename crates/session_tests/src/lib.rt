@@ -1,24 +1,15 @@
-//! The tests of mm_session, by its public calls alone. They stand in a crate of their own, since a crate with tests
+//! What of mm_session only code can show: sessions over catalogs, readers and writers that fail, and what is no request.
+//! What streams are answered is shown by `tests/rows`. The tests stand in a crate of their own, since a crate with tests
 //! is proved twice.
 #![tactic(auto)]
 
 #[cfg(test)]
-mod blocks;
+mod calls;
 #[cfg(test)]
-mod commands;
-#[cfg(test)]
-mod feeding;
-#[cfg(test)]
-mod joins;
+mod faults;
 #[cfg(test)]
 mod over;
 #[cfg(test)]
 mod pages;
 #[cfg(test)]
-mod references;
-#[cfg(test)]
 mod requests;
-#[cfg(test)]
-mod rows;
-#[cfg(test)]
-mod streams;

@@ -6,6 +6,7 @@ ghost use Rattle.plain_tables.specs.declared.command.Command.TheVariants as comm
 ghost use Rattle.plain_tables.specs.declared.schema.ColKind.TheVariants as kind;
 ghost use Rattle.plain_tables.specs.declared.value.Value.TheVariants as value;
 
+use crate::calls::feeds;
 use crate::pages::Page;
 use mm_catalog::Catalog;
 use mm_session::Session;
@@ -14,7 +15,6 @@ use plain_tables::{
 };
 use plan_chooser::Policy;
 use std::alloc::Global;
-use std::test::Fail;
 
 // The command `table t (id int)`.
 fn declaration(alloc: Global) -> Result<Command, NoMemory>
@@ -55,37 +55,50 @@ fn grow(catalog: &mut Catalog, command: Command) -> Result<(), Refusal>
     Ok(())
 }
 
-// A session over a table with the rows 1 to that. It tells when the catalog stands, and when the session does.
-fn session_over(rt: &HostRuntime, rows: i64) -> Result<Session, Fail> {
-    let mut catalog = Catalog::new(rt.alloc(), Limits::STANDARD);
-    grow(&mut catalog, declaration(rt.alloc())?)?;
+// A catalog of a table with the rows 1 to that.
+fn filled(alloc: Global, rows: i64) -> Result<Catalog, Refusal> {
+    let mut catalog = Catalog::new(alloc, Limits::STANDARD);
+    grow(&mut catalog, declaration(alloc)?)?;
     for id in 1..=rows {
-        grow(&mut catalog, insertion(rt.alloc(), id)?)?;
+        grow(&mut catalog, insertion(alloc, id)?)?;
     }
-    println!(rt; "the catalog stands")?;
-    let session = Session::over(rt.alloc(), Policy::Auto, catalog)?;
-    println!(rt; "the session stands")?;
-    Ok(session)
+    Ok(catalog)
 }
 
-// What a session over a table with the rows 1 to that answers to a select of the row 5.
-fn answer_over(rt: &HostRuntime, rows: i64) -> Result<Vec<u8>, Fail> {
-    let mut session = session_over(rt, rows)?;
-    let mut page = Page::new(rt.alloc(), 100, true)?;
-    session.feed(b"select * from t where id = 5\n", &mut page)?;
-    Ok(page.got)
+// A session over a catalog.
+fn begun(alloc: Global, catalog: Catalog) -> Option<Session> {
+    Session::over(alloc, Policy::Auto, catalog).ok()
+}
+
+// What a session answers to a select of the row 5.
+fn answer_of(alloc: Global, mut session: Session) -> Option<Vec<u8>> {
+    let mut page = Page::new(alloc, 100, true).ok()?;
+    feeds(&mut session, "select * from t where id = 5\n", &mut page).ok()?;
+    Some(page.got)
+}
+
+fn tell(rt: &HostRuntime, what: &str) -> Option<()> {
+    println!(rt; "{what}").ok()
+}
+
+// What a session over a table with the rows 1 to that answers, or none where something fails before. It is told when the
+// catalog stands, and when the session does.
+fn answer_over(rt: &HostRuntime, rows: i64) -> Option<Vec<u8>> {
+    let catalog = filled(rt.alloc(), rows).ok()?;
+    tell(rt, "the catalog stands")?;
+    let session = begun(rt.alloc(), catalog)?;
+    tell(rt, "the session stands")?;
+    answer_of(rt.alloc(), session)
 }
 
 #[test]
-fn over_no_rows_with_counted_growths(rt: HostRuntime) -> Result<(), Fail> {
-    let got = answer_over(&rt, 0)?;
+fn over_no_rows_with_counted_growths(rt: HostRuntime) {
+    let got = answer_over(&rt, 0).expect(&rt, "an answer");
     assert_eq!(rt; got.as_slice(), b"rows 0\nt.id\n".as_slice());
-    Ok(())
 }
 
 #[test]
-fn over_a_thousand_rows_with_counted_growths(rt: HostRuntime) -> Result<(), Fail> {
-    let got = answer_over(&rt, 1_000)?;
+fn over_a_thousand_rows_with_counted_growths(rt: HostRuntime) {
+    let got = answer_over(&rt, 1_000).expect(&rt, "an answer");
     assert_eq!(rt; got.as_slice(), b"rows 1\nt.id\n5\n".as_slice());
-    Ok(())
 }

@@ -1,14 +1,11 @@
-//! The tests of the storage crates, by their public calls alone. They stand in a crate of their own, since a crate
-//! with tests is proved twice.
+//! What no contract of the storage crates says: what a store frees and drops, and that the compiled code does as the
+//! contracts say. The tests call the public functions alone. They stand in a crate of their own, since a crate with
+//! tests is proved twice.
 #![tactic(auto)]
 
-#[cfg(test)]
-mod exact_runs;
 #[cfg(test)]
 mod linear_hash;
 #[cfg(test)]
 mod linked_nodes;
 #[cfg(test)]
 mod partitions;
-#[cfg(test)]
-mod plain_indexes;

@@ -1,18 +1,16 @@
-//! Tuples that are their own keys, for runs of a T-tree: the key is the number of the
-//! partition, and the slot is 0.
-ghost use Rattle.std.specs.Prelude.{◌≡◌, ◌≢◌, All, Contains, IfSome, IfNone, nat_lt, if◌then◌else◌};
+//! Indexes of tuples that are their own keys: the key is the number of the partition, and the slot is 0.
+ghost use Rattle.std.specs.Prelude.{◌≡◌, [], nat_lt, if◌then◌else◌};
 ghost use Rattle.std.specs.Ordering.{nat_cmp};
 ghost use Rattle.std.specs.declared.cmp.Ordering.TheVariants.{Less, Equal, Greater};
-ghost use Rattle.mm_index.specs.Order.{IsRising};
-ghost use Rattle.ttree.specs.Held.{items_of_tree};
 
-use mm_index::{Probe, TupleOrder};
+use mm_index::{MAX_LEN, OrderedIndex, Probe, TupleOrder};
 use no_memory::NoMemory;
 use part_raw::TupleRef;
+use std::alloc::Global;
 use std::cmp::Ordering;
-use ttree::TTree;
+use std::marker::Model;
 
-pub fn keyed(key: u32) -> TupleRef
+fn keyed(key: u32) -> TupleRef
     ensures part { result.part ≡ key }
     ensures slot { result.slot ≡ 0 }
 {
@@ -79,115 +77,57 @@ impl Probe for KeyRange {
     }
 }
 
-pub fn key_probe(low: u32, high: u32) -> KeyRange
-    ensures low { result.low ≡ low }
-    ensures high { result.high ≡ high }
-{
-    KeyRange {
-        low,
-        high,
-        asked: 0,
+// An index that has each key once, in rising order.
+#[derive(Drop)]
+pub struct Keys<I: OrderedIndex> {
+    pub index: I,
+}
+
+impl<I: OrderedIndex> Model for Keys<I> {
+    ghost use Rattle.std.specs.Prelude.{◌≡◌, List, All};
+    ghost use Rattle.std.specs.Ordering.{nat_cmp};
+    ghost use Rattle.part_raw.specs.declared.tuple_ref.TupleRef.{TupleRef};
+    ghost use Rattle.mm_index.specs.Order.{IsRising};
+
+    ghost Value = { List TupleRef };
+
+    ghost view = { λ k. I.items k.index };
+
+    ghost invariant = { λ k. IsRising (λ a b. nat_cmp a.part b.part) (I.items k.index) × All (λ r. r.slot ≡ 0) (I.items k.index) };
+}
+
+impl<I: OrderedIndex> Keys<I> {
+    pub fn new(index: I) -> Keys<I>
+        requires { I.items index ≡ [] }
+    {
+        Keys { index }
     }
-}
 
-pub fn find_key<const MIN: usize, const MAX: usize>(
-    tree: &TTree<MIN, MAX>,
-    key: u32,
-) -> Option<TupleRef>
-    requires { IsRising (λ a b. nat_cmp a.part b.part) (items_of_tree tree.now) }
-    ensures held { IfSome result (Contains (items_of_tree tree.now)) }
-    ensures none { IfNone result (All (λ r. r.part ≢ key) (items_of_tree tree.now)) }
-{
-    tree.find(&mut key_probe(key, key))
-}
-
-// Appends the references with the keys of the probe.
-pub fn range_keys<const MIN: usize, const MAX: usize>(
-    tree: &TTree<MIN, MAX>,
-    probe: &mut KeyRange,
-    out: &mut Vec<TupleRef>,
-) -> Result<(), NoMemory>
-    requires { IsRising (λ a b. nat_cmp a.part b.part) (items_of_tree tree.now) }
-{
-    tree.range(probe, out)
-}
-
-// Inserts the key, unless it is there.
-pub fn add<const MIN: usize, const MAX: usize>(
-    tree: &mut TTree<MIN, MAX>,
-    key: u32,
-) -> Result<(), NoMemory>
-    requires rising { IsRising (λ a b. nat_cmp a.part b.part) (items_of_tree tree.old) }
-    requires slots { All (λ r. r.slot ≡ 0) (items_of_tree tree.old) }
-    ensures rising { IsRising (λ a b. nat_cmp a.part b.part) (items_of_tree tree.new) }
-    ensures slots { All (λ r. r.slot ≡ 0) (items_of_tree tree.new) }
-{
-    if tree.len() < 4_294_967_296 && find_key(tree, key).is_none() {
-        tree.reserve(1)?;
-        tree.insert(&KeyOrder, keyed(key));
-    }
-    Ok(())
-}
-
-pub fn add_all<const MIN: usize, const MAX: usize>(
-    tree: &mut TTree<MIN, MAX>,
-    keys: &[u32],
-) -> Result<(), NoMemory>
-    requires rising { IsRising (λ a b. nat_cmp a.part b.part) (items_of_tree tree.old) }
-    requires slots { All (λ r. r.slot ≡ 0) (items_of_tree tree.old) }
-    ensures rising { IsRising (λ a b. nat_cmp a.part b.part) (items_of_tree tree.new) }
-    ensures slots { All (λ r. r.slot ≡ 0) (items_of_tree tree.new) }
-{
-    for key in keys {
-        add(tree, *key)?;
-    }
-    Ok(())
-}
-
-// Takes the key out, if it is there.
-pub fn cut<const MIN: usize, const MAX: usize>(tree: &mut TTree<MIN, MAX>, key: u32)
-    requires rising { IsRising (λ a b. nat_cmp a.part b.part) (items_of_tree tree.old) }
-    requires slots { All (λ r. r.slot ≡ 0) (items_of_tree tree.old) }
-    ensures rising { IsRising (λ a b. nat_cmp a.part b.part) (items_of_tree tree.new) }
-    ensures slots { All (λ r. r.slot ≡ 0) (items_of_tree tree.new) }
-{
-    if let Some(r) = find_key(tree, key) {
-        tree.remove(&KeyOrder, r);
-    }
-}
-
-// Takes the key out where it is there, and else puts it in.
-fn flip<const MIN: usize, const MAX: usize>(
-    tree: &mut TTree<MIN, MAX>,
-    key: u32,
-) -> Result<(), NoMemory>
-    requires rising { IsRising (λ a b. nat_cmp a.part b.part) (items_of_tree tree.old) }
-    requires slots { All (λ r. r.slot ≡ 0) (items_of_tree tree.old) }
-    ensures rising { IsRising (λ a b. nat_cmp a.part b.part) (items_of_tree tree.new) }
-    ensures slots { All (λ r. r.slot ≡ 0) (items_of_tree tree.new) }
-{
-    if find_key(tree, key).is_some() {
-        cut(tree, key);
-        Ok(())
-    } else {
-        add(tree, key)
-    }
-}
-
-// Flips each key of the text.
-pub fn flip_all<const MIN: usize, const MAX: usize>(
-    tree: &mut TTree<MIN, MAX>,
-    keys: &str,
-) -> Result<(), NoMemory>
-    requires rising { IsRising (λ a b. nat_cmp a.part b.part) (items_of_tree tree.old) }
-    requires slots { All (λ r. r.slot ≡ 0) (items_of_tree tree.old) }
-    ensures rising { IsRising (λ a b. nat_cmp a.part b.part) (items_of_tree tree.new) }
-    ensures slots { All (λ r. r.slot ≡ 0) (items_of_tree tree.new) }
-{
-    for word in keys.split_whitespace() {
-        if let Ok(key) = word.parse::<u32>() {
-            flip(tree, key)?;
+    // Takes the key out where it is there, and else puts it in.
+    pub fn flip(&mut self, key: u32) -> Result<(), NoMemory> {
+        let mut probe = KeyRange {
+            low: key,
+            high: key,
+            asked: 0,
+        };
+        if let Some(r) = self.index.find(&mut probe) {
+            self.index.remove(&KeyOrder, r);
+        } else if self.index.len() < MAX_LEN {
+            self.index.reserve(1)?;
+            self.index.insert(&KeyOrder, keyed(key));
         }
+        Ok(())
     }
-    Ok(())
+
+    // The references with these keys.
+    pub fn between(&self, alloc: Global, low: u32, high: u32) -> Result<Vec<TupleRef>, NoMemory> {
+        let mut probe = KeyRange {
+            low,
+            high,
+            asked: 0,
+        };
+        let mut found = Vec::new(alloc);
+        self.index.range(&mut probe, &mut found)?;
+        Ok(found)
+    }
 }

@@ -1,18 +1,192 @@
-//! Runs of inserts and removals: the shapes of the trees.
-ghost use Rattle.std.specs.Prelude.{◌≤◌};
+//! Worked runs of inserts and removals: the shapes of the trees.
 
-use crate::keys::flip_all;
+use crate::keys::Keys;
+use mm_index::OrderedIndex;
 use no_memory::NoMemory;
 use std::alloc::Global;
-use std::test::Fail;
 use ttree::TTree;
 
-// Whether the node at the end of the path has these keys. Where there is no node, it has none.
-fn is_at<const MIN: usize, const MAX: usize>(
-    tree: &TTree<MIN, MAX>,
-    path: &str,
-    keys: &str,
-) -> bool {
+// Keys that are put in, or taken out where they are there, and the tree after that: its height, how many keys it has, and
+// some of its nodes, each by the path from the root. Where the path leads to no node, there are no keys.
+struct Step {
+    flipped: &'static [u32],
+    height: usize,
+    len: usize,
+    nodes: &'static [(&'static str, &'static [u32])],
+}
+
+// Each run begins with an empty tree.
+const RUNS: [&[Step]; 6] = [
+    // A slide and a double rotation on the left; then inserts that turn nothing.
+    &[
+        Step {
+            flipped: &[10, 20, 30, 1, 2, 3, 5],
+            height: 2,
+            len: 7,
+            nodes: &[
+                ("", &[2, 3, 5]),
+                ("L", &[1]),
+                ("R", &[10, 20, 30]),
+                ("LL", &[]),
+                ("LR", &[]),
+                ("RL", &[]),
+                ("RR", &[]),
+            ],
+        },
+        Step {
+            flipped: &[4, 6, 15],
+            height: 3,
+            len: 10,
+            nodes: &[
+                ("", &[3, 4, 5]),
+                ("L", &[1, 2]),
+                ("R", &[15, 20, 30]),
+                ("RL", &[6, 10]),
+                ("RLL", &[]),
+                ("RLR", &[]),
+                ("LL", &[]),
+                ("LR", &[]),
+                ("RR", &[]),
+            ],
+        },
+    ],
+    // The same on the right.
+    &[Step {
+        flipped: &[10, 20, 30, 60, 50, 40, 35],
+        height: 2,
+        len: 7,
+        nodes: &[
+            ("", &[35, 40, 50]),
+            ("L", &[10, 20, 30]),
+            ("R", &[60]),
+            ("LL", &[]),
+            ("LR", &[]),
+            ("RL", &[]),
+            ("RR", &[]),
+        ],
+    }],
+    // A single rotation on the left.
+    &[Step {
+        flipped: &[10, 9, 8, 7, 6, 5, 4, 3, 2, 1],
+        height: 3,
+        len: 10,
+        nodes: &[
+            ("", &[5, 6, 7]),
+            ("L", &[2, 3, 4]),
+            ("R", &[8, 9, 10]),
+            ("LL", &[1]),
+            ("LLL", &[]),
+            ("LLR", &[]),
+            ("LR", &[]),
+            ("RL", &[]),
+            ("RR", &[]),
+        ],
+    }],
+    // A single rotation on the right; then a leaf is freed, and the root turns.
+    &[
+        Step {
+            flipped: &[1, 2, 3, 4, 5, 6, 7, 8, 9, 10],
+            height: 3,
+            len: 10,
+            nodes: &[
+                ("", &[4, 5, 6]),
+                ("L", &[1, 2, 3]),
+                ("R", &[7, 8, 9]),
+                ("RR", &[10]),
+                ("RRL", &[]),
+                ("RRR", &[]),
+                ("RL", &[]),
+                ("LL", &[]),
+                ("LR", &[]),
+            ],
+        },
+        Step {
+            flipped: &[1, 2, 3],
+            height: 2,
+            len: 7,
+            nodes: &[
+                ("", &[7, 8, 9]),
+                ("L", &[4, 5, 6]),
+                ("R", &[10]),
+                ("LL", &[]),
+                ("LR", &[]),
+                ("RL", &[]),
+                ("RR", &[]),
+            ],
+        },
+    ],
+    // An internal node borrows; then a leaf is freed, and the root turns.
+    &[
+        Step {
+            flipped: &[1, 2, 3, 4, 5, 6, 7, 8, 9, 10],
+            height: 3,
+            len: 10,
+            nodes: &[
+                ("", &[4, 5, 6]),
+                ("L", &[1, 2, 3]),
+                ("R", &[7, 8, 9]),
+                ("RL", &[]),
+                ("RR", &[10]),
+            ],
+        },
+        Step {
+            flipped: &[5, 4, 6],
+            height: 3,
+            len: 7,
+            nodes: &[("", &[2, 3]), ("L", &[1]), ("R", &[7, 8, 9]), ("RR", &[10])],
+        },
+        Step {
+            flipped: &[3],
+            height: 2,
+            len: 6,
+            nodes: &[
+                ("", &[7, 8, 9]),
+                ("L", &[1, 2]),
+                ("R", &[10]),
+                ("LL", &[]),
+                ("LR", &[]),
+                ("RL", &[]),
+                ("RR", &[]),
+            ],
+        },
+    ],
+    // A half-leaf takes its leaf.
+    &[
+        Step {
+            flipped: &[10, 20, 30, 1, 2, 3, 5],
+            height: 2,
+            len: 7,
+            nodes: &[("", &[2, 3, 5]), ("L", &[1]), ("R", &[10, 20, 30])],
+        },
+        Step {
+            flipped: &[5, 3],
+            height: 2,
+            len: 5,
+            nodes: &[
+                ("", &[1, 2]),
+                ("L", &[]),
+                ("R", &[10, 20, 30]),
+                ("RL", &[]),
+                ("RR", &[]),
+            ],
+        },
+        Step {
+            flipped: &[30, 20],
+            height: 1,
+            len: 3,
+            nodes: &[("", &[1, 2, 10]), ("L", &[]), ("R", &[])],
+        },
+        Step {
+            flipped: &[2, 1, 10],
+            height: 0,
+            len: 0,
+            nodes: &[("", &[])],
+        },
+    ],
+];
+
+// Whether the node at the end of the path has these keys.
+fn is_at(tree: &TTree<2, 3>, path: &str, keys: &[u32]) -> bool {
     let mut look = tree.look();
     for step in path.as_bytes() {
         if *step == b'L' && look.has_left() {
@@ -23,94 +197,41 @@ fn is_at<const MIN: usize, const MAX: usize>(
             return keys.is_empty();
         }
     }
-    let wanted = keys.split_whitespace().map(|key| key.parse::<u32>().ok());
-    look.items().iter().map(|r| Some(r.part)).eq(wanted)
+    look.items().iter().map(|r| r.part).eq(keys.iter().copied())
 }
 
-// Whether each of these nodes, a path from the root, a colon and keys, is in the tree. A path alone has no node.
-fn has_nodes<const MIN: usize, const MAX: usize>(tree: &TTree<MIN, MAX>, nodes: &str) -> bool {
-    for node in nodes.split(", ") {
-        let (path, keys) = node.split_once(':').unwrap_or((node, ""));
-        if !is_at(tree, path, keys) {
+fn has_nodes(tree: &TTree<2, 3>, nodes: &[(&str, &[u32])]) -> bool {
+    for (path, keys) in nodes {
+        if !is_at(tree, *path, *keys) {
             return false;
         }
     }
     true
 }
 
-// Whether these are the height of the tree and the number of its references.
-fn has_size<const MIN: usize, const MAX: usize>(tree: &TTree<MIN, MAX>, size: &str) -> bool {
-    let wanted = size.split_whitespace().map(|n| n.parse::<usize>().ok());
-    [Some(tree.height()), Some(tree.len())]
-        .into_iter()
-        .eq(wanted)
+fn flip_all(tree: &mut Keys<TTree<2, 3>>, keys: &[u32]) -> Result<(), NoMemory> {
+    for key in keys {
+        tree.flip(*key)?;
+    }
+    Ok(())
 }
 
-// The first line of a run after which the tree has another shape. Before the first arrow stand keys,
-// which are put in, or taken out where they are there; behind it the height of the tree and the number
-// of its references, and behind the second arrow its nodes.
-fn first_misshapen<'a, const MIN: usize, const MAX: usize>(
-    alloc: Global,
-    run: &'a str,
-) -> Result<Option<&'a str>, NoMemory>
-    requires some { 1 ≤ MIN }
-    requires ordered { MIN ≤ MAX }
-    requires two { 2 ≤ MAX }
-{
-    let mut tree: TTree<MIN, MAX> = TTree::new(alloc);
-    for line in run.split('\n') {
-        let (keys, shape) = line.split_once(" => ").unwrap_or((line, ""));
-        let (size, nodes) = shape.split_once(" => ").unwrap_or((shape, ""));
-        flip_all(&mut tree, keys)?;
-        if !has_size(&tree, size) || !has_nodes(&tree, nodes) {
-            return Ok(Some(line));
+// The number of the first step after which the tree has another shape.
+fn first_misshapen(alloc: Global, steps: &[Step]) -> Result<Option<usize>, NoMemory> {
+    let mut tree = Keys::new(TTree::new(alloc));
+    for (number, step) in steps.iter().enumerate() {
+        flip_all(&mut tree, step.flipped)?;
+        let has_size = tree.index.height() == step.height && tree.index.len() == step.len;
+        if !has_size || !has_nodes(&tree.index, step.nodes) {
+            return Ok(Some(number));
         }
     }
     Ok(None)
 }
 
 #[test]
-fn a_slide_and_a_double_rotation(rt: HostRuntime) -> Result<(), Fail> {
-    let run = "\
-10 20 30 1 2 3 5 => 2 7 => :2 3 5, L:1, R:10 20 30, LL, LR, RL, RR\n\
-4 6 15 => 3 10 => :3 4 5, L:1 2, R:15 20 30, RL:6 10, RLL, RLR, LL, LR, RR";
-    assert_eq!(rt; first_misshapen::<2, 3>(rt.alloc(), run)?, None);
-    Ok(())
-}
-
-#[test]
-fn a_single_rotation(rt: HostRuntime) -> Result<(), Fail> {
-    let run = "1 2 3 4 5 6 7 => 3 7 => :3 4, L:1 2, R:5 6, RR:7, RRL, RRR, RL, LL, LR";
-    assert_eq!(rt; first_misshapen::<1, 2>(rt.alloc(), run)?, None);
-    Ok(())
-}
-
-#[test]
-fn a_half_leaf_takes_its_leaf(rt: HostRuntime) -> Result<(), Fail> {
-    let run = "\
-10 20 30 1 2 3 5 => 2 7 => :2 3 5, L:1, R:10 20 30\n\
-5 3 => 2 5 => :1 2, L, R:10 20 30, RL, RR\n\
-30 20 => 1 3 => :1 2 10, L, R\n\
-2 1 10 => 0 0 => ";
-    assert_eq!(rt; first_misshapen::<2, 3>(rt.alloc(), run)?, None);
-    Ok(())
-}
-
-#[test]
-fn a_freed_leaf_turns_the_root(rt: HostRuntime) -> Result<(), Fail> {
-    let run = "\
-1 2 3 4 5 6 7 => 3 7 => :3 4, L:1 2, R:5 6, RR:7\n\
-1 2 => 2 5 => :5 6, L:3 4, R:7, LL, LR, RL, RR";
-    assert_eq!(rt; first_misshapen::<1, 2>(rt.alloc(), run)?, None);
-    Ok(())
-}
-
-#[test]
-fn an_internal_node_borrows(rt: HostRuntime) -> Result<(), Fail> {
-    let run = "\
-1 2 3 4 5 6 7 8 9 10 => 3 10 => :4 5 6, L:1 2 3, R:7 8 9, RL, RR:10\n\
-5 4 6 => 3 7 => :2 3, L:1, R:7 8 9, RR:10\n\
-3 => 2 6 => :7 8 9, L:1 2, R:10, LL, LR, RL, RR";
-    assert_eq!(rt; first_misshapen::<2, 3>(rt.alloc(), run)?, None);
-    Ok(())
+fn trees_have_their_shapes(rt: HostRuntime) {
+    for run in RUNS {
+        assert_eq!(rt; first_misshapen(rt.alloc(), run), Ok(None));
+    }
 }

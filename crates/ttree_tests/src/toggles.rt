@@ -1,145 +1,76 @@
-//! Ten thousand random inserts and removes. Now and then the whole tree is measured, and its list
-//! compared with a sorted vector.
-ghost use Rattle.std.specs.Prelude.{◌≡◌, ◌≤◌, All};
-ghost use Rattle.std.specs.Ordering.{nat_cmp};
-ghost use Rattle.mm_index.specs.Order.{IsRising};
-ghost use Rattle.ttree.specs.Held.{items_of_tree};
+//! Ten thousand random inserts and removes in a T-tree, and in a sorted vector beside it.
+ghost use Rattle.std.specs.Prelude.{◌≤◌};
 
-use crate::keys::{add, cut};
+use crate::keys::{KeyRange, Keys};
+use mm_index::{OrderedIndex, SortedVec};
 use no_memory::NoMemory;
 use std::alloc::Global;
-use std::test::Fail;
-use ttree::{Look, TTree};
+use ttree::TTree;
 
-// The height of a subtree and how many items its root holds.
-#[derive(Clone, Copy)]
-struct Measured {
-    height: u32,
-    items: usize,
+fn keys_from(low: u32) -> KeyRange {
+    KeyRange {
+        low,
+        high: u32::MAX,
+        asked: 0,
+    }
 }
 
-const NO_TREE: Measured = Measured {
-    height: 0,
-    items: 0,
-};
-
-// Whether a node of so many items may stand above these children.
-fn is_fit<const MIN: usize, const MAX: usize>(
-    items: usize,
-    left: Measured,
-    right: Measured,
+// Whether walks over both give the same keys, all of them and those from that one on.
+fn walk_alike<const MIN: usize, const MAX: usize>(
+    tree: &Keys<TTree<MIN, MAX>>,
+    sorted: &Keys<SortedVec>,
+    low: u32,
 ) -> bool {
-    let together = items.saturating_add(left.items).saturating_add(right.items);
-    let is_full_enough = match (left.height, right.height) {
-        (0, 0) => true,
-        (0, 1) | (1, 0) => together > MIN,
-        _ => items >= MIN,
-    };
-    is_full_enough && (1..=MAX).contains(&items) && left.height.abs_diff(right.height) < 2
+    let mut one = tree.index.walk_from(&mut keys_from(low));
+    let other = sorted.index.walk_from(&mut keys_from(low));
+    tree.index.walk().eq(sorted.index.walk()) && one.eq(other)
 }
 
-// Measures the subtree at the place, and comes back there. `None` where it has more levels than
-// that, where a stated height is not the one that was measured, and where a node is not fit.
-fn measure<const MIN: usize, const MAX: usize>(
-    look: &mut Look<'_, MAX>,
-    levels: u32,
-) -> Option<Measured> {
-    if levels == 0 {
-        return None;
-    }
-    let (mut left, mut right) = (NO_TREE, NO_TREE);
-    if look.has_left() {
-        look.down_left();
-        left = measure::<MIN, MAX>(look, levels - 1)?;
-        rise(look);
-    }
-    if look.has_right() {
-        look.down_right();
-        right = measure::<MIN, MAX>(look, levels - 1)?;
-        rise(look);
-    }
-    let items = look.items().len();
-    if look.heights() == (left.height, right.height) && is_fit::<MIN, MAX>(items, left, right) {
-        let height = left.height.max(right.height).saturating_add(1);
-        Some(Measured { height, items })
-    } else {
-        None
-    }
-}
-
-fn rise<const MAX: usize>(look: &mut Look<'_, MAX>) {
-    if !look.at_root() {
-        look.up();
-    }
-}
-
-// Whether the tree is as a T-tree is, and gives these keys.
-fn is_right<const MIN: usize, const MAX: usize>(tree: &TTree<MIN, MAX>, keys: &[u32]) -> bool {
-    if keys.is_empty() {
-        return tree.height() == 0 && tree.walk().next().is_none();
-    }
-    match measure::<MIN, MAX>(&mut tree.look(), 64) {
-        Some(whole) => {
-            whole.height as usize == tree.height()
-                && tree.walk().map(|r| r.part).eq(keys.iter().copied())
-        }
-        None => false,
-    }
-}
-
-// Takes the key out of both where it is there, and else puts it into both.
-fn toggle<const MIN: usize, const MAX: usize>(
-    tree: &mut TTree<MIN, MAX>,
-    keys: &mut Vec<u32>,
-    key: u32,
-) -> Result<(), NoMemory>
-    requires rising { IsRising (λ a b. nat_cmp a.part b.part) (items_of_tree tree.old) }
-    requires slots { All (λ r. r.slot ≡ 0) (items_of_tree tree.old) }
-    ensures rising { IsRising (λ a b. nat_cmp a.part b.part) (items_of_tree tree.new) }
-    ensures slots { All (λ r. r.slot ≡ 0) (items_of_tree tree.new) }
-{
-    match keys.binary_search(&key) {
-        Ok(index) => {
-            cut(tree, key);
-            keys.remove(index);
-        }
-        Err(index) => {
-            add(tree, key)?;
-            keys.insert(index, key)?;
-        }
-    }
-    Ok(())
+// Whether both have the same keys, by walks and in the range of 500 keys from that one on.
+fn agree<const MIN: usize, const MAX: usize>(
+    alloc: Global,
+    tree: &Keys<TTree<MIN, MAX>>,
+    sorted: &Keys<SortedVec>,
+    low: u32,
+) -> Result<bool, NoMemory> {
+    let high = low.saturating_add(499);
+    let one = tree.between(alloc, low, high)?;
+    let other = sorted.between(alloc, low, high)?;
+    Ok(walk_alike(tree, sorted, low) && one.as_slice() == other.as_slice())
 }
 
 // A key that is held, mostly where the keys are to become fewer, or any below 5,000.
-fn drawn_key(keys: &[u32], drawn: u32, fewer: bool) -> u32 {
+fn drawn_key(sorted: &SortedVec, drawn: u32, fewer: bool) -> u32 {
     let is_held = drawn % 8 < if fewer { 7 } else { 1 };
     let drawn = drawn / 8;
-    if is_held && !keys.is_empty() {
-        keys[drawn as usize % keys.len()]
+    let len = sorted.len();
+    let held = if is_held && len > 0 {
+        sorted.walk().nth(drawn as usize % len)
     } else {
-        drawn % 5_000
-    }
+        None
+    };
+    held.map_or(drawn % 5_000, |r| r.part)
 }
 
-// The first step after which the tree was not right, of 10,000 in four waves: each begins with
-// more inserts than removes, and ends with more removes.
+// The first step after which the two did not agree, of 10,000 in four waves: each begins with more inserts than removes,
+// and ends with more removes.
 fn first_wrong<const MIN: usize, const MAX: usize>(alloc: Global) -> Result<Option<u32>, NoMemory>
     requires some { 1 ≤ MIN }
     requires ordered { MIN ≤ MAX }
     requires two { 2 ≤ MAX }
 {
-    let mut tree: TTree<MIN, MAX> = TTree::new(alloc);
-    let mut keys = Vec::new(alloc);
+    let mut tree: Keys<TTree<MIN, MAX>> = Keys::new(TTree::new(alloc));
+    let mut sorted = Keys::new(SortedVec::new(alloc));
     let mut seed = 1986u64;
     for step in 0..10_000u32 {
         seed = seed
             .wrapping_mul(6_364_136_223_846_793_005)
             .wrapping_add(1_442_695_040_888_963_407);
         let drawn = (seed >> 33) as u32;
-        let key = drawn_key(&keys, drawn, step % 2_500 >= 1_250);
-        toggle(&mut tree, &mut keys, key)?;
-        if step % 10 == 9 && !is_right(&tree, &keys) {
+        let key = drawn_key(&sorted.index, drawn, step % 2_500 >= 1_250);
+        tree.flip(key)?;
+        sorted.flip(key)?;
+        if step % 10 == 9 && !agree(alloc, &tree, &sorted, key)? {
             return Ok(Some(step));
         }
     }
@@ -147,9 +78,8 @@ fn first_wrong<const MIN: usize, const MAX: usize>(alloc: Global) -> Result<Opti
 }
 
 #[test]
-fn ten_thousand_toggles(rt: HostRuntime) -> Result<(), Fail> {
-    assert_eq!(rt; first_wrong::<1, 2>(rt.alloc())?, None);
-    assert_eq!(rt; first_wrong::<2, 3>(rt.alloc())?, None);
-    assert_eq!(rt; first_wrong::<30, 32>(rt.alloc())?, None);
-    Ok(())
+fn ten_thousand_toggles(rt: HostRuntime) {
+    assert!(rt; first_wrong::<1, 2>(rt.alloc()) == Ok(None));
+    assert!(rt; first_wrong::<2, 3>(rt.alloc()) == Ok(None));
+    assert!(rt; first_wrong::<30, 32>(rt.alloc()) == Ok(None));
 }

@@ -1,0 +1,138 @@
+"""The rows through the library, those under limits of their own among them: request by request, fed in pieces, in both ways
+by turns, and with each of the library's calls for memory refused in turn."""
+
+import itertools
+import re
+import unittest
+
+import compiling
+import harness
+import model
+import streams
+
+PIECES = (1, 7, 4_096)
+AGAIN = re.compile(rb"(\d+) asked again\n")
+ROOM = compiling.Room()
+
+
+def tearDownModule():
+    ROOM.close()
+
+
+def call(name, first, second=None):
+    """A call as the programs of tests/embedding read it."""
+    if second is None:
+        return b"%s %d\n%s" % (name, len(first), first)
+    return b"%s %d %d\n%s%s" % (name, len(first), len(second), first, second)
+
+
+def asked(line, block):
+    """The call that asks a request, and none of a line without bytes."""
+    if model.block_length(line):
+        yield call(b"load", line, block)
+    elif line:
+        yield call(b"command", line)
+
+
+def fed(stream, size):
+    """The calls that feed a stream in pieces of that size."""
+    return [call(b"feed", piece) for piece in harness.pieces_of(stream, size)]
+
+
+def line_by_line(stream):
+    """The calls that ask each request of a stream."""
+    for unit in model.units_of(stream):
+        yield from asked(*unit)
+
+
+def fed_by_request(stream, size):
+    """The calls that feed each request of a stream by itself, in pieces of that size."""
+    for line, block in model.units_of(stream):
+        yield from fed(line + b"\n" + block, size)
+
+
+def by_turns(stream):
+    """The calls that ask each second request of a stream, once half of the next is fed, whose rest is fed then."""
+    units = list(model.units_of(stream))
+    for unit, (line, block) in itertools.zip_longest(units[::2], units[1::2], fillvalue=(b"", b"")):
+        request = line + b"\n" + block
+        half = len(request) // 2
+        yield call(b"feed", request[:half])
+        yield from asked(*unit)
+        yield call(b"feed", request[half:])
+
+
+def whole(stream, answers):
+    """A stream and its answers without a load at its end whose block is cut short, and with a line feed behind its last
+    line. A stream that is fed has no end that the library is told of, so such a load isn't answered."""
+    units = list(model.units_of(stream))
+    if units and len(units[-1][1]) < model.block_length(units[-1][0]):
+        stream = streams.whole_units_of(stream)
+        answers = b"".join(streams.answers_of(answers)[:-1])
+    if stream and not units[-1][1] and not stream.endswith(b"\n"):
+        stream += b"\n"
+    return stream, answers
+
+
+class Answered(unittest.TestCase):
+    """Each row has its answers from one handle."""
+
+    @classmethod
+    def setUpClass(cls):
+        source = compiling.EMBEDDING / "requests.c"
+        cls.program = ROOM.compiled("requests", source, [*compiling.C, *compiling.SANITIZED])
+
+    def check(self, words, calls, answers):
+        ended = compiling.ran([self.program, *words], b"".join(calls))
+        self.assertEqual((ended.status, ended.out, ended.err), (0, answers, b""))
+
+    def check_row(self, words, stream, answers):
+        with self.subTest("line by line"):
+            self.check(words, line_by_line(stream), answers)
+        with self.subTest("by turns"):
+            self.check(words, by_turns(stream), answers)
+        for size in PIECES:
+            with self.subTest(pieces_of=size):
+                self.check(words, fed(stream, size), answers)
+
+
+class AskedAgain(unittest.TestCase):
+    """Whichever call for memory of the library is refused, a request is answered as ever, or it is answered 90 and has its
+    answer when it is asked again. All memory is given back."""
+
+    @classmethod
+    def setUpClass(cls):
+        compiling.counting_library(ROOM.path)
+        source = compiling.EMBEDDING / "again.c"
+        cls.program = ROOM.linked("again", source, compiling.C, [ROOM.path / "libmmdb.a"])
+
+    def check(self, words, calls, answers):
+        """Gives how often something was asked again."""
+        ended = compiling.ran([self.program, *words], b"".join(calls))
+        again = AGAIN.match(ended.err)
+        self.assertIsNotNone(again, ended.err.decode(errors="replace"))
+        self.assertEqual((ended.status, ended.out), (0, answers))
+        return int(again[1])
+
+    def check_row(self, words, stream, answers):
+        with self.subTest("line by line"):
+            self.check(words, line_by_line(stream), answers)
+        for size in PIECES[1:]:
+            with self.subTest(pieces_of=size):
+                self.check(words, fed_by_request(stream, size), answers)
+
+    def test_some_request_is_asked_again(self):
+        stream, answers = ((harness.ROWS / f"first-path.{end}").read_bytes() for end in ("in", "out"))
+        self.assertGreater(self.check([], line_by_line(stream), answers), 0)
+        self.assertGreater(self.check([], fed_by_request(stream, 7), answers), 0)
+
+
+def row(words, stream, answers):
+    return lambda test: test.check_row(words, *whole(stream, answers))
+
+
+for test in (Answered, AskedAgain):
+    for name, stream, answers in harness.rows():
+        setattr(test, f"test_{name}", row([], stream, answers))
+    for name, limits, stream, answers in harness.limited_rows():
+        setattr(test, f"test_limited_{name}", row([str(limits.rows), str(limits.block)], stream, answers))
