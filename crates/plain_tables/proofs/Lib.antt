@@ -17,6 +17,7 @@ pub mod LineFeeds
 pub mod ListLemmas
 pub mod Lists
 pub mod LoadLemmas
+pub mod MeantLemmas
 pub mod NameLemmas
 pub mod ProductLemmas
 pub mod ReferLemmas
@@ -35,3 +36,4 @@ pub mod Uniqueness
 pub mod ValueLemmas
 pub mod Weights
 pub mod WellFormed
+pub mod WrittenLemmas

@@ -133,6 +133,14 @@ filter_again p (x ∷ xs) =
 
 -- ---- maps, filters and lists joined end to end
 
+pub and_false : (a : Bool) → (a && false) ≡ false
+and_false true = refl
+and_false false = refl
+
+pub and_true : (a : Bool) → (a && true) ≡ a
+and_true true = refl
+and_true false = refl
+
 pub map_agree : {X Y : Type 0} (f g : X → Y) → ((x : X) → f x ≡ g x) → (xs : List X) → map f xs ≡ map g xs
 map_agree f g same [] = refl
 map_agree f g same (x ∷ xs) = rw (same x, map_agree f g same xs) refl
@@ -145,6 +153,28 @@ any_agree p q same (x ∷ xs) = rw (same x, any_agree p q same xs) refl
 pub all_agree : {X : Type 0} (p q : X → Bool) → ((x : X) → p x ≡ q x) → (xs : List X) → list_all p xs ≡ list_all q xs
 all_agree p q same [] = refl
 all_agree p q same (x ∷ xs) = rw (same x, all_agree p q same xs) refl
+
+-- the same where the tests agree at each element of this list
+pub filter_agree_on : {X : Type 0} (p q : X → Bool) (xs : List X) → All (λ x. p x ≡ q x) xs → filter p xs ≡ filter q xs
+filter_agree_on p q [] same = refl
+filter_agree_on p q (x ∷ xs) same =
+    rw (All-head (λ y. p y ≡ q y) x xs same, filter_agree_on p q xs (All-tail (λ y. p y ≡ q y) x xs same)) refl
+
+-- all pass both tests where all pass each
+pub all_both : {X : Type 0} (p q : X → Bool) (xs : List X) → list_all (λ x. p x && q x) xs ≡ (list_all p xs && list_all q xs)
+all_both p q [] = refl
+all_both p q (x ∷ xs) =
+    elim (cases_Bool (p x)) [
+      | inl t ↦ elim (cases_Bool (q x)) [
+        | inl u ↦ rw (t, u) (all_both p q xs)
+        | inr g ↦ rw (t, g) (sym (and_false (list_all p xs)))
+      ]
+      | inr f ↦ rw f refl
+    ]
+
+pub all_true : {X : Type 0} (xs : List X) → list_all (λ x. true) xs ≡ true
+all_true [] = refl
+all_true (x ∷ xs) = all_true xs
 
 -- maps that agree at each element
 pub flat_map_agree : {X Y : Type 0} (f g : X → List Y) (xs : List X) → All (λ x. f x ≡ g x) xs → flat_map f xs ≡ flat_map g xs
@@ -212,6 +242,17 @@ All-append_parts P [] ys all = (All-nil P, all)
 All-append_parts P (x ∷ xs) ys all =
     let parts = All-append_parts P xs ys (All-tail P x (xs ++ ys) all) in
     (All-cons P x xs (All-head P x (xs ++ ys) all) parts.0, parts.1)
+
+-- pairs of one list and the list behind it, and those of that list
+pub AllPairs-across : {X : Type 0} (R : X → X → Type 0) (xs ys : List X) → AllPairs R (xs ++ ys) → All (λ x. All (R x) ys) xs
+AllPairs-across R [] ys h = All-nil (λ x. All (R x) ys)
+AllPairs-across R (x ∷ xs) ys h =
+    All-cons (λ z. All (R z) ys) x xs (All-append_parts (R x) xs ys (AllPairs-head R x (xs ++ ys) h)).1
+    (AllPairs-across R xs ys (AllPairs-tail R x (xs ++ ys) h))
+
+pub AllPairs-back : {X : Type 0} (R : X → X → Type 0) (xs ys : List X) → AllPairs R (xs ++ ys) → AllPairs R ys
+AllPairs-back R [] ys h = h
+AllPairs-back R (x ∷ xs) ys h = AllPairs-back R xs ys (AllPairs-tail R x (xs ++ ys) h)
 
 pub All-from_flat_map : {X Y : Type 0} (P : Y → Type 0) (f : X → List Y) (xs : List X) → All P (flat_map f xs) → All (λ x. All P (f x)) xs
 All-from_flat_map P f [] all = All-nil (λ x. All P (f x))
@@ -359,6 +400,17 @@ same_Ok x y same = same_Some x y (ap result_ok same)
 pub option_map_some : {X Y : Type 0} (f : X → Y) (o : Option X) (y : Y) → option_map f o ≡ Some y → (x : X) × (o ≡ Some x) × (f x ≡ y)
 option_map_some f None y h = absurd (none-some y h)
 option_map_some f (Some x) y h = (x, refl, same_Some (f x) y h)
+
+-- the first that passes is the first of those that pass
+pub find_first : {X : Type 0} (p : X → Bool) (xs : List X) → find p xs ≡ slice_get (filter p xs) 0
+find_first p [] = refl
+find_first p (x ∷ xs) = elim (cases_Bool (p x)) [ inl t ↦ rw t refl | inr f ↦ rw f (find_first p xs) ]
+
+-- pairs of one element more, if there is one
+pub pairs_more : {X : Type 0} (R : X → X → Type 0) (o : Option X) (xs : List X) → ((x : X) → o ≡ Some x → All (R x) xs) → AllPairs R xs
+    → AllPairs R (cons_option o xs)
+pairs_more R None xs one all = all
+pairs_more R (Some x) xs one all = AllPairs-cons R x xs (one x refl) all
 
 -- one element more, if there is one
 pub one_more : {X : Type 0} (P : X → Type 0) (o : Option X) (xs : List X) → ((x : X) → o ≡ Some x → P x) → All P xs → All P (cons_option o xs)

@@ -61,7 +61,7 @@ passes_checks (c ∷ checks) r q h =
     ]
 
 -- What holds of a command behind checks, where they pass, holds of what it means.
-checked_satisfies : (P : Resolved → Type 0) (checks : List Check) (r q : Resolved) → meaning checks r ≡ Ok q
+pub checked_satisfies : (P : Resolved → Type 0) (checks : List Check) (r q : Resolved) → meaning checks r ≡ Ok q
     → (AllByRecursion (λ c. c.refuses ≡ false) checks → P r) → P q
 checked_satisfies P checks r q h holds =
     let passed = passes_checks checks r q h in subst P passed.1 (holds passed.0)
@@ -80,7 +80,7 @@ numbered_found name tables means q h =
     (found.0, sym (find_at (is_named name) tables) ∙ found.1, found.2)
 
 -- What holds of the command that a table gives behind checks, where they pass, holds of the command on the table of a name.
-numbered_satisfies : (P : Resolved → Type 0) (name : List ℕ) (tables : Database) (checks : Table → List Check)
+pub numbered_satisfies : (P : Resolved → Type 0) (name : List ℕ) (tables : Database) (checks : Table → List Check)
     (gives : TableNumber → Table → Resolved) (q : Resolved)
     → on_numbered name tables (λ n table. meaning (checks table) (gives n table)) ≡ Ok q
     → ((table : Table) → slice_get tables (number_of name tables).0 ≡ Some table → AllByRecursion (λ c. c.refuses ≡ false) (checks table)

@@ -16,6 +16,7 @@ use Rattle.plain_tables.specs.Effects.{repeats, misses, condition_names}
 use Rattle.plain_tables.specs.References.{is_typed}
 use Rattle.plain_tables.specs.Resolving.{number_of, tests_of, shown_of, asks_order, mistypes, is_mistyped, once, select_names, columns_of, behind, join_columns, differ_in_type, select_checks, is_on_source, source_of, joins_of, select_of}
 use Rattle.plain_tables.specs.Doing.{joined_tables}
+use Rattle.plain_tables.specs.WrittenLaws.{tables_named}
 use Rattle.plain_tables.specs.ResolvedLaws.{NamesItems, IsOfColumn, AreTests, IsShown, AreJoins, IsMeant}
 use Rattle.plain_tables.specs.declared.value.Value.{Value}
 use Rattle.plain_tables.specs.declared.condition.ColName.{ColName}
@@ -103,12 +104,8 @@ source_tests_meant tables among k table there conditions right =
 
 -- ---- names
 
--- the tables of these names
-abbrev pub named : Database → List (List ℕ) → List Table
-named tables names = filter_map (λ name. table_named name tables) names
-
 -- names that differ are each once
-once_apart : (names : List (List ℕ)) → repeats bytes_eq names ≡ false → once names ≡ names
+pub once_apart : (names : List (List ℕ)) → repeats bytes_eq names ≡ false → once names ≡ names
 once_apart [] apart = refl
 once_apart (name ∷ names) apart =
     let parts = or_parts (list_any (bytes_eq name) names) (repeats bytes_eq names) apart in
@@ -119,7 +116,7 @@ once_apart (name ∷ names) apart =
     in
     rw (once_apart names parts.1) (ap (λ ns. name ∷ ns) others)
 
-repeats_front : (names others : List (List ℕ)) → repeats bytes_eq (names ++ others) ≡ false → repeats bytes_eq names ≡ false
+pub repeats_front : (names others : List (List ℕ)) → repeats bytes_eq (names ++ others) ≡ false → repeats bytes_eq names ≡ false
 repeats_front [] others apart = refl
 repeats_front (name ∷ names) others apart =
     let parts = or_parts (list_any (bytes_eq name) (names ++ others)) (repeats bytes_eq (names ++ others)) apart in
@@ -127,69 +124,79 @@ repeats_front (name ∷ names) others apart =
     (sym (list_any-append (bytes_eq name) names others) ∙ parts.0) in
     or_from (list_any (bytes_eq name) names) (repeats bytes_eq names) front.0 (repeats_front names others parts.1)
 
-some_table : (o : Option Table) → not (is_some o) ≡ false → (table : Table) × (o ≡ Some table)
+pub some_table : (o : Option Table) → not (is_some o) ≡ false → (table : Table) × (o ≡ Some table)
 some_table None h = absurd (false≢true (sym h))
 some_table (Some table) h = (table, refl)
 
 -- whether a table is missing
-abbrev lacks : Database → List ℕ → Bool
+abbrev pub lacks : Database → List ℕ → Bool
 lacks tables name = not (is_some (table_named name tables))
 
 -- the names of joined tables, which are there and differ, in two parts: those of these joins are the last
 pub record AreNamed (tables : Database) (among : List Table) (before : List (List ℕ)) (joins : List Join) : Type 0 where
-  pub are : named tables (before ++ map (λ j. j.table) joins) ≡ among
+  pub are : tables_named tables (before ++ map (λ j. j.table) joins) ≡ among
   pub apart : repeats bytes_eq (before ++ map (λ j. j.table) joins) ≡ false
   pub there : list_any (lacks tables) (before ++ map (λ j. j.table) joins) ≡ false
 
 -- the first of the last part goes to the first part
-names_on : (tables : Database) (among : List Table) (before : List (List ℕ)) (join : Join) (joins : List Join)
+pub names_on : (tables : Database) (among : List Table) (before : List (List ℕ)) (join : Join) (joins : List Join)
     → AreNamed tables among before (join ∷ joins) → AreNamed tables among (before ++ join.table ∷ []) joins
 names_on tables among before join joins names =
     let same : before ++ join.table ∷ [] ++ map (λ j. j.table) joins ≡ before ++ (join.table ∷ map (λ j. j.table) joins) =
     append_assoc before (join.table ∷ []) (map (λ j. j.table) joins)
     in
     record {
-      are = ap (named tables) same ∙ names.are;
+      are = ap (tables_named tables) same ∙ names.are;
       apart = ap (repeats bytes_eq) same ∙ names.apart;
       there = ap (list_any (lacks tables)) same ∙ names.there;
     }
 
--- the table that is joined next stands behind those before it
-next_table : (tables : Database) (among : List Table) (before : List (List ℕ)) (join : Join) (joins : List Join)
-    → AreNamed tables among before (join ∷ joins)
-    → (table : Table) × (table_named join.table tables ≡ Some table) × (slice_get among (length before) ≡ Some table)
+-- the table that is joined next stands behind those before it, and before those of the joins behind
+pub record IsNext (tables : Database) (among : List Table) (before : List (List ℕ)) (join : Join) (joins : List Join) : Type 0 where
+  pub table : Table
+  pub found : table_named join.table tables ≡ Some table
+  pub counted : length (tables_named tables before) ≡ length before
+  pub split : among ≡ tables_named tables before ++ table ∷ tables_named tables (map (λ j. j.table) joins)
+  pub at : slice_get among (length before) ≡ Some table
+
+pub next_table : (tables : Database) (among : List Table) (before : List (List ℕ)) (join : Join) (joins : List Join)
+    → AreNamed tables among before (join ∷ joins) → IsNext tables among before join joins
 next_table tables among before join joins names =
     let rest : List (List ℕ) = map (λ j. j.table) joins in
     let there = or_parts (list_any (lacks tables) before) (lacks tables join.table || list_any (lacks tables) rest)
     (sym (list_any-append (lacks tables) before (join.table ∷ rest)) ∙ names.there) in
-    let found = some_table (table_named join.table tables) (or_parts (lacks tables join.table) (list_any (lacks tables) rest) there.1).0 in
-    let counted : length (named tables before) ≡ length before =
+    let next = some_table (table_named join.table tables) (or_parts (lacks tables join.table) (list_any (lacks tables) rest) there.1).0 in
+    let many : length (tables_named tables before) ≡ length before =
     length-filter_map (λ name. table_named name tables) before (λ name. is_some (table_named name tables)) (λ name is. is) there.0
     in
-    let all : named tables before ++ found.0 ∷ named tables rest ≡ among =
-    ap (λ o. named tables before ++ cons_option o (named tables rest)) (sym found.1)
+    let all : tables_named tables before ++ next.0 ∷ tables_named tables rest ≡ among =
+    ap (λ o. tables_named tables before ++ cons_option o (tables_named tables rest)) (sym next.1)
     ∙ sym (filter_map-append (λ name. table_named name tables) before (join.table ∷ rest)) ∙ names.are
-    in (
-      found.0,
-      found.1,
-      ap (slice_get among) (sym counted)
-          ∙ ap (λ ts. slice_get ts (length (named tables before))) (sym all) ∙ slice_get_behind (named tables before) (named tables rest) found.0,
-    )
+    in
+    record {
+      table = next.0;
+      found = next.1;
+      counted = many;
+      split = sym all;
+      at = ap (slice_get among) (sym many)
+          ∙ ap (λ ts. slice_get ts (length (tables_named tables before))) (sym all)
+          ∙ slice_get_behind (tables_named tables before) (tables_named tables rest) next.0;
+    }
 
 -- the table of a name stands under its number
-numbered : (tables : Database) (name : List ℕ) → slice_get tables (number_of name tables).0 ≡ table_named name tables
+pub numbered : (tables : Database) (name : List ℕ) → slice_get tables (number_of name tables).0 ≡ table_named name tables
 numbered tables name = sym (find_at (is_named name) tables)
 
 -- ---- the sides of joins
 
-zip_parts : {X Y : Type 0} (a : Option X) (b : Option Y) (both : X × Y) → option_zip a b ≡ Some both → (a ≡ Some both.0) × (b ≡ Some both.1)
+pub zip_parts : {X Y : Type 0} (a : Option X) (b : Option Y) (both : X × Y) → option_zip a b ≡ Some both → (a ≡ Some both.0) × (b ≡ Some both.1)
 zip_parts None b both h = absurd (none-some both h)
 zip_parts (Some x) None both h = absurd (none-some both h)
 zip_parts {X} {Y} (Some x) (Some y) both h =
     let same : (x, y) ≡ both = same_Some (x, y) both h in
     (ap (λ (p : X × Y). Some p.0) same, ap (λ (p : X × Y). Some p.1) same)
 
-either_of : {X : Type 0} (a b : Option X) (x : X) → option_or a b ≡ Some x → (a ≡ Some x) ⊎ (b ≡ Some x)
+pub either_of : {X : Type 0} (a b : Option X) (x : X) → option_or a b ≡ Some x → (a ≡ Some x) ⊎ (b ≡ Some x)
 either_of None b x h = inr h
 either_of (Some y) b x h = inl h
 
@@ -206,7 +213,7 @@ sides_there before own join sides h =
       | inr both ↦ at (side_name join.right) (side_name join.left) both
     ]
 
-some_sides : (o : Option (JoinedColumn × JoinedColumn)) → is_none o ≡ false → (sides : JoinedColumn × JoinedColumn) × (o ≡ Some sides)
+pub some_sides : (o : Option (JoinedColumn × JoinedColumn)) → is_none o ≡ false → (sides : JoinedColumn × JoinedColumn) × (o ≡ Some sides)
 some_sides None h = absurd (false≢true (sym h))
 some_sides (Some sides) h = (sides, refl)
 
@@ -216,7 +223,7 @@ some_sides (Some sides) h = (sides, refl)
 joins_named : (tables : Database) (columns : List JoinedColumn) (conditions : List Cond) (before : List (List ℕ)) (joins : List Join)
     → list_any is_none (map (join_columns tables) (behind before joins)) ≡ false
     → filter_map (λ s. slice_get tables s.table.0) (map (λ j. j.source) (joins_of tables columns conditions (behind before joins)))
-    ≡ named tables (map (λ j. j.table) joins)
+    ≡ tables_named tables (map (λ j. j.table) joins)
 joins_named tables columns conditions before [] there = refl
 joins_named tables columns conditions before (join ∷ joins) there =
     let later : List (List ℕ) = before ++ join.table ∷ [] in
@@ -224,10 +231,10 @@ joins_named tables columns conditions before (join ∷ joins) there =
     rw ((some_sides (join_columns tables (before, join)) parts.0).1, numbered tables join.table, joins_named tables columns conditions later joins parts.1) refl
 
 -- what is joined behind tables of these names is there
-joins_meant : (tables : Database) (among : List Table) (conditions : List Cond) (before : List (List ℕ)) (joins : List Join)
+pub joins_meant : (tables : Database) (among : List Table) (conditions : List Cond) (before : List (List ℕ)) (joins : List Join)
     → AreNamed tables among before joins → list_any is_none (map (join_columns tables) (behind before joins)) ≡ false
     → list_any (is_mistyped tables (joined_columns among)) conditions ≡ false
-    → AreJoins tables (named tables before) (joins_of tables (joined_columns among) conditions (behind before joins))
+    → AreJoins tables (tables_named tables before) (joins_of tables (joined_columns among) conditions (behind before joins))
 joins_meant tables among conditions before [] names there right = tt
 joins_meant tables among conditions before (join ∷ joins) names there right =
     let columns : List JoinedColumn = joined_columns among in
@@ -235,29 +242,29 @@ joins_meant tables among conditions before (join ∷ joins) names there right =
     let parts = or_parts (is_none (join_columns tables (before, join))) (list_any is_none (map (join_columns tables) (behind later joins))) there in
     let next = next_table tables among before join joins names in
     let first = some_sides (join_columns tables (before, join)) parts.0 in
-    let alone : columns_of tables (join.table ∷ []) ≡ joined_columns (next.0 ∷ []) =
-    ap (λ o. joined_columns (cons_option o [])) next.1
+    let alone : columns_of tables (join.table ∷ []) ≡ joined_columns (next.table ∷ []) =
+    ap (λ o. joined_columns (cons_option o [])) next.found
     in
-    let apart : columns_of tables before ≡ joined_columns (named tables before) =
-    ap (λ ns. joined_columns (named tables ns)) (once_apart before (repeats_front before (map (λ j. j.table) (join ∷ joins)) names.apart))
+    let apart : columns_of tables before ≡ joined_columns (tables_named tables before) =
+    ap (λ ns. joined_columns (tables_named tables ns)) (once_apart before (repeats_front before (map (λ j. j.table) (join ∷ joins)) names.apart))
     in
-    let at = sides_there (named tables before) (next.0 ∷ []) join first.0
-    (ap (λ cs. sides_meant cs (joined_columns (next.0 ∷ [])) join) (sym apart)
+    let at = sides_there (tables_named tables before) (next.table ∷ []) join first.0
+    (ap (λ cs. sides_meant cs (joined_columns (next.table ∷ [])) join) (sym apart)
     ∙ ap (λ cs. sides_meant (columns_of tables before) cs join) (sym alone) ∙ first.1) in
-    let own : IsAt (next.0 ∷ []) first.0.1 = at.1 in
-    let more : named tables later ≡ named tables before ++ next.0 ∷ [] =
+    let own : IsAt (next.table ∷ []) first.0.1 = at.1 in
+    let more : tables_named tables later ≡ tables_named tables before ++ next.table ∷ [] =
     filter_map-append (λ name. table_named name tables) before (join.table ∷ [])
-    ∙ ap (λ o. named tables before ++ cons_option o []) next.1
+    ∙ ap (λ o. tables_named tables before ++ cons_option o []) next.found
     in
     rw first.1 (
       (at.0.0, at.0.1, slice_get_within at.0.0.columns first.0.0.place.column.0 first.0.0.column at.0.2),
       (
-        next.0,
-        numbered tables join.table ∙ next.1,
+        next.table,
+        numbered tables join.table ∙ next.found,
         (
-          source_tests_meant tables among (length before) next.0 next.2 conditions right,
-          slice_get_within next.0.columns first.0.1.place.column.0 first.0.1.column
-              (ap (λ (t : Table). slice_get t.columns first.0.1.place.column.0) (only_one next.0 own.0 first.0.1.place.source own.1).1 ∙ own.2),
+          source_tests_meant tables among (length before) next.table next.at conditions right,
+          slice_get_within next.table.columns first.0.1.place.column.0 first.0.1.column
+              (ap (λ (t : Table). slice_get t.columns first.0.1.place.column.0) (only_one next.table own.0 first.0.1.place.source own.1).1 ∙ own.2),
           subst (λ ts. AreJoins tables ts (joins_of tables columns conditions (behind later joins))) more
               (joins_meant tables among conditions later joins (names_on tables among before join joins names) parts.1 right),
         ),
@@ -278,9 +285,9 @@ pub select_meant : (limits : Limits) (tables : Database) (distinct : Bool) (its 
     → IsMeant limits tables (select_of tables distinct its name joins conditions)
 select_meant limits tables distinct its name joins conditions some passed =
     let names : List (List ℕ) = select_names name joins in
-    let among : List Table = named tables (once names) in
+    let among : List Table = tables_named tables (once names) in
     let columns : List JoinedColumn = joined_columns among in
-    let all : named tables names ≡ among = ap (named tables) (sym (once_apart names passed.1.1.1.0)) in
+    let all : tables_named tables names ≡ among = ap (tables_named tables) (sym (once_apart names passed.1.1.1.0)) in
     let are : AreNamed tables among (name ∷ []) joins = record { are = all; apart = passed.1.1.1.0; there = passed.0 } in
     let found = some_table (table_named name tables) (or_parts (lacks tables name) (list_any (lacks tables) (map (λ j. j.table) joins)) passed.0).0 in
     let meant = or_parts (misses columns (named_items its ++ condition_names conditions))
@@ -292,7 +299,7 @@ select_meant limits tables distinct its name joins conditions some passed =
     let source : Source = source_of tables columns conditions 0 name in
     let numbers : List Joined = joins_of tables columns conditions (behind (name ∷ []) joins) in
     let first : slice_get among 0 ≡ Some found.0 =
-    ap (λ ts. slice_get ts 0) (sym all) ∙ ap (λ o. slice_get (cons_option o (named tables (map (λ j. j.table) joins))) 0) found.1
+    ap (λ ts. slice_get ts 0) (sym all) ∙ ap (λ o. slice_get (cons_option o (tables_named tables (map (λ j. j.table) joins))) 0) found.1
     in
     let joined : joined_tables tables source numbers ≡ among =
     ap (λ o. cons_option o (filter_map (λ s. slice_get tables s.table.0) (map (λ j. j.source) numbers))) (numbered tables name)

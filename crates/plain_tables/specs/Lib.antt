@@ -21,3 +21,4 @@ pub mod SequenceLends
 pub mod Spelling
 pub mod Tables
 pub mod Values
+pub mod WrittenLaws
