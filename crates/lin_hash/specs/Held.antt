@@ -1,12 +1,15 @@
 -- What the index and its table are seen as.
-use Rattle.std.specs.Prelude.{ℕ, List, [], Option, Some, None}
+use Rattle.std.specs.Prelude.{◌≡◌, ◌*◌, ◌≤◌, ◌⊎◌, ℕ, List, [], Option, Some, None}
 use Rattle.part_raw.specs.declared.tuple_ref.TupleRef.{TupleRef}
 
--- pairs of a hash and a reference, how many more there is room for, and how many buckets there are
+-- pairs of a hash and a reference, how many more there is room for, how many buckets there are, and for how many nodes
+-- and for how many heads of buckets there is memory
 pub record HeldBuckets : Type 0 where
   pub entries : List (ℕ × TupleRef)
   pub room : ℕ
   pub buckets : ℕ
+  pub nodes : ℕ
+  pub heads : ℕ
 
 -- pairs of a hash and a reference, for how many nodes and for how many heads of buckets there is memory, and how many
 -- heads are in use
@@ -32,3 +35,7 @@ table_heads (Some t) = t.heads
 abbrev pub table_buckets : Option HeldTable → ℕ
 table_buckets None = 4
 table_buckets (Some t) = t.buckets
+
+-- there is memory for as many as before, or for twice as many at least
+abbrev pub StaysOrDoubles : (old new : ℕ) → Type 0
+StaysOrDoubles old new = (new ≡ old) ⊎ (2 * old ≤ new)

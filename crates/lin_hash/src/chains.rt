@@ -122,7 +122,7 @@ pub fn store(nodes: &mut Vec<Node>, spare: &mut Link, node: Node) -> usize
     requires room { leads_to spare.old ≡ None → vec_len nodes.old < vec_capacity nodes.old }
     ensures used { IfSome (leads_to spare.old) (λ place. (result ≡ place) × (nodes.new.items ≡ slice_set nodes.old.items place node) × (spare.new ≡ next_at nodes.old.items place)) }
     ensures grown { leads_to spare.old ≡ None → (result ≡ length nodes.old.items) × (nodes.new.items ≡ nodes.old.items ++ node ∷ []) × (spare.new ≡ spare.old) }
-    ensures capacity { vec_capacity nodes.old ≤ vec_capacity nodes.new }
+    ensures capacity { vec_capacity nodes.new ≡ vec_capacity nodes.old }
 {
     match spare.place() {
         Some(place) => {
@@ -132,19 +132,8 @@ pub fn store(nodes: &mut Vec<Node>, spare: &mut Link, node: Node) -> usize
         }
         None => {
             let place = nodes.len();
-            push_reserved(nodes, node);
+            nodes.push_reserved(node);
             place
         }
     }
-}
-
-// Puts an element at the end, where there is room for it.
-pub fn push_reserved<T: Drop>(elements: &mut Vec<T>, last: T)
-    requires { vec_len elements.old < vec_capacity elements.old }
-    ensures items { elements.new.items ≡ elements.old.items ++ last ∷ [] }
-    ensures len { vec_len elements.new ≡ vec_len elements.old + 1 }
-    ensures capacity { vec_capacity elements.old ≤ vec_capacity elements.new }
-{
-    let pushed = elements.push(last);
-    prove!(pushed.is_ok());
 }

@@ -4,9 +4,9 @@
 //! memory there: the room is the lesser of the nodes that were made sure of beyond those in use, and of the entries that
 //! come to two a head, less those held. Where an entry stands is the table's matter. A new index has no table, and takes
 //! one with its first `reserve`.
-ghost use Rattle.std.specs.Prelude.{◌≡◌, ◌+◌, ◌*◌, ◌^◌, ◌<◌, ◌≤◌, [], ◌∷◌, length, Contains, OnOk};
+ghost use Rattle.std.specs.Prelude.{◌≡◌, ◌+◌, ◌*◌, ◌^◌, ◌-◌, ◌<◌, ◌≤◌, ◌⊎◌, [], ◌∷◌, length, Contains, OnOk};
 ghost use Rattle.mm_index.specs.Bag.{IsSameBag, with_hash};
-ghost use Rattle.lin_hash.specs.Held.{table_entries, table_nodes, table_heads, table_buckets};
+ghost use Rattle.lin_hash.specs.Held.{StaysOrDoubles, table_entries, table_nodes, table_heads, table_buckets};
 ghost use Rattle.lin_hash.specs.Rest.{chain_rest};
 
 use crate::address::FIRST_BUCKETS;
@@ -31,7 +31,7 @@ pub struct LinHash {
 
 impl Model for LinHash {
     ghost use Rattle.std.specs.Prelude.{◌-◌, ◌*◌, length, min};
-    ghost use Rattle.lin_hash.specs.Held.{HeldBuckets, table_entries, table_heads, table_buckets};
+    ghost use Rattle.lin_hash.specs.Held.{HeldBuckets, table_entries, table_nodes, table_heads, table_buckets};
 
     ghost Value = { HeldBuckets };
 
@@ -39,6 +39,8 @@ impl Model for LinHash {
       entries = table_entries h.table;
       room = min h.spares (2 * table_heads h.table - length (table_entries h.table));
       buckets = table_buckets h.table;
+      nodes = table_nodes h.table;
+      heads = table_heads h.table;
     } };
 
     ghost use Rattle.lin_hash.specs.Counted.{IsCounted};
@@ -51,6 +53,8 @@ impl LinHash {
     pub fn new(alloc: Global) -> LinHash
         ensures entries { result.entries ≡ [] }
         ensures buckets { result.buckets ≡ 4 }
+        ensures nodes { result.nodes ≡ 0 }
+        ensures heads { result.heads ≡ 0 }
     {
         LinHash {
             alloc,
@@ -97,6 +101,13 @@ impl ExactIndex for LinHash {
         ensures reserved { OnOk result (n ≤ self.new.room) }
         ensures room { self.old.room ≤ self.new.room }
         ensures buckets { self.new.buckets ≡ self.old.buckets }
+
+        // Memory for heads and for nodes stays as it is where it suffices, once the first four buckets have theirs.
+        // Else it comes to twice as much at least, or to that for all nodes that links can name.
+        ensures grown_heads { StaysOrDoubles self.old.heads self.new.heads }
+        ensures grown_nodes { StaysOrDoubles self.old.nodes self.new.nodes ⊎ (self.new.nodes ≡ 2 ^ 32 - 1) }
+        ensures enough_heads { 4 ≤ self.old.heads → length self.old.entries + n ≤ 2 * self.old.heads → self.new.heads ≡ self.old.heads }
+        ensures enough_nodes { length self.old.entries + n ≤ self.old.nodes → self.new.nodes ≡ self.old.nodes }
     {
         reserve_memory(&mut self.table, self.alloc, self.len + n)?;
         self.spares = self.spares.max(n);
@@ -109,6 +120,8 @@ impl ExactIndex for LinHash {
         requires short { length self.old.entries < 2 ^ 32 }
         ensures entries { IsSameBag self.new.entries ((hash, r) ∷ self.old.entries) }
         ensures room { self.old.room ≤ self.new.room + 1 }
+        ensures nodes { self.new.nodes ≡ self.old.nodes }
+        ensures heads { self.new.heads ≡ self.old.heads }
 
         // The buckets grow by one exactly where there are then more entries than twice the buckets.
         ensures split { 2 * self.old.buckets < length self.new.entries → self.new.buckets ≡ self.old.buckets + 1 }
@@ -125,6 +138,8 @@ impl ExactIndex for LinHash {
         requires { Contains self.old.entries (hash, r) }
         ensures entries { IsSameBag self.old.entries ((hash, r) ∷ self.new.entries) }
         ensures room { self.old.room + 1 ≤ self.new.room }
+        ensures nodes { self.new.nodes ≡ self.old.nodes }
+        ensures heads { self.new.heads ≡ self.old.heads }
 
         // The buckets shrink by one exactly where there are more than four, and then fewer entries than half
         // of them.
@@ -158,6 +173,8 @@ impl ExactIndex for LinHash {
     fn release_spares(&mut self)
         ensures entries { self.new.entries ≡ self.old.entries }
         ensures room { self.new.room ≡ 0 }
+        ensures nodes { self.new.nodes ≤ self.old.nodes }
+        ensures heads { self.new.heads ≤ self.old.heads }
         ensures buckets { self.new.buckets ≡ self.old.buckets }
     {
         self.spares = 0;
@@ -176,6 +193,10 @@ fn reserve_memory(table: &mut Option<Table>, alloc: Global, entries: usize) -> R
     ensures more_nodes { table_nodes table.old ≤ table_nodes table.new }
     ensures more_heads { table_heads table.old ≤ table_heads table.new }
     ensures buckets { table_buckets table.new ≡ table_buckets table.old }
+    ensures grown_heads { StaysOrDoubles (table_heads table.old) (table_heads table.new) }
+    ensures grown_nodes { StaysOrDoubles (table_nodes table.old) (table_nodes table.new) ⊎ (table_nodes table.new ≡ 2 ^ 32 - 1) }
+    ensures enough_heads { 4 ≤ table_heads table.old → entries ≤ 2 * table_heads table.old → table_heads table.new ≡ table_heads table.old }
+    ensures enough_nodes { entries ≤ table_nodes table.old → table_nodes table.new ≡ table_nodes table.old }
 {
     match table {
         Some(table) => table.reserve(entries),
@@ -195,8 +216,8 @@ fn insert_entry(table: &mut Option<Table>, hash: u64, r: TupleRef, len: usize)
     requires counted { len ≡ length (table_entries table.old) + 1 }
     requires short { len ≤ 2 ^ 32 }
     ensures entries { IsSameBag (table_entries table.new) ((hash, r) ∷ table_entries table.old) }
-    ensures nodes { table_nodes table.old ≤ table_nodes table.new }
-    ensures heads { table_heads table.old ≤ table_heads table.new }
+    ensures nodes { table_nodes table.new ≡ table_nodes table.old }
+    ensures heads { table_heads table.new ≡ table_heads table.old }
     ensures split { 2 * table_buckets table.old < len → table_buckets table.new ≡ table_buckets table.old + 1 }
     ensures unsplit { len ≤ 2 * table_buckets table.old → table_buckets table.new ≡ table_buckets table.old }
 {
@@ -212,8 +233,8 @@ fn remove_entry(table: &mut Option<Table>, hash: u64, r: TupleRef, len: usize)
     requires counted { length (table_entries table.old) ≡ len + 1 }
     requires short { len < 2 ^ 32 }
     ensures entries { IsSameBag (table_entries table.old) ((hash, r) ∷ table_entries table.new) }
-    ensures nodes { table_nodes table.old ≤ table_nodes table.new }
-    ensures heads { table_heads table.old ≤ table_heads table.new }
+    ensures nodes { table_nodes table.new ≡ table_nodes table.old }
+    ensures heads { table_heads table.new ≡ table_heads table.old }
     ensures folded { 2 * len < table_buckets table.old → 4 < table_buckets table.old → table_buckets table.new + 1 ≡ table_buckets table.old }
     ensures unfolded { table_buckets table.old ≤ 2 * len → table_buckets table.new ≡ table_buckets table.old }
     ensures first { table_buckets table.old ≤ 4 → table_buckets table.new ≡ table_buckets table.old }

@@ -4,13 +4,14 @@
 //! its chain. A node that was removed is kept on the spare chain, and the next insert takes it from there; while that chain
 //! is empty, an insert puts its node at the end of the vector. Who counts the entries is not the table's matter: it is
 //! told.
-ghost use Rattle.std.specs.Prelude.{◌≡◌, ◌+◌, ◌*◌, ◌^◌, ◌<◌, ◌≤◌, [], ◌∷◌, ◌++◌, length, IfOk, OnOk, Contains};
+ghost use Rattle.std.specs.Prelude.{◌≡◌, ◌+◌, ◌-◌, ◌*◌, ◌^◌, ◌<◌, ◌≤◌, ◌⊎◌, [], ◌∷◌, ◌++◌, length, vec_len, vec_capacity, IfOk, OnOk, Contains};
 ghost use Rattle.mm_index.specs.Bag.{IsSameBag, with_hash};
+ghost use Rattle.lin_hash.specs.Held.{StaysOrDoubles};
 ghost use Rattle.lin_hash.specs.Rest.{chain_rest};
 
 use crate::address::{Address, FIRST_BUCKETS};
 use crate::chain::Chain;
-use crate::chains::{find, free, link, link_all, link_from, push_reserved, store, unlink};
+use crate::chains::{find, free, link, link_all, link_from, store, unlink};
 use crate::node::{Link, MOST_NODES, Node};
 use no_memory::NoMemory;
 use part_raw::TupleRef;
@@ -23,6 +24,9 @@ const MOST_ENTRIES_A_BUCKET: usize = 2;
 
 // More buckets to an entry than these, and a remove folds one.
 const MOST_BUCKETS_AN_ENTRY: usize = 2;
+
+// The first memory of the heads or of the nodes is for so many at least.
+const FIRST_CAPACITY: usize = 4;
 
 /// At least four buckets, and the nodes of their chains.
 #[derive(Drop)]
@@ -57,6 +61,7 @@ impl Table {
     pub fn new(alloc: Global) -> Result<Table, NoMemory>
         ensures entries { IfOk result (λ table. table.entries ≡ []) }
         ensures buckets { IfOk result (λ table. table.buckets ≡ 4) }
+        ensures nodes { IfOk result (λ table. table.nodes ≡ 0) }
     {
         let mut heads = Vec::new(alloc);
         heads.reserve(FIRST_BUCKETS)?;
@@ -81,7 +86,7 @@ impl Table {
     }
 
     // Makes sure of a node for each of so many entries, and of a head for every two. There are no more nodes than
-    // links can name.
+    // links can name. After an error what was gained is kept.
     pub fn reserve(&mut self, entries: usize) -> Result<(), NoMemory>
         ensures entries { self.new.entries ≡ self.old.entries }
         ensures few { OnOk result (entries < 2 ^ 32) }
@@ -90,15 +95,19 @@ impl Table {
         ensures more_nodes { self.old.nodes ≤ self.new.nodes }
         ensures more_heads { self.old.heads ≤ self.new.heads }
         ensures buckets { self.new.buckets ≡ self.old.buckets }
+
+        // Memory that suffices stays as it is. Else it comes to twice as much at least.
+        ensures grown_heads { StaysOrDoubles self.old.heads self.new.heads }
+        ensures grown_nodes { StaysOrDoubles self.old.nodes self.new.nodes ⊎ (self.new.nodes ≡ 2 ^ 32 - 1) }
+        ensures enough_heads { entries ≤ 2 * self.old.heads → self.new.heads ≡ self.old.heads }
+        ensures enough_nodes { entries ≤ self.old.nodes → self.new.nodes ≡ self.old.nodes }
     {
         if entries > MOST_NODES {
             return Err(NoMemory);
         }
         let heads = entries.div_ceil(MOST_ENTRIES_A_BUCKET);
-        self.heads.reserve(heads.saturating_sub(self.heads.len()))?;
-        self.nodes
-            .reserve(entries.saturating_sub(self.nodes.len()))?;
-        Ok(())
+        reserve_by_doubling(&mut self.heads, heads)?;
+        reserve_by_doubling(&mut self.nodes, entries)
     }
 
     // Gives back the nodes that are not in use, and the spare heads.
@@ -106,6 +115,8 @@ impl Table {
         ensures entries { self.new.entries ≡ self.old.entries }
         ensures heads { self.new.buckets ≤ self.new.heads }
         ensures nodes { length self.new.entries ≤ self.new.nodes }
+        ensures fewer_heads { self.new.heads ≤ self.old.heads }
+        ensures fewer_nodes { self.new.nodes ≤ self.old.nodes }
         ensures buckets { self.new.buckets ≡ self.old.buckets }
     {
         if self.spare.place().is_some() {
@@ -136,8 +147,8 @@ impl Table {
         requires counted { len ≡ length self.old.entries + 1 }
         requires short { len ≤ 2 ^ 32 }
         ensures entries { IsSameBag self.new.entries ((hash, r) ∷ self.old.entries) }
-        ensures nodes { self.old.nodes ≤ self.new.nodes }
-        ensures heads { self.old.heads ≤ self.new.heads }
+        ensures nodes { self.new.nodes ≡ self.old.nodes }
+        ensures heads { self.new.heads ≡ self.old.heads }
         ensures split { 2 * self.old.buckets < len → self.new.buckets ≡ self.old.buckets + 1 }
         ensures unsplit { len ≤ 2 * self.old.buckets → self.new.buckets ≡ self.old.buckets }
     {
@@ -154,8 +165,8 @@ impl Table {
         requires counted { length self.old.entries ≡ len + 1 }
         requires short { len < 2 ^ 32 }
         ensures entries { IsSameBag self.old.entries ((hash, r) ∷ self.new.entries) }
-        ensures nodes { self.old.nodes ≤ self.new.nodes }
-        ensures heads { self.old.heads ≤ self.new.heads }
+        ensures nodes { self.new.nodes ≡ self.old.nodes }
+        ensures heads { self.new.heads ≡ self.old.heads }
         ensures folded { 2 * len < self.old.buckets → 4 < self.old.buckets → self.new.buckets + 1 ≡ self.old.buckets }
         ensures unfolded { self.old.buckets ≤ 2 * len → self.new.buckets ≡ self.old.buckets }
         ensures first { self.old.buckets ≤ 4 → self.new.buckets ≡ self.old.buckets }
@@ -179,7 +190,7 @@ impl Table {
     fn add(&mut self, hash: u64, r: TupleRef)
         requires { length self.old.entries < self.old.nodes }
         ensures entries { IsSameBag self.new.entries ((hash, r) ∷ self.old.entries) }
-        ensures nodes { self.old.nodes ≤ self.new.nodes }
+        ensures nodes { self.new.nodes ≡ self.old.nodes }
         ensures heads { self.new.heads ≡ self.old.heads }
         ensures buckets { self.new.buckets ≡ self.old.buckets }
     {
@@ -213,11 +224,11 @@ impl Table {
         requires few { self.old.buckets < 2 ^ 32 }
         ensures entries { self.new.entries ≡ self.old.entries }
         ensures nodes { self.new.nodes ≡ self.old.nodes }
-        ensures heads { self.old.heads ≤ self.new.heads }
+        ensures heads { self.new.heads ≡ self.old.heads }
         ensures buckets { self.new.buckets ≡ self.old.buckets + 1 }
     {
         let first = mem::replace(&mut self.heads[self.address.mark], Link::none());
-        push_reserved(&mut self.heads, Link::none());
+        self.heads.push_reserved(Link::none());
         self.address = self.address.raised();
         link_from(&mut self.nodes, &mut self.heads, self.address, first);
     }
@@ -227,7 +238,7 @@ impl Table {
         requires { 4 < self.old.buckets }
         ensures entries { self.new.entries ≡ self.old.entries }
         ensures nodes { self.new.nodes ≡ self.old.nodes }
-        ensures heads { self.old.heads ≤ self.new.heads }
+        ensures heads { self.new.heads ≡ self.old.heads }
         ensures buckets { self.new.buckets + 1 ≡ self.old.buckets }
     {
         self.address = self.address.lowered();
@@ -235,4 +246,21 @@ impl Table {
             link_from(&mut self.nodes, &mut self.heads, self.address, last);
         }
     }
+}
+
+// Makes sure of memory for so many elements. Where it has to grow, it comes to twice as much at least: so all growths
+// together move no more elements than there is memory for in the end.
+fn reserve_by_doubling<T>(elements: &mut Vec<T>, wanted: usize) -> Result<(), NoMemory>
+    ensures items { elements.new.items ≡ elements.old.items }
+    ensures len { vec_len elements.new ≡ vec_len elements.old }
+    ensures ok { OnOk result (wanted ≤ vec_capacity elements.new) }
+    ensures grown { StaysOrDoubles (vec_capacity elements.old) (vec_capacity elements.new) }
+    ensures enough { wanted ≤ vec_capacity elements.old → vec_capacity elements.new ≡ vec_capacity elements.old }
+{
+    let capacity = elements.capacity();
+    if wanted > capacity {
+        let doubled = wanted.max(2 * capacity).max(FIRST_CAPACITY);
+        elements.reserve_exact(doubled - elements.len())?;
+    }
+    Ok(())
 }
