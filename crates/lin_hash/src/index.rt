@@ -102,8 +102,9 @@ impl ExactIndex for LinHash {
         ensures room { self.old.room ≤ self.new.room }
         ensures buckets { self.new.buckets ≡ self.old.buckets }
 
-        // Memory for heads and for nodes stays as it is where it suffices, once the first four buckets have theirs.
-        // Else it comes to twice as much at least, or to that for all nodes that links can name.
+        // The first four buckets have their heads. From then on memory for heads and for nodes stays as it is where it
+        // suffices, and else comes to twice as much at least, or to that for all nodes that links can name.
+        ensures first { OnOk result (4 ≤ self.new.heads) }
         ensures grown_heads { StaysOrDoubles self.old.heads self.new.heads }
         ensures grown_nodes { StaysOrDoubles self.old.nodes self.new.nodes ⊎ (self.new.nodes ≡ 2 ^ 32 - 1) }
         ensures enough_heads { 4 ≤ self.old.heads → length self.old.entries + n ≤ 2 * self.old.heads → self.new.heads ≡ self.old.heads }
@@ -190,6 +191,7 @@ fn reserve_memory(table: &mut Option<Table>, alloc: Global, entries: usize) -> R
     ensures few { OnOk result (entries < 2 ^ 32) }
     ensures nodes { OnOk result (entries ≤ table_nodes table.new) }
     ensures reserved { OnOk result (entries ≤ 2 * table_heads table.new) }
+    ensures first { OnOk result (4 ≤ table_heads table.new) }
     ensures more_nodes { table_nodes table.old ≤ table_nodes table.new }
     ensures more_heads { table_heads table.old ≤ table_heads table.new }
     ensures buckets { table_buckets table.new ≡ table_buckets table.old }

@@ -92,6 +92,7 @@ impl Table {
         ensures few { OnOk result (entries < 2 ^ 32) }
         ensures nodes { OnOk result (entries ≤ self.new.nodes) }
         ensures reserved { OnOk result (entries ≤ 2 * self.new.heads) }
+        ensures first { OnOk result (4 ≤ self.new.heads) }
         ensures more_nodes { self.old.nodes ≤ self.new.nodes }
         ensures more_heads { self.old.heads ≤ self.new.heads }
         ensures buckets { self.new.buckets ≡ self.old.buckets }
