@@ -1,6 +1,6 @@
 //! The fields of records, written straight to where they go.
 
-ghost use Rattle.std.specs.Prelude.{Bool, ◌∷◌, [], OnOk};
+ghost use Rattle.std.specs.Prelude.{◌≡◌, Bool, ◌∷◌, [], OnOk};
 ghost use Rattle.std.specs.Fmt.{signed_decimal};
 ghost use Rattle.std.specs.Io.KnownBytes.{Appends, Keeps};
 ghost use Rattle.plain_tables.specs.Csv.{quoted, value_field};
@@ -42,6 +42,13 @@ impl<W: Write + Drop> Output<W> {
             to,
             quotes: Quotes::new(alloc),
         }
+    }
+
+    /// What is written to.
+    pub fn get_ref(&self) -> &W
+        ensures { W.contents result.now ≡ self.now }
+    {
+        &self.to
     }
 
     /// Gives back what was written to.

@@ -107,6 +107,13 @@ impl<W: Write + Drop> RecordWriter<W> {
         Ok(())
     }
 
+    /// What is written to, with the bytes so far.
+    pub fn get_ref(&self) -> &W
+        ensures { W.contents result.now ≡ self.now.bytes }
+    {
+        self.output.get_ref()
+    }
+
     /// Gives back what was written to, once it has every byte.
     pub fn finish(self) -> Result<W, NoMemory>
         ensures bytes { IfOk result (λ to. Keeps self.bytes (W.contents to)) }
