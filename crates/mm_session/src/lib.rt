@@ -2,8 +2,8 @@
 //!
 //! ```text
 //!  pieces of bytes ──▶ requests ──▶ command ──▶ effect on the tables ──▶ answer ──▶ bytes
-//!   whole_run           responder   respond     execute, scan             answer     writing
-//!   session             lines       parse of    select, listing           records
+//!   whole_run           responder   respond     execute: search, query,   answer     writing
+//!   session             lines       parse of    select, listing, blocks   records
 //!                       kept, block mm_lang     mm_catalog                mm_csv
 //! ```
 //!
