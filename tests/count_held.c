@@ -1,5 +1,6 @@
 /* Counts the memory that a program holds. Preloaded into it, it adds up the bytes that the program asked for and has
- * not given back, and writes their number as a line of its own before each text for the standard output. */
+ * not given back. Before each text for the standard output it writes a line of its own: their number, and the greatest
+ * that it was since the text before. */
 #define _GNU_SOURCE
 #include <errno.h>
 #include <stddef.h>
@@ -20,6 +21,7 @@ struct front {
 };
 
 static size_t held = 0;
+static size_t most = 0;
 
 static struct front *front_of(void *block)
 {
@@ -36,6 +38,8 @@ static void *take(size_t alignment, size_t size)
     }
     *front_of(start + offset) = (struct front){size, offset};
     held += size;
+    if (most < held)
+        most = held;
     return start + offset;
 }
 
@@ -84,8 +88,9 @@ ssize_t write(int file, const void *text, size_t length)
 {
     if (file == STDOUT_FILENO) {
         char line[64];
-        int count = snprintf(line, sizeof line, "\n[held %zu]\n", held);
+        int count = snprintf(line, sizeof line, "\n[held %zu, most %zu]\n", held, most);
         syscall(SYS_write, file, line, (size_t)count);
+        most = held;
     }
     return syscall(SYS_write, file, text, length);
 }

@@ -9,7 +9,7 @@ import unittest
 import harness
 import preloading
 
-MOMENT = re.compile(r"\[held (\d+)\]\nheld: (.+)")
+MOMENT = re.compile(r"\[held (\d+), most \d+\]\nheld: (.+)")
 BOOKS = 1_000
 ENTRY = 16
 

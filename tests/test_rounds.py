@@ -13,7 +13,7 @@ import sizes
 SEED = 19800101
 ROUNDS = sizes.size(6, 60)
 ROWS = sizes.size(150, 2_000)
-HELD = re.compile(rb"\n\[held (\d+)\]\n")
+HELD = re.compile(rb"\n\[held (\d+), most \d+\]\n")
 MARK = b"select * from marks\n"
 MARKED = b"rows 0\nmarks.id\n"
 TABLES = b"""table dept (id int, name text)

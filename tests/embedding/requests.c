@@ -1,5 +1,8 @@
-/* Makes the calls of standard input on one handle, and writes their answers. Its words are the handle's limits. */
+/* Makes the calls of standard input on one handle, and writes each answer by a call of its own, which
+   tests/count_held.c hears where it is preloaded. The program's words are the handle's limits. */
 #include "calls.h"
+
+#include <unistd.h>
 
 /* The number of the refusal that answers begin with, or 0. */
 static uint32_t refusal_of(mmdb_bytes answers)
@@ -21,7 +24,7 @@ int main(int count, char **words)
         GIVES(answer_to(&db, next, &answer), MMDB_DONE);
         GIVES(mmdb_refusal(&db), refusal_of(answer));
         free(next.bytes);
-        fwrite(answer.at, 1, answer.length, stdout);
+        CHECK(write(STDOUT_FILENO, answer.at, answer.length) == (ssize_t)answer.length);
     }
     mmdb_close(&db);
     return checks_failed != 0;
