@@ -108,5 +108,6 @@ class GivenUp(Counted):
         self.check_ended(ended, model.answers_to(stream, limits))
         *_, (before, _), (dumped, most), (after, _) = [map(int, told) for told in HELD.findall(ended.out)]
         self.assertEqual((dumped, after), (before, before))
-        # The block doubles as it grows, and lies there twice while it is copied.
-        self.assertLessEqual(most - before, 3 * (self.LIMIT + len(RECORDS[0])))
+        # The block doubles as it grows, and lies there twice while it is copied; and fields between quotes have a buffer of
+        # their own. The whole block would take some 200,000 bytes.
+        self.assertLessEqual(most - before, 6 * (self.LIMIT + len(RECORDS[0])))

@@ -6,7 +6,7 @@ ghost use Rattle.linked_order_tests.specs.Kept.{IsKept, IsKeptBut};
 ghost use Rattle.linked_order_tests.specs.Ranks.{rank_at};
 
 use crate::order::{Author, Book, RankOrder, RankProbe, rank};
-use mm_index::{ExactIndex, MAX_LEN, OrderedIndex};
+use mm_index::{ExactIndex, MAX_LEN, OrderProbe, OrderedIndex};
 use no_memory::NoMemory;
 use part_raw::{MAX_TUPLES, Partitions, TupleRef};
 use std::alloc::Global;
@@ -135,7 +135,7 @@ impl<'a, I: OrderedIndex, E: ExactIndex> Shelf<'a, I, E> {
             authors: self.authors,
             books: &self.books,
         };
-        self.tree.insert(&order, r);
+        self.tree.insert(&mut OrderProbe::new(&order, r));
         self.hash.insert(sought.0, r);
         Ok(())
     }
@@ -157,7 +157,7 @@ impl<'a, I: OrderedIndex, E: ExactIndex> Shelf<'a, I, E> {
             authors: self.authors,
             books: &self.books,
         };
-        self.tree.remove(&order, r);
+        self.tree.remove(&mut OrderProbe::new(&order, r));
         self.hash.remove(key, r);
     }
 

@@ -9,7 +9,7 @@ use Rattle.std.proofs.lemmas.Option.{slice_get_within, slice_get-get_or}
 use Rattle.part_raw.specs.declared.tuple_ref.TupleRef.{TupleRef}
 use Rattle.plain_tables.specs.References.{IsSoundTable}
 use Rattle.mm_relation.specs.declared.row.Row.{Row}
-use Rattle.mm_relation.specs.State.{RelationState}
+use Rattle.mm_relation.specs.State.{tree_list, RelationState}
 use Rattle.mm_catalog.specs.State.{CatalogState}
 use Rattle.mm_catalog.specs.Seen.{database_of, table_of}
 use Rattle.mm_catalog.specs.Linked.{link_at, row_links, relation_links, links, links_to, is_link_to}
@@ -51,7 +51,7 @@ module _ (c : CatalogState) (ok : IsConsistent c) where
   few_of_relation n s there =
       let kept = (among_at c ok n s there).kept in
       let each : (o : Option Row) → length (option_map_or (row_links s.targets) o []) ≤ 16 = at_most s (few_columns n s there) in
-      let all = length-flat_map (λ r. option_map_or (row_links s.targets) (finite.get s.rows r) []) 16 s.by_key (λ k d l. each (finite.get s.rows (get_or s.by_key k d))) in
+      let all = length-flat_map (λ r. option_map_or (row_links s.targets) (finite.get s.rows r) []) 16 (tree_list s.by_key) (λ k d l. each (finite.get s.rows (get_or (tree_list s.by_key) k d))) in
       omega (arith, all, kept.keyed.lists.count, kept.few)
     where
       at_most : (s : RelationState) → length s.targets ≤ 16 → (o : Option Row) → length (option_map_or (row_links s.targets) o []) ≤ 16

@@ -14,7 +14,7 @@ use Rattle.part_raw.specs.declared.tuple_ref.TupleRef.{TupleRef}
 use Rattle.mm_index.specs.Order.{insert_placed}
 use Rattle.mm_relation.specs.declared.row.Row.{Row}
 use Rattle.mm_relation.specs.Changes.{IsInserted}
-use Rattle.mm_relation.specs.State.{RelationState, IsKept, HasKey}
+use Rattle.mm_relation.specs.State.{tree_list, RelationState, IsKept, HasKey}
 use Rattle.mm_relation.proofs.KeyOrder.{same_elsewhere}
 use Rattle.mm_catalog.specs.Linked.{Linked, row_links, relation_links}
 use Rattle.mm_catalog.proofs.Keyed.{place_beside, none_equal, keys_inserted}
@@ -72,12 +72,12 @@ module _ (old new : RelationState) (kept : IsKept old) (now : IsKept new) (r : T
   abbrev above : TupleRef → Bool
   above q = is_gt (place_beside old.rows r row q)
 
-  same_links : All (λ q. after q ≡ before q) old.by_key
+  same_links : All (λ q. after q ≡ before q) (tree_list old.by_key)
   same_links = λ k d l.
-      ap (λ targets. option_map_or (row_links targets) (get new.rows (get_or old.by_key k d)) []) inserted.keeps.targets
+      ap (λ targets. option_map_or (row_links targets) (get new.rows (get_or (tree_list old.by_key) k d)) []) inserted.keeps.targets
       ∙ ap (λ o. option_map_or (row_links old.targets) o [])
-      (ap (λ rows. get rows (get_or old.by_key k d)) inserted.rows
-      ∙ same_elsewhere old.rows old.by_key r row kept.keyed inserted.free (get_or old.by_key k d) (All-contains_itself old.by_key k d l))
+      (ap (λ rows. get rows (get_or (tree_list old.by_key) k d)) inserted.rows
+      ∙ same_elsewhere old.rows (tree_list old.by_key) r row kept.keyed inserted.free (get_or (tree_list old.by_key) k d) (All-contains_itself (tree_list old.by_key) k d l))
 
   links_of_row : after r ≡ row_links old.targets row
   links_of_row =
@@ -88,12 +88,12 @@ module _ (old new : RelationState) (kept : IsKept old) (now : IsKept new) (r : T
   pub links_inserted : count_by test (relation_links new) ≡ count_by test (row_links old.targets row) + count_by test (relation_links old)
   unfolding relation_links insert_placed
   links_inserted =
-      let listed : counted test after new.by_key ≡ counted test after (filter below old.by_key ++ r ∷ filter above old.by_key) =
+      let listed : counted test after (tree_list new.by_key) ≡ counted test after (filter below (tree_list old.by_key) ++ r ∷ filter above (tree_list old.by_key)) =
       ap (counted test after) (keys_inserted old new kept now r row inserted absent) in
-      let parts = counted-append test after (filter below old.by_key) (r ∷ filter above old.by_key) in
-      let one = counted-cons test after r (filter above old.by_key) in
+      let parts = counted-append test after (filter below (tree_list old.by_key)) (r ∷ filter above (tree_list old.by_key)) in
+      let one = counted-cons test after r (filter above (tree_list old.by_key)) in
       let itself : count_by test (after r) ≡ count_by test (row_links old.targets row) = ap (count_by test) links_of_row in
-      let left : counted test after (filter below old.by_key) ≡ counted test before (filter below old.by_key) = ap (count_by test) (flat_alike after before below old.by_key same_links) in
-      let right : counted test after (filter above old.by_key) ≡ counted test before (filter above old.by_key) = ap (count_by test) (flat_alike after before above old.by_key same_links) in
-      let whole = counted-split test before below above old.by_key (λ k d l. one_side _ (none_equal old new kept now r row inserted absent k d l)) in
+      let left : counted test after (filter below (tree_list old.by_key)) ≡ counted test before (filter below (tree_list old.by_key)) = ap (count_by test) (flat_alike after before below (tree_list old.by_key) same_links) in
+      let right : counted test after (filter above (tree_list old.by_key)) ≡ counted test before (filter above (tree_list old.by_key)) = ap (count_by test) (flat_alike after before above (tree_list old.by_key) same_links) in
+      let whole = counted-split test before below above (tree_list old.by_key) (λ k d l. one_side _ (none_equal old new kept now r row inserted absent k d l)) in
       omega (arith, listed, parts, one, itself, left, right, whole)

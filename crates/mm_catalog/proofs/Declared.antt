@@ -28,7 +28,7 @@ use Rattle.mm_relation.specs.Declaring.{declaration, IsDeclared, IsDeclaredOf, w
 use Rattle.mm_relation.specs.State.{RelationState, IsKept, IsCurrent, linked_keys}
 use Rattle.mm_relation.proofs.Dropping.{without_first-map}
 use Rattle.mm_catalog.specs.State.{CatalogState}
-use Rattle.mm_catalog.specs.Seen.{database_of, table_of, rows_of, plain_index}
+use Rattle.mm_catalog.specs.Seen.{database_of, table_of, rows_of, values_of, plain_index}
 use Rattle.mm_catalog.specs.Linked.{target_of, links_to, is_link_to, HasLinksOrNulls}
 use Rattle.mm_catalog.specs.Consistent.{IsAmong, IsConsistent, AreCounted}
 use Rattle.mm_catalog.specs.Changes.{IsChangedAt, IsCurrentAt, IsDone}
@@ -129,7 +129,7 @@ module _ (c : CatalogState) (ok : IsConsistent c) (n : ℕ) (s new : RelationSta
       (λ i a t other named found j. record { name = a; columns = t.schema.columns; indexes = map plain_index t.declared; rows = rows_of (same_keys t.targets now c.relations same_outlines j) t })
       ∙ ap (set (database_of c) n)
       (let keys : linked_keys new.targets now ≡ linked_keys s.targets c.relations = ap (λ targets. linked_keys targets now) (ap (λ (o : Outline). o.0) keeps.outline) ∙ same_keys s.targets now c.relations same_outlines in
-      λ j. record { name = name; columns = (keeps.schema j).columns; indexes = map plain_index new.declared; rows = rows_of (keys j) (record new { schema = keeps.schema j; rows = (keeps.outline j).1; by_key = (keeps.outline j).2 }) })
+      λ j. record { name = name; columns = (keeps.schema j).columns; indexes = map plain_index new.declared; rows = map (values_of (keys j) (length (keeps.schema j).columns) (keeps.outline j).1) (keeps.outline j).2 })
 
   -- it is consistent still, if the database is sound
   pub consistent_now : IsSound c.limits (database_of (record c { relations = now })) → IsConsistent (record c { relations = now })

@@ -28,7 +28,7 @@ use Rattle.plain_tables.proofs.SoundLemmas.{delete_keeps_sound}
 use Rattle.plain_tables.proofs.ValueLemmas.{value_cmp-exact}
 use Rattle.mm_relation.specs.declared.row.Row.{Row}
 use Rattle.mm_relation.specs.Reading.{Keys, key_at}
-use Rattle.mm_relation.specs.State.{RelationState, IsKept, IsCurrent, linked_keys}
+use Rattle.mm_relation.specs.State.{tree_list, RelationState, IsKept, IsCurrent, linked_keys}
 use Rattle.mm_catalog.specs.State.{CatalogState}
 use Rattle.mm_catalog.specs.Seen.{database_of, table_of, rows_of, row_values, values_of, plain_index}
 use Rattle.mm_catalog.specs.Linked.{Linked, is_link_to, links, links_to, relation_links, HasLinksOrNulls}
@@ -125,12 +125,12 @@ module _ (c : CatalogState) (ok : IsConsistent c) where
       none_referenced : All (IsFree s) refs → list_any (is_referenced (database_of c) table.name) (picked picks table) ≡ false
       unfolding table_of rows_of
       none_referenced free =
-          list_any_none (is_referenced (database_of c) name) (filter picks (map seen s.by_key))
+          list_any_none (is_referenced (database_of c) name) (filter picks (map seen (tree_list s.by_key)))
           (λ k d l.
-          let v = get_or (filter picks (map seen s.by_key)) k d in
-          let from = Contains-from_filter picks (map seen s.by_key) v (Contains-get_or (filter picks (map seen s.by_key)) k d l) in
-          let q = Contains-from_map seen s.by_key v from.0 in
-          let here : IsSome (get s.rows q.0) = All-contains (λ r. IsSome (get s.rows r)) s.by_key q.0 (among_at c ok n.0 s there).kept.keyed.lists.held q.1 in
+          let v = get_or (filter picks (map seen (tree_list s.by_key))) k d in
+          let from = Contains-from_filter picks (map seen (tree_list s.by_key)) v (Contains-get_or (filter picks (map seen (tree_list s.by_key))) k d l) in
+          let q = Contains-from_map seen (tree_list s.by_key) v from.0 in
+          let here : IsSome (get s.rows q.0) = All-contains (λ r. IsSome (get s.rows r)) (tree_list s.by_key) q.0 (among_at c ok n.0 s there).kept.keyed.lists.held q.1 in
           let row = held_tuple s.rows q.0 here in
           let chosen : Contains refs q.0 = (picking q.0 here).1 (subst (λ w. IsTrue (picks w)) (sym q.2) from.1) in
           let zero : row.0.referrers ≡ 0 = All-contains (IsFree s) refs q.0 free chosen row.0 row.1 in
@@ -145,9 +145,9 @@ module _ (c : CatalogState) (ok : IsConsistent c) where
           let at = found.4.1 in
           let here : IsSome (get s.rows r) = ap is_some at in
           let member : Contains refs r = (found.0, found.2, found.3) in
-          let listed : Contains (map seen s.by_key) (seen r) = Contains-map seen s.by_key r ((among_at c ok n.0 s there).kept.keyed.lists.listed r here) in
-          let inside = Contains-filter picks (map seen s.by_key) (seen r) listed ((picking r here).0 member) in
-          list_any-from_Any (is_referenced (database_of c) name) (filter picks (map seen s.by_key)) (
+          let listed : Contains (map seen (tree_list s.by_key)) (seen r) = Contains-map seen (tree_list s.by_key) r ((among_at c ok n.0 s there).kept.keyed.lists.listed r here) in
+          let inside = Contains-filter picks (map seen (tree_list s.by_key)) (seen r) listed ((picking r here).0 member) in
+          list_any-from_Any (is_referenced (database_of c) name) (filter picks (map seen (tree_list s.by_key))) (
             inside.0,
             seen r,
             inside.1,

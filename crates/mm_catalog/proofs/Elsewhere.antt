@@ -18,7 +18,7 @@ use Rattle.mm_relation.specs.Agreement.{stays_current, reads_alike}
 use Rattle.mm_relation.specs.Changes.{KeepsSchema}
 use Rattle.mm_relation.specs.declared.row.Row.{Row}
 use Rattle.mm_relation.specs.Reading.{Keys, AgreeOnLinks, key_at, link_in, row_value}
-use Rattle.mm_relation.specs.State.{RelationState, IsKept, IsCurrent, linked_keys}
+use Rattle.mm_relation.specs.State.{tree_list, RelationState, IsKept, IsCurrent, linked_keys}
 use Rattle.mm_catalog.specs.State.{CatalogState}
 use Rattle.mm_catalog.specs.Seen.{database_of, table_of, rows_of, values_of, row_values, or_null, plain_index}
 use Rattle.mm_catalog.specs.Linked.{Linked, target_of, target_at, link_at, row_links, relation_links, links, is_link_to, links_to, HasLinksOrNulls}
@@ -179,7 +179,7 @@ relation_leads s n back table r above =
     (λ q. elim (get s.rows q) as (λ o. count_by (is_link_to table r) (option_map_or (row_links s.targets) o []) ≡ 0) [
       | None ↦ refl
       | Some row ↦ row_leads s.targets n back table r above row
-    ]) s.by_key
+    ]) (tree_list s.by_key)
 
 -- ---- keys that agree
 
@@ -200,7 +200,7 @@ values_alike keys others width rows agree r =
 pub shown_alike : (keys others : Keys) (s : RelationState) → AgreeOnLinks s.rows keys others → rows_of others s ≡ rows_of keys s
 unfolding rows_of
 shown_alike keys others s agree =
-    ap (λ (values : TupleRef → List Value). map values s.by_key) (λ i r. values_alike keys others (length s.schema.columns) s.rows agree r i)
+    ap (λ (values : TupleRef → List Value). map values (tree_list s.by_key)) (λ i r. values_alike keys others (length s.schema.columns) s.rows agree r i)
 
 -- ---- the catalog
 

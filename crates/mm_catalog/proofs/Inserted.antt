@@ -28,7 +28,7 @@ use Rattle.plain_tables.proofs.SoundLemmas.{done_keeps_sound}
 use Rattle.mm_relation.specs.declared.row.Row.{Row}
 use Rattle.mm_relation.specs.declared.row.Cell.{Cell}
 use Rattle.mm_relation.specs.Changes.{new_row}
-use Rattle.mm_relation.specs.State.{RelationState, HasKey, linked_keys}
+use Rattle.mm_relation.specs.State.{tree_list, RelationState, HasKey, linked_keys}
 use Rattle.mm_catalog.specs.State.{CatalogState}
 use Rattle.mm_catalog.specs.Seen.{database_of, table_of, rows_of, row_values, plain_index}
 use Rattle.mm_catalog.specs.Linked.{Linked, link_at, row_links, relation_links, links, links_to, is_link_to, HasLinksOrNulls}
@@ -87,8 +87,8 @@ module _ (c : CatalogState) (ok : IsConsistent c) (n : ℕ) (b : RelationState) 
   relation_unnamed : (k : ℕ) (s : RelationState) → slice_get c.relations k ≡ Some s → All (λ link. is_link_to n r link ≡ false) (relation_links s)
   unfolding relation_links
   relation_unnamed k s at =
-      All-flat_map (λ link. is_link_to n r link ≡ false) (λ q. option_map_or (row_links s.targets) (get s.rows q) []) s.by_key
-      (λ i d l. row_unnamed k s (get_or s.by_key i d) (get s.rows (get_or s.by_key i d)) at refl)
+      All-flat_map (λ link. is_link_to n r link ≡ false) (λ q. option_map_or (row_links s.targets) (get s.rows q) []) (tree_list s.by_key)
+      (λ i d l. row_unnamed k s (get_or (tree_list s.by_key) i d) (get s.rows (get_or (tree_list s.by_key) i d)) at refl)
 
   pub no_links_to : links_to c.relations n r ≡ 0
   unfolding links links_to

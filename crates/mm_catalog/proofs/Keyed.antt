@@ -14,7 +14,7 @@ use Rattle.mm_relation.specs.declared.row.Row.{Row}
 use Rattle.mm_relation.specs.Changes.{IsInserted, IsRemoved}
 use Rattle.mm_relation.specs.Order.{column_cmp, column_cmp_total}
 use Rattle.mm_relation.specs.Reading.{value_at}
-use Rattle.mm_relation.specs.State.{RelationState, IsKept, IsKeyed, HasKey, no_keys}
+use Rattle.mm_relation.specs.State.{tree_list, RelationState, IsKept, IsKeyed, HasKey, no_keys}
 use Rattle.mm_relation.proofs.KeyOrder.{has_key, keyed_with, keyed_without}
 use Rattle.mm_catalog.proofs.Rising.{rising_same}
 
@@ -30,19 +30,19 @@ place_beside rows r row q = option_cmp value_cmp (value_at no_keys 0 (insert row
 
 module _ (old new : RelationState) (kept : IsKept old) (now : IsKept new) (r : TupleRef) where
   module _ (row : Row) (inserted : IsInserted old new r row) (absent : HasKey old.rows row.key → ⊥) where
-    pub none_equal : All (λ q. place_beside old.rows r row q ≢ Equal) old.by_key
-    none_equal = λ k d l e. absent (has_key old.rows old.by_key r row kept.keyed inserted.free (get_or old.by_key k d) (All-contains_itself old.by_key k d l) e)
+    pub none_equal : All (λ q. place_beside old.rows r row q ≢ Equal) (tree_list old.by_key)
+    none_equal = λ k d l e. absent (has_key old.rows (tree_list old.by_key) r row kept.keyed inserted.free (get_or (tree_list old.by_key) k d) (All-contains_itself (tree_list old.by_key) k d l) e)
 
     -- a row that comes in stands between those of lesser and of greater keys
-    pub keys_inserted : new.by_key ≡ insert_placed (place_beside old.rows r row) r old.by_key
+    pub keys_inserted : (tree_list new.by_key) ≡ insert_placed (place_beside old.rows r row) r (tree_list old.by_key)
     keys_inserted =
-        keyed_unique (insert old.rows r row) new.by_key (insert_placed (place_beside old.rows r row) r old.by_key)
-        (subst (λ rows. IsKeyed rows new.by_key) inserted.rows now.keyed)
-        (keyed_with old.rows old.by_key r row kept.keyed inserted.free none_equal (insert_placed (place_beside old.rows r row) r old.by_key) refl)
+        keyed_unique (insert old.rows r row) (tree_list new.by_key) (insert_placed (place_beside old.rows r row) r (tree_list old.by_key))
+        (subst (λ rows. IsKeyed rows (tree_list new.by_key)) inserted.rows now.keyed)
+        (keyed_with old.rows (tree_list old.by_key) r row kept.keyed inserted.free none_equal (insert_placed (place_beside old.rows r row) r (tree_list old.by_key)) refl)
 
   -- one that goes out is the only one to go
-  pub keys_removed : IsSome (get old.rows r) → IsRemoved old new r → new.by_key ≡ remove_by (column_cmp no_keys 0 old.rows) r old.by_key
+  pub keys_removed : IsSome (get old.rows r) → IsRemoved old new r → (tree_list new.by_key) ≡ remove_by (column_cmp no_keys 0 old.rows) r (tree_list old.by_key)
   keys_removed held removed =
-      keyed_unique (remove old.rows r) new.by_key (remove_by (column_cmp no_keys 0 old.rows) r old.by_key)
-      (subst (λ rows. IsKeyed rows new.by_key) removed.rows now.keyed)
-      (keyed_without old.rows old.by_key r kept.keyed held (remove_by (column_cmp no_keys 0 old.rows) r old.by_key) refl)
+      keyed_unique (remove old.rows r) (tree_list new.by_key) (remove_by (column_cmp no_keys 0 old.rows) r (tree_list old.by_key))
+      (subst (λ rows. IsKeyed rows (tree_list new.by_key)) removed.rows now.keyed)
+      (keyed_without old.rows (tree_list old.by_key) r kept.keyed held (remove_by (column_cmp no_keys 0 old.rows) r (tree_list old.by_key)) refl)

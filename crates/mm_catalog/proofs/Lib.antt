@@ -53,3 +53,4 @@ pub mod ResolveSelect
 pub mod UpdateNeeds
 pub mod UpdateRefused
 pub mod UpdateDone
+pub mod TreeShapes

@@ -16,7 +16,7 @@ use Rattle.mm_relation.specs.declared.row.Cell.TheVariants.{Held, Link}
 use Rattle.mm_relation.specs.declared.row.Cell.{Cell}
 use Rattle.mm_relation.specs.declared.row.Row.{Row}
 use Rattle.mm_relation.specs.Reading.{Keys, cell_value, key_at, link_in, link_of, row_value}
-use Rattle.mm_relation.specs.State.{RelationState, IsKept, linked_keys}
+use Rattle.mm_relation.specs.State.{tree_list, RelationState, IsKept, linked_keys}
 use Rattle.mm_catalog.specs.State.{CatalogState}
 use Rattle.mm_catalog.specs.Linked.{Linked, target_at, link_at, row_links, relation_links, links, is_link_to, links_to}
 use Rattle.mm_catalog.specs.Consistent.{IsAmong, IsConsistent}
@@ -105,7 +105,7 @@ row_has_link targets row column table to e f =
 pub relation_has_link : (s : RelationState) → IsKept s → (r : TupleRef) (row : Row) (link : Linked) → get s.rows r ≡ Some row → Contains (row_links s.targets row) link → Contains (relation_links s) link
 unfolding relation_links
 relation_has_link s kept r row link at h =
-    Contains-flat_map (λ q. option_map_or (row_links s.targets) (get s.rows q) []) s.by_key r link (kept.keyed.lists.listed r (ap is_some at))
+    Contains-flat_map (λ q. option_map_or (row_links s.targets) (get s.rows q) []) (tree_list s.by_key) r link (kept.keyed.lists.listed r (ap is_some at))
     (subst (λ o. Contains (option_map_or (row_links s.targets) o []) link) (sym at) h)
 
 pub catalog_has_link : (relations : List RelationState) (k : ℕ) (s : RelationState) (link : Linked) → slice_get relations k ≡ Some s → Contains (relation_links s) link → Contains (links relations) link

@@ -10,7 +10,7 @@ use Rattle.part_raw.specs.Store.{Tuples}
 use Rattle.mm_relation.specs.declared.row.Row.{Row}
 use Rattle.plain_tables.specs.declared.value.Value.{Value}
 use Rattle.mm_relation.specs.Reading.{key_at}
-use Rattle.mm_relation.specs.State.{RelationState, linked_keys}
+use Rattle.mm_relation.specs.State.{tree_list, RelationState, linked_keys}
 use Rattle.mm_catalog.specs.Linked.{Linked, target_at, row_links, relation_links, links}
 use Rattle.mm_catalog.proofs.Lists.{get-take}
 
@@ -18,7 +18,7 @@ abbrev pub Outline : Type 0
 Outline = List (Option ℕ) × Tuples Row × List TupleRef
 
 abbrev pub outline : RelationState → Outline
-outline s = (s.targets, s.rows, s.by_key)
+outline s = (s.targets, s.rows, (tree_list s.by_key))
 
 abbrev pub outlines : List RelationState → List Outline
 outlines relations = map outline relations

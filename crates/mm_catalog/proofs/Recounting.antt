@@ -9,7 +9,7 @@ use Rattle.plain_tables.specs.declared.value.Value.{Value}
 use Rattle.mm_relation.specs.declared.row.Row.{Row}
 use Rattle.mm_relation.specs.Changes.{with_referrers}
 use Rattle.mm_relation.specs.Reading.{Keys, key_at, value_at, row_value}
-use Rattle.mm_relation.specs.State.{RelationState, IsCurrent, IsReadable}
+use Rattle.mm_relation.specs.State.{tree_list, RelationState, IsCurrent, IsReadable}
 use Rattle.mm_relation.proofs.Serving.{tree_agrees, hash_agrees}
 use Rattle.mm_catalog.specs.Linked.{Linked, row_links, relation_links}
 use Rattle.mm_catalog.specs.Recounted.{IsRecounted}
@@ -56,8 +56,8 @@ module _ (s t : RelationState) (h : IsRecounted s t) where
   pub current_recounted : (keys : Keys) → IsCurrent keys s → IsCurrent keys t
   current_recounted keys current = subst (IsCurrent keys) (sym h.same) (record {
     readable = readable_again keys current;
-    trees = λ k d l. tree_agrees keys s.rows t.rows s.by_key (λ c q _. value_recounted keys c q) _ (current.trees k d l);
-    hashes = λ k d l. hash_agrees keys s.rows t.rows s.by_key (λ c q _. value_recounted keys c q) _ (current.hashes k d l);
+    trees = λ k d l. tree_agrees keys s.rows t.rows (tree_list s.by_key) (λ c q _. value_recounted keys c q) _ (current.trees k d l);
+    hashes = λ k d l. hash_agrees keys s.rows t.rows (tree_list s.by_key) (λ c q _. value_recounted keys c q) _ (current.hashes k d l);
   })
 
   values_recounted : (keys : Keys) (width : ℕ) (r : TupleRef) → values_of keys width t.rows r ≡ values_of keys width s.rows r
@@ -67,7 +67,7 @@ module _ (s t : RelationState) (h : IsRecounted s t) where
   pub rows_recounted : (keys : Keys) → rows_of keys t ≡ rows_of keys s
   unfolding rows_of
   rows_recounted keys =
-      ap (rows_of keys) h.same ∙ ap (λ (values : TupleRef → List Value). map values s.by_key) (λ i r. values_recounted keys (length s.schema.columns) r i)
+      ap (rows_of keys) h.same ∙ ap (λ (values : TupleRef → List Value). map values (tree_list s.by_key)) (λ i r. values_recounted keys (length s.schema.columns) r i)
 
   links_of_row : (r : TupleRef) → option_map_or (row_links s.targets) (get t.rows r) [] ≡ option_map_or (row_links s.targets) (get s.rows r) []
   unfolding row_links
@@ -76,4 +76,4 @@ module _ (s t : RelationState) (h : IsRecounted s t) where
   pub links_recounted : relation_links t ≡ relation_links s
   unfolding relation_links
   links_recounted =
-      ap relation_links h.same ∙ ap (λ (of : TupleRef → List Linked). flat_map of s.by_key) (λ i r. links_of_row r i)
+      ap relation_links h.same ∙ ap (λ (of : TupleRef → List Linked). flat_map of (tree_list s.by_key)) (λ i r. links_of_row r i)

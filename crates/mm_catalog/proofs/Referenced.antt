@@ -26,7 +26,7 @@ use Rattle.mm_relation.specs.declared.row.Row.{Row}
 use Rattle.mm_relation.specs.declared.row.Cell.{Cell}
 use Rattle.mm_relation.specs.declared.row.Cell.TheVariants.{Held, Link}
 use Rattle.mm_relation.specs.Reading.{Keys, key_at}
-use Rattle.mm_relation.specs.State.{RelationState, IsKept, HasKey, linked_keys}
+use Rattle.mm_relation.specs.State.{tree_list, RelationState, IsKept, HasKey, linked_keys}
 use Rattle.mm_catalog.specs.State.{CatalogState}
 use Rattle.mm_catalog.specs.Seen.{database_of, table_of, rows_of, values_of, row_values}
 use Rattle.mm_catalog.specs.Linked.{target_of, target_at}
@@ -78,24 +78,24 @@ module _ (s : RelationState) (kept : IsKept s) (keys : Keys) (some : 0 < length 
       ap (λ o. is_eq (key_cmp (option_map_or (row_values keys (length s.schema.columns)) o []) (key ∷ rest))) found
       ∙ ap is_eq (beside_values keys (length s.schema.columns) t key rest some)
 
-  listed : has_key_of (key ∷ rest) (rows_of keys s) ≡ list_any has_this_key s.by_key
+  listed : has_key_of (key ∷ rest) (rows_of keys s) ≡ list_any has_this_key (tree_list s.by_key)
   unfolding rows_of
-  listed = list_any-map (λ r. is_eq (key_cmp r (key ∷ rest))) (values_of keys (length s.schema.columns) s.rows) s.by_key
+  listed = list_any-map (λ r. is_eq (key_cmp r (key ∷ rest))) (values_of keys (length s.schema.columns) s.rows) (tree_list s.by_key)
 
   -- a key that a row has is that of a row that is shown
   pub key_shown : HasKey s.rows key → has_key_of (key ∷ rest) (rows_of keys s) ≡ true
   key_shown h =
       let t = key_of (get s.rows h.0) key h.1 in
       listed
-      ∙ one_passes has_this_key s.by_key h.0 (kept.keyed.lists.listed h.0 (ap is_some t.1))
+      ∙ one_passes has_this_key (tree_list s.by_key) h.0 (kept.keyed.lists.listed h.0 (ap is_some t.1))
       (told h.0 t.0 t.1 ∙ ap is_eq ((value_cmp-exact t.0.key key).1 t.2))
 
   -- and one that none has isn't
   pub no_key_shown : (HasKey s.rows key → ⊥) → has_key_of (key ∷ rest) (rows_of keys s) ≡ false
   no_key_shown absent =
       listed
-      ∙ none_passes has_this_key s.by_key (λ k d l.
-      let q = get_or s.by_key k d in
+      ∙ none_passes has_this_key (tree_list s.by_key) (λ k d l.
+      let q = get_or (tree_list s.by_key) k d in
       let t = held_tuple s.rows q (kept.keyed.lists.held k d l) in
       false_from_ne_true (has_this_key q) (λ e.
       let same : t.0.key ≡ key = (value_cmp-exact t.0.key key).0 (is_eq-Equal (value_cmp t.0.key key) (sym (told q t.0 t.1) ∙ e)) in

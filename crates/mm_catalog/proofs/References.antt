@@ -29,7 +29,7 @@ use Rattle.mm_relation.specs.declared.row.Row.{Row}
 use Rattle.mm_relation.specs.declared.row.Cell.{Cell}
 use Rattle.mm_relation.specs.declared.row.Cell.TheVariants.{Held, Link}
 use Rattle.mm_relation.specs.Reading.{Keys, cell_value, key_at, link_in, link_of, row_value}
-use Rattle.mm_relation.specs.State.{RelationState, linked_keys}
+use Rattle.mm_relation.specs.State.{tree_list, RelationState, linked_keys}
 use Rattle.mm_relation.proofs.Serving.{from_mapped}
 use Rattle.mm_catalog.specs.State.{CatalogState}
 use Rattle.mm_catalog.specs.Seen.{database_of, table_of, rows_of, values_of, row_values, or_null}
@@ -138,8 +138,8 @@ module _ (c : CatalogState) (ok : IsConsistent c) where
       let fit : All (IsRowOf (database_of c) table.columns) table.rows =
       All-get (λ (u : Table). All (IsRowOf (database_of c) u.columns) u.rows) (database_of c) n table ok.sound.rows_fit t.2 in
       let listed = (among_at c ok n s there).kept.keyed.lists.listed r (ap is_some at) in
-      let here = from_mapped (IsRowOf (database_of c) s.schema.columns) (values_of (keys_of s) (length s.schema.columns) s.rows) s.by_key fit listed.0 r listed.1 in
-      let values : values_of (keys_of s) (length s.schema.columns) s.rows (get_or s.by_key listed.0 r) ≡ row_values (keys_of s) (length s.schema.columns) row =
+      let here = from_mapped (IsRowOf (database_of c) s.schema.columns) (values_of (keys_of s) (length s.schema.columns) s.rows) (tree_list s.by_key) fit listed.0 r listed.1 in
+      let values : values_of (keys_of s) (length s.schema.columns) s.rows (get_or (tree_list s.by_key) listed.0 r) ≡ row_values (keys_of s) (length s.schema.columns) row =
       ap (values_of (keys_of s) (length s.schema.columns) s.rows) listed.2 ∙ ap (λ o. option_map_or (row_values (keys_of s) (length s.schema.columns)) o []) at in
       first_not_null (database_of c) s.schema.columns (keys_of s) row (key_typed n s there) (subst (IsRowOf (database_of c) s.schema.columns) values here)
 
@@ -271,17 +271,17 @@ module _ (c : CatalogState) (ok : IsConsistent c) where
     relation_alike : (k : ℕ) (other : List ℕ) (t : RelationState) → slice_get c.relations k ≡ Some t → list_any (is_to name values) (table_references (table_of c.relations other t)) ≡ list_any (is_link_to n r) (relation_links t)
     unfolding table_of rows_of relation_links values_of
     relation_alike k other t tk =
-        any_flat (is_to name values) (references t.schema.columns) (map (values_of (keys_of t) (length t.schema.columns) t.rows) t.by_key)
-        ∙ list_any-map (λ v. list_any (is_to name values) (references t.schema.columns v)) (values_of (keys_of t) (length t.schema.columns) t.rows) t.by_key
+        any_flat (is_to name values) (references t.schema.columns) (map (values_of (keys_of t) (length t.schema.columns) t.rows) (tree_list t.by_key))
+        ∙ list_any-map (λ v. list_any (is_to name values) (references t.schema.columns v)) (values_of (keys_of t) (length t.schema.columns) t.rows) (tree_list t.by_key)
         ∙ any_alike (λ q. list_any (is_to name values) (references t.schema.columns (values_of (keys_of t) (length t.schema.columns) t.rows q)))
-        (λ q. list_any (is_link_to n r) (option_map_or (row_links t.targets) (get t.rows q) [])) t.by_key
+        (λ q. list_any (is_link_to n r) (option_map_or (row_links t.targets) (get t.rows q) [])) (tree_list t.by_key)
         (λ i d l.
-        let q = get_or t.by_key i d in
+        let q = get_or (tree_list t.by_key) i d in
         let u = held_tuple t.rows q ((among_at c ok k t tk).kept.keyed.lists.held i d l) in
         ap (λ o. list_any (is_to name values) (references t.schema.columns (option_map_or (row_values (keys_of t) (length t.schema.columns)) o []))) u.1
         ∙ row_alike k t q u.0 tk u.1
         ∙ sym (ap (λ o. list_any (is_link_to n r) (option_map_or (row_links t.targets) o [])) u.1))
-        ∙ sym (any_flat (is_link_to n r) (λ q. option_map_or (row_links t.targets) (get t.rows q) []) t.by_key)
+        ∙ sym (any_flat (is_link_to n r) (λ q. option_map_or (row_links t.targets) (get t.rows q) []) (tree_list t.by_key))
 
     all_alike : is_referenced (database_of c) name values ≡ list_any (is_link_to n r) (links c.relations)
     unfolding database_of links

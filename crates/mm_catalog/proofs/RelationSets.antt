@@ -22,7 +22,7 @@ use Rattle.mm_relation.specs.Changes.{IsChanged}
 use Rattle.mm_relation.specs.Order.{column_cmp, column_cmp_total}
 use Rattle.mm_relation.specs.Reading.{Keys, cell_value, key_at, row_value, value_at}
 use Rattle.mm_relation.specs.Settings.{with_cells}
-use Rattle.mm_relation.specs.State.{RelationState, IsCurrent, IsKept, no_keys}
+use Rattle.mm_relation.specs.State.{tree_list, RelationState, IsCurrent, IsKept, no_keys}
 use Rattle.mm_relation.specs.declared.row.Row.{Row}
 use Rattle.mm_catalog.specs.Assigned.{CellSet, links_at, row_links_at, set_links}
 use Rattle.mm_catalog.specs.Cells.{IsLinkOrNull}
@@ -90,13 +90,13 @@ module _ (b a : RelationState) (rs : List TupleRef) (sets : List CellSet) (chang
 
   module _ (was : IsKept b) (now : IsKept a) where
     -- they stand in the same order
-    pub by_key_set : a.by_key ≡ b.by_key
+    pub by_key_set : (tree_list a.by_key) ≡ (tree_list b.by_key)
     by_key_set =
         let keys : key_at b.rows ≡ key_at a.rows = λ i r. sym (keys_set r) i in
-        rising_same (column_cmp no_keys 0 a.rows) (column_cmp_total no_keys 0 a.rows) a.by_key b.by_key now.keyed.rising
-        (subst (λ (key : TupleRef → Option Value). AllPairs (λ p q. then_cmp (on key (option_cmp value_cmp)) (on key (option_cmp value_cmp)) p q ≡ Less) b.by_key) keys was.keyed.rising)
-        (λ q h. was.keyed.lists.listed q (sym (held_same q) ∙ All-contains (λ r. IsSome (get a.rows r)) a.by_key q now.keyed.lists.held h))
-        (λ q h. now.keyed.lists.listed q (held_same q ∙ All-contains (λ r. IsSome (get b.rows r)) b.by_key q was.keyed.lists.held h))
+        rising_same (column_cmp no_keys 0 a.rows) (column_cmp_total no_keys 0 a.rows) (tree_list a.by_key) (tree_list b.by_key) now.keyed.rising
+        (subst (λ (key : TupleRef → Option Value). AllPairs (λ p q. then_cmp (on key (option_cmp value_cmp)) (on key (option_cmp value_cmp)) p q ≡ Less) (tree_list b.by_key)) keys was.keyed.rising)
+        (λ q h. was.keyed.lists.listed q (sym (held_same q) ∙ All-contains (λ r. IsSome (get a.rows r)) (tree_list a.by_key) q now.keyed.lists.held h))
+        (λ q h. now.keyed.lists.listed q (held_same q ∙ All-contains (λ r. IsSome (get b.rows r)) (tree_list b.by_key) q was.keyed.lists.held h))
 
     module _ (held : All (λ r. IsSome (get b.rows r)) rs) (once : AllPairs (λ q r. q ≢ r) rs) (apart : AreApart (length b.targets) sets) (wide : (r : TupleRef) (row : Row) → get b.rows r ≡ Some row → length b.targets ≤ length row.cells + 1) where
       held_at : (r : TupleRef) → Contains rs r → (row : Row) × (get b.rows r ≡ Some row)
@@ -130,15 +130,15 @@ module _ (b a : RelationState) (rs : List TupleRef) (sets : List CellSet) (chang
         pub links_set : count_by test (relation_links a) + count_by test (links_at b sets rs) ≡ count_by test (relation_links b) + length rs * count_by test (set_links b.targets sets)
         unfolding relation_links links_at
         links_set =
-            let listed : count_by test (relation_links a) ≡ sum_by after b.by_key =
-            counted_by_row test (λ r. option_map_or (row_links a.targets) (get a.rows r) []) a.by_key
+            let listed : count_by test (relation_links a) ≡ sum_by after (tree_list b.by_key) =
+            counted_by_row test (λ r. option_map_or (row_links a.targets) (get a.rows r) []) (tree_list a.by_key)
             ∙ (λ i. sum_by (λ r. count_by test (option_map_or (row_links (changed.keeps.targets i)) (get a.rows r) [])) (by_key_set i)) in
-            let was_listed : count_by test (relation_links b) ≡ sum_by before b.by_key =
-            counted_by_row test (λ r. option_map_or (row_links b.targets) (get b.rows r) []) b.by_key in
+            let was_listed : count_by test (relation_links b) ≡ sum_by before (tree_list b.by_key) =
+            counted_by_row test (λ r. option_map_or (row_links b.targets) (get b.rows r) []) (tree_list b.by_key) in
             let lost : count_by test (links_at b sets rs) ≡ sum_by gone rs =
             counted_by_row test (λ r. option_map_or (row_links_at b.targets sets) (get b.rows r) []) rs in
-            let whole = sum_changed before after b.by_key rs
-            (rising_apart (column_cmp no_keys 0 b.rows) (column_cmp_total no_keys 0 b.rows) b.by_key was.keyed.rising) once
+            let whole = sum_changed before after (tree_list b.by_key) rs
+            (rising_apart (column_cmp no_keys 0 b.rows) (column_cmp_total no_keys 0 b.rows) (tree_list b.by_key) was.keyed.rising) once
             (λ r h. was.keyed.lists.listed r (All-contains (λ q. IsSome (get b.rows q)) rs r held h))
             (λ r never. ap (λ o. count_by test (option_map_or (row_links b.targets) o [])) (changed.rows.others r never)) in
             let shifted = sum_shifted before after gone (count_by test (set_links b.targets sets)) rs links_shifted in
@@ -200,10 +200,10 @@ module _ (b a : RelationState) (rs : List TupleRef) (sets : List CellSet) (chang
         unfolding rows_of
         rows_set told =
             (λ i. map (values_of keys (length (changed.keeps.schema i).columns) a.rows) (by_key_set i))
-            ∙ map_same (values_of keys (length b.schema.columns) a.rows) (λ r. assigned_if (shown r)) b.by_key
-            (λ r h. let there = told r (All-contains (λ q. IsSome (get b.rows q)) b.by_key r was.keyed.lists.held h) in
+            ∙ map_same (values_of keys (length b.schema.columns) a.rows) (λ r. assigned_if (shown r)) (tree_list b.by_key)
+            (λ r h. let there = told r (All-contains (λ q. IsSome (get b.rows q)) (tree_list b.by_key) r was.keyed.lists.held h) in
             elim (among_or_not rs r) [
               | inl among ↦ picked_shows r among (there.0 among)
               | inr never ↦ others_show r never there.1
             ])
-            ∙ sym (map-map assigned_if shown b.by_key)
+            ∙ sym (map-map assigned_if shown (tree_list b.by_key))

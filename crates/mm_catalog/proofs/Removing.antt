@@ -16,7 +16,7 @@ use Rattle.mm_relation.specs.declared.row.Row.{Row}
 use Rattle.mm_relation.specs.Changes.{IsRemoved}
 use Rattle.mm_relation.specs.Order.{column_cmp, column_cmp_strict}
 use Rattle.mm_relation.specs.Reading.{key_at, link_in, row_value, value_at}
-use Rattle.mm_relation.specs.State.{RelationState, IsKept, IsCurrent, linked_keys, no_keys}
+use Rattle.mm_relation.specs.State.{tree_list, RelationState, IsKept, IsCurrent, linked_keys, no_keys}
 use Rattle.mm_relation.proofs.KeyOrder.{key_readable}
 use Rattle.mm_relation.proofs.Setting.{not_before}
 use Rattle.mm_catalog.specs.Linked.{Linked, target_at, link_at, row_links, relation_links, is_link_to}
@@ -47,9 +47,9 @@ sum_alike f g (x ∷ xs) same =
 abbrev passing : (Linked → Bool) → RelationState → TupleRef → ℕ
 passing test s r = count_by test (option_map_or (row_links s.targets) (get s.rows r) [])
 
-links_by_row : (test : Linked → Bool) (s : RelationState) → count_by test (relation_links s) ≡ sum_by (passing test s) s.by_key
+links_by_row : (test : Linked → Bool) (s : RelationState) → count_by test (relation_links s) ≡ sum_by (passing test s) (tree_list s.by_key)
 unfolding relation_links
-links_by_row test s = counted_by_row test (λ r. option_map_or (row_links s.targets) (get s.rows r) []) s.by_key
+links_by_row test s = counted_by_row test (λ r. option_map_or (row_links s.targets) (get s.rows r) []) (tree_list s.by_key)
 
 passing_row : (test : Linked → Bool) (s : RelationState) (r : TupleRef) (row : Row) → get s.rows r ≡ Some row → passing test s r ≡ count_by test (row_links s.targets row)
 passing_row test s r row at = ap (λ o. count_by test (option_map_or (row_links s.targets) o [])) at
@@ -58,14 +58,14 @@ passing_row test s r row at = ap (λ o. count_by test (option_map_or (row_links 
 pub row_links_within : (test : Linked → Bool) (s : RelationState) (r : TupleRef) (row : Row) → IsKept s → get s.rows r ≡ Some row → count_by test (row_links s.targets row) ≤ count_by test (relation_links s)
 row_links_within test s r row kept at =
     let listed = kept.keyed.lists.listed r (ap is_some at) in
-    let part = get_or-le-sum_by (passing test s) s.by_key listed.0 r listed.1 in
-    let here : passing test s (get_or s.by_key listed.0 r) ≡ count_by test (row_links s.targets row) = ap (passing test s) listed.2 ∙ passing_row test s r row at in
+    let part = get_or-le-sum_by (passing test s) (tree_list s.by_key) listed.0 r listed.1 in
+    let here : passing test s (get_or (tree_list s.by_key) listed.0 r) ≡ count_by test (row_links s.targets row) = ap (passing test s) listed.2 ∙ passing_row test s r row at in
     omega (arith, part, here, links_by_row test s)
 
 module _ (old new : RelationState) (kept : IsKept old) (now : IsKept new) (r : TupleRef) (row : Row) (at : get old.rows r ≡ Some row) (removed : IsRemoved old new r) (test : Linked → Bool) where
-  left : (k : ℕ) (d : TupleRef) → k < length new.by_key → get new.rows (get_or new.by_key k d) ≡ get old.rows (get_or new.by_key k d)
+  left : (k : ℕ) (d : TupleRef) → k < length (tree_list new.by_key) → get new.rows (get_or (tree_list new.by_key) k d) ≡ get old.rows (get_or (tree_list new.by_key) k d)
   left k d l =
-      let q = get_or new.by_key k d in
+      let q = get_or (tree_list new.by_key) k d in
       ap (λ (tuples : Tuples Row). get tuples q) removed.rows
       ∙ elim (same_or_other q r) [
         | inl same ↦
@@ -75,9 +75,9 @@ module _ (old new : RelationState) (kept : IsKept old) (now : IsKept new) (r : T
         | inr other ↦ get-remove_other old.rows r q other
       ]
 
-  same_passing : All (λ q. passing test new q ≡ passing test old q) new.by_key
+  same_passing : All (λ q. passing test new q ≡ passing test old q) (tree_list new.by_key)
   same_passing k d l =
-      ap (λ targets. count_by test (option_map_or (row_links targets) (get new.rows (get_or new.by_key k d)) [])) removed.keeps.targets
+      ap (λ targets. count_by test (option_map_or (row_links targets) (get new.rows (get_or (tree_list new.by_key) k d)) [])) removed.keeps.targets
       ∙ ap (λ o. count_by test (option_map_or (row_links old.targets) o [])) (left k d l)
 
   -- the row's links are those that go
@@ -86,13 +86,13 @@ module _ (old new : RelationState) (kept : IsKept old) (now : IsKept new) (r : T
       let held : IsSome (get old.rows r) = ap is_some at in
       let there = kept.keyed.lists.listed r held in
       let f = passing test old in
-      let xs = old.by_key in
-      let list : new.by_key ≡ take there.0 xs ++ drop (there.0 + 1) xs =
+      let xs = (tree_list old.by_key) in
+      let list : (tree_list new.by_key) ≡ take there.0 xs ++ drop (there.0 + 1) xs =
       keys_removed old new kept now r held removed
       ∙ remove_by_member (λ q. IsSome (value_at no_keys 0 old.rows q)) (column_cmp no_keys 0 old.rows) (column_cmp_strict no_keys 0 old.rows kept.keyed.keys_differ) r xs
       (λ k d l. key_readable old.rows (get_or xs k d) (kept.keyed.lists.held k d l)) (key_readable old.rows r held) kept.keyed.rising there in
       let rest : count_by test (relation_links new) ≡ sum_by f (take there.0 xs) + sum_by f (drop (there.0 + 1) xs) =
-      links_by_row test new ∙ sum_alike (passing test new) f new.by_key same_passing ∙ ap (sum_by f) list ∙ sum_by-append f (take there.0 xs) (drop (there.0 + 1) xs) in
+      links_by_row test new ∙ sum_alike (passing test new) f (tree_list new.by_key) same_passing ∙ ap (sum_by f) list ∙ sum_by-append f (take there.0 xs) (drop (there.0 + 1) xs) in
       let here : f (get_or xs there.0 r) ≡ count_by test (row_links old.targets row) = ap f there.2 ∙ passing_row test old r row at in
       omega (arith, rest, here, links_by_row test old, sum_by-take-drop f xs there.0, sum_by-drop_more f xs there.0 r there.1)
 

@@ -13,7 +13,7 @@ use Rattle.part_raw.specs.declared.tuple_ref.TupleRef.{TupleRef}
 use Rattle.plain_tables.specs.Tables.{Table}
 use Rattle.mm_relation.specs.declared.row.Row.{Row}
 use Rattle.mm_relation.specs.Reading.{Keys, key_at, link_in}
-use Rattle.mm_relation.specs.State.{RelationState, IsKept, IsCurrent, linked_keys}
+use Rattle.mm_relation.specs.State.{tree_list, RelationState, IsKept, IsCurrent, linked_keys}
 use Rattle.mm_catalog.specs.State.{CatalogState}
 use Rattle.mm_catalog.specs.Seen.{database_of, table_of, rows_of, plain_index}
 use Rattle.mm_catalog.specs.Linked.{Linked, target_at, link_at, row_links, relation_links, links, is_link_to, links_to}
@@ -146,7 +146,7 @@ module _ (gone table : ℕ) (r : TupleRef) (stays : table ≢ gone) where
   relation_moved : (s : RelationState) → LeadElsewhere s.targets gone → count_by now (relation_links (renumbered gone s)) ≡ count_by before (relation_links s)
   unfolding relation_links
   relation_moved s elsewhere =
-      count-flat_map (λ q. option_map_or (row_links (map (option_map (moved_up gone)) s.targets)) (finite.get s.rows q) []) (λ q. option_map_or (row_links s.targets) (finite.get s.rows q) []) now before s.by_key
+      count-flat_map (λ q. option_map_or (row_links (map (option_map (moved_up gone)) s.targets)) (finite.get s.rows q) []) (λ q. option_map_or (row_links s.targets) (finite.get s.rows q) []) now before (tree_list s.by_key)
       (λ k q at. found_moved s.targets (finite.get s.rows q) elsewhere)
 
   -- as many links as before name a row, but for those of what goes

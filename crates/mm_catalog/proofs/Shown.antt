@@ -18,7 +18,7 @@ use Rattle.plain_tables.proofs.RowLemmas.{key_cmp_total}
 use Rattle.mm_relation.specs.declared.row.Row.{Row}
 use Rattle.mm_relation.specs.Changes.{IsInserted}
 use Rattle.mm_relation.specs.Reading.{Keys}
-use Rattle.mm_relation.specs.State.{RelationState, IsKept, HasKey}
+use Rattle.mm_relation.specs.State.{tree_list, RelationState, IsKept, HasKey}
 use Rattle.mm_relation.proofs.KeyOrder.{same_elsewhere}
 use Rattle.mm_catalog.specs.Seen.{row_values, values_of, rows_of}
 use Rattle.mm_catalog.proofs.Keyed.{place_beside, keys_inserted}
@@ -61,23 +61,23 @@ module _ (old new : RelationState) (kept : IsKept old) (now : IsKept new) (r : T
   abbrev after : TupleRef → List Value
   after = values_of keys width new.rows
 
-  there : (k : ℕ) (d : TupleRef) → k < length old.by_key → get (insert old.rows r row) (get_or old.by_key k d) ≡ get old.rows (get_or old.by_key k d)
-  there k d l = same_elsewhere old.rows old.by_key r row kept.keyed inserted.free (get_or old.by_key k d) (All-contains_itself old.by_key k d l)
+  there : (k : ℕ) (d : TupleRef) → k < length (tree_list old.by_key) → get (insert old.rows r row) (get_or (tree_list old.by_key) k d) ≡ get old.rows (get_or (tree_list old.by_key) k d)
+  there k d l = same_elsewhere old.rows (tree_list old.by_key) r row kept.keyed inserted.free (get_or (tree_list old.by_key) k d) (All-contains_itself (tree_list old.by_key) k d l)
 
-  same_values : All (λ q. after q ≡ before q) old.by_key
+  same_values : All (λ q. after q ≡ before q) (tree_list old.by_key)
   unfolding values_of
   same_values = λ k d l.
-      ap (λ o. option_map_or (row_values keys width) o []) (ap (λ rows. get rows (get_or old.by_key k d)) inserted.rows ∙ there k d l)
+      ap (λ o. option_map_or (row_values keys width) o []) (ap (λ rows. get rows (get_or (tree_list old.by_key) k d)) inserted.rows ∙ there k d l)
 
   row_after : after r ≡ row_values keys width row
   unfolding values_of
   row_after = ap (λ o. option_map_or (row_values keys width) o []) (ap (λ rows. get rows r) inserted.rows ∙ get-insert_same old.rows r row)
 
   -- a row's place beside the new one is the order of the two
-  placed : (k : ℕ) (d : TupleRef) → k < length old.by_key → place_beside old.rows r row (get_or old.by_key k d) ≡ key_cmp (before (get_or old.by_key k d)) (row_values keys width row)
+  placed : (k : ℕ) (d : TupleRef) → k < length (tree_list old.by_key) → place_beside old.rows r row (get_or (tree_list old.by_key) k d) ≡ key_cmp (before (get_or (tree_list old.by_key) k d)) (row_values keys width row)
   unfolding values_of
   placed k d l =
-      let q = get_or old.by_key k d in
+      let q = get_or (tree_list old.by_key) k d in
       let found = held_tuple old.rows q (kept.keyed.lists.held k d l) in
       ap (λ o. option_cmp value_cmp (option_and_then (λ (t : Row). Some t.key) o) (Some row.key)) (there k d l ∙ found.1)
       ∙ sym (compared keys width found.0 row some)
@@ -88,12 +88,12 @@ module _ (old new : RelationState) (kept : IsKept old) (now : IsKept new) (r : T
   unfolding rows_of insert_placed
   rows_inserted =
       ap (map after) (keys_inserted old new kept now r row inserted absent)
-      ∙ map-append after (filter (λ q. is_lt (place_beside old.rows r row q)) old.by_key) (r ∷ filter (λ q. is_gt (place_beside old.rows r row q)) old.by_key)
-      ∙ ap (λ ys. ys ++ after r ∷ map after (filter (λ q. is_gt (place_beside old.rows r row q)) old.by_key))
-      (map_filter after before (λ q. is_lt (place_beside old.rows r row q)) (λ s. is_lt (key_cmp s (row_values keys width row))) old.by_key same_values
+      ∙ map-append after (filter (λ q. is_lt (place_beside old.rows r row q)) (tree_list old.by_key)) (r ∷ filter (λ q. is_gt (place_beside old.rows r row q)) (tree_list old.by_key))
+      ∙ ap (λ ys. ys ++ after r ∷ map after (filter (λ q. is_gt (place_beside old.rows r row q)) (tree_list old.by_key)))
+      (map_filter after before (λ q. is_lt (place_beside old.rows r row q)) (λ s. is_lt (key_cmp s (row_values keys width row))) (tree_list old.by_key) same_values
       (λ k d l. ap is_lt (placed k d l)))
-      ∙ ap (λ v. filter (λ s. is_lt (key_cmp s (row_values keys width row))) (map before old.by_key) ++ v ∷ map after (filter (λ q. is_gt (place_beside old.rows r row q)) old.by_key)) row_after
-      ∙ ap (λ ys. filter (λ s. is_lt (key_cmp s (row_values keys width row))) (map before old.by_key) ++ row_values keys width row ∷ ys)
-      (map_filter after before (λ q. is_gt (place_beside old.rows r row q)) (λ s. is_lt (key_cmp (row_values keys width row) s)) old.by_key same_values
-      (λ k d l. ap is_gt (placed k d l) ∙ turned (key_cmp (before (get_or old.by_key k d)) (row_values keys width row))
-      ∙ ap is_lt (sym (key_cmp_total.antisymm (row_values keys width row) (before (get_or old.by_key k d))))))
+      ∙ ap (λ v. filter (λ s. is_lt (key_cmp s (row_values keys width row))) (map before (tree_list old.by_key)) ++ v ∷ map after (filter (λ q. is_gt (place_beside old.rows r row q)) (tree_list old.by_key))) row_after
+      ∙ ap (λ ys. filter (λ s. is_lt (key_cmp s (row_values keys width row))) (map before (tree_list old.by_key)) ++ row_values keys width row ∷ ys)
+      (map_filter after before (λ q. is_gt (place_beside old.rows r row q)) (λ s. is_lt (key_cmp (row_values keys width row) s)) (tree_list old.by_key) same_values
+      (λ k d l. ap is_gt (placed k d l) ∙ turned (key_cmp (before (get_or (tree_list old.by_key) k d)) (row_values keys width row))
+      ∙ ap is_lt (sym (key_cmp_total.antisymm (row_values keys width row) (before (get_or (tree_list old.by_key) k d))))))

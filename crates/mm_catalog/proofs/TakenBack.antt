@@ -15,7 +15,7 @@ use Rattle.part_raw.proofs.Tuples.{same_ref_self, same_ref_true, same_tuples}
 use Rattle.mm_relation.specs.declared.row.Row.{Row}
 use Rattle.mm_relation.specs.Changes.{KeepsSchema}
 use Rattle.mm_relation.specs.Reading.{key_at}
-use Rattle.mm_relation.specs.State.{RelationState, IsKeyed, linked_keys}
+use Rattle.mm_relation.specs.State.{tree_list, RelationState, IsKeyed, linked_keys}
 use Rattle.mm_catalog.specs.State.{CatalogState}
 use Rattle.mm_catalog.specs.Seen.{database_of, table_of, rows_of, values_of, plain_index}
 use Rattle.mm_catalog.specs.Consistent.{IsConsistent}
@@ -60,9 +60,9 @@ module _ (c : CatalogState) (ok : IsConsistent c) (d e : CatalogState) (n : ℕ)
   rows_again : z.rows ≡ b.rows
   rows_again = same_tuples z.rows b.rows (λ q. by_member q (list_any (same_ref q) refs) refl)
 
-  keys_again : z.by_key ≡ b.by_key
+  keys_again : (tree_list z.by_key) ≡ (tree_list b.by_key)
   keys_again =
-      keyed_unique b.rows z.by_key b.by_key (subst (λ rows. IsKeyed rows z.by_key) rows_again gone.deleted.kept.keyed)
+      keyed_unique b.rows (tree_list z.by_key) (tree_list b.by_key) (subst (λ rows. IsKeyed rows (tree_list z.by_key)) rows_again gone.deleted.kept.keyed)
       (among_at c ok n b h.rewritten.there).kept.keyed
 
   keeps : KeepsSchema b z

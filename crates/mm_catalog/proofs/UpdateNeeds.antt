@@ -20,7 +20,7 @@ use Rattle.plain_tables.specs.declared.resolved.Assignment.{Assignment}
 use Rattle.mm_relation.proofs.Setting.{no_more}
 use Rattle.mm_relation.specs.Changes.{IsChanged}
 use Rattle.mm_relation.specs.Reading.{cell_value, key_at, link_of}
-use Rattle.mm_relation.specs.State.{RelationState, IsCurrent, IsKept, linked_keys}
+use Rattle.mm_relation.specs.State.{tree_list, RelationState, IsCurrent, IsKept, linked_keys}
 use Rattle.mm_relation.specs.declared.row.Cell.{Cell}
 use Rattle.mm_relation.specs.declared.row.Cell.TheVariants.{Held, Link as Named}
 use Rattle.mm_relation.specs.declared.row.Row.{Row}
@@ -200,7 +200,7 @@ module _ (k : CatalogState) (ok : IsConsistent k) (n : ℕ) (b : RelationState) 
       few_rows : length rs ≤ 16777216
       few_rows =
           let kept = (among_at k ok n b there).kept in
-          let some = no_more rs b.by_key once (λ r h. kept.keyed.lists.listed r (All-contains (λ q. IsSome (get b.rows q)) rs r held h)) in
+          let some = no_more rs (tree_list b.by_key) once (λ r h. kept.keyed.lists.listed r (All-contains (λ q. IsSome (get b.rows q)) rs r held h)) in
           omega (arith, some, kept.keyed.lists.count, kept.few)
 
       -- there is room for the links that come

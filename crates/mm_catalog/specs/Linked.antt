@@ -14,7 +14,7 @@ use Rattle.plain_tables.specs.declared.value.Value.TheVariants.{Null}
 use Rattle.mm_relation.specs.declared.row.Row.{Row}
 use Rattle.mm_relation.specs.declared.row.Cell.TheVariants.{Held}
 use Rattle.mm_relation.specs.Reading.{link_in}
-use Rattle.mm_relation.specs.State.{RelationState}
+use Rattle.mm_relation.specs.State.{tree_list, RelationState}
 
 -- where the links of a column lead: the number of the table that it refers to
 abbrev pub target_of : List (List ℕ) → Column → Option ℕ
@@ -37,7 +37,7 @@ unfoldable pub row_links : List (Option ℕ) → Row → List Linked
 row_links targets row = filter_map (link_at targets row) (range_with_len 0 (length targets))
 
 unfoldable pub relation_links : RelationState → List Linked
-relation_links s = flat_map (λ r. option_map_or (row_links s.targets) (finite.get s.rows r) []) s.by_key
+relation_links s = flat_map (λ r. option_map_or (row_links s.targets) (finite.get s.rows r) []) (tree_list s.by_key)
 
 unfoldable pub links : List RelationState → List Linked
 links relations = flat_map relation_links relations

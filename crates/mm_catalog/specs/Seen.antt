@@ -13,7 +13,7 @@ use Rattle.mm_relation.specs.declared.row.Row.{Row}
 use Rattle.mm_relation.specs.declared.numbers.DeclaredIndex.{DeclaredIndex}
 use Rattle.plain_tables.specs.declared.schema.IndexKind.{IndexKind}
 use Rattle.mm_relation.specs.Reading.{Keys, row_value}
-use Rattle.mm_relation.specs.State.{RelationState, linked_keys}
+use Rattle.mm_relation.specs.State.{tree_list, RelationState, linked_keys}
 use Rattle.mm_catalog.specs.State.{CatalogState}
 
 -- the value that is read, or null where there is none to read
@@ -31,7 +31,7 @@ values_of keys width rows r = option_map_or (row_values keys width) (finite.get 
 
 -- the rows of a relation, in the order of their keys
 unfoldable pub rows_of : Keys → RelationState → List (List Value)
-rows_of keys s = map (values_of keys (length s.schema.columns) s.rows) s.by_key
+rows_of keys s = map (values_of keys (length s.schema.columns) s.rows) (tree_list s.by_key)
 
 -- a declaration as a plain table has it: the number of its column, and its kind
 abbrev pub plain_index : DeclaredIndex → ℕ × IndexKind

@@ -1,5 +1,5 @@
 //! The tables, and what they are called.
-ghost use Rattle.std.specs.Prelude.{◌≡◌, ◌≢◌, ◌<◌, ◌≤◌, ◌⊎◌, Bool, [], Some, IfErr, IfOk, OnOk, OnErr, length, map, position, slice_get};
+ghost use Rattle.std.specs.Prelude.{◌≡◌, ◌≢◌, ◌<◌, ◌≤◌, ◌⊎◌, Bool, [], Some, IfSome, IfNone, IfErr, IfOk, OnOk, OnErr, length, map, position, slice_get};
 ghost use Rattle.std.specs.List.{AllPairs};
 ghost use Rattle.std.specs.Option.{option_map};
 
@@ -12,7 +12,7 @@ use crate::load::{in_record, room_for};
 use crate::removal::{renumber_behind, unlink};
 use crate::updating::set_rows;
 use indexmap::IndexSet;
-use mm_relation::{DeclaredIndex, Relation, Relations};
+use mm_relation::{DeclaredIndex, Relation, Relations, TreeShape};
 use no_memory::NoMemory;
 use part_raw::TupleRef;
 use plain_tables::{
@@ -61,6 +61,9 @@ impl Catalog {
     ghost use Rattle.mm_catalog.specs.Picked.{ArePicked, HoldsRows};
     ghost use Rattle.plain_tables.specs.Databases.{is_named};
     ghost use Rattle.mm_catalog.specs.Resolve.{table_number};
+    ghost use Rattle.mm_catalog.specs.Trees.{TellsTree};
+    ghost use Rattle.mm_relation.specs.Changes.{HasTree};
+    ghost use Rattle.mm_relation.specs.State.{RelationState};
 
     /// A catalog of no tables, under these limits. It takes no memory.
     pub fn new(alloc: Global, limits: Limits) -> Catalog
@@ -126,6 +129,21 @@ impl Catalog {
     {
         let number = self.names.get_index_of(name.as_str())?;
         Some(TableNumber(number))
+    }
+
+    /// How the tree on a column of a table stands, where there is one: that of its key, or the first declared one. Its height,
+    /// its nodes and its references, one for each row of the table. No node has more than 32 of them, each with two children
+    /// at least 30, and each with one child at least 31 together with it.
+    pub fn tree_shape(&self, table: TableNumber, column: ColumnNumber) -> Option<TreeShape>
+        requires { table.0 < length (database_of self.now) }
+        ensures told { IfSome result (TellsTree self.now table.0 column.0) }
+        ensures none { IfNone result ((s : RelationState) → slice_get self.now.relations table.0 ≡ Some s → ¬ (HasTree s column.0)) }
+    {
+        let relation = &self.relations[table.0];
+        if !relation.has_tree(column) {
+            return None;
+        }
+        Some(relation.tree_shape(column))
     }
 
     /// Declares a table, which stands last. Its links lead into the tables that its columns refer to.

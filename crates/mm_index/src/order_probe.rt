@@ -6,15 +6,16 @@ use crate::tuple_order::TupleOrder;
 use part_raw::TupleRef;
 use std::cmp::Ordering;
 
-/// Places references beside the sought one by an order: only the sought one is `Equal`.
+/// Places references beside the sought one by an order: only the sought one is `Equal`. Who is handed it can ask the order
+/// through it alone, so it counts each comparison.
 #[derive(Drop)]
 pub struct OrderProbe<'a, O> {
-    /// The order by which it places.
-    pub order: &'a O,
-    /// The reference that alone is in the range.
-    pub sought: TupleRef,
-    /// How often it was asked.
-    pub asked: u64,
+    // The order by which it places.
+    order: &'a O,
+    // The reference that alone is in the range.
+    sought: TupleRef,
+    // How often it was asked.
+    asked: u64,
 }
 
 impl<'a, O: TupleOrder> OrderProbe<'a, O> {
@@ -29,6 +30,13 @@ impl<'a, O: TupleOrder> OrderProbe<'a, O> {
             sought,
             asked: 0,
         }
+    }
+
+    /// The reference that it seeks.
+    pub fn sought(&self) -> TupleRef
+        ensures { result ≡ self.now.sought }
+    {
+        self.sought
     }
 }
 

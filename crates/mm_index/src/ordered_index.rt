@@ -8,6 +8,7 @@ ghost use Rattle.mm_index.specs.Order.{IsRising, insert_by, insert_placed, remov
 ghost use Rattle.mm_index.specs.Range.{NeverFalls, in_range};
 
 use crate::MAX_LEN;
+use crate::order_probe::OrderProbe;
 use crate::probe::Probe;
 use crate::tuple_order::TupleOrder;
 use no_memory::NoMemory;
@@ -32,35 +33,37 @@ pub trait OrderedIndex {
         ensures reserved { OnOk result (n ≤ room self.new) }
         ensures room { room self.old ≤ room self.new };
 
-    /// Puts `r` at its place. Takes no memory.
-    fn insert<O: TupleOrder>(&mut self, order: &O, r: TupleRef)
-        // There is room for one more, and `r` is not held.
+    /// Puts the reference that the probe seeks at its place. It searches once, and takes no memory.
+    fn insert<O: TupleOrder>(&mut self, probe: &mut OrderProbe<'_, O>)
+        // There is room for one more, and the reference is not held.
         requires reserved { 0 < room self.old }
         requires short { length (items self.old) < MAX_LEN }
-        requires absent { ¬ (Contains (items self.old) r) }
+        requires absent { ¬ (Contains (items self.old) probe.old.sought) }
 
-        // The list rises by the order, which covers it and `r`.
-        requires sound { O.is_sound order.now }
-        requires covered { All (O.covers order.now) (items self.old) }
-        requires r_covered { O.covers order.now r }
-        requires rising { IsRising (O.cmp order.now) (items self.old) }
+        // The list rises by the order, which covers it and the reference.
+        requires sound { O.is_sound probe.old.order.now }
+        requires covered { All (O.covers probe.old.order.now) (items self.old) }
+        requires r_covered { O.covers probe.old.order.now probe.old.sought }
+        requires rising { IsRising (O.cmp probe.old.order.now) (items self.old) }
 
-        ensures items { items self.new ≡ insert_by (O.cmp order.now) r (items self.old) }
-        ensures rising { IsRising (O.cmp order.now) (items self.new) }
-        ensures room { room self.old ≤ room self.new + 1 };
+        ensures items { items self.new ≡ insert_by (O.cmp probe.old.order.now) probe.old.sought (items self.old) }
+        ensures rising { IsRising (O.cmp probe.old.order.now) (items self.new) }
+        ensures room { room self.old ≤ room self.new + 1 }
+        ensures most_asked { IfSome (most_asked self.old) (λ n. probe.new.asked ≤ probe.old.asked + n) };
 
-    /// Takes `r` out. Takes no memory.
-    fn remove<O: TupleOrder>(&mut self, order: &O, r: TupleRef)
-        requires held { Contains (items self.old) r }
+    /// Takes the reference that the probe seeks out. It searches once, and takes no memory.
+    fn remove<O: TupleOrder>(&mut self, probe: &mut OrderProbe<'_, O>)
+        requires held { Contains (items self.old) probe.old.sought }
 
         // The list rises by the order, which covers it.
-        requires sound { O.is_sound order.now }
-        requires covered { All (O.covers order.now) (items self.old) }
-        requires rising { IsRising (O.cmp order.now) (items self.old) }
+        requires sound { O.is_sound probe.old.order.now }
+        requires covered { All (O.covers probe.old.order.now) (items self.old) }
+        requires rising { IsRising (O.cmp probe.old.order.now) (items self.old) }
 
-        ensures items { items self.new ≡ remove_by (O.cmp order.now) r (items self.old) }
-        ensures rising { IsRising (O.cmp order.now) (items self.new) }
-        ensures room { room self.old ≤ room self.new };
+        ensures items { items self.new ≡ remove_by (O.cmp probe.old.order.now) probe.old.sought (items self.old) }
+        ensures rising { IsRising (O.cmp probe.old.order.now) (items self.new) }
+        ensures room { room self.old ≤ room self.new }
+        ensures most_asked { IfSome (most_asked self.old) (λ n. probe.new.asked ≤ probe.old.asked + n) };
 
     /// A reference in the range of the probe.
     fn find<P: Probe>(&self, probe: &mut P) -> Option<TupleRef>

@@ -55,17 +55,20 @@ pub(crate) fn find_or_place<P: Probe>(items: &[TupleRef], probe: &mut P) -> Resu
     }
 }
 
-// The place of the first reference that does not stand below `r`, or the length.
-pub(crate) fn place_by_order<O: TupleOrder>(items: &[TupleRef], order: &O, r: TupleRef) -> usize
-    requires sound { O.is_sound order.now }
-    requires covered { All (O.covers order.now) items.now }
-    requires r_covered { O.covers order.now r }
-    requires rising { IsRising (O.cmp order.now) items.now }
+// The place of the first reference that does not stand below the one that is sought, or the length.
+pub(crate) fn place_by_order<O: TupleOrder>(
+    items: &[TupleRef],
+    probe: &mut OrderProbe<'_, O>,
+) -> usize
+    requires sound { O.is_sound probe.old.order.now }
+    requires covered { All (O.covers probe.old.order.now) items.now }
+    requires sought_covered { O.covers probe.old.order.now probe.old.sought }
+    requires rising { IsRising (O.cmp probe.old.order.now) items.now }
     ensures bound { result ≤ length items.now }
-    ensures below { AllWithin (λ q. O.cmp order.now q r ≡ Ordering.Less) items.now 0 result }
-    ensures not_below { AllWithin (λ q. O.cmp order.now q r ≢ Ordering.Less) items.now result (length items.now) }
+    ensures below { AllWithin (λ q. O.cmp probe.old.order.now q probe.old.sought ≡ Ordering.Less) items.now 0 result }
+    ensures not_below { AllWithin (λ q. O.cmp probe.old.order.now q probe.old.sought ≢ Ordering.Less) items.now result (length items.now) }
 {
-    first_not_below(items, &mut OrderProbe::new(order, r))
+    first_not_below(items, probe)
 }
 
 // The place of the first reference from `first` on that stands above the range, or the length.

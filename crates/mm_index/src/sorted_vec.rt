@@ -4,6 +4,7 @@ ghost use Rattle.mm_index.specs.Asking.{IsOnlyAsked, counted};
 ghost use Rattle.mm_index.specs.Range.{NeverFalls, from_range};
 ghost use Rattle.std.specs.Iterator.{YieldsFirst, item_count};
 
+use crate::order_probe::OrderProbe;
 use crate::ordered_index::OrderedIndex;
 use crate::probe::Probe;
 use crate::search::{find_or_place, first_not_below, first_not_equal, place_by_order};
@@ -87,13 +88,14 @@ impl OrderedIndex for SortedVec {
         Ok(())
     }
 
-    fn insert<O: TupleOrder>(&mut self, order: &O, r: TupleRef) {
-        let place = place_by_order(self.refs.as_slice(), order, r);
+    fn insert<O: TupleOrder>(&mut self, probe: &mut OrderProbe<'_, O>) {
+        let r = probe.sought();
+        let place = place_by_order(self.refs.as_slice(), probe);
         self.insert_at(place, r);
     }
 
-    fn remove<O: TupleOrder>(&mut self, order: &O, r: TupleRef) {
-        let place = place_by_order(self.refs.as_slice(), order, r);
+    fn remove<O: TupleOrder>(&mut self, probe: &mut OrderProbe<'_, O>) {
+        let place = place_by_order(self.refs.as_slice(), probe);
         self.refs.remove(place);
     }
 

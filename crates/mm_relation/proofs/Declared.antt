@@ -1,5 +1,5 @@
 -- What a relation keeps as it is made, and as indexes of it are declared and dropped.
-use Rattle.ttree.specs.Held.{items_of_tree}
+use Rattle.ttree.specs.Held.{empty as leafless}
 use Rattle.std.proofs.Common.{Bool, true, false, not, Result, Ok, Err, OnOk, OnErr, ◌&&◌, ◌==◌, ◌≡◌, ◌<◌, ℕ, List, [], ◌∷◌, ◌++◌, Option, IsSome, is_some, refl, sym, ap, ◌∙◌, arith, subst, length, map, filter}
 use Rattle.std.proofs.lemmas.Bool.{and_parts}
 use Rattle.std.proofs.lemmas.List.{map-append, append-nil}
@@ -20,7 +20,7 @@ use Rattle.mm_relation.specs.declared.trees.TreeOn.{TreeOn}
 use Rattle.mm_relation.specs.declared.hashes.HashOn.{HashOn}
 use Rattle.mm_relation.specs.declared.indexes.Indexes.{Indexes}
 use Rattle.mm_relation.specs.Reading.{Keys, value_at, row_value}
-use Rattle.mm_relation.specs.State.{IsKept, IsCurrent, TreeServes, HashServes, is_tree}
+use Rattle.mm_relation.specs.State.{RowTree, tree_list, IsKept, IsCurrent, TreeServes, HashServes, is_tree}
 use Rattle.mm_relation.specs.Indexes.{shown_tree, shown_hash, Serve}
 use Rattle.mm_relation.specs.Declaring.{declaration, IsAddedOf, IsDeclaredOf, without_first, is_index, indexes_without_of, without_of}
 use Rattle.mm_relation.specs.Seen.{state}
@@ -54,24 +54,24 @@ not_tree : (b : Bool) → not b ≡ true → b ≡ false
 not_tree true e = absurd (cc)
 not_tree false e = refl
 
-module _ (schema : Schema) (targets : List (Option ℕ)) (declared : List DeclaredIndex) (rows : Tuples Row) (list : List TupleRef) (all : Indexes) (kept : IsKept (state schema targets declared rows list all)) where
-  pub current_with : (keys : Keys) (others : List DeclaredIndex) (new : Indexes) → IsCurrent keys (state schema targets declared rows list all) → Serve keys rows list new → IsCurrent keys (state schema targets others rows list new)
+module _ (schema : Schema) (targets : List (Option ℕ)) (declared : List DeclaredIndex) (rows : Tuples Row) (tree : RowTree) (all : Indexes) (kept : IsKept (state schema targets declared rows tree all)) where
+  pub current_with : (keys : Keys) (others : List DeclaredIndex) (new : Indexes) → IsCurrent keys (state schema targets declared rows tree all) → Serve keys rows (tree_list tree) new → IsCurrent keys (state schema targets others rows tree new)
   current_with keys others new current serves = record { readable = current.readable; trees = serves.trees; hashes = serves.hashes }
 
   -- each row has a value in a column
-  pub read_column : (keys : Keys) → IsCurrent keys (state schema targets declared rows list all) → (c : ℕ) → c < length targets → (q : TupleRef) → IsSome (get rows q) → IsSome (value_at keys c rows q)
+  pub read_column : (keys : Keys) → IsCurrent keys (state schema targets declared rows tree all) → (c : ℕ) → c < length targets → (q : TupleRef) → IsSome (get rows q) → IsSome (value_at keys c rows q)
   read_column keys current c inside q held =
       let found = held_tuple rows q held in
       subst (λ o. IsSome (option_and_then (row_value keys c) o)) (sym found.1) (current.readable q found.0 found.1 c inside)
 
   -- an index more
-  pub kept_added : (kind : IndexKind) (column : ColumnNumber) → column.0 < length targets → (new : Indexes) → IsAddedOf kind column all new → IsKept (state schema targets (declared ++ declaration column kind ∷ []) rows list new)
+  pub kept_added : (kind : IndexKind) (column : ColumnNumber) → column.0 < length targets → (new : Indexes) → IsAddedOf kind column all new → IsKept (state schema targets (declared ++ declaration column kind ∷ []) rows tree new)
   kept_added Tree column inside new (on, same, e) = rw e (record {
     keyed = kept.keyed;
     few = kept.few;
     width = kept.width;
     trees =
-        shown_pushed (λ (t : ℕ × List TupleRef). t.0) shown_tree all.trees on ∙ (λ i. kept.trees i ++ same i ∷ [])
+        shown_pushed (λ (t : ℕ × RowTree). t.0) shown_tree all.trees on ∙ (λ i. kept.trees i ++ same i ∷ [])
         ∙ sym (columns_pushed (λ d. is_tree d.kind) declared (declaration column Tree));
     hashes = kept.hashes ∙ sym (columns_pushed (λ d. not (is_tree d.kind)) declared (declaration column Tree) ∙ append-nil _);
     within = All-push (λ d. d.column.0 < length targets) declared (declaration column Tree) kept.within inside;
@@ -87,25 +87,25 @@ module _ (schema : Schema) (targets : List (Option ℕ)) (declared : List Declar
     within = All-push (λ d. d.column.0 < length targets) declared (declaration column Hash) kept.within inside;
   })
 
-  pub declared_added : (kind : IndexKind) (column : ColumnNumber) (new : Indexes) → IsAddedOf kind column all new → IsDeclaredOf kind column (state schema targets declared rows list all) (state schema targets (declared ++ declaration column kind ∷ []) rows list new)
+  pub declared_added : (kind : IndexKind) (column : ColumnNumber) (new : Indexes) → IsAddedOf kind column all new → IsDeclaredOf kind column (state schema targets declared rows tree all) (state schema targets (declared ++ declaration column kind ∷ []) rows tree new)
   declared_added Tree column new (on, same, e) = (
-    (items_of_tree on.tree),
-    ap (state schema targets (declared ++ declaration column Tree ∷ []) rows list) e
-        ∙ (λ i. record (state schema targets (declared ++ declaration column Tree ∷ []) rows list all) { trees = (map-append shown_tree all.trees (on ∷ []) ∙ (λ j. map shown_tree all.trees ++ (same j, (items_of_tree on.tree)) ∷ [])) i }),
+    on.tree.tree,
+    ap (state schema targets (declared ++ declaration column Tree ∷ []) rows tree) e
+        ∙ (λ i. record (state schema targets (declared ++ declaration column Tree ∷ []) rows tree all) { trees = (map-append shown_tree all.trees (on ∷ []) ∙ (λ j. map shown_tree all.trees ++ (same j, on.tree.tree) ∷ [])) i }),
   )
   declared_added Hash column new (on, same, e) = (
     on.hash.entries,
-    ap (state schema targets (declared ++ declaration column Hash ∷ []) rows list) e
-        ∙ (λ i. record (state schema targets (declared ++ declaration column Hash ∷ []) rows list all) { hashes = (map-append shown_hash all.hashes (on ∷ []) ∙ (λ j. map shown_hash all.hashes ++ (same j, on.hash.entries) ∷ [])) i }),
+    ap (state schema targets (declared ++ declaration column Hash ∷ []) rows tree) e
+        ∙ (λ i. record (state schema targets (declared ++ declaration column Hash ∷ []) rows tree all) { hashes = (map-append shown_hash all.hashes (on ∷ []) ∙ (λ j. map shown_hash all.hashes ++ (same j, on.hash.entries) ∷ [])) i }),
   )
 
   -- an index fewer
-  pub kept_without : (kind : IndexKind) (column : ColumnNumber) → IsKept (state schema targets (without_first (is_index (declaration column kind)) declared) rows list (indexes_without_of kind column.0 all))
+  pub kept_without : (kind : IndexKind) (column : ColumnNumber) → IsKept (state schema targets (without_first (is_index (declaration column kind)) declared) rows tree (indexes_without_of kind column.0 all))
   kept_without Tree column = record {
     keyed = kept.keyed;
     few = kept.few;
     width = kept.width;
-    trees = shown_without (λ (t : ℕ × List TupleRef). t.0) shown_tree all.trees column.0 declared (λ d. is_tree d.kind) kept.trees;
+    trees = shown_without (λ (t : ℕ × RowTree). t.0) shown_tree all.trees column.0 declared (λ d. is_tree d.kind) kept.trees;
     hashes =
         kept.hashes
         ∙ ap (map (λ (d : DeclaredIndex). d.column.0)) (sym (filter-without_other (is_index (declaration column Tree)) (λ d. not (is_tree d.kind)) declared (λ d e. not_hash (is_tree d.kind) (and_parts (d.column.0 == column.0) (is_tree d.kind) e).1)));
@@ -122,20 +122,20 @@ module _ (schema : Schema) (targets : List (Option ℕ)) (declared : List Declar
     within = All-without_first (λ d. d.column.0 < length targets) (is_index (declaration column Hash)) declared kept.within;
   }
 
-  pub state_without : (kind : IndexKind) (column : ColumnNumber) (others : List DeclaredIndex) → state schema targets others rows list (indexes_without_of kind column.0 all) ≡ without_of kind column.0 (state schema targets others rows list all)
-  state_without Tree column others = λ i. record (state schema targets others rows list all) { trees = sym (without_first-map (λ (t : ℕ × List TupleRef). t.0 == column.0) shown_tree all.trees) i }
-  state_without Hash column others = λ i. record (state schema targets others rows list all) { hashes = sym (without_first-map (λ (h : ℕ × List (ℕ × TupleRef)). h.0 == column.0) shown_hash all.hashes) i }
+  pub state_without : (kind : IndexKind) (column : ColumnNumber) (others : List DeclaredIndex) → state schema targets others rows tree (indexes_without_of kind column.0 all) ≡ without_of kind column.0 (state schema targets others rows tree all)
+  state_without Tree column others = λ i. record (state schema targets others rows tree all) { trees = sym (without_first-map (λ (t : ℕ × RowTree). t.0 == column.0) shown_tree all.trees) i }
+  state_without Hash column others = λ i. record (state schema targets others rows tree all) { hashes = sym (without_first-map (λ (h : ℕ × List (ℕ × TupleRef)). h.0 == column.0) shown_hash all.hashes) i }
 
-  pub current_without : (kind : IndexKind) (column : ColumnNumber) (others : List DeclaredIndex) (keys : Keys) → IsCurrent keys (state schema targets declared rows list all) → IsCurrent keys (without_of kind column.0 (state schema targets others rows list all))
+  pub current_without : (kind : IndexKind) (column : ColumnNumber) (others : List DeclaredIndex) (keys : Keys) → IsCurrent keys (state schema targets declared rows tree all) → IsCurrent keys (without_of kind column.0 (state schema targets others rows tree all))
   current_without Tree column others keys current = record {
     readable = current.readable;
-    trees = All-without_first (TreeServes keys rows list) (λ (t : ℕ × List TupleRef). t.0 == column.0) (map shown_tree all.trees) current.trees;
+    trees = All-without_first (TreeServes keys rows (tree_list tree)) (λ (t : ℕ × RowTree). t.0 == column.0) (map shown_tree all.trees) current.trees;
     hashes = current.hashes;
   }
   current_without Hash column others keys current = record {
     readable = current.readable;
     trees = current.trees;
-    hashes = All-without_first (HashServes keys rows list) (λ (h : ℕ × List (ℕ × TupleRef)). h.0 == column.0) (map shown_hash all.hashes) current.hashes;
+    hashes = All-without_first (HashServes keys rows (tree_list tree)) (λ (h : ℕ × List (ℕ × TupleRef)). h.0 == column.0) (map shown_hash all.hashes) current.hashes;
   }
 
 -- no row is there at first
@@ -144,8 +144,8 @@ none_held q h =
     let none : is_some (get (empty {X = Row} {R = ref_cmp}) q) ≡ false = ap is_some (held_at_first q) in
     absurd (cc)
 
-pub kept_new : (schema : Schema) (targets : List (Option ℕ)) (declared : List DeclaredIndex) (rows : Tuples Row) (list : List TupleRef) (all : Indexes) → length targets ≡ length schema.columns → declared ≡ [] → rows ≡ empty → list ≡ [] → all.trees ≡ [] → all.hashes ≡ [] → IsKept (state schema targets declared rows list all)
-kept_new schema targets declared rows list all width no_index no_row no_list no_tree no_hash = rw (no_index, no_row, no_list, no_tree, no_hash) (record {
+pub kept_new : (schema : Schema) (targets : List (Option ℕ)) (declared : List DeclaredIndex) (rows : Tuples Row) (tree : RowTree) (all : Indexes) → length targets ≡ length schema.columns → declared ≡ [] → rows ≡ empty → tree ≡ leafless → all.trees ≡ [] → all.hashes ≡ [] → IsKept (state schema targets declared rows tree all)
+kept_new schema targets declared rows tree all width no_index no_row no_list no_tree no_hash = rw (no_index, no_row, no_list, no_tree, no_hash) (record {
   keyed = record {
     keys_differ = record { apart = λ a b p q e. absurd (none_held a p) };
     lists = record { held = λ k d l. absurd (omega (arith, l)); count = sym (len-empty ref_cmp Row); listed = λ r h. absurd (none_held r h) };
@@ -159,16 +159,16 @@ kept_new schema targets declared rows list all width no_index no_row no_list no_
 })
 
 -- with no rows there is nothing to serve
-pub current_new : (schema : Schema) (targets : List (Option ℕ)) (declared : List DeclaredIndex) (rows : Tuples Row) (list : List TupleRef) (all : Indexes) → rows ≡ empty → all.trees ≡ [] → all.hashes ≡ [] → (keys : Keys) → IsCurrent keys (state schema targets declared rows list all)
-current_new schema targets declared rows list all no_row no_tree no_hash keys = rw (no_row, no_tree, no_hash) (record {
+pub current_new : (schema : Schema) (targets : List (Option ℕ)) (declared : List DeclaredIndex) (rows : Tuples Row) (tree : RowTree) (all : Indexes) → rows ≡ empty → all.trees ≡ [] → all.hashes ≡ [] → (keys : Keys) → IsCurrent keys (state schema targets declared rows tree all)
+current_new schema targets declared rows tree all no_row no_tree no_hash keys = rw (no_row, no_tree, no_hash) (record {
   readable = λ r t e. absurd (none_held r (ap is_some e));
   trees = λ k d l. absurd (omega (arith, l));
   hashes = λ k d l. absurd (omega (arith, l));
 })
 
 -- where a column's links lead is told
-pub kept_told : (schema : Schema) (targets told : List (Option ℕ)) (declared : List DeclaredIndex) (rows : Tuples Row) (list : List TupleRef) (all : Indexes) → length told ≡ length targets → IsKept (state schema targets declared rows list all) → IsKept (state schema told declared rows list all)
-kept_told schema targets told declared rows list all same kept = record {
+pub kept_told : (schema : Schema) (targets told : List (Option ℕ)) (declared : List DeclaredIndex) (rows : Tuples Row) (tree : RowTree) (all : Indexes) → length told ≡ length targets → IsKept (state schema targets declared rows tree all) → IsKept (state schema told declared rows tree all)
+kept_told schema targets told declared rows tree all same kept = record {
   keyed = kept.keyed;
   few = kept.few;
   width = same ∙ kept.width;

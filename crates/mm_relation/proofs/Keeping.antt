@@ -16,12 +16,12 @@ use Rattle.mm_relation.specs.declared.trees.TreeOn.{TreeOn}
 use Rattle.mm_relation.specs.declared.hashes.HashOn.{HashOn}
 use Rattle.mm_relation.specs.declared.indexes.Indexes.{Indexes}
 use Rattle.mm_relation.specs.Reading.{Keys, row_value}
-use Rattle.mm_relation.specs.State.{IsKeyed, IsKept, IsCurrent, IsReadable, is_tree}
+use Rattle.mm_relation.specs.State.{RowTree, tree_list, IsKeyed, IsKept, IsCurrent, IsReadable, is_tree}
 use Rattle.mm_relation.specs.Indexes.{shown_tree, shown_hash, tree_columns, hash_columns, Serve, CanRead, CanReadRow, IsColumn}
 use Rattle.mm_relation.specs.Seen.{state}
 use Rattle.mm_relation.proofs.KeyOrder.{not_taken}
 
-trees_shown : (trees : List TreeOn) → map (λ (t : ℕ × List TupleRef). t.0) (map shown_tree trees) ≡ map (λ (t : TreeOn). t.column.0) trees
+trees_shown : (trees : List TreeOn) → map (λ (t : ℕ × RowTree). t.0) (map shown_tree trees) ≡ map (λ (t : TreeOn). t.column.0) trees
 trees_shown [] = refl
 trees_shown (t ∷ ts) = ap (λ cs. t.column.0 ∷ cs) (trees_shown ts)
 
@@ -31,8 +31,8 @@ hashes_shown (h ∷ hs) = ap (λ cs. h.column.0 ∷ cs) (hashes_shown hs)
 
 module _ (schema : Schema) (targets : List (Option ℕ)) (declared : List DeclaredIndex) where
   -- a relation is seen by what its indexes show
-  pub same_state : (rows now : Tuples Row) (list items : List TupleRef) (all new : Indexes) → now ≡ rows → items ≡ list → map shown_tree new.trees ≡ map shown_tree all.trees → map shown_hash new.hashes ≡ map shown_hash all.hashes → state schema targets declared now items new ≡ state schema targets declared rows list all
-  same_state rows now list items all new r l t h = λ i. record { schema = schema; targets = targets; declared = declared; rows = r i; by_key = l i; trees = t i; hashes = h i }
+  pub same_state : (rows now : Tuples Row) (tree now_tree : RowTree) (all new : Indexes) → now ≡ rows → now_tree ≡ tree → map shown_tree new.trees ≡ map shown_tree all.trees → map shown_hash new.hashes ≡ map shown_hash all.hashes → state schema targets declared now now_tree new ≡ state schema targets declared rows tree all
+  same_state rows now tree now_tree all new r l t h = λ i. record { schema = schema; targets = targets; declared = declared; rows = r i; by_key = l i; trees = t i; hashes = h i }
 
   within_declared : (test : DeclaredIndex → Bool) → All (λ d. d.column.0 < length targets) declared → (c : ℕ) → Contains (map (λ d. d.column.0) (filter test declared)) c → c < length targets
   within_declared test within c h =
@@ -40,7 +40,7 @@ module _ (schema : Schema) (targets : List (Option ℕ)) (declared : List Declar
       let there = Contains-from_filter test declared found.0 found.1 in
       subst (λ n. n < length targets) found.2 (All-contains (λ d. d.column.0 < length targets) declared found.0 within there.0)
 
-  module _ (rows : Tuples Row) (list : List TupleRef) (all : Indexes) (kept : IsKept (state schema targets declared rows list all)) where
+  module _ (rows : Tuples Row) (tree : RowTree) (all : Indexes) (kept : IsKept (state schema targets declared rows tree all)) where
     pub column_within : (c : ℕ) → IsColumn all c → c < length targets
     column_within c column = elim column [
       | inl tree ↦ within_declared (λ d. is_tree d.kind) kept.within c (subst (λ cs. Contains cs c) (sym (trees_shown all.trees) ∙ kept.trees) tree)
@@ -50,17 +50,17 @@ module _ (schema : Schema) (targets : List (Option ℕ)) (declared : List Declar
     pub row_read : (keys : Keys) (row : Row) → IsReadable keys (length targets) row → CanReadRow keys row all
     row_read keys row readable c column = readable c (column_within c column)
 
-    pub can_read : (keys : Keys) → IsCurrent keys (state schema targets declared rows list all) → CanRead keys rows all
+    pub can_read : (keys : Keys) → IsCurrent keys (state schema targets declared rows tree all) → CanRead keys rows all
     can_read keys current c q column held =
         let found = held_tuple rows q held in
         subst (λ o. IsSome (option_and_then (row_value keys c) o)) (sym found.1) (current.readable q found.0 found.1 c (column_within c column))
 
-    pub served : (keys : Keys) → IsCurrent keys (state schema targets declared rows list all) → Serve keys rows list all
+    pub served : (keys : Keys) → IsCurrent keys (state schema targets declared rows tree all) → Serve keys rows (tree_list tree) all
     served keys current = record { trees = current.trees; hashes = current.hashes }
 
     -- what is kept once rows came or went
-    module _ (now : Tuples Row) (items : List TupleRef) (new : Indexes) where
-      pub kept_on : IsKeyed now items → len now ≤ 16777216 → tree_columns new ≡ tree_columns all → hash_columns new ≡ hash_columns all → IsKept (state schema targets declared now items new)
+    module _ (now : Tuples Row) (now_tree : RowTree) (new : Indexes) where
+      pub kept_on : IsKeyed now (tree_list now_tree) → len now ≤ 16777216 → tree_columns new ≡ tree_columns all → hash_columns new ≡ hash_columns all → IsKept (state schema targets declared now now_tree new)
       kept_on keyed few trees hashes = record {
         keyed = keyed;
         few = few;
@@ -70,7 +70,7 @@ module _ (schema : Schema) (targets : List (Option ℕ)) (declared : List Declar
         within = kept.within;
       }
 
-      pub current_on : (keys : Keys) → ((r : TupleRef) (t : Row) → get now r ≡ Some t → IsReadable keys (length targets) t) → Serve keys now items new → IsCurrent keys (state schema targets declared now items new)
+      pub current_on : (keys : Keys) → ((r : TupleRef) (t : Row) → get now r ≡ Some t → IsReadable keys (length targets) t) → Serve keys now (tree_list now_tree) new → IsCurrent keys (state schema targets declared now now_tree new)
       current_on keys readable serves = record { readable = readable; trees = serves.trees; hashes = serves.hashes }
 
 -- each row can be read once one came, or went

@@ -17,8 +17,8 @@ use Rattle.mm_relation.specs.declared.trees.TreeOn.{TreeOn}
 use Rattle.mm_relation.specs.declared.hashes.HashOn.{HashOn}
 use Rattle.mm_relation.specs.Reading.{Keys, value_at}
 use Rattle.mm_relation.specs.Order.{column_cmp, column_cmp_strict}
-use Rattle.mm_relation.specs.State.{IsKeyed, TreeServes, HashServes, no_keys}
-use Rattle.mm_relation.specs.Indexes.{shown_tree, shown_hash, tree_room, hash_room, TreeAwaits, TreeGains, HashAwaits, HashGains}
+use Rattle.mm_relation.specs.State.{RowTree, tree_list, IsKeyed, TreeServes, HashServes, no_keys}
+use Rattle.mm_relation.specs.Indexes.{shown_tree, shown_list, shown_hash, tree_room, hash_room, TreeAwaits, TreeGains, HashAwaits, HashGains}
 use Rattle.mm_relation.proofs.KeyOrder.{key_readable}
 use Rattle.mm_relation.proofs.Serving.{tree_gains, hash_gains, tree_serves_bag, hash_serves_bag}
 
@@ -27,8 +27,8 @@ differ o less equal = let e : Less ≡ Equal = sym less ∙ equal in absurd (cc)
 
 module _ (keys : Keys) (rows : Tuples Row) (list : List TupleRef) (keyed : IsKeyed rows list) where
   -- no row is served at first
-  pub tree_serves_none : (t : ℕ × List TupleRef) → t.1 ≡ [] → TreeServes keys rows [] t
-  tree_serves_none t none = record { bag = IsSameBag-from_same t.1 [] none; rising = rw none (λ i j d l m. absurd (omega (arith, m))) }
+  pub tree_serves_none : (t : ℕ × RowTree) → tree_list t.1 ≡ [] → TreeServes keys rows [] t
+  tree_serves_none t none = record { bag = IsSameBag-from_same (tree_list t.1) [] none; rising = rw none (λ i j d l m. absurd (omega (arith, m))) }
 
   pub hash_serves_none : (h : ℕ × List (ℕ × TupleRef)) → h.1 ≡ [] → HashServes keys rows [] h
   hash_serves_none h none = IsSameBag-from_same h.1 [] none
@@ -65,15 +65,15 @@ module _ (keys : Keys) (rows : Tuples Row) (list : List TupleRef) (keyed : IsKey
 
     pub tree_awaits_next : (on : TreeOn) → len rows ≤ 16777216 → ((q : TupleRef) → IsSome (get rows q) → IsSome (value_at keys on.column.0 rows q)) → TreeServes keys rows seen (shown_tree on) → length (r ∷ rest) ≤ tree_room on → TreeAwaits keys rows r on
     tree_awaits_next on few read serves room =
-        let same : length (shown_tree on).1 ≡ length seen = length-same_bag (shown_tree on).1 seen serves.bag in
+        let same : length (shown_list on) ≡ length seen = length-same_bag (shown_list on) seen serves.bag in
         let short : length seen < 2 ^ 32 = seen_few few in
         record {
           room = omega (arith, room);
           short = omega arith;
-          absent = λ h. absent (Contains-same_refs (shown_tree on).1 seen r serves.bag h);
+          absent = λ h. absent (Contains-same_refs (shown_list on) seen r serves.bag h);
           r_readable = read r r_held;
           tree = record {
-            readable = λ k d l. read (get_or (shown_tree on).1 k d) (seen_held _ (Contains-same_refs (shown_tree on).1 seen _ serves.bag (Contains-get_or (shown_tree on).1 k d l)));
+            readable = λ k d l. read (get_or (shown_list on) k d) (seen_held _ (Contains-same_refs (shown_list on) seen _ serves.bag (Contains-get_or (shown_list on) k d l)));
             rising = serves.rising;
           };
         }

@@ -11,7 +11,7 @@ use Rattle.mm_relation.specs.declared.row.Row.{Row}
 use Rattle.mm_relation.specs.declared.numbers.DeclaredIndex.{DeclaredIndex}
 use Rattle.mm_relation.specs.declared.indexes.Indexes.{Indexes}
 use Rattle.mm_relation.specs.Reading.{Keys, value_at, row_value}
-use Rattle.mm_relation.specs.State.{IsKept, IsCurrent, IsReadable}
+use Rattle.mm_relation.specs.State.{RowTree, tree_list, IsKept, IsCurrent, IsReadable}
 use Rattle.mm_relation.specs.Changes.{with_referrers}
 use Rattle.mm_relation.specs.Seen.{state}
 use Rattle.mm_relation.proofs.KeyOrder.{keyed_again}
@@ -30,10 +30,10 @@ module _ (rows : Tuples Row) (r : TupleRef) (t : Row) (n : ℕ) (found : get row
     | inr other ↦ before q u (sym (get-insert_other rows r q (with_referrers n t) other) ∙ e) c l
   ]
 
-  module _ (schema : Schema) (targets : List (Option ℕ)) (declared : List DeclaredIndex) (list : List TupleRef) (all : Indexes) where
-    pub kept_referred : IsKept (state schema targets declared rows list all) → IsKept (state schema targets declared (insert rows r (with_referrers n t)) list all)
+  module _ (schema : Schema) (targets : List (Option ℕ)) (declared : List DeclaredIndex) (tree : RowTree) (all : Indexes) where
+    pub kept_referred : IsKept (state schema targets declared rows tree all) → IsKept (state schema targets declared (insert rows r (with_referrers n t)) tree all)
     kept_referred kept = record {
-      keyed = keyed_again rows list r t (with_referrers n t) kept.keyed found refl;
+      keyed = keyed_again rows (tree_list tree) r t (with_referrers n t) kept.keyed found refl;
       few = let same : len (insert rows r (with_referrers n t)) ≡ len rows = len-insert_held rows r (with_referrers n t) (ap is_some found) in omega (arith, same, kept.few);
       width = kept.width;
       trees = kept.trees;
@@ -41,20 +41,20 @@ module _ (rows : Tuples Row) (r : TupleRef) (t : Row) (n : ℕ) (found : get row
       within = kept.within;
     }
 
-    pub current_referred : (keys : Keys) → IsCurrent keys (state schema targets declared rows list all) → IsCurrent keys (state schema targets declared (insert rows r (with_referrers n t)) list all)
+    pub current_referred : (keys : Keys) → IsCurrent keys (state schema targets declared rows tree all) → IsCurrent keys (state schema targets declared (insert rows r (with_referrers n t)) tree all)
     current_referred keys current = record {
       readable = readable_same keys (length targets) current.readable;
-      trees = λ k d l. tree_agrees keys rows (insert rows r (with_referrers n t)) list (λ c q _. value_same keys c q) _ (current.trees k d l);
-      hashes = λ k d l. hash_agrees keys rows (insert rows r (with_referrers n t)) list (λ c q _. value_same keys c q) _ (current.hashes k d l);
+      trees = λ k d l. tree_agrees keys rows (insert rows r (with_referrers n t)) (tree_list tree) (λ c q _. value_same keys c q) _ (current.trees k d l);
+      hashes = λ k d l. hash_agrees keys rows (insert rows r (with_referrers n t)) (tree_list tree) (λ c q _. value_same keys c q) _ (current.hashes k d l);
     }
 
 -- the same, told of whatever the row was
-pub kept_after : (rows now : Tuples Row) (r : TupleRef) (count : ℕ → ℕ) → IsSome (get rows r) → ((t : Row) → get rows r ≡ Some t → now ≡ insert rows r (with_referrers (count t.referrers) t)) → (schema : Schema) (targets : List (Option ℕ)) (declared : List DeclaredIndex) (list : List TupleRef) (all : Indexes) → IsKept (state schema targets declared rows list all) → IsKept (state schema targets declared now list all)
-kept_after rows now r count held changed schema targets declared list all kept =
+pub kept_after : (rows now : Tuples Row) (r : TupleRef) (count : ℕ → ℕ) → IsSome (get rows r) → ((t : Row) → get rows r ≡ Some t → now ≡ insert rows r (with_referrers (count t.referrers) t)) → (schema : Schema) (targets : List (Option ℕ)) (declared : List DeclaredIndex) (tree : RowTree) (all : Indexes) → IsKept (state schema targets declared rows tree all) → IsKept (state schema targets declared now tree all)
+kept_after rows now r count held changed schema targets declared tree all kept =
     let found = held_tuple rows r held in
-    rw (changed found.0 found.1) (kept_referred rows r found.0 (count found.0.referrers) found.1 schema targets declared list all kept)
+    rw (changed found.0 found.1) (kept_referred rows r found.0 (count found.0.referrers) found.1 schema targets declared tree all kept)
 
-pub current_after : (rows now : Tuples Row) (r : TupleRef) (count : ℕ → ℕ) → IsSome (get rows r) → ((t : Row) → get rows r ≡ Some t → now ≡ insert rows r (with_referrers (count t.referrers) t)) → (schema : Schema) (targets : List (Option ℕ)) (declared : List DeclaredIndex) (list : List TupleRef) (all : Indexes) (keys : Keys) → IsCurrent keys (state schema targets declared rows list all) → IsCurrent keys (state schema targets declared now list all)
-current_after rows now r count held changed schema targets declared list all keys current =
+pub current_after : (rows now : Tuples Row) (r : TupleRef) (count : ℕ → ℕ) → IsSome (get rows r) → ((t : Row) → get rows r ≡ Some t → now ≡ insert rows r (with_referrers (count t.referrers) t)) → (schema : Schema) (targets : List (Option ℕ)) (declared : List DeclaredIndex) (tree : RowTree) (all : Indexes) (keys : Keys) → IsCurrent keys (state schema targets declared rows tree all) → IsCurrent keys (state schema targets declared now tree all)
+current_after rows now r count held changed schema targets declared tree all keys current =
     let found = held_tuple rows r held in
-    rw (changed found.0 found.1) (current_referred rows r found.0 (count found.0.referrers) found.1 schema targets declared list all keys current)
+    rw (changed found.0 found.1) (current_referred rows r found.0 (count found.0.referrers) found.1 schema targets declared tree all keys current)

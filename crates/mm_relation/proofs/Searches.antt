@@ -1,48 +1,47 @@
--- How often a search compares: few times, by the number of rows.
-use Rattle.std.proofs.Common.{◌≡◌, ◌≤◌, ◌+◌, ◌*◌, ◌-◌, ◌==◌, ℕ, suc, List, [], ◌∷◌, inl, inr, true, false, IsTrue, ◌||◌, refl, arith, subst, length, map}
+-- The tree on a column, and how often a search of it compares.
+use Rattle.std.proofs.Common.{◌≡◌, ◌+◌, ◌*◌, ◌==◌, ℕ, suc, List, [], ◌∷◌, inl, inr, true, false, IsTrue, ◌||◌, refl, sym, ap, ◌∙◌, arith, subst, length}
 use Rattle.std.specs.List.{All, list_any}
-use Rattle.std.proofs.lemmas.Bool.{cases_Bool}
-use Rattle.std.proofs.lemmas.Bool.{eqb-true}
+use Rattle.std.specs.FinMap.{len}
+use Rattle.std.proofs.lemmas.Bool.{cases_Bool, eqb-true}
 use Rattle.part_raw.specs.declared.tuple_ref.TupleRef.{TupleRef}
 use Rattle.part_raw.specs.Store.{Tuples}
 use Rattle.mm_index.proofs.Bags.{length-same_bag}
-use Rattle.ttree.specs.Shape.{fib, binary_digits}
-use Rattle.ttree.specs.Held.{items_of_tree}
+use Rattle.ttree.specs.Held.{height}
+use Rattle.ttree.specs.Shape.{binary_digits}
 use Rattle.mm_relation.specs.declared.row.Row.{Row}
-use Rattle.mm_relation.specs.declared.trees.TreeOn.{TreeOn}
 use Rattle.mm_relation.specs.Reading.{Keys}
-use Rattle.mm_relation.specs.Indexes.{shown_tree}
-use Rattle.mm_relation.specs.Searching.{IsLogarithmic}
-use Rattle.mm_relation.specs.State.{RelationState, TreeServes, HasColumn, tree_of}
-use Rattle.mm_relation.specs.Changes.{HasTree}
+use Rattle.mm_relation.specs.Searching.{most_compared}
+use Rattle.mm_relation.specs.State.{RelationState, RowTree, tree_list, TreeServes, IsKept, IsCurrent, HasColumn, tree_of}
+use Rattle.mm_relation.specs.Changes.{HasTree, tree_on}
 
-digits_of_32 : binary_digits 32 ≡ 6
+pub digits_of_32 : binary_digits 32 ≡ 6
 unfolding binary_digits
 digits_of_32 = refl
 
--- a search of a tree compares no more often than its height bounds
-pub few_asked : (height items asked : ℕ) → fib (height + 2) ≤ 1 + items → asked ≤ 2 * height + binary_digits 32 → IsLogarithmic items asked
-few_asked height items asked bound most = (height, bound, omega (arith, most, digits_of_32))
-
--- so with a probe that was asked before
-pub few_between : (height items before after : ℕ) → fib (height + 2) ≤ 1 + items → after ≤ before + (2 * height + binary_digits 32)
-    → IsLogarithmic items (after - before)
-few_between height items before after bound most = few_asked height items (after - before) bound (omega (arith, most))
-
--- the first tree on a column is the first tree, where that is on the column
-pub tree_of_first : (column : ℕ) (trees rest : List TreeOn) (first : TreeOn) → trees ≡ first ∷ rest → (first.column.0 == column) ≡ true
-    → tree_of column (map shown_tree trees) ≡ items_of_tree first.tree
-tree_of_first column trees rest first split on = rw (split, on) refl
+-- what a search of a tree asks at most is told by its height
+pub most_of : (t on : RowTree) → t ≡ on → 2 * height t + binary_digits 32 ≡ most_compared on
+most_of t on same = let e : height t ≡ height on = ap (λ (u : RowTree). height u) same in omega (arith, digits_of_32)
 
 -- a tree that serves references lists as many
-pub served_length : (keys : Keys) (rows : Tuples Row) (refs : List TupleRef) (column : ℕ) (trees : List (ℕ × List TupleRef)) → HasColumn column trees
-    → All (TreeServes keys rows refs) trees → length (tree_of column trees) ≡ length refs
+served_length : (keys : Keys) (rows : Tuples Row) (refs : List TupleRef) (column : ℕ) (trees : List (ℕ × RowTree)) → HasColumn column trees
+    → All (TreeServes keys rows refs) trees → length (tree_list (tree_of column trees)) ≡ length refs
 served_length keys rows refs column [] has serve = cc
 served_length keys rows refs column (t ∷ trees) has serve =
     elim (cases_Bool (t.0 == column)) [
-      | inl e ↦ rw e (length-same_bag t.1 refs (serve 0 t (omega arith)).bag)
+      | inl e ↦ rw e (length-same_bag (tree_list t.1) refs (serve 0 t (omega arith)).bag)
       | inr f ↦ rw f (served_length keys rows refs column trees (rw f at has) (λ k d l. serve (suc k) d (omega (arith, l))))
     ]
+
+-- the tree of the key lists each row
+pub key_length : (s : RelationState) → IsKept s → (column : ℕ) → column ≡ 0 → length (tree_list (tree_on s column)) ≡ len s.rows
+key_length s kept column e = subst (λ c. length (tree_list (tree_on s c)) ≡ len s.rows) (sym e) kept.keyed.lists.count
+
+-- the tree on a column lists each row
+pub tree_length : (keys : Keys) (s : RelationState) → IsKept s → IsCurrent keys s → (column : ℕ) → HasTree s column → length (tree_list (tree_on s column)) ≡ len s.rows
+tree_length keys s kept current column has = elim (cases_Bool (column == 0)) [
+  | inl e ↦ rw e kept.keyed.lists.count
+  | inr f ↦ rw f (served_length keys s.rows (tree_list s.by_key) column s.trees (subst (λ b. IsTrue (b || list_any (λ t. t.0 == column) s.trees)) f has) current.trees ∙ kept.keyed.lists.count)
+]
 
 -- a column with a tree that is not the key's has a declared one
 pub declared_tree : (s : RelationState) (column : ℕ) → (column ≡ 0 → ⊥) → HasTree s column → HasColumn column s.trees

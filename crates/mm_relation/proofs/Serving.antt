@@ -18,9 +18,9 @@ use Rattle.mm_relation.specs.declared.trees.TreeOn.{TreeOn}
 use Rattle.mm_relation.specs.declared.hashes.HashOn.{HashOn}
 use Rattle.mm_relation.specs.Reading.{Keys, value_at, key_at, hash_at, hash_of_value}
 use Rattle.mm_relation.specs.Order.{KeysDiffer, column_cmp, column_cmp_strict}
-use Rattle.mm_relation.specs.State.{TreeServes, HashServes}
+use Rattle.mm_relation.specs.State.{RowTree, tree_list, TreeServes, HashServes}
 use Rattle.mm_relation.specs.declared.indexes.Indexes.{Indexes}
-use Rattle.mm_relation.specs.Indexes.{Await, Gain, Have, Lose, Serve, HaveRoom, IsColumn, shown_tree, shown_hash, TreeAwaits, TreeGains, TreeHas, TreeLoses, HashGains, HashLoses}
+use Rattle.mm_relation.specs.Indexes.{Await, Gain, Have, Lose, Serve, HaveRoom, IsColumn, shown_tree, shown_list, shown_hash, TreeAwaits, TreeGains, TreeHas, TreeLoses, HashGains, HashLoses}
 
 -- what is left of two bags from which one element is taken
 pub same_behind : {A : Type 0} (x : A) (xs ys : List A) → IsSameBag (x ∷ xs) (x ∷ ys) → IsSameBag xs ys
@@ -76,7 +76,7 @@ map_alike f g (x ∷ xs) same =
     λ i. first i ∷ rest i
 
 module _ (keys : Keys) (rows : Tuples Row) where
-  pub tree_serves_bag : (refs same : List TupleRef) (t : ℕ × List TupleRef) → IsSameBag refs same → TreeServes keys rows refs t → TreeServes keys rows same t
+  pub tree_serves_bag : (refs same : List TupleRef) (t : ℕ × RowTree) → IsSameBag refs same → TreeServes keys rows refs t → TreeServes keys rows same t
   tree_serves_bag refs same t bag serves = record { bag = IsSameBag-trans serves.bag bag; rising = serves.rising }
 
   pub hash_serves_bag : (refs same : List TupleRef) (h : ℕ × List (ℕ × TupleRef)) → IsSameBag refs same → HashServes keys rows refs h → HashServes keys rows same h
@@ -87,7 +87,7 @@ module _ (keys : Keys) (rows : Tuples Row) where
   tree_gains differ refs r old new awaits gains serves = record {
     bag =
         IsSameBag-trans (IsSameBag-from_same _ _ gains.items)
-        (IsSameBag-trans (IsSameBag-insert_by (λ q. IsSome (value_at keys old.column.0 rows q)) (column_cmp keys old.column.0 rows) (column_cmp_strict keys old.column.0 rows differ) r awaits.r_readable (shown_tree old).1 awaits.tree.readable awaits.absent)
+        (IsSameBag-trans (IsSameBag-insert_by (λ q. IsSome (value_at keys old.column.0 rows q)) (column_cmp keys old.column.0 rows) (column_cmp_strict keys old.column.0 rows differ) r awaits.r_readable (shown_list old) awaits.tree.readable awaits.absent)
         (IsSameBag-cons r serves.bag));
     rising = rw gains.column gains.rising;
   }
@@ -105,7 +105,7 @@ module _ (keys : Keys) (rows : Tuples Row) where
         IsSameBag-trans (IsSameBag-from_same _ _ loses.items)
         (same_behind r _ rest
         (IsSameBag-trans (IsSameBag-sym (IsSameBag-remove_by (λ q. IsSome (value_at keys old.column.0 rows q)) (column_cmp keys old.column.0 rows) (column_cmp_strict keys old.column.0 rows differ) r
-        (All-contains (λ q. IsSome (value_at keys old.column.0 rows q)) (shown_tree old).1 r has.tree.readable has.held) (shown_tree old).1 has.tree.readable has.tree.rising has.held))
+        (All-contains (λ q. IsSome (value_at keys old.column.0 rows q)) (shown_list old) r has.tree.readable has.held) (shown_list old) has.tree.readable has.tree.rising has.held))
         (IsSameBag-trans serves.bag bag)));
     rising = rw loses.column loses.rising;
   }
@@ -119,13 +119,13 @@ module _ (keys : Keys) (rows : Tuples Row) where
 
   -- rows that have the same values under the references serve them alike
   module _ (others : Tuples Row) (refs : List TupleRef) (agree : (c : ℕ) (q : TupleRef) → Contains refs q → value_at keys c others q ≡ value_at keys c rows q) where
-    pub tree_agrees : (t : ℕ × List TupleRef) → TreeServes keys rows refs t → TreeServes keys others refs t
+    pub tree_agrees : (t : ℕ × RowTree) → TreeServes keys rows refs t → TreeServes keys others refs t
     tree_agrees t serves = record {
       bag = serves.bag;
-      rising = IsRising-agree (column_cmp keys t.0 rows) (column_cmp keys t.0 others) t.1
+      rising = IsRising-agree (column_cmp keys t.0 rows) (column_cmp keys t.0 others) (tree_list t.1)
           (λ p q hp hq.
-          let in_p : Contains refs p = Contains-same_refs t.1 refs p serves.bag hp in
-          let in_q : Contains refs q = Contains-same_refs t.1 refs q serves.bag hq in
+          let in_p : Contains refs p = Contains-same_refs (tree_list t.1) refs p serves.bag hp in
+          let in_q : Contains refs q = Contains-same_refs (tree_list t.1) refs q serves.bag hq in
           let vp : value_at keys t.0 others p ≡ value_at keys t.0 rows p = agree t.0 p in_p in
           let vq : value_at keys t.0 others q ≡ value_at keys t.0 rows q = agree t.0 q in_q in
           let kp : key_at others p ≡ key_at rows p = agree 0 p in_p in
@@ -146,10 +146,10 @@ module _ (keys : Keys) (rows : Tuples Row) where
 
   -- rows that have the same values in one column, and the same keys, serve its index alike
   module _ (others : Tuples Row) (refs : List TupleRef) where
-    pub tree_agrees_in : (t : ℕ × List TupleRef) → ((q : TupleRef) → value_at keys t.0 others q ≡ value_at keys t.0 rows q) → ((q : TupleRef) → key_at others q ≡ key_at rows q) → TreeServes keys rows refs t → TreeServes keys others refs t
+    pub tree_agrees_in : (t : ℕ × RowTree) → ((q : TupleRef) → value_at keys t.0 others q ≡ value_at keys t.0 rows q) → ((q : TupleRef) → key_at others q ≡ key_at rows q) → TreeServes keys rows refs t → TreeServes keys others refs t
     tree_agrees_in t values same_keys serves = record {
       bag = serves.bag;
-      rising = IsRising-agree (column_cmp keys t.0 rows) (column_cmp keys t.0 others) t.1
+      rising = IsRising-agree (column_cmp keys t.0 rows) (column_cmp keys t.0 others) (tree_list t.1)
           (λ p q hp hq.
           let vp : value_at keys t.0 others p ≡ value_at keys t.0 rows p = values p in
           let vq : value_at keys t.0 others q ≡ value_at keys t.0 rows q = values q in
@@ -200,14 +200,14 @@ module _ (keys : Keys) (rows : Tuples Row) where
           let on = get_or old.trees k d in
           let serves_on = at_tree k d l in
           let column : IsColumn old on.column.0 = inl (Contains-map (λ (t : TreeOn). t.column.0) old.trees on (Contains-get_or old.trees k d l)) in
-          let same : length (shown_tree on).1 ≡ length refs = length-same_bag (shown_tree on).1 refs serves_on.bag in
+          let same : length (shown_list on) ≡ length refs = length-same_bag (shown_list on) refs serves_on.bag in
           record {
             room = room.trees k d l;
             short = omega (arith, same, short);
-            absent = λ h. absent (Contains-same_refs (shown_tree on).1 refs r serves_on.bag h);
+            absent = λ h. absent (Contains-same_refs (shown_list on) refs r serves_on.bag h);
             r_readable = readable on.column.0 r column (0, omega arith, refl);
             tree = record {
-              readable = λ i e m. readable on.column.0 (get_or (shown_tree on).1 i e) column (Contains-cons r refs _ (Contains-same_refs (shown_tree on).1 refs _ serves_on.bag (Contains-get_or (shown_tree on).1 i e m)));
+              readable = λ i e m. readable on.column.0 (get_or (shown_list on) i e) column (Contains-cons r refs _ (Contains-same_refs (shown_list on) refs _ serves_on.bag (Contains-get_or (shown_list on) i e m)));
               rising = serves_on.rising;
             };
           };
@@ -230,9 +230,9 @@ module _ (keys : Keys) (rows : Tuples Row) where
           let serves_on = at_tree k d l in
           let column : IsColumn old on.column.0 = inl (Contains-map (λ (t : TreeOn). t.column.0) old.trees on (Contains-get_or old.trees k d l)) in
           record {
-            held = Contains-same_refs refs (shown_tree on).1 r (IsSameBag-sym serves_on.bag) there;
+            held = Contains-same_refs refs (shown_list on) r (IsSameBag-sym serves_on.bag) there;
             tree = record {
-              readable = λ i e m. readable on.column.0 (get_or (shown_tree on).1 i e) column (Contains-same_refs (shown_tree on).1 refs _ serves_on.bag (Contains-get_or (shown_tree on).1 i e m));
+              readable = λ i e m. readable on.column.0 (get_or (shown_list on) i e) column (Contains-same_refs (shown_list on) refs _ serves_on.bag (Contains-get_or (shown_list on) i e m));
               rising = serves_on.rising;
             };
           };

@@ -9,7 +9,7 @@ use Rattle.std.specs.Option.{option_and_then}
 use Rattle.mm_relation.specs.declared.row.Row.{Row}
 use Rattle.mm_relation.specs.Reading.{Keys, AgreeOnLinks, row_value, value_at, hash_of_value}
 use Rattle.mm_relation.specs.Order.{value_at-agree, orders_alike}
-use Rattle.mm_relation.specs.State.{RelationState, IsCurrent, HashServes}
+use Rattle.mm_relation.specs.State.{RelationState, tree_list, IsCurrent, HashServes}
 
 -- Law: what is current under the keys that links lead to is current under any others that agree on the links of the rows.
 abbrev pub StaysCurrent : Type 0
@@ -38,5 +38,5 @@ stays_current keys others s agree current = record {
       let same = value_at-agree keys others c s.rows agree r in
       subst IsSome (sym (subst (λ o. option_and_then (row_value others c) o ≡ option_and_then (row_value keys c) o) e same)) (current.readable r t e c inside);
   trees = λ k d l. record { bag = (current.trees k d l).bag; rising = orders_alike keys others _ s.rows _ agree (current.trees k d l).rising };
-  hashes = λ k d l. hashed_alike keys others s.rows s.by_key _ agree (current.hashes k d l);
+  hashes = λ k d l. hashed_alike keys others s.rows (tree_list s.by_key) _ agree (current.hashes k d l);
 }

@@ -10,7 +10,7 @@ use Rattle.mm_relation.specs.declared.refusal.RowRefusal.{RowRefusal}
 use Rattle.mm_relation.specs.declared.refusal.RowRefusal.TheVariants.{KeyExists, Full, NoMemory}
 use Rattle.plain_tables.specs.declared.numbers.ColumnNumber.{ColumnNumber}
 use Rattle.mm_relation.specs.Settings.{CellsSet}
-use Rattle.mm_relation.specs.State.{RelationState, tree_of, HasKey, entries_on}
+use Rattle.mm_relation.specs.State.{RelationState, RowTree, tree_list, tree_of, HasKey, entries_on}
 
 -- all but the rows, and with them the indexes' contents, is as it was
 pub record KeepsSchema (old new : RelationState) : Type 0 where
@@ -52,9 +52,13 @@ has_tree_on s column = (column == 0) || list_any (λ t. t.0 == column) s.trees
 abbrev pub HasTree : RelationState → ℕ → Type 0
 HasTree s column = IsTrue (has_tree_on s column)
 
--- the list of the tree on this column
+-- the tree on this column
+abbrev pub tree_on : RelationState → ℕ → RowTree
+tree_on s column = if column == 0 then s.by_key else tree_of column s.trees
+
+-- the references that it lists, in the column's order
 abbrev pub list_of : RelationState → ℕ → List TupleRef
-list_of s column = if column == 0 then s.by_key else tree_of column s.trees
+list_of s column = tree_list (tree_on s column)
 
 -- whether a hash stands on this column
 abbrev pub has_hash_on : RelationState → ℕ → Bool

@@ -2,6 +2,7 @@
 use Rattle.std.specs.Prelude.{Bool, not, ◌&&◌, ◌≡◌, ℕ, ◌==◌, if◌then◌else◌, [], ◌∷◌, ◌++◌, List, Some, None, length, replicate, slice_set}
 use Rattle.std.specs.FinMap as finite
 use Rattle.part_raw.specs.declared.tuple_ref.TupleRef.{TupleRef}
+use Rattle.ttree.specs.Held.{empty}
 use Rattle.plain_tables.specs.declared.schema.Schema.{Schema}
 use Rattle.plain_tables.specs.declared.schema.IndexKind.{IndexKind}
 use Rattle.plain_tables.specs.declared.schema.IndexKind.TheVariants.{Tree, Hash}
@@ -11,12 +12,12 @@ use Rattle.mm_relation.specs.declared.numbers.DeclaredIndex.{DeclaredIndex}
 use Rattle.mm_relation.specs.declared.trees.TreeOn.{TreeOn}
 use Rattle.mm_relation.specs.declared.hashes.HashOn.{HashOn}
 use Rattle.mm_relation.specs.declared.indexes.Indexes.{Indexes}
-use Rattle.mm_relation.specs.State.{RelationState, is_tree}
+use Rattle.mm_relation.specs.State.{RelationState, RowTree, is_tree}
 
 -- these columns and nothing else: no row, no declared index, no column whose links lead anywhere
 abbrev pub new_relation : Schema → RelationState
 new_relation schema =
-    record { schema = schema; targets = replicate (length schema.columns) None; declared = []; rows = finite.empty; by_key = []; trees = []; hashes = [] }
+    record { schema = schema; targets = replicate (length schema.columns) None; declared = []; rows = finite.empty; by_key = empty; trees = []; hashes = [] }
 
 -- the declaration of an index
 abbrev pub declaration : ColumnNumber → IndexKind → DeclaredIndex
@@ -30,10 +31,10 @@ IsAddedOf Hash column old new = (on : HashOn) × (on.column.0 ≡ column.0) × (
 abbrev pub IsAdded : DeclaredIndex → Indexes → Indexes → Type 0
 IsAdded index old new = IsAddedOf index.kind index.column old new
 
--- the new relation has one declared index more, the last, and nothing else changed: a tree with some list, or a hash with some entries
+-- the new relation has one declared index more, the last, and nothing else changed: some tree, or a hash with some entries
 abbrev pub IsDeclaredOf : IndexKind → ColumnNumber → RelationState → RelationState → Type 0
 IsDeclaredOf Tree column old new =
-    (list : List TupleRef) × (new ≡ record old { declared = old.declared ++ declaration column Tree ∷ []; trees = old.trees ++ (column.0, list) ∷ [] })
+    (tree : RowTree) × (new ≡ record old { declared = old.declared ++ declaration column Tree ∷ []; trees = old.trees ++ (column.0, tree) ∷ [] })
 IsDeclaredOf Hash column old new =
     (entries : List (ℕ × TupleRef)) × (new ≡ record old { declared = old.declared ++ declaration column Hash ∷ []; hashes = old.hashes ++ (column.0, entries) ∷ [] })
 

@@ -3,7 +3,6 @@ use Rattle.std.specs.Prelude.{◌≡◌, ℕ, ◌^◌, ◌+◌, ◌<◌, ◌≤�
 use Rattle.part_raw.specs.declared.tuple_ref.TupleRef.{TupleRef}
 use Rattle.std.specs.FinMap.{get}
 use Rattle.part_raw.specs.Store.{Tuples}
-use Rattle.ttree.specs.Held.{items_of_tree}
 use Rattle.ttree.specs.Room.{room_of}
 use Rattle.mm_index.specs.Bag.{IsSameBag}
 use Rattle.mm_index.specs.Order.{IsRising, insert_by, remove_by}
@@ -11,13 +10,17 @@ use Rattle.mm_relation.specs.declared.row.Row.{Row}
 use Rattle.mm_relation.specs.declared.trees.TreeOn.{TreeOn}
 use Rattle.mm_relation.specs.declared.hashes.HashOn.{HashOn}
 use Rattle.mm_relation.specs.declared.indexes.Indexes.{Indexes}
-use Rattle.mm_relation.specs.State.{TreeServes, HashServes}
+use Rattle.mm_relation.specs.State.{RowTree, tree_list, TreeServes, HashServes}
 use Rattle.mm_relation.specs.Reading.{Keys, value_at, row_value, hash_at}
 use Rattle.mm_relation.specs.Order.{column_cmp}
 
--- a declared tree as a relation shows it: its column and its list
-abbrev pub shown_tree : TreeOn → ℕ × List TupleRef
-shown_tree t = (t.column.0, items_of_tree t.tree)
+-- a declared tree as a relation shows it, with its column
+abbrev pub shown_tree : TreeOn → ℕ × RowTree
+shown_tree t = (t.column.0, t.tree.tree)
+
+-- the references that it lists
+abbrev pub shown_list : TreeOn → List TupleRef
+shown_list t = tree_list t.tree.tree
 
 -- a declared hash as a relation shows it: its column and its entries
 abbrev pub shown_hash : HashOn → ℕ × List (ℕ × TupleRef)
@@ -31,15 +34,15 @@ abbrev pub hash_room : HashOn → ℕ
 hash_room h = h.hash.room
 
 -- the tree rises over the rows, which can be read in its column
-pub record IsRisingTree (keys : Keys) (rows : Tuples Row) (t : ℕ × List TupleRef) : Type 0 where
-  pub readable : All (λ q. IsSome (value_at keys t.0 rows q)) t.1
-  pub rising : IsRising (column_cmp keys t.0 rows) t.1
+pub record IsRisingTree (keys : Keys) (rows : Tuples Row) (t : ℕ × RowTree) : Type 0 where
+  pub readable : All (λ q. IsSome (value_at keys t.0 rows q)) (tree_list t.1)
+  pub rising : IsRising (column_cmp keys t.0 rows) (tree_list t.1)
 
 -- the tree can take in this row
 pub record TreeAwaits (keys : Keys) (rows : Tuples Row) (r : TupleRef) (t : TreeOn) : Type 0 where
   pub room : 0 < tree_room t
-  pub short : length (shown_tree t).1 < 2 ^ 32
-  pub absent : Contains (shown_tree t).1 r → ⊥
+  pub short : length (shown_list t) < 2 ^ 32
+  pub absent : Contains (shown_list t) r → ⊥
   pub r_readable : IsSome (value_at keys t.column.0 rows r)
   pub tree : IsRisingTree keys rows (shown_tree t)
 
@@ -47,20 +50,20 @@ pub record TreeAwaits (keys : Keys) (rows : Tuples Row) (r : TupleRef) (t : Tree
 pub record TreeGains (keys : Keys) (rows : Tuples Row) (r : TupleRef) (old new : TreeOn) : Type 0 where
   pub column : new.column.0 ≡ old.column.0
   pub room : tree_room old ≤ tree_room new + 1
-  pub items : (shown_tree new).1 ≡ insert_by (column_cmp keys old.column.0 rows) r (shown_tree old).1
-  pub rising : IsRising (column_cmp keys old.column.0 rows) (shown_tree new).1
+  pub items : shown_list new ≡ insert_by (column_cmp keys old.column.0 rows) r (shown_list old)
+  pub rising : IsRising (column_cmp keys old.column.0 rows) (shown_list new)
 
 -- the tree lists this row
 pub record TreeHas (keys : Keys) (rows : Tuples Row) (r : TupleRef) (t : TreeOn) : Type 0 where
-  pub held : Contains (shown_tree t).1 r
+  pub held : Contains (shown_list t) r
   pub tree : IsRisingTree keys rows (shown_tree t)
 
 -- the tree without this row
 pub record TreeLoses (keys : Keys) (rows : Tuples Row) (r : TupleRef) (old new : TreeOn) : Type 0 where
   pub column : new.column.0 ≡ old.column.0
   pub room : tree_room old ≤ tree_room new
-  pub items : (shown_tree new).1 ≡ remove_by (column_cmp keys old.column.0 rows) r (shown_tree old).1
-  pub rising : IsRising (column_cmp keys old.column.0 rows) (shown_tree new).1
+  pub items : shown_list new ≡ remove_by (column_cmp keys old.column.0 rows) r (shown_list old)
+  pub rising : IsRising (column_cmp keys old.column.0 rows) (shown_list new)
 
 -- the hash can take in this row
 pub record HashAwaits (keys : Keys) (rows : Tuples Row) (r : TupleRef) (h : HashOn) : Type 0 where

@@ -1,8 +1,8 @@
 -- How often a search compares.
-use Rattle.std.specs.Prelude.{ℕ, ◌+◌, ◌*◌, ◌≤◌}
-use Rattle.ttree.specs.Shape.{fib}
+use Rattle.std.specs.Prelude.{ℕ, ◌+◌, ◌*◌}
+use Rattle.ttree.specs.Held.{height}
+use Rattle.mm_relation.specs.State.{RowTree}
 
--- For some height of which a balanced tree has so many rows at least, twice a level and six times more. So the comparisons are
--- logarithmic in the number of rows.
-abbrev pub IsLogarithmic : ℕ → ℕ → Type 0
-IsLogarithmic rows comparisons = (height : ℕ) × (fib (height + 2) ≤ 1 + rows) × (comparisons ≤ 2 * height + 6)
+-- at most so often does one search of a tree compare: twice a level, and once more for each binary digit of the 32 references that a node has at most
+abbrev pub most_compared : RowTree → ℕ
+most_compared t = 2 * height t + 6

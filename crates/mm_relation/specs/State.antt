@@ -9,6 +9,7 @@ use Rattle.part_raw.specs.declared.tuple_ref.TupleRef.{TupleRef}
 use Rattle.part_raw.specs.Store.{Tuples}
 use Rattle.mm_index.specs.Bag.{IsSameBag}
 use Rattle.mm_index.specs.Order.{IsRising}
+use Rattle.ttree.specs.Held.{Tree as LabelledTree, Label, empty, list, tree_code, label_code}
 use Rattle.plain_tables.specs.declared.value.Value.{Value}
 use Rattle.plain_tables.specs.declared.schema.Schema.{Schema}
 use Rattle.plain_tables.specs.declared.schema.IndexKind.{IndexKind}
@@ -18,21 +19,29 @@ use Rattle.mm_relation.specs.declared.numbers.DeclaredIndex.{DeclaredIndex}
 use Rattle.mm_relation.specs.Reading.{Keys, key_at, row_value, hash_at}
 use Rattle.mm_relation.specs.Order.{KeysDiffer, column_cmp}
 
--- The schema; the table that each column's links lead into; the declared indexes; the rows; the list of the key's tree; the column
--- and the list of each declared tree; the column and the entries of each declared hash.
+-- a tree of references to rows, in nodes that hold many each
+abbrev pub RowTree : Type 0
+RowTree = LabelledTree (Label TupleRef)
+
+-- the references of a tree, in its order
+abbrev pub tree_list : RowTree → List TupleRef
+tree_list t = list t
+
+-- The schema; the table that each column's links lead into; the declared indexes; the rows; the key's tree; the column and the
+-- tree of each declared tree; the column and the entries of each declared hash.
 pub record RelationState : Type 0 where
   pub schema : Schema
   pub targets : List (Option ℕ)
   pub declared : List DeclaredIndex
   pub rows : Tuples Row
-  pub by_key : List TupleRef
-  pub trees : List (ℕ × List TupleRef)
+  pub by_key : RowTree
+  pub trees : List (ℕ × RowTree)
   pub hashes : List (ℕ × List (ℕ × TupleRef))
 
 abbrev pub state_code : Coded Schema → Coded DeclaredIndex → Coded Row → Coded RelationState
 state_code schema index row =
-    code_by (Schema × (List (Option ℕ) × (List DeclaredIndex × (Tuples Row × (List TupleRef × (List (ℕ × List TupleRef) × List (ℕ × List (ℕ × TupleRef))))))))
-    (coded× schema (coded× (coded_list (coded_option coded_ℕ)) (coded× (coded_list index) (coded× (finite.code ref_code row) (coded× (coded_list ref_code) (coded× (coded_list (coded× coded_ℕ (coded_list ref_code))) (coded_list (coded× coded_ℕ (coded_list (coded× coded_ℕ ref_code))))))))))
+    code_by (Schema × (List (Option ℕ) × (List DeclaredIndex × (Tuples Row × (RowTree × (List (ℕ × RowTree) × List (ℕ × List (ℕ × TupleRef))))))))
+    (coded× schema (coded× (coded_list (coded_option coded_ℕ)) (coded× (coded_list index) (coded× (finite.code ref_code row) (coded× (tree_code (label_code ref_code)) (coded× (coded_list (coded× coded_ℕ (tree_code (label_code ref_code)))) (coded_list (coded× coded_ℕ (coded_list (coded× coded_ℕ ref_code))))))))))
     (λ s. (s.schema, (s.targets, (s.declared, (s.rows, (s.by_key, (s.trees, s.hashes)))))))
     (λ p. record { schema = p.0; targets = p.1.0; declared = p.1.1.0; rows = p.1.1.1.0; by_key = p.1.1.1.1.0; trees = p.1.1.1.1.1.0; hashes = p.1.1.1.1.1.1 }) (λ _. refl)
 
@@ -70,7 +79,7 @@ columns_with_hash declared = map (λ d. d.column.0) (filter (λ d. not (is_tree 
 
 -- what a relation keeps by itself
 pub record IsKept (s : RelationState) : Type 0 where
-  pub keyed : IsKeyed s.rows s.by_key
+  pub keyed : IsKeyed s.rows (tree_list s.by_key)
   pub few : finite.len s.rows ≤ 16777216
   pub width : length s.targets ≡ length s.schema.columns
   pub trees : map (λ t. t.0) s.trees ≡ columns_with_tree s.declared
@@ -82,9 +91,9 @@ abbrev pub IsReadable : Keys → ℕ → Row → Type 0
 IsReadable keys width t = (column : ℕ) → column < width → IsSome (row_value keys column t)
 
 -- a tree on a column serves these references: it lists each once, in the column's order
-pub record TreeServes (keys : Keys) (rows : Tuples Row) (refs : List TupleRef) (t : ℕ × List TupleRef) : Type 0 where
-  pub bag : IsSameBag t.1 refs
-  pub rising : IsRising (column_cmp keys t.0 rows) t.1
+pub record TreeServes (keys : Keys) (rows : Tuples Row) (refs : List TupleRef) (t : ℕ × RowTree) : Type 0 where
+  pub bag : IsSameBag (tree_list t.1) refs
+  pub rising : IsRising (column_cmp keys t.0 rows) (tree_list t.1)
 
 -- a hash on a column serves these references: it has each once, under the hash of its value
 abbrev pub HashServes : Keys → Tuples Row → List TupleRef → ℕ × List (ℕ × TupleRef) → Type 0
@@ -93,16 +102,16 @@ HashServes keys rows refs h = IsSameBag h.1 (map (λ r. (hash_at keys h.0 rows r
 -- under these keys each row can be read, and each declared index serves the rows
 pub record IsCurrent (keys : Keys) (s : RelationState) : Type 0 where
   pub readable : (r : TupleRef) (t : Row) → finite.get s.rows r ≡ Some t → IsReadable keys (length s.targets) t
-  pub trees : All (TreeServes keys s.rows s.by_key) s.trees
-  pub hashes : All (HashServes keys s.rows s.by_key) s.hashes
+  pub trees : All (TreeServes keys s.rows (tree_list s.by_key)) s.trees
+  pub hashes : All (HashServes keys s.rows (tree_list s.by_key)) s.hashes
 
--- the list of the first tree on a column
-abbrev pub tree_of : ℕ → List (ℕ × List TupleRef) → List TupleRef
-tree_of column [] = []
+-- the first tree on a column
+abbrev pub tree_of : ℕ → List (ℕ × RowTree) → RowTree
+tree_of column [] = empty
 tree_of column (t ∷ rest) = if t.0 == column then t.1 else tree_of column rest
 
 -- a tree stands on this column
-abbrev pub HasColumn : ℕ → List (ℕ × List TupleRef) → Type 0
+abbrev pub HasColumn : ℕ → List (ℕ × RowTree) → Type 0
 HasColumn column trees = IsTrue (list_any (λ t. t.0 == column) trees)
 
 -- some row has this key

@@ -18,7 +18,7 @@ use crate::row::Row;
 use crate::tree::Tree;
 use crate::trees::{TreeOn, list_in_tree};
 use lin_hash::LinHash;
-use mm_index::{ExactIndex, OrderedIndex};
+use mm_index::ExactIndex;
 use no_memory::NoMemory;
 use part_raw::{Partitions, TupleRef};
 use plain_tables::{ColumnNumber, IndexKind, Sequence};

@@ -1,5 +1,6 @@
 //! The declared indexes of a relation, all together.
-ghost use Rattle.std.specs.Prelude.{◌≡◌, ◌≤◌, map, OnOk};
+ghost use Rattle.std.specs.Prelude.{◌≡◌, ℕ, ◌<◌, ◌≤◌, max, length, slice_index_or, map, OnOk};
+ghost use Rattle.mm_relation.specs.declared.trees.TreeOn.{TreeOn};
 ghost use Rattle.mm_relation.specs.Order.{KeysDiffer};
 
 use crate::hashes::{HashOn, list_in_hashes, reserve_in_hashes, unlist_from_hashes};
@@ -27,6 +28,7 @@ impl Indexes {
         ensures trees { map shown_tree self.new.trees ≡ map shown_tree self.old.trees }
         ensures hashes { map shown_hash self.new.hashes ≡ map shown_hash self.old.hashes }
         ensures reserved { OnOk result (HaveRoom n self.new) }
+        ensures spares { (k : ℕ) (d : TreeOn) → k < length self.old.trees → (slice_index_or self.new.trees k d).tree.spares ≤ max (slice_index_or self.old.trees k d).tree.spares n }
     {
         reserve_in_trees(self.trees.as_mut_slice(), n)?;
         reserve_in_hashes(self.hashes.as_mut_slice(), 1)

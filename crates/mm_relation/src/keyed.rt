@@ -1,38 +1,18 @@
 //! The rows in their store, under the tree of their keys.
 ghost use Rattle.ttree.specs.Held.{items_of_tree};
 ghost use Rattle.ttree.specs.Room.{room_of};
-ghost use Rattle.std.specs.Prelude.{◌≡◌, ◌≢◌, ◌<◌, ◌≤◌, ◌∷◌, None, Some, IsSome, IfSome, IfNone};
+ghost use Rattle.std.specs.Prelude.{◌≡◌, ◌<◌, ◌∷◌, None, Some, IsSome, IfSome, IfNone};
 ghost use Rattle.std.specs.FinMap as finite;
 ghost use Rattle.part_raw.specs.declared.tuple_ref.TupleRef.{TupleRef};
 ghost use Rattle.mm_index.specs.Bag.{IsSameBag};
-ghost use Rattle.mm_relation.specs.Reading.{key_at};
 ghost use Rattle.mm_relation.specs.State.{IsKeyed, HasKey};
-ghost use Rattle.mm_relation.specs.Searching.{IsLogarithmic};
 
 use crate::order::KeyOrder;
 use crate::probe::KeyProbe;
 use crate::row::Row;
 use crate::tree::Tree;
-use mm_index::OrderedIndex;
+use mm_index::OrderProbe;
 use part_raw::{Partitions, TupleRef};
-use plain_tables::Value;
-
-// The row with this key, and how many rows were compared.
-pub fn find_row(rows: &Partitions<Row>, by_key: &Tree, key: &Value) -> (Option<TupleRef>, u64)
-    requires { IsKeyed rows.now.tuples (items_of_tree by_key.now) }
-    ensures found { IfSome result.0 (λ r. key_at rows.now.tuples r ≡ Some key.now) }
-    ensures none { IfNone result.0 ((r : TupleRef) → key_at rows.now.tuples r ≢ Some key.now) }
-    ensures asks { 0 < finite.len rows.now.tuples → 1 ≤ result.1 }
-    ensures few { IsLogarithmic (finite.len rows.now.tuples) result.1 }
-{
-    let mut probe = KeyProbe {
-        rows,
-        sought: key,
-        asked: 0,
-    };
-    let found = by_key.find(&mut probe);
-    (found, probe.asked)
-}
 
 // Takes a row in unless its key is there, by one search. There is room for it.
 pub fn put_row(rows: &mut Partitions<Row>, by_key: &mut Tree, row: Row) -> Option<TupleRef>
@@ -47,7 +27,7 @@ pub fn put_row(rows: &mut Partitions<Row>, by_key: &mut Tree, row: Row) -> Optio
     ensures no_key { IfSome result (λ _. HasKey rows.old.tuples row.key → ⊥) }
     ensures has_key { IfNone result (HasKey rows.old.tuples row.key) }
     ensures kept { IfNone result (rows.new.tuples ≡ rows.old.tuples) }
-    ensures kept_list { IfNone result ((items_of_tree by_key.new) ≡ (items_of_tree by_key.old)) }
+    ensures kept_tree { IfNone result (by_key.new ≡ by_key.old) }
 {
     let r = rows.put(row);
     let mut probe = KeyProbe {
@@ -70,6 +50,6 @@ pub fn take_row(rows: &mut Partitions<Row>, by_key: &mut Tree, r: TupleRef)
     ensures taken { rows.new.tuples ≡ finite.remove rows.old.tuples r }
     ensures unlisted { IsSameBag (items_of_tree by_key.old) (r ∷ (items_of_tree by_key.new)) }
 {
-    by_key.remove(&KeyOrder { rows }, r);
+    by_key.remove(&mut OrderProbe::new(&KeyOrder { rows }, r));
     rows.take(r);
 }

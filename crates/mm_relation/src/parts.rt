@@ -1,8 +1,9 @@
 //! A row under all indexes of a relation, over the relation's parts.
 ghost use Rattle.ttree.specs.Held.{items_of_tree};
-ghost use Rattle.ttree.specs.Room.{room_of};
-ghost use Rattle.std.specs.Prelude.{◌≡◌, ◌≤◌, ◌<◌, None, Some, IsSome, IfSome, IfNone, OnOk, map};
+ghost use Rattle.ttree.specs.Room.{room_of, nodes_of, nodes_for};
+ghost use Rattle.std.specs.Prelude.{◌≡◌, ℕ, ◌+◌, ◌≤◌, ◌<◌, max, length, slice_index_or, None, Some, IsSome, IfSome, IfNone, OnOk, map};
 ghost use Rattle.std.specs.FinMap as finite;
+ghost use Rattle.mm_relation.specs.declared.trees.TreeOn.{TreeOn};
 ghost use Rattle.mm_relation.specs.State.{IsKeyed, HasKey};
 ghost use Rattle.mm_relation.specs.Indexes.{shown_tree, shown_hash, tree_columns, hash_columns, HaveRoom, Serve, CanRead, CanReadRow};
 
@@ -11,7 +12,6 @@ use crate::keyed::{put_row, take_row};
 use crate::linked_keys::LinkedKeys;
 use crate::row::Row;
 use crate::tree::Tree;
-use mm_index::OrderedIndex;
 use no_memory::NoMemory;
 use part_raw::{Partitions, TupleRef};
 
@@ -23,17 +23,21 @@ pub fn make_room(
 ) -> Result<(), NoMemory>
     requires few { finite.len rows.old.tuples < 16777216 }
     ensures rows { rows.new.tuples ≡ rows.old.tuples }
-    ensures by_key { (items_of_tree by_key.new) ≡ (items_of_tree by_key.old) }
+    ensures by_key { by_key.new.tree ≡ by_key.old.tree }
     ensures trees { map shown_tree indexes.new.trees ≡ map shown_tree indexes.old.trees }
     ensures hashes { map shown_hash indexes.new.hashes ≡ map shown_hash indexes.old.hashes }
     ensures free { OnOk result (0 < rows.new.free) }
     ensures key_room { OnOk result (0 < (room_of 30 by_key.new)) }
     ensures room { OnOk result (HaveRoom 1 indexes.new) }
+    // Each tree has one spare node more at most, and none more where its nodes suffice.
+    ensures key_spares { by_key.new.spares ≤ max by_key.old.spares 1 }
+    ensures key_nodes { nodes_of by_key.new ≤ max (nodes_of by_key.old) (nodes_for 30 (length (items_of_tree by_key.old) + 1)) }
+    ensures spares { (k : ℕ) (d : TreeOn) → k < length indexes.old.trees → (slice_index_or indexes.new.trees k d).tree.spares ≤ max (slice_index_or indexes.old.trees k d).tree.spares 1 }
 {
     if rows.free() == 0 {
         rows.reserve()?;
     }
-    by_key.reserve(1)?;
+    by_key.reserve_one()?;
     indexes.reserve(1)
 }
 
@@ -62,7 +66,7 @@ pub fn place<R: LinkedKeys>(
     ensures no_key { IfSome result (λ _. HasKey rows.old.tuples row.key → ⊥) }
     ensures has_key { IfNone result (HasKey rows.old.tuples row.key) }
     ensures kept { IfNone result (rows.new.tuples ≡ rows.old.tuples) }
-    ensures kept_list { IfNone result ((items_of_tree by_key.new) ≡ (items_of_tree by_key.old)) }
+    ensures kept_tree { IfNone result (by_key.new ≡ by_key.old) }
     ensures kept_indexes { IfNone result (indexes.new ≡ indexes.old) }
 {
     let r = put_row(rows, by_key, row)?;

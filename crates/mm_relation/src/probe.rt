@@ -11,12 +11,12 @@ use part_raw::{Partitions, TupleRef};
 use plain_tables::Value;
 use std::cmp::Ordering;
 
-/// The row with this key. It reads no link.
+/// The row with this key. It reads no link, and counts the rows whose keys it compared (`asked`).
 #[derive(Drop)]
 pub struct KeyProbe<'a> {
-    pub rows: &'a Partitions<Row>,
-    pub sought: &'a Value,
-    pub asked: u64,
+    pub(crate) rows: &'a Partitions<Row>,
+    pub(crate) sought: &'a Value,
+    pub(crate) asked: u64,
 }
 
 impl<'a> Probe for KeyProbe<'a> {

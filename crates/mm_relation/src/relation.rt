@@ -1,18 +1,19 @@
 //! The rows of one table.
-ghost use Rattle.std.specs.Prelude.{◌≡◌, ◌≢◌, ◌+◌, ◌++◌, ◌-◌, ◌^◌, ◌<◌, ◌≤◌, All, Some, IsSome, IfSome, IfNone, IfOk, OnOk, OnErr, length};
+ghost use Rattle.std.specs.Prelude.{◌≡◌, ◌≢◌, ◌+◌, ◌++◌, ◌-◌, ◌^◌, Contains, ◌<◌, ◌≤◌, All, Some, IsSome, IfSome, IfNone, IfOk, OnOk, OnErr, length};
 
 use crate::change::{change_each, copies_for};
 use crate::hashes::{chain_on, is_hash_on};
 use crate::indexes::Indexes;
-use crate::keyed::find_row;
+use crate::laws::a_relation_is_kept;
 use crate::numbers::DeclaredIndex;
 use crate::parts::{displace, make_room, place};
+use crate::probe::KeyProbe;
 use crate::referring::{lower, raise};
 use crate::refusal::RowRefusal;
 use crate::relations::{Links, Relations};
 use crate::row::{Cell, Row};
 use crate::tree::{Tree, Walk};
-use crate::trees::{is_tree_on, range_of_tree, walk_tree};
+use crate::trees::{first_tree_on, is_tree_on};
 use crate::view::RowView;
 use lin_hash::Chain;
 use mm_index::Probe;
@@ -21,6 +22,7 @@ use part_raw::{Partitions, TupleRef};
 use plain_tables::{ColumnNumber, Schema, Sequence, Value};
 use std::alloc::Global;
 use std::marker::Model;
+use ttree::{TreeShape, table_tree_shape};
 
 // The greatest number of rows.
 const MOST_ROWS: u64 = 16_777_216;
@@ -39,7 +41,6 @@ pub struct Relation {
 impl Model for Relation {
     ghost use Rattle.mm_relation.specs.State.{RelationState, state_code, IsKept};
     ghost use Rattle.mm_relation.specs.Seen.{state};
-    ghost use Rattle.ttree.specs.Held.{items_of_tree};
     ghost use Rattle.plain_tables.specs.contracts.schema.Schema.{the_row as schema_row};
     ghost use Rattle.mm_relation.specs.contracts.numbers.DeclaredIndex.{the_row as index_row};
     ghost use Rattle.mm_relation.specs.contracts.row.Row.{the_row as row_row};
@@ -48,20 +49,24 @@ impl Model for Relation {
 
     ghost coded = { state_code schema_row.coded index_row.coded row_row.coded };
 
-    ghost view = { λ r. state r.schema r.targets.items r.declared.items r.rows.tuples (items_of_tree r.by_key) r.indexes };
+    ghost view = { λ r. state r.schema r.targets.items r.declared.items r.rows.tuples r.by_key.tree r.indexes };
 
-    ghost invariant = { λ r. IsKept (state r.schema r.targets.items r.declared.items r.rows.tuples (items_of_tree r.by_key) r.indexes) };
+    ghost invariant = { λ r. IsKept (state r.schema r.targets.items r.declared.items r.rows.tuples r.by_key.tree r.indexes) };
 }
 
 impl Relation {
     ghost use Rattle.std.specs.FinMap as finite;
     ghost use Rattle.std.specs.List.{AllPairs};
     ghost use Rattle.mm_relation.specs.declared.row.Row.{Row};
-    ghost use Rattle.mm_relation.specs.Reading.{Keys, key_at, cell_value};
-    ghost use Rattle.mm_relation.specs.State.{IsReadable, IsCurrent, linked_keys};
-    ghost use Rattle.mm_relation.specs.Changes.{IsInserted, IsRemoved, IsChanged, IsToldRightly, new_row, HasTree, HasHash, has_tree_on, has_hash_on, list_of, entries_of, Refers};
-    ghost use Rattle.mm_relation.specs.Searching.{IsLogarithmic};
-    ghost use Rattle.mm_index.specs.Asking.{IsOnlyAsked};
+    ghost use Rattle.std.specs.Option.{option_cmp};
+    ghost use Rattle.plain_tables.specs.Values.{value_cmp};
+    ghost use Rattle.mm_relation.specs.Reading.{Keys, key_at, value_at, cell_value};
+    ghost use Rattle.mm_relation.specs.State.{IsReadable, IsCurrent, linked_keys, no_keys, tree_list};
+    ghost use Rattle.mm_relation.specs.Changes.{IsInserted, IsRemoved, IsChanged, IsToldRightly, new_row, HasTree, HasHash, has_tree_on, has_hash_on, tree_on, list_of, entries_of, Refers};
+    ghost use Rattle.mm_relation.specs.Searching.{most_compared};
+    ghost use Rattle.ttree.specs.Shape.{HasShape, IsWellShaped};
+    ghost use Rattle.std.specs.declared.cmp.Ordering.{Ordering};
+    ghost use Rattle.mm_index.specs.Asking.{IsOnlyAsked, counted};
     ghost use Rattle.mm_index.specs.Bag.{IsSameBag, with_hash};
     ghost use Rattle.mm_index.specs.Range.{NeverFalls, from_range, in_range};
     ghost use Rattle.ttree.specs.Held.{rest_of};
@@ -137,9 +142,34 @@ impl Relation {
 
     /// All rows, in the order of their keys.
     pub fn walk(&self) -> Walk<'_>
-        ensures { rest_of result ≡ self.now.by_key }
+        ensures { rest_of result ≡ tree_list self.now.by_key }
     {
         self.by_key.walk()
+    }
+
+    // The tree on a column.
+    fn tree(&self, column: ColumnNumber) -> &Tree
+        requires { HasTree self.now column.0 }
+        ensures { result.now.tree ≡ tree_on self.now column.0 }
+    {
+        if column.0 == 0 {
+            return &self.by_key;
+        }
+        first_tree_on(self.indexes.trees.as_slice(), column)
+    }
+
+    /// How the tree on a column stands: the key's own, or the first declared one. No node has more than 32 references, each
+    /// with two children at least 30, and each with one child at least 31 together with it.
+    pub fn tree_shape(&self, column: ColumnNumber) -> TreeShape
+        requires { HasTree self.now column.0 }
+        ensures told { HasShape (tree_on self.now column.0) result }
+        ensures kept { IsWellShaped 30 32 (tree_on self.now column.0) }
+        // Where a declared tree has the rows, as that of the key always has, its height is logarithmic in them.
+        ensures key { column.0 ≡ 0 → result.items ≡ finite.len self.now.rows }
+        ensures declared { (keys : Keys) → IsCurrent keys self.now → result.items ≡ finite.len self.now.rows }
+    {
+        a_relation_is_kept(self);
+        table_tree_shape(self.tree(column))
     }
 
     /// The rows in the order of a column with a tree, from the first that does not stand below the probe's range.
@@ -150,12 +180,9 @@ impl Relation {
         requires in_order { NeverFalls (P.place probe.old) (list_of self.now column.0) }
         ensures rest { rest_of result ≡ from_range (P.place probe.old) (list_of self.now column.0) }
         ensures probe { IsOnlyAsked P.is_sound P.can_place P.place P.asked probe.old probe.new }
-        ensures few { (keys : Keys) → IsCurrent keys self.now → IsLogarithmic (finite.len self.now.rows) (P.asked probe.new - P.asked probe.old) }
+        ensures most_asked { P.asked probe.new ≤ P.asked probe.old + most_compared (tree_on self.now column.0) }
     {
-        if column.0 == 0 {
-            return self.by_key.walk_from(probe);
-        }
-        walk_tree(self.indexes.trees.as_slice(), column, probe)
+        self.tree(column).walk_from(probe)
     }
 
     /// Appends the rows that are in the probe's range, in the order of a column with a tree. At an error nothing is appended.
@@ -171,11 +198,11 @@ impl Relation {
         requires in_order { NeverFalls (P.place probe.old) (list_of self.now column.0) }
         ensures ok { OnOk result (out.new.items ≡ out.old.items ++ in_range (P.place probe.old) (list_of self.now column.0)) }
         ensures err { OnErr result (out.new.items ≡ out.old.items) }
+        ensures probe { IsOnlyAsked P.is_sound P.can_place P.place P.asked probe.old probe.new }
+        // Beyond one search it asks once for each row that it appends, and once more.
+        ensures most_asked { OnOk result (P.asked probe.new ≤ P.asked probe.old + most_compared (tree_on self.now column.0) + length (in_range (P.place probe.old) (list_of self.now column.0)) + 1) }
     {
-        if column.0 == 0 {
-            return self.by_key.range(probe, out);
-        }
-        range_of_tree(self.indexes.trees.as_slice(), column, probe, out)
+        self.tree(column).range(probe, out)
     }
 
     /// The rows whose value in a column with a hash has this hash, in any order.
@@ -186,22 +213,45 @@ impl Relation {
         chain_on(self.indexes.hashes.as_slice(), column, hash)
     }
 
+    /// A row in the probe's range, by one search of the tree of the key.
+    pub fn find<P: Probe>(&self, probe: &mut P) -> Option<TupleRef>
+        requires sound { P.is_sound probe.old }
+        requires placed { All (P.can_place probe.old) (tree_list self.now.by_key) }
+        requires in_order { NeverFalls (P.place probe.old) (tree_list self.now.by_key) }
+        ensures held { IfSome result (Contains (tree_list self.now.by_key)) }
+        ensures found { IfSome result (λ r. P.place probe.old r ≡ Ordering.Equal) }
+        ensures none { IfNone result (All (λ r. P.place probe.old r ≢ Ordering.Equal) (tree_list self.now.by_key)) }
+        ensures probe { IsOnlyAsked P.is_sound P.can_place P.place P.asked probe.old probe.new }
+        ensures asks { 0 < finite.len self.now.rows → counted (P.asked probe.old) ≤ P.asked probe.new }
+        ensures most_asked { P.asked probe.new ≤ P.asked probe.old + most_compared self.now.by_key }
+    {
+        self.by_key.find(probe)
+    }
+
+    /// A probe for the row with this key, which was not asked yet. Handed to `find`, it tells afterwards how many rows' keys
+    /// were compared.
+    pub fn key_probe<'a>(&'a self, key: &'a Value) -> KeyProbe<'a>
+        ensures rows { result.rows.now.tuples ≡ self.now.rows }
+        ensures sought { result.sought.now ≡ key.now }
+        ensures asked { result.asked ≡ 0 }
+        // It can be asked of each row, and its places never fall along the tree of the key.
+        ensures placed { All (λ r. IsSome (value_at no_keys 0 result.rows.now.tuples r)) (tree_list self.now.by_key) }
+        ensures in_order { NeverFalls (λ r. option_cmp value_cmp (value_at no_keys 0 result.rows.now.tuples r) (Some result.sought.now)) (tree_list self.now.by_key) }
+    {
+        KeyProbe {
+            rows: &self.rows,
+            sought: key,
+            asked: 0,
+        }
+    }
+
     /// The row with this key.
     pub fn find_key(&self, key: &Value) -> Option<TupleRef>
         ensures found { IfSome result (λ r. key_at self.now.rows r ≡ Some key.now) }
         ensures none { IfNone result ((r : TupleRef) → key_at self.now.rows r ≢ Some key.now) }
     {
-        self.find_key_counted(key).0
-    }
-
-    /// The row with this key, and how many rows' keys were compared with it.
-    pub fn find_key_counted(&self, key: &Value) -> (Option<TupleRef>, u64)
-        ensures found { IfSome result.0 (λ r. key_at self.now.rows r ≡ Some key.now) }
-        ensures none { IfNone result.0 ((r : TupleRef) → key_at self.now.rows r ≢ Some key.now) }
-        ensures asks { 0 < finite.len self.now.rows → 1 ≤ result.1 }
-        ensures few { IsLogarithmic (finite.len self.now.rows) result.1 }
-    {
-        find_row(&self.rows, &self.by_key, key)
+        a_relation_is_kept(self);
+        self.find(&mut self.key_probe(key))
     }
 
     /// Takes a row in, under every index, with no links to it so far.

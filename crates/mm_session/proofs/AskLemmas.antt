@@ -1,11 +1,11 @@
 -- Which lines ask for a block, and which blocks they have.
-use Rattle.std.proofs.Common.{◌≡◌, ℕ, ◌<◌, ◌≤◌, true, false, List, [], ◌∷◌, ◌++◌, length, Option, Some, None, refl, sym, ◌∙◌, subst, arith}
+use Rattle.std.proofs.Common.{◌≡◌, ℕ, ◌<◌, ◌≤◌, false, List, [], ◌∷◌, ◌++◌, length, Option, Some, None, refl, sym, ◌∙◌, arith}
 use Rattle.std.specs.Prelude.{MatchOption, unwrap_or, is_some}
 use lib.Chars.{codes}
-use Rattle.plain_tables.specs.Spelling.{Spells, AreBlanks, is_blank}
+use Rattle.plain_tables.specs.Spelling.{Spells, AreBlanks}
 use Rattle.plain_tables.specs.declared.command.Command.TheVariants.{Load}
 use Rattle.plain_tables.specs.declared.command.Limits.{Limits}
-use Rattle.plain_streams.specs.Requests.{Request, IsReadable, Asks, Takes, asked, unasked, without_return, is_silent}
+use Rattle.plain_streams.specs.Requests.{Request, IsReadable, Asks, without_return, is_silent}
 use Rattle.plain_streams.specs.Runs.{HasBlock}
 use Rattle.plain_streams.proofs.Asking.{asks_one}
 

@@ -1,12 +1,13 @@
 -- The rows of a relation, as the records of its table's block.
-use Rattle.std.proofs.Common.{◌≡◌, ℕ, List, [], ◌∷◌, ◌++◌, Option, Some, IsSome, ap, ◌∙◌, sym, subst, length, map}
-use Rattle.std.specs.Prelude.{slice_get}
+use Rattle.std.proofs.Common.{◌≡◌, ◌⊎◌, inl, inr, Result, Ok, Err, ℕ, ◌<◌, ◌≤◌, List, [], ◌∷◌, ◌++◌, Option, None, Some, IsSome, ap, ◌∙◌, sym, subst, arith, append_assoc, length, map}
+use Rattle.std.specs.Prelude.{slice_get, IfErr, IsErrAnd}
 use Rattle.std.specs.Option.{option_map_or}
 use Rattle.std.specs.FinMap as finite
 use Rattle.std.specs.Io.KnownBytes.{Appends, Keeps}
 use Rattle.std.specs.List.{All, flat_map}
 use Rattle.std.proofs.KnownBytes.{Appends-kept, Appends-nil, Appends-trans}
-use Rattle.std.proofs.lemmas.List.{flat_map_more, map_push}
+use Rattle.std.proofs.lemmas.List.{flat_map_more, length-append, map_push}
+use Rattle.std.proofs.lemmas.Grind.{flat_map-append}
 use Rattle.std.proofs.lemmas.List.FromFn.{length-map-range_with_len}
 use Rattle.std.proofs.lemmas.List.Elements.{All-head}
 use Rattle.part_raw.proofs.Tuples.{held_tuple}
@@ -21,6 +22,9 @@ use Rattle.mm_catalog.specs.Seen.{database_of, table_of, values_of, row_values, 
 use Rattle.mm_catalog.specs.Consistent.{IsConsistent}
 use Rattle.mm_catalog.specs.Picked.{seen_values}
 use Rattle.mm_catalog.proofs.Declared.{there_at, named_at, table_at}
+use Rattle.plain_tables.specs.declared.refusal.Refusal.{Refusal}
+use Rattle.plain_tables.specs.declared.refusal.Refusal.TheVariants as refusal
+use Rattle.mm_session.specs.Dumps.{IsWithin, IsPast, GoesOnWithin, GoesPast, IsGivenUp}
 
 -- what holds of each element holds of the one that comes next
 pub holds_next : {A : Type 0} (P : A → Type 0) (all front rest : List A) (x : A) → all ≡ front ++ x ∷ rest → All P all → P x
@@ -51,10 +55,53 @@ records_more f first old new rs r row before more is =
     (ap (λ v. flat_map row_record (map f rs) ++ row_record v) is ∙ flat_map_more row_record [] (map f rs) (f r) ∙ ap (flat_map row_record) (sym (map_push f rs r)))
     (Appends-trans first old new (flat_map row_record (map f rs)) (row_record row) before more)
 
+-- the names at the front of a block
+pub names_begin : (start first : Option (List ℕ)) (names : List (List ℕ)) → Keeps (Some []) start → Appends start first (record_text names) → Appends (Some []) first (record_text names)
+names_begin start first names fresh begun =
+    Appends-trans (Some []) start first [] (record_text names) (Appends-kept (Some []) (Some []) start [] (Appends-nil (Some [])) fresh) begun
+
 -- a block that was written from nothing: the names, and then the records
 pub block_whole : (start first last : Option (List ℕ)) (names : List (List ℕ)) (records block : List ℕ) → Keeps (Some []) start
     → Appends start first (record_text names) → Appends first last records → Keeps last (Some block) → block ≡ record_text names ++ records
 block_whole start first last names records block fresh begun more whole =
     Appends-kept (Some []) last (Some block) (record_text names ++ records)
-    (Appends-trans (Some []) first last (record_text names) records
-    (Appends-trans (Some []) start first [] (record_text names) (Appends-kept (Some []) (Some []) start [] (Appends-nil (Some [])) fresh) begun) more) whole
+    (Appends-trans (Some []) first last (record_text names) records (names_begin start first names fresh begun) more) whole
+
+-- what was written within the limit is so long at most
+pub within_kept : (limit : ℕ) (bytes : Option (List ℕ)) (block : List ℕ) → IsWithin limit bytes → Keeps bytes (Some block) → length block ≤ limit
+within_kept limit None block within kept = absurd within
+within_kept limit (Some front) block within kept = omega (arith, ap length kept, within)
+
+-- where a front is past the limit, so is the whole
+pub past_front : (limit : ℕ) (bytes : Option (List ℕ)) (front rest : List ℕ) → Appends (Some []) bytes front → IsPast limit bytes → limit < length (front ++ rest)
+past_front limit None front rest made past = absurd made
+past_front limit (Some bytes) front rest made past = omega (arith, length-append front rest, ap length made, past)
+
+-- a block that was given up is past the limit as a whole
+pub past_whole : (limit : ℕ) (first last : Option (List ℕ)) (names : List ℕ) (rows : List Row) → Appends (Some []) first names → IsGivenUp limit first last rows
+    → limit < length (names ++ flat_map row_record rows)
+past_whole limit first last names rows begun given =
+    let front = flat_map row_record given.front in
+    let passing = row_record given.last in
+    let made = Appends-trans (Some []) first last names (front ++ passing) begun (Appends-trans first given.kept last front passing given.within.0 given.past.0) in
+    let long = past_front limit last (names ++ (front ++ passing)) (flat_map row_record given.rest) made given.past.1 in
+    let same : (names ++ (front ++ passing)) ++ flat_map row_record given.rest ≡ names ++ flat_map row_record rows =
+    append_assoc names (front ++ passing) (flat_map row_record given.rest)
+    ∙ ap (λ bytes. names ++ bytes)
+    (append_assoc front passing (flat_map row_record given.rest) ∙ sym (flat_map-append row_record given.front (given.last ∷ given.rest)) ∙ ap (flat_map row_record) (sym given.split)) in
+    subst (λ bytes. limit < length bytes) same long
+
+-- a refusal at the row behind a front that was written
+pub refused_at : (limit : ℕ) (old kept new : Option (List ℕ)) (rows front rest : List Row) (last : Row) (e : Refusal) → rows ≡ front ++ last ∷ rest
+    → GoesOnWithin limit old kept (flat_map row_record front) → (e ≡ refusal.NoMemory) ⊎ ((e ≡ refusal.DumpTooLong) × GoesPast limit kept new (row_record last))
+    → (e ≡ refusal.NoMemory) ⊎ ((e ≡ refusal.DumpTooLong) × IsGivenUp limit old new rows)
+refused_at limit old kept new rows front rest last e split within why =
+    elim why [
+      | inl none ↦ inl none
+      | inr past ↦ inr (past.0, record { front = front; last = last; rest = rest; split = split; kept = kept; within = within; past = past.1 })
+    ]
+
+-- an error that is handed on
+pub handed_on : {A : Type 0} (P : Refusal → Type 0) (result : Result A Refusal) (e : Refusal) → IsErrAnd result (λ r. r ≡ e) → P e → IfErr result P
+handed_on P (Ok x) e is holds = tt
+handed_on P (Err r) e is holds = subst P (sym is) holds

@@ -1,8 +1,8 @@
 -- What is kept of a rest once more bytes have come, and when the rest is a whole request.
-use Rattle.std.proofs.Common.{◌≡◌, ◌≢◌, ℕ, ◌<◌, ◌≤◌, ◌+◌, ◌-◌, true, false, List, [], ◌∷◌, ◌++◌, length, Option, Some, None, refl, sym, ap, ◌∙◌, subst, arith, append_assoc, append-nil, length-append}
+use Rattle.std.proofs.Common.{◌≡◌, ◌≢◌, ℕ, ◌<◌, ◌≤◌, ◌+◌, true, false, List, [], ◌∷◌, ◌++◌, length, Option, Some, None, refl, sym, ap, ◌∙◌, subst, arith, append_assoc, length-append}
 use Rattle.std.specs.Prelude.{MatchOption, is_some, not, ◌&&◌}
 use Rattle.plain_tables.specs.declared.command.Limits.{Limits}
-use Rattle.plain_streams.specs.Requests.{Request, Asks, Takes, asked, unasked}
+use Rattle.plain_streams.specs.Requests.{Request, Asks, asked, unasked}
 use Rattle.plain_streams.specs.Division.{IsUnbroken, IsWhole, IsUnfinished, in_line, in_block, request_bytes}
 use Rattle.plain_streams.proofs.Asking.{IsUnbroken-nil}
 use Rattle.plain_streams.proofs.DivisionLemmas.{IsUnbroken-append}

@@ -26,7 +26,7 @@ use Rattle.plain_tables.specs.Doing.{passes_all}
 use Rattle.plain_tables.specs.ResolvedLaws.{AreTests}
 use Rattle.plain_tables.specs.declared.resolved.Test.{Test}
 use Rattle.mm_relation.specs.Order.{column_cmp, column_cmp_total}
-use Rattle.mm_relation.specs.State.{RelationState, no_keys}
+use Rattle.mm_relation.specs.State.{tree_list, RelationState, no_keys}
 use Rattle.mm_catalog.specs.State.{CatalogState}
 use Rattle.mm_catalog.specs.Seen.{database_of}
 use Rattle.mm_catalog.specs.Consistent.{IsConsistent}
@@ -92,15 +92,15 @@ module _ (c : CatalogState) (ok : IsConsistent c) (n : ℕ) (table : Table) (at 
 
   listed_apart : AllPairs (λ q r. q ≢ r) (passing c.relations s tests)
   listed_apart =
-      AllPairs-filter (λ (q : TupleRef) (r : TupleRef). q ≢ r) (row_passes c.relations s tests) s.by_key
-      (rising_apart (column_cmp no_keys 0 s.rows) (column_cmp_total no_keys 0 s.rows) s.by_key (among_at c ok n s there).kept.keyed.rising)
+      AllPairs-filter (λ (q : TupleRef) (r : TupleRef). q ≢ r) (row_passes c.relations s tests) (tree_list s.by_key)
+      (rising_apart (column_cmp no_keys 0 s.rows) (column_cmp_total no_keys 0 s.rows) (tree_list s.by_key) (among_at c ok n s there).kept.keyed.rising)
 
   picked_so : (r : TupleRef) → IsSome (finite.get s.rows r)
       → (Contains refs r → IsTrue (passes_all tests (seen_values c s r))) × (IsTrue (passes_all tests (seen_values c s r)) → Contains refs r)
   picked_so r here = (
-    λ inside. sym (passes_seen c s r here tests columns) ∙ (Contains-from_filter (row_passes c.relations s tests) s.by_key r (Contains-same_refs refs (passing c.relations s tests) r bag inside)).1,
+    λ inside. sym (passes_seen c s r here tests columns) ∙ (Contains-from_filter (row_passes c.relations s tests) (tree_list s.by_key) r (Contains-same_refs refs (passing c.relations s tests) r bag inside)).1,
     λ passes. Contains-same_refs (passing c.relations s tests) refs r (IsSameBag-sym bag)
-        (Contains-filter (row_passes c.relations s tests) s.by_key r ((among_at c ok n s there).kept.keyed.lists.listed r here) (passes_seen c s r here tests columns ∙ passes)),
+        (Contains-filter (row_passes c.relations s tests) (tree_list s.by_key) r ((among_at c ok n s there).kept.keyed.lists.listed r here) (passes_seen c s r here tests columns ∙ passes)),
   )
 
   one : (t : RelationState) → slice_get c.relations n ≡ Some t → s ≡ t

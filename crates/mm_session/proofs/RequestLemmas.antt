@@ -1,11 +1,11 @@
 -- Answers to requests that are refused before anything is done.
-use Rattle.std.proofs.Common.{◌≡◌, ℕ, ◌<◌, ◌≤◌, Bool, true, false, List, [], length, refl, sym, subst, ◌∙◌}
+use Rattle.std.proofs.Common.{◌≡◌, ℕ, ◌<◌, ◌≤◌, Bool, true, false, List, length, refl, sym, subst, ◌∙◌}
 use Rattle.std.specs.Fmt.{digits}
 use Rattle.std.specs.Prelude.{if◌then◌else◌}
 use lib.Chars.{codes}
 use Rattle.plain_tables.specs.Databases.{Database}
 use Rattle.plain_tables.specs.Effects.{refused}
-use Rattle.plain_tables.specs.AnswerText.{answer_text, refusal_text}
+use Rattle.plain_tables.specs.AnswerText.{refusal_text}
 use Rattle.plain_tables.specs.declared.command.Limits.{Limits}
 use Rattle.plain_tables.specs.declared.refusal.Refusal.TheVariants.{LineTooLong, BlockTooLong, BlockCutShort, NoMemory}
 use Rattle.plain_streams.specs.Requests.{Request, Asks}

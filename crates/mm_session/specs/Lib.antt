@@ -1,5 +1,6 @@
 pub mod Answered
 pub mod Buffers
+pub mod Dumps
 pub mod Kept
 pub mod Listing
 pub mod Members

@@ -1,5 +1,5 @@
 -- What a responder does with the next bytes of a stream.
-use Rattle.std.specs.Prelude.{◌≡◌, ◌≢◌, ℕ, ◌+◌, List, [], ◌∷◌, ◌++◌, Option, MatchOption, is_some, if◌then◌else◌}
+use Rattle.std.specs.Prelude.{◌≡◌, ◌≢◌, ℕ, List, [], ◌∷◌, ◌++◌, Option, MatchOption, is_some, if◌then◌else◌}
 use Rattle.plain_streams.specs.Requests.{Request, Asks}
 use Rattle.plain_streams.specs.Division.{IsUnbroken, IsWhole, request_bytes, request_of}
 use Rattle.plain_streams.specs.Runs.{Answers}

@@ -1,5 +1,5 @@
 -- What a session is seen as, and what its calls do to the run that it is in.
-use Rattle.std.specs.Prelude.{◌≡◌, ℕ, List, [], ◌++◌, Bool, true, false, Option}
+use Rattle.std.specs.Prelude.{◌≡◌, ℕ, List, ◌++◌, Bool, true, false, Option}
 use Rattle.std.specs.Io.KnownBytes.{Appends}
 use Rattle.mm_session.specs.Kept.{Keeps, nothing}
 use Rattle.mm_session.specs.declared.kept.Kept.{Kept}

@@ -26,7 +26,7 @@
 //!   to its slots.
 //! - The list from `first_open` on has each partition with a free slot once, and no other.
 //! - Each slot of each block is free or holds a tuple, so `len` is told by the number of blocks and `free`.
-//! - A block can't be let go, nor can a tuple in it: it is given back to the allocator once, and only with all its
+//! - A block can't be let go, nor can a tuple in it: it is given back to the allocator at most once, and only with all its
 //!   slots empty.
 //!
 //! All that reads or writes through a pointer stands in `raw`: a few functions of a line or two.

@@ -259,11 +259,19 @@ fn plans_follow_indexes_links_and_sizes(rt: HostRuntime) -> Result<(), Fail> {
     for i in 0..POLICIES.len() {
         for select in SELECTS {
             let plans = select.plans;
-            assert_eq!(&rt; found(rt.alloc(), POLICIES[i], &select)?, plans[i], "{select:?}");
+            assert_eq!(&rt;
+                found(rt.alloc(), POLICIES[i], &select)?,
+                plans[i],
+                "{select:?}"
+            );
         }
         for join in JOINS {
             let plans = join.plans;
-            assert_eq!(&rt; joined(&rt, rt.alloc(), POLICIES[i], &join)?, plans[i], "{join:?}");
+            assert_eq!(&rt;
+                joined(&rt, rt.alloc(), POLICIES[i], &join)?,
+                plans[i],
+                "{join:?}"
+            );
         }
     }
     Ok(())

@@ -13,3 +13,5 @@ mod over;
 mod pages;
 #[cfg(test)]
 mod requests;
+#[cfg(test)]
+mod shapes;

@@ -30,8 +30,8 @@ use Rattle.plan_chooser.specs.Plans.{is_range}
 use Rattle.mm_relation.specs.declared.row.Row.{Row}
 use Rattle.mm_relation.specs.Reading.{Keys, value_at, key_at, hash_of_value, hash_at, row_value}
 use Rattle.mm_relation.specs.Order.{column_cmp}
-use Rattle.mm_relation.specs.Changes.{HasTree, HasHash, list_of, entries_of}
-use Rattle.mm_relation.specs.State.{RelationState, IsKept, IsCurrent, TreeServes, HashServes, HasColumn, HasHashColumn, tree_of, entries_on, linked_keys}
+use Rattle.mm_relation.specs.Changes.{HasTree, HasHash, tree_on, list_of, entries_of}
+use Rattle.mm_relation.specs.State.{RowTree, tree_list, RelationState, IsKept, IsCurrent, TreeServes, HashServes, HasColumn, HasHashColumn, tree_of, entries_on, linked_keys}
 use Rattle.mm_relation.proofs.Searches.{declared_tree}
 use Rattle.temp_list.specs.Reading.{value_in, or_null, standing, between, is_between}
 use Rattle.temp_list.specs.Ranges.{place_of, place_between}
@@ -89,12 +89,12 @@ equal_one v w e = (value_cmp-exact v w).0 (is_eq-true (value_cmp v w) (range_sta
 
 -- ---- the indexes of a relation
 
-tree_found : (keys : Keys) (rows : Tuples Row) (refs : List TupleRef) (column : ℕ) (trees : List (ℕ × List TupleRef)) → HasColumn column trees → All (TreeServes keys rows refs) trees → TreeServes keys rows refs (column, tree_of column trees)
+tree_found : (keys : Keys) (rows : Tuples Row) (refs : List TupleRef) (column : ℕ) (trees : List (ℕ × RowTree)) → HasColumn column trees → All (TreeServes keys rows refs) trees → TreeServes keys rows refs (column, tree_of column trees)
 tree_found keys rows refs column [] has serve = cc
 tree_found keys rows refs column (t ∷ trees) has serve =
     elim (cases_Bool (t.0 == column)) [
       | inl e ↦ rw e (let first : TreeServes keys rows refs t = serve 0 t (omega arith) in
-          record { bag = first.bag; rising = subst (λ c. IsRising (column_cmp keys c rows) t.1) (eqb-true t.0 column e) first.rising })
+          record { bag = first.bag; rising = subst (λ c. IsRising (column_cmp keys c rows) (tree_list t.1)) (eqb-true t.0 column e) first.rising })
       | inr f ↦ rw f (tree_found keys rows refs column trees (rw f at has) (λ k d l. serve (suc k) d (omega (arith, l))))
     ]
 
@@ -123,8 +123,8 @@ module _ (relations : List RelationState) (s : RelationState) (column : ℕ) (ke
   keys = linked_keys s.targets relations
 
   -- a row that is listed is held
-  pub listed_held : (r : TupleRef) → Contains s.by_key r → IsSome (finite.get s.rows r)
-  listed_held r h = All-contains (λ q. IsSome (finite.get s.rows q)) s.by_key r kept.keyed.lists.held h
+  pub listed_held : (r : TupleRef) → Contains (tree_list s.by_key) r → IsSome (finite.get s.rows r)
+  listed_held r h = All-contains (λ q. IsSome (finite.get s.rows q)) (tree_list s.by_key) r kept.keyed.lists.held h
 
   -- and has a value
   has_value : (r : TupleRef) → IsSome (finite.get s.rows r) → value_at keys column s.rows r ≡ Some (value_in relations s column r)
@@ -133,16 +133,16 @@ module _ (relations : List RelationState) (s : RelationState) (column : ℕ) (ke
       some_read (value_at keys column s.rows r)
       (subst (λ o. IsSome (option_and_then (row_value keys column) o)) (sym row.1) (current.readable r row.0 row.1 column (omega (arith, kept.width))))
 
-  pub serves_tree : HasTree s column → TreeServes keys s.rows s.by_key (column, list_of s column)
+  pub serves_tree : HasTree s column → TreeServes keys s.rows (tree_list s.by_key) (column, tree_on s column)
   serves_tree has =
       elim (cases_Bool (column == 0)) [
-        | inl e ↦ rw e (record { bag = IsSameBag-refl s.by_key; rising = subst (λ c. IsRising (column_cmp keys c s.rows) s.by_key) (sym (eqb-true column 0 e)) kept.keyed.rising })
-        | inr f ↦ rw f (tree_found keys s.rows s.by_key column s.trees (declared_tree s column (λ e. let g : (column == 0) ≡ true = eq-eqb column 0 e in cc) has) current.trees)
+        | inl e ↦ rw e (record { bag = IsSameBag-refl (tree_list s.by_key); rising = subst (λ c. IsRising (column_cmp keys c s.rows) (tree_list s.by_key)) (sym (eqb-true column 0 e)) kept.keyed.rising })
+        | inr f ↦ rw f (tree_found keys s.rows (tree_list s.by_key) column s.trees (declared_tree s column (λ e. let g : (column == 0) ≡ true = eq-eqb column 0 e in cc) has) current.trees)
       ]
 
   module _ (has : HasTree s column) where
-    listed_tree : (r : TupleRef) → Contains (list_of s column) r → Contains s.by_key r
-    listed_tree r h = Contains-same_refs (list_of s column) s.by_key r (serves_tree has).bag h
+    listed_tree : (r : TupleRef) → Contains (list_of s column) r → Contains (tree_list s.by_key) r
+    listed_tree r h = Contains-same_refs (list_of s column) (tree_list s.by_key) r (serves_tree has).bag h
 
     pub tree_held : All (λ r. IsSome (finite.get s.rows r)) (list_of s column)
     tree_held = λ k d l. listed_held (get_or (list_of s column) k d) (listed_tree (get_or (list_of s column) k d) (All-contains_itself (list_of s column) k d l))
@@ -165,13 +165,13 @@ module _ (relations : List RelationState) (s : RelationState) (column : ℕ) (ke
           (serves_tree has).rising
 
       -- and their range is the rows whose values stand so
-      places_range : (so : Value → Bool) → ((v : Value) → is_eq (place v) ≡ so v) → IsSameBag (in_range (λ r. place (value_in relations s column r)) (list_of s column)) (filter (λ r. so (value_in relations s column r)) s.by_key)
+      places_range : (so : Value → Bool) → ((v : Value) → is_eq (place v) ≡ so v) → IsSameBag (in_range (λ r. place (value_in relations s column r)) (list_of s column)) (filter (λ r. so (value_in relations s column r)) (tree_list s.by_key))
       places_range so told =
           let passes : TupleRef → Bool = λ r. so (value_in relations s column r) in
           IsSameBag-trans
           (IsSameBag-from_same (in_range (λ r. place (value_in relations s column r)) (list_of s column)) (filter passes (list_of s column))
           (filter_agree (λ r. is_eq (place (value_in relations s column r))) passes (λ r. told (value_in relations s column r)) (list_of s column)))
-          (IsSameBag-filter passes (list_of s column) s.by_key (serves_tree has).bag)
+          (IsSameBag-filter passes (list_of s column) (tree_list s.by_key) (serves_tree has).bag)
 
     -- those of one test
     module _ (operator : Op) (range : IsTrue (is_range operator)) (sought : Value) where
@@ -192,10 +192,10 @@ module _ (relations : List RelationState) (s : RelationState) (column : ℕ) (ke
       between_range = places_range (place_between column tests) (between_rises column tests) (is_between column tests) (between_stands column tests)
 
   module _ (has : HasHash s column) (sought : Value) where
-    pub hash_listed : IsSameBag (with_hash (hash_of sought) (entries_of s column)) (filter (λ r. hash_at keys column s.rows r == hash_of sought) s.by_key)
+    pub hash_listed : IsSameBag (with_hash (hash_of sought) (entries_of s column)) (filter (λ r. hash_at keys column s.rows r == hash_of sought) (tree_list s.by_key))
     hash_listed =
-        IsSameBag-trans (IsSameBag-with_hash (hash_of sought) (hash_found keys s.rows s.by_key column s.hashes has current.hashes))
-        (IsSameBag-from_same _ _ (with_hash-map (hash_at keys column s.rows) (hash_of sought) s.by_key))
+        IsSameBag-trans (IsSameBag-with_hash (hash_of sought) (hash_found keys s.rows (tree_list s.by_key) column s.hashes has current.hashes))
+        (IsSameBag-from_same _ _ (with_hash-map (hash_at keys column s.rows) (hash_of sought) (tree_list s.by_key)))
 
     same_hash : (r : TupleRef) → IsSome (finite.get s.rows r) → stands op.Eq (value_in relations s column r) sought ≡ true → (hash_at keys column s.rows r == hash_of sought) ≡ true
     same_hash r held e =
@@ -206,12 +206,12 @@ module _ (relations : List RelationState) (s : RelationState) (column : ℕ) (ke
     hash_range chain bag =
         let so : TupleRef → Bool = λ r. stands op.Eq (value_in relations s column r) sought in
         let hashed : TupleRef → Bool = λ r. hash_at keys column s.rows r == hash_of sought in
-        IsSameBag-trans (IsSameBag-filter so chain (filter hashed s.by_key) (IsSameBag-trans bag hash_listed))
-        (IsSameBag-from_same (filter so (filter hashed s.by_key)) (filter so s.by_key)
-        (filter_inner so hashed s.by_key (λ k d l. same_hash (get_or s.by_key k d) (kept.keyed.lists.held k d l))))
+        IsSameBag-trans (IsSameBag-filter so chain (filter hashed (tree_list s.by_key)) (IsSameBag-trans bag hash_listed))
+        (IsSameBag-from_same (filter so (filter hashed (tree_list s.by_key))) (filter so (tree_list s.by_key))
+        (filter_inner so hashed (tree_list s.by_key) (λ k d l. same_hash (get_or (tree_list s.by_key) k d) (kept.keyed.lists.held k d l))))
 
     -- each of the chain is held
     pub hash_held : (chain : List TupleRef) → IsSameBag chain (with_hash (hash_of sought) (entries_of s column)) → (r : TupleRef) → Contains chain r → IsSome (finite.get s.rows r)
     hash_held chain bag r h =
         let hashed : TupleRef → Bool = λ q. hash_at keys column s.rows q == hash_of sought in
-        listed_held r (Contains-from_filter hashed s.by_key r (Contains-same_refs chain (filter hashed s.by_key) r (IsSameBag-trans bag hash_listed) h)).0
+        listed_held r (Contains-from_filter hashed (tree_list s.by_key) r (Contains-same_refs chain (filter hashed (tree_list s.by_key)) r (IsSameBag-trans bag hash_listed) h)).0

@@ -22,7 +22,7 @@ use Rattle.mm_index.proofs.Members.{Contains-from_filter}
 use Rattle.mm_index.proofs.Refs.{Contains-same_refs}
 use Rattle.mm_relation.proofs.Serving.{map_bag}
 use Rattle.mm_relation.proofs.KeyOrder.{some_alike}
-use Rattle.mm_relation.specs.State.{RelationState, IsKept}
+use Rattle.mm_relation.specs.State.{tree_list, RelationState, IsKept}
 use Rattle.temp_list.specs.Reading.{OfRelation, value_in, row_passes, passing, bounds, is_between}
 use Rattle.temp_list.specs.Lists.{ListState, IsOver, IsRowOver, relation_of}
 use Rattle.temp_list.specs.Selecting.{IsSelected}
@@ -63,18 +63,18 @@ module _ (relations : List RelationState) (table : ℕ) (s : RelationState) (len
       (record { sources = refl; columns = refl; over = listing_over refs held; rows = map_bag (λ (r : TupleRef). r ∷ []) refs (passing relations s tests) bag }))
 
   -- rows that some test picks are held
-  pub found_held : IsKept s → (found : List TupleRef) (so : TupleRef → Bool) → IsSameBag found (filter so s.by_key) → All (λ r. IsSome (finite.get s.rows r)) found
+  pub found_held : IsKept s → (found : List TupleRef) (so : TupleRef → Bool) → IsSameBag found (filter so (tree_list s.by_key)) → All (λ r. IsSome (finite.get s.rows r)) found
   found_held kept found so bag = λ k d l.
-      All-contains (λ r. IsSome (finite.get s.rows r)) s.by_key (get_or found k d) kept.keyed.lists.held
-      (Contains-from_filter so s.by_key (get_or found k d) (Contains-same_refs found (filter so s.by_key) (get_or found k d) bag (All-contains_itself found k d l))).0
+      All-contains (λ r. IsSome (finite.get s.rows r)) (tree_list s.by_key) (get_or found k d) kept.keyed.lists.held
+      (Contains-from_filter so (tree_list s.by_key) (get_or found k d) (Contains-same_refs found (filter so (tree_list s.by_key)) (get_or found k d) bag (All-contains_itself found k d l))).0
 
   -- rows among which are all that pass
-  pub selected_of : (kept : IsKept s) (tests : List Test) (found : List TupleRef) (so : TupleRef → Bool) → IsSameBag found (filter so s.by_key) → ((r : TupleRef) → row_passes relations s tests r ≡ true → so r ≡ true) → (list : ListState) → list ≡ listing table (filter (row_passes relations s tests) found) → OfRelation relations table (λ t. IsSelected relations table t tests list)
+  pub selected_of : (kept : IsKept s) (tests : List Test) (found : List TupleRef) (so : TupleRef → Bool) → IsSameBag found (filter so (tree_list s.by_key)) → ((r : TupleRef) → row_passes relations s tests r ≡ true → so r ≡ true) → (list : ListState) → list ≡ listing table (filter (row_passes relations s tests) found) → OfRelation relations table (λ t. IsSelected relations table t tests list)
   selected_of kept tests found so bag passes list is =
       let p : TupleRef → Bool = row_passes relations s tests in
       selected tests (filter p found) (All-filter p (λ r. IsSome (finite.get s.rows r)) found (found_held kept found so bag))
-      (IsSameBag-trans (IsSameBag-filter p found (filter so s.by_key) bag)
-      (IsSameBag-from_same (filter p (filter so s.by_key)) (filter p s.by_key) (filter_inner p so s.by_key (λ k d l. passes (get_or s.by_key k d)))))
+      (IsSameBag-trans (IsSameBag-filter p found (filter so (tree_list s.by_key)) bag)
+      (IsSameBag-from_same (filter p (filter so (tree_list s.by_key))) (filter p (tree_list s.by_key)) (filter_inner p so (tree_list s.by_key) (λ k d l. passes (get_or (tree_list s.by_key) k d)))))
       list is
 
 -- a row that passes all tests passes each

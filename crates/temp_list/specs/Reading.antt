@@ -9,7 +9,7 @@ use Rattle.plain_tables.specs.declared.value.Value.TheVariants.{Null}
 use Rattle.plain_tables.specs.Queries.{stands}
 use Rattle.plan_chooser.specs.Plans.{is_range}
 use Rattle.mm_relation.specs.Reading.{value_at}
-use Rattle.mm_relation.specs.State.{RelationState, IsKept, IsCurrent, linked_keys}
+use Rattle.mm_relation.specs.State.{tree_list, RelationState, IsKept, IsCurrent, linked_keys}
 
 -- Relations that stand rightly among each other: each keeps what a relation keeps by itself, and is current under the keys that
 -- its links lead to.
@@ -31,7 +31,7 @@ row_passes relations s tests r = list_all (λ t. stands t.op (value_in relations
 
 -- the rows that pass, in the order of their keys
 abbrev pub passing : List RelationState → RelationState → List Test → List TupleRef
-passing relations s tests = filter (row_passes relations s tests) s.by_key
+passing relations s tests = filter (row_passes relations s tests) (tree_list s.by_key)
 
 -- each test's column is there
 abbrev pub HasColumns : RelationState → List Test → Type 0
@@ -39,7 +39,7 @@ HasColumns s tests = All (λ t. t.column.0 < length s.schema.columns) tests
 
 -- the rows whose value in a column stands so to a value, in the order of their keys
 abbrev pub standing : List RelationState → RelationState → ℕ → Op → Value → List TupleRef
-standing relations s column op value = filter (λ r. stands op (value_in relations s column r) value) s.by_key
+standing relations s column op value = filter (λ r. stands op (value_in relations s column r) value) (tree_list s.by_key)
 
 -- whether a test bounds the values of a column: it is on that column, by any operator but <>
 abbrev pub bounds : ℕ → Test → Bool
@@ -51,7 +51,7 @@ is_between column tests v = list_all (λ t. stands t.op v t.value) (filter (boun
 
 -- the rows whose value in a column passes each test that bounds it, in the order of their keys
 abbrev pub between : List RelationState → RelationState → ℕ → List Test → List TupleRef
-between relations s column tests = filter (λ r. is_between column tests (value_in relations s column r)) s.by_key
+between relations s column tests = filter (λ r. is_between column tests (value_in relations s column r)) (tree_list s.by_key)
 
 -- what is said of the relation of a table
 abbrev pub OfRelation : List RelationState → ℕ → (RelationState → Type 0) → Type 0

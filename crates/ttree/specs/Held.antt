@@ -1,11 +1,11 @@
 -- What a T-tree is seen as, its tree and its spare nodes: the list of the tree, and what each T-tree keeps to.
 use Rattle.std.specs.Prelude.{◌≡◌, ℕ, ◌+◌, ◌^◌, ◌≤◌, List, length}
 use Rattle.part_raw.specs.declared.tuple_ref.TupleRef.{TupleRef}
-use Rattle.ttree_node.specs.Tree.{list, size}
 use Rattle.ttree_node.specs.TreeWithSpares.{TreeWithSpares}
 use Rattle.ttree.specs.Shape.{IsTTree}
 pub use Rattle.ttree_node.specs.Walk.{rest_of}
-pub use Rattle.ttree_node.specs.Tree.{height}
+pub use Rattle.ttree_node.specs.Tree.{Tree, Label, empty, list, height, size}
+pub use Rattle.ttree_node.specs.TreeCode.{tree_code, label_code}
 
 -- the references in order
 abbrev pub items_of_tree : TreeWithSpares → List TupleRef

@@ -1,7 +1,8 @@
 -- What a T-tree is beside its list: no node is empty, the children's heights differ by at most one, the stated heights are true, and the nodes are full enough.
 use Rattle.std.specs.Prelude.{◌≡◌, ℕ, zero, suc, ◌+◌, ◌-◌, ◌^◌, ◌<◌, ◌≤◌, max, length, true, false}
 use Rattle.std.specs.Int.Digits.{digits_of}
-use Rattle.ttree_node.specs.Tree.{Tree, empty, node, Label, height, is_node, items_of}
+use Rattle.ttree_node.specs.Tree.{Tree, empty, node, Label, height, size, list, is_node, items_of}
+use Rattle.ttree.specs.declared.shape.TreeShape.{TreeShape}
 
 module _ {I : Type 0} where
   -- it holds at each node, with the node's left tree, its label and its right tree
@@ -67,6 +68,21 @@ unfoldable pub fib : ℕ → ℕ
 fib zero = 0
 fib (suc zero) = 1
 fib (suc (suc n)) = fib (suc n) + fib n
+
+module _ {I : Type 0} where
+  -- the shape that a T-tree keeps to: balanced at each node, stated heights true, no node empty or above `most` items, each with two children at least `least` and each with one at least one more together with it; so its height is logarithmic in its items
+  pub record IsWellShaped (least most : ℕ) (t : Tree (Label I)) : Type 0 where
+    pub balanced : IsBalanced t
+    pub true_heights : HasTrueHeights t
+    pub items : HasItemsInEach most t
+    pub occupied : IsOccupiedThroughout least t
+    pub low : fib (height t + 2) ≤ 1 + length (list t)
+
+  -- what is told of a tree: its height, its nodes and its items
+  pub record HasShape (t : Tree (Label I)) (shape : TreeShape) : Type 0 where
+    pub height : shape.height ≡ height t
+    pub nodes : shape.nodes ≡ size t
+    pub items : shape.items ≡ length (list t)
 
 -- the greatest height that a node can state
 abbrev pub greatest_height : ℕ

@@ -6,7 +6,7 @@ ghost use Rattle.ttree.specs.Room.{room_of};
 ghost use Rattle.ttree.specs.Shape.{binary_digits};
 
 use crate::tree::TTree;
-use mm_index::{OrderedIndex, Probe, TupleOrder};
+use mm_index::{OrderProbe, OrderedIndex, Probe, TupleOrder};
 use no_memory::NoMemory;
 use part_raw::TupleRef;
 
@@ -22,12 +22,12 @@ impl<const MIN: usize, const MAX: usize> OrderedIndex for TTree<MIN, MAX> {
         TTree::reserve(self, n)
     }
 
-    fn insert<O: TupleOrder>(&mut self, order: &O, r: TupleRef) {
-        TTree::insert(self, order, r);
+    fn insert<O: TupleOrder>(&mut self, probe: &mut OrderProbe<'_, O>) {
+        TTree::insert(self, probe);
     }
 
-    fn remove<O: TupleOrder>(&mut self, order: &O, r: TupleRef) {
-        TTree::remove(self, order, r);
+    fn remove<O: TupleOrder>(&mut self, probe: &mut OrderProbe<'_, O>) {
+        TTree::remove(self, probe);
     }
 
     fn find<P: Probe>(&self, probe: &mut P) -> Option<TupleRef> {

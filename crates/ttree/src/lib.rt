@@ -19,9 +19,11 @@ mod removal;
 mod rotate;
 mod search;
 mod settle;
+mod shape;
 mod steps;
 mod tree;
 mod turn;
 
+pub use shape::{LEAST_ITEMS, MOST_ITEMS, TableTree, TreeShape, table_tree_shape};
 pub use tree::TTree;
 pub use ttree_node::{Look, Walk};

@@ -1,10 +1,10 @@
 //! The steps of a removal: the item goes out, and where an internal node then holds too few, the greatest item of its left
 //! subtree comes up. What is left to do is at the node that lost an item last.
-ghost use Rattle.std.specs.Prelude.{◌≡◌, ◌+◌, ◌<◌, ◌≤◌, ◌^◌, ◌++◌, ◌∷◌, [], true, false, length, remove as removed, All, Contains};
+ghost use Rattle.std.specs.Prelude.{◌≡◌, ◌+◌, ◌*◌, ◌<◌, ◌≤◌, ◌^◌, ◌++◌, ◌∷◌, [], true, false, length, remove as removed, All, Contains};
 ghost use Rattle.mm_index.specs.Order.{IsRising, remove_by};
-ghost use Rattle.ttree_node.specs.Tree.{list, size, whole, is_node, has_left, has_right, left_of, items_of, down_left, with_items, with_tree};
+ghost use Rattle.ttree_node.specs.Tree.{list, size, height, whole, is_node, has_left, has_right, left_of, items_of, down_left, with_items, with_tree};
 ghost use Rattle.ttree_node.specs.Editor.{position, tree_at, spares_at};
-ghost use Rattle.ttree.specs.Shape.{IsTTree};
+ghost use Rattle.ttree.specs.Shape.{IsTTree, binary_digits};
 ghost use Rattle.ttree.specs.Room.{nodes_of, nodes_at};
 ghost use Rattle.ttree_node.specs.Seen.{tree_of, spares_of, shown};
 ghost use Rattle.ttree.specs.Removing.{HasLost, rightmost, without_greatest, without_left_greatest};
@@ -145,29 +145,29 @@ pub(crate) fn take_out<const MIN: usize, const MAX: usize>(
     recover::<MIN, MAX>(editor);
 }
 
-// Takes `r` out of the tree.
+// Takes the reference that the probe seeks out of the tree.
 pub(crate) fn remove<O: TupleOrder, const MIN: usize, const MAX: usize>(
     nodes: &mut LinkedNodes<MAX>,
-    order: &O,
-    r: TupleRef,
+    probe: &mut OrderProbe<'_, O>,
 )
     requires some { 1 ≤ MIN }
     requires ordered { MIN ≤ MAX }
     requires two { 2 ≤ MAX }
     requires fit { IsTTree MIN MAX (tree_of nodes.old) }
     requires short { length (list (tree_of nodes.old)) ≤ 2 ^ 32 }
-    requires held { Contains (list (tree_of nodes.old)) r }
-    requires sound { O.is_sound order.now }
-    requires covered { All (O.covers order.now) (list (tree_of nodes.old)) }
-    requires rising { IsRising (O.cmp order.now) (list (tree_of nodes.old)) }
+    requires held { Contains (list (tree_of nodes.old)) probe.old.sought }
+    requires sound { O.is_sound probe.old.order.now }
+    requires covered { All (O.covers probe.old.order.now) (list (tree_of nodes.old)) }
+    requires rising { IsRising (O.cmp probe.old.order.now) (list (tree_of nodes.old)) }
     ensures fit { IsTTree MIN MAX (tree_of nodes.new) }
-    ensures list { list (tree_of nodes.new) ≡ remove_by (O.cmp order.now) r (list (tree_of nodes.old)) }
+    ensures list { list (tree_of nodes.new) ≡ remove_by (O.cmp probe.old.order.now) probe.old.sought (list (tree_of nodes.old)) }
     ensures one { length (list (tree_of nodes.new)) + 1 ≡ length (list (tree_of nodes.old)) }
     ensures nodes { nodes_of (shown nodes.new) ≡ nodes_of (shown nodes.old) }
     ensures spares { spares_of nodes.old ≤ spares_of nodes.new }
+    ensures most_asked { probe.new.asked ≤ probe.old.asked + (2 * height (tree_of nodes.old) + binary_digits MAX) }
 {
     let mut editor = nodes.edit();
-    match locate_to_edit(&mut editor, &mut OrderProbe::new(order, r)) {
+    match locate_to_edit(&mut editor, probe) {
         Ok(index) => take_out::<MIN, MAX>(&mut editor, index),
         Err(_) => unreachable!(),
     }

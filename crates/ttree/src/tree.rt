@@ -209,29 +209,43 @@ impl<const MIN: usize, const MAX: usize> TTree<MIN, MAX> {
         Ok(())
     }
 
-    /// Puts `r` at its place. Takes no memory.
-    pub fn insert<O: TupleOrder>(&mut self, order: &O, r: TupleRef)
-        // There is room for one more, and `r` is not held.
+    /// Makes sure of memory for one insert, until `release_spares`: of one node at most, and of none where the nodes suffice.
+    /// After an `Err` nothing has changed.
+    pub fn reserve_one(&mut self) -> Result<(), NoMemory>
+        ensures tree { self.new.tree ≡ self.old.tree }
+        ensures reserved { OnOk result (0 < room_of MIN self.new) }
+        ensures spares { self.new.spares ≤ max self.old.spares 1 }
+        ensures nodes { nodes_of self.new ≤ max (nodes_of self.old) (nodes_for MIN (length (items_of_tree self.old) + 1)) }
+        ensures err { OnErr result (self.new ≡ self.old) }
+    {
+        self.reserve(1)
+    }
+
+    /// Puts the reference that the probe seeks at its place. It searches once, and takes no memory.
+    pub fn insert<O: TupleOrder>(&mut self, probe: &mut OrderProbe<'_, O>)
+        // There is room for one more, and the reference is not held.
         requires reserved { 0 < room_of MIN self.old }
         requires short { length (items_of_tree self.old) < 2 ^ 32 }
-        requires absent { ¬ (Contains (items_of_tree self.old) r) }
+        requires absent { ¬ (Contains (items_of_tree self.old) probe.old.sought) }
 
-        // The list rises by the order, which covers it and `r`.
-        requires sound { O.is_sound order.now }
-        requires covered { All (O.covers order.now) (items_of_tree self.old) }
-        requires r_covered { O.covers order.now r }
-        requires rising { IsRising (O.cmp order.now) (items_of_tree self.old) }
+        // The list rises by the order, which covers it and the reference.
+        requires sound { O.is_sound probe.old.order.now }
+        requires covered { All (O.covers probe.old.order.now) (items_of_tree self.old) }
+        requires r_covered { O.covers probe.old.order.now probe.old.sought }
+        requires rising { IsRising (O.cmp probe.old.order.now) (items_of_tree self.old) }
 
-        ensures items { items_of_tree self.new ≡ insert_by (O.cmp order.now) r (items_of_tree self.old) }
-        ensures rising { IsRising (O.cmp order.now) (items_of_tree self.new) }
+        ensures items { items_of_tree self.new ≡ insert_by (O.cmp probe.old.order.now) probe.old.sought (items_of_tree self.old) }
+        ensures rising { IsRising (O.cmp probe.old.order.now) (items_of_tree self.new) }
         // A node that this adds was a spare one, and it adds one at most.
         ensures nodes { nodes_of self.new ≡ nodes_of self.old }
         ensures spares { self.old.spares ≤ self.new.spares + 1 }
         ensures room { room_of MIN self.old ≤ room_of MIN self.new + 1 }
         // Where each node that has a child is full, it stays so: hence it is so after inserts alone into a new tree.
         ensures full { 2 ≤ MIN → ParentsAreFull MAX self.old.tree → ParentsAreFull MAX self.new.tree }
+        ensures most_asked { probe.new.asked ≤ probe.old.asked + (2 * height self.old.tree + binary_digits MAX) }
     {
-        let found = self.insert_unless_found(&mut OrderProbe::new(order, r), r);
+        let r = probe.sought();
+        let found = self.insert_unless_found(probe, r);
         prove!(found.is_none());
     }
 
@@ -267,22 +281,24 @@ impl<const MIN: usize, const MAX: usize> TTree<MIN, MAX> {
         found
     }
 
-    /// Takes `r` out. Each node that this frees is kept as a spare one. Takes no memory.
-    pub fn remove<O: TupleOrder>(&mut self, order: &O, r: TupleRef)
-        requires held { Contains (items_of_tree self.old) r }
+    /// Takes the reference that the probe seeks out. Each node that this frees is kept as a spare one. It searches once, and
+    /// takes no memory.
+    pub fn remove<O: TupleOrder>(&mut self, probe: &mut OrderProbe<'_, O>)
+        requires held { Contains (items_of_tree self.old) probe.old.sought }
 
         // The list rises by the order, which covers it.
-        requires sound { O.is_sound order.now }
-        requires covered { All (O.covers order.now) (items_of_tree self.old) }
-        requires rising { IsRising (O.cmp order.now) (items_of_tree self.old) }
+        requires sound { O.is_sound probe.old.order.now }
+        requires covered { All (O.covers probe.old.order.now) (items_of_tree self.old) }
+        requires rising { IsRising (O.cmp probe.old.order.now) (items_of_tree self.old) }
 
-        ensures items { items_of_tree self.new ≡ remove_by (O.cmp order.now) r (items_of_tree self.old) }
-        ensures rising { IsRising (O.cmp order.now) (items_of_tree self.new) }
+        ensures items { items_of_tree self.new ≡ remove_by (O.cmp probe.old.order.now) probe.old.sought (items_of_tree self.old) }
+        ensures rising { IsRising (O.cmp probe.old.order.now) (items_of_tree self.new) }
         ensures nodes { nodes_of self.new ≡ nodes_of self.old }
         ensures spares { self.old.spares ≤ self.new.spares }
         ensures room { room_of MIN self.old ≤ room_of MIN self.new }
+        ensures most_asked { probe.new.asked ≤ probe.old.asked + (2 * height self.old.tree + binary_digits MAX) }
     {
-        remove::<O, MIN, MAX>(self.links.nodes_mut(), order, r);
+        remove::<O, MIN, MAX>(self.links.nodes_mut(), probe);
         self.len -= 1;
     }
 

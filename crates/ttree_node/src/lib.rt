@@ -26,7 +26,7 @@
 //! - A child links the node that links it as its parent, and keeps on which side it hangs. The root links no parent.
 //! - No node is linked from two places, so the nodes that the root leads to are a tree.
 //! - The spare nodes are a chain by their left links, hold nothing, and are counted.
-//! - The nodes of the tree and the spare ones are all that the set of nodes owns. So no node is lost, and each is freed once.
+//! - The nodes of the tree and the spare ones are all that the set of nodes owns. So each is freed at most once, and only by them.
 //!
 //! Only the module `nodes` follows a pointer.
 #![tactic(auto)]

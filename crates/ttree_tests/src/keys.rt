@@ -3,7 +3,7 @@ ghost use Rattle.std.specs.Prelude.{◌≡◌, [], nat_lt, if◌then◌else◌};
 ghost use Rattle.std.specs.Ordering.{nat_cmp};
 ghost use Rattle.std.specs.declared.cmp.Ordering.TheVariants.{Less, Equal, Greater};
 
-use mm_index::{MAX_LEN, OrderedIndex, Probe, TupleOrder};
+use mm_index::{MAX_LEN, OrderProbe, OrderedIndex, Probe, TupleOrder};
 use no_memory::NoMemory;
 use part_raw::TupleRef;
 use std::alloc::Global;
@@ -111,10 +111,11 @@ impl<I: OrderedIndex> Keys<I> {
             asked: 0,
         };
         if let Some(r) = self.index.find(&mut probe) {
-            self.index.remove(&KeyOrder, r);
+            self.index.remove(&mut OrderProbe::new(&KeyOrder, r));
         } else if self.index.len() < MAX_LEN {
             self.index.reserve(1)?;
-            self.index.insert(&KeyOrder, keyed(key));
+            self.index
+                .insert(&mut OrderProbe::new(&KeyOrder, keyed(key)));
         }
         Ok(())
     }

@@ -1,9 +1,8 @@
 //! Load and dump: the rows of one table as a block of CSV.
 
-ghost use Rattle.std.specs.Prelude.{◌≡◌, ◌≢◌, ◌++◌, ◌<◌, ℕ, Ok, Err, Some, IsSome, IfOk, IfErr, OnOk, length, map, slice_get, ◌⊎◌};
+ghost use Rattle.std.specs.Prelude.{◌≡◌, ◌≢◌, ◌++◌, ◌<◌, ◌≤◌, ℕ, Ok, Err, Some, IsSome, IfOk, IfErr, OnOk, length, map, slice_get, ◌⊎◌};
 ghost use Rattle.std.specs.FinMap as finite;
 ghost use Rattle.std.specs.List.{flat_map};
-ghost use Rattle.std.specs.Io.KnownBytes.{Appends};
 ghost use Rattle.plain_tables.specs.AnswerText.{answer_text, text_line};
 ghost use Rattle.plain_tables.specs.Csv.{row_record};
 ghost use Rattle.plain_tables.specs.Doing.{done, dump_block};
@@ -15,9 +14,10 @@ ghost use Rattle.plain_tables.specs.declared.command.Command.TheVariants as comm
 ghost use Rattle.plain_tables.specs.declared.refusal.Refusal.TheVariants as refusal;
 ghost use Rattle.plain_tables.specs.declared.resolved.Resolved.TheVariants as resolved;
 ghost use Rattle.mm_csv.specs.BlockReading.{block_records, column_of, columns_of};
-ghost use Rattle.mm_relation.specs.State.{IsCurrent, linked_keys};
+ghost use Rattle.mm_relation.specs.State.{tree_list, IsCurrent, linked_keys};
 ghost use Rattle.mm_catalog.specs.Picked.{seen_values};
 ghost use Rattle.mm_catalog.specs.Seen.{database_of};
+ghost use Rattle.mm_session.specs.Dumps.{IsWithin, IsPast, GoesOnWithin, GoesPast, IsGivenUp};
 
 use crate::answer::Answer;
 use mm_catalog::Catalog;
@@ -120,39 +120,77 @@ fn push_lent_row<'a>(
     Ok(())
 }
 
-// Each row as a record, in the order of their keys.
-fn push_rows(
-    alloc: Global,
-    records: &mut RecordWriter<Answer>,
-    catalog: &Catalog,
-    relation: &Relation,
-) -> Result<(), NoMemory>
-    requires some { 0 < length relation.now.schema.columns }
-    requires current { IsCurrent (linked_keys relation.now.targets catalog.now.relations) relation.now }
-    ensures { OnOk result (Appends records.old.bytes records.new.bytes (flat_map row_record (map (seen_values catalog.now relation.now) relation.now.by_key))) }
+// Refuses a front of a block that is past the limit.
+fn check_length(records: &RecordWriter<Answer>, limit: usize) -> Result<(), Refusal>
+    ensures within { OnOk result (IsWithin limit records.now.bytes) }
+    ensures past { IfErr result (λ e. (e ≡ refusal.DumpTooLong) × IsPast limit records.now.bytes) }
 {
-    a_relation_is_kept(relation);
-    let mut values = Vec::with_capacity(alloc, relation.schema().columns.len())?;
-    for r in relation.walk() {
-        values.clear();
-        push_lent_row(&mut values, catalog, relation, r)?;
-        records.push_values(&values)?;
+    if records.get_ref().as_slice().len() > limit {
+        return Err(Refusal::DumpTooLong);
     }
     Ok(())
 }
 
-// The block of a table: the names of its columns, and its rows.
-fn block_of(alloc: Global, catalog: &Catalog, table: TableNumber) -> Result<Answer, NoMemory>
+// Puts the record of a row behind a front of a block that is within the limit, and refuses the block where it is past it then.
+fn push_row<'a>(
+    records: &mut RecordWriter<Answer>,
+    limit: usize,
+    values: &mut Vec<&'a Value>,
+    catalog: &'a Catalog,
+    relation: &'a Relation,
+    r: TupleRef,
+) -> Result<(), Refusal>
+    requires within { IsWithin limit records.old.bytes }
+    requires some { 0 < length relation.now.schema.columns }
+    requires held { IsSome (finite.get relation.now.rows r) }
+    requires current { IsCurrent (linked_keys relation.now.targets catalog.now.relations) relation.now }
+    ensures pushed { OnOk result (GoesOnWithin limit records.old.bytes records.new.bytes (row_record (seen_values catalog.now relation.now r))) }
+    ensures refused { IfErr result (λ e. (e ≡ refusal.NoMemory) ⊎ ((e ≡ refusal.DumpTooLong) × GoesPast limit records.old.bytes records.new.bytes (row_record (seen_values catalog.now relation.now r)))) }
+{
+    values.clear();
+    push_lent_row(values, catalog, relation, r)?;
+    records.push_values(values)?;
+    check_length(records, limit)
+}
+
+// Each row as a record, in the order of their keys, behind a front of a block that is within the limit. The record that takes
+// the block past it is the last that is made.
+fn push_rows(
+    alloc: Global,
+    records: &mut RecordWriter<Answer>,
+    limit: usize,
+    catalog: &Catalog,
+    relation: &Relation,
+) -> Result<(), Refusal>
+    requires within { IsWithin limit records.old.bytes }
+    requires some { 0 < length relation.now.schema.columns }
+    requires current { IsCurrent (linked_keys relation.now.targets catalog.now.relations) relation.now }
+    ensures pushed { OnOk result (GoesOnWithin limit records.old.bytes records.new.bytes (flat_map row_record (map (seen_values catalog.now relation.now) (tree_list relation.now.by_key)))) }
+    ensures refused { IfErr result (λ e. (e ≡ refusal.NoMemory) ⊎ ((e ≡ refusal.DumpTooLong) × IsGivenUp limit records.old.bytes records.new.bytes (map (seen_values catalog.now relation.now) (tree_list relation.now.by_key)))) }
+{
+    a_relation_is_kept(relation);
+    let mut values = Vec::new(alloc);
+    for r in relation.walk() {
+        push_row(records, limit, &mut values, catalog, relation, r)?;
+    }
+    Ok(())
+}
+
+// The block of a table: the names of its columns, and its rows. Where it passes its limit, it is given up on the way.
+fn block_of(alloc: Global, catalog: &Catalog, table: TableNumber) -> Result<Answer, Refusal>
     requires { table.0 < length (database_of catalog.now) }
-    ensures { IfOk result (λ block. (t : Table) → slice_get (database_of catalog.now) table.0 ≡ Some t → block ≡ dump_block t) }
+    ensures whole { IfOk result (λ block. (t : Table) → slice_get (database_of catalog.now) table.0 ≡ Some t → (block ≡ dump_block t) × (length block ≤ catalog.now.limits.block)) }
+    ensures refused { IfErr result (λ e. (e ≡ refusal.NoMemory) ⊎ ((e ≡ refusal.DumpTooLong) × ((t : Table) → slice_get (database_of catalog.now) table.0 ≡ Some t → catalog.now.limits.block < length (dump_block t)))) }
 {
     a_catalog_is_consistent(catalog);
     let relation = catalog.at(table);
+    let limit = catalog.limits().block as usize;
     let names = names_of(alloc, relation.schema().columns.as_slice())?;
     let mut records = RecordWriter::new(alloc, Answer::new(alloc)?);
     records.push_names(&names)?;
-    push_rows(alloc, &mut records, catalog, relation)?;
-    records.finish()
+    check_length(&records, limit)?;
+    push_rows(alloc, &mut records, limit, catalog, relation)?;
+    Ok(records.finish()?)
 }
 
 // Puts the line that loads a block of so many bytes into the table behind the answer.
@@ -184,9 +222,6 @@ pub fn dump(
 {
     let block = block_of(alloc, catalog, table)?;
     let bytes = block.as_slice().len();
-    if bytes > catalog.limits().block as usize {
-        return Err(Refusal::DumpTooLong);
-    }
     push_load_line(alloc, catalog.table_name(table), bytes, answer)?;
     answer.push(block.as_slice())?;
     Ok(())

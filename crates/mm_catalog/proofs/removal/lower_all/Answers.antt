@@ -4,10 +4,11 @@ use Rattle.ttree.specs.Held.{rest_of}
 use Rattle.mm_catalog.proofs.Removing.{links_held, names_still}
 use Rattle.mm_catalog.proofs.Unlinking.{from_all, listed_row, unlinked_first, unlinked_next, enough_next, unlinked_whole}
 use Rattle.mm_catalog.proofs.removal.lower_all.Goals as goal
+use Rattle.mm_relation.specs.State.{tree_list}
 
 pub loop-r-init : goal.loop-r-init
 loop-r-init c = record {
-  split = sym (from_all c.args.relation.now.by_key) ∙ sym c.walk_column-r-items.ensures.rest ∙ ap rest_of (sym c.into_iter-r-iterator.ensures.into_iter_gives);
+  split = sym (from_all (tree_list c.args.relation.now.by_key)) ∙ sym c.walk_column-r-items.ensures.rest ∙ ap rest_of (sym c.into_iter-r-iterator.ensures.into_iter_gives);
   lowered = unlinked_first c.args.relation.now c.args.before.now c.requires.kept;
 }
 

@@ -1,4 +1,4 @@
-use Rattle.std.proofs.Common.{arith, sym, ◌∙◌}
+use Rattle.std.proofs.Common.{arith, ◌∙◌}
 use Rattle.mm_session.proofs.AskLemmas.{asks-spelled}
 use Rattle.mm_session.proofs.lines.asked_length.Goals as goal
 

@@ -7,8 +7,8 @@ pub returns-clause-items : goal.returns-clause-items
 returns-clause-items g c =
     let held : c.self.inside.refs.items ≡ c.args.self.now.items = ap (λ h. h.items) c.self.view_is in
     let same : c.as_slice.result.now ≡ c.args.self.now.items = c.as_slice.ensures.value ∙ held in
-    let placed = remove_by_at _ _ (g.met.O.TupleOrder.is_strict c.args.order.now c.requires.sound) c.args.r c.args.self.now.items
-    c.place_by_order-place.result c.requires.covered (All-contains (g.O.TupleOrder.covers c.args.order.now) c.args.self.now.items c.args.r c.requires.covered c.requires.held)
+    let placed = remove_by_at _ _ (g.met.O.TupleOrder.is_strict c.args.probe.now.order.now c.requires.sound) c.args.probe.now.sought c.args.self.now.items
+    c.place_by_order-place.result c.requires.covered (All-contains (g.O.TupleOrder.covers c.args.probe.now.order.now) c.args.self.now.items c.args.probe.now.sought c.requires.covered c.requires.held)
     (rw same at c.place_by_order-place.ensures.below) (rw same at c.place_by_order-place.ensures.not_below)
     c.requires.rising c.requires.held
     in

@@ -1,4 +1,3 @@
-use Rattle.ttree.specs.Held.{items_of_tree}
 use Rattle.std.proofs.Common.{◌≡◌, ◌∙◌, ◌++◌, List, [], ◌∷◌, sym, ap, subst}
 use Rattle.mm_relation.specs.declared.numbers.DeclaredIndex.{DeclaredIndex}
 use Rattle.mm_relation.specs.Declaring.{declaration, IsDeclared}
@@ -11,15 +10,15 @@ use Rattle.mm_relation.proofs.relation.Relation.add_index.Goals as goal
 pub add-requires-clause-serve : goal.add-requires-clause-serve
 add-requires-clause-serve g c =
     rw c.as_slice.ensures.value
-    (served c.self.inside.schema c.self.inside.targets.items c.self.inside.declared.items c.self.inside.rows.tuples (items_of_tree c.self.inside.by_key) c.self.inside.indexes c.self.invariant
+    (served c.self.inside.schema c.self.inside.targets.items c.self.inside.declared.items c.self.inside.rows.tuples c.self.inside.by_key.tree c.self.inside.indexes c.self.invariant
     (linked_keys c.self.inside.targets.items (g.R.Relations.tables c.args.others.now)) (rw (← c.self.view_is) at c.requires.current))
 
 pub returns-clause-declared : goal.returns-clause-declared
 returns-clause-declared g c =
     let index = declaration c.args.column c.args.kind in
-    let old = state c.self.inside.schema c.self.inside.targets.items c.self.inside.declared.items c.self.inside.rows.tuples (items_of_tree c.self.inside.by_key) c.self.inside.indexes in
+    let old = state c.self.inside.schema c.self.inside.targets.items c.self.inside.declared.items c.self.inside.rows.tuples c.self.inside.by_key.tree c.self.inside.indexes in
     let pushed : c.push_reserved.new.self.items ≡ c.self.inside.declared.items ++ index ∷ [] = c.push_reserved.ensures.items ∙ ap (λ (ds : List DeclaredIndex). ds ++ index ∷ []) c.reserve.ensures.items in
     rw (← c.self.view_is)
-    (subst (λ ds. IsDeclared old (state c.self.inside.schema c.self.inside.targets.items ds c.self.inside.rows.tuples (items_of_tree c.self.inside.by_key) c.add.new.self) index) (sym pushed)
-    (declared_added c.self.inside.schema c.self.inside.targets.items c.self.inside.declared.items c.self.inside.rows.tuples (items_of_tree c.self.inside.by_key) c.self.inside.indexes c.self.invariant
+    (subst (λ ds. IsDeclared old (state c.self.inside.schema c.self.inside.targets.items ds c.self.inside.rows.tuples c.self.inside.by_key.tree c.add.new.self) index) (sym pushed)
+    (declared_added c.self.inside.schema c.self.inside.targets.items c.self.inside.declared.items c.self.inside.rows.tuples c.self.inside.by_key.tree c.self.inside.indexes c.self.invariant
     c.args.kind c.args.column c.add.new.self c.in_ok-add.ensures.added))

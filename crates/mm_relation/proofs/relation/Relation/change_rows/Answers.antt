@@ -1,8 +1,7 @@
-use Rattle.ttree.specs.Held.{items_of_tree}
 use Rattle.std.proofs.Common.{◌≡◌, ◌≤◌, IsSome, refl, sym, arith, subst, length}
 use Rattle.std.proofs.lemmas.List.Elements.{All-contains}
 use Rattle.std.specs.FinMap.{get, len}
-use Rattle.mm_relation.specs.State.{IsKeyed, IsKept, IsCurrent, linked_keys}
+use Rattle.mm_relation.specs.State.{tree_list, IsKeyed, IsKept, IsCurrent, linked_keys}
 use Rattle.mm_relation.specs.Indexes.{Serve}
 use Rattle.mm_relation.proofs.Keeping.{same_state, can_read, served, kept_on, current_on}
 use Rattle.mm_relation.proofs.Setting.{no_more}
@@ -12,50 +11,50 @@ use Rattle.mm_relation.proofs.relation.Relation.change_rows.Goals as goal
 pub reserve-requires : goal.reserve-requires
 reserve-requires g c =
     let held = rw (← c.self.view_is) at c.requires.held in
-    let among : length c.args.rs.now ≤ length (items_of_tree c.self.inside.by_key) =
-    no_more c.args.rs.now (items_of_tree c.self.inside.by_key) c.requires.once
+    let among : length c.args.rs.now ≤ length (tree_list c.self.inside.by_key.tree) =
+    no_more c.args.rs.now (tree_list c.self.inside.by_key.tree) c.requires.once
     (λ r h. c.self.invariant.keyed.lists.listed r (All-contains (λ q. IsSome (get c.self.inside.rows.tuples q)) c.args.rs.now r held h)) in
-    let count : length (items_of_tree c.self.inside.by_key) ≡ len c.self.inside.rows.tuples = c.self.invariant.keyed.lists.count in
+    let count : length (tree_list c.self.inside.by_key.tree) ≡ len c.self.inside.rows.tuples = c.self.invariant.keyed.lists.count in
     omega (arith, among, count, c.self.invariant.few)
 
 pub change_each-requires-clause-read : goal.change_each-requires-clause-read
 change_each-requires-clause-read g c =
     let keys = linked_keys c.self.inside.targets.items (g.R.Relations.tables c.args.others.now) in
-    let same = same_state c.self.inside.schema c.self.inside.targets.items c.self.inside.declared.items c.self.inside.rows.tuples c.self.inside.rows.tuples (items_of_tree c.self.inside.by_key) (items_of_tree c.self.inside.by_key) c.self.inside.indexes c.reserve.new.self
+    let same = same_state c.self.inside.schema c.self.inside.targets.items c.self.inside.declared.items c.self.inside.rows.tuples c.self.inside.rows.tuples c.self.inside.by_key.tree c.self.inside.by_key.tree c.self.inside.indexes c.reserve.new.self
     refl refl c.reserve.ensures.trees c.reserve.ensures.hashes in
     let kept = subst IsKept (sym same) c.self.invariant in
     let current = subst (IsCurrent keys) (sym same) (rw (← c.self.view_is) at c.requires.current) in
-    rw c.as_slice.ensures.value (can_read c.self.inside.schema c.self.inside.targets.items c.self.inside.declared.items c.self.inside.rows.tuples (items_of_tree c.self.inside.by_key) c.reserve.new.self kept keys current)
+    rw c.as_slice.ensures.value (can_read c.self.inside.schema c.self.inside.targets.items c.self.inside.declared.items c.self.inside.rows.tuples c.self.inside.by_key.tree c.reserve.new.self kept keys current)
 
 pub invariant_of-self-2 : goal.invariant_of-self-2
 invariant_of-self-2 g c =
     let keys = linked_keys c.self.inside.targets.items (g.R.Relations.tables c.args.others.now) in
-    let same = same_state c.self.inside.schema c.self.inside.targets.items c.self.inside.declared.items c.self.inside.rows.tuples c.self.inside.rows.tuples (items_of_tree c.self.inside.by_key) (items_of_tree c.self.inside.by_key) c.self.inside.indexes c.reserve.new.self
+    let same = same_state c.self.inside.schema c.self.inside.targets.items c.self.inside.declared.items c.self.inside.rows.tuples c.self.inside.rows.tuples c.self.inside.by_key.tree c.self.inside.by_key.tree c.self.inside.indexes c.reserve.new.self
     refl refl c.reserve.ensures.trees c.reserve.ensures.hashes in
     let kept = subst IsKept (sym same) c.self.invariant in
     let current = subst (IsCurrent keys) (sym same) (rw (← c.self.view_is) at c.requires.current) in
-    let after : IsKeyed c.change_each.new.rows.tuples (items_of_tree c.self.inside.by_key) × Serve keys c.change_each.new.rows.tuples (items_of_tree c.self.inside.by_key) c.change_each.new.indexes =
-    (rw c.as_slice.ensures.value at c.change_each.ensures.served) (items_of_tree c.self.inside.by_key) c.self.invariant.keyed
-    (served c.self.inside.schema c.self.inside.targets.items c.self.inside.declared.items c.self.inside.rows.tuples (items_of_tree c.self.inside.by_key) c.reserve.new.self kept keys current) in
-    kept_on c.self.inside.schema c.self.inside.targets.items c.self.inside.declared.items c.self.inside.rows.tuples (items_of_tree c.self.inside.by_key) c.reserve.new.self kept
-    c.change_each.new.rows.tuples (items_of_tree c.self.inside.by_key) c.change_each.new.indexes after.0
-    (as_few c.self.inside.rows.tuples c.change_each.new.rows.tuples (items_of_tree c.self.inside.by_key) c.self.invariant.keyed after.0 c.self.invariant.few)
+    let after : IsKeyed c.change_each.new.rows.tuples (tree_list c.self.inside.by_key.tree) × Serve keys c.change_each.new.rows.tuples (tree_list c.self.inside.by_key.tree) c.change_each.new.indexes =
+    (rw c.as_slice.ensures.value at c.change_each.ensures.served) (tree_list c.self.inside.by_key.tree) c.self.invariant.keyed
+    (served c.self.inside.schema c.self.inside.targets.items c.self.inside.declared.items c.self.inside.rows.tuples c.self.inside.by_key.tree c.reserve.new.self kept keys current) in
+    kept_on c.self.inside.schema c.self.inside.targets.items c.self.inside.declared.items c.self.inside.rows.tuples c.self.inside.by_key.tree c.reserve.new.self kept
+    c.change_each.new.rows.tuples c.self.inside.by_key.tree c.change_each.new.indexes after.0
+    (as_few c.self.inside.rows.tuples c.change_each.new.rows.tuples (tree_list c.self.inside.by_key.tree) c.self.invariant.keyed after.0 c.self.invariant.few)
     c.change_each.ensures.trees c.change_each.ensures.hashes
 
 pub returns-clause-current : goal.returns-clause-current
 returns-clause-current g c =
     let keys = linked_keys c.self.inside.targets.items (g.R.Relations.tables c.args.others.now) in
-    let same = same_state c.self.inside.schema c.self.inside.targets.items c.self.inside.declared.items c.self.inside.rows.tuples c.self.inside.rows.tuples (items_of_tree c.self.inside.by_key) (items_of_tree c.self.inside.by_key) c.self.inside.indexes c.reserve.new.self
+    let same = same_state c.self.inside.schema c.self.inside.targets.items c.self.inside.declared.items c.self.inside.rows.tuples c.self.inside.rows.tuples c.self.inside.by_key.tree c.self.inside.by_key.tree c.self.inside.indexes c.reserve.new.self
     refl refl c.reserve.ensures.trees c.reserve.ensures.hashes in
     let kept = subst IsKept (sym same) c.self.invariant in
     let current = subst (IsCurrent keys) (sym same) (rw (← c.self.view_is) at c.requires.current) in
-    let after : IsKeyed c.change_each.new.rows.tuples (items_of_tree c.self.inside.by_key) × Serve keys c.change_each.new.rows.tuples (items_of_tree c.self.inside.by_key) c.change_each.new.indexes =
-    (rw c.as_slice.ensures.value at c.change_each.ensures.served) (items_of_tree c.self.inside.by_key) c.self.invariant.keyed
-    (served c.self.inside.schema c.self.inside.targets.items c.self.inside.declared.items c.self.inside.rows.tuples (items_of_tree c.self.inside.by_key) c.reserve.new.self kept keys current) in
+    let after : IsKeyed c.change_each.new.rows.tuples (tree_list c.self.inside.by_key.tree) × Serve keys c.change_each.new.rows.tuples (tree_list c.self.inside.by_key.tree) c.change_each.new.indexes =
+    (rw c.as_slice.ensures.value at c.change_each.ensures.served) (tree_list c.self.inside.by_key.tree) c.self.invariant.keyed
+    (served c.self.inside.schema c.self.inside.targets.items c.self.inside.declared.items c.self.inside.rows.tuples c.self.inside.by_key.tree c.reserve.new.self kept keys current) in
     let can = can_set keys (length c.self.inside.targets.items) c.self.inside.rows.tuples c.args.sets.now current.readable
     (rw (← c.self.view_is) at c.requires.columns) c.requires.not_the_key (rw (← c.self.view_is) at c.requires.readable) in
     rw (← c.self.view_is)
-    (current_on c.self.inside.schema c.self.inside.targets.items c.self.inside.declared.items c.self.inside.rows.tuples (items_of_tree c.self.inside.by_key) c.reserve.new.self kept
-    c.change_each.new.rows.tuples (items_of_tree c.self.inside.by_key) c.change_each.new.indexes keys
+    (current_on c.self.inside.schema c.self.inside.targets.items c.self.inside.declared.items c.self.inside.rows.tuples c.self.inside.by_key.tree c.reserve.new.self kept
+    c.change_each.new.rows.tuples c.self.inside.by_key.tree c.change_each.new.indexes keys
     (readable_set keys (length c.self.inside.targets.items) c.self.inside.rows.tuples c.args.sets.now current.readable can c.change_each.new.rows.tuples c.args.rs.now c.change_each.ensures.rows)
     after.1)

@@ -1,33 +1,41 @@
-use Rattle.std.proofs.Common.{◌≡◌, ◌∙◌, ◌++◌, ◌∷◌, [], List, IsSome, ap, sym, arith, append_assoc, map, length}
+use Rattle.std.proofs.Common.{◌≡◌, ◌∙◌, ◌++◌, ◌∷◌, [], List, IsSome, ap, sym, refl, append_assoc, map, ◌⊎◌}
+use Rattle.std.proofs.lemmas.List.{map-append}
+use Rattle.plain_tables.specs.declared.refusal.Refusal.TheVariants as refusal
+use Rattle.mm_session.specs.Dumps.{IsGivenUp}
 use Rattle.std.specs.FinMap as finite
-use Rattle.std.specs.Borrow.{Bor}
-use Rattle.std.proofs.lemmas.List.{length-map}
 use Rattle.part_raw.specs.declared.tuple_ref.TupleRef.{TupleRef}
 use Rattle.ttree.specs.Held.{rest_of}
-use Rattle.plain_tables.specs.declared.value.Value.{Value}
 use Rattle.mm_catalog.specs.Picked.{seen_values}
-use Rattle.mm_session.proofs.DumpLemmas.{holds_next, seen_long, records_more}
+use Rattle.mm_session.proofs.DumpLemmas.{holds_next, records_more, refused_at, handed_on}
 use Rattle.mm_session.proofs.execute.blocks.push_rows.Goals as goal
+use Rattle.mm_relation.specs.State.{tree_list}
 
-pub push_values-requires : goal.push_values-requires
-push_values-requires c =
-    let seen = seen_values c.args.catalog.now c.args.relation.now c.in-Some.r in
+pub push_row-requires-clause-held : goal.push_row-requires-clause-held
+push_row-requires-clause-held c =
     let split = c.loop-r.invariant.split ∙ ap (λ (rs : List TupleRef). c.loop-r.yielded ++ rs) c.in-Some.ensures.steps in
-    let held = holds_next (λ r. IsSome (finite.get c.args.relation.now.rows r)) c.args.relation.now.by_key c.loop-r.yielded (rest_of c.next.new.self) c.in-Some.r split
-    c.a_relation_is_kept.ensures.keyed.lists.held in
-    let long = seen_long c.args.catalog.now c.args.relation.now c.in-Some.r held in
-    let same = length-map c.push_lent_row.new.values.items (λ v. v.now) in
-    let are = ap length (c.in_ok-push_lent_row.ensures ∙ ap (λ (vs : List (Bor Value)). map (λ v. v.now) vs ++ seen) c.clear.ensures.items) in
-    omega (arith, c.deref.ensures.len, c.requires.some, long, same, are)
+    holds_next (λ r. IsSome (finite.get c.args.relation.now.rows r)) (tree_list c.args.relation.now.by_key) c.loop-r.yielded (rest_of c.next.new.self) c.in-Some.r split
+    c.a_relation_is_kept.ensures.keyed.lists.held
 
 pub loop-r-preserved : goal.loop-r-preserved
 loop-r-preserved c =
     let seen = seen_values c.args.catalog.now c.args.relation.now in
-    let are : map (λ v. v.now) c.deref.result.now ≡ seen c.in-Some.r =
-    ap (λ (vs : List (Bor Value)). map (λ v. v.now) vs) c.deref.ensures.value ∙ c.in_ok-push_lent_row.ensures
-    ∙ ap (λ (vs : List (Bor Value)). map (λ v. v.now) vs ++ seen c.in-Some.r) c.clear.ensures.items in
     record {
       split = c.loop-r.invariant.split ∙ ap (λ (rs : List TupleRef). c.loop-r.yielded ++ rs) c.in-Some.ensures.steps
           ∙ sym (append_assoc c.loop-r.yielded (c.in-Some.r ∷ []) (rest_of c.next.new.self));
-      written = records_more seen c.args.records.now.bytes c.loop-r.records.bytes c.push_values.new.self.bytes c.loop-r.yielded c.in-Some.r _ c.loop-r.invariant.written c.in_ok-push_values.ensures.bytes are;
+      written = (
+        records_more seen c.args.records.now.bytes c.loop-r.records.bytes c.push_row.new.records.bytes c.loop-r.yielded c.in-Some.r _ c.loop-r.invariant.written.0 c.in_ok-push_row.ensures.pushed.0 refl,
+        c.in_ok-push_row.ensures.pushed.1,
+      );
     }
+
+pub returns-in_err-push_row-clause-refused : goal.returns-in_err-push_row-clause-refused
+returns-in_err-push_row-clause-refused c =
+    let seen = seen_values c.args.catalog.now c.args.relation.now in
+    let rest = rest_of c.next.new.self in
+    let rows = map seen (tree_list c.args.relation.now.by_key) in
+    let steps = c.loop-r.invariant.split ∙ ap (λ (rs : List TupleRef). c.loop-r.yielded ++ rs) c.in-Some.ensures.steps in
+    let split : rows ≡ map seen c.loop-r.yielded ++ seen c.in-Some.r ∷ map seen rest = ap (map seen) steps ∙ map-append seen c.loop-r.yielded (c.in-Some.r ∷ rest) in
+    handed_on (λ e. (e ≡ refusal.NoMemory) ⊎ ((e ≡ refusal.DumpTooLong) × IsGivenUp c.args.limit c.args.records.now.bytes c.push_row.new.records.bytes rows))
+    c.from_residual.result c.in_err-push_row.field-0.0 c.from_residual.ensures.1
+    (refused_at c.args.limit c.args.records.now.bytes c.loop-r.records.bytes c.push_row.new.records.bytes rows (map seen c.loop-r.yielded) (map seen rest) (seen c.in-Some.r) _ split
+    c.loop-r.invariant.written c.in_err-push_row.ensures.refused)

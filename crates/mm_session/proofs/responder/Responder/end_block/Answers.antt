@@ -1,4 +1,4 @@
-use Rattle.std.proofs.Common.{◌≡◌, ℕ, List, ap, Bor, refl, sym, subst, ◌∙◌, length}
+use Rattle.std.proofs.Common.{◌≡◌, ℕ, List, ap, Bor, refl, subst, ◌∙◌, length}
 use Rattle.mm_catalog.specs.Seen.{database_of}
 use Rattle.plain_streams.specs.Requests.{Request}
 use Rattle.mm_session.specs.Kept.{KeepsBlock}

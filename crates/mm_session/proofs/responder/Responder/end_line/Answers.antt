@@ -1,5 +1,5 @@
-use Rattle.std.proofs.Common.{◌≡◌, ℕ, List, [], ◌∷◌, ◌++◌, true, false, refl, sym, ap, ◌∙◌, append-nil, append_assoc}
-use Rattle.std.specs.Prelude.{not, is_some}
+use Rattle.std.proofs.Common.{◌≡◌, [], ◌∷◌, ◌++◌, true, refl, sym, ap, ◌∙◌, append-nil, append_assoc}
+use Rattle.std.specs.Prelude.{not}
 use Rattle.plain_streams.specs.Requests.{Request}
 use Rattle.mm_session.specs.Buffers.{is_start, kept_of}
 use Rattle.mm_session.specs.Responding.{IsLineWith, IsLoadLine}

@@ -1,5 +1,4 @@
-use Rattle.std.proofs.Common.{◌≡◌, ◌≢◌, [], List, ℕ, refl, sym, ap, subst, ◌∙◌}
-use Rattle.plain_streams.specs.Requests.{Request}
+use Rattle.std.proofs.Common.{◌≡◌, sym, ap, subst, ◌∙◌}
 use Rattle.plain_streams.specs.Division.{request_of}
 use Rattle.plain_streams.specs.Runs.{Answers}
 use Rattle.plain_streams.proofs.DivisionLemmas.{request_of-line, request_of-bytes}

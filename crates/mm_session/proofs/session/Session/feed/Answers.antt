@@ -1,5 +1,5 @@
-use Rattle.std.proofs.Common.{◌≡◌, ◌++◌, ◌∷◌, [], List, ℕ, Bool, ◌∙◌, ap, sym, subst, refl, arith, false, append_assoc, append-nil}
-use Rattle.mm_session.specs.Sessions.{State, Feeds, BreaksOff}
+use Rattle.std.proofs.Common.{◌≡◌, ◌++◌, [], List, ℕ, Bool, ◌∙◌, ap, sym, subst, refl, false, append_assoc, append-nil}
+use Rattle.mm_session.specs.Sessions.{State, Feeds}
 use Rattle.mm_session.specs.declared.responder.Responder.{Responder}
 use Rattle.mm_catalog.specs.Seen.{database_of}
 use Rattle.mm_session.proofs.ResultLemmas.{on_ok, on_error}

@@ -8,15 +8,15 @@ use Rattle.ttree.proofs.tree.TTree.insert.Goals as goal
 
 pub insert_unless_found-found-requires : goal.insert_unless_found-found-requires
 insert_unless_found-found-requires g c =
-    let strict = g.met.O.TupleOrder.is_strict c.args.order.now c.requires.sound in (
+    let strict = g.met.O.TupleOrder.is_strict c.args.probe.now.order.now c.requires.sound in (
       lit< tt,
       (
         c.requires.reserved,
         (
           c.requires.short,
           (
-            rw (c.new.ensures.order, c.new.ensures.sought) (c.requires.sound, c.requires.r_covered),
-            (rw c.new.ensures.order c.requires.covered, rw (c.new.ensures.order, c.new.ensures.sought) (NeverFalls-by_order _ _ strict c.args.r _ c.requires.covered c.requires.r_covered c.requires.rising)),
+            (c.requires.sound, c.requires.r_covered),
+            (c.requires.covered, (NeverFalls-by_order _ _ strict c.args.probe.now.sought _ c.requires.covered c.requires.r_covered c.requires.rising)),
           ),
         ),
       ),
@@ -25,11 +25,11 @@ insert_unless_found-found-requires g c =
 pub returns-clause-items : goal.returns-clause-items
 returns-clause-items g c =
     let inserted = at_none c.insert_unless_found-found.result _ (c.is_none.ensures ∙ ap not c.if-prove.false) c.insert_unless_found-found.ensures.inserted in
-    (rw (c.new.ensures.order, c.new.ensures.sought) at inserted) ∙ insert_placed-by (g.O.TupleOrder.cmp c.args.order.now) c.args.r (items_of_tree c.args.self.now)
+    (rw c.sought-r.ensures at inserted) ∙ insert_placed-by (g.O.TupleOrder.cmp c.args.probe.now.order.now) c.args.probe.now.sought (items_of_tree c.args.self.now)
 
 pub returns-clause-rising : goal.returns-clause-rising
 returns-clause-rising g c =
-    let cmp = g.O.TupleOrder.cmp c.args.order.now in
-    let strict = g.met.O.TupleOrder.is_strict c.args.order.now c.requires.sound in
+    let cmp = g.O.TupleOrder.cmp c.args.probe.now.order.now in
+    let strict = g.met.O.TupleOrder.is_strict c.args.probe.now.order.now c.requires.sound in
     subst (λ (xs : List TupleRef). IsRising cmp xs) (sym (returns-clause-items g c))
-    (IsRising-insert_by (g.O.TupleOrder.covers c.args.order.now) cmp strict c.args.r (items_of_tree c.args.self.now) c.requires.covered c.requires.r_covered c.requires.rising)
+    (IsRising-insert_by (g.O.TupleOrder.covers c.args.probe.now.order.now) cmp strict c.args.probe.now.sought (items_of_tree c.args.self.now) c.requires.covered c.requires.r_covered c.requires.rising)

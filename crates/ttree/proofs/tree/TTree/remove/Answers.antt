@@ -32,10 +32,10 @@ returns-clause-room g c =
 
 pub returns-clause-rising : goal.returns-clause-rising
 returns-clause-rising g c =
-    let cmp = g.O.TupleOrder.cmp c.args.order.now in
-    let covers = g.O.TupleOrder.covers c.args.order.now in
-    let strict = g.met.O.TupleOrder.is_strict c.args.order.now c.requires.sound in
+    let cmp = g.O.TupleOrder.cmp c.args.probe.now.order.now in
+    let covers = g.O.TupleOrder.covers c.args.probe.now.order.now in
+    let strict = g.met.O.TupleOrder.is_strict c.args.probe.now.order.now c.requires.sound in
     let seen : shown c.nodes_mut.result.now ≡ c.args.self.now = c.nodes_mut.ensures.shown ∙ c.self.view_is in
-    let is : list (tree_of c.remove.new.nodes) ≡ remove_by cmp c.args.r (items_of_tree c.args.self.now) =
-    c.remove.ensures.list ∙ ap (λ (t : TreeWithSpares). remove_by cmp c.args.r (items_of_tree t)) seen in
-    subst (λ (xs : List TupleRef). IsRising cmp xs) (sym is) (IsRising-remove_by covers cmp strict c.args.r (items_of_tree c.args.self.now) c.requires.rising)
+    let is : list (tree_of c.remove.new.nodes) ≡ remove_by cmp c.args.probe.now.sought (items_of_tree c.args.self.now) =
+    c.remove.ensures.list ∙ ap (λ (t : TreeWithSpares). remove_by cmp c.args.probe.now.sought (items_of_tree t)) seen in
+    subst (λ (xs : List TupleRef). IsRising cmp xs) (sym is) (IsRising-remove_by covers cmp strict c.args.probe.now.sought (items_of_tree c.args.self.now) c.requires.rising)

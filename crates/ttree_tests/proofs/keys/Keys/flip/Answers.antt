@@ -11,4 +11,4 @@ invariant_of-self g c = (c.remove.ensures.rising, rw c.remove.ensures.items (All
 
 pub invariant_of-self-then-len-lt-MAX_LEN : goal.invariant_of-self-then-len-lt-MAX_LEN
 invariant_of-self-then-len-lt-MAX_LEN g c =
-    (c.insert.ensures.rising, rw (c.insert.ensures.items, c.reserve.ensures.items) (All-insert_by (λ r. r.slot ≡ 0) _ _ _ c.self.invariant.1 c.keyed.ensures.slot))
+    (c.insert.ensures.rising, rw (c.insert.ensures.items, c.new-then-len-lt-MAX_LEN.ensures.sought, c.reserve.ensures.items) (All-insert_by (λ r. r.slot ≡ 0) _ _ _ c.self.invariant.1 c.keyed.ensures.slot))

@@ -1,0 +1,78 @@
+"""How the trees of tables stand after a stream: the height, the nodes and the references of each, as the crates' test whose
+name ends in `trees_of_standard_input` tells them of the stream that it is fed."""
+
+import random
+import subprocess
+import unittest
+
+import harness
+import model
+import streams
+import test_model
+
+LEAST, MOST = 30, 32
+STREAMS = 40
+
+
+def fibonacci(n):
+    """0, 1, and then each is the sum of the two before it."""
+    a, b = 0, 1
+    for _ in range(n):
+        a, b = b, a + b
+    return a
+
+
+def tables_after(stream):
+    """The tables of plain lists after a stream."""
+    tables = model.Tables(model.Limits())
+    for unit in model.units_of(stream):
+        tables.answer(*unit)
+    return tables.by_name.values()
+
+
+class TreeShapes(unittest.TestCase):
+    """Each tree has each row of its table once, in nodes and levels as few as those of a balanced tree of full nodes are."""
+
+    @classmethod
+    def setUpClass(cls):
+        [(cls.binary, cls.name)] = harness.crate_tests("trees_of_standard_input")
+
+    def trees_after(self, stream):
+        """The height, the nodes and the references of each tree, by table and column."""
+        ended = subprocess.run([self.binary, self.name], input=stream, capture_output=True, check=True)
+        told = (line.split() for line in ended.stdout.decode().splitlines())
+        return {(words[1], int(words[2])): tuple(map(int, words[3:])) for words in told if words[:1] == ["tree:"]}
+
+    def check_trees(self, stream):
+        stream = streams.whole_units_of(stream)
+        found = self.trees_after(stream)
+        wanted = {}
+        for table in tables_after(stream):
+            for column in {0} | {place for place, kind in table.indexes if kind == "tree"}:
+                wanted[table.name, column] = len(table.rows)
+        self.assertEqual({tree: items for tree, (_, _, items) in found.items()}, wanted)
+        for height, nodes, items in found.values():
+            self.assertLessEqual(LEAST * nodes, 2 * items + LEAST)
+            self.assertLessEqual(items, MOST * nodes)
+            self.assertLessEqual(fibonacci(height + 2), 1 + items)
+            self.assertLess(nodes, 2**height)
+        return found
+
+    def test_after_each_row(self):
+        for name, stream, _ in harness.rows():
+            with self.subTest(row=name):
+                self.check_trees(stream)
+
+    def test_after_random_streams(self):
+        draw = random.Random(test_model.SEED)
+        for number in range(STREAMS):
+            with self.subTest(stream=number):
+                self.check_trees(test_model.stream_and_answers(draw)[0])
+
+    def test_after_rows_that_come_and_go(self):
+        keys = random.Random(test_model.SEED).sample(range(10_000), 3_000)
+        puts = b"".join(b"insert t (%d, %d)\n" % (key, key % 7) for key in keys)
+        stream = b"table t (id int, n int)\nindex t n tree\n" + puts + b"delete t where n = 3\nupdate t set n = 9 where id < 2000\n"
+        [key, declared] = self.check_trees(stream).values()
+        self.assertGreater(key[0], 5)
+        self.assertGreater(declared[0], 5)
