@@ -36,7 +36,7 @@ class Counted(unittest.TextTestResult):
 def run(name, suite, verbosity=0):
     """Runs the tests that `suite` loads, tells what they took, and gives the status. The last line is `N passed, M failed`."""
     if not harness.PROGRAM.is_file():
-        print(f"tests: {harness.PROGRAM} is not built: release/build or rt ci builds it")
+        print(f"tests: {harness.PROGRAM} is not built: scripts/build or rt ci builds it")
         print("0 passed, 1 failed")
         return 1
     began = time.monotonic()

@@ -8,7 +8,7 @@ import tempfile
 
 from harness import ROOT
 
-DIGEST = ROOT / "release" / "digest"
+DIGEST = ROOT / "scripts" / "digest"
 RELEASE = ROOT / "release"
 # Holds what is built here until the tests end.
 ROOM = tempfile.TemporaryDirectory(prefix="mmdb-tests-")
@@ -31,5 +31,5 @@ def folder():
         return pathlib.Path(named).resolve()
     if is_of_these_sources(RELEASE):
         return RELEASE
-    subprocess.run([ROOT / "lib" / "make", ROOM.name], check=True)
+    subprocess.run([ROOT / "scripts" / "make-library", ROOM.name], check=True)
     return pathlib.Path(ROOM.name)

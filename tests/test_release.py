@@ -38,9 +38,9 @@ class Copies(unittest.TestCase):
         shutil.copytree(harness.ROOT / "release", self.top / "release")
         for file in ("run", "crates.txt"):
             shutil.copy(harness.ROOT / file, self.top / file)
-        for folder in ("include", "lib"):
+        for folder in ("include", "scripts"):
             shutil.copytree(harness.ROOT / folder, self.top / folder)
-        crates = [self.said_by("release/digest", "--crates", *words).decode().split() for words in ([], ["--library"])]
+        crates = [self.said_by("scripts/digest", "--crates", *words).decode().split() for words in ([], ["--library"])]
         for crate in {crate for named in crates for crate in named}:
             for part in ("src", "specs", "proofs"):
                 if (harness.ROOT / "crates" / crate / part).is_dir():
@@ -50,7 +50,7 @@ class Copies(unittest.TestCase):
         self.note(self.released)
 
     def note(self, program):
-        program.with_name("mmdb.digests").write_bytes(self.said_by("release/digest", program))
+        program.with_name("mmdb.digests").write_bytes(self.said_by("scripts/digest", program))
 
     def put_toolchain(self, text):
         """Puts a toolchain on the path that does what a script says, and all else that the machine has."""
@@ -99,7 +99,7 @@ class Runs(Copies):
         path = self.put_toolchain(PROVES)
         first = self.command("run", "--version", PATH=path)
         self.assertEqual((first.returncode, first.stdout), (0, b"mmdb 0.1.0\n"))
-        crates = self.said_by("release/digest", "--crates").split()
+        crates = self.said_by("scripts/digest", "--crates").split()
         for crate in crates:
             self.assertIn(b": %s proved" % crate, first.stderr)
         self.assertIn(b"mmdb: %d of %d: mmdb proved and built in 0:0" % (len(crates), len(crates)), first.stderr)
@@ -134,7 +134,7 @@ class Digests(Copies):
     """What the digest of the sources reads."""
 
     def test_each_change_of_the_sources_gives_another_digest(self):
-        digests = [self.said_by("release/digest")]
+        digests = [self.said_by("scripts/digest")]
         lang = self.top / "crates" / "mm_lang"
         changes = (
             lambda: self.change("crates/no_memory/src/lib.rt"),
@@ -147,11 +147,11 @@ class Digests(Copies):
         )
         for change in changes:
             change()
-            digests.append(self.said_by("release/digest"))
+            digests.append(self.said_by("scripts/digest"))
         self.assertEqual(len({*digests}), len(digests))
 
     def test_what_is_no_source_of_the_program_leaves_the_digest(self):
-        digest = self.said_by("release/digest")
+        digest = self.said_by("scripts/digest")
         self.assertRegex(digest, rb"\A[0-9a-f]{64}  sources\n\Z")
         lines = (self.top / "crates.txt").read_text().splitlines()
         (self.top / "crates.txt").write_text("\n".join([*reversed(lines), "another: mmdb", "# A comment."]))
@@ -159,8 +159,8 @@ class Digests(Copies):
         for folder in ("another/src", "mmdb/out", "mmdb/must-fail"):
             (self.top / "crates" / folder).mkdir(parents=True)
             (self.top / "crates" / folder / "lib.rt").write_text("no source")
-        self.assertEqual(self.said_by("release/digest"), digest)
-        self.assertEqual(self.said_by("release/digest", GLOBIGNORE="*", GLOBSORT="-size", LC_ALL="C.UTF-8"), digest)
+        self.assertEqual(self.said_by("scripts/digest"), digest)
+        self.assertEqual(self.said_by("scripts/digest", GLOBIGNORE="*", GLOBSORT="-size", LC_ALL="C.UTF-8"), digest)
 
     def list_crates(self, old, new):
         text = (self.top / "crates.txt").read_text()
@@ -176,12 +176,12 @@ class Comparisons(Copies):
         built = self.top / "crates" / "mmdb" / "out" / "mmdb"
         built.parent.mkdir()
         shutil.copy(harness.PROGRAM, built)
-        digests = self.said_by("release/digest", "--library", "release")
+        digests = self.said_by("scripts/digest", "--library", "release")
         (self.top / "release" / "libmmdb.digests").write_bytes(digests)
         self.path = self.put_toolchain(PROVES)
 
     def check(self, passed, failed):
-        ran = self.command("release/check", PATH=self.path)
+        ran = self.command("scripts/check-release", PATH=self.path)
         self.assertEqual(ran.stdout.splitlines()[-1], b"%d passed, %d failed" % (passed, failed))
         self.assertEqual(ran.returncode, failed)
 
