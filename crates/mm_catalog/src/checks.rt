@@ -16,7 +16,8 @@ use crate::catalog::Catalog;
 use crate::create::referred;
 use crate::joined_scope::JoinedScope;
 use plain_tables::{
-    Assignment, Column, Cond, Place, Refusal, Schema, Setting, Shown, Test, Text, Value,
+    Assignment, Column, Cond, LONGEST_TEXT, Place, Refusal, Schema, Setting, Shown, Test, Text,
+    Value,
 };
 
 const MOST_TABLES: usize = 64;
@@ -28,9 +29,6 @@ const MOST_ITEMS: usize = 16;
 const MOST_CONDITIONS: usize = 8;
 
 const MOST_JOINS: usize = 3;
-
-// The bytes that a stored text may have.
-const LONGEST_TEXT: usize = 1024;
 
 // Whether a value is a text past 1,024 bytes.
 fn is_long(value: &Value) -> bool

@@ -43,8 +43,8 @@ impl<W: Write + Drop> RecordWriter<W> {
         }
     }
 
-    /// A row as a record.
-    pub fn push_record(&mut self, row: &[Value]) -> Result<(), NoMemory>
+    // A row as a record.
+    pub(crate) fn push_record(&mut self, row: &[Value]) -> Result<(), NoMemory>
         requires { 0 < length row.now }
         ensures bytes { OnOk result (Appends self.old.bytes self.new.bytes (row_record row.now)) }
         ensures goes { OnOk result ((self.old.failed ≡ false) × (self.new.failed ≡ false)) }

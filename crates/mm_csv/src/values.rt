@@ -8,11 +8,8 @@ ghost use Rattle.mm_csv.specs.BlockReading.{column_of, columns_of};
 
 use crate::Field;
 use csv::ByteRecord;
-use plain_tables::{BaseKind, NoMemory, Sequence, Text, Value};
+use plain_tables::{BaseKind, LONGEST_TEXT, NoMemory, Sequence, Text, Value};
 use std::alloc::Global;
-
-// How many bytes a text may have.
-const LONGEST_TEXT: usize = 1024;
 
 // The integer that a field spells, if it spells one of 64 bits.
 fn integer_of(field: &[u8]) -> Option<i64>

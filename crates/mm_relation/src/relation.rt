@@ -19,13 +19,10 @@ use lin_hash::Chain;
 use mm_index::Probe;
 use no_memory::NoMemory;
 use part_raw::{Partitions, TupleRef};
-use plain_tables::{ColumnNumber, Schema, Sequence, Value};
+use plain_tables::{ColumnNumber, MOST_ROWS, Schema, Sequence, Value};
 use std::alloc::Global;
 use std::marker::Model;
 use ttree::{TreeShape, table_tree_shape};
-
-// The greatest number of rows.
-const MOST_ROWS: u64 = 16_777_216;
 
 /// The rows of one table in a store of their own, under the tree of their keys and every declared index.
 #[derive(Drop)]
@@ -268,7 +265,7 @@ impl Relation {
         ensures unchanged { OnErr result (self.new ≡ self.old) }
         ensures told { IsToldRightly self.old key result }
     {
-        if self.rows.len() >= MOST_ROWS {
+        if self.rows.len() >= u64::from(MOST_ROWS) {
             let there = self.find_key(&key).is_some();
             return Err(if there {
                 RowRefusal::KeyExists

@@ -2,21 +2,19 @@
 
 use clap::error::ErrorKind;
 use clap::{Arg, Command, Error};
-use plan_chooser::Policy;
+use plan_chooser::{POLICY_NAMES, Policy};
 use std::alloc::AllocError;
 use std::{env, io};
 
-// The option that names a policy, and the policies' names.
+// The option that names a policy.
 const POLICY: &str = "policy";
-
-const POLICIES: &[&str] = &["auto", "scan", "hash", "tree", "merge"];
 
 // The option for the policy. It is auto where none is named.
 fn policy_option<'a>(rt: &HostRuntime) -> Arg<'a> {
     Arg::new(rt.alloc(), POLICY)
         .long(POLICY)
         .value_name("POLICY")
-        .value_parser(POLICIES)
+        .value_parser(POLICY_NAMES)
         .default_value("auto")
         .help("How plans are chosen; no policy changes an answer")
 }
@@ -43,17 +41,6 @@ fn fault_of(rt: &HostRuntime, error: &io::Error) -> Error {
     }
 }
 
-// The policy of that name, which `clap` found to be one of theirs.
-fn policy_named(name: &str) -> Policy {
-    match name {
-        "scan" => Policy::Scan,
-        "hash" => Policy::Hash,
-        "tree" => Policy::Tree,
-        "merge" => Policy::Merge,
-        _ => Policy::Auto,
-    }
-}
-
 /// Reads the words, and gives the policy that they name. An error is a wrong word, a wish for help or the version, or want
 /// of memory.
 pub fn read_words(rt: &HostRuntime) -> Result<Policy, Error> {
@@ -62,5 +49,8 @@ pub fn read_words(rt: &HostRuntime) -> Result<Policy, Error> {
         Err(error) => return Err(fault_of(rt, &error)),
     };
     let matches = command(rt)?.try_get_matches_from(words.as_slice())?;
-    Ok(matches.get_str(POLICY).map_or(Policy::Auto, policy_named))
+    Ok(matches
+        .get_str(POLICY)
+        .and_then(Policy::named)
+        .unwrap_or_default())
 }

@@ -20,7 +20,7 @@ mod handle;
 use crate::database::Database;
 use crate::handle::Handle;
 use mm_session::SessionFault;
-use plain_tables::Limits;
+use plain_tables::{LONGEST_BLOCK, Limits, MOST_ROWS};
 use plan_chooser::Policy;
 use std::alloc::Global;
 
@@ -42,29 +42,12 @@ const NO_MEMORY: u32 = 7;
 
 const ENDED: u32 = 8;
 
-// The greatest number of rows of a table, and of bytes of a block.
-const MOST: u32 = 16_777_216;
-
 /// The bytes of an answer.
 #[repr(C)]
 #[derive(Drop)]
 pub struct Bytes {
     pub at: *const u8,
     pub length: usize,
-}
-
-// The policy of that number.
-fn policy_of(number: u32) -> Option<Policy>
-    ensures { IsNone result ↔ (4 < number) }
-{
-    match number {
-        0 => Some(Policy::Auto),
-        1 => Some(Policy::Scan),
-        2 => Some(Policy::Hash),
-        3 => Some(Policy::Tree),
-        4 => Some(Policy::Merge),
-        _ => None,
-    }
 }
 
 /// Opens a database with no tables.
@@ -87,10 +70,10 @@ pub extern "C" fn mmdb_open(
         handle.put(alloc, database);
         return IS_OPEN;
     }
-    let Some(policy) = policy_of(policy) else {
+    let Some(policy) = Policy::numbered(policy) else {
         return NO_SUCH_POLICY;
     };
-    if rows == 0 || rows > MOST || block > MOST {
+    if rows == 0 || rows > MOST_ROWS || block > LONGEST_BLOCK {
         return LIMIT_OUT_OF_RANGE;
     }
     let Ok(database) = Database::new(alloc, policy, Limits { rows, block }) else {

@@ -93,9 +93,14 @@ pub enum Items {
     Named(Sequence<ColName>),
 }
 
-/// How much a session takes: the rows that one table may have, and the bytes of a block.
-///
-/// `rows` is from 1 to 16,777,216 and `block` from 0 to 16,777,216.
+/// The most rows that a table may have under any limits.
+pub const MOST_ROWS: u32 = 16_777_216;
+
+/// The most bytes that a block may have under any limits.
+pub const LONGEST_BLOCK: u32 = 16_777_216;
+
+/// How much a session takes: the rows that one table may have, from 1 to `MOST_ROWS`, and the bytes of a block, from 0 to
+/// `LONGEST_BLOCK`.
 #[derive(Clone, Copy, Debug, PartialEq, Eq)]
 pub struct Limits {
     pub rows: u32,
@@ -105,7 +110,7 @@ pub struct Limits {
 impl Limits {
     /// The greatest limits, which hold where nothing else is said.
     pub const STANDARD: Limits = Limits {
-        rows: 16_777_216,
-        block: 16_777_216,
+        rows: MOST_ROWS,
+        block: LONGEST_BLOCK,
     };
 }

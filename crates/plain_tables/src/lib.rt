@@ -32,7 +32,7 @@ mod text;
 mod value;
 pub mod written_laws;
 
-pub use command::{Command, Items, Join, JoinSide, Limits, Setting};
+pub use command::{Command, Items, Join, JoinSide, LONGEST_BLOCK, Limits, MOST_ROWS, Setting};
 pub use condition::{ColName, Cond, Op};
 pub use hash::hash_of;
 pub use no_memory::NoMemory;
@@ -41,5 +41,5 @@ pub use refusal::Refusal;
 pub use resolved::{Assignment, Joined, Resolved, Shown, Source, Test};
 pub use schema::{BaseKind, ColKind, Column, IndexKind, Schema};
 pub use sequence::Sequence;
-pub use text::Text;
+pub use text::{LONGEST_TEXT, Text};
 pub use value::Value;

@@ -14,6 +14,9 @@ use std::cmp::Ordering;
 use std::fmt;
 use std::marker::Model;
 
+/// The most bytes of a text that a table keeps.
+pub const LONGEST_TEXT: usize = 1024;
+
 // Where the bytes of a text lie.
 #[derive(Drop)]
 enum Kept {

@@ -15,5 +15,5 @@ mod selects;
 
 pub use joins::{choose_join, choose_next_join};
 pub use plans::{JoinPlan, SelectPlan, Side};
-pub use policy::Policy;
+pub use policy::{POLICY_NAMES, Policy};
 pub use selects::choose_select;

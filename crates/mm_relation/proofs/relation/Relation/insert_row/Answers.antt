@@ -34,7 +34,7 @@ invariant_of-self-2 g c =
     let same = same_state c.self.inside.schema c.self.inside.targets.items c.self.inside.declared.items c.self.inside.rows.tuples c.make_room.new.rows.tuples c.self.inside.by_key.tree c.make_room.new.by_key.tree c.self.inside.indexes c.make_room.new.indexes
     c.make_room.ensures.rows c.make_room.ensures.by_key c.make_room.ensures.trees c.make_room.ensures.hashes in
     let counted : len c.make_room.new.rows.tuples ≡ len c.self.inside.rows.tuples = ap len c.make_room.ensures.rows in
-    let few : len c.make_room.new.rows.tuples < 16777216 = omega (arith, counted, c.len.ensures.value, c.if-len-ge-MOST_ROWS.false) in
+    let few : len c.make_room.new.rows.tuples < 16777216 = omega (arith, counted, c.len.ensures.value, c.if-len-from.false) in
     kept_on c.self.inside.schema c.self.inside.targets.items c.self.inside.declared.items c.make_room.new.rows.tuples c.make_room.new.by_key.tree c.make_room.new.indexes (subst IsKept (sym same) c.self.invariant)
     c.place.new.rows.tuples c.place.new.by_key.tree c.place.new.indexes c.place.ensures.keyed
     (few_after c.make_room.new.rows.tuples c.place.new.rows.tuples (new_row c.args.key c.args.cells) c.place.result c.place.ensures.fresh c.place.ensures.put c.place.ensures.kept few)
