@@ -19,7 +19,7 @@ head_at heads bucket = slice_index_or heads bucket (record { place = 0 })
 
 abbrev pub node_at : List Node → ℕ → Node
 node_at nodes place =
-    slice_index_or nodes place (record { hash = 0; reference = record { part = 0; slot = 0 }; next = record { place = 0 }; in_use = false })
+    slice_index_or nodes place (record { hash = 0; reference = record { number = 0 }; next = record { place = 0 }; in_use = false })
 
 abbrev pub next_at : List Node → ℕ → Link
 next_at nodes place = (node_at nodes place).next

@@ -3,7 +3,6 @@ pub mod Bags
 pub mod Distinct
 pub mod Filtered
 pub mod Halving
-pub mod KeyPlaces
 pub mod Listed
 pub mod Listings
 pub mod Members

@@ -1,17 +1,30 @@
--- The order of references is total, and tells any two apart.
-use Rattle.std.proofs.Common.{ap, ℕ}
-use Rattle.std.proofs.lemmas.Cmp.{then_total, on_total, nat_cmp_total}
-use Rattle.std.proofs.lemmas.Map.Lookups.{exact_pairs, exact_unsigned}
+-- The order of references is total, and tells any two apart; a reference is told by its partition and its slot.
+use Rattle.std.proofs.Common.{◌≡◌, ap, ℕ, ◌+◌, ◌*◌, ◌/◌, ◌%◌, ◌<◌, arith}
+use Rattle.std.proofs.lemmas.Cmp.{on_total, nat_cmp_total}
+use Rattle.std.proofs.lemmas.Map.Lookups.{exact_unsigned}
 use Rattle.std.specs.Cmp.{IsTotalOrder}
 use Rattle.std.specs.FinMap.{IsAntisymmetric}
-use Rattle.std.specs.Ordering.{nat_cmp}
 use Rattle.part_raw.specs.declared.tuple_ref.TupleRef.{TupleRef}
-use Rattle.part_raw.specs.TupleRefs.{ref_cmp, ref_to}
+use Rattle.part_raw.specs.TupleRefs.{ref_cmp, ref_to, part_of, slot_of}
+
+abbrev pub numbered : ℕ → TupleRef
+numbered n = record { number = n }
 
 pub ref_cmp_total : IsTotalOrder ref_cmp
-ref_cmp_total = then_total (on_total (λ (r : TupleRef). r.part) nat_cmp_total) (on_total (λ (r : TupleRef). r.slot) nat_cmp_total)
+ref_cmp_total = on_total (λ (r : TupleRef). r.number) nat_cmp_total
 
 pub ref_cmp_exact : IsAntisymmetric ref_cmp
-ref_cmp_exact x y e =
-    let pairs = exact_pairs nat_cmp nat_cmp exact_unsigned exact_unsigned (x.part, x.slot) (y.part, y.slot) e in
-    ap (λ (p : ℕ × ℕ). ref_to p.0 p.1) pairs
+ref_cmp_exact x y e = ap numbered (exact_unsigned x.number y.number e)
+
+-- a reference is that of its partition and its slot
+pub ref_to-itself : (r : TupleRef) → ref_to (part_of r) (slot_of r) ≡ r
+ref_to-itself r = let n : r.number / 256 * 256 + r.number % 256 ≡ r.number = omega arith in ap numbered n
+
+pub slot_of-within : (r : TupleRef) → slot_of r < 256
+slot_of-within r = omega arith
+
+pub part_of-to : (part slot : ℕ) → slot < 256 → part_of (ref_to part slot) ≡ part
+part_of-to part slot within = omega arith
+
+pub slot_of-to : (part slot : ℕ) → slot < 256 → slot_of (ref_to part slot) ≡ slot
+slot_of-to part slot within = omega arith

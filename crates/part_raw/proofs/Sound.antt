@@ -13,7 +13,7 @@ use Rattle.part_raw.proofs.Tuples.{len-insert_fresh, len-insert_held, len-remove
 use Rattle.part_raw.proofs.Slots.{vacancies-fill, vacancies-free, vacancies-rewrite, all_vacant}
 use Rattle.part_raw.proofs.Chain.{none_first, first_of, SameBeside, keep_rest, keep_all, put_first}
 use Rattle.part_raw.proofs.Bitmaps.{mapped-read, mapped-set_same, mapped-set_other, mapped-push_same, mapped-push_other, get_or-push_other, HaveBitmaps-set, HaveBitmaps-write, HaveBitmaps-push}
-use Rattle.part_raw.proofs.Parts.{Blocks, Writes, read_block, found_at, tuples-written, tuples-freed, tuples-push}
+use Rattle.part_raw.proofs.Parts.{Blocks, Writes, read_block, small_blocks, found_before, tuples-written, tuples-freed, tuples-push}
 
 -- where none is free a partition is made
 pub free_reserved_none : (free : ℕ) → free ≤ 0 → 256 ≡ free_reserved free
@@ -142,7 +142,7 @@ module _ {T : Type 0} where
     put_adds : len (tuples_of (set blocks part new)) ≡ len (tuples_of blocks) + 1
     put_adds =
         ap len (tuples-written blocks slots new part slot tuple s.writes)
-        ∙ len-insert_fresh (tuples_of blocks) (ref_to part slot) tuple (found_at blocks slots (ref_to part slot) s.writes.within s.writes.read ∙ fresh)
+        ∙ len-insert_fresh (tuples_of blocks) (ref_to part slot) tuple (found_before blocks slots new part slot (Some tuple) s.writes ∙ fresh)
 
     pub IsStore-put_full : vacancies new ≡ 0 → IsStore (set blocks part new) (set occupancies part o') (free - 1) o.next_open
     IsStore-put_full full =
@@ -173,7 +173,7 @@ module _ {T : Type 0} where
 
     take_takes : len (tuples_of (set blocks part new)) + 1 ≡ len (tuples_of blocks)
     take_takes =
-        let found = found_at blocks slots (ref_to part slot) s.writes.within s.writes.read ∙ held in
+        let found = found_before blocks slots new part slot None s.writes ∙ held in
         ap (λ (n : ℕ). n + 1) (ap len (tuples-freed blocks slots new part slot s.writes)) ∙ len-remove_held (tuples_of blocks) (ref_to part slot) (ap is_some found)
 
     pub IsStore-take_full : vacancies slots ≡ 0 → o'.next_open ≡ first → IsStore (set blocks part new) (set occupancies part o') (free + 1) (Some part)
@@ -206,7 +206,7 @@ module _ {T : Type 0} where
       → IsPartition (words_at occupancies part) new → IsStore (set blocks part new) occupancies free first
   IsStore-write blocks occupancies slots new free part slot first old tuple is w held bits =
       let kept : vacancies new ≡ vacancies slots = ap vacancies w.is ∙ vacancies-rewrite slots slot old tuple w.in_slots held in
-      let found = found_at blocks slots (ref_to part slot) w.within w.read ∙ held in
+      let found = found_before blocks slots new part slot (Some tuple) w ∙ held in
       let as_many = ap len (tuples-written blocks slots new part slot tuple w) ∙ len-insert_held (tuples_of blocks) (ref_to part slot) tuple (ap is_some found) in
       let same : has_vacancy new ≡ has_vacancy slots = ap (nat_lt 0) kept in
       let beside : SameBeside (open_at blocks) (open_at (set blocks part new)) (next_at occupancies) (next_at occupancies) part = record {
@@ -229,14 +229,14 @@ module _ {T : Type 0} where
 
   pub IsStore-push : (blocks : Blocks T) (occupancies : List Occupancy) (new : List (Option T)) (o : Occupancy) (first : Option ℕ) (part : ℕ)
       → IsStore blocks occupancies 0 first → IsVacant new → IsPartition o.held.words new → o.next_open ≡ first → part ≡ length blocks
-      → len (tuples_of blocks) < 2 ^ 40 → IsStore (blocks ++ new ∷ []) (occupancies ++ o ∷ []) 256 (Some part)
+      → len (tuples_of blocks) < 2 ^ 32 → IsStore (blocks ++ new ∷ []) (occupancies ++ o ∷ []) 256 (Some part)
   IsStore-push blocks occupancies new o first part is vacant bits next e room =
       let blocks' = blocks ++ new ∷ [] in let occupancies' = occupancies ++ o ∷ [] in
       let e' : part ≡ length occupancies = omega (arith, e, is.mapped.as_many) in
       let free : vacancies new ≡ 256 = all_vacant new vacant.empty ∙ vacant.count in
       let opened = has_vacancy_yes new (omega (arith, free)) in
       let is_opened : one_if_open new ≡ 1 = ap (λ (b : Bool). cond b 1 0) opened in
-      let same = ap len (tuples-push blocks new vacant) in
+      let same = ap len (tuples-push blocks new (small_blocks blocks occupancies is.mapped) vacant) in
       let here : get_or blocks' part [] ≡ new = get_or_push blocks new [] part (sym e) in
       let beside : SameBeside (open_at blocks) (open_at blocks') (next_at occupancies) (next_at occupancies') part = record {
         opens = λ other differs. ap has_vacancy (get_or-push_other blocks other new [] (λ at. differs (omega (arith, at, e))));

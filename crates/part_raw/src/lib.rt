@@ -45,6 +45,8 @@ pub use tuple_ref::TupleRef;
 /// How many slots a partition has.
 pub const SLOTS: u32 = 256;
 
-/// How many tuples references can name: those of 2^32 partitions. A store with no free slot that holds as many can't
-/// grow.
-pub const MAX_TUPLES: u64 = (1 << 32) * SLOTS as u64;
+/// How many partitions references can name.
+pub const MAX_PARTITIONS: u32 = 1 << 24;
+
+/// How many tuples references can name. A store with no free slot that holds as many can't grow.
+pub const MAX_TUPLES: u64 = 1 << 32;

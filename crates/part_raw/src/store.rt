@@ -139,18 +139,19 @@ impl<T> Partitions<T> {
         let occupancy = &mut self.occupancies[part as usize];
         let block = &mut self.blocks[part as usize];
         let slot = fill(&mut occupancy.held, block, tuple);
+        let r = TupleRef::to(part, slot);
         if occupancy.held.is_full() {
             self.first_open = occupancy.next_open;
         }
-        TupleRef { part, slot }
+        r
     }
 
     /// Whether a tuple is held under this reference, which may be any.
     pub fn holds(&self, r: TupleRef) -> bool
         ensures { result ≡ map.contains_key self.now.tuples r }
     {
-        let part = r.part as usize;
-        part < self.occupancies.len() && self.occupancies[part].held.has(r.slot)
+        let part = r.part() as usize;
+        part < self.occupancies.len() && self.occupancies[part].held.has(r.slot())
     }
 
     /// The tuple under this reference.
@@ -158,7 +159,7 @@ impl<T> Partitions<T> {
         requires { IsHeld self.now r }
         ensures { tuple_at self.now r ≡ Some result.now }
     {
-        self.blocks[r.part as usize].get(r.slot)
+        self.blocks[r.part() as usize].get(r.slot())
     }
 
     /// The tuple under this reference, to write to.
@@ -167,7 +168,7 @@ impl<T> Partitions<T> {
         ensures* writes_back { sem 𝓛 (LendsTuple T.row self.entry r result) }
         ensures value { tuple_at self.old r ≡ Some result.now }
     {
-        self.blocks[r.part as usize].get_mut(r.slot)
+        self.blocks[r.part() as usize].get_mut(r.slot())
     }
 
     /// Takes the tuple out. Its slot is free from then on. It takes no memory.
@@ -178,13 +179,14 @@ impl<T> Partitions<T> {
         ensures free { self.new.free ≡ self.old.free + 1 }
     {
         self.free += 1;
-        let occupancy = &mut self.occupancies[r.part as usize];
-        let block = &mut self.blocks[r.part as usize];
+        let part = r.part();
+        let occupancy = &mut self.occupancies[part as usize];
+        let block = &mut self.blocks[part as usize];
         let was_full = occupancy.held.is_full();
-        let tuple = vacate(&mut occupancy.held, block, r.slot);
+        let tuple = vacate(&mut occupancy.held, block, r.slot());
         if was_full {
             occupancy.next_open = self.first_open;
-            self.first_open = Some(r.part);
+            self.first_open = Some(part);
         }
         tuple
     }

@@ -10,8 +10,8 @@ use part_raw::TupleRef;
 use std::alloc::Global;
 use std::process::Abort;
 
-fn numbered(slot: u32) -> TupleRef {
-    TupleRef { part: 7, slot }
+fn numbered(number: u32) -> TupleRef {
+    TupleRef { number }
 }
 
 fn add<E: ExactIndex>(index: &mut E, hash: u64, r: TupleRef) -> Result<(), NoMemory> {
@@ -47,13 +47,13 @@ fn take<E: ExactIndex>(
     Ok(())
 }
 
-// The slots of the references with a hash, in rising order.
-fn slots<E: ExactIndex>(alloc: Global, index: &E, hash: u64) -> Result<Vec<u32>, NoMemory> {
+// The numbers of the references with a hash, in rising order.
+fn numbers<E: ExactIndex>(alloc: Global, index: &E, hash: u64) -> Result<Vec<u32>, NoMemory> {
     let mut found = Vec::new(alloc);
     index.matching(hash, &mut found)?;
-    let mut slots: Vec<u32> = found.iter().map(|r| r.slot).collect(alloc)?;
-    slots.sort_unstable();
-    Ok(slots)
+    let mut numbers: Vec<u32> = found.iter().map(|r| r.number).collect(alloc)?;
+    numbers.sort_unstable();
+    Ok(numbers)
 }
 
 // A linear hash, how many buckets it is to have, and the same pairs in a plain bag, and in the order in which they came.
@@ -107,8 +107,8 @@ impl Beside {
 
     // Whether the hash has the same references in both.
     fn agrees(&self, alloc: Global, hash: u64) -> Result<bool, NoMemory> {
-        let one = slots(alloc, &self.index, hash)?;
-        let other = slots(alloc, &self.plain, hash)?;
+        let one = numbers(alloc, &self.index, hash)?;
+        let other = numbers(alloc, &self.plain, hash)?;
         Ok(one.as_slice() == other.as_slice())
     }
 }

@@ -6,7 +6,7 @@ use std::process::Abort;
 use ttree_node::{Editor, Links, Side};
 
 fn item(key: u32) -> TupleRef {
-    TupleRef { part: 0, slot: key }
+    TupleRef { number: key }
 }
 
 // A leaf with that key on the right of the node, where the editor then stands.

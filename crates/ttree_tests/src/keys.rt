@@ -1,4 +1,4 @@
-//! Indexes of tuples that are their own keys: the key is the number of the partition, and the slot is 0.
+//! Indexes of tuples that are their own keys: the key is the number of the reference.
 ghost use Rattle.std.specs.Prelude.{◌≡◌, [], nat_lt, if◌then◌else◌};
 ghost use Rattle.std.specs.Ordering.{nat_cmp};
 ghost use Rattle.std.specs.declared.cmp.Ordering.TheVariants.{Less, Equal, Greater};
@@ -11,16 +11,15 @@ use std::cmp::Ordering;
 use std::marker::Model;
 
 fn keyed(key: u32) -> TupleRef
-    ensures part { result.part ≡ key }
-    ensures slot { result.slot ≡ 0 }
+    ensures { result.number ≡ key }
 {
-    TupleRef { part: key, slot: 0 }
+    TupleRef { number: key }
 }
 
 pub struct KeyOrder;
 
 impl TupleOrder for KeyOrder {
-    ghost use Rattle.std.proofs.Common.{◌≡◌, ◌∙◌, sym};
+    ghost use Rattle.std.proofs.Common.{◌≡◌, sym};
     ghost use Rattle.std.proofs.lemmas.Cmp.{ranked};
     ghost use Rattle.std.specs.Cmp.{nat_cmp_total};
     ghost use Rattle.std.specs.Ordering.{nat_cmp};
@@ -28,21 +27,20 @@ impl TupleOrder for KeyOrder {
 
     ghost is_sound = { λ _. Unit {0} };
 
-    ghost covers = { λ _ r. r.slot ≡ 0 };
+    ghost covers = { λ _ _. Unit {0} };
 
-    ghost cmp = { λ _ a b. nat_cmp a.part b.part };
+    ghost cmp = { λ _ a b. nat_cmp a.number b.number };
 
     ghost is_strict = { λ _ _. record {
-      antisymm = λ a b _ _. nat_cmp_total.antisymm a.part b.part;
-      trans = λ a b c _ _ _ h k. nat_cmp_total.trans a.part b.part c.part h k;
-      strict = λ a b p q e.
-          let key : a.part ≡ b.part = ranked a.part b.part Equal (sym e) in
-          let slot : a.slot ≡ b.slot = p ∙ sym q in
-          λ i. record { part = key i; slot = slot i };
+      antisymm = λ a b _ _. nat_cmp_total.antisymm a.number b.number;
+      trans = λ a b c _ _ _ h k. nat_cmp_total.trans a.number b.number c.number h k;
+      strict = λ a b _ _ e.
+          let key : a.number ≡ b.number = ranked a.number b.number Equal (sym e) in
+          λ i. record { number = key i };
     } };
 
     fn cmp(&self, a: TupleRef, b: TupleRef) -> Ordering {
-        a.part.cmp(&b.part)
+        a.number.cmp(&b.number)
     }
 }
 
@@ -57,15 +55,15 @@ pub struct KeyRange {
 impl Probe for KeyRange {
     ghost can_place = { λ _ _. Unit {0} };
 
-    ghost place = { λ p r. if nat_lt r.part p.low then Less else (if nat_lt p.high r.part then Greater else Equal) };
+    ghost place = { λ p r. if nat_lt r.number p.low then Less else (if nat_lt p.high r.number then Greater else Equal) };
 
     ghost asked = { λ p. p.asked };
 
     fn place(&mut self, r: TupleRef) -> Ordering {
         self.asked = self.asked.saturating_add(1);
-        if r.part < self.low {
+        if r.number < self.low {
             Ordering::Less
-        } else if self.high < r.part {
+        } else if self.high < r.number {
             Ordering::Greater
         } else {
             Ordering::Equal
@@ -84,7 +82,7 @@ pub struct Keys<I: OrderedIndex> {
 }
 
 impl<I: OrderedIndex> Model for Keys<I> {
-    ghost use Rattle.std.specs.Prelude.{◌≡◌, List, All};
+    ghost use Rattle.std.specs.Prelude.{◌≡◌, List};
     ghost use Rattle.std.specs.Ordering.{nat_cmp};
     ghost use Rattle.part_raw.specs.declared.tuple_ref.TupleRef.{TupleRef};
     ghost use Rattle.mm_index.specs.Order.{IsRising};
@@ -93,7 +91,7 @@ impl<I: OrderedIndex> Model for Keys<I> {
 
     ghost view = { λ k. I.items k.index };
 
-    ghost invariant = { λ k. IsRising (λ a b. nat_cmp a.part b.part) (I.items k.index) × All (λ r. r.slot ≡ 0) (I.items k.index) };
+    ghost invariant = { λ k. IsRising (λ a b. nat_cmp a.number b.number) (I.items k.index) };
 }
 
 impl<I: OrderedIndex> Keys<I> {

@@ -197,7 +197,10 @@ fn is_at(tree: &TTree<2, 3>, path: &str, keys: &[u32]) -> bool {
             return keys.is_empty();
         }
     }
-    look.items().iter().map(|r| r.part).eq(keys.iter().copied())
+    look.items()
+        .iter()
+        .map(|r| r.number)
+        .eq(keys.iter().copied())
 }
 
 fn has_nodes(tree: &TTree<2, 3>, nodes: &[(&str, &[u32])]) -> bool {

@@ -49,7 +49,7 @@ fn drawn_key(sorted: &SortedVec, drawn: u32, fewer: bool) -> u32 {
     } else {
         None
     };
-    held.map_or(drawn % 5_000, |r| r.part)
+    held.map_or(drawn % 5_000, |r| r.number)
 }
 
 // The first step after which the two did not agree, of 10,000 in four waves: each begins with more inserts than removes,

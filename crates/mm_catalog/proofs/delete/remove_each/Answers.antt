@@ -17,13 +17,13 @@ loop-r-init c = record {
 pub lower_links-requires-clause-held : goal.lower_links-requires-clause-held
 lower_links-requires-clause-held c =
     let i = c.loop-r.r-index in
-    let r = get_or c.args.rows.now i (record { part = 0; slot = 0 }) in
-    subst IsSome (sym (still_there c.args.relation.now c.loop-r.relation c.args.rows.now i r c.loop-r-test.true (get_or_default c.args.rows.now i r (record { part = 0; slot = 0 }) c.loop-r-test.true) c.requires.once c.loop-r.invariant.removed))
-    (c.requires.held i (record { part = 0; slot = 0 }) c.loop-r-test.true)
+    let r = get_or c.args.rows.now i (record { number = 0 }) in
+    subst IsSome (sym (still_there c.args.relation.now c.loop-r.relation c.args.rows.now i r c.loop-r-test.true (get_or_default c.args.rows.now i r (record { number = 0 }) c.loop-r-test.true) c.requires.once c.loop-r.invariant.removed))
+    (c.requires.held i (record { number = 0 }) c.loop-r-test.true)
 
 pub lower_links-requires-clause-named : goal.lower_links-requires-clause-named
 lower_links-requires-clause-named c row at =
-    let r = get_or c.args.rows.now c.loop-r.r-index (record { part = 0; slot = 0 }) in
+    let r = get_or c.args.rows.now c.loop-r.r-index (record { number = 0 }) in
     let current : IsCurrent (linked_keys c.loop-r.relation.targets c.args.before.now) c.loop-r.relation =
     subst (λ targets. IsCurrent (linked_keys targets c.args.before.now) c.loop-r.relation) (sym c.loop-r.invariant.removed.keeps.targets) c.loop-r.invariant.current in
     names_still c.args.before.now c.loop-r.before c.loop-r.relation.targets row c.loop-r.invariant.unlinked.lowered.recounted
@@ -31,23 +31,23 @@ lower_links-requires-clause-named c row at =
 
 pub lower_links-requires-clause-enough : goal.lower_links-requires-clause-enough
 lower_links-requires-clause-enough c row at =
-    let r = get_or c.args.rows.now c.loop-r.r-index (record { part = 0; slot = 0 }) in
+    let r = get_or c.args.rows.now c.loop-r.r-index (record { number = 0 }) in
     enough_left c.args.before.now c.loop-r.before c.args.relation.now c.loop-r.relation r row c.requires.counted c.loop-r.invariant.unlinked c.loop-r.invariant.kept at
 
 pub remove_row-requires-clause-held : goal.remove_row-requires-clause-held
 remove_row-requires-clause-held c =
     let i = c.loop-r.r-index in
-    let r = get_or c.args.rows.now i (record { part = 0; slot = 0 }) in
-    subst IsSome (sym (still_there c.args.relation.now c.loop-r.relation c.args.rows.now i r c.loop-r-test.true (get_or_default c.args.rows.now i r (record { part = 0; slot = 0 }) c.loop-r-test.true) c.requires.once c.loop-r.invariant.removed))
-    (c.requires.held i (record { part = 0; slot = 0 }) c.loop-r-test.true)
+    let r = get_or c.args.rows.now i (record { number = 0 }) in
+    subst IsSome (sym (still_there c.args.relation.now c.loop-r.relation c.args.rows.now i r c.loop-r-test.true (get_or_default c.args.rows.now i r (record { number = 0 }) c.loop-r-test.true) c.requires.once c.loop-r.invariant.removed))
+    (c.requires.held i (record { number = 0 }) c.loop-r-test.true)
 
 pub remove_row-requires-clause-current : goal.remove_row-requires-clause-current
 remove_row-requires-clause-current c =
     let i = c.loop-r.r-index in
-    let r = get_or c.args.rows.now i (record { part = 0; slot = 0 }) in
+    let r = get_or c.args.rows.now i (record { number = 0 }) in
     let held : IsSome (finite.get c.loop-r.relation.rows r) =
-    subst IsSome (sym (still_there c.args.relation.now c.loop-r.relation c.args.rows.now i r c.loop-r-test.true (get_or_default c.args.rows.now i r (record { part = 0; slot = 0 }) c.loop-r-test.true) c.requires.once c.loop-r.invariant.removed))
-    (c.requires.held i (record { part = 0; slot = 0 }) c.loop-r-test.true) in
+    subst IsSome (sym (still_there c.args.relation.now c.loop-r.relation c.args.rows.now i r c.loop-r-test.true (get_or_default c.args.rows.now i r (record { number = 0 }) c.loop-r-test.true) c.requires.once c.loop-r.invariant.removed))
+    (c.requires.held i (record { number = 0 }) c.loop-r-test.true) in
     let row = held_tuple c.loop-r.relation.rows r held in
     subst (λ keys. IsCurrent keys c.loop-r.relation)
     (sym (keys_still c.args.relation.now c.loop-r.relation c.args.before.now c.loop-r.before c.lower_links.new.before c.loop-r.invariant.removed.keeps.targets c.loop-r.invariant.unlinked.lowered.recounted (c.lower_links.ensures row.0 row.1).recounted))
@@ -56,11 +56,11 @@ remove_row-requires-clause-current c =
 pub loop-r-preserved : goal.loop-r-preserved
 loop-r-preserved c =
     let i = c.loop-r.r-index in
-    let r = get_or c.args.rows.now i (record { part = 0; slot = 0 }) in
-    let itself = get_or_default c.args.rows.now i r (record { part = 0; slot = 0 }) c.loop-r-test.true in
+    let r = get_or c.args.rows.now i (record { number = 0 }) in
+    let itself = get_or_default c.args.rows.now i r (record { number = 0 }) c.loop-r-test.true in
     let held : IsSome (finite.get c.loop-r.relation.rows r) =
     subst IsSome (sym (still_there c.args.relation.now c.loop-r.relation c.args.rows.now i r c.loop-r-test.true itself c.requires.once c.loop-r.invariant.removed))
-    (c.requires.held i (record { part = 0; slot = 0 }) c.loop-r-test.true) in
+    (c.requires.held i (record { number = 0 }) c.loop-r-test.true) in
     let row = held_tuple c.loop-r.relation.rows r held in
     let lowered = c.lower_links.ensures row.0 row.1 in
     record {

@@ -102,7 +102,7 @@ locate_to_edit-requires g c = (
 
 pub returns-in-Ok-clause-held : goal.returns-in-Ok-clause-held
 returns-in-Ok-clause-held g c =
-    let none : TupleRef = record { part = 0; slot = 0 } in
+    let none : TupleRef = record { number = 0 } in
     let w : Zipper (Label TupleRef) = position c.locate_to_edit.new.editor in
     let t : Tree (Label TupleRef) = tree_of c.args.nodes.now in
     subst (λ (xs : List TupleRef). Contains (list t) (get_or xs c.in-Ok.index none)) (sym c.items.ensures)

@@ -13,7 +13,7 @@ use Rattle.ttree.proofs.Descent.{IsBetween, at_root, root_whole, go_left, go_rig
 use Rattle.ttree.proofs.search.locate_to_edit.Goals as goal
 
 none : TupleRef
-none = record { part = 0; slot = 0 }
+none = record { number = 0 }
 
 pub turn_at-requires-clause-some : goal.turn_at-requires-clause-some
 turn_at-requires-clause-some g c =

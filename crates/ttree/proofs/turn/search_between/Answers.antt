@@ -11,7 +11,7 @@ loop-low-preserved-in-Less g c =
     let middle = low + (high - low) / 2 in
     let kept = c.loop-low.invariant in
     let halved = digits-half (high - (middle + 1)) (high - low) (omega arith) (omega arith) in record {
-      cut = IsCut-low _ _ c.requires.in_order middle (omega (arith, kept.cut.within)) (record { part = 0; slot = 0 }) low high kept.cut (omega arith) cc;
+      cut = IsCut-low _ _ c.requires.in_order middle (omega (arith, kept.cut.within)) (record { number = 0 }) low high kept.cut (omega arith) cc;
       from = omega arith;
       to = omega arith;
       only = IsOnlyAsked-trans _ _ _ _ _ _ _ kept.only c.ask.ensures.probe.only;
@@ -26,7 +26,7 @@ loop-low-preserved g c =
     let middle = low + (high - low) / 2 in
     let kept = c.loop-low.invariant in
     let halved = digits-half (middle - low) (high - low) (omega arith) (omega arith) in record {
-      cut = IsCut-high _ _ c.requires.in_order middle (omega (arith, kept.cut.within)) (record { part = 0; slot = 0 }) low high kept.cut (omega arith) cc;
+      cut = IsCut-high _ _ c.requires.in_order middle (omega (arith, kept.cut.within)) (record { number = 0 }) low high kept.cut (omega arith) cc;
       from = omega arith;
       to = omega arith;
       only = IsOnlyAsked-trans _ _ _ _ _ _ _ kept.only c.ask.ensures.probe.only;

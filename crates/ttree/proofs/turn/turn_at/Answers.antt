@@ -6,7 +6,7 @@ use Rattle.ttree.proofs.turn.turn_at.Goals as goal
 
 pub returns-in-Greater-clause-turn : goal.returns-in-Greater-clause-turn
 returns-in-Greater-clause-turn g c =
-    let none : TupleRef = record { part = 0; slot = 0 } in (
+    let none : TupleRef = record { number = 0 } in (
       c.if-not-has_left.false,
       λ k d l. above_at (λ r. taken c.args.seek (g.P.Probe.place c.args.probe.now r)) _ c.requires.in_order 0 c.requires.some none (cc) k d (omega arith) l,
     )

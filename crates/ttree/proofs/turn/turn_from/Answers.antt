@@ -14,7 +14,7 @@ returns-then-not-has_right-clause-probe g c =
 
 pub returns-in-Less-clause-turn : goal.returns-in-Less-clause-turn
 returns-in-Less-clause-turn g c =
-    let none : TupleRef = record { part = 0; slot = 0 } in (
+    let none : TupleRef = record { number = 0 } in (
       c.if-not-has_right.false,
       λ k d l. below_at (λ r. taken c.args.seek (g.P.Probe.place c.args.probe.now r)) _ c.requires.in_order (length c.args.items.now - 1) (omega arith) none (cc) k d (omega arith) (omega arith),
     )

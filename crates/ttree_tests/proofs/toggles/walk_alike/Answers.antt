@@ -1,5 +1,5 @@
 use Rattle.std.proofs.Common.{lit<}
-use Rattle.mm_index.proofs.KeyPlaces.{NeverFalls-keys}
+use Rattle.ttree_tests.proofs.KeyPlaces.{NeverFalls-keys}
 use Rattle.ttree_tests.proofs.toggles.walk_alike.Goals as goal
 
 pub walk_from-one-requires : goal.walk_from-one-requires

@@ -1,8 +1,8 @@
-use Rattle.std.proofs.Common.{arith, refl, sym, ◌∙◌}
+use Rattle.std.proofs.Common.{Some, arith, refl, sym, ◌∙◌}
 use Rattle.std.proofs.lemmas.Bool.{true≢false}
 use Rattle.part_raw.specs.TupleRefs.{ref_to}
 use Rattle.part_raw.proofs.Slots.{no_vacancy_of_bits, bits_of_no_vacancy}
-use Rattle.part_raw.proofs.Parts.{found_at, tuples-written}
+use Rattle.part_raw.proofs.Parts.{small_blocks, found_before, tuples-written}
 use Rattle.part_raw.proofs.Bitmaps.{bits_at}
 use Rattle.part_raw.proofs.Sound.{first_is_some, first_within, first_open, IsStore-put_full, IsStore-put_open}
 use Rattle.part_raw.proofs.store.Partitions.put.Goals as goal
@@ -38,7 +38,7 @@ invariant_of-self g c =
     IsStore-put_full c.self.inside.blocks.items c.self.inside.occupancies.items c.index_mut-block.result.now _ c.index_mut-occupancy.result.now _
     c.self.inside.free c.in-Some.part c.fill-slot.result c.args.tuple is
     (record {
-      writes = record { within = first_within _ _ _ _ is; read = c.index_mut-block.ensures.value; in_slots = c.fill-slot.ensures.slot; is = c.fill-slot.ensures.slots };
+      writes = record { small = small_blocks _ _ is.mapped; within = first_within _ _ _ _ is; read = c.index_mut-block.ensures.value; in_slots = c.fill-slot.ensures.slot; is = c.fill-slot.ensures.slots };
       read = c.index_mut-occupancy.ensures.value;
       bits = c.fill-slot.ensures.bits;
     }) c.fill-slot.ensures.fresh some (no_vacancy_of_bits _ _ c.fill-slot.ensures.bits (c.is_full.ensures.0 c.if-is_full.true))
@@ -51,38 +51,59 @@ invariant_of-self-else-is_full g c =
     (IsStore-put_open c.self.inside.blocks.items c.self.inside.occupancies.items c.index_mut-block.result.now _ c.index_mut-occupancy.result.now _
     c.self.inside.free c.in-Some.part c.fill-slot.result c.args.tuple is
     (record {
-      writes = record { within = first_within _ _ _ _ is; read = c.index_mut-block.ensures.value; in_slots = c.fill-slot.ensures.slot; is = c.fill-slot.ensures.slots };
+      writes = record { small = small_blocks _ _ is.mapped; within = first_within _ _ _ _ is; read = c.index_mut-block.ensures.value; in_slots = c.fill-slot.ensures.slot; is = c.fill-slot.ensures.slots };
       read = c.index_mut-occupancy.ensures.value;
       bits = c.fill-slot.ensures.bits;
     }) c.fill-slot.ensures.fresh some
     (λ none. true≢false (sym (c.is_full.ensures.1 (bits_of_no_vacancy _ _ c.fill-slot.ensures.bits none)) ∙ c.if-is_full.false)) refl)
 
+pub to-r-requires-clause-part : goal.to-r-requires-clause-part
+to-r-requires-clause-part g c =
+    let is = rw c.in-Some.is at c.self.invariant in
+    omega (arith, first_within _ _ _ _ is, is.numbered)
+
 pub returns-then-is_full-clause-fresh : goal.returns-then-is_full-clause-fresh
 returns-then-is_full-clause-fresh g c =
     let is = rw c.in-Some.is at c.self.invariant in
-    rw (← c.self.view_is) (found_at _ c.index_mut-block.result.now (ref_to c.in-Some.part c.fill-slot.result) (first_within _ _ _ _ is) c.index_mut-block.ensures.value ∙ c.fill-slot.ensures.fresh)
-
-pub returns-else-is_full-clause-fresh : goal.returns-else-is_full-clause-fresh
-returns-else-is_full-clause-fresh g c =
-    let is = rw c.in-Some.is at c.self.invariant in
-    rw (← c.self.view_is) (found_at _ c.index_mut-block.result.now (ref_to c.in-Some.part c.fill-slot.result) (first_within _ _ _ _ is) c.index_mut-block.ensures.value ∙ c.fill-slot.ensures.fresh)
+    rw (← c.self.view_is, c.to-r.ensures)
+    (found_before c.self.inside.blocks.items c.index_mut-block.result.now _ c.in-Some.part c.fill-slot.result (Some c.args.tuple) (record {
+      small = small_blocks _ _ is.mapped;
+      within = first_within _ _ _ _ is;
+      read = c.index_mut-block.ensures.value;
+      in_slots = c.fill-slot.ensures.slot;
+      is = c.fill-slot.ensures.slots;
+    }) ∙ c.fill-slot.ensures.fresh)
 
 pub returns-then-is_full-clause-tuples : goal.returns-then-is_full-clause-tuples
 returns-then-is_full-clause-tuples g c =
     let is = rw c.in-Some.is at c.self.invariant in
-    rw (← c.self.view_is)
+    rw (← c.self.view_is, c.to-r.ensures)
     (tuples-written c.self.inside.blocks.items c.index_mut-block.result.now _ c.in-Some.part c.fill-slot.result c.args.tuple (record {
+      small = small_blocks _ _ is.mapped;
       within = first_within _ _ _ _ is;
       read = c.index_mut-block.ensures.value;
       in_slots = c.fill-slot.ensures.slot;
       is = c.fill-slot.ensures.slots;
     }))
 
+pub returns-else-is_full-clause-fresh : goal.returns-else-is_full-clause-fresh
+returns-else-is_full-clause-fresh g c =
+    let is = rw c.in-Some.is at c.self.invariant in
+    rw (← c.self.view_is, c.to-r.ensures)
+    (found_before c.self.inside.blocks.items c.index_mut-block.result.now _ c.in-Some.part c.fill-slot.result (Some c.args.tuple) (record {
+      small = small_blocks _ _ is.mapped;
+      within = first_within _ _ _ _ is;
+      read = c.index_mut-block.ensures.value;
+      in_slots = c.fill-slot.ensures.slot;
+      is = c.fill-slot.ensures.slots;
+    }) ∙ c.fill-slot.ensures.fresh)
+
 pub returns-else-is_full-clause-tuples : goal.returns-else-is_full-clause-tuples
 returns-else-is_full-clause-tuples g c =
     let is = rw c.in-Some.is at c.self.invariant in
-    rw (← c.self.view_is)
+    rw (← c.self.view_is, c.to-r.ensures)
     (tuples-written c.self.inside.blocks.items c.index_mut-block.result.now _ c.in-Some.part c.fill-slot.result c.args.tuple (record {
+      small = small_blocks _ _ is.mapped;
       within = first_within _ _ _ _ is;
       read = c.index_mut-block.ensures.value;
       in_slots = c.fill-slot.ensures.slot;

@@ -2,7 +2,7 @@ use Rattle.std.proofs.Common.{◌≡◌, ℕ, arith, refl, subst}
 use Rattle.part_raw.specs.Store.{store}
 use Rattle.part_raw.specs.Open.{IsStore}
 use Rattle.part_raw.proofs.Slots.{IsPartition-vacant}
-use Rattle.part_raw.proofs.Parts.{tuples-pushed}
+use Rattle.part_raw.proofs.Parts.{small_blocks, tuples-pushed}
 use Rattle.part_raw.proofs.Sound.{IsStore-push, free_reserved_none}
 use Rattle.part_raw.proofs.store.Partitions.reserve.Goals as goal
 
@@ -18,6 +18,6 @@ invariant_of-self-2 g c =
 
 pub returns-clause-ok : goal.returns-clause-ok
 returns-clause-ok g c =
-    let pushed = tuples-pushed c.self.inside.blocks.items _ _ _ c.reserve.ensures.items c.push_reserved.ensures.items c.in_ok-block.ensures in
+    let pushed = tuples-pushed c.self.inside.blocks.items _ _ _ (small_blocks _ _ c.self.invariant.mapped) c.reserve.ensures.items c.push_reserved.ensures.items c.in_ok-block.ensures in
     let free = free_reserved_none c.self.inside.free (omega (arith, c.if-self-gt0.false)) in
     rw (← c.self.view_is) (λ i. store (pushed i) (free i))

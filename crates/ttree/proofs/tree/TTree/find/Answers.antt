@@ -8,7 +8,7 @@ use Rattle.ttree.proofs.tree.TTree.find.Goals as goal
 
 pub returns-in-Ok-clause-held : goal.returns-in-Ok-clause-held
 returns-in-Ok-clause-held g c =
-    let none : TupleRef = record { part = 0; slot = 0 } in
+    let none : TupleRef = record { number = 0 } in
     let z = position c.search-found.result.0 in
     let hit = rw c.in-Ok.is at c.search-found.ensures.hit in
     subst (λ (xs : List TupleRef). Contains (items_of_tree c.args.self.now) (get_or xs c.in-Ok.index none)) (sym c.items.ensures)

@@ -11,7 +11,7 @@ use Rattle.ttree.proofs.Ranges.{All-left, in_range_before, in_range_all, not_Equ
 use Rattle.ttree.proofs.tree.TTree.range.Goals as goal
 
 none : TupleRef
-none = record { part = 0; slot = 0 }
+none = record { number = 0 }
 
 pub place-requires : goal.place-requires
 place-requires g c =

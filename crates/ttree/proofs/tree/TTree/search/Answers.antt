@@ -47,7 +47,7 @@ returns-then-not-has_node-clause-gap g c =
 pub returns-then-not-has_node-clause-asks : goal.returns-then-not-has_node-clause-asks
 returns-then-not-has_node-clause-asks g c =
     let z : Zipper (Label TupleRef) = position c.look-look.result in
-    let none : TupleRef = record { part = 0; slot = 0 } in
+    let none : TupleRef = record { number = 0 } in
     let first = list_first z none (ap (λ (y : Zipper (Label TupleRef)). is_root y.above) c.look-look.ensures.root) (sym c.has_node.ensures ∙ c.if-not-has_node.true) in
     let tree : whole z ≡ c.args.self.now.tree = ap (λ (y : Zipper (Label TupleRef)). whole y) (c.look-look.ensures.root ∙ (λ i. at [] ((c.self.view_is i).tree))) in
     λ some. absurd (omega (arith, some, ap (λ (t : Tree (Label TupleRef)). length (list t)) tree, ap (λ (xs : List TupleRef). length xs) first.0))

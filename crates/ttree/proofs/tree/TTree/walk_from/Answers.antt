@@ -6,7 +6,7 @@ use Rattle.ttree.proofs.tree.TTree.walk_from.Goals as goal
 pub unreachable-requires : goal.unreachable-requires
 unreachable-requires g c =
     let hit = rw c.in-Ok.is at c.search-found.ensures.hit in
-    first_not_Equal _ (hit.equal (record { part = 0; slot = 0 }))
+    first_not_Equal _ (hit.equal (record { number = 0 }))
 
 pub returns-clause-rest : goal.returns-clause-rest
 returns-clause-rest g c =

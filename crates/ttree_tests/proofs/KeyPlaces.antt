@@ -15,7 +15,7 @@ key_place low high key = cond (ltb key low) Less (cond (ltb high key) Greater Eq
 key_place-rises : (low high a b : ℕ) → a < b → ordering_index (key_place low high a) ≤ ordering_index (key_place low high b)
 key_place-rises low high a b l = grind (arith, common_steps)
 
-pub NeverFalls-keys : (low high : ℕ) (xs : List TupleRef) → IsRising (λ a b. nat_cmp a.part b.part) xs → NeverFalls (λ r. key_place low high r.part) xs
+pub NeverFalls-keys : (low high : ℕ) (xs : List TupleRef) → IsRising (λ a b. nat_cmp a.number b.number) xs → NeverFalls (λ r. key_place low high r.number) xs
 NeverFalls-keys low high xs =
-    NeverFalls-from_rising (λ (a b : TupleRef). nat_cmp a.part b.part) (λ (r : TupleRef). key_place low high r.part) xs
-    (λ p q _ _ h. key_place-rises low high p.part q.part (ranked p.part q.part Less (sym h)))
+    NeverFalls-from_rising (λ (a b : TupleRef). nat_cmp a.number b.number) (λ (r : TupleRef). key_place low high r.number) xs
+    (λ p q _ _ h. key_place-rises low high p.number q.number (ranked p.number q.number Less (sym h)))
