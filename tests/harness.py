@@ -17,6 +17,7 @@ TESTS = pathlib.Path(__file__).resolve().parent
 ROOT = TESTS.parent
 ROWS = TESTS / "rows"
 PROGRAM = ROOT / "crates" / "mmdb" / "out" / "mmdb"
+VERSION = (ROOT / "VERSION").read_text().strip()
 SECONDS = sizes.size(60, 3_600)
 POLICIES = ("auto", "scan", "hash", "tree", "merge")
 

@@ -35,7 +35,7 @@ class Words(unittest.TestCase):
     def test_version_goes_to_standard_output(self):
         for word in ("--version", "-V"):
             ended = harness.run_whole(FIRST_PATH, [word])
-            self.assertEqual((ended.status, ended.out, ended.err), (0, b"mmdb 0.1.0\n", b""))
+            self.assertEqual((ended.status, ended.out, ended.err), (0, f"mmdb {harness.VERSION}\n".encode(), b""))
 
     def test_wrong_words_end_with_status_2(self):
         for words in (["file"], ["--policy", "fast"], ["--policy"], ["--nosuch"], ["-x"], ["--help=1"], ["--", "file"], [""]):

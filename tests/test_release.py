@@ -14,6 +14,8 @@ import harness
 # What ./run may use on a machine without the toolchain.
 PLAIN = ("bash", "cat", "dirname", "env", "sha256sum")
 TOOLCHAIN = (harness.ROOT / "release" / "toolchain").read_text()
+# What the program tells of its version.
+TOLD = f"mmdb {harness.VERSION}\n".encode()
 
 # A stand-in for the toolchain that proves at once, and whose program is the one that was built before.
 PROVES = f"""#!/bin/sh
@@ -98,13 +100,13 @@ class Runs(Copies):
         self.change("crates/mm_session/src/lib.rt")
         path = self.put_toolchain(PROVES)
         first = self.command("run", "--version", PATH=path)
-        self.assertEqual((first.returncode, first.stdout), (0, b"mmdb 0.1.0\n"))
+        self.assertEqual((first.returncode, first.stdout), (0, TOLD))
         crates = self.said_by("scripts/digest", "--crates").split()
         for crate in crates:
             self.assertIn(b": %s proved" % crate, first.stderr)
         self.assertIn(b"mmdb: %d of %d: mmdb proved and built in 0:0" % (len(crates), len(crates)), first.stderr)
         again = self.command("run", "--version")
-        self.assertEqual((again.returncode, again.stdout, again.stderr), (0, b"mmdb 0.1.0\n", b""))
+        self.assertEqual((again.returncode, again.stdout, again.stderr), (0, TOLD, b""))
 
     def test_a_build_that_fails_says_why(self):
         self.change("crates/mm_session/src/lib.rt")

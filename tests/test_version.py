@@ -1,0 +1,36 @@
+"""The version stands in the file VERSION, and every place that tells it tells the same."""
+
+import re
+import unittest
+
+import harness
+
+# The places, and the texts there in which the version stands.
+PLACES = (
+    ("include/mmdb.h", r'^#define MMDB_VERSION "(.*)"$'),
+    ("crates/mmdb/src/words.rt", r'\.version\("(.*)"\)'),
+    ("bindings/python/mmdb.py", r'^__version__ = "(.*)"$'),
+    ("bindings/python/pyproject.toml", r'^version = "(.*)"$'),
+    ("bindings/rust/Cargo.toml", r'^version = "(.*)"$'),
+    ("bindings/rust/Cargo.lock", r'^name = "mmdb"\nversion = "(.*)"$'),
+    ("examples/rust/Cargo.lock", r'^name = "mmdb"\nversion = "(.*)"$'),
+)
+
+
+class Version(unittest.TestCase):
+    """One version, everywhere."""
+
+    def test_it_is_three_numbers(self):
+        self.assertRegex((harness.ROOT / "VERSION").read_text(), r"\A(0|[1-9]\d*)(\.(0|[1-9]\d*)){2}\n\Z")
+
+    def test_each_place_has_it(self):
+        for place, text in PLACES:
+            with self.subTest(place):
+                found = re.findall(text, (harness.ROOT / place).read_text(), re.MULTILINE)
+                self.assertEqual(found, [harness.VERSION])
+
+    def test_the_header_has_its_numbers(self):
+        header = (harness.ROOT / "include" / "mmdb.h").read_text()
+        parts = ("MAJOR", "MINOR", "PATCH")
+        numbers = [re.findall(rf"^#define MMDB_VERSION_{part} (\d+)$", header, re.MULTILINE) for part in parts]
+        self.assertEqual(numbers, [[number] for number in harness.VERSION.split(".")])
