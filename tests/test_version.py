@@ -15,6 +15,7 @@ PLACES = (
     ("bindings/rust/Cargo.lock", r'^name = "mmdb"\nversion = "(.*)"$'),
     ("examples/rust/Cargo.lock", r'^name = "mmdb"\nversion = "(.*)"$'),
 )
+CHANGES = re.compile(r"^## \[(.*?)\](?: - \d{4}-\d{2}-\d{2})?$", re.MULTILINE)
 
 
 class Version(unittest.TestCase):
@@ -34,3 +35,7 @@ class Version(unittest.TestCase):
         parts = ("MAJOR", "MINOR", "PATCH")
         numbers = [re.findall(rf"^#define MMDB_VERSION_{part} (\d+)$", header, re.MULTILINE) for part in parts]
         self.assertEqual(numbers, [[number] for number in harness.VERSION.split(".")])
+
+    def test_the_newest_version_of_the_changelog_is_it(self):
+        told = CHANGES.findall((harness.ROOT / "CHANGELOG.md").read_text())
+        self.assertEqual([version for version in told if version != "Unreleased"][0], harness.VERSION)
