@@ -1,0 +1,291 @@
+"""./install and ./install --remove, from a copy whose release is of the program and the library that were built."""
+
+import functools
+import os
+import pathlib
+import re
+import shutil
+import subprocess
+import sys
+import tempfile
+import unittest
+
+import compiling
+import embedding
+import harness
+import library
+
+FILES = {
+    "bin/mmdb",
+    "include/mmdb.h",
+    "lib/libmmdb.a",
+    "lib/libmmdb.so",
+    "lib/libmmdb.so.MAJOR",
+    "lib/libmmdb.so.VERSION",
+    "lib/pkgconfig/mmdb.pc",
+    "lib/python3/dist-packages/libmmdb.so",
+    "lib/python3/dist-packages/mmdb.py",
+    "share/doc/mmdb/CHANGELOG.md",
+    "share/doc/mmdb/LICENSE-APACHE",
+    "share/doc/mmdb/LICENSE-MIT",
+    "share/doc/mmdb/README.md",
+    "share/doc/mmdb/THIRD-PARTY",
+    "share/doc/mmdb/docs/c.md",
+    "share/doc/mmdb/docs/installing.md",
+    "share/doc/mmdb/docs/language.md",
+    "share/doc/mmdb/docs/plans.md",
+    "share/doc/mmdb/docs/python.md",
+    "share/man/man1/mmdb.1",
+    "share/man/man3/mmdb.3",
+    "share/mmdb/installed",
+}
+# Holds the copy that each test has a copy of.
+ROOM = tempfile.TemporaryDirectory(prefix="mmdb-tests-")
+MAJOR = harness.VERSION.split(".")[0]
+# Who has no right to write into a folder of root's.
+NOBODY = {"user": 65534, "group": 65534, "extra_groups": []} if os.geteuid() == 0 else {}
+
+
+def tearDownModule():
+    ROOM.cleanup()
+
+
+def named(files, version=harness.VERSION):
+    return {file.replace("VERSION", version).replace("MAJOR", MAJOR) for file in files}
+
+
+def below(folder):
+    """The files and links below a folder."""
+    return {str(path.relative_to(folder)) for path in folder.rglob("*") if path.is_symlink() or not path.is_dir()}
+
+
+def note(top):
+    """Notes that the release of a copy is of its sources."""
+    for digests, words in (("mmdb", ["release/mmdb"]), ("libmmdb", ["--library", "release"])):
+        told = subprocess.run(["scripts/digest", *words], cwd=top, stdout=subprocess.PIPE, check=True).stdout
+        (top / "release" / f"{digests}.digests").write_bytes(told)
+
+
+@functools.cache
+def model_copy():
+    """A copy of what ./install reads, with a release of the program and the library that were built."""
+    top = pathlib.Path(ROOM.name)
+    top.chmod(0o755)
+    (top / "release").mkdir()
+    for name in ("install", "README.md", "CHANGELOG.md", "LICENSE-MIT", "LICENSE-APACHE", "crates.txt", "release/THIRD-PARTY"):
+        shutil.copy(harness.ROOT / name, top / name)
+    for name in ("scripts", "include", "docs", "bindings/python"):
+        shutil.copytree(harness.ROOT / name, top / name)
+    (top / "crates").symlink_to(harness.ROOT / "crates")
+    shutil.copy(harness.PROGRAM, top / "release")
+    for name in ("libmmdb.a", "libmmdb.so", "mmdb.h", "mmdb.pc"):
+        shutil.copy(library.folder() / name, top / "release")
+    note(top)
+    return top
+
+
+class Installs(unittest.TestCase):
+    """Tests with a copy and a folder to install into."""
+
+    def setUp(self):
+        room = tempfile.TemporaryDirectory(prefix="mmdb-tests-")
+        self.addCleanup(room.cleanup)
+        self.room = pathlib.Path(room.name)
+        self.room.chmod(0o755)
+        self.top = self.room / "copy"
+        shutil.copytree(model_copy(), self.top, symlinks=True)
+        self.prefix = self.room / "prefix"
+
+    def ran(self, *words, how=None, **variables):
+        command = [self.top / "install", *words]
+        where = {**os.environ, "DESTDIR": "", **variables}
+        told = {"cwd": self.room, "capture_output": True, "text": True, "timeout": harness.SECONDS, "check": False}
+        return subprocess.run(command, env=where, **told, **(how or {}))
+
+    def install(self, *words, **variables):
+        ran = self.ran(*(words or [self.prefix]), **variables)
+        self.assertEqual((ran.returncode, ran.stdout), (0, ""), ran.stderr)
+        return ran.stderr
+
+    def refused(self, status, why, *words, how=None):
+        """What is refused changes nothing, and says why in lines of its own."""
+        before = below(self.room)
+        ran = self.ran(*words, how=how)
+        self.assertEqual((ran.returncode, ran.stdout), (status, ""), ran.stderr)
+        self.assertIn(why, ran.stderr)
+        self.assertEqual([line for line in ran.stderr.splitlines() if not line.startswith("mmdb: ")], [])
+        self.assertEqual(below(self.room), before)
+
+
+class Places(Installs):
+    """What stands where, and that it is taken away again."""
+
+    def test_the_files_and_their_end(self):
+        self.install()
+        self.assertEqual(below(self.prefix), named(FILES))
+        self.assertEqual((self.prefix / "bin" / "mmdb").read_bytes(), harness.PROGRAM.read_bytes())
+        for name in ("libmmdb.so", f"libmmdb.so.{MAJOR}", f"libmmdb.so.{harness.VERSION}"):
+            self.assertEqual((self.prefix / "lib" / name).read_bytes(), (library.folder() / "libmmdb.so").read_bytes())
+        ran = self.ran("--remove", self.prefix)
+        self.assertEqual(ran.returncode, 0, ran.stderr)
+        self.assertFalse(self.prefix.exists())
+
+    def test_other_files_stay(self):
+        others = {"bin/other", "lib/python3/other.py", "share/mmdb/mine", "file"}
+        for other in others:
+            (self.prefix / other).parent.mkdir(parents=True, exist_ok=True)
+            (self.prefix / other).write_text("mine")
+        (self.prefix / "share" / "man").mkdir()
+        self.install()
+        self.assertEqual(below(self.prefix), named(FILES) | others)
+        self.install()
+        self.assertEqual(self.ran("--remove", self.prefix).returncode, 0)
+        self.assertEqual(below(self.prefix), others)
+        self.assertTrue((self.prefix / "share" / "man").is_dir())
+        self.assertFalse((self.prefix / "include").exists())
+
+    def test_a_newer_version_takes_the_older_away(self):
+        self.install()
+        pc = self.top / "release" / "mmdb.pc"
+        pc.write_text(re.sub("(?m)^Version: .*", f"Version: {MAJOR}.999.0", pc.read_text()))
+        note(self.top)
+        self.assertIn(f"version {MAJOR}.999.0 is installed", self.install())
+        self.assertEqual(below(self.prefix), named(FILES, f"{MAJOR}.999.0"))
+        self.assertEqual(self.ran("--remove", self.prefix).returncode, 0)
+        self.assertFalse(self.prefix.exists())
+
+    def test_a_relative_prefix_with_blanks(self):
+        self.install("a folder/../b c")
+        self.assertEqual(below(self.room / "b c"), named(FILES))
+        self.assertIn(f"prefix={self.room}/b c\n", (self.room / "b c" / "lib" / "pkgconfig" / "mmdb.pc").read_text())
+
+    def test_below_destdir(self):
+        self.install("/usr", DESTDIR=str(self.room / "staged"))
+        staged = self.room / "staged" / "usr"
+        self.assertEqual({re.sub("python3[^/]*/(dist|site)-", "python3/dist-", file) for file in below(staged)}, named(FILES))
+        for file in below(staged) - {"bin/mmdb", "lib/libmmdb.a"}:
+            self.assertNotIn(bytes(self.room), (staged / file).read_bytes(), file)
+        self.assertEqual(self.ran("--remove", "/usr", DESTDIR=str(self.room / "staged")).returncode, 0)
+        self.assertEqual(below(self.room / "staged"), set())
+
+
+class Uses(Installs):
+    """What is installed works by itself."""
+
+    def setUp(self):
+        super().setUp()
+        self.install()
+        self.lib = self.prefix / "lib"
+        self.where = {key: value for key, value in os.environ.items() if key not in ("MMDB_LIBRARY", "PYTHONDONTWRITEBYTECODE")}
+        self.where["PKG_CONFIG_PATH"] = str(self.lib / "pkgconfig")
+
+    def said_by(self, *words, **variables):
+        how = {"stdout": subprocess.PIPE, "text": True, "timeout": harness.SECONDS, "check": True}
+        return subprocess.run([*words], env={**self.where, **variables}, **how).stdout
+
+    def test_the_program_runs(self):
+        _, stream, answers = next(harness.rows())
+        ran = subprocess.run([self.prefix / "bin" / "mmdb"], input=stream, capture_output=True, check=False)
+        self.assertEqual((ran.returncode, ran.stdout, ran.stderr), (0, answers, b""))
+
+    def test_the_module_is_imported(self):
+        program, printed = embedding.first_program("docs/python.md", "python")
+        modules = self.lib / "python3" / "dist-packages"
+        self.assertEqual(self.said_by(sys.executable, "-c", program, PYTHONPATH=str(modules)), printed)
+        self.assertEqual(self.ran("--remove", self.prefix).returncode, 0)
+        self.assertFalse(self.prefix.exists())
+
+    def test_a_folder_of_which_python_knows_gets_the_module(self):
+        ask = "import site; print(*site.getsitepackages(), sep='\\n')"
+        self.said_by(sys.executable, "-m", "venv", "--without-pip", self.room / "env")
+        self.install(self.room / "env", PATH=f"{self.room}/env/bin:{os.environ['PATH']}")
+        modules = pathlib.Path(self.said_by(self.room / "env" / "bin" / "python3", "-c", ask).split("\n", maxsplit=1)[0])
+        self.assertTrue((modules / "mmdb.py").is_file())
+        told = self.said_by(self.room / "env" / "bin" / "python3", "-c", "import mmdb; print(mmdb.__file__)")
+        self.assertEqual(told, f"{modules}/mmdb.py\n")
+
+    @unittest.skipUnless(shutil.which("pkg-config"), "pkg-config is not there")
+    def test_c_programs_are_built_by_pkg_config(self):
+        page = (harness.ROOT / "docs" / "c.md").read_text()
+        program, expected = re.search(r"```c\n(.*?)```.*?```text\n(.*?)```", page, re.DOTALL).groups()
+        (self.room / "first.c").write_text(program)
+        for name, asked, more in (("shared", ["--libs"], []), ("static", ["--libs-only-L"], ["-l:libmmdb.a"])):
+            with self.subTest(name):
+                built = self.room / name
+                told = self.said_by("pkg-config", "--cflags", *asked, "mmdb").split()
+                subprocess.run([*compiling.C, self.room / "first.c", *told, *more, "-o", built], check=True)
+                found = {"LD_LIBRARY_PATH": str(self.lib)} if name == "shared" else {}
+                self.assertEqual(self.said_by(built, **found), expected)
+                needed = re.findall(r"NEEDED.*\[(libmmdb.*)\]", self.said_by("readelf", "-d", built))
+                self.assertEqual(needed, [f"libmmdb.so.{MAJOR}"] if name == "shared" else [])
+        self.assertEqual(self.said_by("pkg-config", "--modversion", "mmdb").strip(), harness.VERSION)
+        self.assertEqual(self.said_by("pkg-config", "--variable=prefix", "mmdb").strip(), str(self.prefix))
+
+
+class Refusals(Installs):
+    """What can't be installed or removed leaves all as it was."""
+
+    def test_wrong_words(self):
+        for words in (["--purge"], ["-r"], ["--"], ["a", "b"], [""], ["--remove", "--as-released"], ['a"b'], ["a\nb"], ["$x"]):
+            with self.subTest(words):
+                self.refused(2, "usage: ./install", *words)
+
+    def test_help(self):
+        for word in ("--help", "-h"):
+            ran = self.ran(word)
+            self.assertEqual((ran.returncode, ran.stderr), (0, ""))
+            self.assertIn("usage: ./install", ran.stdout)
+
+    def test_a_prefix_that_is_no_folder(self):
+        (self.room / "file").write_text("")
+        (self.room / "nowhere").symlink_to("nothing")
+        for prefix in ("file", "file/below", "nowhere"):
+            with self.subTest(prefix):
+                self.refused(1, "is not a folder", prefix)
+        (self.prefix / "share").mkdir(parents=True)
+        (self.prefix / "share" / "man").write_text("")
+        self.refused(1, f"{self.prefix}/share/man is not a folder", self.prefix)
+
+    def test_no_right_to_write(self):
+        self.prefix.mkdir(0o555)
+        self.refused(1, f"there is no right to write into {self.prefix}", self.prefix, how=NOBODY)
+        self.prefix.chmod(0o755)
+        self.install()
+        (self.prefix / "bin").chmod(0o555)
+        self.addCleanup((self.prefix / "bin").chmod, 0o755)
+        self.refused(1, f"there is no right to write into {self.prefix}/bin", "--remove", self.prefix, how=NOBODY)
+
+    def test_a_file_of_another(self):
+        (self.prefix / "bin").mkdir(parents=True)
+        (self.prefix / "bin" / "mmdb").write_text("another's")
+        self.refused(1, f"{self.prefix}/bin/mmdb is there and was not installed", self.prefix)
+
+    def test_nothing_to_remove(self):
+        self.refused(1, "nothing is installed", "--remove", self.prefix)
+
+    def test_a_damaged_list(self):
+        self.install()
+        for line in ("../copy/README.md", "/etc/passwd", "", "bin/../../x", "a\tb"):
+            with self.subTest(line):
+                (self.prefix / "share" / "mmdb" / "installed").write_text(f"bin/mmdb\n{line}\n")
+                self.refused(1, "is damaged", "--remove", self.prefix)
+                self.refused(1, "is damaged", self.prefix)
+
+    def test_a_release_of_other_sources(self):
+        with open(self.top / "include" / "mmdb.h", "a", encoding="utf-8") as header:
+            header.write("/* changed */\n")
+        self.refused(1, "of other sources", self.prefix)
+        self.assertIn("of other sources", self.install("--as-released", self.prefix))
+        self.assertEqual(below(self.prefix), named(FILES))
+        self.assertNotIn("changed", (self.prefix / "include" / "mmdb.h").read_text())
+
+    def test_a_release_that_is_not_whole(self):
+        release = self.top / "release"
+        for name in ("mmdb", "libmmdb.so", "mmdb.pc", "mmdb.h"):
+            with self.subTest(name):
+                kept = (release / name).read_bytes()
+                (release / name).write_bytes(kept + b"\n")
+                self.refused(1, "has other digests", "--as-released", self.prefix)
+                (release / name).unlink()
+                self.refused(1, "release", "--as-released", self.prefix)
+                (release / name).write_bytes(kept)
