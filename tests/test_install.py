@@ -1,4 +1,4 @@
-"""./install and ./install --remove, from a copy whose release is of the program and the library that were built."""
+"""./install, ./install --remove and scripts/make-package, from a copy whose release is of what was built here."""
 
 import functools
 import os
@@ -220,6 +220,56 @@ class Uses(Installs):
                 self.assertEqual(needed, [f"libmmdb.so.{MAJOR}"] if name == "shared" else [])
         self.assertEqual(self.said_by("pkg-config", "--modversion", "mmdb").strip(), harness.VERSION)
         self.assertEqual(self.said_by("pkg-config", "--variable=prefix", "mmdb").strip(), str(self.prefix))
+
+
+@unittest.skipUnless(shutil.which("dpkg-deb"), "dpkg-deb is not there")
+class Package(Installs):
+    """The package for Debian."""
+
+    def make(self, *words):
+        how = {"cwd": self.room, "capture_output": True, "text": True, "timeout": harness.SECONDS, "check": False}
+        return subprocess.run([self.top / "scripts" / "make-package", *words], **how)
+
+    def made(self, folder):
+        ran = self.make(folder)
+        self.assertEqual((ran.returncode, ran.stdout), (0, ""), ran.stderr)
+        return self.room / folder / f"mmdb_{harness.VERSION}-1_amd64.deb"
+
+    def test_what_it_has(self):
+        package = self.made("made")
+        self.assertEqual(self.made("again").read_bytes(), package.read_bytes())
+        subprocess.run(["dpkg-deb", "--raw-extract", package, self.room / "raw"], check=True)
+        raw = self.room / "raw"
+        doc = "share/doc/mmdb/"
+        here = named(FILES) - {f"{doc}CHANGELOG.md", f"{doc}LICENSE-APACHE", f"{doc}LICENSE-MIT", "share/mmdb/installed"}
+        here |= {f"{doc}changelog.gz", f"{doc}changelog.Debian.gz", f"{doc}copyright", "share/lintian/overrides/mmdb"}
+        self.assertEqual(below(raw / "usr"), {f"{file}.gz" if "/man/" in file else file for file in here})
+        subprocess.run(["md5sum", "--check", "--quiet", "DEBIAN/md5sums"], cwd=raw, check=True)
+        fields = dict(line.split(": ", 1) for line in (raw / "DEBIAN" / "control").read_text().splitlines() if line[0] != " ")
+        self.assertEqual((fields["Package"], fields["Version"]), ("mmdb", f"{harness.VERSION}-1"))
+        self.assertEqual((raw / "usr" / "bin" / "mmdb").read_bytes(), harness.PROGRAM.read_bytes())
+
+    @unittest.skipUnless(shutil.which("lintian"), "lintian is not there")
+    def test_lintian_finds_no_error(self):
+        words = ["lintian", "--allow-root", "--fail-on=error", self.made("made")]
+        ran = subprocess.run(words, stdout=subprocess.PIPE, stderr=subprocess.STDOUT, text=True, check=False)
+        self.assertEqual(ran.returncode, 0, ran.stdout)
+
+    def test_what_is_refused(self):
+        (self.room / "file").write_text("")
+        for status, why, *words in (
+            (64, "usage: scripts/make-package"),
+            (64, "usage: scripts/make-package", "a", "b"),
+            (64, "usage: scripts/make-package", "--purge"),
+            (70, "there is no folder file", "file"),
+        ):
+            with self.subTest(words):
+                ran = self.make(*words)
+                self.assertEqual((ran.returncode, ran.stdout), (status, ""))
+                self.assertIn(why, ran.stderr)
+        (self.top / "release" / "mmdb").unlink()
+        self.assertEqual(self.make("made").returncode, 70)
+        self.assertEqual(below(self.room / "made"), set())
 
 
 class Refusals(Installs):
