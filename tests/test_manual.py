@@ -1,0 +1,76 @@
+"""The manual pages: their form, that they tell what the other pages tell, and that their examples do what they say."""
+
+import os
+import re
+import shutil
+import subprocess
+import unittest
+
+import compiling
+import harness
+
+PROGRAM, LIBRARY = (harness.ROOT / "docs" / "man" / name for name in ("mmdb.1", "mmdb.3"))
+LANGUAGE = (harness.ROOT / "docs" / "language.md").read_text()
+HEADER = (harness.ROOT / "include" / "mmdb.h").read_text()
+ESCAPES = {r"\(dq": '"', r"\(aq": "'", r"\-": "-", r"\e": "\\"}
+ROOM = compiling.Room()
+
+
+def tearDownModule():
+    ROOM.close()
+
+
+def examples(page):
+    """The texts of a page that are to be typed as they stand."""
+    for example in re.findall(r"^\.EX\n(.*?)^\.EE$", page.read_text(), re.MULTILINE | re.DOTALL):
+        yield re.sub(r"\\(?:\(..|.)", lambda escape: ESCAPES[escape[0]], example)
+
+
+class Form(unittest.TestCase):
+    """No reader of such pages finds fault with them."""
+
+    def check(self, *words):
+        for page in (PROGRAM, LIBRARY):
+            with self.subTest(page.name):
+                ran = subprocess.run([*words, page], capture_output=True, text=True, check=False)
+                self.assertEqual((ran.returncode, ran.stdout, ran.stderr), (0, "", ""))
+
+    @unittest.skipUnless(shutil.which("groff"), "groff is not there")
+    def test_groff_warns_of_nothing(self):
+        self.check("groff", "-ww", "-man", "-t", "-Tutf8", "-z")
+
+    @unittest.skipUnless(shutil.which("mandoc"), "mandoc is not there")
+    def test_mandoc_warns_of_nothing(self):
+        self.check("mandoc", "-T", "lint")
+
+
+class Contents(unittest.TestCase):
+    """What they tell is so."""
+
+    def test_each_refusal_is_told(self):
+        refusals = re.findall(r"^\| (\d\d) \| `([^`]*)` \|", LANGUAGE, re.MULTILINE)
+        self.assertGreater(len(refusals), 20)
+        self.assertEqual(re.findall(r"^(\d\d)\t(.*)$", PROGRAM.read_text().replace(r"\-", "-"), re.MULTILINE), refusals)
+
+    def test_each_status_of_the_library_is_told(self):
+        statuses = re.findall(r"MMDB_\w+(?= = )", re.search(r"typedef enum mmdb_status \{(.*?)\}", HEADER, re.DOTALL)[1])
+        values = re.search(r"^\.SH RETURN VALUE$(.*?)^\.SH", LIBRARY.read_text(), re.MULTILINE | re.DOTALL)[1]
+        self.assertEqual(re.findall(r"^\.TP\n\.B (MMDB_\w+)$", values, re.MULTILINE), statuses)
+
+    def test_each_call_of_the_library_is_told(self):
+        calls = re.findall(r"^(?:static inline )?(?:uint32_t|void|const char) \*?(mmdb_(?!checked)\w+)\(", HEADER, re.MULTILINE)
+        told = re.findall(r'^\.BI "[\w ]*\*?(mmdb_\w+)\(', LIBRARY.read_text(), re.MULTILINE)
+        self.assertEqual(told, calls)
+
+    def test_the_example_of_the_program(self):
+        (example,) = examples(PROGRAM)
+        typed, answers = re.fullmatch(r"\$ (.*?\| mmdb\n)(.*)", example, re.DOTALL).groups()
+        where = {**os.environ, "PATH": f"{harness.PROGRAM.parent}:{os.environ['PATH']}"}
+        self.assertEqual(subprocess.run(["bash", "-c", typed], stdout=subprocess.PIPE, text=True, check=True, env=where).stdout, answers)
+
+    def test_the_example_of_the_library(self):
+        program, _ = examples(LIBRARY)
+        source = ROOM.path / "first.c"
+        source.write_text(program)
+        ran = compiling.ran(ROOM.compiled("first", source))
+        self.assertEqual((ran.status, ran.out, ran.err), (0, b"ok\nok 1\nrows 1\nt.id,t.name\n1,Ann\n", b""))
