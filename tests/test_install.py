@@ -331,10 +331,10 @@ class Refusals(Installs):
 
     def test_a_release_that_is_not_whole(self):
         release = self.top / "release"
-        for name in ("mmdb", "libmmdb.so", "mmdb.pc", "mmdb.h"):
+        for name in ("mmdb", "libmmdb.so", "mmdb.pc", "mmdb.h", "mmdb.digests", "libmmdb.digests"):
             with self.subTest(name):
                 kept = (release / name).read_bytes()
-                (release / name).write_bytes(kept + b"\n")
+                (release / name).write_bytes(kept + b"x\n")
                 self.refused(1, "has other digests", "--as-released", self.prefix)
                 (release / name).unlink()
                 self.refused(1, "release", "--as-released", self.prefix)
