@@ -1,11 +1,10 @@
 -- The cells of a row, and what the row shows, links and holds by them.
 use Rattle.std.proofs.Common.{◌≡◌, ◌≢◌, ℕ, zero, suc, ◌+◌, ◌-◌, ◌<◌, ◌≤◌, cond, List, [], ◌∷◌, ◌++◌, Option, Some, None, IsSome, is_some, refl, sym, ap, ◌∙◌, subst, arith, length, map, inl, inr}
-use Rattle.std.specs.List.{All, slice_get, filter_map, range_with_len, cons_option}
+use Rattle.std.specs.List.{All, slice_get, range_with_len}
 use Rattle.std.specs.Option.{option_and_then, option_map}
 use Rattle.std.specs.FinMap.{get}
 use Rattle.std.proofs.lemmas.Bool.{cases_eq, cases_lt, ne_eqb}
 use Rattle.std.proofs.lemmas.List.{length-map}
-use Rattle.std.proofs.lemmas.List.Elements.{All-cons, All-nil}
 use Rattle.std.proofs.lemmas.List.FromFn.{length-range_with_len}
 use Rattle.std.proofs.lemmas.Option.{none-some, same_Some, slice_get_within, slice_get_past, slice_get-map}
 use Rattle.part_raw.specs.declared.tuple_ref.TupleRef.{TupleRef}
@@ -18,32 +17,11 @@ use Rattle.mm_relation.specs.Changes.{new_row}
 use Rattle.mm_relation.specs.Reading.{Keys, cell_value, row_value, key_at, link_of, link_in}
 use Rattle.mm_relation.specs.State.{RelationState, IsReadable, linked_keys}
 use Rattle.mm_catalog.specs.Seen.{or_null, row_values}
-use Rattle.mm_catalog.specs.Linked.{Linked, target_at, link_at, row_links, HasLinksOrNulls}
-use Rattle.mm_catalog.specs.Raised.{IsHeldIn}
+use Rattle.mm_catalog.specs.Linked.{target_at, link_at, row_links, HasLinksOrNulls}
+use Rattle.mm_catalog.specs.Counted.{IsHeldIn}
 use Rattle.mm_catalog.specs.Cells.{target_in, read_in, IsCellOf, NamesNone, AreFirstCells, AreCellsOf}
 use Rattle.mm_catalog.proofs.Lists.{same_by_get, get_within, get-front, get-last}
-
--- ---- the links of a row
-
-pub All-filter_map : {A B : Type 0} (h : A → Option B) (P : B → Type 0) → ((x : A) (y : B) → h x ≡ Some y → P y) → (xs : List A) → All P (filter_map h xs)
-All-filter_map h P each [] = All-nil P
-All-filter_map h P each (x ∷ xs) =
-    let rest = All-filter_map h P each xs in
-    elim (h x) as (λ o. h x ≡ o → All P (cons_option o (filter_map h xs))) [
-      | None ↦ λ e. rest
-      | Some y ↦ λ e. All-cons P y (filter_map h xs) (each x y e) rest
-    ] refl
-
--- the link in a column, by where it leads and the row that it names
-pub link_parts : (targets : List (Option ℕ)) (row : Row) (column : ℕ) (link : Linked) → link_at targets row column ≡ Some link → (target_at targets column ≡ Some link.0) × (link_in column row ≡ Some link.1)
-link_parts targets row column link e = parts (target_at targets column) (link_in column row) link e
-  where
-    parts : (o : Option ℕ) (p : Option TupleRef) (link : Linked) → option_and_then (λ table. option_map (λ to. (table, to)) p) o ≡ Some link → (o ≡ Some link.0) × (p ≡ Some link.1)
-    parts None p link e = absurd (none-some link e)
-    parts (Some table) None link e = absurd (none-some link e)
-    parts (Some table) (Some to) link e =
-        let same : (table, to) ≡ link = same_Some (table, to) link e in
-        (ap (λ (l : Linked). Some l.0) same, ap (λ (l : Linked). Some l.1) same)
+use Rattle.mm_catalog.proofs.RowLinks.{All-filter_map, link_parts}
 
 -- ---- the cell of a value
 
@@ -190,6 +168,5 @@ module _ (relations : List RelationState) (targets : List (Option ℕ)) (key : V
   pub cells_held : All (IsHeldIn relations) (row_links targets row)
   unfolding row_links
   cells_held =
-      All-filter_map (link_at targets row) (IsHeldIn relations)
-      (λ column link e. let parts = link_parts targets row column link e in held_link column link.0 link.1 parts.0 parts.1)
-      (range_with_len 0 (length targets))
+      All-filter_map (IsHeldIn relations) (link_at targets row) (range_with_len 0 (length targets))
+      (λ column link _ e. let parts = link_parts targets row column link e in held_link column link.0 link.1 parts.0 parts.1)

@@ -8,8 +8,7 @@ use Rattle.std.specs.FinMap.{get}
 use Rattle.std.proofs.lemmas.Cmp.{eq_by_cmp_equiv}
 use Rattle.std.proofs.lemmas.List.Elements.{All-contains, Contains-get_or}
 use Rattle.std.proofs.lemmas.List.Folds.{Any-from_list_any, list_any-from_Any, list_any_none}
-use Rattle.std.proofs.lemmas.List.Sums.{get_or-le-sum_by}
-use Rattle.std.proofs.lemmas.Option.{none-some, slice_get_within, get_or_from_slice_get}
+use Rattle.std.proofs.lemmas.Option.{none-some, slice_get_within}
 use Rattle.part_raw.specs.declared.tuple_ref.TupleRef.{TupleRef}
 use Rattle.part_raw.proofs.Tuples.{held_tuple}
 use Rattle.mm_index.proofs.Members.{Contains-filter, Contains-from_filter, Contains-map, Contains-from_map}
@@ -31,30 +30,22 @@ use Rattle.mm_relation.specs.Reading.{Keys, key_at}
 use Rattle.mm_relation.specs.State.{tree_list, RelationState, IsKept, IsCurrent, linked_keys}
 use Rattle.mm_catalog.specs.State.{CatalogState}
 use Rattle.mm_catalog.specs.Seen.{database_of, table_of, rows_of, row_values, values_of, plain_index}
-use Rattle.mm_catalog.specs.Linked.{Linked, is_link_to, links, links_to, relation_links, HasLinksOrNulls}
+use Rattle.mm_catalog.specs.Linked.{is_link_to, links_to, relation_links, HasLinksOrNulls}
 use Rattle.mm_catalog.specs.Consistent.{IsConsistent, AreCounted}
 use Rattle.mm_catalog.specs.Changes.{HasEffect}
 use Rattle.mm_catalog.specs.Picked.{ArePicked}
 use Rattle.mm_catalog.specs.Recounted.{HaveReferrers, IsRewritten}
-use Rattle.mm_catalog.specs.Lowered.{HaveAtLeast}
+use Rattle.mm_catalog.specs.Counted.{HaveAtLeast, naming}
 use Rattle.mm_catalog.specs.Deleted.{AreDeleted, AreRemoved, AreUnlinked, AllFree, AnyReferenced, IsFree, IsReferenced}
 use Rattle.mm_catalog.proofs.Lists.{get_within, get-take}
 use Rattle.mm_catalog.proofs.Declared.{among_at, named_at}
 use Rattle.mm_catalog.proofs.Elsewhere.{rewritten_from, kept_from, counted_from, current_beside_old, consistent_rewritten, database_rewritten}
-use Rattle.mm_catalog.proofs.Fewer.{counted_lowered}
-use Rattle.mm_catalog.proofs.References.{some_columns, not_referenced, referenced, is_eq-Equal}
-use Rattle.mm_catalog.proofs.Removing.{counted_by_row}
+use Rattle.mm_catalog.proofs.Counted.{counted_down}
+use Rattle.mm_catalog.proofs.Referrers.{some_columns, not_referenced, referenced, is_eq-Equal}
+use Rattle.mm_catalog.proofs.Removing.{links_within}
 use Rattle.mm_catalog.proofs.Shown.{compared}
 use Rattle.mm_catalog.proofs.Shrunk.{PicksThese, length_picked, rows_left}
 use Rattle.mm_catalog.proofs.Tables.{database-get}
-
--- the links of one relation are some of all
-links_within : (test : Linked → Bool) (relations : List RelationState) (n : ℕ) (s : RelationState) → slice_get relations n ≡ Some s → count_by test (relation_links s) ≤ count_by test (links relations)
-unfolding links
-links_within test relations n s there =
-    let part = get_or-le-sum_by (λ t. count_by test (relation_links t)) relations n s (slice_get_within relations n s there) in
-    let it : count_by test (relation_links (get_or relations n s)) ≡ count_by test (relation_links s) = ap (λ t. count_by test (relation_links t)) (get_or_from_slice_get relations n s s there) in
-    omega (arith, part, it, counted_by_row test relation_links relations)
 
 -- ---- what is done to plain tables, where the table is there
 
@@ -67,7 +58,7 @@ module _ (tables : Database) (n : TableNumber) (picks : List Value → Bool) (ta
 
 module _ (c : CatalogState) (ok : IsConsistent c) where
   -- each row has at least as many referrers as links of one relation name it
-  pub enough_before : (n : ℕ) (s : RelationState) → slice_get c.relations n ≡ Some s → HaveAtLeast (take n c.relations) (λ table q. count_by (is_link_to table q) (relation_links s))
+  pub enough_before : (n : ℕ) (s : RelationState) → slice_get c.relations n ≡ Some s → HaveAtLeast (take n c.relations) (naming (relation_links s))
   unfolding links_to
   enough_before n s there table t q row at held =
       let below : table < n = omega (arith, slice_get_within (take n c.relations) table t at, length-take n c.relations) in
@@ -169,15 +160,15 @@ module _ (c : CatalogState) (ok : IsConsistent c) where
 
       rewritten : IsRewritten c.relations joined n.0 s a
       rewritten =
-          rewritten_from c.relations front n.0 s a there unlinked.lowered.recounted removed.keeps
+          rewritten_from c.relations front n.0 s a there unlinked.counted.recounted removed.keeps
           (λ r row at some. ap (option_and_then (λ (x : Row). Some x.key)) (removed.others r (λ h. let zero = All-contains (IsFree s) refs r free h row at in absurd (omega (arith, zero, some)))))
 
       front_length : length front ≡ n.0
-      front_length = omega (arith, unlinked.lowered.recounted.count, length-take n.0 c.relations, slice_get_within c.relations n.0 s there)
+      front_length = omega (arith, unlinked.counted.recounted.count, length-take n.0 c.relations, slice_get_within c.relations n.0 s there)
 
       counted_front : HaveReferrers front (λ table r. links_to c.relations table r - unlinked.fewer table r)
       counted_front =
-          counted_lowered (take n.0 c.relations) front unlinked.fewer (links_to c.relations) unlinked.lowered
+          counted_down (take n.0 c.relations) front unlinked.fewer (links_to c.relations) unlinked.counted
           (λ table t r row at here.
           let below : table < n.0 = omega (arith, slice_get_within (take n.0 c.relations) table t at, length-take n.0 c.relations) in
           ok.counted table t r row (sym (get-take c.relations n.0 table below) ∙ at) here)
@@ -227,7 +218,7 @@ module _ (c : CatalogState) (ok : IsConsistent c) where
       pub stays_consistent : IsConsistent (record c { relations = joined })
       stays_consistent =
           consistent_rewritten c ok n.0 joined s a rewritten
-          (kept_from c ok n.0 front a unlinked.lowered.kept kept)
+          (kept_from c ok n.0 front a unlinked.counted.kept kept)
           (current_beside_old c ok n.0 joined s a rewritten current)
           (λ r row at. subst (λ targets. HasLinksOrNulls targets row) (sym removed.keeps.targets) ((among_at c ok n.0 s there).linked r row (before_at r row at)))
           counted

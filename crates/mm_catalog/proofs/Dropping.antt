@@ -24,14 +24,14 @@ use Rattle.mm_catalog.specs.Linked.{target_at, relation_links, links, links_to, 
 use Rattle.mm_catalog.specs.Consistent.{IsConsistent}
 use Rattle.mm_catalog.specs.Changes.{IsDone}
 use Rattle.mm_catalog.specs.Recounted.{IsRecounted, AreRecounted}
-use Rattle.mm_catalog.specs.Lowered.{HaveAtLeast}
+use Rattle.mm_catalog.specs.Counted.{HaveAtLeast, naming}
 use Rattle.mm_catalog.specs.Dropped.{moved_up, renumbered, IsUnlinked}
 use Rattle.mm_catalog.proofs.Lists.{get_within, get-front, get-take}
 use Rattle.mm_catalog.proofs.Outlines.{LeadBack}
 use Rattle.mm_catalog.proofs.Back.{lead_back}
 use Rattle.mm_catalog.proofs.Declared.{there_at, table_at}
 use Rattle.mm_catalog.proofs.Elsewhere.{relation_leads}
-use Rattle.mm_catalog.proofs.Fewer.{IsRecounted-refl, counted_lowered}
+use Rattle.mm_catalog.proofs.Counted.{IsRecounted-refl, counted_down}
 use Rattle.mm_catalog.proofs.Gone.{moved_up-before, moved_back-before, get-removed}
 use Rattle.mm_catalog.proofs.Renumbered.{less_one, count-less_one}
 use Rattle.mm_catalog.proofs.Dropped.{database_left, consistent_left}
@@ -70,7 +70,7 @@ module _ (c : CatalogState) (ok : IsConsistent c) (number : TableNumber) (meant 
   all_kept = λ k d l. (ok.each k d l).kept
 
   -- each row that its links name has as many referrers at least
-  pub enough : (s : RelationState) → slice_get c.relations n ≡ Some s → HaveAtLeast (take n c.relations) (λ table r. count_by (is_link_to table r) (relation_links s))
+  pub enough : (s : RelationState) → slice_get c.relations n ≡ Some s → HaveAtLeast (take n c.relations) (naming (relation_links s))
   unfolding links_to links
   enough s there table t r row at e =
       let old = get-taken c.relations n table t at in
@@ -86,7 +86,7 @@ module _ (c : CatalogState) (ok : IsConsistent c) (number : TableNumber) (meant 
 
   module _ (unlinked : List RelationState) (h : IsUnlinked c.relations unlinked n) where
     front_length : length h.front ≡ n
-    front_length = omega (arith, h.lowered.recounted.count, length-take n c.relations, within)
+    front_length = omega (arith, h.counted.recounted.count, length-take n c.relations, within)
 
     get-before : (k : ℕ) → k < n → slice_get unlinked k ≡ slice_get h.front k
     get-before k below = ap (λ rs. slice_get rs k) h.list ∙ get-front h.front (drop n c.relations) k (omega (arith, below, front_length))
@@ -103,18 +103,18 @@ module _ (c : CatalogState) (ok : IsConsistent c) (number : TableNumber) (meant 
     recounted = record {
       count = length-unlinked;
       each = λ k s t at here. elim (cases_lt k n) [
-        | inl below ↦ h.lowered.recounted.each k s t (get-take c.relations n k below ∙ at) (sym (get-before k below) ∙ here)
+        | inl below ↦ h.counted.recounted.each k s t (get-take c.relations n k below ∙ at) (sym (get-before k below) ∙ here)
         | inr past ↦ subst (IsRecounted s) (same_Some s t (sym at ∙ sym (get-behind k past) ∙ here)) (IsRecounted-refl s)
       ];
     }
 
     kept_unlinked : All IsKept unlinked
-    kept_unlinked = subst (All IsKept) (sym h.list) (All-append IsKept h.front (drop n c.relations) h.lowered.kept (All-drop IsKept n c.relations all_kept))
+    kept_unlinked = subst (All IsKept) (sym h.list) (All-append IsKept h.front (drop n c.relations) h.counted.kept (All-drop IsKept n c.relations all_kept))
 
     fewer : (k : ℕ) (t : RelationState) (r : TupleRef) (row : Row) → k ≢ n → slice_get unlinked k ≡ Some t → finite.get t.rows r ≡ Some row → row.referrers ≡ links_to c.relations k r - count_by (is_link_to k r) (relation_links h.relation)
     fewer k t r row other at e = elim (cases_lt k n) [
       | inl below ↦
-          counted_lowered (take n c.relations) h.front (λ table q. count_by (is_link_to table q) (relation_links h.relation)) (links_to c.relations) h.lowered
+          counted_down (take n c.relations) h.front (naming (relation_links h.relation)) (links_to c.relations) h.counted
           (λ table s q had there held. ok.counted table s q had (get-taken c.relations n table s there).1 held)
           k t r row (sym (get-before k below) ∙ at) e
       | inr past ↦

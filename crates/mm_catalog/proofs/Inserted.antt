@@ -35,7 +35,8 @@ use Rattle.mm_catalog.specs.Linked.{Linked, link_at, row_links, relation_links, 
 use Rattle.mm_catalog.specs.Consistent.{IsConsistent, AreCounted}
 use Rattle.mm_catalog.specs.Changes.{HasEffect, IsRefusedFor}
 use Rattle.mm_catalog.specs.Recounted.{HaveReferrers, IsRewritten}
-use Rattle.mm_catalog.specs.Raised.{HaveRoom}
+use Rattle.mm_catalog.specs.Counted.{HaveRoom, naming}
+use Rattle.mm_catalog.proofs.Counted.{counted_up}
 use Rattle.mm_catalog.specs.Cells.{AreCellsOf}
 use Rattle.mm_catalog.specs.Loaded.{HasCome}
 use Rattle.mm_catalog.specs.Inserted.{IsKeptOut, no_memory, key_there, none_named, full, IsTakenIn, IsInsertedAt, IsRefusedAt}
@@ -47,7 +48,8 @@ use Rattle.mm_catalog.proofs.Counting.{links_inserted}
 use Rattle.mm_catalog.proofs.Shown.{rows_inserted}
 use Rattle.mm_catalog.proofs.LinksHeld.{link_held}
 use Rattle.mm_catalog.proofs.Elsewhere.{rewritten_from, kept_from, database_rewritten, consistent_rewritten, current_beside_old, counted_from}
-use Rattle.mm_catalog.proofs.CellRows.{All-filter_map, link_parts, cells_shown, cells_linked}
+use Rattle.mm_catalog.proofs.CellRows.{cells_shown, cells_linked}
+use Rattle.mm_catalog.proofs.RowLinks.{All-filter_map, link_parts}
 use Rattle.mm_catalog.proofs.Referenced.{some_column}
 use Rattle.mm_catalog.proofs.Bounded.{few_links, few_columns}
 use Rattle.mm_catalog.proofs.Checked.{key_refuses, reference_refuses, full_refuses, nothing_refuses}
@@ -82,7 +84,7 @@ module _ (c : CatalogState) (ok : IsConsistent c) (n : ℕ) (b : RelationState) 
   unfolding row_links
   row_unnamed k s q None at found = λ i d l. absurd (omega arith)
   row_unnamed k s q (Some row) at found =
-      All-filter_map (link_at s.targets row) (λ link. is_link_to n r link ≡ false) (λ column link e. unnamed k s q row column link at found e) (range_with_len 0 (length s.targets))
+      All-filter_map (λ link. is_link_to n r link ≡ false) (link_at s.targets row) (range_with_len 0 (length s.targets)) (λ column link _ e. unnamed k s q row column link at found e)
 
   relation_unnamed : (k : ℕ) (s : RelationState) → slice_get c.relations k ≡ Some s → All (λ link. is_link_to n r link ≡ false) (relation_links s)
   unfolding relation_links
@@ -161,7 +163,7 @@ module _ (c : CatalogState) (ok : IsConsistent c) (n : TableNumber) (key : Value
 
   rewritten : IsRewritten c.relations new n.0 b a
   rewritten =
-      rewritten_from c.relations front n.0 b a there taken.recounted taken.inserted.keeps
+      rewritten_from c.relations front n.0 b a there taken.counted.recounted taken.inserted.keeps
       (λ r u found some. ap (option_and_then (λ (v : Row). Some v.key)) (other_rows r (not_new r u found)))
 
   keys_here : linked_keys b.targets (take n.0 c.relations) ≡ linked_keys b.targets c.relations
@@ -206,7 +208,7 @@ module _ (c : CatalogState) (ok : IsConsistent c) (n : TableNumber) (key : Value
   count = λ table r. links_to c.relations table r + count_by (is_link_to table r) (row_links b.targets t)
 
   have : HaveReferrers front count
-  have = taken.raised (links_to c.relations) (λ table s r u at found. ok.counted table s r u (before_get table s at) found)
+  have = counted_up (take n.0 c.relations) front (naming (row_links b.targets t)) (links_to c.relations) taken.counted (λ table s r u at found. ok.counted table s r u (before_get table s at) found)
     where
       before_get : (table : ℕ) (s : RelationState) → slice_get (take n.0 c.relations) table ≡ Some s → slice_get c.relations table ≡ Some s
       before_get table s at =
@@ -226,7 +228,7 @@ module _ (c : CatalogState) (ok : IsConsistent c) (n : TableNumber) (key : Value
   ]
 
   front_length : length front ≡ n.0
-  front_length = omega (arith, taken.recounted.count, length-take n.0 c.relations, within)
+  front_length = omega (arith, taken.counted.recounted.count, length-take n.0 c.relations, within)
 
   counted_now : AreCounted new
   counted_now = counted_from c ok n.0 front b a rewritten front_length count have counts own
@@ -238,7 +240,7 @@ module _ (c : CatalogState) (ok : IsConsistent c) (n : TableNumber) (key : Value
   grown_now = record {
     effect = record { database = database_now; limits = refl; outcome = ap (λ (e : Effect). e.outcome) effect_is };
     consistent =
-        consistent_rewritten c ok n.0 new b a rewritten (kept_from c ok n.0 front a taken.others_kept taken.kept)
+        consistent_rewritten c ok n.0 new b a rewritten (kept_from c ok n.0 front a taken.counted.kept taken.kept)
         (current_beside_old c ok n.0 new b a rewritten taken.current) linked_now counted_now sound_now;
   }
 

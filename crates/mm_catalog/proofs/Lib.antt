@@ -11,13 +11,14 @@ pub mod Rising
 pub mod Keyed
 pub mod Shown
 pub mod Counting
-pub mod Fewer
+pub mod RowLinks
+pub mod Counted
 pub mod Recounting
 pub mod LinksHeld
 pub mod Elsewhere
 pub mod Removing
 pub mod Anywhere
-pub mod References
+pub mod Referrers
 pub mod Shrunk
 pub mod Deleting
 pub mod Gone
@@ -26,9 +27,7 @@ pub mod Renumbered
 pub mod Unlinking
 pub mod Dropped
 pub mod Dropping
-pub mod Raising
 pub mod CellRows
-pub mod More
 pub mod SetLinks
 pub mod SetCells
 pub mod SumsApart

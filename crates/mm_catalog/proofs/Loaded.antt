@@ -21,8 +21,7 @@ use Rattle.mm_catalog.specs.Loaded.{HasCome, HasMore}
 use Rattle.mm_catalog.specs.Recounted.{IsRewritten}
 use Rattle.mm_catalog.proofs.Lists.{get_within}
 use Rattle.mm_catalog.proofs.Elsewhere.{rewritten_from}
-use Rattle.mm_catalog.proofs.Fewer.{IsRecounted-trans}
-use Rattle.mm_catalog.proofs.Raising.{recounted_same}
+use Rattle.mm_catalog.proofs.Counted.{AreRecounted-refl, IsRecounted-trans}
 
 -- ---- one relation is another one, twice
 
@@ -52,7 +51,7 @@ more_none c n s there = record {
     there = there;
     here = there;
     count = refl;
-    others = λ k t u other at now. (recounted_same c.relations).each k t u at now;
+    others = λ k t u other at now. (AreRecounted-refl c.relations).each k t u at now;
     keeps = record { schema = refl; targets = refl; declared = refl };
     keys = λ r row found some. refl;
   };
@@ -104,7 +103,7 @@ module _ (c d e : CatalogState) (n : ℕ) (values : List Value) (refs : List Tup
   step : IsRewritten d.relations e.relations n m a
   step =
       subst (λ rs. IsRewritten d.relations rs n m a) (sym come.inserted.list)
-      (rewritten_from d.relations come.inserted.front n m a h.rewritten.here come.inserted.taken.recounted keeps
+      (rewritten_from d.relations come.inserted.front n m a h.rewritten.here come.inserted.taken.counted.recounted keeps
       (λ q t found some. ap (option_and_then (λ (u : Row). Some u.key)) (still q (ap is_some found))))
 
   not_among : (q : TupleRef) (t : Row) → get b.rows q ≡ Some t → Contains refs q → ⊥

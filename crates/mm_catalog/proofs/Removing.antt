@@ -1,12 +1,12 @@
 -- Rows that go out of a relation one after another, and the links that go with them.
 use Rattle.std.proofs.Common.{◌≡◌, ◌≢◌, ℕ, suc, ◌<◌, ◌≤◌, ◌+◌, Bool, cond, List, [], ◌∷◌, ◌++◌, Option, Some, None, IsSome, is_some, refl, sym, ap, ◌∙◌, subst, arith, length, get_or, take, drop, zero-add, inl, inr}
-use Rattle.std.specs.List.{All, AllPairs, Contains, count_by, flat_map, slice_get, sum_by}
-use Rattle.std.specs.Option.{option_and_then, option_map, option_map_or}
+use Rattle.std.specs.List.{range_with_len, All, AllPairs, Contains, count_by, flat_map, slice_get, sum_by}
+use Rattle.std.specs.Option.{option_and_then, option_map_or}
 use Rattle.std.specs.FinMap.{get, remove}
 use Rattle.std.proofs.lemmas.List.{take_more}
 use Rattle.std.proofs.lemmas.List.Elements.{Contains-push, Contains-push_cases, Contains-append_left}
 use Rattle.std.proofs.lemmas.List.Sums.{get_or-le-sum_by, sum_by-append, sum_by-cons, sum_by-drop_more, sum_by-take-drop}
-use Rattle.std.proofs.lemmas.Option.{none-some, same_Some, slice_get_within}
+use Rattle.std.proofs.lemmas.Option.{get_or_from_slice_get, none-some, slice_get_within}
 use Rattle.part_raw.specs.declared.tuple_ref.TupleRef.{TupleRef}
 use Rattle.part_raw.specs.Store.{Tuples}
 use Rattle.part_raw.proofs.Lookup.{same_or_other}
@@ -15,18 +15,19 @@ use Rattle.mm_index.proofs.Placed.{remove_by_member}
 use Rattle.mm_relation.specs.declared.row.Row.{Row}
 use Rattle.mm_relation.specs.Changes.{IsRemoved}
 use Rattle.mm_relation.specs.Order.{column_cmp, column_cmp_strict}
-use Rattle.mm_relation.specs.Reading.{key_at, link_in, row_value, value_at}
+use Rattle.mm_relation.specs.Reading.{key_at, row_value, value_at}
 use Rattle.mm_relation.specs.State.{tree_list, RelationState, IsKept, IsCurrent, linked_keys, no_keys}
 use Rattle.mm_relation.proofs.KeyOrder.{key_readable}
 use Rattle.mm_relation.proofs.Setting.{not_before}
-use Rattle.mm_catalog.specs.Linked.{Linked, target_at, link_at, row_links, relation_links, is_link_to}
+use Rattle.mm_catalog.specs.Linked.{links, Linked, target_at, link_at, row_links, relation_links, is_link_to}
 use Rattle.mm_catalog.specs.Recounted.{AreRecounted}
-use Rattle.mm_catalog.specs.Lowered.{IsRowHeld, NamesRows, HaveAtLeast, AreLowered}
+use Rattle.mm_catalog.specs.Counted.{IsHeldIn, HaveAtLeast, AreCountedBy, naming, none}
 use Rattle.mm_catalog.specs.Deleted.{AreRemoved, AreUnlinked}
 use Rattle.mm_catalog.proofs.Keyed.{keys_removed}
 use Rattle.mm_catalog.proofs.Lists.{get_within}
 use Rattle.mm_catalog.proofs.LinksHeld.{linked_value, target_within}
-use Rattle.mm_catalog.proofs.Fewer.{AreLowered-none, AreLowered-trans, recounted_before, held_still}
+use Rattle.mm_catalog.proofs.RowLinks.{All-filter_map, link_parts}
+use Rattle.mm_catalog.proofs.Counted.{counted_none, down_then, enough_left}
 use Rattle.mm_catalog.proofs.Recounting.{key_recounted}
 
 -- ---- the links of a relation, row by row
@@ -61,6 +62,14 @@ row_links_within test s r row kept at =
     let part = get_or-le-sum_by (passing test s) (tree_list s.by_key) listed.0 r listed.1 in
     let here : passing test s (get_or (tree_list s.by_key) listed.0 r) ≡ count_by test (row_links s.targets row) = ap (passing test s) listed.2 ∙ passing_row test s r row at in
     omega (arith, part, here, links_by_row test s)
+
+-- the links of one relation are some of all
+pub links_within : (test : Linked → Bool) (relations : List RelationState) (n : ℕ) (s : RelationState) → slice_get relations n ≡ Some s → count_by test (relation_links s) ≤ count_by test (links relations)
+unfolding links
+links_within test relations n s there =
+    let part = get_or-le-sum_by (λ t. count_by test (relation_links t)) relations n s (slice_get_within relations n s there) in
+    let it : count_by test (relation_links (get_or relations n s)) ≡ count_by test (relation_links s) = ap (λ t. count_by test (relation_links t)) (get_or_from_slice_get relations n s s there) in
+    omega (arith, part, it, counted_by_row test relation_links relations)
 
 module _ (old new : RelationState) (kept : IsKept old) (now : IsKept new) (r : TupleRef) (row : Row) (at : get old.rows r ≡ Some row) (removed : IsRemoved old new r) (test : Linked → Bool) where
   left : (k : ℕ) (d : TupleRef) → k < length (tree_list new.by_key) → get new.rows (get_or (tree_list new.by_key) k d) ≡ get old.rows (get_or (tree_list new.by_key) k d)
@@ -137,24 +146,20 @@ still_there s t refs i r within is once so_far =
 -- ---- what their links do elsewhere
 
 pub AreUnlinked-none : (relations : List RelationState) (s : RelationState) → All IsKept relations → AreUnlinked relations relations s s
-AreUnlinked-none relations s kept = record { fewer = λ table r. 0; lowered = AreLowered-none relations kept; links = λ table r. zero-add (count_by (is_link_to table r) (relation_links s)) }
+AreUnlinked-none relations s kept = record { fewer = none; counted = counted_none relations kept; links = λ table r. zero-add (naming (relation_links s) table r) }
 
-pub AreUnlinked-more : (old mid new : List RelationState) (s t u : RelationState) (r : TupleRef) (row : Row) → IsKept t → IsKept u → get t.rows r ≡ Some row → IsRemoved t u r → AreUnlinked old mid s t → AreLowered mid new (λ table q. count_by (is_link_to table q) (row_links t.targets row)) → AreUnlinked old new s u
-AreUnlinked-more old mid new s t u r row kept now at removed so_far lowered = record {
-  fewer = λ table q. so_far.fewer table q + count_by (is_link_to table q) (row_links t.targets row);
-  lowered = AreLowered-trans old mid new so_far.fewer (λ table q. count_by (is_link_to table q) (row_links t.targets row)) so_far.lowered lowered;
+pub AreUnlinked-more : (old mid new : List RelationState) (s t u : RelationState) (r : TupleRef) (row : Row) → IsKept t → IsKept u → get t.rows r ≡ Some row → IsRemoved t u r → AreUnlinked old mid s t → AreCountedBy mid new none (naming (row_links t.targets row)) → AreUnlinked old new s u
+AreUnlinked-more old mid new s t u r row kept now at removed so_far counted = record {
+  fewer = λ table q. so_far.fewer table q + naming (row_links t.targets row) table q;
+  counted = down_then old mid new so_far.fewer (naming (row_links t.targets row)) _ (λ table q. refl) so_far.counted counted;
   links = λ table q. omega (arith, so_far.links table q, links_removed t u kept now r row at removed (is_link_to table q));
 }
 
 -- each row that is named has as many referrers as links of the row name it
-pub enough_left : (old mid : List RelationState) (s t : RelationState) (r : TupleRef) (row : Row) → HaveAtLeast old (λ table q. count_by (is_link_to table q) (relation_links s)) → AreUnlinked old mid s t → IsKept t → get t.rows r ≡ Some row → HaveAtLeast mid (λ table q. count_by (is_link_to table q) (row_links t.targets row))
-enough_left old mid s t r row enough so_far kept at table v q now there here =
-    let u = get_within old table (omega (arith, so_far.lowered.recounted.count, slice_get_within mid table v there)) in
-    let was = recounted_before u.0 v q now (so_far.lowered.recounted.each table u.0 v u.1 there) here in
-    let had = enough table u.0 q was.0 u.1 was.1 in
-    let less = so_far.lowered.lowered table u.0 v q was.0 now u.1 there was.1 here in
-    let within = row_links_within (is_link_to table q) t r row kept at in
-    omega (arith, had, less, within, so_far.links table q)
+pub enough_for_row : (old mid : List RelationState) (s t : RelationState) (r : TupleRef) (row : Row) → HaveAtLeast old (naming (relation_links s)) → AreUnlinked old mid s t → IsKept t → get t.rows r ≡ Some row → HaveAtLeast mid (naming (row_links t.targets row))
+enough_for_row old mid s t r row enough so_far kept at =
+    enough_left old mid so_far.fewer (naming (row_links t.targets row)) (naming (relation_links s)) so_far.counted
+    (λ table q. omega (arith, row_links_within (is_link_to table q) t r row kept at, so_far.links table q)) enough
 
 -- ---- what keys are read where numbers of referrers change
 
@@ -180,34 +185,24 @@ held_from_key rows to h = some_from (get rows to) h
     some_from None h = h
     some_from (Some row) h = refl
 
-named_at : (relations : List RelationState) (to : TupleRef) (n : ℕ) → IsSome (option_and_then (λ s. key_at s.rows to) (slice_get relations n)) → IsRowHeld relations (n, to)
+named_at : (relations : List RelationState) (to : TupleRef) (n : ℕ) → IsSome (option_and_then (λ s. key_at s.rows to) (slice_get relations n)) → IsHeldIn relations (n, to)
 named_at relations to n h = at (slice_get relations n) refl h
   where
-    at : (o : Option RelationState) → slice_get relations n ≡ o → IsSome (option_and_then (λ s. key_at s.rows to) o) → IsRowHeld relations (n, to)
+    at : (o : Option RelationState) → slice_get relations n ≡ o → IsSome (option_and_then (λ s. key_at s.rows to) o) → IsHeldIn relations (n, to)
     at None e h = absurd (cc)
     at (Some s) e h = (s, e, held_from_key s.rows to h)
 
-link_parts : (targets : List (Option ℕ)) (row : Row) (column : ℕ) (link : Linked) → link_at targets row column ≡ Some link → (target_at targets column ≡ Some link.0) × (link_in column row ≡ Some link.1)
-link_parts targets row column link e = at (target_at targets column) (link_in column row) e
-  where
-    at : (o : Option ℕ) (p : Option TupleRef) → option_and_then (λ table. option_map (λ to. (table, to)) p) o ≡ Some link → (o ≡ Some link.0) × (p ≡ Some link.1)
-    at None p e = absurd (none-some link e)
-    at (Some table) None e = absurd (none-some link e)
-    at (Some table) (Some to) e =
-        let same = same_Some (table, to) link e in
-        (ap (λ (l : Linked). Some l.0) same, ap (λ (l : Linked). Some l.1) same)
-
 -- each link of a row of a relation that is current names a row that is held
-pub links_held : (relations : List RelationState) (s : RelationState) (r : TupleRef) (row : Row) → IsCurrent (linked_keys s.targets relations) s → get s.rows r ≡ Some row → NamesRows relations s.targets row
-links_held relations s r row current at column link e =
+pub link_held_at : (relations : List RelationState) (s : RelationState) (r : TupleRef) (row : Row) → IsCurrent (linked_keys s.targets relations) s → get s.rows r ≡ Some row → (column : ℕ) (link : Linked) → link_at s.targets row column ≡ Some link → IsHeldIn relations link
+link_held_at relations s r row current at column link e =
     let parts = link_parts s.targets row column link e in
     let read : IsSome (row_value (linked_keys s.targets relations) column row) = current.readable r row at column (target_within s.targets column link.0 parts.0) in
     let key : IsSome (linked_keys s.targets relations column link.1) = subst IsSome (linked_value (linked_keys s.targets relations) column row link.1 parts.1) read in
     named_at relations link.1 link.0 (subst (λ o. IsSome (option_and_then (λ t. key_at t.rows link.1) (option_and_then (slice_get relations) o))) parts.0 key)
 
--- also where numbers of referrers changed
-pub names_still : (old new : List RelationState) (targets : List (Option ℕ)) (row : Row) → AreRecounted old new → NamesRows old targets row → NamesRows new targets row
-names_still old new targets row h named column link e = held_still old new link h (named column link e)
+pub links_held : (relations : List RelationState) (s : RelationState) (r : TupleRef) (row : Row) → IsCurrent (linked_keys s.targets relations) s → get s.rows r ≡ Some row → All (IsHeldIn relations) (row_links s.targets row)
+unfolding row_links
+links_held relations s r row current at = All-filter_map (IsHeldIn relations) (link_at s.targets row) (range_with_len 0 (length s.targets)) (λ column link _. link_held_at relations s r row current at column link)
 
 -- the keys that are read beside relations whose numbers of referrers change twice
 pub keys_still : (s t : RelationState) (old mid new : List RelationState) → t.targets ≡ s.targets → AreRecounted old mid → AreRecounted mid new → linked_keys t.targets new ≡ linked_keys s.targets old

@@ -21,7 +21,7 @@ use Rattle.mm_catalog.specs.Assigned.{CellSet, row_links_at, set_link, set_links
 use Rattle.mm_catalog.specs.Cells.{IsLinkOrNull}
 use Rattle.mm_catalog.specs.Linked.{Linked, HasLinksOrNulls, link_at, row_links, target_at}
 use Rattle.mm_catalog.specs.Seen.{or_null, row_values}
-use Rattle.mm_catalog.proofs.Fewer.{one_if}
+use Rattle.mm_catalog.proofs.Counted.{one_if}
 use Rattle.mm_catalog.proofs.Lists.{get-set_other, get-set_same, same_by_get}
 
 -- cells behind the key, in columns of so many, and no two in one

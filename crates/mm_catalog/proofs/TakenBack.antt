@@ -75,7 +75,7 @@ module _ (c : CatalogState) (ok : IsConsistent c) (d e : CatalogState) (n : ℕ)
   step : IsRewritten d.relations e.relations n m z
   step =
       subst (λ rs. IsRewritten d.relations rs n m z) (sym gone.deleted.list)
-      (rewritten_from d.relations gone.deleted.front n m z h.rewritten.here gone.deleted.unlinked.lowered.recounted removed.keeps
+      (rewritten_from d.relations gone.deleted.front n m z h.rewritten.here gone.deleted.unlinked.counted.recounted removed.keeps
       (λ q t found some. ap (option_and_then (λ (u : Row). Some u.key))
       (removed.others q (λ there. let zero = All-contains (IsFree m) refs q h.free there t found in absurd (omega (arith, zero, some))))))
 

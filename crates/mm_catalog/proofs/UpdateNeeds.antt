@@ -1,7 +1,7 @@
 -- What an update asks of the relations among which it sets rows.
 use Rattle.std.proofs.Common.{◌≡◌, ◌≢◌, ℕ, zero, suc, ◌+◌, ◌-◌, ◌*◌, ◌<◌, ◌≤◌, Bool, List, [], ◌∷◌, ◌++◌, Option, Some, None, IsSome, is_some, refl, sym, ap, ◌∙◌, subst, arith, length, map, set, take, drop, get_or, length-take}
 use Rattle.std.specs.Bool.{Decides}
-use Rattle.std.specs.List.{All, AllPairs, Contains, cons_option, count_by, filter_map, flat_map, range_with_len, slice_get}
+use Rattle.std.specs.List.{All, AllPairs, Contains, count_by, range_with_len, slice_get}
 use Rattle.std.specs.Option.{option_and_then, option_map, option_map_or}
 use Rattle.std.specs.Prelude.{nat_eq}
 use Rattle.std.specs.FinMap.{get}
@@ -9,9 +9,8 @@ use Rattle.std.proofs.Math.Nat.{mul-le-mul}
 use Rattle.std.proofs.lemmas.Bool.{eq-eqb, eqb-true}
 use Rattle.std.proofs.lemmas.Cmp.{nat_eq_equiv}
 use Rattle.std.proofs.lemmas.List.{length-map}
-use Rattle.std.proofs.lemmas.List.Elements.{All-append, All-cons, All-contains, All-nil, All-take, All-weaker}
+use Rattle.std.proofs.lemmas.List.Elements.{All-cons, All-contains, All-take}
 use Rattle.std.proofs.lemmas.List.FromFn.{length-range_with_len}
-use Rattle.std.proofs.lemmas.List.Sums.{get_or-le-sum_by}
 use Rattle.std.proofs.lemmas.Map.Made.{IsDistinct-from_AllPairs, is_member-Decides, length-le_from_is_member}
 use Rattle.std.proofs.lemmas.Option.{get_or_from_slice_get, none-some, same_Some, slice_get-get_or, slice_get_within}
 use Rattle.part_raw.proofs.Tuples.{held_tuple}
@@ -24,43 +23,28 @@ use Rattle.mm_relation.specs.State.{tree_list, RelationState, IsCurrent, IsKept,
 use Rattle.mm_relation.specs.declared.row.Cell.{Cell}
 use Rattle.mm_relation.specs.declared.row.Cell.TheVariants.{Held, Link as Named}
 use Rattle.mm_relation.specs.declared.row.Row.{Row}
-use Rattle.mm_catalog.specs.declared.updating.Link.{Link}
-use Rattle.mm_catalog.specs.Assigned.{AreRaisedTo, AreSetBy, AreToColumns, CellSet, IsUpdated, linked_of, links_at, row_links_at, set_link, set_links}
+use Rattle.mm_catalog.specs.declared.references.link.Link.{Link}
+use Rattle.mm_catalog.specs.Assigned.{AreSetBy, AreToColumns, CellSet, IsUpdated, links_at, row_links_at, set_link, set_links}
 use Rattle.mm_catalog.specs.Cells.{read_in, target_in}
 use Rattle.mm_catalog.specs.Consistent.{IsConsistent}
-use Rattle.mm_catalog.specs.Linked.{Linked, is_link_to, link_at, links, links_to, relation_links, target_at}
-use Rattle.mm_catalog.specs.Lowered.{AreLowered, HaveAtLeast}
-use Rattle.mm_catalog.specs.Raised.{HaveRoom, IsHeldIn}
+use Rattle.mm_catalog.specs.Linked.{Linked, is_link_to, link_at, links_to, relation_links, target_at}
+use Rattle.mm_catalog.specs.Counted.{AreCountedBy, HaveAtLeast, HaveRoom, IsHeldIn, linked_of, naming, none}
 use Rattle.mm_catalog.specs.Recounted.{AreRecounted, HaveReferrers, IsRewritten}
 use Rattle.mm_catalog.specs.State.{CatalogState}
 use Rattle.mm_catalog.proofs.Back.{lead_back}
 use Rattle.mm_catalog.proofs.Bounded.{few_columns, few_links}
 use Rattle.mm_catalog.proofs.Declared.{among_at, current_at}
 use Rattle.mm_catalog.proofs.Elsewhere.{counted_from, current_beside_old, kept_from, rewritten_from}
-use Rattle.mm_catalog.proofs.Fewer.{AreRecounted-trans, counted_lowered, held_still}
+use Rattle.mm_catalog.proofs.Counted as later
+use Rattle.mm_catalog.proofs.Counted.{AreRecounted-trans, all_held_still}
 use Rattle.mm_catalog.proofs.LinksHeld.{Contains-range}
 use Rattle.mm_catalog.proofs.Lists.{All-get, get-take, get_within}
-use Rattle.mm_catalog.proofs.More.{counted_raised}
 use Rattle.mm_catalog.proofs.RelationSets.{keys_set, links_set, row_wide, row_was}
-use Rattle.mm_catalog.proofs.Removing.{counted_by_row, links_held}
+use Rattle.mm_catalog.proofs.Removing.{link_held_at, links_within}
+use Rattle.mm_catalog.proofs.RowLinks.{All-filter_map, All-flat_map}
 use Rattle.mm_catalog.proofs.RowSets.{AreApart}
 
 -- ---- lists
-
-All-filter_map : {A B : Type 0} (P : B → Type 0) (f : A → Option B) (xs : List A) → ((x : A) (y : B) → Contains xs x → f x ≡ Some y → P y) → All P (filter_map f xs)
-All-filter_map P f [] h = All-nil P
-All-filter_map {A} {B} P f (x ∷ xs) h =
-    let rest = All-filter_map P f xs (λ z y there. h z y (suc there.0, omega (arith, there.1), there.2)) in
-    first (f x) (λ y. h x y (0, omega arith, refl)) rest
-  where
-    first : (o : Option B) → ((y : B) → o ≡ Some y → P y) → All P (filter_map f xs) → All P (cons_option o (filter_map f xs))
-    first None g rest = rest
-    first (Some y) g rest = All-cons P y (filter_map f xs) (g y refl) rest
-
-All-flat_map : {A B : Type 0} (P : B → Type 0) (f : A → List B) (xs : List A) → ((x : A) → Contains xs x → All P (f x)) → All P (flat_map f xs)
-All-flat_map P f [] h = All-nil P
-All-flat_map P f (x ∷ xs) h =
-    All-append P (f x) (flat_map f xs) (h x (0, omega arith, refl)) (All-flat_map P f xs (λ z there. h z (suc there.0, omega (arith, there.1), there.2)))
 
 pub All-unmapped : {A B : Type 0} (P : B → Type 0) (f : A → B) (xs : List A) → All P (map f xs) → All (λ x. P (f x)) xs
 All-unmapped P f [] h = λ k d l. absurd (omega (arith, l))
@@ -109,14 +93,6 @@ named_by relations target (Named q) table to e f read =
     let found = beneath (λ (s : RelationState). key_at s.rows q) (target_in relations target) read in
     let row = beneath (λ (t : Row). Some t.key) (get found.0.rows q) found.2 in
     (found.0, sym (ap (target_in relations) e) ∙ found.1, subst (λ p. IsSome (get found.0.rows p)) same (ap is_some row.1))
-
--- the links of one relation are some of all
-links_within : (test : Linked → Bool) (relations : List RelationState) (n : ℕ) (s : RelationState) → slice_get relations n ≡ Some s → count_by test (relation_links s) ≤ count_by test (links relations)
-unfolding links
-links_within test relations n s there =
-    let part = get_or-le-sum_by (λ t. count_by test (relation_links t)) relations n s (slice_get_within relations n s there) in
-    let it : count_by test (relation_links (get_or relations n s)) ≡ count_by test (relation_links s) = ap (λ t. count_by test (relation_links t)) (get_or_from_slice_get relations n s s there) in
-    omega (arith, part, it, counted_by_row test relation_links relations)
 
 -- ---- the relations that an update is among
 
@@ -221,7 +197,7 @@ module _ (k : CatalogState) (ok : IsConsistent k) (n : ℕ) (b : RelationState) 
           let row = held_tuple b.rows r (All-contains (λ q. IsSome (get b.rows q)) rs r held among) in
           subst (λ o. All (IsHeldIn front) (option_map_or (row_links_at b.targets sets) o [])) (sym row.1)
           (All-filter_map (IsHeldIn front) (λ (s : CellSet). link_at b.targets row.0 s.0.0) sets
-          (λ s link here e. links_held front b r row.0 current_front row.1 s.0.0 link e)))
+          (λ s link here e. link_held_at front b r row.0 current_front row.1 s.0.0 link e)))
 
       -- ---- what it leaves
 
@@ -232,31 +208,31 @@ module _ (k : CatalogState) (ok : IsConsistent k) (n : ℕ) (b : RelationState) 
         links_now : (test : Linked → Bool) → count_by test (relation_links a) + count_by test (links_at b sets rs) ≡ count_by test (relation_links b) + length rs * count_by test (set_links b.targets sets)
         links_now test = links_set b a rs sets changed (among_at k ok n b there).kept kept held once sets_apart wide test
 
-        module _ (raised : List RelationState) (up : AreRaisedTo front raised (λ t q. length rs * count_by (is_link_to t q) (set_links a.targets sets))) (gone : List Link) (listed : map linked_of gone ≡ links_at b sets rs) where
-          counted_up : HaveReferrers raised (λ t q. links_to k.relations t q + length rs * count_by (is_link_to t q) (set_links a.targets sets))
-          counted_up = counted_raised front raised (λ t q. length rs * count_by (is_link_to t q) (set_links a.targets sets)) (links_to k.relations) up counted_front
+        module _ (raised : List RelationState) (up : AreCountedBy front raised (λ t q. length rs * naming (set_links a.targets sets) t q) none) (gone : List Link) (listed : map linked_of gone ≡ links_at b sets rs) where
+          counted_up : HaveReferrers raised (λ t q. links_to k.relations t q + length rs * naming (set_links a.targets sets) t q)
+          counted_up = later.counted_up front raised (λ t q. length rs * naming (set_links a.targets sets) t q) (links_to k.relations) up counted_front
 
-          same_more : (t : ℕ) (q : TupleRef) → length rs * count_by (is_link_to t q) (set_links a.targets sets) ≡ length rs * count_by (is_link_to t q) (set_links b.targets sets)
-          same_more t q = ap (λ targets. length rs * count_by (is_link_to t q) (set_links targets sets)) changed.keeps.targets
+          same_more : (t : ℕ) (q : TupleRef) → length rs * naming (set_links a.targets sets) t q ≡ length rs * naming (set_links b.targets sets) t q
+          same_more t q = ap (λ targets. length rs * naming (set_links targets sets) t q) changed.keeps.targets
 
           -- the rows that lose links have them
           pub gone_named : All (λ l. IsHeldIn raised (linked_of l)) gone
           gone_named =
               All-unmapped (IsHeldIn raised) linked_of gone
-              (All-weaker (IsHeldIn front) (IsHeldIn raised) (λ link there'. held_still front raised link up.recounted there') (map linked_of gone) (subst (All (IsHeldIn front)) (sym listed) gone_held))
+              (all_held_still front raised (map linked_of gone) up.recounted (subst (All (IsHeldIn front)) (sym listed) gone_held))
 
-          pub gone_enough : HaveAtLeast raised (λ t q. count_by (is_link_to t q) (map linked_of gone))
+          pub gone_enough : HaveAtLeast raised (naming (map linked_of gone))
           unfolding links_to
           gone_enough t s q row at found =
               let counted = counted_up t s q row at found in
               let whole = links_now (is_link_to t q) in
               let part = links_within (is_link_to t q) k.relations n b there in
-              let less : count_by (is_link_to t q) (map linked_of gone) ≡ count_by (is_link_to t q) (links_at b sets rs) = ap (count_by (is_link_to t q)) listed in
+              let less : naming (map linked_of gone) t q ≡ count_by (is_link_to t q) (links_at b sets rs) = ap (count_by (is_link_to t q)) listed in
               omega (arith, counted, whole, part, less, same_more t q)
 
-          module _ (lowered : List RelationState) (down : AreLowered raised lowered (λ t q. count_by (is_link_to t q) (map linked_of gone))) where
-            counted_down : HaveReferrers lowered (λ t q. links_to k.relations t q + length rs * count_by (is_link_to t q) (set_links a.targets sets) - count_by (is_link_to t q) (map linked_of gone))
-            counted_down = counted_lowered raised lowered (λ t q. count_by (is_link_to t q) (map linked_of gone)) (λ t q. links_to k.relations t q + length rs * count_by (is_link_to t q) (set_links a.targets sets)) down counted_up
+          module _ (lowered : List RelationState) (down : AreCountedBy raised lowered none (naming (map linked_of gone))) where
+            counted_down : HaveReferrers lowered (λ t q. links_to k.relations t q + length rs * naming (set_links a.targets sets) t q - naming (map linked_of gone) t q)
+            counted_down = later.counted_down raised lowered (naming (map linked_of gone)) (λ t q. links_to k.relations t q + length rs * naming (set_links a.targets sets) t q) down counted_up
 
             recounted : AreRecounted (take n k.relations) lowered
             recounted = subst (λ rs'. AreRecounted rs' lowered) same (AreRecounted-trans front raised lowered up.recounted down.recounted)
@@ -273,12 +249,12 @@ module _ (k : CatalogState) (ok : IsConsistent k) (n : ℕ) (b : RelationState) 
                 let was = row_was b a rs sets changed r row at in
                 was.2 ∙ ok.counted n b r was.0 there was.1
 
-            counts : (t : ℕ) (q : TupleRef) → t < n → links_to k.relations t q + length rs * count_by (is_link_to t q) (set_links a.targets sets) - count_by (is_link_to t q) (map linked_of gone) + count_by (is_link_to t q) (relation_links b) ≡ links_to k.relations t q + count_by (is_link_to t q) (relation_links a)
+            counts : (t : ℕ) (q : TupleRef) → t < n → links_to k.relations t q + length rs * naming (set_links a.targets sets) t q - naming (map linked_of gone) t q + count_by (is_link_to t q) (relation_links b) ≡ links_to k.relations t q + count_by (is_link_to t q) (relation_links a)
             unfolding links_to
             counts t q below =
                 let whole = links_now (is_link_to t q) in
                 let part = links_within (is_link_to t q) k.relations n b there in
-                let less : count_by (is_link_to t q) (map linked_of gone) ≡ count_by (is_link_to t q) (links_at b sets rs) = ap (count_by (is_link_to t q)) listed in
+                let less : naming (map linked_of gone) t q ≡ count_by (is_link_to t q) (links_at b sets rs) = ap (count_by (is_link_to t q)) listed in
                 omega (arith, whole, part, less, same_more t q)
 
             pub updated : IsCurrent (linked_keys b.targets front) a → IsUpdated k.relations new n rs assignments
@@ -292,6 +268,6 @@ module _ (k : CatalogState) (ok : IsConsistent k) (n : ℕ) (b : RelationState) 
               kept = kept_from k ok n lowered a down.kept kept;
               current = current_beside_old k ok n new b a rewritten (subst (λ rs'. IsCurrent (linked_keys b.targets rs') a) same current);
               counted = counted_from k ok n lowered b a rewritten (down.recounted.count ∙ up.recounted.count ∙ front_long)
-                  (λ t q. links_to k.relations t q + length rs * count_by (is_link_to t q) (set_links a.targets sets) - count_by (is_link_to t q) (map linked_of gone))
+                  (λ t q. links_to k.relations t q + length rs * naming (set_links a.targets sets) t q - naming (map linked_of gone) t q)
                   counted_down counts own_counts;
             }

@@ -1,5 +1,5 @@
 -- Rows that values are assigned to: the cells that are set in them, and the links that come and go.
-use Rattle.std.specs.Prelude.{◌≡◌, ◌⊎◌, ℕ, ◌+◌, ◌<◌, List, [], Option, Some, None, All, AllPairs, length, slice_get, take}
+use Rattle.std.specs.Prelude.{◌≡◌, ◌⊎◌, ℕ, ◌<◌, List, [], Option, Some, None, All, AllPairs, length, slice_get, take}
 use Rattle.std.specs.List.{filter_map, flat_map}
 use Rattle.std.specs.Option.{option_and_then, option_map, option_map_or}
 use Rattle.std.specs.FinMap as finite
@@ -13,13 +13,12 @@ use Rattle.mm_relation.specs.declared.row.Row.{Row}
 use Rattle.mm_relation.specs.Changes.{IsChanged}
 use Rattle.mm_relation.specs.Reading.{link_of}
 use Rattle.mm_relation.specs.State.{RelationState, IsKept}
-use Rattle.mm_catalog.specs.declared.updating.Link.{Link}
 use Rattle.mm_catalog.specs.State.{CatalogState}
 use Rattle.mm_catalog.specs.Linked.{Linked, target_at, link_at}
 use Rattle.mm_catalog.specs.Cells.{IsCellOf, NamesNone}
 use Rattle.mm_catalog.specs.Changes.{IsCurrentAt}
 use Rattle.mm_catalog.specs.Consistent.{AreCounted, IsConsistent}
-use Rattle.mm_catalog.specs.Recounted.{AreRecounted, IsRewritten}
+use Rattle.mm_catalog.specs.Recounted.{IsRewritten}
 
 -- a cell to be set, and its column
 abbrev pub CellSet : Type 0
@@ -59,10 +58,6 @@ pub record AreToColumns (width : ℕ) (assignments : List Assignment) : Type 0 w
 
 -- ---- the links
 
--- a link as the pair that it is
-abbrev pub linked_of : Link → Linked
-linked_of link = (link.table.0, link.to)
-
 -- the link that a cell is in a column, and those that cells are
 abbrev pub set_link : List (Option ℕ) → CellSet → Option Linked
 set_link targets s = option_and_then (λ table. option_map (λ to. (table, to)) (link_of s.1)) (target_at targets s.0.0)
@@ -76,13 +71,6 @@ row_links_at targets sets row = filter_map (λ s. link_at targets row s.0.0) set
 
 unfoldable pub links_at : RelationState → List CellSet → List TupleRef → List Linked
 links_at s sets rs = flat_map (λ r. option_map_or (row_links_at s.targets sets) (finite.get s.rows r) []) rs
-
--- each row has so many referrers more, and nothing else differs
-pub record AreRaisedTo (old new : List RelationState) (more : ℕ → TupleRef → ℕ) : Type 0 where
-  pub recounted : AreRecounted old new
-  pub kept : All IsKept new
-  pub raised : (table : ℕ) (s t : RelationState) (r : TupleRef) (row now : Row) → slice_get old table ≡ Some s → slice_get new table ≡ Some t
-      → finite.get s.rows r ≡ Some row → finite.get t.rows r ≡ Some now → now.referrers ≡ row.referrers + more table r
 
 -- ---- the relations
 

@@ -1,12 +1,12 @@
 -- What a delete does to relations.
-use Rattle.std.specs.Prelude.{◌≡◌, ℕ, ◌+◌, ◌<◌, ◌++◌, List, Some, None, All, Any, Contains, count_by, drop, slice_get, slice_set, take}
+use Rattle.std.specs.Prelude.{◌≡◌, ℕ, ◌+◌, ◌<◌, ◌++◌, List, Some, None, All, Any, Contains, drop, slice_get, slice_set, take}
 use Rattle.std.specs.FinMap as finite
 use Rattle.part_raw.specs.declared.tuple_ref.TupleRef.{TupleRef}
 use Rattle.mm_relation.specs.declared.row.Row.{Row}
 use Rattle.mm_relation.specs.Changes.{KeepsSchema}
 use Rattle.mm_relation.specs.State.{RelationState, IsKept, IsCurrent, linked_keys}
-use Rattle.mm_catalog.specs.Linked.{is_link_to, relation_links}
-use Rattle.mm_catalog.specs.Lowered.{AreLowered}
+use Rattle.mm_catalog.specs.Linked.{relation_links}
+use Rattle.mm_catalog.specs.Counted.{AreCountedBy, naming, none}
 
 -- links name this row
 abbrev pub IsReferenced : RelationState → TupleRef → Type 0
@@ -22,11 +22,11 @@ pub record AreRemoved (old new : RelationState) (refs : List TupleRef) : Type 0 
   pub others : (r : TupleRef) → (Contains refs r → ⊥) → finite.get new.rows r ≡ finite.get old.rows r
   pub keeps : KeepsSchema old new
 
--- each row has so many referrers fewer as the one relation has links to it fewer than the other
+-- each row has as many referrers fewer as the one relation has links to it fewer than the other
 pub record AreUnlinked (old new : List RelationState) (before after : RelationState) : Type 0 where
   pub fewer : ℕ → TupleRef → ℕ
-  pub lowered : AreLowered old new fewer
-  pub links : (table : ℕ) (r : TupleRef) → fewer table r + count_by (is_link_to table r) (relation_links after) ≡ count_by (is_link_to table r) (relation_links before)
+  pub counted : AreCountedBy old new none fewer
+  pub links : (table : ℕ) (r : TupleRef) → fewer table r + naming (relation_links after) table r ≡ naming (relation_links before) table r
 
 -- these rows of the relation of a number go, and the rows that they name lose the referrers
 pub record AreDeleted (old new : List RelationState) (n : ℕ) (refs : List TupleRef) : Type 0 where

@@ -1,9 +1,9 @@
 -- What it does to the other relations that one of them goes.
-use Rattle.std.specs.Prelude.{◌≡◌, ℕ, zero, suc, ◌++◌, List, Some, count_by, drop, length, map, slice_get, slice_set, take}
+use Rattle.std.specs.Prelude.{◌≡◌, ℕ, zero, suc, ◌++◌, List, Some, drop, length, map, slice_get, slice_set, take}
 use Rattle.std.specs.Option.{option_map}
 use Rattle.mm_relation.specs.State.{RelationState}
-use Rattle.mm_catalog.specs.Linked.{target_at, is_link_to, relation_links}
-use Rattle.mm_catalog.specs.Lowered.{AreLowered}
+use Rattle.mm_catalog.specs.Linked.{target_at, relation_links}
+use Rattle.mm_catalog.specs.Counted.{AreCountedBy, naming, none}
 
 -- the number that what has this number has once another one is gone: those behind that move up
 abbrev pub moved_up : ℕ → ℕ → ℕ
@@ -27,7 +27,7 @@ pub record IsUnlinked (old new : List RelationState) (n : ℕ) : Type 0 where
   pub relation : RelationState
   pub there : slice_get old n ≡ Some relation
   pub list : new ≡ front ++ drop n old
-  pub lowered : AreLowered (take n old) front (λ table r. count_by (is_link_to table r) (relation_links relation))
+  pub counted : AreCountedBy (take n old) front none (naming (relation_links relation))
 
 -- the links of the first columns lead where they should, and those of the others where they led
 pub record IsRenumberedUpTo (gone : ℕ) (old : RelationState) (i : ℕ) (s : RelationState) : Type 0 where

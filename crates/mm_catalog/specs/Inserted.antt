@@ -1,5 +1,5 @@
 -- A row that comes into one relation among others.
-use Rattle.std.specs.Prelude.{◌≡◌, ℕ, ◌<◌, ◌≤◌, ◌++◌, ◌∷◌, List, Some, None, All, slice_get, slice_set, take, drop}
+use Rattle.std.specs.Prelude.{◌≡◌, ℕ, ◌<◌, ◌≤◌, ◌++◌, ◌∷◌, List, Some, None, slice_get, slice_set, take, drop}
 use Rattle.std.specs.FinMap as finite
 use Rattle.part_raw.specs.declared.tuple_ref.TupleRef.{TupleRef}
 use Rattle.plain_tables.specs.declared.refusal.Refusal.{Refusal}
@@ -11,8 +11,7 @@ use Rattle.mm_relation.specs.Changes.{IsInserted, new_row}
 use Rattle.mm_relation.specs.State.{RelationState, IsKept, IsCurrent, HasKey, linked_keys}
 use Rattle.mm_catalog.specs.Cells.{AreCellsOf, SomeNamesNone}
 use Rattle.mm_catalog.specs.Linked.{row_links}
-use Rattle.mm_catalog.specs.Raised.{AreRaised}
-use Rattle.mm_catalog.specs.Recounted.{AreRecounted}
+use Rattle.mm_catalog.specs.Counted.{AreCountedBy, naming, none}
 
 -- the row of these values can come in: its key is new, each row that it is to name is there, and there are fewer rows than the most
 pub record CanComeIn (relations : List RelationState) (s : RelationState) (most : ℕ) (values : List Value) (key : Value) (behind : List Cell) : Type 0 where
@@ -41,9 +40,7 @@ pub record IsTakenIn (before now : List RelationState) (old new : RelationState)
   pub inserted : IsInserted old new r row
   pub kept : IsKept new
   pub current : IsCurrent (linked_keys old.targets before) new
-  pub recounted : AreRecounted before now
-  pub others_kept : All IsKept now
-  pub raised : AreRaised before now (row_links old.targets row)
+  pub counted : AreCountedBy before now (naming (row_links old.targets row)) none
 
 -- the row of these values came into the relation of a number, under this reference
 pub record IsInsertedAt (old new : List RelationState) (n most : ℕ) (values : List Value) (r : TupleRef) : Type 0 where

@@ -8,10 +8,9 @@ pub mod Dropped
 pub mod Inserted
 pub mod Linked
 pub mod Loaded
-pub mod Lowered
 pub mod Picked
-pub mod Raised
 pub mod Recounted
+pub mod Counted
 pub mod Resolve
 pub mod ResolveChecks
 pub mod Seen

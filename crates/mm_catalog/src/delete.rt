@@ -1,16 +1,16 @@
 //! Rows that go out of one relation among others.
-ghost use Rattle.std.specs.Prelude.{◌≡◌, ◌≢◌, ◌<◌, ℕ, Some, IsSome, IfErr, OnOk, OnErr, All, Any, length, slice_get, take, count_by};
+ghost use Rattle.std.specs.Prelude.{◌≡◌, ◌≢◌, ◌<◌, ℕ, Some, IsSome, IfErr, OnOk, OnErr, All, Any, length, slice_get, take};
 ghost use Rattle.std.specs.Bool.{OnTrue, OnFalse};
 ghost use Rattle.std.specs.List.{AllPairs};
 ghost use Rattle.std.specs.FinMap as finite;
 ghost use Rattle.mm_relation.specs.State.{RelationState, IsKept, IsCurrent, linked_keys};
-ghost use Rattle.mm_catalog.specs.Linked.{is_link_to, relation_links};
-ghost use Rattle.mm_catalog.specs.Lowered.{HaveAtLeast};
+ghost use Rattle.mm_catalog.specs.Linked.{relation_links};
+ghost use Rattle.mm_catalog.specs.Counted.{HaveAtLeast, naming};
 ghost use Rattle.mm_catalog.specs.Changes.{IsCurrentAt};
 ghost use Rattle.mm_catalog.specs.Deleted.{IsReferenced, IsFree, AreRemoved, AreUnlinked, AreDeleted, AllFree, AnyReferenced};
 
 use crate::before::Before;
-use crate::lowering::lower_links;
+use crate::references::counting::count_down_links;
 use mm_relation::Relation;
 use mm_relation::laws::a_relation_is_kept;
 use part_raw::TupleRef;
@@ -36,7 +36,7 @@ fn remove_each(before: &mut [Relation], relation: &mut Relation, rows: &[TupleRe
     requires held { All (λ r. IsSome (finite.get relation.old.rows r)) rows.now }
     requires once { AllPairs (λ q r. q ≢ r) rows.now }
     requires current { IsCurrent (linked_keys relation.old.targets before.old) relation.old }
-    requires counted { HaveAtLeast before.old (λ table q. count_by (is_link_to table q) (relation_links relation.old)) }
+    requires counted { HaveAtLeast before.old (naming (relation_links relation.old)) }
     ensures unlinked { AreUnlinked before.old before.new relation.old relation.new }
     ensures removed { AreRemoved relation.old relation.new rows.now }
     ensures kept { IsKept relation.new }
@@ -44,7 +44,7 @@ fn remove_each(before: &mut [Relation], relation: &mut Relation, rows: &[TupleRe
 {
     a_relation_is_kept(relation);
     for r in rows {
-        lower_links(before, relation, *r);
+        count_down_links(before, relation, *r);
         relation.remove_row(&Before { relations: before }, *r);
         a_relation_is_kept(relation);
     }
@@ -57,7 +57,7 @@ pub fn take_out(relations: &mut [Relation], table: TableNumber, rows: &[TupleRef
     requires held { (s : RelationState) → slice_get relations.old table.0 ≡ Some s → All (λ r. IsSome (finite.get s.rows r)) rows.now }
     requires once { AllPairs (λ q r. q ≢ r) rows.now }
     requires current { IsCurrentAt relations.old table.0 }
-    requires counted { (s : RelationState) → slice_get relations.old table.0 ≡ Some s → HaveAtLeast (take table.0 relations.old) (λ n q. count_by (is_link_to n q) (relation_links s)) }
+    requires counted { (s : RelationState) → slice_get relations.old table.0 ≡ Some s → HaveAtLeast (take table.0 relations.old) (naming (relation_links s)) }
     ensures { AreDeleted relations.old relations.new table.0 rows.now }
 {
     let (before, rest) = relations.split_at_mut(table.0);
@@ -75,7 +75,7 @@ pub fn delete(
     requires held { (s : RelationState) → slice_get relations.old table.0 ≡ Some s → All (λ r. IsSome (finite.get s.rows r)) rows.now }
     requires once { AllPairs (λ q r. q ≢ r) rows.now }
     requires current { IsCurrentAt relations.old table.0 }
-    requires counted { (s : RelationState) → slice_get relations.old table.0 ≡ Some s → HaveAtLeast (take table.0 relations.old) (λ n q. count_by (is_link_to n q) (relation_links s)) }
+    requires counted { (s : RelationState) → slice_get relations.old table.0 ≡ Some s → HaveAtLeast (take table.0 relations.old) (naming (relation_links s)) }
     ensures free { OnOk result (AllFree relations.old table.0 rows.now) }
     ensures deleted { OnOk result (AreDeleted relations.old relations.new table.0 rows.now) }
     ensures referenced { IfErr result (λ refusal. (refusal ≡ Refusal.RowIsReferenced) × AnyReferenced relations.old table.0 rows.now) }

@@ -8,11 +8,11 @@ ghost use Rattle.mm_catalog.specs.Cells.{AreCellsOf};
 ghost use Rattle.mm_catalog.specs.Changes.{IsCurrentAt};
 ghost use Rattle.mm_catalog.specs.Inserted.{IsKeptOut, IsTakenIn, IsInsertedAt, IsRefusedAt};
 ghost use Rattle.mm_catalog.specs.Linked.{target_at, row_links};
-ghost use Rattle.mm_catalog.specs.Raised.{IsHeldIn, HaveRoom};
+ghost use Rattle.mm_catalog.specs.Counted.{IsHeldIn, HaveRoom};
 
 use crate::before::Before;
 use crate::cells::cells_of;
-use crate::referrers::raise_links;
+use crate::references::counting::count_up_links;
 use mm_relation::laws::a_relation_is_kept;
 use mm_relation::{Cell, Relation, RowRefusal};
 use part_raw::TupleRef;
@@ -81,7 +81,7 @@ fn take_in(
     match taken {
         Ok(r) => {
             a_relation_is_kept(relation);
-            raise_links(before, relation, r);
+            count_up_links(before, relation, r);
             Ok(r)
         }
         Err(RowRefusal::KeyExists) => Err(Refusal::KeyExists { record: None }),

@@ -1,13 +1,13 @@
 //! A relation that goes from among others: the rows that its links name, and the numbers of those behind it.
-ghost use Rattle.std.specs.Prelude.{◌≡◌, ◌<◌, ◌≤◌, ◌++◌, Some, All, length, slice_get, map, take, drop, count_by};
+ghost use Rattle.std.specs.Prelude.{◌≡◌, ◌<◌, ◌≤◌, ◌++◌, Some, All, length, slice_get, map, take, drop};
 ghost use Rattle.std.specs.declared.cmp.Ordering.TheVariants.{Equal};
 ghost use Rattle.mm_relation.specs.State.{RelationState, IsKept, IsCurrent, linked_keys};
-ghost use Rattle.mm_catalog.specs.Linked.{is_link_to, relation_links};
-ghost use Rattle.mm_catalog.specs.Lowered.{HaveAtLeast, AreLowered};
+ghost use Rattle.mm_catalog.specs.Linked.{relation_links};
+ghost use Rattle.mm_catalog.specs.Counted.{HaveAtLeast, AreCountedBy, naming, none};
 ghost use Rattle.mm_catalog.specs.Changes.{IsCurrentAt};
 ghost use Rattle.mm_catalog.specs.Dropped.{with_column_moved, renumbered, IsUnlinked};
 
-use crate::lowering::lower_links;
+use crate::references::counting::count_down_links;
 use mm_relation::laws::a_relation_is_kept;
 use mm_relation::{ColumnNumber, Probe, Relation, TableNumber, TupleRef};
 use std::cmp::Ordering;
@@ -36,15 +36,15 @@ impl Probe for AllRows {
 }
 
 // The rows that the links of a relation name have fewer referrers, as many as there are such links.
-fn lower_all(before: &mut [Relation], relation: &Relation)
+fn count_down_relation(before: &mut [Relation], relation: &Relation)
     requires kept { All IsKept before.old }
     requires current { IsCurrent (linked_keys relation.now.targets before.old) relation.now }
-    requires enough { HaveAtLeast before.old (λ table r. count_by (is_link_to table r) (relation_links relation.now)) }
-    ensures { AreLowered before.old before.new (λ table r. count_by (is_link_to table r) (relation_links relation.now)) }
+    requires enough { HaveAtLeast before.old (naming (relation_links relation.now)) }
+    ensures { AreCountedBy before.old before.new none (naming (relation_links relation.now)) }
 {
     a_relation_is_kept(relation);
     for r in relation.walk_column(ColumnNumber(0), &mut AllRows { asked: 0 }) {
-        lower_links(before, relation, r);
+        count_down_links(before, relation, r);
     }
 }
 
@@ -54,11 +54,11 @@ pub fn unlink(relations: &mut [Relation], table: TableNumber)
     requires there { table.0 < length relations.old }
     requires kept { All IsKept relations.old }
     requires current { IsCurrentAt relations.old table.0 }
-    requires enough { (s : RelationState) → slice_get relations.old table.0 ≡ Some s → HaveAtLeast (take table.0 relations.old) (λ n r. count_by (is_link_to n r) (relation_links s)) }
+    requires enough { (s : RelationState) → slice_get relations.old table.0 ≡ Some s → HaveAtLeast (take table.0 relations.old) (naming (relation_links s)) }
     ensures { IsUnlinked relations.old relations.new table.0 }
 {
     let (before, rest) = relations.split_at_mut(table.0);
-    lower_all(before, &rest[0]);
+    count_down_relation(before, &rest[0]);
 }
 
 // Tells a relation where the links of a column lead, now that a table is gone.

@@ -1,33 +1,25 @@
 //! Values that are assigned to rows of one relation, among those that its links lead into.
-ghost use Rattle.std.specs.Prelude.{◌≡◌, ◌≢◌, ◌*◌, ◌<◌, ◌∷◌, ◌++◌, [], ℕ, Some, None, IsSome, IfSome, IfNone, IfOk, IfErr, OnOk, OnErr, All, cond, map, length, slice_get, count_by};
+ghost use Rattle.std.specs.Prelude.{◌≡◌, ◌≢◌, ◌*◌, ◌<◌, ◌∷◌, ◌++◌, [], ℕ, Some, None, IsSome, IfOk, IfErr, OnOk, OnErr, All, map, length, slice_get};
 ghost use Rattle.std.specs.List.{AllPairs};
 ghost use Rattle.std.specs.Option.{option_map};
 ghost use Rattle.std.specs.FinMap as finite;
 ghost use Rattle.mm_relation.specs.declared.row.Row.{Row};
 ghost use Rattle.mm_relation.specs.State.{RelationState, IsKept};
-ghost use Rattle.mm_catalog.specs.Linked.{is_link_to, link_at, target_at};
-ghost use Rattle.mm_catalog.specs.Raised.{IsHeldIn, HaveRoom};
-ghost use Rattle.mm_catalog.specs.Lowered.{HaveAtLeast, AreLowered};
+ghost use Rattle.mm_catalog.specs.Linked.{target_at};
+ghost use Rattle.mm_catalog.specs.Counted.{linked_of, naming, none, IsHeldIn, HaveRoom, AreCountedBy};
 ghost use Rattle.mm_catalog.specs.Assigned as assigned;
-ghost use Rattle.mm_catalog.specs.Assigned.{AreConsistent, AreNotSet, AreRaisedTo, AreSetBy, AreToColumns, IsNotUpdated, IsUpdated, linked_of, links_at, row_links_at, set_links};
+ghost use Rattle.mm_catalog.specs.Assigned.{AreConsistent, AreNotSet, AreSetBy, AreToColumns, IsNotUpdated, IsUpdated, links_at, row_links_at, set_links};
 
 use crate::before::Before;
 use crate::cells::cell_of;
-use crate::lowering::lower;
-use crate::referrers::target_number;
+use crate::references::counting::{count_down_all, count_up};
+use crate::references::link::{Link, link_in, target_number};
 use mm_relation::laws::a_relation_is_kept;
 use mm_relation::{Cell, Relation};
 use no_memory::NoMemory;
 use part_raw::TupleRef;
 use plain_tables::{Assignment, ColumnNumber, Refusal, Sequence, TableNumber};
 use std::alloc::Global;
-
-/// A link: the table that it leads into, and the row that it names.
-#[derive(Clone, Copy, Drop)]
-pub struct Link {
-    pub table: TableNumber,
-    pub to: TupleRef,
-}
 
 // ---- the cells
 
@@ -62,17 +54,6 @@ fn push_set(sets: &mut Vec<(ColumnNumber, Cell)>, set: (ColumnNumber, Cell)) -> 
 
 // ---- the links that go
 
-// The link that a row has in a column.
-fn link_in(relation: &Relation, r: TupleRef, column: ColumnNumber) -> Option<Link>
-    requires held { IsSome (finite.get relation.now.rows r) }
-    requires column { column.0 < length relation.now.targets }
-    ensures { (row : Row) → finite.get relation.now.rows r ≡ Some row → option_map linked_of result ≡ link_at relation.now.targets row column.0 }
-{
-    let table = relation.target(column)?;
-    let to = relation.row(r).link(column)?;
-    Some(Link { table, to })
-}
-
 // Puts the links that a row has where these cells are set behind the others.
 fn push_links(
     links: &mut Vec<Link>,
@@ -84,8 +65,9 @@ fn push_links(
     requires columns { All (λ s. s.0.0 < length relation.now.targets) sets.now }
     ensures { OnOk result ((row : Row) → finite.get relation.now.rows r ≡ Some row → map linked_of links.new.items ≡ map linked_of links.old.items ++ row_links_at relation.now.targets sets.now row) }
 {
+    let row = relation.row(r);
     for (column, _) in sets {
-        if let Some(link) = link_in(relation, r, *column) {
+        if let Some(link) = link_in(relation, &row, *column) {
             links.push(link)?;
         }
     }
@@ -124,42 +106,23 @@ fn link_set(relation: &Relation, set: &(ColumnNumber, Cell)) -> Option<Link>
     }
 }
 
-// So many links more name the row that a link names.
-fn raise_by(before: &mut [Relation], link: Link, n: u64)
-    requires kept { All IsKept before.old }
-    requires held { IsHeldIn before.old (linked_of link) }
-    requires room { HaveRoom before.old n }
-    ensures { AreRaisedTo before.old before.new (λ t q. n * cond (is_link_to t q (linked_of link)) 1 0) }
-{
-    let relation = &mut before[link.table.0];
-    relation.add_referrers(link.to, n);
-    a_relation_is_kept(relation);
-}
-
-// So many links more name each row that these cells link to.
-fn raise_sets(before: &mut [Relation], relation: &Relation, sets: &[(ColumnNumber, Cell)], n: u64)
+// So many referrers more for each row that these cells link to, and for each such cell.
+fn count_up_sets(
+    before: &mut [Relation],
+    relation: &Relation,
+    sets: &[(ColumnNumber, Cell)],
+    n: u64,
+)
     requires kept { All IsKept before.old }
     requires columns { All (λ s. s.0.0 < length relation.now.targets) sets.now }
     requires held { All (IsHeldIn before.old) (set_links relation.now.targets sets.now) }
     requires room { HaveRoom before.old (n * length sets.now) }
-    ensures { AreRaisedTo before.old before.new (λ t q. n * count_by (is_link_to t q) (set_links relation.now.targets sets.now)) }
+    ensures { AreCountedBy before.old before.new (λ t q. n * naming (set_links relation.now.targets sets.now) t q) none }
 {
     for set in sets {
         if let Some(link) = link_set(relation, set) {
-            raise_by(before, link, n);
+            count_up(before, link, n);
         }
-    }
-}
-
-// One link fewer names the row of each of these links.
-fn lower_all(before: &mut [Relation], links: &[Link])
-    requires kept { All IsKept before.old }
-    requires held { All (λ l. IsHeldIn before.old (linked_of l)) links.now }
-    requires enough { HaveAtLeast before.old (λ t q. count_by (is_link_to t q) (map linked_of links.now)) }
-    ensures { AreLowered before.old before.new (λ t q. count_by (is_link_to t q) (map linked_of links.now)) }
-{
-    for link in links {
-        lower(before, link.table, link.to);
     }
 }
 
@@ -189,7 +152,7 @@ pub fn set_rows(
     let others = Before { relations: before };
     relation.change_rows(alloc, &others, rows, sets.as_slice())?;
     a_relation_is_kept(relation);
-    raise_sets(before, relation, sets.as_slice(), rows.len() as u64);
-    lower_all(before, links.as_slice());
+    count_up_sets(before, relation, sets.as_slice(), rows.len() as u64);
+    count_down_all(before, links.as_slice());
     Ok(())
 }

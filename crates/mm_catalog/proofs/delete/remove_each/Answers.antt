@@ -3,7 +3,9 @@ use Rattle.std.specs.FinMap as finite
 use Rattle.std.proofs.lemmas.List.{get_or_default}
 use Rattle.part_raw.proofs.Tuples.{held_tuple}
 use Rattle.mm_relation.specs.State.{IsCurrent, linked_keys}
-use Rattle.mm_catalog.proofs.Removing.{AreRemoved-none, AreRemoved-more, AreUnlinked-none, AreUnlinked-more, still_there, links_held, names_still, enough_left, keys_still}
+use Rattle.mm_catalog.proofs.Removing.{AreRemoved-none, AreRemoved-more, AreUnlinked-none, AreUnlinked-more, still_there, links_held, enough_for_row, keys_still}
+use Rattle.mm_catalog.specs.Linked.{row_links}
+use Rattle.mm_catalog.proofs.Counted.{all_held_still}
 use Rattle.mm_catalog.proofs.delete.remove_each.Goals as goal
 
 pub loop-r-init : goal.loop-r-init
@@ -14,25 +16,25 @@ loop-r-init c = record {
   current = c.requires.current;
 }
 
-pub lower_links-requires-clause-held : goal.lower_links-requires-clause-held
-lower_links-requires-clause-held c =
+pub count_down_links-requires-clause-held : goal.count_down_links-requires-clause-held
+count_down_links-requires-clause-held c =
     let i = c.loop-r.r-index in
     let r = get_or c.args.rows.now i (record { number = 0 }) in
     subst IsSome (sym (still_there c.args.relation.now c.loop-r.relation c.args.rows.now i r c.loop-r-test.true (get_or_default c.args.rows.now i r (record { number = 0 }) c.loop-r-test.true) c.requires.once c.loop-r.invariant.removed))
     (c.requires.held i (record { number = 0 }) c.loop-r-test.true)
 
-pub lower_links-requires-clause-named : goal.lower_links-requires-clause-named
-lower_links-requires-clause-named c row at =
+pub count_down_links-requires-clause-named : goal.count_down_links-requires-clause-named
+count_down_links-requires-clause-named c row at =
     let r = get_or c.args.rows.now c.loop-r.r-index (record { number = 0 }) in
     let current : IsCurrent (linked_keys c.loop-r.relation.targets c.args.before.now) c.loop-r.relation =
     subst (λ targets. IsCurrent (linked_keys targets c.args.before.now) c.loop-r.relation) (sym c.loop-r.invariant.removed.keeps.targets) c.loop-r.invariant.current in
-    names_still c.args.before.now c.loop-r.before c.loop-r.relation.targets row c.loop-r.invariant.unlinked.lowered.recounted
+    all_held_still c.args.before.now c.loop-r.before (row_links c.loop-r.relation.targets row) c.loop-r.invariant.unlinked.counted.recounted
     (links_held c.args.before.now c.loop-r.relation r row current at)
 
-pub lower_links-requires-clause-enough : goal.lower_links-requires-clause-enough
-lower_links-requires-clause-enough c row at =
+pub count_down_links-requires-clause-enough : goal.count_down_links-requires-clause-enough
+count_down_links-requires-clause-enough c row at =
     let r = get_or c.args.rows.now c.loop-r.r-index (record { number = 0 }) in
-    enough_left c.args.before.now c.loop-r.before c.args.relation.now c.loop-r.relation r row c.requires.counted c.loop-r.invariant.unlinked c.loop-r.invariant.kept at
+    enough_for_row c.args.before.now c.loop-r.before c.args.relation.now c.loop-r.relation r row c.requires.counted c.loop-r.invariant.unlinked c.loop-r.invariant.kept at
 
 pub remove_row-requires-clause-held : goal.remove_row-requires-clause-held
 remove_row-requires-clause-held c =
@@ -50,7 +52,7 @@ remove_row-requires-clause-current c =
     (c.requires.held i (record { number = 0 }) c.loop-r-test.true) in
     let row = held_tuple c.loop-r.relation.rows r held in
     subst (λ keys. IsCurrent keys c.loop-r.relation)
-    (sym (keys_still c.args.relation.now c.loop-r.relation c.args.before.now c.loop-r.before c.lower_links.new.before c.loop-r.invariant.removed.keeps.targets c.loop-r.invariant.unlinked.lowered.recounted (c.lower_links.ensures row.0 row.1).recounted))
+    (sym (keys_still c.args.relation.now c.loop-r.relation c.args.before.now c.loop-r.before c.count_down_links.new.before c.loop-r.invariant.removed.keeps.targets c.loop-r.invariant.unlinked.counted.recounted (c.count_down_links.ensures row.0 row.1).recounted))
     c.loop-r.invariant.current
 
 pub loop-r-preserved : goal.loop-r-preserved
@@ -62,13 +64,13 @@ loop-r-preserved c =
     subst IsSome (sym (still_there c.args.relation.now c.loop-r.relation c.args.rows.now i r c.loop-r-test.true itself c.requires.once c.loop-r.invariant.removed))
     (c.requires.held i (record { number = 0 }) c.loop-r-test.true) in
     let row = held_tuple c.loop-r.relation.rows r held in
-    let lowered = c.lower_links.ensures row.0 row.1 in
+    let counted = c.count_down_links.ensures row.0 row.1 in
     record {
-      unlinked = AreUnlinked-more c.args.before.now c.loop-r.before c.lower_links.new.before c.args.relation.now c.loop-r.relation c.remove_row.new.self r row.0
-          c.loop-r.invariant.kept c.a_relation_is_kept-in-loop-r.ensures row.1 c.remove_row.ensures.removed c.loop-r.invariant.unlinked lowered;
+      unlinked = AreUnlinked-more c.args.before.now c.loop-r.before c.count_down_links.new.before c.args.relation.now c.loop-r.relation c.remove_row.new.self r row.0
+          c.loop-r.invariant.kept c.a_relation_is_kept-in-loop-r.ensures row.1 c.remove_row.ensures.removed c.loop-r.invariant.unlinked counted;
       removed = AreRemoved-more c.args.relation.now c.loop-r.relation c.remove_row.new.self c.args.rows.now i r c.loop-r-test.true itself c.loop-r.invariant.removed c.remove_row.ensures.removed;
       kept = c.a_relation_is_kept-in-loop-r.ensures;
       current = subst (λ keys. IsCurrent keys c.remove_row.new.self)
-          (keys_still c.args.relation.now c.loop-r.relation c.args.before.now c.loop-r.before c.lower_links.new.before c.loop-r.invariant.removed.keeps.targets c.loop-r.invariant.unlinked.lowered.recounted lowered.recounted)
+          (keys_still c.args.relation.now c.loop-r.relation c.args.before.now c.loop-r.before c.count_down_links.new.before c.loop-r.invariant.removed.keeps.targets c.loop-r.invariant.unlinked.counted.recounted counted.recounted)
           c.remove_row.ensures.current;
     }

@@ -6,7 +6,7 @@ use Rattle.mm_relation.specs.Changes.{new_row}
 use Rattle.mm_relation.specs.State.{RelationState, IsCurrent, HasKey, linked_keys}
 use Rattle.mm_catalog.specs.Cells.{AreCellsOf}
 use Rattle.mm_catalog.specs.Inserted.{CanComeIn, CannotComeIn, IsKeptOut, IsTakenIn, IsInsertedAt, IsRefusedAt}
-use Rattle.mm_catalog.specs.Raised.{HaveRoom}
+use Rattle.mm_catalog.specs.Counted.{HaveRoom}
 use Rattle.mm_catalog.proofs.CellRows.{cells_readable, cells_held}
 use Rattle.mm_catalog.proofs.Taking.{split_first, split_here, IfOk-both}
 use Rattle.mm_catalog.proofs.insert.insert.Goals as goal

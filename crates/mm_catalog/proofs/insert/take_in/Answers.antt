@@ -5,16 +5,16 @@ use Rattle.mm_relation.specs.declared.refusal.RowRefusal.TheVariants.{KeyExists}
 use Rattle.mm_relation.specs.Changes.{IsToldRightly, new_row}
 use Rattle.mm_catalog.specs.Inserted.{key_there, no_memory}
 use Rattle.mm_catalog.specs.Linked.{row_links}
-use Rattle.mm_catalog.specs.Raised.{IsHeldIn, AreRaised}
+use Rattle.mm_catalog.specs.Counted.{IsHeldIn, AreCountedBy, naming, none}
 use Rattle.mm_catalog.proofs.Taking.{row_here}
 use Rattle.mm_catalog.proofs.insert.take_in.Goals as goal
 
-pub raise_links-requires-clause-held : goal.raise_links-requires-clause-held
-raise_links-requires-clause-held c =
+pub count_up_links-requires-clause-held : goal.count_up_links-requires-clause-held
+count_up_links-requires-clause-held c =
     ap is_some (row_here c.args.relation.now c.insert_row-taken.new.self c.in-Ok.r (new_row c.args.key c.args.cells) c.in-Ok.ensures.inserted)
 
-pub raise_links-requires-clause-links : goal.raise_links-requires-clause-links
-raise_links-requires-clause-links c row found =
+pub count_up_links-requires-clause-named : goal.count_up_links-requires-clause-named
+count_up_links-requires-clause-named c row found =
     let old = c.args.relation.now in
     let new = c.insert_row-taken.new.self in
     let t = new_row c.args.key c.args.cells in
@@ -30,10 +30,8 @@ returns-in-Ok-clause-taken c =
       inserted = c.in-Ok.ensures.inserted;
       kept = c.a_relation_is_kept.ensures;
       current = c.in-Ok.ensures.current;
-      recounted = c.raise_links.ensures.recounted;
-      others_kept = c.raise_links.ensures.kept;
-      raised = subst (λ targets. AreRaised c.args.before.now c.raise_links.new.before (row_links targets t)) c.in-Ok.ensures.inserted.keeps.targets
-          (c.raise_links.ensures.raised t (row_here old new c.in-Ok.r t c.in-Ok.ensures.inserted));
+      counted = subst (λ targets. AreCountedBy c.args.before.now c.count_up_links.new.before (naming (row_links targets t)) none) c.in-Ok.ensures.inserted.keeps.targets
+          (c.count_up_links.ensures t (row_here old new c.in-Ok.r t c.in-Ok.ensures.inserted));
     }
 
 pub returns-in-Err-KeyExists-clause-refused : goal.returns-in-Err-KeyExists-clause-refused

@@ -1,6 +1,7 @@
 use Rattle.std.proofs.Common.{◌<◌, ◌++◌, List, length, map, get_or, sym, ap, ◌∙◌, arith}
 use Rattle.part_raw.proofs.Tuples.{held_tuple}
-use Rattle.mm_catalog.specs.Assigned.{linked_of, row_links_at}
+use Rattle.mm_catalog.specs.Counted.{linked_of}
+use Rattle.mm_catalog.specs.Assigned.{row_links_at}
 use Rattle.mm_catalog.specs.Linked.{Linked}
 use Rattle.mm_catalog.proofs.SetLinks.{links_more, no_links}
 use Rattle.mm_catalog.proofs.updating.links_of.Goals as goal

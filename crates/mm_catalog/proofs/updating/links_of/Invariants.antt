@@ -1,5 +1,6 @@
 use Rattle.std.proofs.Common.{◌≡◌, map, take}
-use Rattle.mm_catalog.specs.Assigned.{linked_of, links_at}
+use Rattle.mm_catalog.specs.Counted.{linked_of}
+use Rattle.mm_catalog.specs.Assigned.{links_at}
 use Rattle.mm_catalog.proofs.updating.links_of.Given as goal
 
 abbrev pub invariant-loop-r : goal.invariant-loop-r

@@ -1,14 +1,12 @@
 use Rattle.std.proofs.Common.{rules, ◌≡◌, ℕ, ◌*◌, ◌<◌, ◌++◌, List, Option, Some, IsSome, length, map, set, take, drop, get_or, sym, ap, ◌∙◌, subst}
-use Rattle.std.specs.List.{All, count_by, slice_get}
+use Rattle.std.specs.List.{All, slice_get}
 use Rattle.std.specs.Prelude.{IfErr}
 use Rattle.plain_tables.specs.declared.refusal.Refusal.TheVariants.{NoMemory}
 use Rattle.mm_relation.specs.Changes.{IsChanged}
 use Rattle.mm_relation.specs.Reading.{cell_value}
 use Rattle.mm_relation.specs.State.{RelationState, linked_keys}
-use Rattle.mm_catalog.specs.Assigned.{AreNotSet, AreRaisedTo, CellSet, IsUpdated, linked_of, links_at, set_links}
-use Rattle.mm_catalog.specs.Linked.{is_link_to}
-use Rattle.mm_catalog.specs.Lowered.{AreLowered, HaveAtLeast}
-use Rattle.mm_catalog.specs.Raised.{HaveRoom, IsHeldIn}
+use Rattle.mm_catalog.specs.Assigned.{AreNotSet, CellSet, IsUpdated, links_at, set_links}
+use Rattle.mm_catalog.specs.Counted.{AreCountedBy, HaveAtLeast, HaveRoom, IsHeldIn, linked_of, naming, none}
 use Rattle.mm_catalog.proofs.Lists.{first_behind}
 use Rattle.mm_catalog.proofs.UpdateNeeds as needs
 use Rattle.mm_catalog.proofs.UpdateRefused.{not_set, no_memory}
@@ -175,8 +173,8 @@ returns-in_err-change_rows-clause-refused c =
     let why : IfErr c.from_residual-in_err-change_rows.result (λ e. e ≡ NoMemory) = search rules in
     no_memory relations n s c.args.assignments at c.from_residual-in_err-change_rows.result why
 
-pub raise_sets-requires-clause-columns : goal.raise_sets-requires-clause-columns
-raise_sets-requires-clause-columns c =
+pub count_up_sets-requires-clause-columns : goal.count_up_sets-requires-clause-columns
+count_up_sets-requires-clause-columns c =
     let relations = c.args.relations.now in
     let n = c.args.table.0 in
     let front = c.split_at_mut-before.result.0.now in
@@ -196,8 +194,8 @@ raise_sets-requires-clause-columns c =
     subst (λ (ts : List (Option ℕ)). All (λ (x : CellSet). x.0.0 < length ts) c.as_slice-3.result.now) (sym changed.keeps.targets)
     (subst (All (λ (x : CellSet). x.0.0 < length s.targets)) (sym c.as_slice-3.ensures.value) (needs.sets_apart k.0 k.2 n s there front same c.args.assignments to sets cells).within)
 
-pub raise_sets-requires-clause-held : goal.raise_sets-requires-clause-held
-raise_sets-requires-clause-held c =
+pub count_up_sets-requires-clause-held : goal.count_up_sets-requires-clause-held
+count_up_sets-requires-clause-held c =
     let relations = c.args.relations.now in
     let n = c.args.table.0 in
     let front = c.split_at_mut-before.result.0.now in
@@ -217,8 +215,8 @@ raise_sets-requires-clause-held c =
     subst (λ (ts : List (Option ℕ)). All (IsHeldIn front) (set_links ts c.as_slice-3.result.now)) (sym changed.keeps.targets)
     (subst (λ (ss : List CellSet). All (IsHeldIn front) (set_links s.targets ss)) (sym c.as_slice-3.ensures.value) (needs.sets_held k.0 k.2 n s there front same c.args.assignments to sets cells))
 
-pub raise_sets-requires-clause-room : goal.raise_sets-requires-clause-room
-raise_sets-requires-clause-room c =
+pub count_up_sets-requires-clause-room : goal.count_up_sets-requires-clause-room
+count_up_sets-requires-clause-room c =
     let relations = c.args.relations.now in
     let n = c.args.table.0 in
     let front = c.split_at_mut-before.result.0.now in
@@ -237,8 +235,8 @@ raise_sets-requires-clause-room c =
     let held = c.requires.held s at in
     subst (λ (ss : List CellSet). HaveRoom front (length rows * length ss)) (sym c.as_slice-3.ensures.value) (needs.room_front k.0 k.2 n s there front same c.args.assignments to sets cells rows held c.requires.once)
 
-pub lower_all-requires-clause-held : goal.lower_all-requires-clause-held
-lower_all-requires-clause-held c =
+pub count_down_all-requires-clause-held : goal.count_down_all-requires-clause-held
+count_down_all-requires-clause-held c =
     let relations = c.args.relations.now in
     let n = c.args.table.0 in
     let front = c.split_at_mut-before.result.0.now in
@@ -257,15 +255,15 @@ lower_all-requires-clause-held c =
     let held = c.requires.held s at in
     let a = c.change_rows.new.self in
     let changed : IsChanged s a c.args.rows.now sets = subst (IsChanged s a c.args.rows.now) c.as_slice-2.ensures.value c.in_ok-change_rows.ensures.changed in
-    let raised = c.raise_sets.new.before in
-    let up : AreRaisedTo front raised (λ t q. length rows * count_by (is_link_to t q) (set_links a.targets sets)) =
-    subst (λ (ss : List CellSet). AreRaisedTo front raised (λ t q. length rows * count_by (is_link_to t q) (set_links a.targets ss))) c.as_slice-3.ensures.value c.raise_sets.ensures in
+    let raised = c.count_up_sets.new.before in
+    let up : AreCountedBy front raised (λ t q. length rows * naming (set_links a.targets sets) t q) none =
+    subst (λ (ss : List CellSet). AreCountedBy front raised (λ t q. length rows * naming (set_links a.targets ss) t q) none) c.as_slice-3.ensures.value c.count_up_sets.ensures in
     let gone = c.in_ok-links.links.items in
     let listed : map linked_of gone ≡ links_at s sets rows = c.in_ok-links.ensures ∙ ap (λ (ss : List CellSet). links_at s ss rows) c.as_slice.ensures.value in
     subst (All (λ l. IsHeldIn raised (linked_of l))) (sym c.as_slice-4.ensures.value) (needs.gone_named k.0 k.2 n s there front same c.args.assignments to sets cells rows held c.requires.once a c.a_relation_is_kept.ensures changed raised up gone listed)
 
-pub lower_all-requires-clause-enough : goal.lower_all-requires-clause-enough
-lower_all-requires-clause-enough c =
+pub count_down_all-requires-clause-enough : goal.count_down_all-requires-clause-enough
+count_down_all-requires-clause-enough c =
     let relations = c.args.relations.now in
     let n = c.args.table.0 in
     let front = c.split_at_mut-before.result.0.now in
@@ -284,12 +282,12 @@ lower_all-requires-clause-enough c =
     let held = c.requires.held s at in
     let a = c.change_rows.new.self in
     let changed : IsChanged s a c.args.rows.now sets = subst (IsChanged s a c.args.rows.now) c.as_slice-2.ensures.value c.in_ok-change_rows.ensures.changed in
-    let raised = c.raise_sets.new.before in
-    let up : AreRaisedTo front raised (λ t q. length rows * count_by (is_link_to t q) (set_links a.targets sets)) =
-    subst (λ (ss : List CellSet). AreRaisedTo front raised (λ t q. length rows * count_by (is_link_to t q) (set_links a.targets ss))) c.as_slice-3.ensures.value c.raise_sets.ensures in
+    let raised = c.count_up_sets.new.before in
+    let up : AreCountedBy front raised (λ t q. length rows * naming (set_links a.targets sets) t q) none =
+    subst (λ (ss : List CellSet). AreCountedBy front raised (λ t q. length rows * naming (set_links a.targets ss) t q) none) c.as_slice-3.ensures.value c.count_up_sets.ensures in
     let gone = c.in_ok-links.links.items in
     let listed : map linked_of gone ≡ links_at s sets rows = c.in_ok-links.ensures ∙ ap (λ (ss : List CellSet). links_at s ss rows) c.as_slice.ensures.value in
-    subst (λ ls. HaveAtLeast raised (λ t q. count_by (is_link_to t q) (map linked_of ls))) (sym c.as_slice-4.ensures.value) (needs.gone_enough k.0 k.2 n s there front same c.args.assignments to sets cells rows held c.requires.once a c.a_relation_is_kept.ensures changed raised up gone listed)
+    subst (λ ls. HaveAtLeast raised (naming (map linked_of ls))) (sym c.as_slice-4.ensures.value) (needs.gone_enough k.0 k.2 n s there front same c.args.assignments to sets cells rows held c.requires.once a c.a_relation_is_kept.ensures changed raised up gone listed)
 
 pub returns-clause-updated : goal.returns-clause-updated
 returns-clause-updated c =
@@ -311,14 +309,14 @@ returns-clause-updated c =
     let held = c.requires.held s at in
     let a = c.change_rows.new.self in
     let changed : IsChanged s a c.args.rows.now sets = subst (IsChanged s a c.args.rows.now) c.as_slice-2.ensures.value c.in_ok-change_rows.ensures.changed in
-    let raised = c.raise_sets.new.before in
-    let up : AreRaisedTo front raised (λ t q. length rows * count_by (is_link_to t q) (set_links a.targets sets)) =
-    subst (λ (ss : List CellSet). AreRaisedTo front raised (λ t q. length rows * count_by (is_link_to t q) (set_links a.targets ss))) c.as_slice-3.ensures.value c.raise_sets.ensures in
+    let raised = c.count_up_sets.new.before in
+    let up : AreCountedBy front raised (λ t q. length rows * naming (set_links a.targets sets) t q) none =
+    subst (λ (ss : List CellSet). AreCountedBy front raised (λ t q. length rows * naming (set_links a.targets ss) t q) none) c.as_slice-3.ensures.value c.count_up_sets.ensures in
     let gone = c.in_ok-links.links.items in
     let listed : map linked_of gone ≡ links_at s sets rows = c.in_ok-links.ensures ∙ ap (λ (ss : List CellSet). links_at s ss rows) c.as_slice.ensures.value in
-    let lowered = c.lower_all.new.before in
-    let down : AreLowered raised lowered (λ t q. count_by (is_link_to t q) (map linked_of gone)) =
-    subst (λ ls. AreLowered raised lowered (λ t q. count_by (is_link_to t q) (map linked_of ls))) c.as_slice-4.ensures.value c.lower_all.ensures in
+    let lowered = c.count_down_all.new.before in
+    let down : AreCountedBy raised lowered none (naming (map linked_of gone)) =
+    subst (λ ls. AreCountedBy raised lowered none (naming (map linked_of ls))) c.as_slice-4.ensures.value c.count_down_all.ensures in
     subst (λ rs. IsUpdated rs (lowered ++ set rest 0 a) n rows c.args.assignments) k.1
     (subst (λ behind. IsUpdated k.0.relations (lowered ++ set behind 0 a) n rows c.args.assignments) (ap (drop n) k.1 ∙ sym c.split_at_mut-before.ensures.back)
     (needs.updated k.0 k.2 n s there front same c.args.assignments to sets cells rows held c.requires.once a c.a_relation_is_kept.ensures changed raised up gone listed lowered down c.in_ok-change_rows.ensures.current))

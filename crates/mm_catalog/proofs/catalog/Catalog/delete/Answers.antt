@@ -1,5 +1,5 @@
 use Rattle.std.proofs.Common.{◌≡◌, ◌<◌, ◌++◌, Bool, List, length, map, take, drop, sym, ap, subst, arith}
-use Rattle.std.specs.List.{count_by, slice_get}
+use Rattle.std.specs.List.{slice_get}
 use Rattle.std.specs.Prelude.{OnOk, Some}
 use Rattle.std.specs.String.{string_bytes}
 use Rattle.plain_tables.specs.Doing as doing
@@ -7,11 +7,11 @@ use Rattle.plain_tables.specs.Tables.{Row}
 use Rattle.mm_relation.specs.State.{RelationState}
 use Rattle.mm_catalog.specs.State.{CatalogState}
 use Rattle.mm_catalog.specs.Seen.{database_of}
-use Rattle.mm_catalog.specs.Linked.{is_link_to, relation_links}
+use Rattle.mm_catalog.specs.Linked.{relation_links}
 use Rattle.mm_catalog.specs.Consistent.{IsConsistent}
 use Rattle.mm_catalog.specs.Changes.{IsCurrentAt, HasEffect}
 use Rattle.mm_catalog.specs.Picked.{ArePicked, HoldsRows}
-use Rattle.mm_catalog.specs.Lowered.{HaveAtLeast}
+use Rattle.mm_catalog.specs.Counted.{HaveAtLeast, naming}
 use Rattle.mm_catalog.proofs.Lists.{whole}
 use Rattle.mm_catalog.proofs.Tables.{database-length}
 use Rattle.mm_catalog.proofs.Declared.{current_at}
@@ -33,7 +33,7 @@ pub delete-requires-clause-counted : goal.delete-requires-clause-counted
 delete-requires-clause-counted c =
     let s : CatalogState = record { limits = c.self.inside.limits; names = map string_bytes c.self.inside.names.keys; relations = c.self.inside.relations.items } in
     let n = c.args.table.0 in
-    subst (λ (rs : List RelationState). (t : RelationState) → slice_get rs n ≡ Some t → HaveAtLeast (take n rs) (λ table q. count_by (is_link_to table q) (relation_links t))) (sym c.as_mut_slice.ensures.value)
+    subst (λ (rs : List RelationState). (t : RelationState) → slice_get rs n ≡ Some t → HaveAtLeast (take n rs) (naming (relation_links t))) (sym c.as_mut_slice.ensures.value)
     (enough_before s c.self.invariant n)
 
 pub invariant_of-self : goal.invariant_of-self

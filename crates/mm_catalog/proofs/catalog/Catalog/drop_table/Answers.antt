@@ -1,4 +1,4 @@
-use Rattle.std.proofs.Common.{◌≡◌, ◌<◌, ◌++◌, List, Some, length, map, take, drop, count_by, sym, ap, ◌∙◌, subst, arith}
+use Rattle.std.proofs.Common.{◌≡◌, ◌<◌, ◌++◌, List, Some, length, map, take, drop, sym, ap, ◌∙◌, subst, arith}
 use Rattle.std.specs.List.{All, slice_get, remove}
 use Rattle.std.specs.String.{string_bytes}
 use Rattle.indexmap.proofs.SetLemmas.{map-remove}
@@ -7,9 +7,9 @@ use Rattle.plain_tables.specs.declared.resolved.Resolved.TheVariants as resolved
 use Rattle.mm_relation.specs.State.{RelationState}
 use Rattle.mm_catalog.specs.State.{CatalogState}
 use Rattle.mm_catalog.specs.Seen.{database_of}
-use Rattle.mm_catalog.specs.Linked.{is_link_to, relation_links}
+use Rattle.mm_catalog.specs.Linked.{relation_links}
 use Rattle.mm_catalog.specs.Changes.{IsCurrentAt}
-use Rattle.mm_catalog.specs.Lowered.{HaveAtLeast}
+use Rattle.mm_catalog.specs.Counted.{HaveAtLeast, naming}
 use Rattle.mm_catalog.specs.Dropped.{renumbered, IsUnlinked}
 use Rattle.mm_catalog.proofs.Lists.{whole}
 use Rattle.mm_catalog.proofs.Declared.{current_at}
@@ -32,7 +32,7 @@ unlink-requires-clause-enough c =
     let s : CatalogState = record { limits = c.self.inside.limits; names = map string_bytes c.self.inside.names.keys; relations = c.self.inside.relations.items } in
     let n = c.args.table.0 in
     let meant : IsMeant s.limits (database_of s) (resolved.DropTable c.args.table) = rw (← c.self.view_is) at c.requires in
-    subst (λ (rs : List RelationState). (t : RelationState) → slice_get rs n ≡ Some t → HaveAtLeast (take n rs) (λ table r. count_by (is_link_to table r) (relation_links t))) (sym c.as_mut_slice.ensures.value)
+    subst (λ (rs : List RelationState). (t : RelationState) → slice_get rs n ≡ Some t → HaveAtLeast (take n rs) (naming (relation_links t))) (sym c.as_mut_slice.ensures.value)
     (enough s c.self.invariant c.args.table meant)
 
 pub remove-requires : goal.remove-requires

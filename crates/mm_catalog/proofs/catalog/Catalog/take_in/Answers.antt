@@ -12,7 +12,7 @@ use Rattle.mm_catalog.specs.Linked.{target_at}
 use Rattle.mm_catalog.specs.Consistent.{IsConsistent}
 use Rattle.mm_catalog.specs.Changes.{IsCurrentAt, HasEffect, IsRefusedFor}
 use Rattle.mm_catalog.specs.Loaded.{HasCome}
-use Rattle.mm_catalog.specs.Raised.{HaveRoom}
+use Rattle.mm_catalog.specs.Counted.{HaveRoom}
 use Rattle.mm_catalog.proofs.Lists.{whole, get_within}
 use Rattle.mm_catalog.proofs.Back.{lead_back}
 use Rattle.mm_catalog.proofs.Declared.{there_at, current_at}

@@ -1,0 +1,332 @@
+-- Relations whose rows are counted anew, one link after another.
+use Rattle.std.proofs.Common.{◌≡◌, ◌≢◌, ℕ, zero, suc, ◌<◌, ◌≤◌, ◌+◌, ◌-◌, ◌*◌, Bool, true, false, cond, List, [], ◌∷◌, ◌++◌, Option, Some, None, IsSome, is_some, refl, sym, ap, ◌∙◌, subst, arith, length, length-set, set, eqb, add-zero, zero-add, inl, inr}
+use Rattle.std.specs.List.{All, slice_get, range_with_len, filter_map, cons_option}
+use Rattle.std.specs.Option.{option_map}
+use Rattle.std.specs.Ordering.{is_eq}
+use Rattle.std.specs.FinMap as finite
+use Rattle.std.proofs.lemmas.Bool.{cases_eq, cases_lt, eq-eqb, ne_eqb, and_from, and_left, and_right}
+use Rattle.std.proofs.lemmas.List.Elements.{All-set, All-weaker, filter_map-append}
+use Rattle.std.proofs.lemmas.List.Sums.{sum_by-append, sum_by-cons}
+use Rattle.std.proofs.lemmas.Option.{same_Some, slice_get_within}
+use Rattle.part_raw.specs.declared.tuple_ref.TupleRef.{TupleRef}
+use Rattle.part_raw.specs.TupleRefs.{ref_cmp}
+use Rattle.part_raw.specs.Store.{Tuples}
+use Rattle.part_raw.proofs.Lookup.{same_or_other}
+use Rattle.part_raw.proofs.Tuples.{same_ref_self, same_ref_other, get-insert_same, get-insert_other, held_tuple}
+use Rattle.mm_relation.specs.declared.row.Row.{Row}
+use Rattle.mm_relation.specs.Changes.{Refers, with_referrers}
+use Rattle.mm_relation.specs.State.{RelationState, IsKept}
+use Rattle.mm_catalog.specs.Linked.{Linked, link_at, row_links, is_link_to}
+use Rattle.mm_catalog.specs.Recounted.{IsRecounted, AreRecounted, HaveReferrers}
+use Rattle.mm_catalog.specs.Counted.{IsHeldIn, HaveRoom, HaveAtLeast, AreCountedBy, naming, none}
+use Rattle.mm_catalog.proofs.Lists.{get_within, get-set_same, get-set_other}
+
+-- ---- what is recounted
+
+pub IsRecounted-refl : (s : RelationState) → IsRecounted s s
+IsRecounted-refl s = record { rows = λ r. refl; same = refl }
+
+pub IsRecounted-trans : (s t u : RelationState) → IsRecounted s t → IsRecounted t u → IsRecounted s u
+IsRecounted-trans s t u a b = record {
+  rows = λ r. b.rows r ∙ a.rows r;
+  same = b.same ∙ ap (λ (v : RelationState). record v { rows = u.rows }) a.same;
+}
+
+-- a row whose number of referrers changes
+pub IsRecounted-refers : (s t : RelationState) (r : TupleRef) (count : ℕ → ℕ) → IsSome (finite.get s.rows r) → Refers s t r count → IsRecounted s t
+IsRecounted-refers s t r count held refers =
+    let found = held_tuple s.rows r held in
+    let now = with_referrers (count found.0.referrers) found.0 in
+    let rows = refers.rows found.0 found.1 in
+    record {
+      rows = λ q.
+          ap (λ (tuples : Tuples Row). option_map (with_referrers 0) (finite.get tuples q)) rows
+          ∙ elim (same_or_other q r) [
+            | inl same ↦
+                ap (λ p. option_map (with_referrers 0) (finite.get (finite.insert s.rows r now) p)) same
+                ∙ ap (option_map (with_referrers 0)) (get-insert_same s.rows r now)
+                ∙ sym (ap (option_map (with_referrers 0)) found.1)
+                ∙ sym (ap (λ p. option_map (with_referrers 0) (finite.get s.rows p)) same)
+            | inr other ↦ ap (option_map (with_referrers 0)) (get-insert_other s.rows r q now other)
+          ];
+      same = refers.same;
+    }
+
+pub AreRecounted-refl : (relations : List RelationState) → AreRecounted relations relations
+AreRecounted-refl relations = record {
+  count = refl;
+  each = λ k s t a b. subst (IsRecounted s) (same_Some s t (sym a ∙ b)) (IsRecounted-refl s);
+}
+
+pub AreRecounted-trans : (old mid new : List RelationState) → AreRecounted old mid → AreRecounted mid new → AreRecounted old new
+AreRecounted-trans old mid new a b = record {
+  count = b.count ∙ a.count;
+  each = λ k s u at here.
+      let t = get_within mid k (omega (arith, a.count, slice_get_within old k s at)) in
+      IsRecounted-trans s t.0 u (a.each k s t.0 at t.1) (b.each k t.0 u t.1 here);
+}
+
+-- one relation among others
+pub AreRecounted-set : (relations : List RelationState) (n : ℕ) (s t : RelationState) → slice_get relations n ≡ Some s → IsRecounted s t → AreRecounted relations (set relations n t)
+AreRecounted-set relations n s t at changed = record {
+  count = length-set relations n t;
+  each = λ k u v here there.
+      elim (cases_eq k n) [
+        | inl e ↦
+            let first : s ≡ u = same_Some s u (sym at ∙ ap (slice_get relations) (sym e) ∙ here) in
+            let second : t ≡ v = same_Some t v (sym (get-set_same relations n t (slice_get_within relations n s at)) ∙ ap (slice_get (set relations n t)) (sym e) ∙ there) in
+            subst (λ w. IsRecounted w v) first (subst (IsRecounted s) second changed)
+        | inr other ↦
+            subst (IsRecounted u) (same_Some u v (sym here ∙ sym (get-set_other relations n k t other) ∙ there)) (IsRecounted-refl u)
+      ];
+}
+
+-- a row that is held stays held
+pub recounted_held : (s t : RelationState) (r : TupleRef) (row : Row) → IsRecounted s t → finite.get s.rows r ≡ Some row → (now : Row) × (finite.get t.rows r ≡ Some now) × (with_referrers 0 now ≡ with_referrers 0 row)
+recounted_held s t r row h at = some_after (finite.get t.rows r) (h.rows r ∙ ap (option_map (with_referrers 0)) at)
+  where
+    some_after : (o : Option Row) → option_map (with_referrers 0) o ≡ Some (with_referrers 0 row) → (now : Row) × (o ≡ Some now) × (with_referrers 0 now ≡ with_referrers 0 row)
+    some_after None e = absurd (cc)
+    some_after (Some now) e = (now, refl, same_Some (with_referrers 0 now) (with_referrers 0 row) e)
+
+-- and was held
+pub recounted_before : (s t : RelationState) (r : TupleRef) (now : Row) → IsRecounted s t → finite.get t.rows r ≡ Some now → (row : Row) × (finite.get s.rows r ≡ Some row) × (with_referrers 0 row ≡ with_referrers 0 now)
+recounted_before s t r now h at =
+    recounted_held t s r now (record { rows = λ q. sym (h.rows q); same = sym (ap (λ (v : RelationState). record v { rows = s.rows }) h.same) }) at
+
+-- what is held stays held
+pub held_still : (old new : List RelationState) (link : Linked) → AreRecounted old new → IsHeldIn old link → IsHeldIn new link
+held_still old new link h was =
+    let t = get_within new link.0 (omega (arith, h.count, slice_get_within old link.0 was.0 was.1)) in
+    let found = held_tuple was.0.rows link.1 was.2 in
+    let now = recounted_held was.0 t.0 link.1 found.0 (h.each link.0 was.0 t.0 was.1 t.1) found.1 in
+    (t.0, t.1, ap is_some now.1)
+
+pub all_held_still : (old new : List RelationState) (links : List Linked) → AreRecounted old new → All (IsHeldIn old) links → All (IsHeldIn new) links
+all_held_still old new links h all = All-weaker (IsHeldIn old) (IsHeldIn new) (λ link. held_still old new link h) links all
+
+-- ---- how often links name a row
+
+-- one where a test passes
+abbrev pub one_if : Bool → ℕ
+one_if b = cond b 1 0
+
+pub naming-append : (xs ys : List Linked) (table : ℕ) (r : TupleRef) → naming (xs ++ ys) table r ≡ naming xs table r + naming ys table r
+naming-append xs ys table r = sum_by-append (λ l. cond (is_link_to table r l) 1 0) xs ys
+
+pub naming-one : (link : Linked) (table : ℕ) (r : TupleRef) → naming (link ∷ []) table r ≡ one_if (is_link_to table r link)
+naming-one link table r = sum_by-cons (λ l. cond (is_link_to table r l) 1 0) link [] ∙ add-zero (one_if (is_link_to table r link))
+
+pub naming_itself : (table : ℕ) (r : TupleRef) → naming ((table, r) ∷ []) table r ≡ 1
+naming_itself table r = naming-one (table, r) table r ∙ ap one_if (and_from (eqb table table) (is_eq (ref_cmp r r)) (eq-eqb table table refl) (same_ref_self r))
+
+naming_other_table : (table n : ℕ) (r to : TupleRef) → table ≢ n → naming ((n, to) ∷ []) table r ≡ 0
+naming_other_table table n r to differs = naming-one (n, to) table r ∙ ap one_if (and_left (eqb n table) (is_eq (ref_cmp to r)) (ne_eqb n table (λ e. differs (sym e))))
+
+naming_other_row : (table n : ℕ) (r to : TupleRef) → r ≢ to → naming ((n, to) ∷ []) table r ≡ 0
+naming_other_row table n r to differs = naming-one (n, to) table r ∙ ap one_if (and_right (eqb n table) (is_eq (ref_cmp to r)) (same_ref_other to r (λ e. differs (sym e))))
+
+pub naming-most : (link : Linked) (table : ℕ) (r : TupleRef) → naming (link ∷ []) table r ≤ 1
+naming-most link table r = elim (is_link_to table r link) as (λ b. naming (link ∷ []) table r ≡ one_if b → naming (link ∷ []) table r ≤ 1) [
+  | true ↦ λ e. omega (arith, e)
+  | false ↦ λ e. omega (arith, e)
+] (naming-one link table r)
+
+-- ---- what is counted
+
+-- nothing comes and nothing goes
+pub counted_none : (relations : List RelationState) → All IsKept relations → AreCountedBy relations relations none none
+counted_none relations kept = record {
+  recounted = AreRecounted-refl relations;
+  kept = kept;
+  counts = λ table s t r row now at here e f.
+      let same : s ≡ t = same_Some s t (sym at ∙ here) in
+      let one : row ≡ now = same_Some row now (sym e ∙ ap (λ (u : RelationState). finite.get u.rows r) same ∙ f) in
+      let count : row.referrers ≡ now.referrers = ap (λ (w : Row). w.referrers) one in
+      omega (arith, count);
+}
+
+-- as many, told otherwise
+pub counted_as : (old new : List RelationState) (m f n g : ℕ → TupleRef → ℕ) → ((table : ℕ) (r : TupleRef) → m table r ≡ n table r) → ((table : ℕ) (r : TupleRef) → f table r ≡ g table r) → AreCountedBy old new m f → AreCountedBy old new n g
+counted_as old new m f n g up down h = record {
+  recounted = h.recounted;
+  kept = h.kept;
+  counts = λ table s t r row now at here e d. omega (arith, h.counts table s t r row now at here e d, up table r, down table r);
+}
+
+-- one change after another
+pub counted_then : (old mid new : List RelationState) (m f n g : ℕ → TupleRef → ℕ) → AreCountedBy old mid m f → AreCountedBy mid new n g → AreCountedBy old new (λ table r. m table r + n table r) (λ table r. f table r + g table r)
+counted_then old mid new m f n g a b = record {
+  recounted = AreRecounted-trans old mid new a.recounted b.recounted;
+  kept = b.kept;
+  counts = λ table s u r row now at here e d.
+      let t = get_within mid table (omega (arith, a.recounted.count, slice_get_within old table s at)) in
+      let between = recounted_held s t.0 r row (a.recounted.each table s t.0 at t.1) e in
+      let first = a.counts table s t.0 r row between.0 at t.1 e between.1 in
+      let second = b.counts table t.0 u r between.0 now t.1 here between.1 d in
+      omega (arith, first, second);
+}
+
+-- links that come and go after others
+pub up_then : (old mid new : List RelationState) (m n all : ℕ → TupleRef → ℕ) → ((table : ℕ) (r : TupleRef) → all table r ≡ m table r + n table r) → AreCountedBy old mid m none → AreCountedBy mid new n none → AreCountedBy old new all none
+up_then old mid new m n all both a b =
+    counted_as old new (λ table r. m table r + n table r) (λ table r. 0 + 0) all none (λ table r. sym (both table r)) (λ table r. refl) (counted_then old mid new m none n none a b)
+
+pub down_then : (old mid new : List RelationState) (f g all : ℕ → TupleRef → ℕ) → ((table : ℕ) (r : TupleRef) → all table r ≡ f table r + g table r) → AreCountedBy old mid none f → AreCountedBy mid new none g → AreCountedBy old new none all
+down_then old mid new f g all both a b =
+    counted_as old new (λ table r. 0 + 0) (λ table r. f table r + g table r) none all (λ table r. refl) (λ table r. sym (both table r)) (counted_then old mid new none f none g a b)
+
+-- a row as it was
+pub counted_row : (old new : List RelationState) (m f : ℕ → TupleRef → ℕ) → AreCountedBy old new m f → (table : ℕ) (t : RelationState) (r : TupleRef) (now : Row) → slice_get new table ≡ Some t → finite.get t.rows r ≡ Some now
+    → (s : RelationState) × (row : Row) × (slice_get old table ≡ Some s) × (finite.get s.rows r ≡ Some row) × (now.referrers + f table r ≡ row.referrers + m table r)
+counted_row old new m f h table t r now here d =
+    let s = get_within old table (omega (arith, h.recounted.count, slice_get_within new table t here)) in
+    let before = recounted_before s.0 t r now (h.recounted.each table s.0 t s.1 here) d in
+    (s.0, before.0, s.1, before.1, h.counts table s.0 t r before.0 now s.1 here before.1 d)
+
+-- what was counted is counted anew
+pub counted_up : (old new : List RelationState) (m count : ℕ → TupleRef → ℕ) → AreCountedBy old new m none → HaveReferrers old count → HaveReferrers new (λ table r. count table r + m table r)
+counted_up old new m count h counted table t r now here d =
+    let was = counted_row old new m none h table t r now here d in
+    omega (arith, was.4, counted table was.0 r was.1 was.2 was.3)
+
+pub counted_down : (old new : List RelationState) (f count : ℕ → TupleRef → ℕ) → AreCountedBy old new none f → HaveReferrers old count → HaveReferrers new (λ table r. count table r - f table r)
+counted_down old new f count h counted table t r now here d =
+    let was = counted_row old new none f h table t r now here d in
+    omega (arith, was.4, counted table was.0 r was.1 was.2 was.3)
+
+-- there is room left, and there are referrers enough left
+pub room_left : (old now : List RelationState) (m : ℕ → TupleRef → ℕ) (all n : ℕ) → AreCountedBy old now m none → ((table : ℕ) (r : TupleRef) → m table r + n ≤ all) → HaveRoom old all → HaveRoom now n
+room_left old now m all n h few room table t r row here d =
+    let was = counted_row old now m none h table t r row here d in
+    omega (arith, was.4, few table r, room table was.0 r was.1 was.2 was.3)
+
+pub enough_left : (old now : List RelationState) (f next all : ℕ → TupleRef → ℕ) → AreCountedBy old now none f → ((table : ℕ) (r : TupleRef) → f table r + next table r ≤ all table r) → HaveAtLeast old all → HaveAtLeast now next
+enough_left old now f next all h few enough table t r row here d =
+    let was = counted_row old now none f h table t r row here d in
+    omega (arith, was.4, few table r, enough table was.0 r was.1 was.2 was.3)
+
+-- ---- one row
+
+-- the number of one row changes
+module _ (relations : List RelationState) (n : ℕ) (s t : RelationState) (to : TupleRef) (count : ℕ → ℕ) (m f : ℕ) (there : slice_get relations n ≡ Some s) (held : IsSome (finite.get s.rows to)) (refers : Refers s t to count) (changes : (row : Row) → finite.get s.rows to ≡ Some row → count row.referrers + f ≡ row.referrers + m) where
+  at_table : (r : TupleRef) (row now : Row) → finite.get s.rows r ≡ Some row → finite.get t.rows r ≡ Some now → now.referrers + f * naming ((n, to) ∷ []) n r ≡ row.referrers + m * naming ((n, to) ∷ []) n r
+  at_table r row now was is =
+      let found = held_tuple s.rows to held in
+      let other = with_referrers (count found.0.referrers) found.0 in
+      let rows = refers.rows found.0 found.1 in
+      elim (same_or_other r to) [
+        | inl itself ↦
+            let before : row ≡ found.0 = same_Some row found.0 (sym was ∙ ap (finite.get s.rows) itself ∙ found.1) in
+            let after : now ≡ other = same_Some now other (sym is ∙ ap (finite.get t.rows) itself ∙ ap (λ tuples. finite.get tuples to) rows ∙ get-insert_same s.rows to other) in
+            let one : naming ((n, to) ∷ []) n r ≡ 1 = ap (naming ((n, to) ∷ []) n) itself ∙ naming_itself n to in
+            let had : row.referrers ≡ found.0.referrers = ap (λ (w : Row). w.referrers) before in
+            let has : now.referrers ≡ count found.0.referrers = ap (λ (w : Row). w.referrers) after in
+            let up : m * naming ((n, to) ∷ []) n r ≡ m * 1 = ap (λ k. m * k) one in
+            let down : f * naming ((n, to) ∷ []) n r ≡ f * 1 = ap (λ k. f * k) one in
+            omega (arith, up, down, had, has, changes found.0 found.1)
+        | inr differs ↦
+            let alike : now ≡ row = same_Some now row (sym is ∙ ap (λ tuples. finite.get tuples r) rows ∙ get-insert_other s.rows to r other differs ∙ was) in
+            let same : row.referrers ≡ now.referrers = ap (λ (w : Row). w.referrers) (sym alike) in
+            let up : m * naming ((n, to) ∷ []) n r ≡ m * 0 = ap (λ k. m * k) (naming_other_row n n r to differs) in
+            let down : f * naming ((n, to) ∷ []) n r ≡ f * 0 = ap (λ k. f * k) (naming_other_row n n r to differs) in
+            omega (arith, up, down, same)
+      ]
+
+  pub counted_one : All IsKept relations → IsKept t → AreCountedBy relations (set relations n t) (λ table r. m * naming ((n, to) ∷ []) table r) (λ table r. f * naming ((n, to) ∷ []) table r)
+  counted_one kept now_kept = record {
+    recounted = AreRecounted-set relations n s t there (IsRecounted-refers s t to count held refers);
+    kept = All-set IsKept relations n t now_kept kept;
+    counts = λ table u v r row now at here e d.
+        elim (cases_eq table n) [
+          | inl same ↦
+              let first : u ≡ s = same_Some u s (sym at ∙ ap (slice_get relations) same ∙ there) in
+              let second : v ≡ t = same_Some v t (sym here ∙ ap (slice_get (set relations n t)) same ∙ get-set_same relations n t (slice_get_within relations n s there)) in
+              subst (λ k. now.referrers + f * naming ((n, to) ∷ []) k r ≡ row.referrers + m * naming ((n, to) ∷ []) k r) (sym same)
+              (at_table r row now (ap (λ (w : RelationState). finite.get w.rows r) (sym first) ∙ e) (ap (λ (w : RelationState). finite.get w.rows r) (sym second) ∙ d))
+          | inr other ↦
+              let alike : u ≡ v = same_Some u v (sym at ∙ sym (get-set_other relations n table t other) ∙ here) in
+              let one : row ≡ now = same_Some row now (sym e ∙ ap (λ (w : RelationState). finite.get w.rows r) alike ∙ d) in
+              let same : row.referrers ≡ now.referrers = ap (λ (w : Row). w.referrers) one in
+              let up : m * naming ((n, to) ∷ []) table r ≡ m * 0 = ap (λ k. m * k) (naming_other_table table n r to other) in
+              let down : f * naming ((n, to) ∷ []) table r ≡ f * 0 = ap (λ k. f * k) (naming_other_table table n r to other) in
+              omega (arith, up, down, same)
+        ];
+  }
+
+-- ---- the links of a row, column by column
+
+range_more : (a i : ℕ) → range_with_len a (suc i) ≡ range_with_len a i ++ (a + i) ∷ []
+range_more a zero = ap (λ n. n ∷ []) (sym (add-zero a))
+range_more a (suc i) =
+    ap (λ ns. a ∷ ns) (range_more (a + 1) i)
+    ∙ (let same : a + 1 + i ≡ a + suc i = omega arith in ap (λ n. a ∷ (range_with_len (a + 1) i ++ n ∷ [])) same)
+
+module _ (targets : List (Option ℕ)) (row : Row) where
+  -- the links in the first columns
+  abbrev pub first_links : ℕ → List Linked
+  first_links i = filter_map (link_at targets row) (range_with_len 0 i)
+
+  pub links_more : (i : ℕ) → first_links (i + 1) ≡ first_links i ++ cons_option (link_at targets row i) []
+  links_more i =
+      let next : i + 1 ≡ suc i = omega arith in
+      ap first_links next ∙ ap (filter_map (link_at targets row)) (range_more 0 i)
+      ∙ filter_map-append (link_at targets row) (range_with_len 0 i) ((0 + i) ∷ [])
+      ∙ ap (λ n. first_links i ++ filter_map (link_at targets row) (n ∷ [])) (zero-add i)
+
+  naming_more : (i table : ℕ) (r : TupleRef) → naming (first_links (i + 1)) table r ≡ naming (first_links i) table r + naming (cons_option (link_at targets row i) []) table r
+  naming_more i table r = ap (λ ls. naming ls table r) (links_more i) ∙ naming-append (first_links i) (cons_option (link_at targets row i) []) table r
+
+  pub naming_link : (i : ℕ) (link : Linked) → link_at targets row i ≡ Some link → (table : ℕ) (r : TupleRef) → naming (first_links (i + 1)) table r ≡ naming (first_links i) table r + naming (link ∷ []) table r
+  naming_link i link e table r = naming_more i table r ∙ ap (λ o. naming (first_links i) table r + naming (cons_option o []) table r) e
+
+  pub naming_no_link : (i : ℕ) → link_at targets row i ≡ None → (table : ℕ) (r : TupleRef) → naming (first_links i) table r ≡ naming (first_links (i + 1)) table r
+  naming_no_link i e table r = let more = naming_more i table r ∙ ap (λ o. naming (first_links i) table r + naming (cons_option o []) table r) e in omega (arith, more)
+
+  -- so many columns have no more links
+  pub naming_few : (i table : ℕ) (r : TupleRef) → naming (first_links i) table r ≤ i
+  naming_few zero table r = omega arith
+  naming_few (suc i) table r =
+      let next : i + 1 ≡ suc i = omega arith in
+      let more : naming (first_links (suc i)) table r ≡ naming (first_links i) table r + naming (cons_option (link_at targets row i) []) table r = ap (λ n. naming (first_links n) table r) (sym next) ∙ naming_more i table r in
+      omega (arith, naming_few i table r, more, at_most (link_at targets row i))
+    where
+      at_most : (o : Option Linked) → naming (cons_option o []) table r ≤ 1
+      at_most None = omega arith
+      at_most (Some link) = naming-most link table r
+
+  pub naming_within : (i n table : ℕ) (r : TupleRef) → i ≤ n → naming (first_links i) table r ≤ naming (first_links n) table r
+  naming_within i zero table r h = let same : i ≡ 0 = omega arith in rw same (omega arith)
+  naming_within i (suc n) table r h = elim (cases_lt n i) [
+    | inl over ↦ let last : i ≡ suc n = omega (arith, over, h) in rw last (omega arith)
+    | inr within ↦
+        let next : n + 1 ≡ suc n = omega arith in
+        let more : naming (first_links (suc n)) table r ≡ naming (first_links n) table r + naming (cons_option (link_at targets row n) []) table r = ap (λ k. naming (first_links k) table r) (sym next) ∙ naming_more n table r in
+        omega (arith, naming_within i n table r within, more)
+  ]
+
+  -- a link in a column is one of the row's
+  link_among : (P : Linked → Type 0) (a n k : ℕ) (link : Linked) → All P (filter_map (link_at targets row) (range_with_len a n)) → a ≤ k → k < a + n → link_at targets row k ≡ Some link → P link
+  link_among P a zero k link all above below e = absurd (omega arith)
+  link_among P a (suc n) k link all above below e =
+      elim (cases_eq k a) [
+        | inl here ↦
+            let first : link_at targets row a ≡ Some link = ap (link_at targets row) (sym here) ∙ e in
+            let listed : All P (link ∷ filter_map (link_at targets row) (range_with_len (a + 1) n)) = subst (λ o. All P (cons_option o (filter_map (link_at targets row) (range_with_len (a + 1) n)))) first all in
+            listed 0 link (omega arith)
+        | inr other ↦
+            link_among P (a + 1) n k link (behind (link_at targets row a) all) (omega (arith, other)) (omega arith) e
+      ]
+    where
+      behind : (o : Option Linked) → All P (cons_option o (filter_map (link_at targets row) (range_with_len (a + 1) n))) → All P (filter_map (link_at targets row) (range_with_len (a + 1) n))
+      behind None all = all
+      behind (Some x) all = λ k d l. all (suc k) d (omega arith)
+
+  pub link_of_row : (P : Linked → Type 0) (k : ℕ) (link : Linked) → All P (row_links targets row) → k < length targets → link_at targets row k ≡ Some link → P link
+  unfolding row_links
+  link_of_row P k link all within e = link_among P 0 (length targets) k link all (omega arith) (omega arith) e
+
+  -- those of all columns are the row's
+  pub naming_row : (n : ℕ) → n ≡ length targets → (table : ℕ) (r : TupleRef) → naming (first_links n) table r ≡ naming (row_links targets row) table r
+  unfolding row_links
+  naming_row n e table r = ap (λ k. naming (first_links k) table r) e

@@ -1,0 +1,36 @@
+-- What holds of each link of a row, and of each of rows.
+use Rattle.std.proofs.Common.{◌≡◌, ℕ, suc, List, [], ◌∷◌, Option, Some, None, refl, ap, arith}
+use Rattle.std.specs.List.{All, Contains, cons_option, filter_map, flat_map}
+use Rattle.std.specs.Option.{option_and_then, option_map}
+use Rattle.std.proofs.lemmas.List.Elements.{All-append, All-cons, All-nil}
+use Rattle.std.proofs.lemmas.Option.{none-some, same_Some}
+use Rattle.part_raw.specs.declared.tuple_ref.TupleRef.{TupleRef}
+use Rattle.mm_relation.specs.declared.row.Row.{Row}
+use Rattle.mm_relation.specs.Reading.{link_in}
+use Rattle.mm_catalog.specs.Linked.{Linked, link_at, target_at}
+
+pub All-filter_map : {A B : Type 0} (P : B → Type 0) (f : A → Option B) (xs : List A) → ((x : A) (y : B) → Contains xs x → f x ≡ Some y → P y) → All P (filter_map f xs)
+All-filter_map P f [] h = All-nil P
+All-filter_map {A} {B} P f (x ∷ xs) h =
+    let rest = All-filter_map P f xs (λ z y there. h z y (suc there.0, omega (arith, there.1), there.2)) in
+    first (f x) (λ y. h x y (0, omega arith, refl)) rest
+  where
+    first : (o : Option B) → ((y : B) → o ≡ Some y → P y) → All P (filter_map f xs) → All P (cons_option o (filter_map f xs))
+    first None g rest = rest
+    first (Some y) g rest = All-cons P y (filter_map f xs) (g y refl) rest
+
+pub All-flat_map : {A B : Type 0} (P : B → Type 0) (f : A → List B) (xs : List A) → ((x : A) → Contains xs x → All P (f x)) → All P (flat_map f xs)
+All-flat_map P f [] h = All-nil P
+All-flat_map P f (x ∷ xs) h =
+    All-append P (f x) (flat_map f xs) (h x (0, omega arith, refl)) (All-flat_map P f xs (λ z there. h z (suc there.0, omega (arith, there.1), there.2)))
+
+-- the link in a column, by where it leads and the row that it names
+pub link_parts : (targets : List (Option ℕ)) (row : Row) (column : ℕ) (link : Linked) → link_at targets row column ≡ Some link → (target_at targets column ≡ Some link.0) × (link_in column row ≡ Some link.1)
+link_parts targets row column link e = parts (target_at targets column) (link_in column row) link e
+  where
+    parts : (o : Option ℕ) (p : Option TupleRef) (link : Linked) → option_and_then (λ table. option_map (λ to. (table, to)) p) o ≡ Some link → (o ≡ Some link.0) × (p ≡ Some link.1)
+    parts None p link e = absurd (none-some link e)
+    parts (Some table) None link e = absurd (none-some link e)
+    parts (Some table) (Some to) link e =
+        let same : (table, to) ≡ link = same_Some (table, to) link e in
+        (ap (λ (l : Linked). Some l.0) same, ap (λ (l : Linked). Some l.1) same)

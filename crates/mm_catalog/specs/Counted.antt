@@ -1,0 +1,42 @@
+-- The numbers of referrers, as links come and go.
+use Rattle.std.specs.Prelude.{◌≡◌, ℕ, ◌+◌, ◌^◌, ◌<◌, ◌≤◌, List, Some, IsSome, All, slice_get, count_by}
+use Rattle.std.specs.FinMap as finite
+use Rattle.part_raw.specs.declared.tuple_ref.TupleRef.{TupleRef}
+use Rattle.mm_relation.specs.declared.row.Row.{Row}
+use Rattle.mm_relation.specs.State.{RelationState, IsKept}
+use Rattle.mm_catalog.specs.declared.references.link.Link.{Link}
+use Rattle.mm_catalog.specs.Linked.{Linked, is_link_to}
+use Rattle.mm_catalog.specs.Recounted.{AreRecounted}
+
+-- a link as the pair that it is
+abbrev pub linked_of : Link → Linked
+linked_of link = (link.table.0, link.to)
+
+-- the link names a row that is held
+abbrev pub IsHeldIn : List RelationState → Linked → Type 0
+IsHeldIn relations link =
+    (s : RelationState) × (slice_get relations link.0 ≡ Some s) × IsSome (finite.get s.rows link.1)
+
+-- so many for each row of a table: none, or as many as these links name it
+abbrev pub none : ℕ → TupleRef → ℕ
+none table r = 0
+
+abbrev pub naming : List Linked → ℕ → TupleRef → ℕ
+naming links table r = count_by (is_link_to table r) links
+
+-- each row can have so many referrers more
+abbrev pub HaveRoom : List RelationState → ℕ → Type 0
+HaveRoom relations n =
+    (table : ℕ) (s : RelationState) (r : TupleRef) (row : Row) → slice_get relations table ≡ Some s → finite.get s.rows r ≡ Some row → row.referrers + n < 2 ^ 64
+
+-- each row has so many referrers at least
+abbrev pub HaveAtLeast : List RelationState → (ℕ → TupleRef → ℕ) → Type 0
+HaveAtLeast relations count =
+    (table : ℕ) (s : RelationState) (r : TupleRef) (row : Row) → slice_get relations table ≡ Some s → finite.get s.rows r ≡ Some row → count table r ≤ row.referrers
+
+-- each row has so many referrers more, and so many fewer, and nothing else differs
+pub record AreCountedBy (old new : List RelationState) (more fewer : ℕ → TupleRef → ℕ) : Type 0 where
+  pub recounted : AreRecounted old new
+  pub kept : All IsKept new
+  pub counts : (table : ℕ) (s t : RelationState) (r : TupleRef) (row now : Row) → slice_get old table ≡ Some s → slice_get new table ≡ Some t
+      → finite.get s.rows r ≡ Some row → finite.get t.rows r ≡ Some now → now.referrers + fewer table r ≡ row.referrers + more table r
