@@ -1,12 +1,13 @@
 -- Each entry stays in the bucket of its hash.
-use Rattle.std.proofs.Common.{◌≡◌, ◌≢◌, ℕ, ◌+◌, ◌*◌, ◌%◌, ◌<◌, ◌≤◌, not, cond, ◌==◌, ◌⊎◌, inl, inr, List, [], ◌∷◌, ◌++◌, length, get_or, set, refl, sym, ◌∙◌, arith, subst}
+use Rattle.std.proofs.Common.{◌≡◌, ◌≢◌, ℕ, ◌+◌, ◌*◌, ◌%◌, ◌<◌, ◌≤◌, not, cond, ◌==◌, inl, inr, List, [], ◌∷◌, ◌++◌, length, get_or, set, refl, sym, ◌∙◌, arith}
 use Rattle.std.specs.List.{All, count_by}
 use Rattle.std.proofs.lemmas.List.{get_or-set_same, get_or-set_other, length-set, get_or_append_left, length-append}
 use Rattle.std.proofs.lemmas.List.Elements.{All-head, All-tail, All-cons, All-same, All-append}
 use Rattle.std.proofs.Math.Seq.{get_or-append_seam}
 use Rattle.std.proofs.lemmas.List.Sums.{get_or-le-sum_by}
-use Rattle.std.proofs.lemmas.Bool.{cases_lt, cases_order, eq-eqb}
+use Rattle.std.proofs.lemmas.Bool.{cases_lt, eq-eqb, cases_eq}
 use Rattle.std.proofs.lemmas.Bool.Decides.{eqb_tells}
+use Rattle.common_lemmas.proofs.Elements.{All-append_parts}
 use Rattle.mm_index.specs.Bag.{IsSameBag}
 use Rattle.lin_hash.specs.Address.{bucket_by, IsPlaced}
 use Rattle.mm_index.proofs.Bags.{IsSameBag-sym}
@@ -37,12 +38,6 @@ module _ {A : Type 0} (n : A → ℕ) (i : ℕ) where
       let at : miss i (n (get_or ys k d)) ≤ count_by (λ e. not (n e == i)) ys = get_or-le-sum_by (λ e. miss i (n e)) ys k d inside in
       let none = sym (bag.count (λ e. not (n e == i))) ∙ none_elsewhere xs h in
       same-from_miss i (n (get_or ys k d)) (omega (arith, at, none))
-
-All-front : {A : Type 0} (P : A → Type 0) (xs ys : List A) → All P (xs ++ ys) → All P xs
-All-front P xs ys h = λ k d l. let n = length-append xs ys in subst P (get_or_append_left xs ys d k l) (h k d (omega arith))
-
-cases_eq : (i j : ℕ) → (i ≡ j) ⊎ (i ≢ j)
-cases_eq i j = elim (cases_order i j) [ inl same ↦ inl same | inr other ↦ inr (elim other [ inl l ↦ omega arith | inr g ↦ omega arith ]) ]
 
 -- one bucket is replaced
 pub IsPlaced-set : {A : Type 0} (short mark : ℕ) (bs : List (List (ℕ × A))) (i : ℕ) (new : List (ℕ × A)) → i < length bs → IsPlaced short mark bs → All (λ e. bucket_by short mark e.0 ≡ i) new → IsPlaced short mark (set bs i new)
@@ -113,7 +108,7 @@ module _ {A : Type 0} (short mark : ℕ) (bs : List (List (ℕ × A))) (pos : 0 
       let inside : mark < length bs = omega arith in
       let were : All (λ e. bucket_by short mark e.0 ≡ mark) (kept ++ moved) =
       All-same_bag (λ e. bucket_by short mark e.0) mark (get_or bs mark []) (kept ++ moved) bag (placed.at mark inside) in
-      let kept_were : All (λ e. bucket_by short mark e.0 ≡ mark) kept = All-front (λ e. bucket_by short mark e.0 ≡ mark) kept moved were in
+      let kept_were : All (λ e. bucket_by short mark e.0 ≡ mark) kept = (All-append_parts (λ e. bucket_by short mark e.0 ≡ mark) kept moved were).0 in
       let left : IsPlaced short (mark + 1) (set bs mark kept) = record {
         at = λ i in_set.
             elim (cases_eq i mark) [

@@ -3,7 +3,7 @@ use Rattle.std.proofs.Common.{◌≡◌, ℕ, ◌+◌, ◌<◌, Bool, List, [], 
 use Rattle.std.specs.List.{count_by, sum_by, flat_map, filter, All}
 use Rattle.std.proofs.lemmas.List.Elements.{filter-append}
 use Rattle.std.proofs.lemmas.List.{append-nil}
-use Rattle.mm_index.proofs.Filtered.{filter_none}
+use Rattle.common_lemmas.proofs.Filters.{filter_none}
 use Rattle.std.proofs.lemmas.List.Sums.{sum_by-cons, sum_by-append, sum_by-set}
 use Rattle.mm_index.specs.Bag.{IsSameBag}
 use Rattle.lin_hash.proofs.Moves.{count_by-append, count_by-cons}

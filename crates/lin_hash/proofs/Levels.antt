@@ -1,5 +1,5 @@
 -- The buckets at a level and a mark, through an insert, a remove, a split and a fold.
-use Rattle.std.proofs.Common.{◌≡◌, ◌≢◌, ℕ, ◌+◌, ◌-◌, ◌*◌, ◌%◌, ◌^◌, ◌<◌, ◌≤◌, inl, inr, List, [], ◌∷◌, ◌++◌, length, get_or, set, refl, sym, ap, ◌∙◌, arith, subst, lit<, add-one, replicate, ◌==◌, false}
+use Rattle.std.proofs.Common.{◌≡◌, ◌≢◌, ℕ, ◌+◌, ◌-◌, ◌*◌, ◌%◌, ◌^◌, ◌<◌, ◌≤◌, inl, inr, List, [], ◌∷◌, ◌++◌, length, get_or, set, refl, sym, ap, ◌∙◌, arith, subst, lit<, add-one, replicate, ◌==◌}
 use Rattle.std.specs.Prelude.{map}
 use Rattle.std.specs.List.{All}
 use Rattle.std.proofs.lemmas.List.{length-set, length-append, get_or-replicate}
@@ -158,13 +158,10 @@ IsAddressed-new {A} = record {
 }
 
 -- a hash's entries all stand in its bucket
-another_hash : (m hash : ℕ) → m ≢ hash → (m == hash) ≡ false
-another_hash m hash ne = ne_eqb m hash ne
-
 pub with_hash-bucket : {A : Type 0} (level mark : ℕ) (bs : List (List (ℕ × A))) → IsAddressed level mark bs → (hash i : ℕ) → i ≡ bucket_of level mark hash → with_hash hash (get_or bs i []) ≡ with_hash hash (joined bs)
 with_hash-bucket level mark bs h hash i at =
     ap (map (λ e. e.1))
     (sym (filter-joined (λ e. e.0 == hash) bs i (bucket_of-inside level mark bs h hash i at)
     (λ k inside ne j d l.
-    another_hash (get_or (get_or bs k []) j d).0 hash
+    ne_eqb (get_or (get_or bs k []) j d).0 hash
     (λ same. ne (sym (h.placed.at k inside j d l) ∙ ap (bucket_of level mark) same ∙ sym at)))))

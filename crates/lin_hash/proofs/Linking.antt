@@ -13,7 +13,7 @@ use Rattle.lin_hash.proofs.Joined.{joined}
 use Rattle.lin_hash.proofs.Placed.{length-placed}
 use Rattle.lin_hash.proofs.ChainLemmas.{IsChain-set}
 use Rattle.lin_hash.proofs.Hung.{AreHung-link, IsChain-first, loose-once}
-use Rattle.lin_hash.proofs.Rehung.{count_by-true}
+use Rattle.common_lemmas.proofs.Counts.{count_by-true}
 use Rattle.lin_hash.proofs.Taken.{used-first}
 use Rattle.lin_hash.proofs.Walks.{entries_from-chain}
 

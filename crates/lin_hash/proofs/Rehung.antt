@@ -4,7 +4,8 @@ use Rattle.std.specs.List.{count_by, sum_by, filter, Contains}
 use Rattle.std.proofs.lemmas.Bool.{cases_lt}
 use Rattle.std.proofs.lemmas.List.{length-set, get_or-set_same, get_or-set_other, set-set}
 use Rattle.std.proofs.lemmas.List.Elements.{All-nil}
-use Rattle.std.proofs.lemmas.List.Sums.{get_or-le-sum_by, sum_by-cons, count_by-le-length}
+use Rattle.std.proofs.lemmas.List.Sums.{get_or-le-sum_by, count_by-le-length}
+use Rattle.common_lemmas.proofs.Counts.{count_by-true}
 use Rattle.part_raw.specs.declared.tuple_ref.TupleRef.{TupleRef}
 use Rattle.mm_index.specs.Bag.{IsSameBag, with_hash}
 use Rattle.mm_index.proofs.Bags.{IsSameBag-trans, IsSameBag-sym, IsSameBag-from_same, IsSameBag-middle, IsSameBag-with_hash, Contains-with_hash, Contains-from_with_hash}
@@ -20,10 +21,6 @@ use Rattle.lin_hash.proofs.Placed.{times_at, times_at-once, entries-placed, leng
 use Rattle.lin_hash.proofs.Hung.{AreChains-change, AreChains-push}
 use Rattle.lin_hash.proofs.Buckets.{IsPlaced-set}
 use Rattle.lin_hash.proofs.Levels.{bucket_of-inside, mark-inside, with_hash-bucket, IsAddressed-taken, IsAddressed-split, IsAddressed-split_up}
-
-pub count_by-true : {A : Type 0} (xs : List A) → count_by (λ x. true) xs ≡ length xs
-count_by-true [] = refl
-count_by-true (x ∷ xs) = let rest = count_by-true xs in sum_by-cons (λ y. 1) x xs ∙ omega (arith, rest)
 
 -- the references under a hash, with their places or without
 with_hash-entries : (hash : ℕ) (es : List Placed) → with_hash hash (map entry_in es) ≡ map (λ y. y.0) (with_hash hash es)

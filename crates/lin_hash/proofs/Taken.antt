@@ -1,11 +1,12 @@
 -- A node that leaves its chain, a bucket that is folded, and nodes that are linked anew.
-use Rattle.std.proofs.Common.{◌≡◌, ℕ, zero, suc, ◌+◌, ◌-◌, ◌*◌, ◌^◌, ◌<◌, ◌≤◌, Bool, true, false, not, cond, ◌==◌, List, [], ◌∷◌, ◌++◌, length, get_or, set, take, map, replicate, Option, None, Some, IfSome, refl, sym, ap, ◌∙◌, arith, inl, inr, subst}
+use Rattle.std.proofs.Common.{◌≡◌, ℕ, zero, suc, ◌+◌, ◌-◌, ◌*◌, ◌^◌, ◌<◌, ◌≤◌, Bool, true, false, not, ◌==◌, List, [], ◌∷◌, ◌++◌, length, get_or, set, take, map, replicate, Option, None, Some, IfSome, refl, sym, ap, ◌∙◌, arith, inl, inr, subst}
 use Rattle.std.specs.List.{count_by, sum_by, filter, All}
 use Rattle.std.proofs.lemmas.List.Sums.{get_or-le-sum_by}
 use Rattle.std.proofs.Math.Seq.{get_or-append_seam}
 use Rattle.std.proofs.lemmas.Bool.{cases_lt}
 use Rattle.std.proofs.lemmas.List.{length-set, length-append, length-map, length-replicate, get_or-replicate, set-get_or, take_more, take_all, append-nil}
 use Rattle.std.proofs.lemmas.List.Elements.{All-nil, All-head, All-tail}
+use Rattle.common_lemmas.proofs.Filters.{filter_again}
 use Rattle.mm_index.specs.Bag.{IsSameBag}
 use Rattle.mm_index.proofs.Bags.{IsSameBag-trans, IsSameBag-from_same, length-same_bag}
 use Rattle.lin_hash.specs.Address.{bucket_by, bucket_of, IsPlaced, IsAddressed}
@@ -201,16 +202,8 @@ AreSpare-none ns l h none = record {
   held = IsSameBag-from_same _ _ (sym (unused-none 0 ns h));
 }
 
-filter_twice : {A : Type 0} (p : A → Bool) (xs : List A) → filter p (filter p xs) ≡ filter p xs
-filter_twice p [] = refl
-filter_twice p (x ∷ xs) =
-    elim (p x) as (λ b. p x ≡ b → filter p (cond b (x ∷ filter p xs) (filter p xs)) ≡ cond b (x ∷ filter p xs) (filter p xs)) [
-      | true ↦ λ e. rw e (ap (λ r. x ∷ r) (filter_twice p xs))
-      | false ↦ λ e. filter_twice p xs
-    ] refl
-
 pub entries-used : (ns : List Node) → entries_of (filter (λ n. n.in_use) ns) ≡ entries_of ns
-entries-used ns = ap (map entry_of) (filter_twice (λ n. n.in_use) ns)
+entries-used ns = ap (map entry_of) (filter_again (λ n. n.in_use) ns)
 
 -- there are as many entries as nodes in use
 pub length-entries : (ns : List Node) → length (entries_of ns) + length (unused_in ns) ≡ length ns

@@ -1,5 +1,5 @@
 -- Lemmas on blocks: what is written is read again.
-use Rattle.std.proofs.Common.{◌≡◌, ◌∙◌, ◌<◌, ◌++◌, ◌∷◌, [], ◌⊎◌, ℕ, List, Bool, true, false, Some, refl, sym, ap, length, map, arith, suc, inl, inr}
+use Rattle.std.proofs.Common.{◌≡◌, ◌∙◌, ◌<◌, ◌++◌, ◌∷◌, [], ◌⊎◌, ℕ, List, Bool, true, false, Some, refl, ap, length, map, arith, suc, inl, inr}
 use Rattle.std.specs.Prelude.{ℤ, pos, negsuc, neg_ℤ, FitsSigned, IsTrue, ◌==◌, ◌&&◌, nat_le, not}
 use Rattle.std.specs.Char.{digit_value}
 use Rattle.std.specs.Fmt.{decimal, signed_decimal}
@@ -11,6 +11,10 @@ use Rattle.std.proofs.lemmas.Fmt.{decimal_is_IsNumeral}
 use Rattle.std.proofs.lemmas.List.{length-map}
 use Rattle.std.proofs.lemmas.Slice.Zip.{AllZip-long}
 use Rattle.std.proofs.lemmas.Str.{is_utf8-from_IsUtf8}
+use Rattle.std.proofs.lemmas.List.Elements.{All-head, All-tail}
+use Rattle.plain_tables.proofs.BlockLemmas.{fits_64_bits}
+use Rattle.common_lemmas.proofs.Tests.{and_false}
+use Rattle.plain_tables.proofs.Canonical.{integer-text}
 use Rattle.csv.specs.Machine.{next_record}
 use Rattle.csv.specs.Reading.{default_config, records_from}
 use Rattle.csv.specs.declared.parser.State.TheVariants as st
@@ -23,7 +27,7 @@ use Rattle.plain_tables.specs.Tables.{Row}
 use Rattle.plain_tables.specs.declared.value.Value.{Value}
 use Rattle.plain_tables.specs.declared.value.Value.TheVariants as value
 use Rattle.mm_csv.proofs.CsvLemmas.{record-same}
-use Rattle.mm_csv.proofs.FieldLemmas.{SaysInteger, has-fits, integer-there, numeral-is}
+use Rattle.mm_csv.proofs.FieldLemmas.{SaysInteger, integer-there, numeral-is}
 use Rattle.mm_csv.proofs.PlainFields.{name-plain}
 use Rattle.mm_csv.proofs.ReaderLemmas.{one-record}
 use Rattle.mm_csv.proofs.ReadingLemmas.{cells, same-texts}
@@ -63,29 +67,16 @@ integer-spelled field z is = by (is_numeral (digits_of field) && has_64_bits (nu
         let (numeral, fits) = and_parts (is_numeral (digits_of field)) (has_64_bits (number_of field)) says in
         let some : Some (number_of field) ≡ Some z = rw says at is in
         let whole : number_of field ≡ z = cc in
-        rw (← whole) (has-fits (number_of field) fits, (digits_of field, numeral-is (digits_of field) numeral, sign field))
+        rw (← whole) (fits_64_bits (number_of field) fits, (digits_of field, numeral-is (digits_of field) numeral, sign field))
 
 pub fields-spell : FieldsSpellIntegers
 fields-spell = λ field z. (integer-spelled field z, spelled-integer field z)
-
--- the decimal digits of an integer spell it
-decimal-spelled : (z : ℤ) → FitsSigned w64 z → IsInteger (signed_decimal z) z
-decimal-spelled (pos n) fits =
-    let digits : IsNumeral 10 (decimal n) × (digits_value 10 (decimal n) ≡ n) = decimal_is_IsNumeral n (omega (arith, fits)) in
-    (fits, (decimal n, digits.0, inl (refl, ap pos (sym digits.1))))
-decimal-spelled (negsuc n) fits =
-    let digits : IsNumeral 10 (decimal (suc n)) × (digits_value 10 (decimal (suc n)) ≡ suc n) = decimal_is_IsNumeral (suc n) (omega (arith, fits)) in
-    (fits, (decimal (suc n), digits.0, inr (refl, ap (λ m. neg_ℤ (pos m)) (sym digits.1))))
 
 -- ---- values
 
 shown-integer : (z : ℤ) → FitsSigned w64 z → (length (signed_decimal z) == 0) ≡ false
 shown-integer (pos n) fits = ne_eqb (length (decimal n)) 0 (λ e. omega (arith, e, (decimal_is_IsNumeral n (omega (arith, fits))).0.0))
 shown-integer (negsuc n) fits = ne_eqb (suc (length (decimal (suc n)))) 0 (λ e. cc e)
-
-never-both : (b : Bool) → (b && false) ≡ false
-never-both true = refl
-never-both false = refl
 
 -- a text that isn't read as null
 shown-text : (null : Bool) (text : List ℕ) → (IsTrue null → 0 < length text) → (null && (length text == 0)) ≡ false
@@ -95,7 +86,7 @@ shown-text true text some = ne_eqb (length text) 0 (λ e. omega (arith, e, some 
 value-back : (column : BlockColumn) (v : Value) → Fits column v → field_value column (value_field v) ≡ Some v
 value-back column value.Null null = rw null refl
 value-back column (value.Int z) (kind, fits) =
-    rw (kind, shown-integer z fits, never-both column.null, spelled-integer (signed_decimal z) z (decimal-spelled z fits)) refl
+    rw (kind, shown-integer z fits, and_false column.null, spelled-integer (signed_decimal z) z (integer-text z fits)) refl
 value-back column (value.Text text) (kind, utf8, short, some) =
     rw (kind, shown-text column.null text some, is_utf8-from_IsUtf8 text utf8, short) refl
 
@@ -110,17 +101,10 @@ row-back columns row fits =
     let many = eq-eqb (length (map value_field row)) (length columns) (omega (arith, length-map row value_field, AllZip-long Fits columns row fits)) in
     rw many (cells-back columns row fits)
 
--- each of a list, with its first and the others
-first-of : {X : Type 0} (P : X → Type 0) (x : X) (xs : List X) → All P (x ∷ xs) → P x
-first-of P x xs all = all 0 x (omega arith)
-
-others-of : {X : Type 0} (P : X → Type 0) (x : X) (xs : List X) → All P (x ∷ xs) → All P xs
-others-of P x xs all = λ k d within. all (suc k) d (omega (arith, within))
-
 rows-back : (columns : List BlockColumn) (rows : List Row) → All (FitsRow columns) rows → all_of (map (row_of columns) (map (map value_field) rows)) ≡ Some rows
 rows-back columns [] fits = refl
 rows-back columns (row ∷ rows) fits =
-    rw (row-back columns row (first-of (FitsRow columns) row rows fits), rows-back columns rows (others-of (FitsRow columns) row rows fits)) refl
+    rw (row-back columns row (All-head (FitsRow columns) row rows fits), rows-back columns rows (All-tail (FitsRow columns) row rows fits)) refl
 
 -- ---- records
 
@@ -138,9 +122,9 @@ records-rows : (columns : List BlockColumn) (rows : List Row) → 0 < length col
 unfolding records_from next_record
 records-rows columns [] some fits = refl
 records-rows columns (row ∷ rows) some fits =
-    let size = AllZip-long Fits columns row (first-of (FitsRow columns) row rows fits) in
+    let size = AllZip-long Fits columns row (All-head (FitsRow columns) row rows fits) in
     records-front (map value_field row) (flat_map row_record rows) (omega (arith, some, size, length-map row value_field))
-    ∙ ap (λ records. map value_field row ∷ records) (records-rows columns rows some (others-of (FitsRow columns) row rows fits))
+    ∙ ap (λ records. map value_field row ∷ records) (records-rows columns rows some (All-tail (FitsRow columns) row rows fits))
 
 -- ---- the front of a block
 
@@ -167,6 +151,6 @@ pub blocks-back : BlocksReadBack
 blocks-back [] rows some named fit = absurd (omega arith)
 blocks-back (column ∷ columns) rows some named fit =
     let names = map (λ c. c.name) (column ∷ columns) in
-    let plain = unmarked column.name (map (λ c. c.name) columns) (flat_map row_record rows) (first-of (λ c. IsName c.name) column columns named) in
+    let plain = unmarked column.name (map (λ c. c.name) columns) (flat_map row_record rows) (All-head (λ c. IsName c.name) column columns named) in
     let behind = records-front names (flat_map row_record rows) (omega arith) ∙ ap (λ records. names ∷ records) (records-rows (column ∷ columns) rows some fit) in
     plain-block (column ∷ columns) (block_text names rows) plain ∙ rw (behind, same-texts names, rows-back (column ∷ columns) rows fit) refl

@@ -12,6 +12,7 @@ use Rattle.std.specs.Str.{IsAscii, IsUtf8, is_utf8}
 use Rattle.std.proofs.lemmas.Bool.{and_parts, eqb-true, le-ltb, lt-ltb, ltb-true, ne_eqb}
 use Rattle.std.proofs.lemmas.Fmt.{IsAscii-from_digits}
 use Rattle.std.proofs.lemmas.Str.{IsUtf8-from_ascii, IsUtf8-from_is_utf8, IsUtf8-nil, is_utf8-from_IsUtf8}
+use Rattle.plain_tables.proofs.BlockLemmas.{fits_64_bits}
 use Rattle.plain_tables.specs.CsvReading.{text_of}
 use Rattle.plain_tables.specs.declared.value.Value.TheVariants as value
 
@@ -27,10 +28,6 @@ numeral-is ds is =
 
 pub is-numeral : (ds : List ℕ) → IsNumeral 10 ds → is_numeral ds ≡ true
 is-numeral ds (some, all) = rw (lt-ltb 0 (length ds) some, told.from ds all) refl
-
-pub has-fits : (z : ℤ) → has_64_bits z ≡ true → FitsSigned w64 z
-has-fits (pos n) has = record { sfits = ltb-true n (2 ^ 63) has }
-has-fits (negsuc n) has = record { sfits = ltb-true n (2 ^ 63) has }
 
 pub fits-has : (z : ℤ) → FitsSigned w64 z → has_64_bits z ≡ true
 fits-has (pos n) fits = lt-ltb n (2 ^ 63) fits.sfits
@@ -49,7 +46,7 @@ integer-absent field never = by (is_numeral (digits_of field) && has_64_bits (nu
     by : (b : Bool) → (is_numeral (digits_of field) && has_64_bits (number_of field)) ≡ b → integer_of field ≡ None
     by true is =
         let (numeral, fits) = and_parts (is_numeral (digits_of field)) (has_64_bits (number_of field)) is in
-        absurd (never (numeral-is (digits_of field) numeral, has-fits (number_of field) fits))
+        absurd (never (numeral-is (digits_of field) numeral, fits_64_bits (number_of field) fits))
     by false is = rw is refl
 
 -- What the library parses is the integer, where no plus stands in front.

@@ -1,7 +1,6 @@
 -- Lemmas on records that are written field by field: what stands there in the end is what the definitions of CSV say.
-use Rattle.std.proofs.Common.{◌≡◌, ◌∙◌, ◌++◌, ◌∷◌, [], ◌-◌, ◌<◌, ℕ, List, Bool, true, false, Option, refl, sym, ap, suc, length, subst, take, append-nil, append_assoc, arith}
+use Rattle.std.proofs.Common.{◌≡◌, ◌∙◌, ◌++◌, ◌∷◌, [], ◌<◌, ℕ, List, Bool, true, false, Option, refl, sym, ap, suc, length, subst, append-nil, append_assoc, arith}
 use Rattle.std.specs.Prelude.{◌==◌, ◌||◌, ◌&&◌, ℤ, pos, negsuc, FitsSigned, if◌then◌else◌}
-use Rattle.std.proofs.Math.Seq.{take-append_seam}
 use Rattle.std.proofs.lemmas.Bool.{ne_eqb}
 use Rattle.std.proofs.lemmas.Fmt.{decimal_nonempty}
 use Rattle.std.proofs.lemmas.Grind.{flat_map-append}
@@ -14,7 +13,7 @@ use Rattle.std.specs.Io.KnownBytes.{Appends}
 use Rattle.std.specs.List.{flat_map}
 use Rattle.plain_tables.specs.Csv.{calls_for_quotes, field_text, needs_quotes, quoted, record_text}
 use Rattle.mm_csv.specs.FullNames.{full_name_text}
-use Rattle.mm_csv.specs.Records.{AddsField, StandsInQuotes, comma, shown, shown_fields}
+use Rattle.mm_csv.specs.Records.{AddsField, comma, shown, shown_fields}
 use Rattle.mm_csv.specs.declared.full_name.FullName.{FullName}
 use Rattle.mm_csv.proofs.PlainFields.{integer-plain}
 
@@ -48,9 +47,6 @@ neither false needs empty n e = rw n refl
 
 pub plain-shown : (alone : Bool) (field : List ℕ) → (needs_quotes field || (alone && (length field == 0))) ≡ false → field ≡ shown alone field
 plain-shown alone field plain = rw plain refl
-
-pub quoted-shown : (alone : Bool) (field : List ℕ) → (needs_quotes field || (alone && (length field == 0))) ≡ true → quoted field ≡ shown alone field
-quoted-shown alone field must = rw must refl
 
 pub some-plain : (alone : Bool) (field : List ℕ) → needs_quotes field ≡ false → 0 < length field → field ≡ shown alone field
 some-plain alone [] plain some = absurd (omega (arith, some))
@@ -103,20 +99,3 @@ record-ended alone before now after fields some is body end =
     subst (Appends before after) (shown-record alone fields some is) (Appends-trans before now after _ _ body end)
 
 -- ---- the record of one field
-
-quoted-record : (field : List ℕ) → StandsInQuotes field → record_text (field ∷ []) ≡ quoted field ++ 10 ∷ []
-quoted-record [] stands = refl
-quoted-record (b ∷ field) stands = by (needs_quotes (b ∷ field)) refl
-  where
-    by : (needs : Bool) → needs_quotes (b ∷ field) ≡ needs → record_text ((b ∷ field) ∷ []) ≡ quoted (b ∷ field) ++ 10 ∷ []
-    by true is =
-        let whole : field_text (b ∷ field) ≡ quoted (b ∷ field) = rw is refl in
-        ap (λ t. t ++ 10 ∷ []) (append-nil (field_text (b ∷ field)) ∙ whole)
-    by false is = let no : true ≡ false = sym stands ∙ rw (is, some-bytes b field) refl in cc no
-
--- without its line feed it is the field between quotes
-pub quotes-left : (field record_of left : List ℕ) → StandsInQuotes field → record_of ≡ record_text (field ∷ []) → left ≡ take (length record_of - 1) record_of → left ≡ quoted field
-quotes-left field record_of left stands is rest =
-    let whole = is ∙ quoted-record field stands in
-    let long : length record_of - 1 ≡ length (quoted field) = let size = ap length whole ∙ length-append (quoted field) (10 ∷ []) in omega (arith, size) in
-    rest ∙ ap (λ n. take n record_of) long ∙ ap (take (length (quoted field))) whole ∙ take-append_seam (quoted field) (10 ∷ [])

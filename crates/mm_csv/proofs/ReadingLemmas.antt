@@ -5,11 +5,11 @@ use Rattle.std.specs.List.{prefix_len, zip}
 use Rattle.std.specs.Str.{bytes_eq}
 use Rattle.std.specs.Cmp.Lexicographic.{same_text}
 use Rattle.std.proofs.lemmas.Bool.{and_parts, eq-eqb}
-use Rattle.std.proofs.lemmas.List.{append-nil, get_or-map, length-map, map-append, take_all, take_more}
+use Rattle.std.proofs.lemmas.List.{get_or-map, length-map, map-append, take_all, take_more}
 use Rattle.std.proofs.lemmas.Slice.Zip.{get_or-zip, length-zip}
 use Rattle.std.proofs.lemmas.Cmp.{nat_list_eq_equiv}
 use lib.Pointwise.{pointwise}
-use Rattle.plain_tables.specs.CsvReading.{BlockColumn, BadRecord, Rows, all_of, field_value, is_header, row_of, rows_reading}
+use Rattle.plain_tables.specs.CsvReading.{BlockColumn, BadRecord, all_of, field_value, is_header, row_of, rows_reading}
 use Rattle.plain_tables.specs.Tables.{Row}
 use Rattle.plain_tables.specs.declared.value.Value.{Value}
 use Rattle.mm_csv.specs.BlockReading.{column_of, columns_of}
@@ -138,10 +138,6 @@ pub rows-more : (columns : List BlockColumn) (done : List (List (List ℕ))) (fi
     → all_of (map (row_of columns) done) ≡ Some rows → row_of columns fields ≡ Some row → all_of (map (row_of columns) (done ++ fields ∷ [])) ≡ Some (rows ++ row ∷ [])
 rows-more columns done fields rows row so_far is =
     rw (map-append (row_of columns) done (fields ∷ []), is) (all-push (map (row_of columns) done) rows row so_far)
-
-pub rows-done : (columns : List BlockColumn) (records done : List (List (List ℕ))) (rows : List Row) → records ≡ done ++ []
-    → all_of (map (row_of columns) done) ≡ Some rows → rows_reading columns records ≡ Rows rows
-rows-done columns records done rows whole so_far = rw (whole, append-nil done, so_far) refl
 
 -- a record that is no row, behind those that are
 all-stops : {X Y : Type 0} (f : X → Option Y) (done : List X) (bad : X) (more : List X) (rows : List Y) → all_of (map f done) ≡ Some rows → f bad ≡ None

@@ -1,18 +1,15 @@
 -- Lists that are the same bag.
-use Rattle.std.proofs.Common.{◌≡◌, ℕ, ◌+◌, ◌<◌, Bool, true, false, not, cond, ◌==◌, ◌&&◌, List, [], ◌∷◌, ◌++◌, length, get_or, refl, sym, ap, ◌∙◌, arith, subst, ◌≤◌}
+use Rattle.std.proofs.Common.{◌≡◌, ℕ, ◌+◌, ◌<◌, Bool, true, false, not, cond, ◌==◌, ◌&&◌, List, [], ◌∷◌, ◌++◌, length, get_or, refl, sym, ap, ◌∙◌, arith, subst}
 use Rattle.std.specs.List.{filter, count_by, swap_remove, Contains}
 use Rattle.std.specs.Prelude.{map}
 use Rattle.std.proofs.lemmas.List.{get_or_default}
 use Rattle.std.proofs.lemmas.List.Filters.{sum_by-filter_both}
-use Rattle.std.proofs.lemmas.List.Sums.{sum_by-cons, sum_by-append, sum_by_push, sum_by-swap_remove, get_or-le-sum_by}
+use Rattle.std.proofs.lemmas.List.Sums.{sum_by-cons, sum_by-append, sum_by_push, sum_by-swap_remove}
 use Rattle.std.specs.Bool.{Decides}
 use Rattle.std.proofs.lemmas.Bool.{eq-eqb, eqb-true}
-use Rattle.mm_index.proofs.Members.{Contains-cons, Contains-filter, Contains-from_filter, Contains-map, Contains-from_map}
+use Rattle.common_lemmas.proofs.Counts.{one, count_by-true, count_by-member, member-from_count_by}
+use Rattle.common_lemmas.proofs.Elements.{Contains-filter, Contains-from_filter, Contains-map, Contains-from_map}
 use Rattle.mm_index.specs.Bag.{IsSameBag, with_hash}
-
--- what one element adds to a count
-abbrev one : {A : Type 0} → (A → Bool) → A → ℕ
-one test x = cond (test x) 1 0
 
 pub IsSameBag-refl : {A : Type 0} (xs : List A) → IsSameBag xs xs
 IsSameBag-refl xs = record { count = λ test. refl }
@@ -63,15 +60,6 @@ IsSameBag-filter_both p xs = record {
   count = λ test. sum_by-append (one test) (filter p xs) (filter (λ x. not (p x)) xs) ∙ sum_by-filter_both p (λ x. not (p x)) (λ x. refl) (one test) xs;
 }
 
--- two lists joined either way round
-pub IsSameBag-swap : {A : Type 0} (xs ys : List A) → IsSameBag (xs ++ ys) (ys ++ xs)
-IsSameBag-swap xs ys = record {
-  count = λ test.
-      let here : count_by test (xs ++ ys) ≡ count_by test xs + count_by test ys = sum_by-append (one test) xs ys in
-      let there : count_by test (ys ++ xs) ≡ count_by test ys + count_by test xs = sum_by-append (one test) ys xs in
-      omega arith;
-}
-
 -- what `swap_remove` takes out, and what it leaves
 pub IsSameBag-swap_remove : {A : Type 0} (xs : List A) (i : ℕ) (x d : A) → i < length xs → get_or xs i x ≡ x → IsSameBag xs (x ∷ swap_remove xs i d)
 IsSameBag-swap_remove xs i x d inside e = record {
@@ -84,12 +72,8 @@ IsSameBag-swap_remove xs i x d inside e = record {
 }
 
 -- bags are as long as each other
-count_by-all : {A : Type 0} (xs : List A) → count_by (λ x. true) xs ≡ length xs
-count_by-all [] = refl
-count_by-all (x ∷ xs) = sum_by-cons (λ y. 1) x xs ∙ omega (arith, count_by-all xs)
-
 pub length-same_bag : {A : Type 0} (xs ys : List A) → IsSameBag xs ys → length xs ≡ length ys
-length-same_bag xs ys h = sym (count_by-all xs) ∙ h.count (λ x. true) ∙ count_by-all ys
+length-same_bag xs ys h = sym (count_by-true xs) ∙ h.count (λ x. true) ∙ count_by-true ys
 
 -- what a bag holds under a hash
 count_by-with_hash : {A : Type 0} (test : A → Bool) (hash : ℕ) (entries : List (ℕ × A)) → count_by test (with_hash hash entries) ≡ count_by (λ e. (e.0 == hash) && test e.1) entries
@@ -108,29 +92,10 @@ IsSameBag-with_hash hash {xs} {ys} h = record {
   count = λ test. count_by-with_hash test hash xs ∙ h.count (λ e. (e.0 == hash) && test e.1) ∙ sym (count_by-with_hash test hash ys);
 }
 
--- a bag's members
-count_by-of_member : {A : Type 0} (test : A → Bool) (xs : List A) (x : A) → Contains xs x → test x ≡ true → 0 < count_by test xs
-count_by-of_member test xs x h e =
-    let at : one test (get_or xs h.0 x) ≤ count_by test xs = get_or-le-sum_by (one test) xs h.0 x h.1 in
-    let passes : one test (get_or xs h.0 x) ≡ 1 = rw (h.2, e) refl in
-    omega arith
-
-member-from_count_by : {A : Type 0} (test : A → Bool) (xs : List A) → 0 < count_by test xs → (x : A) × Contains xs x × (test x ≡ true)
-member-from_count_by test [] h = absurd (omega arith)
-member-from_count_by {A} test (x ∷ xs) h =
-    let sum : count_by test (x ∷ xs) ≡ one test x + count_by test xs = sum_by-cons (one test) x xs in
-    elim (test x) as (λ b. test x ≡ b → (y : A) × Contains (x ∷ xs) y × (test y ≡ true)) [
-      | true ↦ λ e. (x, (0, omega arith, refl), e)
-      | false ↦ λ e.
-          let none : one test x ≡ 0 = rw e refl in
-          let rest = member-from_count_by test xs (omega (arith, h)) in
-          (rest.0, Contains-cons x xs rest.0 rest.1, rest.2)
-    ] refl
-
 -- where a test tells equal elements
 pub Contains-same_bag : {A : Type 0} (same : A → A → Bool) → ((a b : A) → Decides (same a b) (a ≡ b)) → (xs ys : List A) (x : A) → IsSameBag xs ys → Contains xs x → Contains ys x
 Contains-same_bag same decides xs ys x bag h =
-    let here : 0 < count_by (same x) xs = count_by-of_member (same x) xs x h ((decides x x).1 refl) in
+    let here : 0 < count_by (same x) xs = count_by-member (same x) xs x h ((decides x x).1 refl) in
     let there = member-from_count_by (same x) ys (rw (bag.count (same x)) at here) in
     subst (Contains ys) (sym ((decides x there.0).0 there.2)) there.1
 

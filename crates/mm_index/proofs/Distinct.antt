@@ -10,7 +10,7 @@ use Rattle.std.proofs.lemmas.List.Sums.{length-filter}
 use Rattle.std.proofs.lemmas.Map.Made.{is_member-Decides, length-from_same_keys, length-from_keys, IsDistinct-from_AllPairs, IsDistinct-from_count, AllPairs-from_IsDistinct}
 use Rattle.mm_index.specs.Bag.{IsSameBag}
 use Rattle.mm_index.proofs.Bags.{IsSameBag-sym, Contains-same_bag, length-same_bag}
-use Rattle.mm_index.proofs.Members.{Contains-filter, Contains-from_filter}
+use Rattle.common_lemmas.proofs.Elements.{Contains-filter, Contains-from_filter}
 
 module _ {A : Type 0} (same : A → A → Bool) (decides : (a b : A) → Decides (same a b) (a ≡ b)) (laws : IsEquivalence same) where
   same_members : (xs ys : List A) → ((x : A) → Contains xs x → Contains ys x) → ((x : A) → Contains ys x → Contains xs x) → (x : A) → is_member same xs x ≡ is_member same ys x

@@ -4,7 +4,6 @@ use Rattle.std.specs.List.{AllWithin}
 use Rattle.std.specs.declared.cmp.Ordering.TheVariants.{Less, Equal, Greater}
 use Rattle.std.specs.Ordering.{ordering_index, is_lt, is_eq}
 use Rattle.std.proofs.lemmas.List.{get_or_default}
-use Rattle.std.proofs.lemmas.List.Elements.{AllWithin-more}
 use Rattle.mm_index.specs.Range.{NeverFalls}
 
 -- what stands before low is below, and what stands from high on is not
@@ -58,11 +57,6 @@ pub record IsPassed {A : Type 0} (place : A → Ordering) (xs : List A) (first e
   pub within : end ≤ length xs
   pub equal : AllWithin (λ r. place r ≡ Equal) xs first end
 
-is_Equal : (o : Ordering) → is_eq o ≡ true → o ≡ Equal
-is_Equal Less e = cc
-is_Equal Equal e = refl
-is_Equal Greater e = cc
-
 Greater-above : (o p : Ordering) → p ≢ Less → is_eq p ≡ false → ordering_index p ≤ ordering_index o → o ≡ Greater
 Greater-above o Less h e l = absurd (h refl)
 Greater-above o Equal h e l = cc
@@ -71,14 +65,6 @@ Greater-above Equal Greater h e l = absurd (omega arith)
 Greater-above Greater Greater h e l = refl
 
 module _ {A : Type 0} (place : A → Ordering) (xs : List A) (first end : ℕ) (passed : IsPassed place xs first end) (c : A) where
-  pub IsPassed-more : end < length xs → is_eq (place (get_or xs end c)) ≡ true → IsPassed place xs first (end + 1)
-  IsPassed-more l e = record {
-    from_first = let h : first ≤ end = passed.from_first in omega arith;
-    within = omega arith;
-    equal = AllWithin-more (λ r. place r ≡ Equal) xs first end passed.equal
-        (λ d. is_Equal (place (get_or xs end d)) (rw (get_or_default xs end d c l) e));
-  }
-
   -- the rest stands above
   pub above_passed : NeverFalls place xs → AllWithin (λ r. place r ≢ Less) xs first (length xs) → is_eq (place (get_or xs end c)) ≡ false → AllWithin (λ r. place r ≡ Greater) xs end (length xs)
   above_passed in_order not_below e = λ k d l m.

@@ -3,14 +3,14 @@ use Rattle.std.proofs.Common.{◌≡◌, ◌≢◌, ◌+◌, ◌≤◌, Bool, tr
 use Rattle.std.specs.List.{filter, All, Contains}
 use Rattle.std.specs.declared.cmp.Ordering.TheVariants.{Less, Equal, Greater}
 use Rattle.std.specs.Ordering.{is_lt, is_gt, is_eq, ordering_index}
-use Rattle.std.proofs.lemmas.List.Elements.{All-filter, All-append, All-cons, All-contains, Contains-get_or, Contains-append_left, Contains-append_right, Contains-append_cases}
+use Rattle.std.proofs.lemmas.List.Elements.{All-filter, All-append, All-cons, All-contains, Contains-get_or, Contains-append_left, Contains-append_right}
 use Rattle.std.proofs.lemmas.Bool.{cases_order, true≢false}
 use Rattle.mm_index.specs.Bag.{IsSameBag}
 use Rattle.mm_index.specs.Order.{IsStrictOver, IsRising, insert_placed, insert_by, remove_by}
 use Rattle.mm_index.specs.Range.{NeverFalls}
 use Rattle.mm_index.proofs.Bags.{IsSameBag-trans, IsSameBag-cons, IsSameBag-from_same, IsSameBag-middle, IsSameBag-filter_both, length-same_bag}
-use Rattle.mm_index.proofs.Filtered.{filter_agree_on}
-use Rattle.mm_index.proofs.Members.{Contains-cons, Contains-cons_cases, Contains-filter, Contains-from_filter}
+use Rattle.common_lemmas.proofs.Filters.{filter_agree_on}
+use Rattle.common_lemmas.proofs.Elements.{Contains-cons, Contains-filter, Contains-from_filter}
 use Rattle.mm_index.proofs.Placed.{cmp_itself, split_at_member, remove_by_member}
 
 -- a fact of each member is one of each after an insert
@@ -37,23 +37,6 @@ Contains-insert_placed_itself place r xs =
 pub Contains-insert_by_itself : {A : Type 0} (cmp : A → A → Ordering) (r : A) (xs : List A) → Contains (insert_by cmp r xs) r
 unfolding insert_by
 Contains-insert_by_itself cmp r xs = Contains-insert_placed_itself (λ q. cmp q r) r xs
-
-pub Contains-insert_placed_cases : {A : Type 0} (place : A → Ordering) (r : A) (xs : List A) (q : A) → Contains (insert_placed place r xs) q → (q ≡ r) ⊎ Contains xs q
-unfolding insert_placed
-Contains-insert_placed_cases {A} place r xs q h =
-    let low : A → Bool = λ a. is_lt (place a) in
-    let high : A → Bool = λ a. is_gt (place a) in
-    elim (Contains-append_cases (filter low xs) (r ∷ filter high xs) q h) [
-      | inl front ↦ inr (Contains-from_filter low xs q front).0
-      | inr back ↦ elim (Contains-cons_cases r (filter high xs) q back) [
-        | inl same ↦ inl same
-        | inr behind ↦ inr (Contains-from_filter high xs q behind).0
-      ]
-    ]
-
-pub Contains-insert_by_cases : {A : Type 0} (cmp : A → A → Ordering) (r : A) (xs : List A) (q : A) → Contains (insert_by cmp r xs) q → (q ≡ r) ⊎ Contains xs q
-unfolding insert_by
-Contains-insert_by_cases cmp r xs q h = Contains-insert_placed_cases (λ q. cmp q r) r xs q h
 
 -- a list rises by each order that agrees with one by which it rises, at its members
 pub IsRising-agree : {A : Type 0} (cmp other : A → A → Ordering) (xs : List A) → ((p q : A) → Contains xs p → Contains xs q → other p q ≡ cmp p q) → IsRising cmp xs → IsRising other xs

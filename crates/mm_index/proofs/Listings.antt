@@ -20,8 +20,8 @@ use Rattle.mm_index.specs.Bag.{IsSameBag}
 use Rattle.mm_index.specs.Listing.{IsListing}
 use Rattle.mm_index.proofs.Bags.{IsSameBag-sym, Contains-same_bag, length-same_bag}
 use Rattle.mm_index.proofs.Distinct.{IsSameBag-from_members, AllPairs-same_bag}
-use Rattle.mm_index.proofs.Members.{Contains-cons, Contains-cons_cases}
-use Rattle.mm_index.proofs.Pairs.{AllPairs-head, AllPairs-tail}
+use Rattle.common_lemmas.proofs.Elements.{Contains-cons, Contains-cons_cases}
+use Rattle.common_lemmas.proofs.Pairs.{AllPairs-head, AllPairs-tail}
 
 abbrev same : TupleRef → TupleRef → Bool
 same = eq_by_cmp ref_cmp

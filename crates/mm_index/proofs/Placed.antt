@@ -7,29 +7,16 @@ use Rattle.std.proofs.lemmas.List.{get_or_default, take-append-drop, drop_more}
 use Rattle.std.proofs.lemmas.List.Elements.{All-filter, All-cons, Contains-get_or, filter_passes, filter-append}
 use Rattle.std.proofs.lemmas.List.Kept.{AllPairs-cons, AllPairs-filter}
 use Rattle.std.proofs.lemmas.Bool.{cases_order}
+use Rattle.common_lemmas.proofs.Orders.{is_lt-Less, Equal-from_reverse}
 use Rattle.mm_index.specs.Order.{IsStrictOver, IsRising, insert_placed, insert_by, remove_by}
-use Rattle.mm_index.proofs.Filtered.{filter_first, filter_second, filter_all, filter_agree_on, All-take_within, All-drop_within}
-use Rattle.mm_index.proofs.Pairs.{AllPairs-append}
-
-own_turn : (o : Ordering) → o ≡ ordering_reverse o → o ≡ Equal
-own_turn Less e = cc
-own_turn Equal e = refl
-own_turn Greater e = cc
-
-pub is_lt-not_Less : (o : Ordering) → o ≢ Less → is_lt o ≡ false
-is_lt-not_Less Less h = absurd (h refl)
-is_lt-not_Less Equal h = refl
-is_lt-not_Less Greater h = refl
+use Rattle.common_lemmas.proofs.Filters.{filter_first, filter_second, filter_all, filter_agree_on}
+use Rattle.common_lemmas.proofs.Elements.{All-take_within, All-drop_within}
+use Rattle.common_lemmas.proofs.Pairs.{AllPairs-append}
 
 pub Greater-from_neither : (o : Ordering) → o ≢ Less → o ≢ Equal → o ≡ Greater
 Greater-from_neither Less h k = absurd (h refl)
 Greater-from_neither Equal h k = absurd (k refl)
 Greater-from_neither Greater h k = refl
-
-is_Less : (o : Ordering) → is_lt o ≡ true → o ≡ Less
-is_Less Less e = refl
-is_Less Equal e = cc
-is_Less Greater e = cc
 
 is_Greater : (o : Ordering) → is_gt o ≡ true → o ≡ Greater
 is_Greater Less e = cc
@@ -63,10 +50,6 @@ insert_placed_by cmp place r xs agree =
     rw (low, high) refl
 
 module _ {A : Type 0} (cmp : A → A → Ordering) (r : A) (bs cs : List A) (below : All (λ q. cmp q r ≡ Less) bs) (above : All (λ q. cmp q r ≡ Greater) cs) where
-  pub insert_by_split : insert_by cmp r (bs ++ cs) ≡ bs ++ r ∷ cs
-  unfolding insert_by
-  insert_by_split = insert_placed_split (λ q. cmp q r) r bs cs below above
-
   -- and they close up where it is taken out
   pub remove_by_split : cmp r r ≡ Equal → remove_by cmp r (bs ++ r ∷ cs) ≡ bs ++ cs
   unfolding remove_by
@@ -80,7 +63,7 @@ module _ {A : Type 0} (cmp : A → A → Ordering) (r : A) (bs cs : List A) (bel
 module _ {A : Type 0} (covers : A → Type 0) (cmp : A → A → Ordering) (order : IsStrictOver covers cmp) where
   -- an element is Equal to itself
   pub cmp_itself : (a : A) → covers a → cmp a a ≡ Equal
-  cmp_itself a c = own_turn (cmp a a) (order.antisymm a a c c)
+  cmp_itself a c = Equal-from_reverse (cmp a a) (order.antisymm a a c c)
 
   -- below either way round
   pub cmp_from_Greater : (a b : A) → covers a → covers b → cmp a b ≡ Greater → cmp b a ≡ Less
@@ -103,7 +86,7 @@ module _ {A : Type 0} (covers : A → Type 0) (cmp : A → A → Ordering) (orde
       let before : All (λ b. All (R b) (r ∷ filter high xs)) (filter low xs) = λ k d l.
       let b : A = get_or (filter low xs) k d in
       let b_covered : covers b = All-filter low covers xs covered k d l in
-      let b_low : cmp b r ≡ Less = is_Less _ (filter_passes low xs k d l) in
+      let b_low : cmp b r ≡ Less = is_lt-Less _ (filter_passes low xs k d l) in
       All-cons (R b) r (filter high xs) b_low
       (λ j e m. order.trans b r (get_or (filter high xs) j e) b_covered r_covered (All-filter high covers xs covered j e m) b_low (above j e m))
       in

@@ -1,10 +1,10 @@
 -- The laws of a map of tuples, for this crate and its callers: what is found after a put, after a take and after a write.
 use Rattle.std.proofs.Common.{◌≡◌, ◌≢◌, ◌+◌, Bool, true, false, cond, Option, Some, None, is_some, IsSome, refl, sym, ap, ◌∙◌}
 use Rattle.std.specs.FinMap.{get, insert, remove, len, empty, get-empty, get-insert, get-remove, len-insert, same_map}
-use Rattle.std.specs.Ordering.{eq_by_cmp, is_eq}
+use Rattle.std.specs.Ordering.{eq_by_cmp}
 use Rattle.std.specs.Cmp.{eq_by_cmp_equiv}
-use Rattle.std.specs.declared.cmp.Ordering.{Ordering}
-use Rattle.std.specs.declared.cmp.Ordering.TheVariants.{Less, Equal, Greater}
+use Rattle.common_lemmas.proofs.Options.{is_some-Some}
+use Rattle.common_lemmas.proofs.Orders.{is_eq-Equal}
 use Rattle.part_raw.specs.declared.tuple_ref.TupleRef.{TupleRef}
 use Rattle.part_raw.specs.TupleRefs.{ref_cmp}
 use Rattle.part_raw.specs.Store.{Tuples}
@@ -12,11 +12,6 @@ use Rattle.part_raw.proofs.Refs.{ref_cmp_total, ref_cmp_exact}
 
 abbrev same_ref : TupleRef → TupleRef → Bool
 same_ref = eq_by_cmp ref_cmp
-
-is_eq-Equal : (o : Ordering) → is_eq o ≡ true → o ≡ Equal
-is_eq-Equal Equal e = refl
-is_eq-Equal Less e = absurd (cc)
-is_eq-Equal Greater e = absurd (cc)
 
 pub same_ref_self : (r : TupleRef) → same_ref r r ≡ true
 same_ref_self = (eq_by_cmp_equiv ref_cmp_total).refl
@@ -86,13 +81,9 @@ module _ {T : Type 0} where
         | false ↦ λ e. get-insert ref_cmp_total (remove tuples r) r tuple q ∙ ap (λ b. cond b (Some tuple) (get (remove tuples r) q)) e ∙ get-remove ref_cmp_total tuples r q ∙ ap (λ b. cond b None (get tuples q)) e
       ] refl
 
-  pub some_of : (o : Option T) → IsSome o → (tuple : T) × (o ≡ Some tuple)
-  some_of None held = absurd (cc)
-  some_of (Some tuple) held = (tuple, refl)
-
   -- what is held under a reference
   pub held_tuple : (tuples : Tuples T) (r : TupleRef) → IsSome (get tuples r) → (tuple : T) × (get tuples r ≡ Some tuple)
-  held_tuple tuples r held = some_of (get tuples r) held
+  held_tuple tuples r held = is_some-Some (get tuples r) held
 
   -- a take takes one
   pub len-remove_held : (tuples : Tuples T) (r : TupleRef) → IsSome (get tuples r) → len (remove tuples r) + 1 ≡ len tuples

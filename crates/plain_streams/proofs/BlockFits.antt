@@ -12,6 +12,7 @@ use Rattle.std.proofs.lemmas.Bool.{cases_Bool, false≢true, false_from_ne_true,
 use Rattle.std.proofs.lemmas.List.Elements.{All-nil, All-cons, All-head, All-tail}
 use Rattle.std.proofs.lemmas.Option.{none-some, same_Some}
 use Rattle.std.proofs.lemmas.Slice.Eq.{bytes_eq-Decides}
+use Rattle.plain_tables.proofs.BlockLemmas.{all_parts}
 use Rattle.plain_tables.specs.Names.{IsName}
 use Rattle.plain_tables.specs.Tables.{Table, Row, key_cmp, has_key_of}
 use Rattle.plain_tables.specs.Databases.{Database, is_named, table_named}
@@ -27,7 +28,9 @@ use Rattle.plain_tables.specs.declared.schema.ColKind.TheVariants as kind
 use Rattle.plain_tables.specs.declared.schema.Column.{Column}
 use Rattle.plain_tables.specs.declared.command.Limits.{Limits}
 use Rattle.plain_tables.proofs.HeldLemmas.{RowsFit}
-use Rattle.plain_tables.proofs.ListLemmas.{AllPairs-behind, find_satisfies, option_map_some}
+use Rattle.common_lemmas.proofs.Pairs.{AllPairs-behind}
+use Rattle.common_lemmas.proofs.Tests.{find_satisfies}
+use Rattle.common_lemmas.proofs.Options.{option_map_some, is_some-Some}
 use Rattle.plain_tables.proofs.ValueLemmas.{value_cmp-exact}
 use Rattle.plain_streams.specs.Dumps.{IsReadBack}
 
@@ -47,10 +50,6 @@ found-in_front p (z ∷ xs) ys x found = elim (cases_Bool (p z)) [
   | inl passes ↦ rw passes (rw passes at found)
   | inr fails ↦ rw fails (found-in_front p xs ys x (rw fails at found))
 ]
-
-some-there : {X : Type 0} (o : Option X) → is_some o ≡ true → (x : X) × (o ≡ Some x)
-some-there None some = absurd (false≢true some)
-some-there (Some x) some = (x, refl)
 
 -- ---- the tables that a table refers to
 
@@ -73,7 +72,7 @@ elsewhere : (tables front back : Database) (t : Table) → tables ≡ front ++ t
     → (o : Option (List ℕ)) → option_map_or (λ name. is_some (table_named name front)) o true ≡ true → IfSome o (IsElsewhere tables t)
 elsewhere tables front back t whole apart None refers = tt
 elsewhere tables front back t whole apart (Some name) refers =
-    let (u, found) = some-there (table_named name front) refers in
+    let (u, found) = is_some-Some (table_named name front) refers in
     let differ = AllPairs-behind (λ v w. v.name ≡ w.name → ⊥) front t back (subst (AllPairs (λ v w. v.name ≡ w.name → ⊥)) whole apart) in
     let (other, named) = find_satisfies (λ v. v.name ≡ t.name → ⊥) (is_named name) front u differ found in (
       u,
@@ -88,13 +87,6 @@ refers_elsewhere limits tables n t sound there =
     λ k c within. elsewhere tables front back t whole sound.apart (referred (get_or t.columns k c).kind) (refer k c within)
 
 -- ---- the columns of a block
-
--- what each of a list gives, where it gives all of it
-all_parts : {X : Type 0} (o : Option X) (os : List (Option X)) (ys : List X) → all_of (o ∷ os) ≡ Some ys
-    → (x : X) × (xs : List X) × (o ≡ Some x) × (all_of os ≡ Some xs) × (x ∷ xs ≡ ys)
-all_parts None os ys h = absurd (none-some ys h)
-all_parts (Some x) os ys h =
-    let rest = option_map_some (λ others. x ∷ others) (all_of os) ys h in (x, rest.0, refl, rest.1, rest.2)
 
 all_more : {X : Type 0} (o : Option X) (x : X) (os : List (Option X)) (xs : List X) → o ≡ Some x → all_of os ≡ Some xs → all_of (o ∷ os) ≡ Some (x ∷ xs)
 all_more o x os xs first rest = rw (first, rest) refl
@@ -116,7 +108,7 @@ pub columns-typed : (tables : Database) (columns : List Column) → All (λ c. i
     → (blocks : List BlockColumn) × (all_of (map (block_column tables) columns) ≡ Some blocks)
 columns-typed tables [] typed = ([], refl)
 columns-typed tables (c ∷ columns) typed =
-    let (k, type) = some-there (type_of tables c.kind) (All-head (λ d. is_some (type_of tables d.kind) ≡ true) c columns typed) in
+    let (k, type) = is_some-Some (type_of tables c.kind) (All-head (λ d. is_some (type_of tables d.kind) ≡ true) c columns typed) in
     let (blocks, rest) = columns-typed tables columns (All-tail (λ d. is_some (type_of tables d.kind) ≡ true) c columns typed) in
     let of : BaseKind → BlockColumn = λ b. record { name = c.name; kind = b; null = takes_null c.kind } in
     (of k ∷ blocks, all_more (block_column tables c) (of k) (map (block_column tables) columns) blocks (ap (option_map of) type) rest)

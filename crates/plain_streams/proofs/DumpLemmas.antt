@@ -9,7 +9,7 @@ use Rattle.std.proofs.lemmas.List.{length-map}
 use Rattle.std.proofs.lemmas.List.Elements.{All-head, All-tail}
 use Rattle.std.proofs.lemmas.List.Folds.{find_at}
 use Rattle.std.proofs.lemmas.Option.{none-some, same_Some, slice_get_within}
-use Rattle.std.proofs.lemmas.Slice.Eq.{bytes_eq-Decides}
+use Rattle.plain_tables.proofs.MeantLemmas.{has_name}
 use Rattle.plain_tables.specs.Tables.{Table, Row}
 use Rattle.plain_tables.specs.Databases.{Database, is_named, table_named}
 use Rattle.plain_tables.specs.References.{IsSound, IsSoundTable, key_type, own_type, referred, takes_null, type_of}
@@ -25,7 +25,8 @@ use Rattle.plain_tables.specs.declared.command.Limits.{Limits}
 use Rattle.plain_tables.specs.declared.command.Command.TheVariants.{Dump}
 use Rattle.plain_tables.specs.declared.numbers.TableNumber.{TableNumber}
 use Rattle.plain_tables.proofs.HeldLemmas.{RowsFit}
-use Rattle.plain_tables.proofs.ListLemmas.{All-at, find_satisfies, set_again, set_itself}
+use Rattle.common_lemmas.proofs.Elements.{All-at}
+use Rattle.common_lemmas.proofs.Places.{set_again, set_itself}
 use Rattle.mm_csv.specs.BlockReading.{block_records}
 use Rattle.mm_csv.proofs.BlockLaws.{blocks-back}
 use Rattle.plain_streams.specs.Dumps.{AreReadBack, IsEmptyCopy, DumpsLoadAgain, DumpsRestore, emptied}
@@ -38,10 +39,6 @@ use Rattle.plain_streams.proofs.LoadRows.{SameReferred, loaded-all, named-other}
 at-number : (name : List ℕ) (tables : Database) (table : Table) → table_named name tables ≡ Some table
     → slice_get tables (number_of name tables).0 ≡ Some table
 at-number name tables table found = sym (find_at (is_named name) tables) ∙ found
-
-own-name : (name : List ℕ) (tables : Database) (table : Table) → table_named name tables ≡ Some table → table.name ≡ name
-own-name name tables table found =
-    (bytes_eq-Decides table.name name).0 ((find_satisfies (λ t. t ≡ t) (is_named name) tables table (λ k d within. refl) found).1)
 
 dumped_parts : (table : Table) (tables : Database) (shown block : List ℕ) (refuses : Bool)
     → (checked tables (record { refuses = refuses; refusal = DumpTooLong } ∷ []) (record { database = tables; outcome = Dumped table.name (dump_block table) })).outcome ≡ Dumped shown block
@@ -112,7 +109,7 @@ dumps_load_again limits tables table others copy name shown block sound found re
     let named : table_named shown others ≡ Some copy = rw (← shown_is) ready.named in
     let n : TableNumber = number_of shown others in
     let at : slice_get others n.0 ≡ Some copy = at-number shown others copy named in
-    let called : copy.name ≡ table.name = own-name shown others copy named ∙ sym shown_is in
+    let called : copy.name ≡ table.name = has_name shown others copy named ∙ sym shown_is in
     let elsewhere = refers_elsewhere limits tables number table sound there in
     let same : (rows : List Row) → SameReferred tables (set others n.0 (record copy { rows = rows })) table.columns =
     λ rows k c within. still-same tables others table copy (record copy { rows = rows }) n.0 at called called
@@ -151,7 +148,7 @@ named-changed name (t ∷ tables) old new found same = elim (cases_Bool (is_name
 pub dumps_restore : DumpsRestore
 dumps_restore limits tables table name shown block sound found read answered =
     let (shown_is, block_is, short) = dumped limits tables table name shown block found answered in
-    let called : table.name ≡ name = own-name name tables table found in
+    let called : table.name ≡ name = has_name name tables table found in
     let n : TableNumber = number_of name tables in
     let there = at-number name tables table found in
     let others : Database = set tables n.0 (emptied table) in

@@ -22,7 +22,7 @@ use Rattle.plain_tables.specs.declared.command.Limits.{Limits}
 use Rattle.plain_tables.specs.declared.command.Command.TheVariants.{Load}
 use Rattle.plain_tables.proofs.Canonical.{canonical-spells}
 use Rattle.plain_tables.proofs.Lexemes.{AllPass, IsRun, symbol-run}
-use Rattle.plain_tables.proofs.ListLemmas.{find_satisfies}
+use Rattle.common_lemmas.proofs.Tests.{find_satisfies}
 use Rattle.plain_tables.proofs.Separated.{all-append}
 use Rattle.plain_tables.specs.Databases.{is_named}
 use Rattle.mm_csv.specs.BlockReading.{block_records}

@@ -20,7 +20,9 @@ use Rattle.plain_tables.specs.declared.schema.ColKind.TheVariants as kind
 use Rattle.plain_tables.specs.declared.schema.Column.{Column}
 use Rattle.plain_tables.specs.declared.command.Limits.{Limits}
 use Rattle.plain_tables.specs.declared.numbers.TableNumber.{TableNumber}
-use Rattle.plain_tables.proofs.ListLemmas.{AllPairs-behind, filter_all, filter_gone, set_again, slice_get_set}
+use Rattle.common_lemmas.proofs.Pairs.{AllPairs-behind}
+use Rattle.common_lemmas.proofs.Filters.{filter_all, filter_none}
+use Rattle.common_lemmas.proofs.Places.{set_again, slice_get_set}
 use Rattle.plain_tables.proofs.RowLemmas.{key_cmp_total}
 
 -- ---- a row above all others
@@ -34,7 +36,7 @@ put-last : (row : Row) (rows : List Row) → AreBelow rows row → with_row row 
 put-last row rows below =
     let before = filter_all (λ r. is_lt (key_cmp r row)) rows
     (All-weaker (λ r. key_cmp r row ≡ Less) (λ r. is_lt (key_cmp r row) ≡ true) (λ r less. rw less refl) rows below) in
-    let behind = filter_gone (λ r. is_lt (key_cmp row r)) rows
+    let behind = filter_none (λ r. is_lt (key_cmp row r)) rows
     (All-weaker (λ r. key_cmp r row ≡ Less) (λ r. is_lt (key_cmp row r) ≡ false) (λ r less. rw (key_cmp_total.antisymm row r, less) refl) rows below) in
     rw (before, behind) refl
 

@@ -31,7 +31,9 @@ use Rattle.plain_tables.specs.declared.resolved.Assignment.{Assignment}
 use Rattle.plain_tables.specs.declared.resolved.Resolved.{Resolved}
 use Rattle.plain_tables.specs.declared.resolved.Resolved.TheVariants as resolved
 use Rattle.plain_tables.proofs.EffectLemmas.{checked_satisfies, of_table_satisfies, effect_satisfies, insert_satisfies, loaded_satisfies, load_satisfies}
-use Rattle.plain_tables.proofs.ListLemmas.{All-at, All-remove, mapped_more, option_map_or_satisfies, find_satisfies}
+use Rattle.common_lemmas.proofs.Elements.{All-at, All-remove, mapped_more}
+use Rattle.common_lemmas.proofs.Options.{option_map_or_satisfies}
+use Rattle.common_lemmas.proofs.Tests.{find_satisfies}
 use Rattle.plain_tables.proofs.RowLemmas.{All-with_row}
 use Rattle.plain_tables.proofs.SoundLemmas.{no_tables_are_sound}
 use Rattle.mm_csv.specs.BlockReading.{block_records}

@@ -41,7 +41,9 @@ use Rattle.plain_tables.specs.declared.resolved.Shown.{Shown}
 use Rattle.plain_tables.specs.declared.resolved.Shown.TheVariants as shown
 use Rattle.plain_tables.specs.declared.resolved.Resolved.{Resolved}
 use Rattle.plain_tables.specs.declared.resolved.Resolved.TheVariants as resolved
-use Rattle.plain_tables.proofs.ListLemmas.{any_agree, all_agree, map_agree, is_some-option_map}
+use Rattle.common_lemmas.proofs.Tests.{any_agree, all_agree}
+use Rattle.common_lemmas.proofs.Maps.{map_agree}
+use Rattle.common_lemmas.proofs.Options.{is_some-option_map}
 use Rattle.plain_tables.proofs.ResolvedLemmas.{none_shown}
 use Rattle.plain_tables.proofs.IndexLemmas.{bare, named_unindexed, place_unindexed, found_bare, checked_as}
 use Rattle.plain_tables.proofs.TypeLemmas.{AreKeyedAlike, type_alike, typed_alike, row_alike, reading_alike}

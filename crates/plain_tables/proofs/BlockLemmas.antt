@@ -24,11 +24,11 @@ use Rattle.plain_tables.specs.declared.schema.Column.{Column}
 use Rattle.plain_tables.specs.declared.numbers.TableNumber.{TableNumber}
 use Rattle.plain_tables.specs.declared.resolved.Resolved.{Resolved}
 use Rattle.plain_tables.specs.declared.resolved.Resolved.TheVariants as resolved
-use Rattle.plain_tables.proofs.ListLemmas.{not_Ok, same_Ok, option_map_some}
+use Rattle.common_lemmas.proofs.Options.{not_Ok, same_Ok, option_map_some}
 
 -- ---- all of a list
 
-all_parts : {X : Type 0} (o : Option X) (os : List (Option X)) (ys : List X) → all_of (o ∷ os) ≡ Some ys
+pub all_parts : {X : Type 0} (o : Option X) (os : List (Option X)) (ys : List X) → all_of (o ∷ os) ≡ Some ys
     → (x : X) × (xs : List X) × (o ≡ Some x) × (all_of os ≡ Some xs) × (x ∷ xs ≡ ys)
 all_parts None os ys h = absurd (none-some ys h)
 all_parts (Some x) os ys h =
@@ -47,7 +47,7 @@ all_satisfy P f (x ∷ xs) ys h holds =
 abbrev CanStand : Database → Column → Value → Type 0
 CanStand tables column v = (is_typed tables v column.kind ≡ true) × IsStorable v
 
-fits_64_bits : (z : ℤ) → has_64_bits z ≡ true → FitsSigned w64 z
+pub fits_64_bits : (z : ℤ) → has_64_bits z ≡ true → FitsSigned w64 z
 fits_64_bits (pos n) has = record { sfits = ltb-true n (2 ^ 63) has }
 fits_64_bits (negsuc n) has = record { sfits = ltb-true n (2 ^ 63) has }
 

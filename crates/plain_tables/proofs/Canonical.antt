@@ -20,7 +20,7 @@ use Rattle.plain_tables.proofs.WellFormed.{IsSpellableSymbol, command-spellable,
 abbrev HasText : Symbol → Type 0
 HasText symbol = IsSymbol (symbol_text symbol) symbol
 
-integer-text : (z : ℤ) → FitsSigned w64 z → IsInteger (signed_decimal z) z
+pub integer-text : (z : ℤ) → FitsSigned w64 z → IsInteger (signed_decimal z) z
 integer-text (pos n) fits =
     let digits : IsNumeral 10 (decimal n) × (digits_value 10 (decimal n) ≡ n) = decimal_is_IsNumeral n (omega (arith, fits)) in
     (fits, (decimal n, digits.0, inl (refl, ap pos (sym digits.1))))

@@ -1,11 +1,12 @@
 -- What resolved commands leave: of other tables, of rows that aren't picked, of a database that they are refused of.
-use Rattle.std.proofs.Common.{◌≡◌, ◌≢◌, ◌<◌, ℕ, zero, suc, true, false, not, length, map, set, get_or, arith, List, [], ◌∷◌, inl, inr, refl, sym, ap, ◌∙◌, subst, Some, ◌⊎◌}
+use Rattle.std.proofs.Common.{◌≡◌, ◌<◌, ℕ, zero, suc, true, false, not, length, map, set, get_or, arith, List, [], ◌∷◌, inl, inr, refl, sym, ap, ◌∙◌, subst, Some, ◌⊎◌}
 use Rattle.std.specs.Prelude.{Ok, pos, ◌==◌}
 use Rattle.std.specs.List.{list_any, slice_get}
 use Rattle.std.proofs.lemmas.Bool.{or_parts, eqb-false, cond-true, cond-false}
 use Rattle.std.proofs.lemmas.List.{length-set, get_or-set_same, get_or-set_other}
 use Rattle.std.proofs.lemmas.List.Filters.{length-filter_both}
 use Rattle.std.proofs.lemmas.Option.{none-some, same_Some, slice_get_within}
+use Rattle.common_lemmas.proofs.Places.{slice_get-set_other, slice_get_set, set_again}
 use Rattle.plain_tables.specs.Tables.{Table, Row}
 use Rattle.plain_tables.specs.Databases.{Database}
 use Rattle.plain_tables.specs.Queries.{value_at}
@@ -20,7 +21,8 @@ use Rattle.plain_tables.specs.declared.resolved.Assignment.{Assignment}
 use Rattle.plain_tables.specs.declared.resolved.Resolved.{Resolved}
 use Rattle.plain_tables.specs.declared.resolved.Resolved.TheVariants as resolved
 use Rattle.plain_tables.proofs.EffectLemmas.{checked_satisfies, of_table_satisfies, insert_satisfies, loaded_satisfies, load_satisfies}
-use Rattle.plain_tables.proofs.ListLemmas.{AllZip-map, filter_others, filter_again, slice_get_set, set_again}
+use Rattle.common_lemmas.proofs.Elements.{AllZip-map}
+use Rattle.common_lemmas.proofs.Filters.{filter_others, filter_again}
 
 -- ---- the tables that are left
 
@@ -30,13 +32,6 @@ map_set_alike : {X Y : Type 0} (f : X → Y) (xs : List X) (n : ℕ) (old new : 
 map_set_alike f [] n old new there same = refl
 map_set_alike f (x ∷ xs) zero old new there same = let here : x ≡ old = same_Some x old there in rw (same, here) refl
 map_set_alike f (x ∷ xs) (suc n) old new there same = ap (λ ys. f x ∷ ys) (map_set_alike f xs n old new there same)
-
-slice_get_other : {X : Type 0} (xs : List X) (n k : ℕ) (new : X) → k ≢ n → slice_get (set xs n new) k ≡ slice_get xs k
-slice_get_other [] n k new other = refl
-slice_get_other (x ∷ xs) zero zero new other = absurd (other refl)
-slice_get_other (x ∷ xs) zero (suc k) new other = refl
-slice_get_other (x ∷ xs) (suc n) zero new other = refl
-slice_get_other (x ∷ xs) (suc n) (suc k) new other = slice_get_other xs n k new (λ e. other (ap suc e))
 
 -- the tables are as before, or have a table that differs in rows in the place of one
 abbrev HasOtherRows : TableNumber → Database → Database → Type 0
@@ -117,7 +112,7 @@ own_rows_change limits tables r n is =
     rows_satisfy (ChangesRowsOf n tables) limits tables r n is (record { all_but_rows = refl; others = λ k other. refl })
     (λ old new there same. record {
       all_but_rows = map_set_alike rowless tables n.0 old new there (ap rowless same);
-      others = λ k other. slice_get_other tables n.0 k new other;
+      others = λ k other. slice_get-set_other tables n.0 k new other;
     })
 
 -- ---- refusals

@@ -17,7 +17,10 @@ use Rattle.plain_tables.specs.declared.schema.Column.{Column}
 use Rattle.plain_tables.specs.declared.condition.ColName.{ColName}
 use Rattle.plain_tables.specs.declared.command.Setting.{Setting}
 use Rattle.plain_tables.specs.declared.numbers.Place.{Place}
-use Rattle.plain_tables.proofs.ListLemmas.{All-flat_map, All-enumerate, find_satisfies, found_where_some, is_some-option_map, option_map_some, one_more, length-filter_map}
+use Rattle.common_lemmas.proofs.Elements.{All-flat_map, All-enumerate, one_more}
+use Rattle.common_lemmas.proofs.Tests.{find_satisfies, found_where_some}
+use Rattle.common_lemmas.proofs.Options.{is_some-option_map, option_map_some}
+use Rattle.common_lemmas.proofs.Maps.{length-filter_map}
 
 -- ---- the columns of joined tables
 

@@ -8,11 +8,12 @@ use Rattle.std.specs.declared.cmp.Ordering.{Ordering}
 use Rattle.std.specs.declared.cmp.Ordering.TheVariants.{Less, Equal, Greater}
 use Rattle.std.proofs.lemmas.Cmp.{lists_total, tied_itself}
 use Rattle.std.proofs.lemmas.List.Elements.{All-nil, All-cons, All-head, All-tail, All-append, All-filter, All-contains, All-contains_itself, Contains-append_left, Contains-append_right}
+use Rattle.common_lemmas.proofs.Elements.{Contains-cons_cases, Contains-filter, Contains-head, Contains-cons}
 use Rattle.plain_tables.specs.Values.{value_cmp_total}
 use Rattle.plain_tables.specs.Tables.{Row}
 use Rattle.plain_tables.specs.Joining.{row_cmp, with_values, distinct_rows}
 use Rattle.plain_tables.specs.QueryLaws.{Rise, HaveTheSame, DistinctRise, DistinctOccur, RisingAreOne, DistinctShowsTheSame}
-use Rattle.plain_tables.proofs.ListLemmas.{AllPairs-nil, AllPairs-head, AllPairs-tail, Contains-head, Contains-later, Contains-cases, Contains-filter}
+use Rattle.common_lemmas.proofs.Pairs.{AllPairs-nil, AllPairs-head, AllPairs-tail}
 use Rattle.plain_tables.proofs.RowLemmas.{inserted_rise}
 use Rattle.plain_tables.proofs.ValueLemmas.{value_cmp-exact}
 
@@ -53,19 +54,19 @@ has_itself row rows =
 still_has : (o : Ordering) (row other : Row) (rows : List Row) → row_cmp other row ≡ o → Contains rows other → Contains (with_values row rows) other
 still_has Less row other rows below there =
     Contains-append_left (filter (λ r. is_lt (row_cmp r row)) rows) (row ∷ filter (λ r. is_lt (row_cmp row r)) rows) other
-    (Contains-filter (λ r. is_lt (row_cmp r row)) rows other (rw below refl) there)
+    (Contains-filter (λ r. is_lt (row_cmp r row)) rows other there (rw below refl))
 still_has Equal row other rows same there =
     subst (Contains (with_values row rows)) (sym (row_cmp-exact other row same)) (has_itself row rows)
 still_has Greater row other rows above there =
     Contains-append_right (filter (λ r. is_lt (row_cmp r row)) rows) (row ∷ filter (λ r. is_lt (row_cmp row r)) rows) other
-    (Contains-later row (filter (λ r. is_lt (row_cmp row r)) rows) other
-    (Contains-filter (λ r. is_lt (row_cmp row r)) rows other (rw (row_cmp_total.antisymm row other, above) refl) there))
+    (Contains-cons row (filter (λ r. is_lt (row_cmp row r)) rows) other
+    (Contains-filter (λ r. is_lt (row_cmp row r)) rows other there (rw (row_cmp_total.antisymm row other, above) refl)))
 
 occurs : (rows : List Row) (row : Row) → Contains rows row → Contains (distinct_rows rows) row
 occurs [] row there = absurd (let l = there.1 in omega arith)
 occurs (r ∷ rows) row there =
-    elim (Contains-cases r rows row there) [
-      | inl here ↦ subst (Contains (distinct_rows (r ∷ rows))) here (has_itself r (distinct_rows rows))
+    elim (Contains-cons_cases r rows row there) [
+      | inl here ↦ subst (Contains (distinct_rows (r ∷ rows))) (sym here) (has_itself r (distinct_rows rows))
       | inr later ↦ still_has (row_cmp row r) r row (distinct_rows rows) refl (occurs rows row later)
     ]
 
@@ -81,8 +82,8 @@ distinct_shows_the_same tables its source joins = distinct_occur _
 -- of two lists that rise and have the same elements neither begins below the other
 first_there : (r s : Row) (rows others : List Row) → Rise (s ∷ others) → Contains (s ∷ others) r → (s ≡ r) ⊎ (row_cmp s r ≡ Less)
 first_there r s rows others rise there =
-    elim (Contains-cases s others r there) [
-      | inl here ↦ inl here
+    elim (Contains-cons_cases s others r there) [
+      | inl here ↦ inl (sym here)
       | inr later ↦ inr (All-contains (λ t. row_cmp s t ≡ Less) others r (AllPairs-head (λ t u. row_cmp t u ≡ Less) s others rise) later)
     ]
 
@@ -99,12 +100,12 @@ same_first r s rows others rise up same =
 -- an element behind the first isn't the first
 later_too : (r row : Row) (rows others : List Row) → Rise (r ∷ rows) → Contains rows row → Contains (r ∷ others) row → Contains others row
 later_too r row rows others rise there in_others =
-    elim (Contains-cases r others row in_others) [
+    elim (Contains-cons_cases r others row in_others) [
       | inl here ↦
           let below : row_cmp r row ≡ Less =
           All-contains (λ t. row_cmp r t ≡ Less) rows row (AllPairs-head (λ t u. row_cmp t u ≡ Less) r rows rise) there
           in
-          absurd (not_below row (subst (λ t. row_cmp t row ≡ Less) here below))
+          absurd (not_below row (subst (λ t. row_cmp t row ≡ Less) (sym here) below))
       | inr later ↦ later
     ]
 
@@ -120,8 +121,8 @@ rising_are_one (r ∷ rows) (s ∷ others) rise up same =
     let rest : rows ≡ others =
     rising_are_one rows others (AllPairs-tail R r rows rise) (AllPairs-tail R s others up)
     (λ row. (
-      λ there. later_too r row rows others rise there ((all row).0 (Contains-later r rows row there)),
-      λ there. later_too r row others rows up_too there ((all row).1 (Contains-later r others row there)),
+      λ there. later_too r row rows others rise there ((all row).0 (Contains-cons r rows row there)),
+      λ there. later_too r row others rows up_too there ((all row).1 (Contains-cons r others row there)),
     ))
     in
     ap (λ t. t ∷ rows) first ∙ ap (λ ts. s ∷ ts) rest

@@ -16,7 +16,7 @@ use Rattle.plain_tables.specs.declared.numbers.TableNumber.{TableNumber}
 use Rattle.plain_tables.specs.declared.command.Limits.{Limits}
 use Rattle.plain_tables.specs.declared.command.Command.{Command}
 use Rattle.plain_tables.specs.declared.resolved.Resolved.{Resolved}
-use Rattle.plain_tables.proofs.ListLemmas.{not_Ok, same_Ok, option_map_or_satisfies}
+use Rattle.common_lemmas.proofs.Options.{not_Ok, same_Ok, option_map_or_satisfies}
 
 -- What holds of the refusal of each check, and of the effect where none refuses, holds behind the checks.
 pub checked_each : (P : Effect → Type 0) (tables : Database) (checks : List Check) (done : Effect)

@@ -5,6 +5,7 @@ use Rattle.std.proofs.lemmas.List.{length-map, length-append}
 use Rattle.std.proofs.lemmas.Simd.{map-map}
 use Rattle.std.proofs.lemmas.List.Elements.{All-head, All-tail, All-map, All-filter, All-weaker}
 use Rattle.std.proofs.lemmas.Option.{slice_get-get_or}
+use Rattle.common_lemmas.proofs.Filters.{filter_all}
 use Rattle.plain_tables.specs.Tables.{Table, Row}
 use Rattle.plain_tables.specs.Databases.{Database}
 use Rattle.plain_tables.specs.Queries.{joined_columns, full_name, places_meant}
@@ -25,7 +26,7 @@ use Rattle.plain_tables.specs.declared.resolved.Shown.{Shown}
 use Rattle.plain_tables.specs.declared.resolved.Shown.TheVariants as shown
 use Rattle.plain_tables.proofs.ColumnLemmas.{have_places, places_length}
 use Rattle.plain_tables.proofs.DistinctLemmas.{All-distinct}
-use Rattle.plain_tables.proofs.ListLemmas.{All-at, All-flat_map, filter_every}
+use Rattle.common_lemmas.proofs.Elements.{All-at, All-flat_map}
 
 -- ---- rows alone
 
@@ -41,7 +42,7 @@ selects_passing limits tables n table its tests there =
 pub selects_rows : SelectsRows
 selects_rows limits tables n table there =
     let shows : map (shown_values shown.All) (map (λ row. row ∷ []) (filter (passes_all []) table.rows)) ≡ table.rows =
-    shown_alone (filter (passes_all []) table.rows) ∙ filter_every (passes_all []) (λ row. refl) table.rows
+    shown_alone (filter (passes_all []) table.rows) ∙ filter_all (passes_all []) table.rows (λ k d l. refl)
     in
     rw there (ap (Rows (headings (table ∷ []) shown.All)) shows)
 

@@ -16,7 +16,7 @@ use Rattle.plain_tables.specs.declared.value.Value.TheVariants as value
 use Rattle.plain_tables.specs.declared.schema.ColKind.{ColKind}
 use Rattle.plain_tables.specs.declared.schema.ColKind.TheVariants as kind
 use Rattle.plain_tables.specs.declared.schema.Column.{Column}
-use Rattle.plain_tables.proofs.ListLemmas.{All-cons_option, All-from_flat_map, one_more}
+use Rattle.common_lemmas.proofs.Elements.{All-cons_option, All-from_flat_map, one_more}
 
 -- ---- references of a column
 

@@ -14,7 +14,8 @@ use Rattle.plain_tables.specs.declared.refusal.Refusal.TheVariants.{NoSuchTable,
 use Rattle.plain_tables.specs.declared.command.Limits.{Limits}
 use Rattle.plain_tables.specs.declared.numbers.TableNumber.{TableNumber}
 use Rattle.plain_tables.proofs.EffectLemmas.{checked_each}
-use Rattle.plain_tables.proofs.ListLemmas.{Contains-head, Contains-later, slice_get_set}
+use Rattle.common_lemmas.proofs.Elements.{Contains-head, Contains-cons}
+use Rattle.common_lemmas.proofs.Places.{slice_get_set}
 
 -- ---- more rows
 
@@ -60,14 +61,14 @@ record_told limits tables n k row (table, there, t) =
     (record { database = set tables n.0 (grown_by row table); outcome = Changed 1 }) (
       (k, omega arith, omega arith, Contains-head one (two ∷ three ∷ [])),
       (
-        (k, omega arith, omega arith, Contains-later one (two ∷ three ∷ []) two (Contains-head two (three ∷ []))),
+        (k, omega arith, omega arith, Contains-cons one (two ∷ three ∷ []) two (Contains-head two (three ∷ []))),
         (
           (
             k,
             omega arith,
             omega arith,
-            Contains-later one (two ∷ three ∷ []) three
-                (Contains-later two (three ∷ []) three (Contains-head three [])),
+            Contains-cons one (two ∷ three ∷ []) three
+                (Contains-cons two (three ∷ []) three (Contains-head three [])),
           ),
           tt,
         ),

@@ -10,6 +10,7 @@ use Rattle.std.proofs.lemmas.Simd.{map-map}
 use Rattle.std.proofs.lemmas.List.Elements.{All-nil, All-cons, All-head, All-tail, All-map, All-weaker, filter-append}
 use Rattle.std.proofs.lemmas.Option.{none-some}
 use Rattle.std.proofs.lemmas.Slice.Eq.{bytes_eq-Decides}
+use Rattle.plain_tables.proofs.FirstWords.{different}
 use Rattle.plain_tables.specs.Tables.{Table}
 use Rattle.plain_tables.specs.Databases.{Database, is_named, table_named}
 use Rattle.plain_tables.specs.Queries.{JoinedColumn, column_number, source_columns, joined_columns, fits, fits_one, column_meant, place_meant, side_name}
@@ -18,8 +19,10 @@ use Rattle.plain_tables.specs.WrittenLaws.{tables_named}
 use Rattle.plain_tables.specs.declared.schema.Column.{Column}
 use Rattle.plain_tables.specs.declared.condition.ColName.{ColName}
 use Rattle.plain_tables.specs.declared.command.JoinSide.{JoinSide}
-use Rattle.plain_tables.proofs.ListLemmas.{AllPairs-nil, AllPairs-head, AllPairs-across, AllPairs-back, AllPairs-behind, and_false, filter-map, filter_gone, find_first, find_satisfies, one_more, pairs_more}
-use Rattle.plain_tables.proofs.NameLemmas.{differs}
+use Rattle.common_lemmas.proofs.Pairs.{AllPairs-nil, AllPairs-head, AllPairs-across, AllPairs-back, AllPairs-behind, pairs_more}
+use Rattle.common_lemmas.proofs.Tests.{and_false, find_first, find_satisfies}
+use Rattle.common_lemmas.proofs.Filters.{filter-map, filter_none}
+use Rattle.common_lemmas.proofs.Elements.{one_more}
 
 -- ---- tables of different names
 
@@ -37,7 +40,7 @@ others_differ tables name [] apart = All-nil (λ u. name ≢ u.name)
 others_differ tables name (other ∷ names) apart =
     let parts = or_parts (bytes_eq name other) (list_any (bytes_eq name) names) apart in
     one_more (λ u. name ≢ u.name) (table_named other tables) (tables_named tables names)
-    (λ u there same. differs name other parts.0 (same ∙ has_name other tables u there)) (others_differ tables name names parts.1)
+    (λ u there same. different name other parts.0 (same ∙ has_name other tables u there)) (others_differ tables name names parts.1)
 
 -- where no name is repeated, the tables of the names differ in theirs
 pub tables_differ : (tables : Database) (names : List (List ℕ)) → repeats bytes_eq names ≡ false → AllPairs Differ (tables_named tables names)
@@ -96,7 +99,7 @@ none_fits side k (t ∷ tables) others =
     let apart : bytes_eq side.table t.name ≡ false = differs_false side.table t.name (All-head (λ u. side.table ≢ u.name) t tables others) in
     let made : ℕ × Column → JoinedColumn = λ c. record { table = t.name; place = record { source = k; column = column_number c.0 }; column = c.1 } in
     let first : filter test (source_columns (k, t)) ≡ [] =
-    filter_gone test (source_columns (k, t))
+    filter_none test (source_columns (k, t))
     (All-map (λ j. test j ≡ false) made (enumerate_from 0 t.columns)
     (λ i d l. rw apart (and_false (bytes_eq side.column (get_or (enumerate_from 0 t.columns) i d).1.name))))
     in

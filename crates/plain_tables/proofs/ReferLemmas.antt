@@ -16,7 +16,9 @@ use Rattle.plain_tables.specs.declared.value.Value.{Value}
 use Rattle.plain_tables.specs.declared.value.Value.TheVariants as value
 use Rattle.plain_tables.specs.declared.schema.Column.{Column}
 use Rattle.plain_tables.proofs.HeldLemmas.{StaysHeld}
-use Rattle.plain_tables.proofs.ListLemmas.{AllPairs-behind, All-flat_map, fails_where_none, not_found}
+use Rattle.common_lemmas.proofs.Pairs.{AllPairs-behind}
+use Rattle.common_lemmas.proofs.Elements.{All-flat_map}
+use Rattle.common_lemmas.proofs.Tests.{fails_where_none, not_found}
 
 -- ---- tables of the same names and columns
 

@@ -43,7 +43,10 @@ use Rattle.plain_tables.specs.declared.resolved.Resolved.TheVariants as resolved
 use Rattle.plain_tables.proofs.BlockLemmas.{read_insertable, load_found}
 use Rattle.plain_tables.proofs.ColumnLemmas.{column_within, named_there, first_behind_key}
 use Rattle.plain_tables.proofs.EffectLemmas.{effect_satisfies}
-use Rattle.plain_tables.proofs.ListLemmas.{AllPairs-nil, fails_where_none, mapped_more, not_Ok, same_Ok}
+use Rattle.common_lemmas.proofs.Pairs.{AllPairs-nil}
+use Rattle.common_lemmas.proofs.Tests.{fails_where_none}
+use Rattle.common_lemmas.proofs.Elements.{mapped_more}
+use Rattle.common_lemmas.proofs.Options.{not_Ok, same_Ok}
 use Rattle.plain_tables.proofs.NameLemmas.{columns_differ}
 use Rattle.plain_tables.proofs.SelectLemmas.{of_own_column, own_tests_meant, select_meant}
 use Rattle.plain_tables.proofs.SoundLemmas.{done_keeps_sound}

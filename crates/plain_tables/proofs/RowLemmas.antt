@@ -9,17 +9,14 @@ use Rattle.std.proofs.lemmas.Bool.{false≢true}
 use Rattle.std.proofs.lemmas.Cmp.{lists_total}
 use Rattle.std.proofs.lemmas.List.Elements.{All-cons, All-filter, All-append, All-weaker, filter_passes}
 use Rattle.std.proofs.lemmas.List.Kept.{AllPairs-cons, AllPairs-filter}
+use Rattle.common_lemmas.proofs.Orders.{is_lt-Less}
 use Rattle.plain_tables.specs.Values.{value_cmp_total}
 use Rattle.plain_tables.specs.Tables.{Row, key_cmp, AreRising, with_row}
 use Rattle.plain_tables.specs.declared.value.Value.{Value}
-use Rattle.plain_tables.proofs.ListLemmas.{AllPairs-append, AllPairs-map, length-filter_apart}
+use Rattle.common_lemmas.proofs.Pairs.{AllPairs-append, AllPairs-map}
+use Rattle.common_lemmas.proofs.Filters.{length-filter_apart}
 
 -- ---- an element put in
-
-pub from_is_lt : (o : Ordering) → is_lt o ≡ true → o ≡ Less
-from_is_lt Less h = refl
-from_is_lt Equal h = cc
-from_is_lt Greater h = cc
 
 module _ {X : Type 0} (cmp : X → X → Ordering) (total : IsTotalOrder cmp) (x : X) where
   abbrev below : List X → List X
@@ -30,12 +27,12 @@ module _ {X : Type 0} (cmp : X → X → Ordering) (total : IsTotalOrder cmp) (x
 
   all_below : (xs : List X) → All (λ y. cmp y x ≡ Less) (below xs)
   all_below xs =
-      All-weaker (λ y. is_lt (cmp y x) ≡ true) (λ y. cmp y x ≡ Less) (λ y. from_is_lt (cmp y x))
+      All-weaker (λ y. is_lt (cmp y x) ≡ true) (λ y. cmp y x ≡ Less) (λ y. is_lt-Less (cmp y x))
       (below xs) (filter_passes (λ y. is_lt (cmp y x)) xs)
 
   all_above : (xs : List X) → All (λ y. cmp x y ≡ Less) (above xs)
   all_above xs =
-      All-weaker (λ y. is_lt (cmp x y) ≡ true) (λ y. cmp x y ≡ Less) (λ y. from_is_lt (cmp x y))
+      All-weaker (λ y. is_lt (cmp x y) ≡ true) (λ y. cmp x y ≡ Less) (λ y. is_lt-Less (cmp x y))
       (above xs) (filter_passes (λ y. is_lt (cmp x y)) xs)
 
   -- an element below this one is below it and those above it
@@ -60,7 +57,7 @@ key_cmp_total = on_total (take 1) (lists_total value_cmp_total)
 
 -- where one row is below another, that one isn't below the first
 pub key_cmp-one_way : (r s : Row) → is_lt (key_cmp r s) ≡ true → is_lt (key_cmp s r) ≡ false
-key_cmp-one_way r s h = rw (key_cmp_total.antisymm s r, from_is_lt (key_cmp r s) h) refl
+key_cmp-one_way r s h = rw (key_cmp_total.antisymm s r, is_lt-Less (key_cmp r s) h) refl
 
 -- rows of other keys are below or above
 pub apart_by_key : (o : Ordering) (r s : Row) → key_cmp r s ≡ o → is_eq o ≡ false

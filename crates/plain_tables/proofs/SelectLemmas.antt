@@ -29,7 +29,11 @@ use Rattle.plain_tables.specs.declared.numbers.Place.{Place}
 use Rattle.plain_tables.specs.declared.resolved.Source.{Source}
 use Rattle.plain_tables.specs.declared.resolved.Joined.{Joined}
 use Rattle.plain_tables.proofs.ColumnLemmas.{IsAt, column_at, place_found, have_places, places_length, only_one, own_found}
-use Rattle.plain_tables.proofs.ListLemmas.{fails_where_none, filter_all, slice_get_behind, length-filter_map, mapped_more}
+use Rattle.common_lemmas.proofs.Tests.{fails_where_none}
+use Rattle.common_lemmas.proofs.Filters.{filter_all}
+use Rattle.common_lemmas.proofs.Places.{slice_get_behind}
+use Rattle.common_lemmas.proofs.Maps.{length-filter_map}
+use Rattle.common_lemmas.proofs.Elements.{mapped_more}
 
 -- ---- tests
 

@@ -14,6 +14,7 @@ use Rattle.std.proofs.lemmas.List.Folds.{list_any-append, list_any_none}
 use Rattle.std.proofs.lemmas.List.Kept.{AllPairs-filter}
 use Rattle.std.proofs.lemmas.List.Quantifiers.{all_pairs_push, all_pairs_remove}
 use Rattle.std.proofs.lemmas.Option.{slice_get_within, get_or_from_slice_get, same_Some}
+use Rattle.plain_tables.proofs.FirstWords.{different}
 use Rattle.plain_tables.specs.Tables.{Table, Row, AreRising, key_cmp, has_key_of, with_row}
 use Rattle.plain_tables.specs.Databases.{Database, is_named, table_named}
 use Rattle.plain_tables.specs.Effects.{new_table, grown_by}
@@ -31,8 +32,10 @@ use Rattle.plain_tables.specs.declared.resolved.Assignment.{Assignment}
 use Rattle.plain_tables.specs.declared.resolved.Resolved.TheVariants as resolved
 use Rattle.plain_tables.proofs.EffectLemmas.{checked_satisfies, of_table_satisfies, insert_satisfies, loaded_satisfies, load_satisfies}
 use Rattle.plain_tables.proofs.HeldLemmas.{StaysHeld, KeepsKey, keeps_itself, held_stays, RowsFit, rows_stay, row_held, row_stays, row_set, can_hold, can_still_hold}
-use Rattle.plain_tables.proofs.ListLemmas.{AllPairs-nil, AllPairs-set_alike, All-at, All-remove, All-cons_option, All-from_list_all, AllZip-set, any_of_two, fails_where_none, fails_where_not_found, slice_get_set}
-use Rattle.plain_tables.proofs.NameLemmas.{differs}
+use Rattle.common_lemmas.proofs.Pairs.{AllPairs-nil, AllPairs-set_alike}
+use Rattle.common_lemmas.proofs.Elements.{All-at, All-remove, All-cons_option, All-from_list_all, AllZip-set}
+use Rattle.common_lemmas.proofs.Tests.{any_of_two, fails_where_none, fails_where_not_found}
+use Rattle.common_lemmas.proofs.Places.{slice_get_set}
 use Rattle.plain_tables.proofs.ReferLemmas.{HasShape, has_own_shape, RefersElsewhere, refer_back_alike, refer_back_more, held_with_more, refer_back_removed, all_held_removed}
 use Rattle.plain_tables.proofs.RowLemmas.{apart_by_key, with_row-rises, length-with_row, All-with_row, map_rises, key_stays}
 use Rattle.plain_tables.proofs.TypeLemmas.{insertable_alike}
@@ -132,7 +135,7 @@ table_keeps limits tables table sound new refer absent few none =
       refer_back = refer_back_more [] tables table sound.refer_back refer;
       apart =
           all_pairs_push (λ t u. t.name ≢ u.name) tables table sound.apart
-          (λ k d l. differs (get_or tables k d).name table.name (others k d l));
+          (λ k d l. different (get_or tables k d).name table.name (others k d l));
       few = rw length_push (omega arith);
     }
 

@@ -3,7 +3,7 @@ use Rattle.std.proofs.Common.{◌≡◌, ◌≢◌, ◌+◌, ℕ, zero, suc, Boo
 use Rattle.std.specs.Prelude.{Ok, ◌||◌, ◌&&◌}
 use Rattle.std.specs.List.{All, AllPairs, list_any, filter, flat_map, slice_get}
 use Rattle.std.specs.Str.{bytes_eq}
-use Rattle.std.specs.Ordering.{is_eq, is_lt, ordering_reverse}
+use Rattle.std.specs.Ordering.{is_eq, is_lt}
 use Rattle.std.specs.declared.cmp.Ordering.{Ordering}
 use Rattle.std.specs.declared.cmp.Ordering.TheVariants.{Less, Equal, Greater}
 use Rattle.std.proofs.lemmas.Bool.{and_parts, or_parts, or_from, not-true, not_from_false, both_ways, false_from_ne_true, false≢true}
@@ -13,6 +13,8 @@ use Rattle.std.proofs.lemmas.List.Filters.{length-filter_both}
 use Rattle.std.proofs.lemmas.List.Folds.{list_any_none}
 use Rattle.std.proofs.lemmas.Option.{none-some, same_Some, slice_get_within}
 use Rattle.std.proofs.lemmas.Slice.Eq.{bytes_eq-Decides}
+use Rattle.common_lemmas.proofs.Filters.{filter_all, filter_none, filter-filter}
+use Rattle.common_lemmas.proofs.Orders.{is_lt-Less, is_eq-Equal, is_eq-reverse}
 use Rattle.plain_tables.specs.Tables.{Table, Row, AreRising, key_cmp, has_key_of, with_row}
 use Rattle.plain_tables.specs.Databases.{Database, is_named, table_named}
 use Rattle.plain_tables.specs.Effects.{Effect, Changed, grown_by}
@@ -23,9 +25,13 @@ use Rattle.plain_tables.specs.declared.command.Limits.{Limits}
 use Rattle.plain_tables.specs.declared.numbers.TableNumber.{TableNumber}
 use Rattle.plain_tables.proofs.EffectLemmas.{insert_satisfies, goes_on_parts}
 use Rattle.plain_tables.proofs.HeldLemmas.{RowsFit, row_holds}
-use Rattle.plain_tables.proofs.ListLemmas.{AllPairs-head, AllPairs-tail, All-at, All-flat_map, any_agree, filter_every, filter_all, filter_gone, filter-filter, not_Ok, same_Ok, set_again, set_itself, slice_get_set}
+use Rattle.common_lemmas.proofs.Pairs.{AllPairs-head, AllPairs-tail}
+use Rattle.common_lemmas.proofs.Elements.{All-at, All-flat_map}
+use Rattle.common_lemmas.proofs.Tests.{any_agree}
+use Rattle.common_lemmas.proofs.Options.{not_Ok, same_Ok}
+use Rattle.common_lemmas.proofs.Places.{set_again, set_itself, slice_get_set}
 use Rattle.plain_tables.proofs.ReferLemmas.{refers_not_to_itself, references_elsewhere}
-use Rattle.plain_tables.proofs.RowLemmas.{key_cmp_total, key_cmp-one_way, apart_by_key, from_is_lt, with_row-rises}
+use Rattle.plain_tables.proofs.RowLemmas.{key_cmp_total, key_cmp-one_way, apart_by_key, with_row-rises}
 
 -- ---- keys
 
@@ -34,19 +40,9 @@ is_eq_apart Less h = refl
 is_eq_apart Equal h = absurd (false≢true h)
 is_eq_apart Greater h = absurd (false≢true h)
 
-from_is_eq : (o : Ordering) → is_eq o ≡ true → o ≡ Equal
-from_is_eq Less h = absurd (false≢true h)
-from_is_eq Equal h = refl
-from_is_eq Greater h = absurd (false≢true h)
-
-is_eq_reversed : (o : Ordering) → is_eq (ordering_reverse o) ≡ is_eq o
-is_eq_reversed Less = refl
-is_eq_reversed Equal = refl
-is_eq_reversed Greater = refl
-
 -- keys are one whichever comes first
 one_key : (r s : Row) → is_eq (key_cmp r s) ≡ is_eq (key_cmp s r)
-one_key r s = ap is_eq (key_cmp_total.antisymm r s) ∙ is_eq_reversed (key_cmp s r)
+one_key r s = ap is_eq (key_cmp_total.antisymm r s) ∙ is_eq-reverse (key_cmp s r)
 
 -- rows of one key are in the same lists
 same_key : (rows : List Row) (r s : Row) → key_cmp r s ≡ Equal → has_key_of r rows ≡ has_key_of s rows
@@ -67,12 +63,12 @@ rows_around row (r ∷ rows) rise new =
       | inl below ↦
           rw (below, key_cmp-one_way r row below) (ap (λ rs. r ∷ rs) (rows_around row rows (AllPairs-tail R r rows rise) parts.1))
       | inr above ↦
-          let first : key_cmp row r ≡ Less = from_is_lt (key_cmp row r) above in
+          let first : key_cmp row r ≡ Less = is_lt-Less (key_cmp row r) above in
           let later : All (λ s. is_lt (key_cmp row s) ≡ true) rows =
           All-weaker (R r) (λ s. is_lt (key_cmp row s) ≡ true) (λ s h. ap is_lt (key_cmp_total.trans row r s first h)) rows
           (AllPairs-head R r rows rise)
           in
-          let none = filter_gone (λ s. is_lt (key_cmp s row)) rows
+          let none = filter_none (λ s. is_lt (key_cmp s row)) rows
           (All-weaker (λ s. is_lt (key_cmp row s) ≡ true) (λ s. is_lt (key_cmp s row) ≡ false)
           (λ s. key_cmp-one_way row s) rows later) in
           let all = filter_all (λ s. is_lt (key_cmp row s)) rows later in
@@ -174,7 +170,7 @@ loaded_put_in limits tables n table k [] new before there rise all = (
   sym (same_Ok tables new all) ∙ sym (set_itself tables n.0 (having table before) there),
   record {
     fresh = λ i d l. refl;
-    kept = filter_every (λ r. not (has_key_of r [])) (λ r. refl) before;
+    kept = filter_all (λ r. not (has_key_of r [])) before (λ k d l. refl);
     counted = omega arith;
   },
 )
@@ -254,8 +250,8 @@ is_to_another table rows fresh row has r names =
     (list_any_none (λ s. is_eq (key_cmp s key)) table.rows
     (All-weaker (λ s. has_key_of s rows ≡ false) (λ s. is_eq (key_cmp s key) ≡ false)
     (λ s lacks. false_from_ne_true (is_eq (key_cmp s key)) (λ same.
-    let with_key : has_key_of row rows ≡ has_key_of key rows = same_key rows row key (from_is_eq (key_cmp row key) parts.1) in
-    let with_old : has_key_of s rows ≡ has_key_of key rows = same_key rows s key (from_is_eq (key_cmp s key) same) in
+    let with_key : has_key_of row rows ≡ has_key_of key rows = same_key rows row key (is_eq-Equal (key_cmp row key) parts.1) in
+    let with_old : has_key_of s rows ≡ has_key_of key rows = same_key rows s key (is_eq-Equal (key_cmp s key) same) in
     both_ways (has_key_of s rows) lacks (with_old ∙ sym with_key ∙ has))) table.rows fresh))
     (names parts.0))
 

@@ -16,7 +16,8 @@ use Rattle.plain_tables.specs.declared.value.Value.TheVariants as value
 use Rattle.plain_tables.specs.declared.schema.BaseKind.{BaseKind}
 use Rattle.plain_tables.specs.declared.schema.ColKind.{ColKind}
 use Rattle.plain_tables.specs.declared.schema.Column.{Column}
-use Rattle.plain_tables.proofs.ListLemmas.{any_agree, map_agree}
+use Rattle.common_lemmas.proofs.Tests.{any_agree}
+use Rattle.common_lemmas.proofs.Maps.{map_agree}
 use Rattle.plain_tables.proofs.ReferLemmas.{HasShape}
 
 -- tables of one name have keys of one type

@@ -1,16 +1,16 @@
 -- Written conditions: each is a test of the source that its name means, and each join makes equal what its names mean.
-use Rattle.std.proofs.Common.{◌≡◌, ◌+◌, ◌<◌, ℕ, zero, suc, Bool, true, false, cond, not, length, map, get_or, arith, List, [], ◌∷◌, ◌++◌, inl, inr, refl, sym, ap, ◌∙◌, subst, Option, Some, None, ◌⊎◌}
+use Rattle.std.proofs.Common.{◌≡◌, ◌+◌, ◌<◌, ℕ, zero, suc, Bool, true, false, cond, not, length, map, get_or, arith, List, [], ◌∷◌, ◌++◌, inl, inr, refl, sym, ap, ◌∙◌, subst, Some, ◌⊎◌}
 use Rattle.std.specs.Prelude.{◌==◌, ◌&&◌}
 use Rattle.std.specs.List.{All, AllPairs, AllByRecursion, list_any, list_all, filter, cons_option, enumerate_from, slice_get}
 use Rattle.std.specs.Option.{is_some, is_none, option_map, option_map_or, option_zip}
-use Rattle.std.specs.Ordering.{is_eq, ordering_reverse}
-use Rattle.std.specs.declared.cmp.Ordering.{Ordering}
-use Rattle.std.specs.declared.cmp.Ordering.TheVariants.{Less, Equal, Greater}
-use Rattle.std.proofs.lemmas.Bool.{cases_Bool, or_parts, not-false, eq-eqb, ne_eqb, false≢true}
+use Rattle.std.specs.Ordering.{is_eq}
+use Rattle.std.proofs.lemmas.Bool.{cases_Bool, or_parts, not-false, eq-eqb, ne_eqb}
 use Rattle.std.proofs.lemmas.List.{length_push, length-map, map-id}
 use Rattle.std.proofs.lemmas.List.Elements.{All-nil, All-cons, All-head, All-tail, All-map, All-weaker}
 use Rattle.std.proofs.lemmas.List.Folds.{list_any-append}
 use Rattle.std.proofs.lemmas.Option.{slice_get_within}
+use Rattle.common_lemmas.proofs.Options.{is_some-Some}
+use Rattle.common_lemmas.proofs.Orders.{is_eq-reverse}
 use Rattle.plain_tables.specs.Values.{value_cmp, value_cmp_total}
 use Rattle.plain_tables.specs.Tables.{Table, Row}
 use Rattle.plain_tables.specs.Databases.{Database, table_named}
@@ -34,7 +34,10 @@ use Rattle.plain_tables.specs.declared.resolved.Joined.{Joined}
 use Rattle.plain_tables.specs.declared.resolved.Resolved.{Resolved}
 use Rattle.plain_tables.specs.declared.resolved.Resolved.TheVariants as resolved
 use Rattle.plain_tables.proofs.ColumnLemmas.{column_at, has_place, meant_where_one}
-use Rattle.plain_tables.proofs.ListLemmas.{All-flat_map, all_agree, all_both, all_true, and_true, filter_all, filter_agree_on, length-filter_map}
+use Rattle.common_lemmas.proofs.Elements.{All-flat_map}
+use Rattle.common_lemmas.proofs.Tests.{all_agree, all_both, all_true, and_true}
+use Rattle.common_lemmas.proofs.Filters.{filter_all, filter_agree_on}
+use Rattle.common_lemmas.proofs.Maps.{length-filter_map}
 use Rattle.plain_tables.proofs.MeantLemmas.{Differ, has_name, tables_differ, place_before, place_own}
 use Rattle.plain_tables.proofs.SelectLemmas.{once_apart, repeats_front, some_table, lacks, AreNamed, names_on, next_table, numbered, zip_parts, either_of, some_sides, joins_meant}
 use Rattle.plain_tables.proofs.ProductLemmas.{product_filtered}
@@ -109,10 +112,6 @@ own_are_all columns (c ∷ conditions) member mean =
     ∙ ap (λ b. meets columns member c && b)
     (own_are_all columns conditions member (All-tail (MeansOne columns (length member)) c conditions mean))
 
-some_of : {X : Type 0} (o : Option X) → is_some o ≡ true → (x : X) × (o ≡ Some x)
-some_of None h = absurd (false≢true h)
-some_of (Some x) h = (x, refl)
-
 -- where no name is missed, each means a place
 all_mean : {X : Type 0} (among : List Table) (name : X → ColName) (xs : List X) → misses (joined_columns among) (map name xs) ≡ false
     → All (λ x. MeansAt (joined_columns among) (λ n. n < length among) (name x)) xs
@@ -120,7 +119,7 @@ all_mean among name [] found = All-nil (λ x. MeansAt (joined_columns among) (λ
 all_mean among name (x ∷ xs) found =
     let columns : List JoinedColumn = joined_columns among in
     let parts = or_parts (not (fits_one columns (name x))) (misses columns (map name xs)) found in
-    let joined = some_of (column_meant columns (name x)) (meant_where_one columns (name x) (not-false (fits_one columns (name x)) parts.0)) in
+    let joined = is_some-Some (column_meant columns (name x)) (meant_where_one columns (name x) (not-false (fits_one columns (name x)) parts.0)) in
     let meant : place_meant columns (name x) ≡ Some joined.0.place = ap (option_map (λ j. j.place)) joined.1 in
     let there = has_place among (name x) joined.0.place meant in
     All-cons (λ y. MeansAt columns (λ n. n < length among) (name y)) x xs
@@ -173,13 +172,8 @@ pass_own tables columns conditions k (name ∷ names) (row ∷ member) long =
 
 -- ---- joins
 
-is_eq_reversed : (o : Ordering) → is_eq (ordering_reverse o) ≡ is_eq o
-is_eq_reversed Less = refl
-is_eq_reversed Equal = refl
-is_eq_reversed Greater = refl
-
 compared_alike : (v w : Value) → is_eq (value_cmp v w) ≡ is_eq (value_cmp w v)
-compared_alike v w = ap is_eq (value_cmp_total.antisymm v w) ∙ is_eq_reversed (value_cmp w v)
+compared_alike v w = ap is_eq (value_cmp_total.antisymm v w) ∙ is_eq-reverse (value_cmp w v)
 
 equal_either_way : (v w : Value) → are_equal v w ≡ are_equal w v
 equal_either_way value.Null value.Null = refl

@@ -1,9 +1,8 @@
 -- The greatest item of a tree, and a node that it goes to.
-use Rattle.std.proofs.Common.{◌≡◌, ℕ, ◌+◌, ◌-◌, ◌<◌, ◌≤◌, length, true, false, refl, sym, ap, ◌∙◌, subst, List, [], ◌∷◌, ◌++◌, arith, append_assoc, take, drop, get_or, suc}
+use Rattle.std.proofs.Common.{◌≡◌, ℕ, ◌+◌, ◌-◌, ◌<◌, ◌≤◌, length, true, false, refl, sym, ap, ◌∙◌, subst, List, [], ◌∷◌, ◌++◌, arith, append_assoc}
 use Rattle.std.specs.List.{remove, insert}
-use Rattle.std.proofs.lemmas.List.{append-nil, take-append-drop, drop_more, drop_all}
 use Rattle.std.proofs.lemmas.List.Edits.{length-insert, length-remove}
-use Rattle.ttree_node.specs.Tree.{Tree, empty, node, Frame, went_left, went_right, Label, Zipper, at, plug, whole, size, list, is_node, has_left, has_right, left_of, right_of, items_of, new_items, up, with_tree, with_items, down_left, down_right}
+use Rattle.ttree_node.specs.Tree.{Tree, empty, node, Frame, went_left, went_right, Label, Zipper, at, plug, whole, size, list, is_node, has_left, has_right, left_of, items_of, new_items, with_tree, with_items, down_left}
 use Rattle.ttree_node.specs.Laws.{list-plug}
 use Rattle.ttree.specs.Shape.{IsFit, IsTTree}
 use Rattle.ttree.specs.Removing.{HasLost, rightmost_from, rightmost_at, rightmost, without_greatest_from, without_greatest, without_left_greatest}
@@ -26,23 +25,6 @@ module _ {X : Type 0} where
   pub whole-rightmost : (z : Zipper X) → whole (rightmost z) ≡ whole z
   whole-rightmost z = whole_rightmost z.above z.here
 
-  -- a step to the right stays on the way
-  rightmost_step : (c : List (Frame X)) (t : Tree X) → has_right t ≡ true → rightmost (down_right (at c t)) ≡ rightmost_at c t
-  rightmost_step c empty e = cc
-  rightmost_step c (node l x empty) e = cc
-  rightmost_step c (node l x (node a y b)) e = refl
-
-  pub rightmost-down_right : (z : Zipper X) → has_right z.here ≡ true → rightmost (down_right z) ≡ rightmost z
-  rightmost-down_right z e = rightmost_step z.above z.here e
-
-  rightmost_end : (c : List (Frame X)) (t : Tree X) → has_right t ≡ false → rightmost_at c t ≡ at c t
-  rightmost_end c empty e = refl
-  rightmost_end c (node l x empty) e = refl
-  rightmost_end c (node l x (node a y b)) e = cc
-
-  pub rightmost-here : (z : Zipper X) → has_right z.here ≡ false → rightmost z ≡ z
-  rightmost-here z e = rightmost_end z.above z.here e
-
   open_from : (c : List (Frame X)) (l : Tree X) (x : X) (r : Tree X) → has_right (rightmost_from c l x r).here ≡ false
   open_from c l x empty = refl
   open_from c l x (node a y b) = open_from (went_right l x ∷ c) a y b
@@ -53,13 +35,6 @@ module _ {X : Type 0} where
 
   pub rightmost-open : (z : Zipper X) → has_right (rightmost z).here ≡ false
   rightmost-open z = open_at z.above z.here
-
-  smaller_at : (c : List (Frame X)) (t : Tree X) → has_right t ≡ true → size (down_right (at c t)).here < size t
-  smaller_at c empty e = cc
-  smaller_at c (node l x r) e = omega arith
-
-  pub down_right-smaller : (z : Zipper X) → has_right z.here ≡ true → size (down_right z).here < size z.here
-  down_right-smaller z e = smaller_at z.above z.here e
 
 module _ {I : Type 0} where
   node_without : (l : Tree (Label I)) (x : Label I) (r : Tree (Label I)) → is_node (without_greatest_from l x r) ≡ true
@@ -84,60 +59,7 @@ module _ {I : Type 0} where
   rightmost_without c l x empty = refl
   rightmost_without c l x (node a y b) = below_step c l x (without_greatest_from a y b) (node_without a y b) ∙ rightmost_without (went_right l x ∷ c) a y b
 
-  -- the last item goes back behind the rest
-  last_back : (xs : List I) (d g : I) → 0 < length xs → g ≡ get_or xs (length xs - 1) d → remove xs (length xs - 1) ++ g ∷ [] ≡ xs
-  last_back xs d g some e =
-      let i = length xs - 1 in
-      let inside : i < length xs = omega arith in
-      let none : drop (i + 1) xs ≡ [] = drop_all (i + 1) xs (omega arith) in
-      let cut : xs ≡ take i xs ++ (get_or xs i d ∷ drop (i + 1) xs) = sym (take-append-drop i xs) ∙ ap (λ ys. take i xs ++ ys) (drop_more xs i d inside) in
-      let none' : drop (suc i) xs ≡ [] = drop_all (suc i) xs (omega arith) in
-      let kept : remove xs i ≡ take i xs = ap (λ ys. take i xs ++ ys) none' ∙ append-nil (take i xs) in
-      ap (λ ys. ys ++ g ∷ []) kept ∙ sym (cut ∙ (λ j. take i xs ++ (sym e j ∷ none j)))
-
   -- ---- the greatest item is taken at the rightmost node
-
-  taken_right : (c : List (Frame (Label I))) (t : Tree (Label I)) → has_right t ≡ true → up (with_tree without_greatest (down_right (at c t))) ≡ at c (without_greatest t)
-  taken_right c empty e = cc
-  taken_right c (node l x empty) e = cc
-  taken_right c (node l x (node a y b)) e = refl
-
-  pub taken-right : (z : Zipper (Label I)) → has_right z.here ≡ true → up (with_tree without_greatest (down_right z)) ≡ with_tree without_greatest z
-  taken-right z e = taken_right z.above z.here e
-
-  list_right : (t : Tree (Label I)) (g : I) → has_right t ≡ true → list (without_greatest (right_of t)) ++ g ∷ [] ≡ list (right_of t) → list (without_greatest t) ++ g ∷ [] ≡ list t
-  list_right empty g e h = cc
-  list_right (node l x empty) g e h = cc
-  list_right (node l x (node a y b)) g e h =
-      append_assoc (list l) (x.items ++ list (without_greatest_from a y b)) (g ∷ []) ∙ ap (λ ys. list l ++ ys) (append_assoc x.items (list (without_greatest_from a y b)) (g ∷ []) ∙ ap (λ ys. x.items ++ ys) h)
-
-  right_at : (c : List (Frame (Label I))) (t : Tree (Label I)) → has_right t ≡ true → (down_right (at c t)).here ≡ right_of t
-  right_at c empty e = cc
-  right_at c (node l x r) e = refl
-
-  pub right-here : (z : Zipper (Label I)) → has_right z.here ≡ true → (down_right z).here ≡ right_of z.here
-  right-here z e = right_at z.above z.here e
-
-  -- from the right subtree to the whole one
-  pub list-right : (z z1 z2 : Zipper (Label I)) (g : I) → has_right z.here ≡ true → z1 ≡ down_right z → z2 ≡ with_tree without_greatest z1 → list z2.here ++ g ∷ [] ≡ list z1.here → list (without_greatest z.here) ++ g ∷ [] ≡ list z.here
-  list-right z z1 z2 g e down taken h =
-      let at_right : z1.here ≡ right_of z.here = (λ i. (down i).here) ∙ right-here z e in
-      list_right z.here g e ((λ i. list (without_greatest (sym at_right i)) ++ g ∷ []) ∙ (λ i. list (sym taken i).here ++ g ∷ []) ∙ h ∙ (λ i. list (at_right i)))
-
-  taken_last : (c : List (Frame (Label I))) (t : Tree (Label I)) → has_right t ≡ false → at c (new_items (remove (items_of t) (length (items_of t) - 1)) t) ≡ at c (without_greatest t)
-  taken_last c empty e = refl
-  taken_last c (node l x empty) e = refl
-  taken_last c (node l x (node a y b)) e = cc
-
-  pub taken-last : (z : Zipper (Label I)) → has_right z.here ≡ false → with_items (remove (items_of z.here) (length (items_of z.here) - 1)) z ≡ with_tree without_greatest z
-  taken-last z e = taken_last z.above z.here e
-
-  pub list-last : (t : Tree (Label I)) (d g : I) → has_right t ≡ false → 0 < length (items_of t) → g ≡ get_or (items_of t) (length (items_of t) - 1) d → list (without_greatest t) ++ g ∷ [] ≡ list t
-  list-last empty d g e some h = absurd (omega (arith, some))
-  list-last (node l x (node a y b)) d g e some h = cc
-  list-last (node l x empty) d g e some h =
-      let ys = remove x.items (length x.items - 1) in
-      append_assoc (list l) (ys ++ []) (g ∷ []) ∙ ap (λ zs. list l ++ zs) (ap (λ zs. zs ++ g ∷ []) (append-nil ys) ∙ last_back x.items d g some h ∙ sym (append-nil x.items))
 
   -- ---- a node borrows the greatest item of its left subtree
 

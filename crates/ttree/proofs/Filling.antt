@@ -8,7 +8,7 @@ use Rattle.ttree_node.specs.declared.node.Way.{Way}
 use Rattle.ttree_node.specs.declared.node.Way.TheVariants.{Up, Down}
 use Rattle.ttree.specs.Shape.{IsTTree}
 use Rattle.ttree.specs.Rising.{IsFilled, IsInnerFilled, filled, fill_count, with_child}
-use Rattle.ttree.proofs.Fitness.{high_node, low_no_node, no_node_low, in_numbers, from_numbers}
+use Rattle.ttree.proofs.Fitness.{high_node, low_no_node, in_numbers, from_numbers}
 
 -- a T-tree of the same shape, after n items went that way
 record IsSlid {I : Type 0} (least most n : ℕ) (side : Side) (way : Way) (t u : Tree (Label I)) : Type 0 where
@@ -145,43 +145,9 @@ module _ {I : Type 0} (least most : ℕ) where
   half Right (node (node c z d) x (node a y b)) f e o = cc
   half Right (node empty x (node a y b)) f e o = let g = in_numbers least most empty x (node a y b) f.1 in (omega (arith, g), g.some, g.room, f.2.1.items.0, f.2.1.items.1, omega (arith, g))
 
-  leaf_has_none : (side : Side) (t : Tree (Label I)) → height t ≤ 1 → is_node (child side t) ≡ false
-  leaf_has_none Root t h = refl
-  leaf_has_none Left empty h = refl
-  leaf_has_none Left (node l x r) h = low_no_node l (omega (arith, h))
-  leaf_has_none Right empty h = refl
-  leaf_has_none Right (node l x r) h = low_no_node r (omega (arith, h))
-
-  -- what a slide up to a half-leaf asks for, and what it makes
-  pub can-fill : (side : Side) (t : Tree (Label I)) → IsTTree least most t → is_node (child side t) ≡ true → is_node (child (opposite side) t) ≡ false
-      → (is_node (child (opposite side) (child side t)) ≡ false) × (0 < length (items_of (child side t))) × (length (items_of t) ≤ most)
-  can-fill side t f e o = let h = half side t f e o in (leaf_has_none (opposite side) (child side t) (omega (arith, h.5)), h.3, h.2)
-
-  pub riser-filled : (side : Side) (t : Tree (Label I)) → least ≤ most → IsTTree least most t → is_node (child side t) ≡ true → is_node (child (opposite side) t) ≡ false → length (items_of t) < least → IsFilled least most t (filled most side Up t)
-  riser-filled side t ordered f e o few =
-      let h = half side t f e o in
-      let s = slid-is side Up (fill_count most side Up t) t f e o (omega (arith, h.3)) (omega (arith, h.2)) in
-      record { fit = s.fit; left = s.left; right = s.right; same = s.same; enough = λ high. omega (arith, s.taken, h.0, ordered); nodes = s.nodes; kept = λ many. absurd (omega (arith, few, many)) }
-
-  -- where nothing is to be filled
-  pub riser-full : (t : Tree (Label I)) → IsTTree least most t → least ≤ length (items_of t) → IsFilled least most t t
-  riser-full t f h = record { fit = f; left = refl; right = refl; same = refl; enough = λ high. h; nodes = refl; kept = λ many. refl }
-
-  pub riser-internal : (t : Tree (Label I)) → IsTTree least most t → is_node (left_of t) ≡ true → is_node (right_of t) ≡ true → IsFilled least most t t
-  riser-internal empty f a b = cc
-  riser-internal (node l x r) f a b = record { fit = f; left = refl; right = refl; same = refl; enough = λ high. f.1.occupied.internal a b; nodes = refl; kept = λ many. refl }
-
-  pub riser-leaf : (t : Tree (Label I)) → IsTTree least most t → is_node (left_of t) ≡ false → is_node (right_of t) ≡ false → IsFilled least most t t
-  riser-leaf empty f a b = record { fit = f; left = refl; right = refl; same = refl; enough = λ high. absurd (omega (arith, high)); nodes = refl; kept = λ many. refl }
-  riser-leaf (node l x r) f a b = record { fit = f; left = refl; right = refl; same = refl; enough = λ high. absurd (omega (arith, high, no_node_low l a, no_node_low r b)); nodes = refl; kept = λ many. refl }
-
   -- the child on that side is a leaf, and higher than the other: there is no other
   leaf_inner : (side : Side) (t : Tree (Label I)) → height (child side t) ≡ 1 → height (child (opposite side) t) < height (child side t) → (is_node (child side t) ≡ true) × (is_node (child (opposite side) t) ≡ false)
   leaf_inner side t e low = (high_node (child side t) (omega (arith, e)), low_no_node (child (opposite side) t) (omega (arith, e, low)))
-
-  pub can-fill-down : (side : Side) (t : Tree (Label I)) → IsTTree least most t → height (child side t) ≡ 1 → height (child (opposite side) t) < height (child side t)
-      → (is_node (child (opposite side) (child side t)) ≡ false) × (0 < length (items_of t)) × (length (items_of (child side t)) ≤ most)
-  can-fill-down side t f e low = let i = leaf_inner side t e low in let h = half side t f i.0 i.1 in (leaf_has_none (opposite side) (child side t) (omega (arith, e)), h.1, h.4)
 
   pub inner-filled : (side : Side) (t : Tree (Label I)) → least ≤ most → IsTTree least most t → height (child side t) ≡ 1 → height (child (opposite side) t) < height (child side t)
       → length (items_of (child side t)) < least → IsInnerFilled side least most t (filled most side Down t)
@@ -198,9 +164,6 @@ module _ {I : Type 0} (least most : ℕ) where
         kept = λ many. absurd (omega (arith, few, many));
         leaf_filled = λ leaf less more. omega (arith, s.taken, h.4, more);
       }
-
-  pub inner-full : (side : Side) (t : Tree (Label I)) → IsTTree least most t → least ≤ length (items_of (child side t)) → IsInnerFilled side least most t t
-  inner-full side t f h = record { fit = f; left = refl; right = refl; same = refl; enough = h; nodes = refl; kept = λ many. refl; leaf_filled = λ leaf less more. absurd (omega (arith, less, h)) }
 
   -- the child is no leaf, and was filled from its own child
   pub inner-filled_below : (side : Side) (t u : Tree (Label I)) → IsTTree least most t → 1 < height (child side t) → height (child (opposite side) t) < height (child side t)

@@ -88,10 +88,6 @@ module _ {I : Type 0} (least most : ℕ) where
         nodes = refl;
       }
 
-  pub mendable_node : (t : Tree (Label I)) → IsMendableHere least most t → is_node t ≡ true
-  mendable_node empty k = absurd k
-  mendable_node (node l x r) k = refl
-
   -- the children's stated heights are true
   pub mendable_stated : (t : Tree (Label I)) → IsMendableHere least most t → (stated (left_of t) ≡ height (left_of t)) × (stated (right_of t) ≡ height (right_of t))
   mendable_stated empty k = absurd k

@@ -11,7 +11,7 @@ use Rattle.ttree.proofs.Replacing.{fit-new_items, kept-internal, size_merged}
 use Rattle.ttree_node.specs.Laws.{list-plug}
 use Rattle.ttree_node.specs.Seen.{child, merged}
 use Rattle.ttree_node.specs.declared.node.Side.{Side}
-use Rattle.std.proofs.lemmas.List.{append-nil}
+use Rattle.std.proofs.lemmas.List.{append-nil, nil_from_length}
 
 module _ {I : Type 0} where
   items-new_items : (xs : List I) (t : Tree (Label I)) → is_node t ≡ true → items_of (new_items xs t) ≡ xs
@@ -132,15 +132,6 @@ module _ {I : Type 0} (least most : ℕ) where
       subst (λ t. HasLostBelow least most (up (at z.above t))) (sym k.same)
       (leaf_above z.above k.was (items_of z.here) e k.was_fit k.one some (sym (left_was z k) ∙ a) (sym (right_was z k) ∙ b))
 
-  root_leaf : (c : List (Frame (Label I))) (was : Tree (Label I)) (xs : List I) → is_root c ≡ true → IsTTree least most (plug c was) → length (items_of was) ≡ length xs + 1 → 0 < length xs
-      → has_left was ≡ false → has_right was ≡ false → IsTTree least most (plug c (new_items xs was))
-  root_leaf [] was xs e f one some a b = leaf_fit was xs f one some a b
-  root_leaf (g ∷ c) was xs e f one some a b = cc
-
-  pub lost-root : (z : Zipper (Label I)) → HasLost least most z → is_root z.above ≡ true → 0 < length (items_of z.here) → has_left z.here ≡ false → has_right z.here ≡ false → IsTTree least most (whole z)
-  lost-root z k e some a b =
-      subst (λ t. IsTTree least most (plug z.above t)) (sym k.same) (root_leaf z.above k.was (items_of z.here) e k.was_fit k.one some (sym (left_was z k) ∙ a) (sym (right_was z k) ∙ b))
-
   -- ---- an empty leaf is freed
 
   internal_node : (t : Tree (Label I)) → is_node (left_of t) ≡ true → is_node t ≡ true
@@ -217,14 +208,6 @@ module _ {I : Type 0} (least most : ℕ) where
   pub dropped-rises : (z : Zipper (Label I)) → 1 ≤ least → HasLost least most z → is_leaf z.here → is_node (without_leaf z).here ≡ true → CanRise least most (without_leaf z)
   dropped-rises z some k leaf e = dropped_at z.above k.was some k.was_fit (sym (same_height (items_of z.here) k.was) ∙ sym (ap (λ t. height t) k.same) ∙ leaf_one z.here leaf) e
 
-  emptied_at : (c : List (Frame (Label I))) → is_node (up (at c empty)).here ≡ false → IsTTree least most (whole (up (at c empty)))
-  emptied_at [] e = tt
-  emptied_at (went_left x r ∷ c) e = cc
-  emptied_at (went_right l x ∷ c) e = cc
-
-  pub dropped-root : (z : Zipper (Label I)) → is_node (without_leaf z).here ≡ false → IsTTree least most (whole (without_leaf z))
-  dropped-root z e = emptied_at z.above e
-
   -- ---- an internal node that holds enough
 
   pub lost-internal : (z : Zipper (Label I)) → 1 ≤ least → HasLost least most z → has_left z.here ≡ true → has_right z.here ≡ true → least ≤ length (items_of z.here) → IsTTree least most (whole z)
@@ -239,11 +222,7 @@ module _ {I : Type 0} where
   list_leaf empty leaf none = refl
   list_leaf (node (node a y b) x r) (_, h, _) none = cc
   list_leaf (node empty x (node a y b)) (_, _, h) none = cc
-  list_leaf (node empty x empty) leaf none = append-nil x.items ∙ nil_of x.items none
-    where
-      nil_of : (xs : List I) → length xs ≡ 0 → xs ≡ []
-      nil_of [] e = refl
-      nil_of (x ∷ xs) e = absurd (omega (arith, e))
+  list_leaf (node empty x empty) leaf none = append-nil x.items ∙ nil_from_length x.items none
 
   -- no item goes with it
   pub list-dropped : (z : Zipper (Label I)) → is_leaf z.here → length (items_of z.here) ≡ 0 → list (whole (without_leaf z)) ≡ list (whole z)

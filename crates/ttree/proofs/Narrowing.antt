@@ -1,14 +1,12 @@
 -- A search among the items of a node narrows down.
-use Rattle.std.proofs.Common.{◌≡◌, ℕ, ◌+◌, ◌<◌, ◌≤◌, Bool, true, false, Result, Ok, Err, List, length, get_or, refl, ap, arith, Ordering}
+use Rattle.std.proofs.Common.{◌≡◌, ℕ, ◌+◌, ◌<◌, ◌≤◌, Result, Ok, Err, List, length, get_or, refl, ap, arith, Ordering}
 use Rattle.std.specs.List.{AllWithin}
 use Rattle.std.specs.declared.cmp.Ordering.TheVariants.{Less, Equal, Greater}
 use Rattle.std.specs.Ordering.{ordering_index}
 use Rattle.std.proofs.lemmas.List.{get_or_default}
 use Rattle.mm_index.specs.Range.{NeverFalls}
 use Rattle.std.specs.Result.{IfErr}
-use Rattle.ttree.specs.declared.turn.Turn.{Turn}
-use Rattle.ttree.specs.declared.turn.Turn.TheVariants.{Left, Right, Here}
-use Rattle.ttree.specs.Searching.{IsCut, IsGapIn, IsTurn, IsTurnFrom}
+use Rattle.ttree.specs.Searching.{IsCut}
 
 -- what goes below a place below, and what goes above one above
 pub Less-below : (o p : Ordering) → p ≡ Less → ordering_index o ≤ ordering_index p → o ≡ Less
@@ -40,17 +38,3 @@ module _ {A : Type 0} (place : A → Ordering) (xs : List A) (in_order : NeverFa
 pub if_err : {A : Type 0} (found : Result A ℕ) (P Q : ℕ → Type 0) → ((i : ℕ) → P i → Q i) → IfErr found P → IfErr found Q
 if_err (Ok a) P Q f h = h
 if_err (Err i) P Q f h = f i h
-
-not_true : (b : Bool) → (b ≡ true → ⊥) → b ≡ false
-not_true true h = absurd (h refl)
-not_true false h = refl
-
--- a node whose least item was asked about, or on which no left child hangs
-pub turn_whole : {A : Type 0} (place : A → Ordering) (from : ℕ) (has_left has_right : Bool) (items : List A) (turn : Turn) → (has_left ≡ true → 0 < from) → IsTurnFrom place from has_right items turn → IsTurn place has_left has_right items turn
-turn_whole place from has_left has_right items Left asked h = absurd h
-turn_whole place from has_left has_right items Right asked h = h
-turn_whole place from has_left has_right items (Here found) asked h = (
-  h.0,
-  if_err found (λ i. IsCut place items i i × (from ≤ i) × (i ≡ length items → has_right ≡ false)) (IsGapIn place has_left has_right items)
-      (λ i k. record { cut = k.0; left_open = λ e. not_true has_left (λ l. omega (arith, e, k.1, asked l)); right_open = k.2 }) h.1,
-)

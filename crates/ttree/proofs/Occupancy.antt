@@ -68,10 +68,6 @@ no_room least nodes spares n h none =
     let same : nodes + spares ≡ nodes = omega (arith, none) in
     omega (arith, held_at_least least nodes n h, ap (fewest_held least) same, none)
 
--- an insert leaves room for one fewer, and a removal for no fewer
-pub room_after_insert : (least nodes now spares left n kept : ℕ) → now ≡ nodes → spares ≤ left + 1 → kept ≡ n + 1 → max spares (fewest_held least nodes - n) ≤ max left (fewest_held least now - kept) + 1
-room_after_insert least nodes now spares left n kept same h one = omega (arith, h, one, ap (fewest_held least) same)
-
 pub room_after_remove : (least nodes now spares left n kept : ℕ) → now ≡ nodes → spares ≤ left → kept + 1 ≡ n → max spares (fewest_held least nodes - n) ≤ max left (fewest_held least now - kept)
 room_after_remove least nodes now spares left n kept same h one = omega (arith, h, one, ap (fewest_held least) same)
 

@@ -6,20 +6,16 @@ use Rattle.std.specs.declared.cmp.Ordering.TheVariants.{Less, Equal, Greater}
 use Rattle.std.specs.Ordering.{ordering_index}
 use Rattle.std.proofs.lemmas.List.Elements.{All-nil}
 use Rattle.std.proofs.lemmas.Bool.{cases_order}
+use Rattle.common_lemmas.proofs.Orders.{ordering_index_within}
 use Rattle.mm_index.specs.Order.{IsStrictOver, IsRising, insert_placed, insert_by}
 use Rattle.mm_index.specs.Range.{NeverFalls}
 use Rattle.mm_index.proofs.Placed.{insert_placed_split}
-
-index_le_two : (o : Ordering) → ordering_index o ≤ 2
-index_le_two Less = omega arith
-index_le_two Equal = omega arith
-index_le_two Greater = omega arith
 
 module _ {A : Type 0} (covers : A → Type 0) (cmp : A → A → Ordering) (order : IsStrictOver covers cmp) where
   rises_to : (a b r : A) → covers a → covers b → covers r → cmp a b ≡ Less → (o : Ordering) → cmp b r ≡ o → ordering_index (cmp a r) ≤ ordering_index o
   rises_to a b r p q s l Less e = omega (arith, ap ordering_index (order.trans a b r p q s l e))
   rises_to a b r p q s l Equal e = omega (arith, ap ordering_index (sym (ap (λ (x : A). cmp a x) (order.strict b r q s e)) ∙ l))
-  rises_to a b r p q s l Greater e = index_le_two (cmp a r)
+  rises_to a b r p q s l Greater e = ordering_index_within (cmp a r)
 
   -- the places beside r never fall
   pub NeverFalls-by_order : (r : A) (xs : List A) → All covers xs → covers r → IsRising cmp xs → NeverFalls (λ q. cmp q r) xs

@@ -1,6 +1,6 @@
 -- Steps down to a child and back up.
 use Rattle.std.proofs.Common.{◌≡◌, ℕ, ◌+◌, ◌≤◌, ◌<◌, length, true, false, refl, sym, ◌∙◌, List, [], ◌∷◌, ◌++◌, arith, length-append}
-use Rattle.ttree_node.specs.Tree.{Tree, empty, node, Frame, went_left, went_right, Label, Zipper, at, plug, whole, list, size, height, is_node, has_left, has_right, is_root, up, items_of, new_items, new_height, with_height, with_items, with_tree}
+use Rattle.ttree_node.specs.Tree.{Tree, empty, node, Frame, went_left, went_right, Label, Zipper, at, plug, whole, list, size, height, is_node, has_left, has_right, up, items_of, new_items, new_height, with_height, with_items, with_tree}
 use Rattle.ttree_node.specs.Laws.{list-plug}
 use Rattle.ttree_node.specs.Seen.{on_side, child}
 use Rattle.ttree_node.specs.declared.node.Side.{Side}
@@ -39,16 +39,6 @@ module _ {X : Type 0} where
   pub whole-on_side : (side : Side) (z : Zipper X) → whole (on_side side z) ≡ whole z
   whole-on_side side z = whole_at side z.above z.here
 
-  below_root_at : (side : Side) (c : List (Frame X)) (t : Tree X) → is_node (child side t) ≡ true → is_root (on_side side (at c t)).above ≡ false
-  below_root_at Root c t e = cc
-  below_root_at Left c empty e = cc
-  below_root_at Left c (node l x r) e = refl
-  below_root_at Right c empty e = cc
-  below_root_at Right c (node l x r) e = refl
-
-  pub below_root : (side : Side) (z : Zipper X) → is_node (child side z.here) ≡ true → is_root (on_side side z).above ≡ false
-  below_root side z e = below_root_at side z.above z.here e
-
   whole_up : (c : List (Frame X)) (t : Tree X) → whole (up (at c t)) ≡ plug c t
   whole_up [] t = refl
   whole_up (f ∷ c) t = refl
@@ -66,16 +56,6 @@ module _ {X : Type 0} where
 
   pub changed_below : (f : Tree X → Tree X) (side : Side) (z : Zipper X) → is_node (child side z.here) ≡ true → up (with_tree f (on_side side z)) ≡ with_tree (λ t. with_child side (f (child side t)) t) z
   changed_below f side z e = changed_at f side z.above z.here e
-
-  same_at : (side : Side) (c : List (Frame X)) (t : Tree X) → is_node (child side t) ≡ true → up (on_side side (at c t)) ≡ at c t
-  same_at Root c t e = cc
-  same_at Left c empty e = cc
-  same_at Left c (node l x r) e = refl
-  same_at Right c empty e = cc
-  same_at Right c (node l x r) e = refl
-
-  pub same_below : (side : Side) (z : Zipper X) → is_node (child side z.here) ≡ true → up (on_side side z) ≡ z
-  same_below side z e = same_at side z.above z.here e
 
   -- the child of a node that got another child
   pub child-with_child : (side : Side) (u t : Tree X) → is_node (child side t) ≡ true → child side (with_child side u t) ≡ u

@@ -8,7 +8,7 @@ use Rattle.std.proofs.lemmas.List.Elements.{All-nil, All-filter, filter_passes}
 use Rattle.std.proofs.lemmas.List.Kept.{IsNonDecreasingBy-filter}
 use Rattle.std.specs.Ordering.{ordering_index}
 use Rattle.mm_index.specs.Range.{NeverFalls, in_range, from_range}
-use Rattle.mm_index.proofs.Filtered.{filter_first}
+use Rattle.common_lemmas.proofs.Filters.{filter_first}
 use Rattle.ttree.proofs.Cuts.{above_begin}
 
 module _ {A : Type 0} (place : A → Ordering) where
@@ -60,8 +60,3 @@ pub not_Equal : (o : Ordering) → is_eq o ≡ false → o ≢ Equal
 not_Equal Less h = λ e. cc
 not_Equal Equal h = cc
 not_Equal Greater h = λ e. cc
-
-pub is_Equal : (o : Ordering) → is_eq o ≡ true → o ≡ Equal
-is_Equal Less h = cc
-is_Equal Equal h = refl
-is_Equal Greater h = cc

@@ -1,11 +1,10 @@
 -- A rotation with its slide.
-use Rattle.std.proofs.Common.{◌≡◌, ℕ, ◌<◌, ◌≤◌, true, refl, sym, subst, arith}
-use Rattle.ttree_node.specs.Tree.{Tree, empty, node, Label, height, is_node, has_left, has_right, left_of, right_of, stated}
+use Rattle.std.proofs.Common.{◌≡◌, ℕ, ◌<◌, ◌≤◌, refl, sym, subst, arith}
+use Rattle.ttree_node.specs.Tree.{Tree, Label, height, left_of, right_of, stated}
 use Rattle.ttree_node.specs.Seen.{child, opposite}
 use Rattle.ttree_node.specs.declared.node.Side.{Side}
 use Rattle.ttree_node.specs.declared.node.Side.TheVariants.{Root, Left, Right}
-use Rattle.ttree.specs.Rising.{Leans, IsFilled, IsInnerFilled, IsMendedTo, with_child, raised, inner_raised, outer_turned, inner_turned}
-use Rattle.ttree.proofs.Fitness.{high_node}
+use Rattle.ttree.specs.Rising.{Leans, IsFilled, IsInnerFilled, IsMendedTo, with_child, outer_turned, inner_turned}
 use Rattle.ttree.proofs.Leaning.{leans-with_child, height-with_child, mends-with_child, children_stated}
 use Rattle.ttree.proofs.Turning.{outer-mends, inner-mends}
 
@@ -15,23 +14,7 @@ module _ {I : Type 0} where
   same_on Left t u l r = l
   same_on Right t u l r = r
 
-  -- two nodes below the node: one on that side, one on the other
-  pub raised_left : (side : Side) (t : Tree (Label I)) → is_node (child side t) ≡ true → is_node (child (opposite side) (child side t)) ≡ true
-      → (is_node (child side (inner_raised side t)) ≡ true) × (has_left (raised side (inner_raised side t)) ≡ true) × (has_right (raised side (inner_raised side t)) ≡ true)
-  raised_left Root t e o = cc
-  raised_left Left empty e o = cc
-  raised_left Left (node empty x r) e o = cc
-  raised_left Left (node (node p y empty) x r) e o = cc
-  raised_left Left (node (node p y (node u z v)) x r) e o = (refl, refl, refl)
-  raised_left Right empty e o = cc
-  raised_left Right (node l x empty) e o = cc
-  raised_left Right (node l x (node empty y p)) e o = cc
-  raised_left Right (node l x (node (node v z u) y p)) e o = (refl, refl, refl)
-
 module _ {I : Type 0} (least most : ℕ) where
-  pub filled_node : (side : Side) (t u : Tree (Label I)) → Leans side least most t → IsFilled least most (child side t) (child side u) → is_node (child side u) ≡ true
-  filled_node side t u k f = high_node (child side u) (omega (arith, f.same, k.high))
-
   pub outer-rotated : (side : Side) (t u : Tree (Label I)) → Leans side least most t → u ≡ with_child side (child side u) t → IsFilled least most (child side t) (child side u)
       → stated (child (opposite side) (child side t)) ≤ stated (child side (child side t)) → height t < 4294967295 → IsMendedTo least most t (outer_turned side u)
   outer-rotated side t u k rest f order low =
@@ -50,13 +33,6 @@ module _ {I : Type 0} (least most : ℕ) where
   inner_high side t k order =
       let so = children_stated least most side (child side t) k.high_fit in let si = children_stated least most (opposite side) (child side t) k.high_fit in
       omega (arith, so, si, order)
-
-  pub inner_node : (side : Side) (t u : Tree (Label I)) → height (child side (child side t)) < height (child (opposite side) (child side t)) → IsInnerFilled (opposite side) least most (child side t) (child side u)
-      → is_node (child (opposite side) (child side u)) ≡ true
-  inner_node side t u order f = high_node (child (opposite side) (child side u)) (omega (arith, same_on (opposite side) (child side t) (child side u) f.left f.right, order))
-
-  pub inner_filled_node : (side : Side) (t u : Tree (Label I)) → Leans side least most t → IsInnerFilled (opposite side) least most (child side t) (child side u) → is_node (child side u) ≡ true
-  inner_filled_node side t u k f = high_node (child side u) (omega (arith, f.same, k.high))
 
   pub inner-rotated : (side : Side) (t u : Tree (Label I)) → Leans side least most t → u ≡ with_child side (child side u) t → IsInnerFilled (opposite side) least most (child side t) (child side u)
       → height (child side (child side t)) < height (child (opposite side) (child side t)) → height t < 4294967295 → IsMendedTo least most t (inner_turned side u)

@@ -1,5 +1,5 @@
 -- A walk down and up a tree ends.
-use Rattle.std.proofs.Common.{◌≡◌, ℕ, ◌+◌, ◌-◌, ◌*◌, ◌<◌, ◌≤◌, true, false, List, [], ◌∷◌, length, refl, ap, arith}
+use Rattle.std.proofs.Common.{◌≡◌, ℕ, ◌+◌, ◌-◌, ◌*◌, ◌<◌, ◌≤◌, true, false, List, [], ◌∷◌, length, ap, arith}
 use Rattle.ttree_node.specs.Tree.{Tree, empty, node, Frame, went_left, went_right, Zipper, at, size, plug, whole, is_leaf, has_left, has_right, down_left, down_right, left_below, right_below, without_leaf}
 
 module _ {X : Type 0} where
@@ -18,26 +18,12 @@ module _ {X : Type 0} where
   pub left_less : (t : Tree X) (z : Zipper X) → t ≡ whole z → has_left z.here ≡ true → to_do t (down_left z) < to_do t z
   left_less t z e h = left_at z.above z.here t e h
 
-  left_whole_at : (c : List (Frame X)) (u : Tree X) → has_left u ≡ true → whole (left_below c u) ≡ plug c u
-  left_whole_at c empty h = cc
-  left_whole_at c (node l x r) h = refl
-
-  pub left_whole : (z : Zipper X) → has_left z.here ≡ true → whole (down_left z) ≡ whole z
-  left_whole z h = left_whole_at z.above z.here h
-
   right_at : (c : List (Frame X)) (u : Tree X) (t : Tree X) → t ≡ plug c u → has_right u ≡ true → 2 * size t - length (right_below c u).above < 2 * size t - length c
   right_at c empty t e h = cc
   right_at c (node l x r) t e h = omega (arith, deep c (node l x r), ap (λ (u : Tree X). size u) e)
 
   pub right_less : (t : Tree X) (z : Zipper X) → t ≡ whole z → has_right z.here ≡ true → to_do t (down_right z) < to_do t z
   right_less t z e h = right_at z.above z.here t e h
-
-  right_whole_at : (c : List (Frame X)) (u : Tree X) → has_right u ≡ true → whole (right_below c u) ≡ plug c u
-  right_whole_at c empty h = cc
-  right_whole_at c (node l x r) h = refl
-
-  pub right_whole : (z : Zipper X) → has_right z.here ≡ true → whole (down_right z) ≡ whole z
-  right_whole z h = right_whole_at z.above z.here h
 
   size_plug_more : (c : List (Frame X)) (t u : Tree X) → size t ≡ 1 + size u → size (plug c t) ≡ 1 + size (plug c u)
   size_plug_more [] t u h = h

@@ -1,6 +1,7 @@
 -- Where a leaf comes and goes, in the words of the contracts.
-use Rattle.std.proofs.Common.{◌≡◌, ℕ, ◌+◌, ◌<◌, true, false, cond, List, [], ◌∷◌, length, refl, sym, ap, ◌∙◌, subst, arith}
+use Rattle.std.proofs.Common.{◌≡◌, ℕ, ◌+◌, ◌<◌, true, false, cond, List, [], ◌∷◌, refl, sym, ap, ◌∙◌, subst, arith}
 use Rattle.std.specs.Prelude.{Option, Some, None, IsSome}
+use Rattle.std.proofs.lemmas.List.{nil_from_length}
 use denote.RawPtr.{Ptr}
 use Rattle.part_raw.specs.declared.tuple_ref.TupleRef.{TupleRef}
 use Rattle.ttree_node.specs.Held.{same_place, node_at, set_node}
@@ -23,10 +24,6 @@ use Rattle.ttree_node.proofs.Visit.{Visit}
 no_place : (t : Tree Spot) → IsPlaceIn t None → t ≡ empty
 no_place empty h = refl
 no_place (node l x r) h = cc
-
-no_entries : {X : Type 0} (m : List X) → length m ≡ 0 → m ≡ []
-no_entries [] h = refl
-no_entries (e ∷ m) h = absurd (omega (arith, h))
 
 no_node : (t : Tree Spot) → is_node (relabel label t) ≡ false → t ≡ empty
 no_node empty h = refl
@@ -136,4 +133,4 @@ module _ {MAX : ℕ} where
   pub nothing_held : (p : Parts MAX) → Sound p → tree_of p ≡ empty → p.spares ≡ 0 → p.nodes.held ≡ []
   nothing_held p s e none =
       let few : size (relabel label (located p)) ≡ 0 = λ i. size (e i) in
-      no_entries p.nodes.held (omega (arith, s.2.total, s.2.spares, none, few, size_relabel label (located p), ap (λ (t : Tree Spot). size t) (located_is p s.0 s.1 s.2)))
+      nil_from_length p.nodes.held (omega (arith, s.2.total, s.2.spares, none, few, size_relabel label (located p), ap (λ (t : Tree Spot). size t) (located_is p s.0 s.1 s.2)))

@@ -39,8 +39,8 @@ use Rattle.core.proofs.mem.Param.{El, R, args, el_x}
 use Rattle.core.proofs.ptr.Rows.{times_below, one_below}
 use Rattle.core.proofs.slots.Lent.{pointer_in, pointer_out}
 use Rattle.std_alloc.proofs.VecSteps.Shapes.{after}
+use Rattle.common_lemmas.proofs.Options.{is_some-Some}
 use Rattle.part_raw.specs.Raw.{block_lends}
-use Rattle.part_raw.proofs.Tuples.{some_of}
 use Rattle.part_raw.proofs.Slots.{held_within}
 use Rattle.part_raw.proofs.SlotSteps.{Sr, slots_d, sz, seen, slot_seen}
 use Rattle.part_raw.specs.contracts.raw.Slots.get as F
@@ -79,7 +79,7 @@ module _ (E : El) where
         let Asked : Type 0 = IsSome (get_or d.held i None) in let s : ℕ = sz E in
         qed 𝓛 (((‵ (flft κ q) ⊛ ‵ (flft κ₁ q₁) ⊛ ‵ ftrue) ⊛ ‵ (owns (types_at ended.signature.params z.0.0) z.0.3 (spelled z).0.4)) ∷ (raw (fact 𝓤 (κ₁ ⊑ E.row.lives)) ⊛ raw (fact 𝓤 Asked)) ∷ []) ∵
         move ! (1 ∷ []) $ split ! $ drop ! $ heard ! Asked (λ asked.
-        let found = some_of (get_or d.held i None) asked in let x : el_x E = found.0 in let within = held_within d.held i asked in
+        let found = is_some-Some (get_or d.held i None) asked in let x : el_x E = found.0 in let within = held_within d.held i asked in
         split ! $ split ! $ move ! (2 ∷ []) $ fsplit ! $ fsplit ! $ drop ! $
         use1 𝓛 (‵ (hidden_shr RawPtr κ d.ptr rb (ro + 0)) ⊛ ‵ (block_lends (R E) d.ptr d.held κ)) (seen E 𝓛 κ d rb ro) $ split ! $ move ! (1 ∷ []) $
         in_a_block ! d.ptr (λ p. block_lends (R E) p d.held κ) (id⊢ 𝓤 (never 𝓤)) (λ b o at. fsplit ! $ flt_l ! (λ fit.

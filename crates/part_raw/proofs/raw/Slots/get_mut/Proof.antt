@@ -42,9 +42,9 @@ use Rattle.core.proofs.mem.Param.{El, R, args, el_x}
 use Rattle.core.proofs.ptr.Rows.{times_below, one_below}
 use Rattle.std_alloc.proofs.RcSteps.{word}
 use Rattle.std_alloc.proofs.VecSteps.Shapes.{after}
+use Rattle.common_lemmas.proofs.Options.{is_some-Some}
 use Rattle.part_raw.specs.Raw.{slot_owns, slots_own}
 use Rattle.part_raw.specs.RawLends.{with_held}
-use Rattle.part_raw.proofs.Tuples.{some_of}
 use Rattle.part_raw.proofs.Slots.{held_within}
 use Rattle.part_raw.proofs.SlotSteps.{Sr, slots_d, sz, besides, slot_out, slot_in, slots_made, opened}
 use Rattle.part_raw.specs.contracts.raw.Slots.get_mut as F
@@ -97,7 +97,7 @@ module _ (E : El) where
         let Asked : Type 0 = IsSome (get_or d.held i None) in let s : ℕ = sz E in
         qed 𝓛 (((‵ (flft κ q) ⊛ ‵ (flft κ₁ q₁) ⊛ ‵ ftrue) ⊛ ‵ (owns (types_at ended.signature.params z.0.0) z.0.3 (spelled z).0.4)) ∷ (raw (fact 𝓤 (κ₁ ⊑ E.row.lives)) ⊛ raw (fact 𝓤 Asked)) ∷ []) ∵
         move ! (1 ∷ []) $ split ! $ drop ! $ heard ! Asked (λ asked.
-        let found = some_of (get_or d.held i None) asked in let x : el_x E = found.0 in let within = held_within d.held i asked in
+        let found = is_some-Some (get_or d.held i None) asked in let x : el_x E = found.0 in let within = held_within d.held i asked in
         split ! $ split ! $ move ! (2 ∷ []) $ fsplit ! $ fsplit3 ! $ keep ! (1 ∷ 2 ∷ 4 ∷ 5 ∷ []) $
         enter ! 𝓣.C 𝓣.Λ here (vptr rb ro ∷ vint w64 i ∷ []) _ $ alloc_all ! (λ l. pass_all ! refl ((tt, tt), ((tt, record { fits = fits }), tt)) $
         let En : Env 𝓤 H = env here.locals l in

@@ -1,6 +1,6 @@
 use Rattle.std.proofs.Common.{arith, ap, subst, IsSome, refl, ◌∙◌}
+use Rattle.common_lemmas.proofs.Options.{is_some-Some}
 use Rattle.part_raw.specs.Store.{store}
-use Rattle.part_raw.proofs.Tuples.{some_of}
 use Rattle.part_raw.proofs.Slots.{held_within, IsPartition-rewrite}
 use Rattle.part_raw.proofs.Parts.{small_blocks, held_part, found_at, tuples-rewritten}
 use Rattle.part_raw.proofs.Bitmaps.{bits_in}
@@ -21,7 +21,7 @@ invariant_of-self-lent g c w =
     let held = rw (← c.self.view_is) at c.requires in
     let within = held_part c.self.inside.blocks.items c.args.r (small_blocks _ _ c.self.invariant.mapped) held in
     let some = subst IsSome (found_at c.self.inside.blocks.items c.index_mut.result.now c.args.r (small_blocks _ _ c.self.invariant.mapped) within (rw c.part.ensures.value at c.index_mut.ensures.value)) held in
-    let old = some_of _ some in
+    let old = is_some-Some _ some in
     let bits = bits_in c.self.inside.blocks.items c.self.inside.occupancies.items c.index_mut.result.now (part_of c.args.r) c.self.invariant.mapped within (rw c.part.ensures.value at c.index_mut.ensures.value) in
     rw (c.part.ensures.value, c.slot.ensures.value)
     (IsStore-write c.self.inside.blocks.items c.self.inside.occupancies.items c.index_mut.result.now _ c.self.inside.free (part_of c.args.r) (slot_of c.args.r) c.self.inside.first_open old.0 w c.self.invariant

@@ -3,11 +3,12 @@ use Rattle.std.specs.declared.cmp.Ordering.TheVariants.{Equal}
 use Rattle.std.specs.Result.{is_ok}
 use Rattle.std.proofs.lemmas.List.{length_push}
 use Rattle.std.proofs.lemmas.List.Elements.{All-push}
+use Rattle.common_lemmas.proofs.Orders.{is_eq-Equal}
 use Rattle.part_raw.specs.declared.tuple_ref.TupleRef.{TupleRef}
 use Rattle.ttree_node.specs.Walk.{rest_of}
 use Rattle.mm_index.proofs.Asked.{IsOnlyAsked-trans, IsOnlyAsked-once, counted-le}
 use Rattle.ttree.specs.Held.{items_of_tree}
-use Rattle.ttree.proofs.Ranges.{All-left, in_range_before, in_range_all, not_Equal, is_Equal}
+use Rattle.ttree.proofs.Ranges.{All-left, in_range_before, in_range_all, not_Equal}
 use Rattle.ttree.proofs.tree.TTree.range.Goals as goal
 
 none : TupleRef
@@ -42,7 +43,7 @@ loop-r-preserved g c =
     let r = c.in-Some.r in
     let pushed : is_ok c.push.result ≡ true = c.is_err.ensures.negation ∙ ap (λ b. not b) c.if-is_err.false in
     let equal : g.P.Probe.place c.args.probe.now r ≡ Equal =
-    is_Equal _ (rw (← kept.only.answers, ← c.place.ensures.value, ← c.is_eq.ensures) c.if-not-is_eq.false) in record {
+    is_eq-Equal _ (rw (← kept.only.answers, ← c.place.ensures.value, ← c.is_eq.ensures) c.if-not-is_eq.false) in record {
       before = kept.before;
       added = rw (c.push.ensures.items, pushed, kept.added) (append_assoc c.args.out.now.items y (r ∷ []));
       left = kept.left ∙ ap (λ (xs : List TupleRef). y ++ xs) c.in-Some.ensures.steps ∙ sym (append_assoc y (r ∷ []) (rest_of c.next.new.self));

@@ -1,0 +1,9 @@
+pub mod Counts
+pub mod Elements
+pub mod Filters
+pub mod Maps
+pub mod Options
+pub mod Orders
+pub mod Pairs
+pub mod Places
+pub mod Tests

@@ -1,0 +1,41 @@
+-- What two things are to each other: less, equal or greater.
+use Rattle.std.proofs.Common.{Ordering, arith, inl, inr, refl, true, ◌≡◌, ◌≤◌, ◌⊎◌}
+use Rattle.std.specs.Ordering.{is_eq, is_lt, ordering_index, ordering_reverse, ordering_then}
+use Rattle.std.specs.declared.cmp.Ordering.TheVariants.{Equal, Greater, Less}
+
+pub is_eq-Equal : (o : Ordering) → is_eq o ≡ true → o ≡ Equal
+is_eq-Equal Less e = cc
+is_eq-Equal Equal e = refl
+is_eq-Equal Greater e = cc
+
+pub is_lt-Less : (o : Ordering) → is_lt o ≡ true → o ≡ Less
+is_lt-Less Less e = refl
+is_lt-Less Equal e = cc
+is_lt-Less Greater e = cc
+
+-- a thing beside itself
+pub Equal-from_reverse : (o : Ordering) → o ≡ ordering_reverse o → o ≡ Equal
+Equal-from_reverse Less e = cc
+Equal-from_reverse Equal e = refl
+Equal-from_reverse Greater e = cc
+
+pub is_eq-reverse : (o : Ordering) → is_eq (ordering_reverse o) ≡ is_eq o
+is_eq-reverse Less = refl
+is_eq-reverse Equal = refl
+is_eq-reverse Greater = refl
+
+pub ordering_index_within : (o : Ordering) → ordering_index o ≤ 2
+ordering_index_within Less = omega arith
+ordering_index_within Equal = omega arith
+ordering_index_within Greater = omega arith
+
+-- one order, and a second where the first tells nothing apart
+pub then-Equal : (o : Ordering) → ordering_then o Equal ≡ o
+then-Equal Less = refl
+then-Equal Equal = refl
+then-Equal Greater = refl
+
+pub then_first : (o p : Ordering) → ordering_then o p ≡ Less → (o ≡ Less) ⊎ (o ≡ Equal)
+then_first Less p e = inl refl
+then_first Equal p e = inr refl
+then_first Greater p e = cc
