@@ -14,12 +14,12 @@ use Rattle.mm_index.specs.Range.{NeverFalls}
 use Rattle.mm_index.specs.Order.{insert_by, insert_placed, remove_by}
 use Rattle.mm_index.proofs.Bags.{IsSameBag-sym, IsSameBag-with_hash, Contains-with_hash, Contains-from_with_hash}
 use Rattle.mm_index.proofs.Listed.{All-insert_by, All-remove_by, IsRising-agree, Contains-insert_by, Contains-insert_by_itself, Contains-remove_by, Contains-from_remove_by}
-use Rattle.mm_index.proofs.Members.{Contains-cons, Contains-cons_cases}
 use Rattle.mm_index.proofs.Placed.{insert_placed_by, IsRising-insert_by, IsRising-remove_by}
 use Rattle.mm_index.proofs.Refs.{Contains-same_refs}
 use Rattle.linked_order_tests.specs.declared.order.Author.{Author}
 use Rattle.linked_order_tests.specs.declared.order.Book.{Book}
 use Rattle.std.specs.declared.cmp.Ordering.TheVariants.{Equal}
+use Rattle.common_lemmas.proofs.Elements.{Contains-cons, Contains-cons_cases}
 use Rattle.linked_order_tests.specs.Ranks.{rank_at, book_rank, pair_cmp, rank_cmp, rank_cmp_strict, RanksDiffer}
 use Rattle.linked_order_tests.specs.Kept.{IsKept, IsKeptBut}
 use Rattle.linked_order_tests.proofs.Placing.{NeverFalls-ranks, held_from_rank, rank_itself}

@@ -2,11 +2,12 @@
 use Rattle.std.proofs.Common.{◌≡◌, ◌≢◌, ◌≤◌, ℕ, List, Option, Some, None, IsSome, is_some, refl, sym, ap, ◌∙◌, arith, IfSome, IfNone}
 use Rattle.std.specs.List.{All, Contains}
 use Rattle.std.specs.Option.{option_cmp, option_and_then}
-use Rattle.std.specs.Ordering.{ordering_index, ordering_reverse}
+use Rattle.std.specs.Ordering.{ordering_index}
 use Rattle.std.specs.declared.cmp.Ordering.{Ordering}
 use Rattle.std.specs.declared.cmp.Ordering.TheVariants.{Less, Equal, Greater}
 use Rattle.std.proofs.lemmas.List.Elements.{All-contains}
 use Rattle.std.specs.FinMap.{get}
+use Rattle.common_lemmas.proofs.Orders.{ordering_index_within, Equal-from_reverse}
 use Rattle.part_raw.specs.declared.tuple_ref.TupleRef.{TupleRef}
 use Rattle.part_raw.specs.Store.{Tuples}
 use Rattle.mm_index.specs.Order.{IsRising}
@@ -19,11 +20,6 @@ use Rattle.linked_order_tests.specs.Ranks.{rank_at, book_rank, pair_cmp, rank_cm
 abbrev cmp : Option (ℕ × ℕ) → Option (ℕ × ℕ) → Ordering
 cmp = option_cmp pair_cmp
 
-at_most_greater : (o : Ordering) → ordering_index o ≤ 2
-at_most_greater Less = omega arith
-at_most_greater Equal = omega arith
-at_most_greater Greater = omega arith
-
 -- what stands below stands no higher beside a third
 rises_beside : (x y s : Option (ℕ × ℕ)) → cmp x y ≡ Less → ordering_index (cmp x s) ≤ ordering_index (cmp y s)
 rises_beside x y s l = elim (cmp y s) as (λ o. cmp y s ≡ o → ordering_index (cmp x s) ≤ ordering_index o) [
@@ -32,7 +28,7 @@ rises_beside x y s l = elim (cmp y s) as (λ o. cmp y s ≡ o → ordering_index
       let same : y ≡ s = rank_exact y s e in
       let below : cmp x s ≡ Less = sym (ap (cmp x) same) ∙ l in
       rw below (omega arith)
-  | Greater ↦ λ e. at_most_greater (cmp x s)
+  | Greater ↦ λ e. ordering_index_within (cmp x s)
 ] refl
 
 pub NeverFalls-ranks : (authors : Tuples Author) (books : Tuples Book) (sought : Option (ℕ × ℕ)) (xs : List TupleRef) → IsRising (rank_cmp authors books) xs → NeverFalls (λ r. cmp (rank_at authors books r) sought) xs
@@ -41,14 +37,9 @@ NeverFalls-ranks authors books sought xs rising =
     (λ p q _ _ h. rises_beside (rank_at authors books p) (rank_at authors books q) sought h)
     rising
 
-own_turn : (o : Ordering) → o ≡ ordering_reverse o → o ≡ Equal
-own_turn Less e = cc
-own_turn Equal e = refl
-own_turn Greater e = cc
-
 -- a rank is Equal to itself
 pub rank_itself : (x : Option (ℕ × ℕ)) → cmp x x ≡ Equal
-rank_itself x = own_turn (cmp x x) (ranks_total.antisymm x x)
+rank_itself x = Equal-from_reverse (cmp x x) (ranks_total.antisymm x x)
 
 pub rank_found : (rank : TupleRef → Option (ℕ × ℕ)) (o : Option TupleRef) (sought : Option (ℕ × ℕ)) → IfSome o (λ r. cmp (rank r) sought ≡ Equal) → IfSome o (λ r. rank r ≡ sought)
 rank_found rank (Some r) sought h = rank_exact (rank r) sought h

@@ -6,6 +6,7 @@ use Rattle.lin_hash.proofs.Placed.{entries-relinked}
 use Rattle.lin_hash.proofs.Hung.{AreHung-inside, AreHung-link, AreSpare-relinked}
 use Rattle.lin_hash.proofs.Taken.{IsStored, IsStored-from_store, IsSameBag-entries, spare-inside, length-full}
 use Rattle.lin_hash.proofs.table.Table.add.Goals as goal
+use Rattle.lin_hash.proofs.table.Table.add.Goals.{After-store-place}
 
 pub store-place-requires-clause-place : goal.store-place-requires-clause-place
 store-place-requires-clause-place c =
@@ -20,53 +21,38 @@ store-place-requires-clause-room c = λ none.
     let nodes = ap (λ h. h.nodes) c.self.view_is in
     omega (arith, full, entries, nodes, c.requires, t.nodes.ok.0)
 
-pub link-requires-clause-place : goal.link-requires-clause-place
-link-requires-clause-place c =
+-- the entry is stored, and no chain has it yet
+stored : (c : After-store-place) → IsStored c.self.inside.address.level c.self.inside.address.mark c.self.inside.nodes.items c.store-place.new.nodes.items c.self.inside.heads.items c.store-place.new.spare (record { hash = c.args.hash; reference = c.args.r; next = c.none.result; in_use = true }) c.store-place.result
+stored c =
     let t = c.self.inside in
     let room : leads_to t.spare ≡ None → length t.nodes.items + 1 < 2 ^ 32 = λ none.
     (let full = length-full t.nodes.items t.spare c.self.invariant.spare none in
     let entries = ap (λ h. length h.entries) c.self.view_is in
     let nodes = ap (λ h. h.nodes) c.self.view_is in
     omega (arith, full, entries, nodes, c.requires)) in
-    let s : IsStored t.address.level t.address.mark t.nodes.items c.store-place.new.nodes.items t.heads.items c.store-place.new.spare (record { hash = c.args.hash; reference = c.args.r; next = c.none.result; in_use = true }) c.store-place.result =
-    IsStored-from_store t.address.level t.address.mark t.nodes.items c.store-place.new.nodes.items t.heads.items t.spare c.store-place.new.spare (record { hash = c.args.hash; reference = c.args.r; next = c.none.result; in_use = true }) c.store-place.result refl c.self.invariant.hung c.self.invariant.spare c.self.invariant.few room c.store-place.ensures.used c.store-place.ensures.grown in
+    IsStored-from_store t.address.level t.address.mark t.nodes.items c.store-place.new.nodes.items t.heads.items t.spare c.store-place.new.spare (record { hash = c.args.hash; reference = c.args.r; next = c.none.result; in_use = true }) c.store-place.result refl c.self.invariant.hung c.self.invariant.spare c.self.invariant.few room c.store-place.ensures.used c.store-place.ensures.grown
+
+pub link-requires-clause-place : goal.link-requires-clause-place
+link-requires-clause-place c =
+    let s = stored (goal.at.link-requires-clause-place c).After-store-place in
     rw c.deref_mut.ensures.value s.stands.inside
 
 pub link-requires-clause-few : goal.link-requires-clause-few
 link-requires-clause-few c =
-    let t = c.self.inside in
-    let room : leads_to t.spare ≡ None → length t.nodes.items + 1 < 2 ^ 32 = λ none.
-    (let full = length-full t.nodes.items t.spare c.self.invariant.spare none in
-    let entries = ap (λ h. length h.entries) c.self.view_is in
-    let nodes = ap (λ h. h.nodes) c.self.view_is in
-    omega (arith, full, entries, nodes, c.requires)) in
-    let s : IsStored t.address.level t.address.mark t.nodes.items c.store-place.new.nodes.items t.heads.items c.store-place.new.spare (record { hash = c.args.hash; reference = c.args.r; next = c.none.result; in_use = true }) c.store-place.result =
-    IsStored-from_store t.address.level t.address.mark t.nodes.items c.store-place.new.nodes.items t.heads.items t.spare c.store-place.new.spare (record { hash = c.args.hash; reference = c.args.r; next = c.none.result; in_use = true }) c.store-place.result refl c.self.invariant.hung c.self.invariant.spare c.self.invariant.few room c.store-place.ensures.used c.store-place.ensures.grown in
+    let s = stored (goal.at.link-requires-clause-few c).After-store-place in
     rw c.deref_mut.ensures.value s.few
 
 pub link-requires-clause-bucket : goal.link-requires-clause-bucket
 link-requires-clause-bucket c =
     let t = c.self.inside in
-    let room : leads_to t.spare ≡ None → length t.nodes.items + 1 < 2 ^ 32 = λ none.
-    (let full = length-full t.nodes.items t.spare c.self.invariant.spare none in
-    let entries = ap (λ h. length h.entries) c.self.view_is in
-    let nodes = ap (λ h. h.nodes) c.self.view_is in
-    omega (arith, full, entries, nodes, c.requires)) in
-    let s : IsStored t.address.level t.address.mark t.nodes.items c.store-place.new.nodes.items t.heads.items c.store-place.new.spare (record { hash = c.args.hash; reference = c.args.r; next = c.none.result; in_use = true }) c.store-place.result =
-    IsStored-from_store t.address.level t.address.mark t.nodes.items c.store-place.new.nodes.items t.heads.items t.spare c.store-place.new.spare (record { hash = c.args.hash; reference = c.args.r; next = c.none.result; in_use = true }) c.store-place.result refl c.self.invariant.hung c.self.invariant.spare c.self.invariant.few room c.store-place.ensures.used c.store-place.ensures.grown in
+    let s = stored (goal.at.link-requires-clause-bucket c).After-store-place in
     rw (c.deref_mut.ensures.value, c.deref_mut-2.ensures.value)
     (AreHung-inside t.address.level t.address.mark c.store-place.new.nodes.items t.heads.items _ s.hung (node_at c.store-place.new.nodes.items c.store-place.result).hash _ refl)
 
 pub invariant_of-self : goal.invariant_of-self
 invariant_of-self c =
     let t = c.self.inside in
-    let room : leads_to t.spare ≡ None → length t.nodes.items + 1 < 2 ^ 32 = λ none.
-    (let full = length-full t.nodes.items t.spare c.self.invariant.spare none in
-    let entries = ap (λ h. length h.entries) c.self.view_is in
-    let nodes = ap (λ h. h.nodes) c.self.view_is in
-    omega (arith, full, entries, nodes, c.requires)) in
-    let s : IsStored t.address.level t.address.mark t.nodes.items c.store-place.new.nodes.items t.heads.items c.store-place.new.spare (record { hash = c.args.hash; reference = c.args.r; next = c.none.result; in_use = true }) c.store-place.result =
-    IsStored-from_store t.address.level t.address.mark t.nodes.items c.store-place.new.nodes.items t.heads.items t.spare c.store-place.new.spare (record { hash = c.args.hash; reference = c.args.r; next = c.none.result; in_use = true }) c.store-place.result refl c.self.invariant.hung c.self.invariant.spare c.self.invariant.few room c.store-place.ensures.used c.store-place.ensures.grown in
+    let s = stored (goal.at.invariant_of-self c).After-store-place in
     let e : Placed = (c.args.hash, (c.args.r, c.store-place.result)) in
     let nodes_are = c.deref_mut.ensures.value in
     let heads_are = c.deref_mut-2.ensures.value in
@@ -86,13 +72,7 @@ invariant_of-self c =
 pub returns-clause-entries : goal.returns-clause-entries
 returns-clause-entries c =
     let t = c.self.inside in
-    let room : leads_to t.spare ≡ None → length t.nodes.items + 1 < 2 ^ 32 = λ none.
-    (let full = length-full t.nodes.items t.spare c.self.invariant.spare none in
-    let entries = ap (λ h. length h.entries) c.self.view_is in
-    let nodes = ap (λ h. h.nodes) c.self.view_is in
-    omega (arith, full, entries, nodes, c.requires)) in
-    let s : IsStored t.address.level t.address.mark t.nodes.items c.store-place.new.nodes.items t.heads.items c.store-place.new.spare (record { hash = c.args.hash; reference = c.args.r; next = c.none.result; in_use = true }) c.store-place.result =
-    IsStored-from_store t.address.level t.address.mark t.nodes.items c.store-place.new.nodes.items t.heads.items t.spare c.store-place.new.spare (record { hash = c.args.hash; reference = c.args.r; next = c.none.result; in_use = true }) c.store-place.result refl c.self.invariant.hung c.self.invariant.spare c.self.invariant.few room c.store-place.ensures.used c.store-place.ensures.grown in
+    let s = stored (goal.at.returns-clause-entries c).After-store-place in
     let e : Placed = (c.args.hash, (c.args.r, c.store-place.result)) in
     let nodes_are = c.deref_mut.ensures.value in
     let heads_are = c.deref_mut-2.ensures.value in

@@ -10,6 +10,7 @@ use Rattle.lin_hash.proofs.Hung.{AreHung-inside, freed_nodes, AreHung-freed, Are
 use Rattle.lin_hash.proofs.Rehung.{HoldsEntry-hung}
 use Rattle.lin_hash.proofs.Taken.{IsChain-stands, AreHung-taken, Stands-taken, behind-inside, AreSpare-taken, IsSameBag-left, length-taken, length-taken_head}
 use Rattle.lin_hash.proofs.table.Table.take.Goals as goal
+use Rattle.lin_hash.proofs.table.Table.take.Goals.{After-find-at}
 
 pub index-requires : goal.index-requires
 index-requires c =
@@ -31,16 +32,22 @@ find-at-requires c =
     subst (λ (ns : List Node). HoldsEntry ns c.index.result.now c.args.hash c.args.r) (sym c.deref.ensures.value)
     (subst (λ (k : Link). HoldsEntry t.nodes.items k c.args.hash c.args.r) (sym head) there)
 
-pub unlink-requires-clause-place : goal.unlink-requires-clause-place
-unlink-requires-clause-place c =
+-- the entry stands in its bucket's chain
+stands_there : (c : After-find-at) → StandsAt c.self.inside.nodes.items (head_at c.self.inside.heads.items c.bucket-bucket.result) c.args.hash c.args.r c.find-at.result
+stands_there c =
     let t = c.self.inside in
     let h = c.self.invariant.hung in
     let b = c.bucket-bucket.result in
     let l = AreHung-inside t.address.level t.address.mark t.nodes.items t.heads.items [] h c.args.hash b c.bucket-bucket.ensures in
     let head : c.index.result.now ≡ head_at t.heads.items b = c.index.ensures ∙ get_or_default t.heads.items b _ _ l in
-    let s : StandsAt t.nodes.items (head_at t.heads.items b) c.args.hash c.args.r c.find-at.result =
     subst (λ (k : Link). StandsAt t.nodes.items k c.args.hash c.args.r c.find-at.result) head
-    (subst (λ (ns : List Node). StandsAt ns c.index.result.now c.args.hash c.args.r c.find-at.result) c.deref.ensures.value c.find-at.ensures) in
+    (subst (λ (ns : List Node). StandsAt ns c.index.result.now c.args.hash c.args.r c.find-at.result) c.deref.ensures.value c.find-at.ensures)
+
+pub unlink-requires-clause-place : goal.unlink-requires-clause-place
+unlink-requires-clause-place c =
+    let t = c.self.inside in
+    let b = c.bucket-bucket.result in
+    let s = stands_there (goal.at.unlink-requires-clause-place c).After-find-at in
     let x : Placed = (c.args.hash, (c.args.r, c.find-at.result.place)) in
     rw c.deref_mut.ensures.value (IsChain-stands t.nodes.items true (head_at t.heads.items b) s.0 x s.1 s.2).inside
 
@@ -49,11 +56,7 @@ unlink-requires-clause-behind c =
     let t = c.self.inside in
     let h = c.self.invariant.hung in
     let b = c.bucket-bucket.result in
-    let l = AreHung-inside t.address.level t.address.mark t.nodes.items t.heads.items [] h c.args.hash b c.bucket-bucket.ensures in
-    let head : c.index.result.now ≡ head_at t.heads.items b = c.index.ensures ∙ get_or_default t.heads.items b _ _ l in
-    let s : StandsAt t.nodes.items (head_at t.heads.items b) c.args.hash c.args.r c.find-at.result =
-    subst (λ (k : Link). StandsAt t.nodes.items k c.args.hash c.args.r c.find-at.result) head
-    (subst (λ (ns : List Node). StandsAt ns c.index.result.now c.args.hash c.args.r c.find-at.result) c.deref.ensures.value c.find-at.ensures) in
+    let s = stands_there (goal.at.unlink-requires-clause-behind c).After-find-at in
     let x : Placed = (c.args.hash, (c.args.r, c.find-at.result.place)) in
     rw c.deref_mut.ensures.value (behind-inside t.address.level t.address.mark t.nodes.items t.heads.items h x b c.bucket-bucket.ensures s.0 s.1 s.2 c.find-at.result.behind s.3)
 
@@ -70,11 +73,7 @@ free-requires-clause-place c =
     let t = c.self.inside in
     let h = c.self.invariant.hung in
     let b = c.bucket-bucket.result in
-    let l = AreHung-inside t.address.level t.address.mark t.nodes.items t.heads.items [] h c.args.hash b c.bucket-bucket.ensures in
-    let head : c.index.result.now ≡ head_at t.heads.items b = c.index.ensures ∙ get_or_default t.heads.items b _ _ l in
-    let s : StandsAt t.nodes.items (head_at t.heads.items b) c.args.hash c.args.r c.find-at.result =
-    subst (λ (k : Link). StandsAt t.nodes.items k c.args.hash c.args.r c.find-at.result) head
-    (subst (λ (ns : List Node). StandsAt ns c.index.result.now c.args.hash c.args.r c.find-at.result) c.deref.ensures.value c.find-at.ensures) in
+    let s = stands_there (goal.at.free-requires-clause-place c).After-find-at in
     let x : Placed = (c.args.hash, (c.args.r, c.find-at.result.place)) in
     let behind : Option ℕ = c.find-at.result.behind in
     let next : Link = next_at t.nodes.items c.find-at.result.place in
@@ -91,11 +90,7 @@ invariant_of-self c =
     let t = c.self.inside in
     let h = c.self.invariant.hung in
     let b = c.bucket-bucket.result in
-    let l = AreHung-inside t.address.level t.address.mark t.nodes.items t.heads.items [] h c.args.hash b c.bucket-bucket.ensures in
-    let head : c.index.result.now ≡ head_at t.heads.items b = c.index.ensures ∙ get_or_default t.heads.items b _ _ l in
-    let s : StandsAt t.nodes.items (head_at t.heads.items b) c.args.hash c.args.r c.find-at.result =
-    subst (λ (k : Link). StandsAt t.nodes.items k c.args.hash c.args.r c.find-at.result) head
-    (subst (λ (ns : List Node). StandsAt ns c.index.result.now c.args.hash c.args.r c.find-at.result) c.deref.ensures.value c.find-at.ensures) in
+    let s = stands_there (goal.at.invariant_of-self c).After-find-at in
     let x : Placed = (c.args.hash, (c.args.r, c.find-at.result.place)) in
     let behind : Option ℕ = c.find-at.result.behind in
     let next : Link = next_at t.nodes.items c.find-at.result.place in
@@ -129,11 +124,7 @@ returns-clause-entries c =
     let t = c.self.inside in
     let h = c.self.invariant.hung in
     let b = c.bucket-bucket.result in
-    let l = AreHung-inside t.address.level t.address.mark t.nodes.items t.heads.items [] h c.args.hash b c.bucket-bucket.ensures in
-    let head : c.index.result.now ≡ head_at t.heads.items b = c.index.ensures ∙ get_or_default t.heads.items b _ _ l in
-    let s : StandsAt t.nodes.items (head_at t.heads.items b) c.args.hash c.args.r c.find-at.result =
-    subst (λ (k : Link). StandsAt t.nodes.items k c.args.hash c.args.r c.find-at.result) head
-    (subst (λ (ns : List Node). StandsAt ns c.index.result.now c.args.hash c.args.r c.find-at.result) c.deref.ensures.value c.find-at.ensures) in
+    let s = stands_there (goal.at.returns-clause-entries c).After-find-at in
     let x : Placed = (c.args.hash, (c.args.r, c.find-at.result.place)) in
     let behind : Option ℕ = c.find-at.result.behind in
     let next : Link = next_at t.nodes.items c.find-at.result.place in
