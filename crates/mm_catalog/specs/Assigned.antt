@@ -78,6 +78,10 @@ links_at s sets rs = flat_map (λ r. option_map_or (row_links_at s.targets sets)
 abbrev pub AreConsistent : List RelationState → Type 0
 AreConsistent relations = (c : CatalogState) × (c.relations ≡ relations) × IsConsistent c
 
+-- a relation and those before it, as they stand in a consistent catalog
+abbrev pub StandsIn : CatalogState → ℕ → List RelationState → RelationState → Type 0
+StandsIn c n before s = IsConsistent c × (slice_get c.relations n ≡ Some s) × (before ≡ take n c.relations)
+
 -- Rows of the relation of a number have the cells that these assignments set. It and the others are counted anew, and
 -- stand as they should.
 pub record IsUpdated (old new : List RelationState) (n : ℕ) (rs : List TupleRef) (assignments : List Assignment) : Type 0 where

@@ -1,5 +1,5 @@
 //! Values that are assigned to rows of one relation, among those that its links lead into.
-ghost use Rattle.std.specs.Prelude.{◌≡◌, ◌≢◌, ◌*◌, ◌<◌, ◌∷◌, ◌++◌, [], ℕ, Some, None, IsSome, IfOk, IfErr, OnOk, OnErr, All, map, length, slice_get};
+ghost use Rattle.std.specs.Prelude.{◌≡◌, ◌≢◌, ◌*◌, ◌<◌, ◌∷◌, ◌++◌, [], ℕ, Some, IsSome, IfOk, IfErr, OnOk, OnErr, All, map, length, drop, slice_get, slice_set};
 ghost use Rattle.std.specs.List.{AllPairs};
 ghost use Rattle.std.specs.Option.{option_map};
 ghost use Rattle.std.specs.FinMap as finite;
@@ -8,7 +8,8 @@ ghost use Rattle.mm_relation.specs.State.{RelationState, IsKept};
 ghost use Rattle.mm_catalog.specs.Linked.{target_at};
 ghost use Rattle.mm_catalog.specs.Counted.{linked_of, naming, none, IsHeldIn, HaveRoom, AreCountedBy};
 ghost use Rattle.mm_catalog.specs.Assigned as assigned;
-ghost use Rattle.mm_catalog.specs.Assigned.{AreConsistent, AreNotSet, AreSetBy, AreToColumns, IsNotUpdated, IsUpdated, links_at, row_links_at, set_links};
+ghost use Rattle.mm_catalog.specs.Assigned.{AreConsistent, AreNotSet, AreSetBy, AreToColumns, IsNotUpdated, IsUpdated, StandsIn, links_at, row_links_at, set_links};
+ghost use Rattle.mm_catalog.specs.State.{CatalogState};
 
 use crate::before::Before;
 use crate::cells::cell_of;
@@ -128,6 +129,33 @@ fn count_up_sets(
 
 // ---- the rows
 
+// Assigns values to these rows of a relation, whose links lead into those before it.
+fn set_rows_beside(
+    alloc: Global,
+    before: &mut [Relation],
+    relation: &mut Relation,
+    rows: &[TupleRef],
+    assignments: Sequence<Assignment>,
+) -> Result<(), Refusal>
+    requires stands { (c : CatalogState) × (n : ℕ) × StandsIn c n before.old relation.old }
+    requires columns { AreToColumns (length relation.old.targets) assignments }
+    requires held { All (λ r. IsSome (finite.get relation.old.rows r)) rows.now }
+    requires once { AllPairs (λ q r. q ≢ r) rows.now }
+    ensures updated { OnOk result ((c : CatalogState) (n : ℕ) → StandsIn c n before.old relation.old → IsUpdated c.relations (before.new ++ slice_set (drop n c.relations) 0 relation.new) n rows.now assignments) }
+    ensures refused { IfErr result (AreNotSet before.old relation.old.targets assignments) }
+    ensures others { OnErr result (before.new ≡ before.old) }
+    ensures unchanged { OnErr result (relation.new ≡ relation.old) }
+{
+    let sets = sets_of(alloc, before, relation, assignments)?;
+    let links = links_of(alloc, relation, rows, sets.as_slice())?;
+    let others = Before { relations: before };
+    relation.change_rows(alloc, &others, rows, sets.as_slice())?;
+    a_relation_is_kept(relation);
+    count_up_sets(before, relation, sets.as_slice(), rows.len() as u64);
+    count_down_all(before, links.as_slice());
+    Ok(())
+}
+
 /// Assigns values to these rows of the relation of this number.
 pub fn set_rows(
     alloc: Global,
@@ -146,13 +174,5 @@ pub fn set_rows(
     ensures refused { IfErr result (IsNotUpdated relations.old table.0 assignments) }
 {
     let (before, rest) = relations.split_at_mut(table.0);
-    let relation = &mut rest[0];
-    let sets = sets_of(alloc, before, relation, assignments)?;
-    let links = links_of(alloc, relation, rows, sets.as_slice())?;
-    let others = Before { relations: before };
-    relation.change_rows(alloc, &others, rows, sets.as_slice())?;
-    a_relation_is_kept(relation);
-    count_up_sets(before, relation, sets.as_slice(), rows.len() as u64);
-    count_down_all(before, links.as_slice());
-    Ok(())
+    set_rows_beside(alloc, before, &mut rest[0], rows, assignments)
 }
