@@ -11,11 +11,10 @@ use Rattle.mm_index.specs.Bag.{IsSameBag}
 use Rattle.mm_index.proofs.Bags.{IsSameBag-sym}
 use Rattle.mm_index.proofs.Members.{Contains-cons_cases}
 use Rattle.mm_relation.specs.declared.row.Row.{Row}
-use Rattle.mm_relation.specs.declared.indexes.Indexes.{Indexes}
 use Rattle.mm_relation.specs.Reading.{Keys, value_at, row_value}
 use Rattle.mm_relation.specs.Order.{KeysDiffer}
 use Rattle.mm_relation.specs.State.{IsKeyed}
-use Rattle.mm_relation.specs.Indexes.{Await, Gain, Have, Lose, Serve, HaveRoom, CanRead, CanReadRow, IsColumn}
+use Rattle.mm_relation.specs.Indexes.{Indexes, Await, Gain, Have, Lose, Serve, HaveRoom, CanRead, CanReadRow, IsColumn}
 use Rattle.mm_relation.proofs.KeyOrder.{unlisted, same_elsewhere, not_taken}
 use Rattle.mm_relation.proofs.Serving.{all_agree, all_gain, all_lose, all_bag, all_await, all_have}
 

@@ -1,10 +1,11 @@
 -- What a relation keeps as it is made, and as indexes of it are declared and dropped.
 use Rattle.ttree.specs.Held.{empty as leafless}
-use Rattle.std.proofs.Common.{Bool, true, false, not, Result, Ok, Err, OnOk, OnErr, ◌&&◌, ◌==◌, ◌≡◌, ◌<◌, ℕ, List, [], ◌∷◌, ◌++◌, Option, IsSome, is_some, refl, sym, ap, ◌∙◌, arith, subst, length, map, filter}
+use Rattle.std.proofs.Common.{Bool, true, false, cond, not, Result, Ok, Err, OnOk, OnErr, ◌&&◌, ◌||◌, ◌==◌, ◌≡◌, ◌<◌, ℕ, List, [], ◌∷◌, ◌++◌, Option, IsSome, is_some, refl, sym, ap, ◌∙◌, arith, subst, length, map, filter}
 use Rattle.std.proofs.lemmas.Bool.{and_parts}
 use Rattle.std.proofs.lemmas.List.{map-append, append-nil}
 use Rattle.std.proofs.lemmas.List.Elements.{filter-append, All-push}
 use Rattle.std.specs.FinMap.{get, len, empty, len-empty}
+use Rattle.std.specs.List.{list_any}
 use Rattle.std.specs.Option.{option_and_then}
 use Rattle.part_raw.proofs.Tuples.{held_at_first, held_tuple}
 use Rattle.part_raw.specs.TupleRefs.{ref_cmp}
@@ -16,15 +17,16 @@ use Rattle.plain_tables.specs.declared.schema.IndexKind.TheVariants.{Tree, Hash}
 use Rattle.mm_relation.specs.declared.row.Row.{Row}
 use Rattle.plain_tables.specs.declared.numbers.ColumnNumber.{ColumnNumber}
 use Rattle.mm_relation.specs.declared.numbers.DeclaredIndex.{DeclaredIndex}
-use Rattle.mm_relation.specs.declared.trees.TreeOn.{TreeOn}
-use Rattle.mm_relation.specs.declared.hashes.HashOn.{HashOn}
-use Rattle.mm_relation.specs.declared.indexes.Indexes.{Indexes}
+use Rattle.mm_relation.specs.declared.index.IndexOn.{IndexOn}
 use Rattle.mm_relation.specs.Reading.{Keys, value_at, row_value}
-use Rattle.mm_relation.specs.State.{RowTree, tree_list, IsKept, IsCurrent, TreeServes, HashServes, is_tree}
-use Rattle.mm_relation.specs.Indexes.{shown_tree, shown_hash, Serve}
-use Rattle.mm_relation.specs.Declaring.{declaration, IsAddedOf, IsDeclaredOf, without_first, is_index, indexes_without_of, without_of}
+use Rattle.mm_relation.specs.State.{RowTree, tree_list, IsKept, IsCurrent, TreeServes, HashServes, columns_with_tree, columns_with_hash, is_tree}
+use Rattle.mm_relation.specs.Indexes.{Indexes, SeenIndex, seen, tree_in, entries_in, kind_in, declaration_of, trees_of, hashes_of, Serve, Serves}
+use Rattle.mm_relation.specs.Declaring.{declaration, IsAdded, IsDeclaredOf, without_first, is_index, without_of}
+use Rattle.mm_relation.specs.Changes.{has_declared_on}
 use Rattle.mm_relation.specs.Seen.{state}
+use Rattle.mm_relation.proofs.Loops.{list_any-map}
 use Rattle.mm_relation.proofs.Dropping.{without_first-map, All-without_first, filter-without_first, filter-without_other}
+use Rattle.mm_relation.proofs.Keeping.{tree_columns, hash_columns, trees_served, hashes_served}
 
 -- the columns of declarations of which one more is the last
 columns_pushed : (test : DeclaredIndex → Bool) (declared : List DeclaredIndex) (index : DeclaredIndex) → map (λ d. d.column.0) (filter test (declared ++ index ∷ [])) ≡ map (λ d. d.column.0) (filter test declared) ++ map (λ d. d.column.0) (filter test (index ∷ []))
@@ -32,19 +34,16 @@ columns_pushed test declared index =
     ap (map (λ (d : DeclaredIndex). d.column.0)) (filter-append test declared (index ∷ []))
     ∙ map-append (λ (d : DeclaredIndex). d.column.0) (filter test declared) (filter test (index ∷ []))
 
--- the columns of indexes of which one more is the last
-shown_pushed : {A B : Type 0} (column : B → ℕ) (shown : A → B) (xs : List A) (x : A) → map column (map shown (xs ++ x ∷ [])) ≡ map column (map shown xs) ++ column (shown x) ∷ []
-shown_pushed column shown xs x =
-    ap (map column) (map-append shown xs (x ∷ [])) ∙ map-append column (map shown xs) (shown x ∷ [])
+-- what the indexes of a kind show, of which one more is the last
+pushed_of : {B : Type 0} (f : SeenIndex → B) (p : SeenIndex → Bool) (all new : Indexes) (on : IndexOn) → new ≡ all ++ on ∷ [] → map f (filter p (map seen new)) ≡ map f (filter p (map seen all)) ++ map f (filter p (seen on ∷ []))
+pushed_of f p all new on e =
+    ap (λ (xs : Indexes). map f (filter p (map seen xs))) e
+    ∙ ap (λ ss. map f (filter p ss)) (map-append seen all (on ∷ []))
+    ∙ ap (map f) (filter-append p (map seen all) (seen on ∷ [])) ∙ map-append f (filter p (map seen all)) (filter p (seen on ∷ []))
 
--- the columns of indexes of which the first on one is gone
-shown_without : {A B : Type 0} (column : B → ℕ) (shown : A → B) (xs : List A) (c : ℕ) (declared : List DeclaredIndex) (kind : DeclaredIndex → Bool) → map column (map shown xs) ≡ map (λ d. d.column.0) (filter kind declared) → map column (map shown (without_first (λ x. column (shown x) == c) xs)) ≡ map (λ d. d.column.0) (filter kind (without_first (λ d. (d.column.0 == c) && kind d) declared))
-shown_without column shown xs c declared kind same =
-    ap (map column) (sym (without_first-map (λ s. column s == c) shown xs))
-    ∙ sym (without_first-map (λ n. n == c) column (map shown xs))
-    ∙ ap (without_first (λ n. n == c)) same
-    ∙ without_first-map (λ n. n == c) (λ (d : DeclaredIndex). d.column.0) (filter kind declared)
-    ∙ ap (map (λ (d : DeclaredIndex). d.column.0)) (sym (filter-without_first (λ (d : DeclaredIndex). d.column.0 == c) kind declared))
+-- what the elements that pass two tests tell, without the first, and what the others tell
+first_gone : {A B : Type 0} (f : A → B) (at : B → Bool) (kind : A → Bool) (xs : List A) → map f (filter kind (without_first (λ x. at (f x) && kind x) xs)) ≡ without_first at (map f (filter kind xs))
+first_gone f at kind xs = ap (map f) (filter-without_first (λ x. at (f x)) kind xs) ∙ sym (without_first-map at f (filter kind xs))
 
 not_hash : (b : Bool) → b ≡ true → not b ≡ false
 not_hash true e = refl
@@ -56,7 +55,7 @@ not_tree false e = refl
 
 module _ (schema : Schema) (targets : List (Option ℕ)) (declared : List DeclaredIndex) (rows : Tuples Row) (tree : RowTree) (all : Indexes) (kept : IsKept (state schema targets declared rows tree all)) where
   pub current_with : (keys : Keys) (others : List DeclaredIndex) (new : Indexes) → IsCurrent keys (state schema targets declared rows tree all) → Serve keys rows (tree_list tree) new → IsCurrent keys (state schema targets others rows tree new)
-  current_with keys others new current serves = record { readable = current.readable; trees = serves.trees; hashes = serves.hashes }
+  current_with keys others new current serves = record { readable = current.readable; trees = trees_served keys rows (tree_list tree) (map seen new) serves; hashes = hashes_served keys rows (tree_list tree) (map seen new) serves }
 
   -- each row has a value in a column
   pub read_column : (keys : Keys) → IsCurrent keys (state schema targets declared rows tree all) → (c : ℕ) → c < length targets → (q : TupleRef) → IsSome (get rows q) → IsSome (value_at keys c rows q)
@@ -65,50 +64,68 @@ module _ (schema : Schema) (targets : List (Option ℕ)) (declared : List Declar
       subst (λ o. IsSome (option_and_then (row_value keys c) o)) (sym found.1) (current.readable q found.0 found.1 c inside)
 
   -- an index more
-  pub kept_added : (kind : IndexKind) (column : ColumnNumber) → column.0 < length targets → (new : Indexes) → IsAddedOf kind column all new → IsKept (state schema targets (declared ++ declaration column kind ∷ []) rows tree new)
-  kept_added Tree column inside new (on, same, e) = rw e (record {
-    keyed = kept.keyed;
-    few = kept.few;
-    width = kept.width;
-    trees =
-        shown_pushed (λ (t : ℕ × RowTree). t.0) shown_tree all.trees on ∙ (λ i. kept.trees i ++ same i ∷ [])
-        ∙ sym (columns_pushed (λ d. is_tree d.kind) declared (declaration column Tree));
-    hashes = kept.hashes ∙ sym (columns_pushed (λ d. not (is_tree d.kind)) declared (declaration column Tree) ∙ append-nil _);
-    within = All-push (λ d. d.column.0 < length targets) declared (declaration column Tree) kept.within inside;
-  })
-  kept_added Hash column inside new (on, same, e) = rw e (record {
-    keyed = kept.keyed;
-    few = kept.few;
-    width = kept.width;
-    trees = kept.trees ∙ sym (columns_pushed (λ d. is_tree d.kind) declared (declaration column Hash) ∙ append-nil _);
-    hashes =
-        shown_pushed (λ (h : ℕ × List (ℕ × TupleRef)). h.0) shown_hash all.hashes on ∙ (λ i. kept.hashes i ++ same i ∷ [])
-        ∙ sym (columns_pushed (λ d. not (is_tree d.kind)) declared (declaration column Hash));
-    within = All-push (λ d. d.column.0 < length targets) declared (declaration column Hash) kept.within inside;
-  })
+  added_columns : (test : DeclaredIndex → Bool) (index : DeclaredIndex) (new : Indexes) → IsAdded index all new → map (λ d. d.column.0) (filter test (map declaration_of all)) ≡ map (λ d. d.column.0) (filter test declared) → map (λ d. d.column.0) (filter test (map declaration_of new)) ≡ map (λ d. d.column.0) (filter test (declared ++ index ∷ []))
+  added_columns test index new (on, same, e) before =
+      ap (λ (ds : List DeclaredIndex). map (λ (d : DeclaredIndex). d.column.0) (filter test ds)) (ap (map declaration_of) e ∙ map-append declaration_of all (on ∷ []) ∙ (λ i. map declaration_of all ++ same i ∷ []))
+      ∙ columns_pushed test (map declaration_of all) index
+      ∙ ap (λ cs. cs ++ map (λ (d : DeclaredIndex). d.column.0) (filter test (index ∷ []))) before
+      ∙ sym (columns_pushed test declared index)
 
-  pub declared_added : (kind : IndexKind) (column : ColumnNumber) (new : Indexes) → IsAddedOf kind column all new → IsDeclaredOf kind column (state schema targets declared rows tree all) (state schema targets (declared ++ declaration column kind ∷ []) rows tree new)
-  declared_added Tree column new (on, same, e) = (
-    on.tree.tree,
-    ap (state schema targets (declared ++ declaration column Tree ∷ []) rows tree) e
-        ∙ (λ i. record (state schema targets (declared ++ declaration column Tree ∷ []) rows tree all) { trees = (map-append shown_tree all.trees (on ∷ []) ∙ (λ j. map shown_tree all.trees ++ (same j, on.tree.tree) ∷ [])) i }),
-  )
-  declared_added Hash column new (on, same, e) = (
-    on.hash.entries,
-    ap (state schema targets (declared ++ declaration column Hash ∷ []) rows tree) e
-        ∙ (λ i. record (state schema targets (declared ++ declaration column Hash ∷ []) rows tree all) { hashes = (map-append shown_hash all.hashes (on ∷ []) ∙ (λ j. map shown_hash all.hashes ++ (same j, on.hash.entries) ∷ [])) i }),
-  )
+  pub kept_added : (kind : IndexKind) (column : ColumnNumber) → column.0 < length targets → (new : Indexes) → IsAdded (declaration column kind) all new → IsKept (state schema targets (declared ++ declaration column kind ∷ []) rows tree new)
+  kept_added kind column inside new added = record {
+    keyed = kept.keyed;
+    few = kept.few;
+    width = kept.width;
+    trees = tree_columns new ∙ added_columns (λ d. is_tree d.kind) (declaration column kind) new added (sym (tree_columns all) ∙ kept.trees);
+    hashes = hash_columns new ∙ added_columns (λ d. not (is_tree d.kind)) (declaration column kind) new added (sym (hash_columns all) ∙ kept.hashes);
+    within = All-push (λ d. d.column.0 < length targets) declared (declaration column kind) kept.within inside;
+  }
+
+  pub declared_added : (kind : IndexKind) (column : ColumnNumber) (new : Indexes) → IsAdded (declaration column kind) all new → IsDeclaredOf kind column (state schema targets declared rows tree all) (state schema targets (declared ++ declaration column kind ∷ []) rows tree new)
+  declared_added Tree column new (on, same, e) =
+      let trees : trees_of (map seen new) ≡ trees_of (map seen all) ++ (column.0, tree_in on.index) ∷ [] =
+      pushed_of (λ (s : SeenIndex). (s.declaration.column.0, s.tree)) (λ s. is_tree s.declaration.kind) all new on e
+      ∙ (λ i. trees_of (map seen all) ++ trees_of (record { declaration = same i; tree = tree_in on.index; entries = entries_in on.index } ∷ [])) in
+      let hashes : hashes_of (map seen new) ≡ hashes_of (map seen all) =
+      pushed_of (λ (s : SeenIndex). (s.declaration.column.0, s.entries)) (λ s. not (is_tree s.declaration.kind)) all new on e
+      ∙ (λ i. hashes_of (map seen all) ++ hashes_of (record { declaration = same i; tree = tree_in on.index; entries = entries_in on.index } ∷ [])) ∙ append-nil _ in
+      (tree_in on.index, λ i. record (state schema targets (declared ++ declaration column Tree ∷ []) rows tree all) { trees = trees i; hashes = hashes i })
+  declared_added Hash column new (on, same, e) =
+      let trees : trees_of (map seen new) ≡ trees_of (map seen all) =
+      pushed_of (λ (s : SeenIndex). (s.declaration.column.0, s.tree)) (λ s. is_tree s.declaration.kind) all new on e
+      ∙ (λ i. trees_of (map seen all) ++ trees_of (record { declaration = same i; tree = tree_in on.index; entries = entries_in on.index } ∷ [])) ∙ append-nil _ in
+      let hashes : hashes_of (map seen new) ≡ hashes_of (map seen all) ++ (column.0, entries_in on.index) ∷ [] =
+      pushed_of (λ (s : SeenIndex). (s.declaration.column.0, s.entries)) (λ s. not (is_tree s.declaration.kind)) all new on e
+      ∙ (λ i. hashes_of (map seen all) ++ hashes_of (record { declaration = same i; tree = tree_in on.index; entries = entries_in on.index } ∷ [])) in
+      (entries_in on.index, λ i. record (state schema targets (declared ++ declaration column Hash ∷ []) rows tree all) { trees = trees i; hashes = hashes i })
 
   -- an index fewer
-  pub kept_without : (kind : IndexKind) (column : ColumnNumber) → IsKept (state schema targets (without_first (is_index (declaration column kind)) declared) rows tree (indexes_without_of kind column.0 all))
+  abbrev without : DeclaredIndex → Indexes
+  without index = without_first (λ on. is_index index (declaration_of on)) all
+
+  fewer_columns : (index : DeclaredIndex) (columns : List DeclaredIndex → List ℕ) (less : List ℕ → List ℕ) → ((ds : List DeclaredIndex) → columns (without_first (is_index index) ds) ≡ less (columns ds)) → columns (map declaration_of all) ≡ columns declared → columns (map declaration_of (without index)) ≡ columns (without_first (is_index index) declared)
+  fewer_columns index columns less each before =
+      ap columns (sym (without_first-map (is_index index) declaration_of all)) ∙ each (map declaration_of all) ∙ ap less before ∙ sym (each declared)
+
+  no_hash_like : (column : ColumnNumber) (d : DeclaredIndex) → is_index (declaration column Tree) d ≡ true → not (is_tree d.kind) ≡ false
+  no_hash_like column d e = not_hash (is_tree d.kind) (and_parts (d.column.0 == column.0) (is_tree d.kind) e).1
+
+  no_tree_like : (column : ColumnNumber) (d : DeclaredIndex) → is_index (declaration column Hash) d ≡ true → is_tree d.kind ≡ false
+  no_tree_like column d e = not_tree (is_tree d.kind) (and_parts (d.column.0 == column.0) (not (is_tree d.kind)) e).1
+
+  pub kept_without : (kind : IndexKind) (column : ColumnNumber) → IsKept (state schema targets (without_first (is_index (declaration column kind)) declared) rows tree (without (declaration column kind)))
   kept_without Tree column = record {
     keyed = kept.keyed;
     few = kept.few;
     width = kept.width;
-    trees = shown_without (λ (t : ℕ × RowTree). t.0) shown_tree all.trees column.0 declared (λ d. is_tree d.kind) kept.trees;
+    trees =
+        tree_columns (without (declaration column Tree))
+        ∙ fewer_columns (declaration column Tree) columns_with_tree (without_first (λ n. n == column.0))
+        (first_gone (λ (d : DeclaredIndex). d.column.0) (λ n. n == column.0) (λ d. is_tree d.kind)) (sym (tree_columns all) ∙ kept.trees);
     hashes =
-        kept.hashes
-        ∙ ap (map (λ (d : DeclaredIndex). d.column.0)) (sym (filter-without_other (is_index (declaration column Tree)) (λ d. not (is_tree d.kind)) declared (λ d e. not_hash (is_tree d.kind) (and_parts (d.column.0 == column.0) (is_tree d.kind) e).1)));
+        hash_columns (without (declaration column Tree))
+        ∙ fewer_columns (declaration column Tree) columns_with_hash (λ cs. cs)
+        (λ ds. ap (map (λ (d : DeclaredIndex). d.column.0)) (filter-without_other (is_index (declaration column Tree)) (λ d. not (is_tree d.kind)) ds (no_hash_like column))) (sym (hash_columns all) ∙ kept.hashes);
     within = All-without_first (λ d. d.column.0 < length targets) (is_index (declaration column Tree)) declared kept.within;
   }
   kept_without Hash column = record {
@@ -116,27 +133,67 @@ module _ (schema : Schema) (targets : List (Option ℕ)) (declared : List Declar
     few = kept.few;
     width = kept.width;
     trees =
-        kept.trees
-        ∙ ap (map (λ (d : DeclaredIndex). d.column.0)) (sym (filter-without_other (is_index (declaration column Hash)) (λ d. is_tree d.kind) declared (λ d e. not_tree (is_tree d.kind) (and_parts (d.column.0 == column.0) (not (is_tree d.kind)) e).1)));
-    hashes = shown_without (λ (h : ℕ × List (ℕ × TupleRef)). h.0) shown_hash all.hashes column.0 declared (λ d. not (is_tree d.kind)) kept.hashes;
+        tree_columns (without (declaration column Hash))
+        ∙ fewer_columns (declaration column Hash) columns_with_tree (λ cs. cs)
+        (λ ds. ap (map (λ (d : DeclaredIndex). d.column.0)) (filter-without_other (is_index (declaration column Hash)) (λ d. is_tree d.kind) ds (no_tree_like column))) (sym (tree_columns all) ∙ kept.trees);
+    hashes =
+        hash_columns (without (declaration column Hash))
+        ∙ fewer_columns (declaration column Hash) columns_with_hash (without_first (λ n. n == column.0))
+        (first_gone (λ (d : DeclaredIndex). d.column.0) (λ n. n == column.0) (λ d. not (is_tree d.kind))) (sym (hash_columns all) ∙ kept.hashes);
     within = All-without_first (λ d. d.column.0 < length targets) (is_index (declaration column Hash)) declared kept.within;
   }
 
-  pub state_without : (kind : IndexKind) (column : ColumnNumber) (others : List DeclaredIndex) → state schema targets others rows tree (indexes_without_of kind column.0 all) ≡ without_of kind column.0 (state schema targets others rows tree all)
-  state_without Tree column others = λ i. record (state schema targets others rows tree all) { trees = sym (without_first-map (λ (t : ℕ × RowTree). t.0 == column.0) shown_tree all.trees) i }
-  state_without Hash column others = λ i. record (state schema targets others rows tree all) { hashes = sym (without_first-map (λ (h : ℕ × List (ℕ × TupleRef)). h.0 == column.0) shown_hash all.hashes) i }
+  pub state_without : (kind : IndexKind) (column : ColumnNumber) (others : List DeclaredIndex) → state schema targets others rows tree (without (declaration column kind)) ≡ without_of kind column.0 (state schema targets others rows tree all)
+  state_without Tree column others =
+      let less : map seen (without (declaration column Tree)) ≡ without_first (λ s. is_index (declaration column Tree) s.declaration) (map seen all) = sym (without_first-map (λ (s : SeenIndex). is_index (declaration column Tree) s.declaration) seen all) in
+      let trees : trees_of (map seen (without (declaration column Tree))) ≡ without_first (λ t. t.0 == column.0) (trees_of (map seen all)) =
+      ap trees_of less ∙ first_gone (λ (s : SeenIndex). (s.declaration.column.0, s.tree)) (λ t. t.0 == column.0) (λ s. is_tree s.declaration.kind) (map seen all) in
+      let hashes : hashes_of (map seen (without (declaration column Tree))) ≡ hashes_of (map seen all) =
+      ap hashes_of less ∙ ap (map (λ (s : SeenIndex). (s.declaration.column.0, s.entries))) (filter-without_other (λ (s : SeenIndex). is_index (declaration column Tree) s.declaration) (λ s. not (is_tree s.declaration.kind)) (map seen all) (λ s e. no_hash_like column s.declaration e)) in
+      λ i. record (state schema targets others rows tree all) { trees = trees i; hashes = hashes i }
+  state_without Hash column others =
+      let less : map seen (without (declaration column Hash)) ≡ without_first (λ s. is_index (declaration column Hash) s.declaration) (map seen all) = sym (without_first-map (λ (s : SeenIndex). is_index (declaration column Hash) s.declaration) seen all) in
+      let trees : trees_of (map seen (without (declaration column Hash))) ≡ trees_of (map seen all) =
+      ap trees_of less ∙ ap (map (λ (s : SeenIndex). (s.declaration.column.0, s.tree))) (filter-without_other (λ (s : SeenIndex). is_index (declaration column Hash) s.declaration) (λ s. is_tree s.declaration.kind) (map seen all) (λ s e. no_tree_like column s.declaration e)) in
+      let hashes : hashes_of (map seen (without (declaration column Hash))) ≡ without_first (λ h. h.0 == column.0) (hashes_of (map seen all)) =
+      ap hashes_of less ∙ first_gone (λ (s : SeenIndex). (s.declaration.column.0, s.entries)) (λ h. h.0 == column.0) (λ s. not (is_tree s.declaration.kind)) (map seen all) in
+      λ i. record (state schema targets others rows tree all) { trees = trees i; hashes = hashes i }
 
   pub current_without : (kind : IndexKind) (column : ColumnNumber) (others : List DeclaredIndex) (keys : Keys) → IsCurrent keys (state schema targets declared rows tree all) → IsCurrent keys (without_of kind column.0 (state schema targets others rows tree all))
   current_without Tree column others keys current = record {
     readable = current.readable;
-    trees = All-without_first (TreeServes keys rows (tree_list tree)) (λ (t : ℕ × RowTree). t.0 == column.0) (map shown_tree all.trees) current.trees;
+    trees = All-without_first (TreeServes keys rows (tree_list tree)) (λ (t : ℕ × RowTree). t.0 == column.0) (trees_of (map seen all)) current.trees;
     hashes = current.hashes;
   }
   current_without Hash column others keys current = record {
     readable = current.readable;
     trees = current.trees;
-    hashes = All-without_first (HashServes keys rows (tree_list tree)) (λ (h : ℕ × List (ℕ × TupleRef)). h.0 == column.0) (map shown_hash all.hashes) current.hashes;
+    hashes = All-without_first (HashServes keys rows (tree_list tree)) (λ (h : ℕ × List (ℕ × TupleRef)). h.0 == column.0) (hashes_of (map seen all)) current.hashes;
   }
+
+-- whether one that passes two tests is there
+and_true : (b : Bool) → (b && true) ≡ b
+and_true true = refl
+and_true false = refl
+
+and_false : (b : Bool) → (b && false) ≡ false
+and_false true = refl
+and_false false = refl
+
+any_of : {A B : Type 0} (f : A → B) (at : B → Bool) (kind : A → Bool) (xs : List A) → list_any (λ x. at (f x) && kind x) xs ≡ list_any at (map f (filter kind xs))
+any_of f at kind [] = refl
+any_of f at kind (x ∷ xs) = elim (kind x) as (λ b. ((at (f x) && b) || list_any (λ y. at (f y) && kind y) xs) ≡ list_any at (map f (cond b (x ∷ filter kind xs) (filter kind xs)))) [
+  | true ↦ ap (λ b. b || list_any (λ y. at (f y) && kind y) xs) (and_true (at (f x))) ∙ ap (λ b. at (f x) || b) (any_of f at kind xs)
+  | false ↦ ap (λ b. b || list_any (λ y. at (f y) && kind y) xs) (and_false (at (f x))) ∙ any_of f at kind xs
+]
+
+pub any_declared : (schema : Schema) (targets : List (Option ℕ)) (declared : List DeclaredIndex) (rows : Tuples Row) (tree : RowTree) (all : Indexes) (column : ColumnNumber) (kind : IndexKind) → list_any (λ on. is_index (declaration column kind) (declaration_of on)) all ≡ has_declared_on (state schema targets declared rows tree all) column.0 kind
+any_declared schema targets declared rows tree all column Tree =
+    sym (list_any-map (λ (s : SeenIndex). is_index (declaration column Tree) s.declaration) seen all)
+    ∙ any_of (λ (s : SeenIndex). (s.declaration.column.0, s.tree)) (λ t. t.0 == column.0) (λ s. is_tree s.declaration.kind) (map seen all)
+any_declared schema targets declared rows tree all column Hash =
+    sym (list_any-map (λ (s : SeenIndex). is_index (declaration column Hash) s.declaration) seen all)
+    ∙ any_of (λ (s : SeenIndex). (s.declaration.column.0, s.entries)) (λ h. h.0 == column.0) (λ s. not (is_tree s.declaration.kind)) (map seen all)
 
 -- no row is there at first
 none_held : (q : TupleRef) → IsSome (get (empty {X = Row} {R = ref_cmp}) q) → ⊥
@@ -144,8 +201,8 @@ none_held q h =
     let none : is_some (get (empty {X = Row} {R = ref_cmp}) q) ≡ false = ap is_some (held_at_first q) in
     absurd (cc)
 
-pub kept_new : (schema : Schema) (targets : List (Option ℕ)) (declared : List DeclaredIndex) (rows : Tuples Row) (tree : RowTree) (all : Indexes) → length targets ≡ length schema.columns → declared ≡ [] → rows ≡ empty → tree ≡ leafless → all.trees ≡ [] → all.hashes ≡ [] → IsKept (state schema targets declared rows tree all)
-kept_new schema targets declared rows tree all width no_index no_row no_list no_tree no_hash = rw (no_index, no_row, no_list, no_tree, no_hash) (record {
+pub kept_new : (schema : Schema) (targets : List (Option ℕ)) (declared : List DeclaredIndex) (rows : Tuples Row) (tree : RowTree) (all : Indexes) → length targets ≡ length schema.columns → declared ≡ [] → rows ≡ empty → tree ≡ leafless → all ≡ [] → IsKept (state schema targets declared rows tree all)
+kept_new schema targets declared rows tree all width no_index no_row no_list no_all = rw (no_index, no_row, no_list, no_all) (record {
   keyed = record {
     keys_differ = record { apart = λ a b p q e. absurd (none_held a p) };
     lists = record { held = λ k d l. absurd (omega (arith, l)); count = sym (len-empty ref_cmp Row); listed = λ r h. absurd (none_held r h) };
@@ -159,8 +216,8 @@ kept_new schema targets declared rows tree all width no_index no_row no_list no_
 })
 
 -- with no rows there is nothing to serve
-pub current_new : (schema : Schema) (targets : List (Option ℕ)) (declared : List DeclaredIndex) (rows : Tuples Row) (tree : RowTree) (all : Indexes) → rows ≡ empty → all.trees ≡ [] → all.hashes ≡ [] → (keys : Keys) → IsCurrent keys (state schema targets declared rows tree all)
-current_new schema targets declared rows tree all no_row no_tree no_hash keys = rw (no_row, no_tree, no_hash) (record {
+pub current_new : (schema : Schema) (targets : List (Option ℕ)) (declared : List DeclaredIndex) (rows : Tuples Row) (tree : RowTree) (all : Indexes) → rows ≡ empty → all ≡ [] → (keys : Keys) → IsCurrent keys (state schema targets declared rows tree all)
+current_new schema targets declared rows tree all no_row no_all keys = rw (no_row, no_all) (record {
   readable = λ r t e. absurd (none_held r (ap is_some e));
   trees = λ k d l. absurd (omega (arith, l));
   hashes = λ k d l. absurd (omega (arith, l));
@@ -178,16 +235,6 @@ kept_told schema targets told declared rows tree all same kept = record {
 }
 
 -- one index more that serves the rows, where there was memory for it
-pub serve_tree : {E : Type 0} (keys : Keys) (rows : Tuples Row) (list : List TupleRef) (all : Indexes) (trees : List TreeOn) (on : TreeOn) (o : Result (Unit {0}) E) → OnOk o (trees ≡ all.trees ++ on ∷ []) → OnErr o (trees ≡ all.trees) → TreeServes keys rows list (shown_tree on) → Serve keys rows list all → Serve keys rows list (record { trees = trees; hashes = all.hashes })
-serve_tree keys rows list all trees on (Ok u) ok err serves before = record {
-  trees = rw (ok, map-append shown_tree all.trees (on ∷ [])) (All-push (TreeServes keys rows list) (map shown_tree all.trees) (shown_tree on) before.trees serves);
-  hashes = before.hashes;
-}
-serve_tree keys rows list all trees on (Err e) ok err serves before = record { trees = rw err before.trees; hashes = before.hashes }
-
-pub serve_hash : {E : Type 0} (keys : Keys) (rows : Tuples Row) (list : List TupleRef) (all : Indexes) (hashes : List HashOn) (on : HashOn) (o : Result (Unit {0}) E) → OnOk o (hashes ≡ all.hashes ++ on ∷ []) → OnErr o (hashes ≡ all.hashes) → HashServes keys rows list (shown_hash on) → Serve keys rows list all → Serve keys rows list (record { trees = all.trees; hashes = hashes })
-serve_hash keys rows list all hashes on (Ok u) ok err serves before = record {
-  trees = before.trees;
-  hashes = rw (ok, map-append shown_hash all.hashes (on ∷ [])) (All-push (HashServes keys rows list) (map shown_hash all.hashes) (shown_hash on) before.hashes serves);
-}
-serve_hash keys rows list all hashes on (Err e) ok err serves before = record { trees = before.trees; hashes = rw err before.hashes }
+pub serve_added : {E : Type 0} (keys : Keys) (rows : Tuples Row) (list : List TupleRef) (all new : Indexes) (on : IndexOn) (o : Result (Unit {0}) E) → OnOk o (new ≡ all ++ on ∷ []) → OnErr o (new ≡ all) → Serves keys rows list (seen on) → Serve keys rows list all → Serve keys rows list new
+serve_added keys rows list all new on (Ok u) ok err serves before = rw (ok, map-append seen all (on ∷ [])) (All-push (Serves keys rows list) (map seen all) (seen on) before serves)
+serve_added keys rows list all new on (Err e) ok err serves before = rw err before

@@ -1,5 +1,5 @@
 -- Cells set in one row after another.
-use Rattle.std.proofs.Common.{◌≡◌, ◌≢◌, ◌≤◌, ◌<◌, ◌+◌, ◌-◌, ◌++◌, ℕ, suc, List, [], ◌∷◌, Some, IsSome, is_some, sym, ap, ◌∙◌, arith, subst, length, take, get_or, inl, inr}
+use Rattle.std.proofs.Common.{◌≡◌, ◌≢◌, ◌≤◌, ◌<◌, ◌+◌, ◌-◌, ◌++◌, ℕ, suc, List, [], ◌∷◌, Some, IsSome, is_some, sym, ap, ◌∙◌, arith, subst, map, length, take, get_or}
 use Rattle.std.specs.List.{All, AllPairs, Contains}
 use Rattle.std.specs.Option.{option_and_then}
 use Rattle.std.specs.FinMap.{get, insert, len}
@@ -10,11 +10,13 @@ use Rattle.part_raw.proofs.Tuples.{held_tuple}
 use Rattle.plain_tables.specs.declared.numbers.ColumnNumber.{ColumnNumber}
 use Rattle.mm_relation.specs.declared.row.Row.{Row}
 use Rattle.mm_relation.specs.declared.row.Cell.{Cell}
-use Rattle.mm_relation.specs.declared.indexes.Indexes.{Indexes}
+use Rattle.mm_relation.specs.declared.index.Index.{Index}
+use Rattle.mm_relation.specs.declared.index.Index.TheVariants.{Tree, Hash}
+use Rattle.mm_relation.specs.declared.numbers.DeclaredIndex.{DeclaredIndex}
 use Rattle.mm_relation.specs.Reading.{Keys, cell_value, row_value, value_at}
 use Rattle.mm_relation.specs.State.{IsKeyed, IsReadable}
 use Rattle.mm_relation.specs.Settings.{with_cells, pile, piled, CanSet, CellsSet}
-use Rattle.mm_relation.specs.Indexes.{HaveRoom, CanRead, IsColumn, tree_columns, hash_columns, tree_room}
+use Rattle.mm_relation.specs.Indexes.{Indexes, HaveRoom, CanRead, IsColumn, declaration_of, wanted, room_in}
 use Rattle.mm_relation.proofs.Setting.{not_before, one_set, still_read}
 
 -- as many rows under the same list
@@ -25,11 +27,12 @@ as_few old now list before after few =
     omega arith
 
 -- room for some is room for one
+one_of : (n : ℕ) (index : Index) → 0 < n → wanted n index ≤ room_in index → wanted 1 index ≤ room_in index
+one_of n (Tree t) some room = omega (arith, some, room)
+one_of n (Hash h) some room = room
+
 pub room_for_one : (n : ℕ) (all : Indexes) → 0 < n → HaveRoom n all → HaveRoom 1 all
-room_for_one n all some room = record {
-  trees = λ k d l. let here : n ≤ tree_room (get_or all.trees k d) = room.trees k d l in omega arith;
-  hashes = room.hashes;
-}
+room_for_one n all some room = λ k d l. one_of n (get_or all k d).index some (room k d l)
 
 pub room_next : (n i : ℕ) (old new : Indexes) → i < n → ((m : ℕ) → HaveRoom (m + 1) old → HaveRoom m new) → HaveRoom (n - i) old → HaveRoom (n - (i + 1)) new
 room_next n i old new inside left room =
@@ -43,12 +46,9 @@ pile_split n i sets inside =
     ap (λ m. pile m sets) one
 
 -- what can be read while cells are set
-pub read_now : (keys : Keys) (old now : Tuples Row) (rs : List TupleRef) (sets : List (ColumnNumber × Cell)) (all new : Indexes) → CanSet keys old sets → CellsSet old now rs sets → tree_columns new ≡ tree_columns all → hash_columns new ≡ hash_columns all → CanRead keys old all → CanRead keys now new
-read_now keys old now rs sets all new can set trees hashes read c q column held =
-    let before : IsColumn all c = elim column [
-      | inl tree ↦ inl (subst (λ cs. Contains cs c) trees tree)
-      | inr hash ↦ inr (subst (λ cs. Contains cs c) hashes hash)
-    ] in
+pub read_now : (keys : Keys) (old now : Tuples Row) (rs : List TupleRef) (sets : List (ColumnNumber × Cell)) (all new : Indexes) → CanSet keys old sets → CellsSet old now rs sets → map declaration_of new ≡ map declaration_of all → CanRead keys old all → CanRead keys now new
+read_now keys old now rs sets all new can set declared read c q column held =
+    let before : IsColumn all c = subst (λ ds. Contains (map (λ (x : DeclaredIndex). x.column.0) ds) c) declared column in
     still_read keys old now rs sets can set c (λ p h. read c p before h) q held
 
 module _ (old now : Tuples Row) (rs : List TupleRef) (sets : List (ColumnNumber × Cell)) (i : ℕ) (r : TupleRef) (inside : i < length rs) (at : get_or rs i r ≡ r) (once : AllPairs (λ p q. p ≢ q) rs) (held : All (λ q. IsSome (get old q)) rs) (set : CellsSet old now (take i rs) sets) where

@@ -1,5 +1,5 @@
 -- What a relation keeps, told of its parts.
-use Rattle.std.proofs.Common.{◌≡◌, ◌≤◌, ◌<◌, ◌+◌, ℕ, List, [], ◌∷◌, IfSome, IfNone, Option, Some, None, IsSome, is_some, Bool, not, refl, sym, ap, ◌∙◌, arith, subst, length, map, filter, inl, inr}
+use Rattle.std.proofs.Common.{◌≡◌, ◌≤◌, ◌<◌, ◌+◌, ℕ, List, [], ◌∷◌, IfSome, IfNone, Option, Some, None, IsSome, is_some, Bool, true, false, cond, not, zero, suc, get_or, refl, sym, ap, ◌∙◌, arith, subst, length, map, filter, inl, inr}
 use Rattle.std.specs.List.{All, Contains}
 use Rattle.std.specs.Option.{option_and_then}
 use Rattle.std.proofs.lemmas.List.Elements.{All-contains}
@@ -8,31 +8,74 @@ use Rattle.part_raw.specs.declared.tuple_ref.TupleRef.{TupleRef}
 use Rattle.part_raw.specs.Store.{Tuples}
 use Rattle.part_raw.proofs.Tuples.{get-insert_same, get-insert_other, get-remove_other, held_tuple, len-insert_fresh}
 use Rattle.part_raw.proofs.Lookup.{same_or_other}
-use Rattle.mm_index.proofs.Members.{Contains-from_map, Contains-from_filter}
+use Rattle.mm_index.proofs.Members.{Contains-from_map, Contains-from_filter, Contains-filter, Contains-map}
 use Rattle.plain_tables.specs.declared.schema.Schema.{Schema}
 use Rattle.mm_relation.specs.declared.row.Row.{Row}
 use Rattle.mm_relation.specs.declared.numbers.DeclaredIndex.{DeclaredIndex}
-use Rattle.mm_relation.specs.declared.trees.TreeOn.{TreeOn}
-use Rattle.mm_relation.specs.declared.hashes.HashOn.{HashOn}
-use Rattle.mm_relation.specs.declared.indexes.Indexes.{Indexes}
+use Rattle.mm_relation.specs.declared.index.IndexOn.{IndexOn}
 use Rattle.mm_relation.specs.Reading.{Keys, row_value}
-use Rattle.mm_relation.specs.State.{RowTree, tree_list, IsKeyed, IsKept, IsCurrent, IsReadable, is_tree}
-use Rattle.mm_relation.specs.Indexes.{shown_tree, shown_hash, tree_columns, hash_columns, Serve, CanRead, CanReadRow, IsColumn}
+use Rattle.mm_relation.specs.State.{RowTree, tree_list, IsKeyed, IsKept, IsCurrent, IsReadable, TreeServes, HashServes, columns_with_tree, columns_with_hash, is_tree}
+use Rattle.mm_relation.specs.Indexes.{Indexes, SeenIndex, seen, declaration_of, kind_in, trees_of, hashes_of, Where, Serve, Serves, CanRead, CanReadRow, IsColumn}
 use Rattle.mm_relation.specs.Seen.{state}
 use Rattle.mm_relation.proofs.KeyOrder.{not_taken}
 
-trees_shown : (trees : List TreeOn) → map (λ (t : ℕ × RowTree). t.0) (map shown_tree trees) ≡ map (λ (t : TreeOn). t.column.0) trees
-trees_shown [] = refl
-trees_shown (t ∷ ts) = ap (λ cs. t.column.0 ∷ cs) (trees_shown ts)
+-- the columns of the indexes of a kind are those that are declared so
+columns_seen : {B : Type 0} (q : Bool → Bool) (X : SeenIndex → B) (all : Indexes) → map (λ (t : ℕ × B). t.0) (map (λ (s : SeenIndex). (s.declaration.column.0, X s)) (filter (λ s. q (is_tree s.declaration.kind)) (map seen all))) ≡ map (λ d. d.column.0) (filter (λ d. q (is_tree d.kind)) (map declaration_of all))
+columns_seen q X [] = refl
+columns_seen {B} q X (on ∷ all) = elim (q (is_tree (kind_in on.index))) as (λ b. map (λ (t : ℕ × B). t.0) (map (λ (s : SeenIndex). (s.declaration.column.0, X s)) (cond b (seen on ∷ filter (λ s. q (is_tree s.declaration.kind)) (map seen all)) (filter (λ s. q (is_tree s.declaration.kind)) (map seen all)))) ≡ map (λ (d : DeclaredIndex). d.column.0) (cond b (declaration_of on ∷ filter (λ d. q (is_tree d.kind)) (map declaration_of all)) (filter (λ d. q (is_tree d.kind)) (map declaration_of all)))) [
+  | true ↦ ap (λ cs. on.column.0 ∷ cs) (columns_seen q X all)
+  | false ↦ columns_seen q X all
+]
 
-hashes_shown : (hashes : List HashOn) → map (λ (h : ℕ × List (ℕ × TupleRef)). h.0) (map shown_hash hashes) ≡ map (λ (h : HashOn). h.column.0) hashes
-hashes_shown [] = refl
-hashes_shown (h ∷ hs) = ap (λ cs. h.column.0 ∷ cs) (hashes_shown hs)
+pub tree_columns : (all : Indexes) → map (λ (t : ℕ × RowTree). t.0) (trees_of (map seen all)) ≡ columns_with_tree (map declaration_of all)
+tree_columns all = columns_seen (λ b. b) (λ s. s.tree) all
+
+pub hash_columns : (all : Indexes) → map (λ (h : ℕ × List (ℕ × TupleRef)). h.0) (hashes_of (map seen all)) ≡ columns_with_hash (map declaration_of all)
+hash_columns all = columns_seen (λ b. not b) (λ s. s.entries) all
+
+-- indexes serve rows as the trees among them do, and the hashes
+all_cons : {A : Type 0} (P : A → Type 0) (x : A) (xs : List A) → P x → All P xs → All P (x ∷ xs)
+all_cons P x xs here rest zero d l = here
+all_cons P x xs here rest (suc k) d l = rest k d (omega (arith, l))
+
+all_tail : {A : Type 0} (P : A → Type 0) (x : A) (xs : List A) → All P (x ∷ xs) → All P xs
+all_tail P x xs h k d l = h (suc k) d (omega (arith, l))
+
+kept_of : {A B : Type 0} (P : B → Type 0) (Q : A → Type 0) (f : A → B) (p : A → Bool) (xs : List A) → ((x : A) → p x ≡ true → Q x → P (f x)) → All Q xs → All P (map f (filter p xs))
+kept_of P Q f p [] each h = λ k d l. absurd (omega (arith, l))
+kept_of P Q f p (x ∷ xs) each h =
+    let rest : All P (map f (filter p xs)) = kept_of P Q f p xs each (all_tail Q x xs h) in
+    elim (p x) as (λ b. p x ≡ b → All P (map f (cond b (x ∷ filter p xs) (filter p xs)))) [
+      | true ↦ λ e. all_cons P (f x) (map f (filter p xs)) (each x e (h 0 x (omega arith))) rest
+      | false ↦ λ e. rest
+    ] refl
+
+not_tree : (b : Bool) → not b ≡ true → b ≡ false
+not_tree true e = absurd (cc)
+not_tree false e = refl
+
+module _ (keys : Keys) (rows : Tuples Row) (refs : List TupleRef) where
+  pub trees_served : (ss : List SeenIndex) → All (Serves keys rows refs) ss → All (TreeServes keys rows refs) (trees_of ss)
+  trees_served ss h = kept_of (TreeServes keys rows refs) (Serves keys rows refs) (λ (s : SeenIndex). (s.declaration.column.0, s.tree)) (λ s. is_tree s.declaration.kind) ss
+      (λ s e serves. subst (λ b. Where b (TreeServes keys rows refs (s.declaration.column.0, s.tree)) (HashServes keys rows refs (s.declaration.column.0, s.entries))) e serves) h
+
+  pub hashes_served : (ss : List SeenIndex) → All (Serves keys rows refs) ss → All (HashServes keys rows refs) (hashes_of ss)
+  hashes_served ss h = kept_of (HashServes keys rows refs) (Serves keys rows refs) (λ (s : SeenIndex). (s.declaration.column.0, s.entries)) (λ s. not (is_tree s.declaration.kind)) ss
+      (λ s e serves. subst (λ b. Where b (TreeServes keys rows refs (s.declaration.column.0, s.tree)) (HashServes keys rows refs (s.declaration.column.0, s.entries))) (not_tree (is_tree s.declaration.kind) e) serves) h
+
+  pub all_served : (ss : List SeenIndex) → All (TreeServes keys rows refs) (trees_of ss) → All (HashServes keys rows refs) (hashes_of ss) → All (Serves keys rows refs) ss
+  all_served [] trees hashes = λ k d l. absurd (omega (arith, l))
+  all_served (s ∷ ss) trees hashes =
+      let both = (elim (is_tree s.declaration.kind) as (λ b. All (TreeServes keys rows refs) (map (λ (x : SeenIndex). (x.declaration.column.0, x.tree)) (cond b (s ∷ filter (λ x. is_tree x.declaration.kind) ss) (filter (λ x. is_tree x.declaration.kind) ss))) → All (HashServes keys rows refs) (map (λ (x : SeenIndex). (x.declaration.column.0, x.entries)) (cond (not b) (s ∷ filter (λ x. not (is_tree x.declaration.kind)) ss) (filter (λ x. not (is_tree x.declaration.kind)) ss))) → Where b (TreeServes keys rows refs (s.declaration.column.0, s.tree)) (HashServes keys rows refs (s.declaration.column.0, s.entries)) × All (Serves keys rows refs) ss) [
+        | true ↦ λ ts hs. (ts 0 (s.declaration.column.0, s.tree) (omega arith), all_served ss (all_tail (TreeServes keys rows refs) (s.declaration.column.0, s.tree) (trees_of ss) ts) hs)
+        | false ↦ λ ts hs. (hs 0 (s.declaration.column.0, s.entries) (omega arith), all_served ss ts (all_tail (HashServes keys rows refs) (s.declaration.column.0, s.entries) (hashes_of ss) hs))
+      ] trees hashes) in
+      all_cons (Serves keys rows refs) s ss both.0 both.1
 
 module _ (schema : Schema) (targets : List (Option ℕ)) (declared : List DeclaredIndex) where
   -- a relation is seen by what its indexes show
-  pub same_state : (rows now : Tuples Row) (tree now_tree : RowTree) (all new : Indexes) → now ≡ rows → now_tree ≡ tree → map shown_tree new.trees ≡ map shown_tree all.trees → map shown_hash new.hashes ≡ map shown_hash all.hashes → state schema targets declared now now_tree new ≡ state schema targets declared rows tree all
-  same_state rows now tree now_tree all new r l t h = λ i. record { schema = schema; targets = targets; declared = declared; rows = r i; by_key = l i; trees = t i; hashes = h i }
+  pub same_state : (rows now : Tuples Row) (tree now_tree : RowTree) (all new : Indexes) → now ≡ rows → now_tree ≡ tree → map seen new ≡ map seen all → state schema targets declared now now_tree new ≡ state schema targets declared rows tree all
+  same_state rows now tree now_tree all new r l same = λ i. record { schema = schema; targets = targets; declared = declared; rows = r i; by_key = l i; trees = trees_of (same i); hashes = hashes_of (same i) }
 
   within_declared : (test : DeclaredIndex → Bool) → All (λ d. d.column.0 < length targets) declared → (c : ℕ) → Contains (map (λ d. d.column.0) (filter test declared)) c → c < length targets
   within_declared test within c h =
@@ -42,10 +85,14 @@ module _ (schema : Schema) (targets : List (Option ℕ)) (declared : List Declar
 
   module _ (rows : Tuples Row) (tree : RowTree) (all : Indexes) (kept : IsKept (state schema targets declared rows tree all)) where
     pub column_within : (c : ℕ) → IsColumn all c → c < length targets
-    column_within c column = elim column [
-      | inl tree ↦ within_declared (λ d. is_tree d.kind) kept.within c (subst (λ cs. Contains cs c) (sym (trees_shown all.trees) ∙ kept.trees) tree)
-      | inr hash ↦ within_declared (λ d. not (is_tree d.kind)) kept.within c (subst (λ cs. Contains cs c) (sym (hashes_shown all.hashes) ∙ kept.hashes) hash)
-    ]
+    column_within c column =
+        let found = Contains-from_map (λ (d : DeclaredIndex). d.column.0) (map declaration_of all) c column in
+        let among : (test : DeclaredIndex → Bool) → test found.0 ≡ true → Contains (map (λ (d : DeclaredIndex). d.column.0) (filter test (map declaration_of all))) c =
+        (λ test e. subst (Contains (map (λ (d : DeclaredIndex). d.column.0) (filter test (map declaration_of all)))) found.2 (Contains-map (λ (d : DeclaredIndex). d.column.0) (filter test (map declaration_of all)) found.0 (Contains-filter test (map declaration_of all) found.0 found.1 e))) in
+        elim (is_tree found.0.kind) as (λ b. is_tree found.0.kind ≡ b → c < length targets) [
+          | true ↦ λ e. within_declared (λ d. is_tree d.kind) kept.within c (subst (λ cs. Contains cs c) (sym (tree_columns all) ∙ kept.trees) (among (λ d. is_tree d.kind) e))
+          | false ↦ λ e. within_declared (λ d. not (is_tree d.kind)) kept.within c (subst (λ cs. Contains cs c) (sym (hash_columns all) ∙ kept.hashes) (among (λ d. not (is_tree d.kind)) (ap not e)))
+        ] refl
 
     pub row_read : (keys : Keys) (row : Row) → IsReadable keys (length targets) row → CanReadRow keys row all
     row_read keys row readable c column = readable c (column_within c column)
@@ -56,22 +103,22 @@ module _ (schema : Schema) (targets : List (Option ℕ)) (declared : List Declar
         subst (λ o. IsSome (option_and_then (row_value keys c) o)) (sym found.1) (current.readable q found.0 found.1 c (column_within c column))
 
     pub served : (keys : Keys) → IsCurrent keys (state schema targets declared rows tree all) → Serve keys rows (tree_list tree) all
-    served keys current = record { trees = current.trees; hashes = current.hashes }
+    served keys current = all_served keys rows (tree_list tree) (map seen all) current.trees current.hashes
 
     -- what is kept once rows came or went
     module _ (now : Tuples Row) (now_tree : RowTree) (new : Indexes) where
-      pub kept_on : IsKeyed now (tree_list now_tree) → len now ≤ 16777216 → tree_columns new ≡ tree_columns all → hash_columns new ≡ hash_columns all → IsKept (state schema targets declared now now_tree new)
-      kept_on keyed few trees hashes = record {
+      pub kept_on : IsKeyed now (tree_list now_tree) → len now ≤ 16777216 → map declaration_of new ≡ map declaration_of all → IsKept (state schema targets declared now now_tree new)
+      kept_on keyed few same = record {
         keyed = keyed;
         few = few;
         width = kept.width;
-        trees = trees_shown new.trees ∙ trees ∙ sym (trees_shown all.trees) ∙ kept.trees;
-        hashes = hashes_shown new.hashes ∙ hashes ∙ sym (hashes_shown all.hashes) ∙ kept.hashes;
+        trees = tree_columns new ∙ ap columns_with_tree same ∙ sym (tree_columns all) ∙ kept.trees;
+        hashes = hash_columns new ∙ ap columns_with_hash same ∙ sym (hash_columns all) ∙ kept.hashes;
         within = kept.within;
       }
 
       pub current_on : (keys : Keys) → ((r : TupleRef) (t : Row) → get now r ≡ Some t → IsReadable keys (length targets) t) → Serve keys now (tree_list now_tree) new → IsCurrent keys (state schema targets declared now now_tree new)
-      current_on keys readable serves = record { readable = readable; trees = serves.trees; hashes = serves.hashes }
+      current_on keys readable serves = record { readable = readable; trees = trees_served keys now (tree_list now_tree) (map seen new) serves; hashes = hashes_served keys now (tree_list now_tree) (map seen new) serves }
 
 -- each row can be read once one came, or went
 pub readable_with : (keys : Keys) (width : ℕ) (rows : Tuples Row) (r : TupleRef) (t : Row) → ((q : TupleRef) (u : Row) → get rows q ≡ Some u → IsReadable keys width u) → IsReadable keys width t → (q : TupleRef) (u : Row) → get (insert rows r t) q ≡ Some u → IsReadable keys width u

@@ -9,10 +9,10 @@ use Rattle.part_raw.proofs.Lookup.{same_or_other}
 use Rattle.plain_tables.specs.declared.schema.Schema.{Schema}
 use Rattle.mm_relation.specs.declared.row.Row.{Row}
 use Rattle.mm_relation.specs.declared.numbers.DeclaredIndex.{DeclaredIndex}
-use Rattle.mm_relation.specs.declared.indexes.Indexes.{Indexes}
 use Rattle.mm_relation.specs.Reading.{Keys, value_at, row_value}
 use Rattle.mm_relation.specs.State.{RowTree, tree_list, IsKept, IsCurrent, IsReadable}
 use Rattle.mm_relation.specs.Changes.{with_referrers}
+use Rattle.mm_relation.specs.Indexes.{Indexes}
 use Rattle.mm_relation.specs.Seen.{state}
 use Rattle.mm_relation.proofs.KeyOrder.{keyed_again}
 use Rattle.mm_relation.proofs.Serving.{tree_agrees, hash_agrees}

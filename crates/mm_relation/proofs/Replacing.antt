@@ -1,5 +1,5 @@
 -- A row with cells set, under all indexes: it goes out of each and comes in again, and keeps its key and its reference.
-use Rattle.std.proofs.Common.{◌≡◌, ◌≤◌, ◌+◌, ℕ, List, Some, IsSome, is_some, refl, sym, ap, ◌∙◌, arith, subst, get_or, inl, inr}
+use Rattle.std.proofs.Common.{◌≡◌, ◌≤◌, ◌+◌, ℕ, List, Some, IsSome, is_some, refl, sym, ap, ◌∙◌, arith, subst, map, get_or, length, ◌<◌, inl, inr}
 use Rattle.std.specs.List.{Contains}
 use Rattle.std.specs.Option.{option_and_then}
 use Rattle.std.specs.FinMap.{get, insert, remove, len}
@@ -11,18 +11,25 @@ use Rattle.mm_index.specs.Order.{remove_by}
 use Rattle.plain_tables.specs.declared.numbers.ColumnNumber.{ColumnNumber}
 use Rattle.mm_relation.specs.declared.row.Row.{Row}
 use Rattle.mm_relation.specs.declared.row.Cell.{Cell}
-use Rattle.mm_relation.specs.declared.trees.TreeOn.{TreeOn}
-use Rattle.mm_relation.specs.declared.hashes.HashOn.{HashOn}
-use Rattle.mm_relation.specs.declared.indexes.Indexes.{Indexes}
+use Rattle.mm_relation.specs.declared.index.Index.{Index}
+use Rattle.mm_relation.specs.declared.index.Index.TheVariants.{Tree, Hash}
+use Rattle.mm_relation.specs.declared.numbers.DeclaredIndex.{DeclaredIndex}
 use Rattle.mm_relation.specs.Reading.{Keys, row_value}
 use Rattle.mm_relation.specs.Order.{column_cmp}
 use Rattle.mm_relation.specs.State.{IsKeyed, no_keys}
 use Rattle.mm_relation.specs.Settings.{with_cells, CanSet}
-use Rattle.mm_relation.specs.Indexes.{Await, Gain, Lose, Serve, HaveRoom, CanRead, CanReadRow, IsColumn, tree_room, hash_room}
-use Rattle.mm_relation.proofs.Loops.{same_mapped}
+use Rattle.mm_relation.specs.Indexes.{Indexes, Await, Gain, Lose, LosesAs, Serve, HaveRoom, CanRead, CanReadRow, IsColumn, wanted, room_in}
 use Rattle.mm_relation.proofs.KeyOrder.{keyed_again, keyed_without, bag_without, not_taken, still_held}
 use Rattle.mm_relation.proofs.Changing.{awaits, served_with, served_without}
+use Rattle.mm_relation.proofs.Serving.{lose_declared}
 use Rattle.mm_relation.proofs.Setting.{with_cells-key, row_with}
+
+-- an index out of which a row goes has room as before
+room_out : (keys : Keys) (rows : Tuples Row) (r : TupleRef) (c : ℕ) (old mid : Index) → LosesAs keys rows r c old mid → wanted 1 old ≤ room_in old → wanted 1 mid ≤ room_in mid
+room_out keys rows r c (Tree t) (Tree u) loses room = omega (arith, loses.room, room)
+room_out keys rows r c (Hash h) (Hash g) loses room = omega (arith, loses.room, room)
+room_out keys rows r c (Tree t) (Hash g) loses room = absurd loses
+room_out keys rows r c (Hash h) (Tree u) loses room = absurd loses
 
 module _ (keys : Keys) (rows : Tuples Row) (list : List TupleRef) (all : Indexes) (r : TupleRef) (t : Row) (sets : List (ColumnNumber × Cell)) (keyed : IsKeyed rows list) (read : CanRead keys rows all) (serves : Serve keys rows list all) (can : CanSet keys rows sets) (found : get rows r ≡ Some t) where
   held : IsSome (get rows r)
@@ -47,10 +54,7 @@ module _ (keys : Keys) (rows : Tuples Row) (list : List TupleRef) (all : Indexes
 
   module _ (mid : Indexes) (loses : Lose keys rows r all mid) where
     column_before : (c : ℕ) → IsColumn mid c → IsColumn all c
-    column_before c column = elim column [
-      | inl tree ↦ inl (subst (λ cs. Contains cs c) (same_mapped (λ (x : TreeOn). x.column.0) all.trees mid.trees loses.tree_count (λ k d l. (loses.trees k d l).column)) tree)
-      | inr hash ↦ inr (subst (λ cs. Contains cs c) (same_mapped (λ (x : HashOn). x.column.0) all.hashes mid.hashes loses.hash_count (λ k d l. (loses.hashes k d l).column)) hash)
-    ]
+    column_before c column = subst (λ ds. Contains (map (λ (x : DeclaredIndex). x.column.0) ds) c) (lose_declared keys rows r all mid loses) column
 
     read_less : CanRead keys (remove rows r) mid
     read_less c q column there =
@@ -66,16 +70,9 @@ module _ (keys : Keys) (rows : Tuples Row) (list : List TupleRef) (all : Indexes
         (subst (λ o. IsSome (option_and_then (row_value keys c) o)) found (read c r (column_before c column) held))
 
     room_less : HaveRoom 1 all → HaveRoom 1 mid
-    room_less room = record {
-      trees = λ k d l.
-          let before : 1 ≤ tree_room (get_or all.trees k d) = room.trees k d (omega (arith, loses.tree_count, l)) in
-          let out : tree_room (get_or all.trees k d) ≤ tree_room (get_or mid.trees k d) = (loses.trees k d (omega (arith, loses.tree_count, l))).room in
-          omega arith;
-      hashes = λ k d l.
-          let before : 1 ≤ hash_room (get_or all.hashes k d) = room.hashes k d (omega (arith, loses.hash_count, l)) in
-          let out : hash_room (get_or all.hashes k d) + 1 ≤ hash_room (get_or mid.hashes k d) = (loses.hashes k d (omega (arith, loses.hash_count, l))).room in
-          omega arith;
-    }
+    room_less room = λ k d l.
+        let inside : k < length all = omega (arith, loses.count, l) in
+        room_out keys rows r _ (get_or all k d).index (get_or mid k d).index (loses.at k d inside).1 (room k d inside)
 
     module _ (few : len rows ≤ 16777216) (room : HaveRoom 1 all) where
       await_again : Await keys (insert (remove rows r) r (with_cells sets t)) r mid

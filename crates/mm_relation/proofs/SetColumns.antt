@@ -1,30 +1,28 @@
 -- A row with cells set, under the indexes on columns that are set and under the others.
-use Rattle.std.proofs.Common.{◌≡◌, ◌≢◌, ◌≤◌, ◌<◌, ◌+◌, ◌-◌, ◌==◌, ℕ, zero, suc, true, false, cond, List, [], ◌∷◌, Some, refl, sym, ap, ◌∙◌, arith, subst, length, get_or, inl, inr}
+use Rattle.std.proofs.Common.{◌≡◌, ◌≢◌, ◌≤◌, ◌<◌, ◌+◌, ◌-◌, ◌==◌, ℕ, zero, suc, true, false, cond, List, [], ◌∷◌, Some, refl, sym, ap, ◌∙◌, arith, subst, map, length, get_or, inl, inr}
 use Rattle.std.specs.Prelude.{slice_get, slice_set}
 use Rattle.std.specs.List.{All, Contains, list_any}
 use Rattle.std.specs.Option.{option_and_then}
 use Rattle.std.specs.FinMap.{get, insert, len}
 use Rattle.std.proofs.lemmas.Bool.{or_parts, eq-eqb}
-use Rattle.std.proofs.lemmas.List.Elements.{All-map, Contains-get_or}
+use Rattle.std.proofs.lemmas.List.Elements.{All-map}
 use Rattle.part_raw.specs.declared.tuple_ref.TupleRef.{TupleRef}
 use Rattle.part_raw.specs.Store.{Tuples}
 use Rattle.part_raw.proofs.Tuples.{get-insert_same, get-insert_other}
 use Rattle.part_raw.proofs.Lookup.{same_or_other}
-use Rattle.mm_index.proofs.Members.{Contains-map}
 use Rattle.plain_tables.specs.declared.numbers.ColumnNumber.{ColumnNumber}
 use Rattle.mm_relation.specs.declared.row.Row.{Row}
 use Rattle.mm_relation.specs.declared.row.Cell.{Cell}
-use Rattle.mm_relation.specs.declared.trees.TreeOn.{TreeOn}
-use Rattle.mm_relation.specs.declared.hashes.HashOn.{HashOn}
-use Rattle.mm_relation.specs.declared.indexes.Indexes.{Indexes}
+use Rattle.mm_relation.specs.declared.index.Index.{Index}
+use Rattle.mm_relation.specs.declared.index.Index.TheVariants.{Tree, Hash}
+use Rattle.mm_relation.specs.declared.index.IndexOn.{IndexOn}
 use Rattle.mm_relation.specs.Reading.{Keys, cell_value, row_value, value_at, key_at}
-use Rattle.mm_relation.specs.State.{IsKeyed, TreeServes, HashServes}
+use Rattle.mm_relation.specs.State.{IsKeyed}
 use Rattle.mm_relation.specs.Settings.{with_cells, CanSet, sets_column}
-use Rattle.mm_relation.specs.Indexes.{Gain, Lose, Serve, HaveRoom, CanRead, IsColumn, tree_columns, hash_columns, shown_tree, shown_hash, tree_room, hash_room, TreeAwaits, TreeGains, TreeLoses, HashAwaits, HashGains, HashLoses}
-use Rattle.mm_relation.specs.Resetting.{Where, LoseSet, AwaitSet, GainSet, TreeLosesSet, TreeAwaitsSet, TreeGainsSet, HashLosesSet, HashAwaitsSet, HashGainsSet}
+use Rattle.mm_relation.specs.Indexes.{Indexes, Gain, Lose, Serve, Serves, HaveRoom, CanRead, IsColumn, seen, declaration_of, room_in, wanted, Where, Awaits, Gains, GainsAs, Loses, LosesAs, LosesSet, AwaitsSet, GainsSet, LoseSet, AwaitSet, GainSet}
 use Rattle.mm_relation.proofs.Loops.{same_mapped}
 use Rattle.mm_relation.proofs.Replacing.{await_now, served_now}
-use Rattle.mm_relation.proofs.Serving.{tree_agrees_in, hash_agrees_in, from_mapped}
+use Rattle.mm_relation.proofs.Serving.{agrees_in, from_mapped, from_where, column_at, gains_declared, loses_declared}
 use Rattle.mm_relation.proofs.Setting.{with_cells-key}
 
 -- a cell beside the one that is set
@@ -60,25 +58,13 @@ module _ (keys : Keys) (c : ℕ) where
       ∙ beside_one t s (not_key 0 s (omega arith)) parts.0
 
 -- an index by itself
-abbrev one_tree : TreeOn → Indexes
-one_tree on = record { trees = on ∷ []; hashes = [] }
-
-abbrev one_hash : HashOn → Indexes
-one_hash on = record { trees = []; hashes = on ∷ [] }
-
 all_one : {A : Type 0} (P : A → Type 0) (x : A) → P x → All P (x ∷ [])
 all_one P x h zero d l = h
 all_one P x h (suc k) d l = absurd (omega (arith, l))
 
-all_none : {A : Type 0} (P : A → Type 0) → All P []
-all_none P k d l = absurd (omega (arith, l))
-
 contains_one : {A : Type 0} (x y : A) → Contains (x ∷ []) y → x ≡ y
 contains_one x y (zero, l, e) = e
 contains_one x y (suc k, l, e) = absurd (omega (arith, l))
-
-contains_none : {A : Type 0} (y : A) → Contains [] y → ⊥
-contains_none y h = omega (arith, h.1)
 
 pairs_one : {A : Type 0} (P : A → A → Type 0) (x y : A) → P x y → (k : ℕ) (d : A) → k < length (x ∷ []) → P (get_or (x ∷ []) k d) (get_or (y ∷ []) k d)
 pairs_one P x y h zero d l = h
@@ -101,180 +87,95 @@ module _ (keys : Keys) (rows : Tuples Row) (list : List TupleRef) (all : Indexes
     | inr other ↦ ap (option_and_then (λ x. Some x.key)) (get-insert_other rows r q (with_cells sets t) other)
   ]
 
-  module _ (old : TreeOn) (column : IsColumn all old.column.0) (serves : TreeServes keys rows list (shown_tree old)) where
-    read_tree : CanRead keys rows (one_tree old)
-    read_tree c q here held = elim here [
-      | inl at ↦ read c q (subst (IsColumn all) (contains_one old.column.0 c at) column) held
-      | inr at ↦ absurd (contains_none c at)
-    ]
+  module _ (old : IndexOn) (column : IsColumn all old.column.0) (serves : Serves keys rows list (seen old)) (room : wanted 1 old.index ≤ room_in old.index) where
+    read_one : CanRead keys rows (old ∷ [])
+    read_one c q here held = read c q (subst (IsColumn all) (contains_one old.column.0 c here) column) held
 
-    serve_tree : Serve keys rows list (one_tree old)
-    serve_tree = record { trees = all_one (TreeServes keys rows list) (shown_tree old) serves; hashes = all_none (HashServes keys rows list) }
+    serve_one : Serve keys rows list (old ∷ [])
+    serve_one = all_one (Serves keys rows list) (seen old) serves
 
-    module _ (mid : TreeOn) (room : 1 ≤ tree_room old) (loses : TreeLoses keys rows r old mid) where
-      lose_tree : Lose keys rows r (one_tree old) (one_tree mid)
-      lose_tree = record { tree_count = refl; hash_count = refl; trees = pairs_one (TreeLoses keys rows r) old mid loses; hashes = λ k d l. absurd (omega (arith, l)) }
+    room_one : HaveRoom 1 (old ∷ [])
+    room_one = all_one (λ (on : IndexOn). wanted 1 on.index ≤ room_in on.index) old room
 
-      room_tree : HaveRoom 1 (one_tree old)
-      room_tree = record { trees = all_one (λ x. 1 ≤ tree_room x) old room; hashes = all_none (λ h. 1 ≤ hash_room h) }
+    module _ (mid : IndexOn) (loses : Loses keys rows r old mid) where
+      lose_one : Lose keys rows r (old ∷ []) (mid ∷ [])
+      lose_one = record { count = refl; at = pairs_one (Loses keys rows r) old mid loses }
 
-      tree_awaits : TreeAwaits keys now r mid
-      tree_awaits = (await_now keys rows list (one_tree old) r t sets keyed read_tree serve_tree can found (one_tree mid) lose_tree few room_tree).trees 0 mid (omega arith)
+      awaits_again : Awaits keys now r mid
+      awaits_again = await_now keys rows list (old ∷ []) r t sets keyed read_one serve_one can found (mid ∷ []) lose_one few room_one 0 mid (omega arith)
 
-      tree_again : (new : TreeOn) → TreeGains keys now r mid new → TreeServes keys now list (shown_tree new)
-      tree_again new gains =
-          let gain : Gain keys now r (one_tree mid) (one_tree new) = record { tree_count = refl; hash_count = refl; trees = pairs_one (TreeGains keys now r) mid new gains; hashes = λ k d l. absurd (omega (arith, l)) } in
-          (served_now keys rows list (one_tree old) r t sets keyed read_tree serve_tree can found (one_tree mid) lose_tree few room_tree (one_tree new) gain).trees 0 (shown_tree new) (omega arith)
+      serves_again : (new : IndexOn) → Gains keys now r mid new → Serves keys now list (seen new)
+      serves_again new gains =
+          let gain : Gain keys now r (mid ∷ []) (new ∷ []) = record { count = refl; at = pairs_one (Gains keys now r) mid new gains } in
+          served_now keys rows list (old ∷ []) r t sets keyed read_one serve_one can found (mid ∷ []) lose_one few room_one (new ∷ []) gain 0 (seen new) (omega arith)
 
-    pub awaits_tree : (mid : TreeOn) → 1 ≤ tree_room old → TreeLosesSet keys rows r sets old mid → TreeAwaitsSet keys now r sets mid
-    awaits_tree mid room loses =
-        elim (sets_column sets old.column.0) as (λ b. sets_column sets old.column.0 ≡ b → Where b (TreeLoses keys rows r old mid) (mid ≡ old) → TreeAwaitsSet keys now r sets mid) [
-          | true ↦ λ e h. λ is. tree_awaits mid room h
-          | false ↦ λ e h. λ is. let set : sets_column sets old.column.0 ≡ true = ap (λ x. sets_column sets x.column.0) (sym h) ∙ is in absurd (cc)
+    awaits_set : (mid : IndexOn) → LosesSet keys rows r sets old mid → AwaitsSet keys now r sets mid
+    awaits_set mid loses =
+        elim (sets_column sets old.column.0) as (λ b. sets_column sets old.column.0 ≡ b → Where b (Loses keys rows r old mid) (mid ≡ old) → AwaitsSet keys now r sets mid) [
+          | true ↦ λ e h. λ is. awaits_again mid h
+          | false ↦ λ e h. λ is. let set : sets_column sets old.column.0 ≡ true = ap (λ (x : IndexOn). sets_column sets x.column.0) (sym h) ∙ is in absurd (cc)
         ] refl loses
 
-    pub serves_tree : (mid new : TreeOn) → 1 ≤ tree_room old → TreeLosesSet keys rows r sets old mid → TreeGainsSet keys now r sets mid new → TreeServes keys now list (shown_tree new)
-    serves_tree mid new room loses gains =
-        elim (sets_column sets old.column.0) as (λ b. sets_column sets old.column.0 ≡ b → Where b (TreeLoses keys rows r old mid) (mid ≡ old) → TreeServes keys now list (shown_tree new)) [
+    serves_set : (mid new : IndexOn) → LosesSet keys rows r sets old mid → GainsSet keys now r sets mid new → Serves keys now list (seen new)
+    serves_set mid new loses gains =
+        elim (sets_column sets old.column.0) as (λ b. sets_column sets old.column.0 ≡ b → Where b (Loses keys rows r old mid) (mid ≡ old) → Serves keys now list (seen new)) [
           | true ↦ λ e h.
-              let set : sets_column sets mid.column.0 ≡ true = ap (sets_column sets) h.column ∙ e in
-              tree_again mid room h new (subst (λ b. Where b (TreeGains keys now r mid new) (new ≡ mid)) set gains)
+              let set : sets_column sets mid.column.0 ≡ true = ap (λ (c : ColumnNumber). sets_column sets c.0) h.0 ∙ e in
+              serves_again mid h new (subst (λ b. Where b (Gains keys now r mid new) (new ≡ mid)) set gains)
           | false ↦ λ e h.
-              let beside : sets_column sets mid.column.0 ≡ false = ap (λ x. sets_column sets x.column.0) h ∙ e in
-              let same : new ≡ old = subst (λ b. Where b (TreeGains keys now r mid new) (new ≡ mid)) beside gains ∙ h in
-              subst (λ x. TreeServes keys now list (shown_tree x)) (sym same) (tree_agrees_in keys rows now list (shown_tree old) (same_beside old.column.0 e) same_keys serves)
-        ] refl loses
-
-  module _ (old : HashOn) (column : IsColumn all old.column.0) (serves : HashServes keys rows list (shown_hash old)) where
-    read_hash : CanRead keys rows (one_hash old)
-    read_hash c q here held = elim here [
-      | inl at ↦ absurd (contains_none c at)
-      | inr at ↦ read c q (subst (IsColumn all) (contains_one old.column.0 c at) column) held
-    ]
-
-    serve_hash : Serve keys rows list (one_hash old)
-    serve_hash = record { trees = all_none (TreeServes keys rows list); hashes = all_one (HashServes keys rows list) (shown_hash old) serves }
-
-    module _ (mid : HashOn) (room : 1 ≤ hash_room old) (loses : HashLoses keys rows r old mid) where
-      lose_hash : Lose keys rows r (one_hash old) (one_hash mid)
-      lose_hash = record { tree_count = refl; hash_count = refl; trees = λ k d l. absurd (omega (arith, l)); hashes = pairs_one (HashLoses keys rows r) old mid loses }
-
-      room_hash : HaveRoom 1 (one_hash old)
-      room_hash = record { trees = all_none (λ x. 1 ≤ tree_room x); hashes = all_one (λ h. 1 ≤ hash_room h) old room }
-
-      hash_awaits : HashAwaits keys now r mid
-      hash_awaits = (await_now keys rows list (one_hash old) r t sets keyed read_hash serve_hash can found (one_hash mid) lose_hash few room_hash).hashes 0 mid (omega arith)
-
-      hash_again : (new : HashOn) → HashGains keys now r mid new → HashServes keys now list (shown_hash new)
-      hash_again new gains =
-          let gain : Gain keys now r (one_hash mid) (one_hash new) = record { tree_count = refl; hash_count = refl; trees = λ k d l. absurd (omega (arith, l)); hashes = pairs_one (HashGains keys now r) mid new gains } in
-          (served_now keys rows list (one_hash old) r t sets keyed read_hash serve_hash can found (one_hash mid) lose_hash few room_hash (one_hash new) gain).hashes 0 (shown_hash new) (omega arith)
-
-    pub awaits_hash : (mid : HashOn) → 1 ≤ hash_room old → HashLosesSet keys rows r sets old mid → HashAwaitsSet keys now r sets mid
-    awaits_hash mid room loses =
-        elim (sets_column sets old.column.0) as (λ b. sets_column sets old.column.0 ≡ b → Where b (HashLoses keys rows r old mid) (mid ≡ old) → HashAwaitsSet keys now r sets mid) [
-          | true ↦ λ e h. λ is. hash_awaits mid room h
-          | false ↦ λ e h. λ is. let set : sets_column sets old.column.0 ≡ true = ap (λ x. sets_column sets x.column.0) (sym h) ∙ is in absurd (cc)
-        ] refl loses
-
-    pub serves_hash : (mid new : HashOn) → 1 ≤ hash_room old → HashLosesSet keys rows r sets old mid → HashGainsSet keys now r sets mid new → HashServes keys now list (shown_hash new)
-    serves_hash mid new room loses gains =
-        elim (sets_column sets old.column.0) as (λ b. sets_column sets old.column.0 ≡ b → Where b (HashLoses keys rows r old mid) (mid ≡ old) → HashServes keys now list (shown_hash new)) [
-          | true ↦ λ e h.
-              let set : sets_column sets mid.column.0 ≡ true = ap (sets_column sets) h.column ∙ e in
-              hash_again mid room h new (subst (λ b. Where b (HashGains keys now r mid new) (new ≡ mid)) set gains)
-          | false ↦ λ e h.
-              let beside : sets_column sets mid.column.0 ≡ false = ap (λ x. sets_column sets x.column.0) h ∙ e in
-              let same : new ≡ old = subst (λ b. Where b (HashGains keys now r mid new) (new ≡ mid)) beside gains ∙ h in
-              subst (λ x. HashServes keys now list (shown_hash x)) (sym same) (hash_agrees_in keys rows now list (shown_hash old) (same_beside old.column.0 e) serves)
+              let beside : sets_column sets mid.column.0 ≡ false = ap (λ (x : IndexOn). sets_column sets x.column.0) h ∙ e in
+              let same : new ≡ old = subst (λ b. Where b (Gains keys now r mid new) (new ≡ mid)) beside gains ∙ h in
+              subst (λ x. Serves keys now list (seen x)) (sym same) (agrees_in keys rows now list (seen old) (λ q _. same_beside old.column.0 e q) (λ q _. same_keys q) serves)
         ] refl loses
 
   -- all indexes together
   module _ (serves : Serve keys rows list all) (mid : Indexes) (loses : LoseSet keys rows r sets all mid) (room : HaveRoom 1 all) where
-    tree_at : (k : ℕ) (d : TreeOn) → k < length all.trees → TreeServes keys rows list (shown_tree (get_or all.trees k d))
-    tree_at k d l = from_mapped (TreeServes keys rows list) shown_tree all.trees serves.trees k d l
-
-    hash_at_place : (k : ℕ) (d : HashOn) → k < length all.hashes → HashServes keys rows list (shown_hash (get_or all.hashes k d))
-    hash_at_place k d l = from_mapped (HashServes keys rows list) shown_hash all.hashes serves.hashes k d l
-
-    tree_column : (k : ℕ) (d : TreeOn) → k < length all.trees → IsColumn all (get_or all.trees k d).column.0
-    tree_column k d l = inl (Contains-map (λ (x : TreeOn). x.column.0) all.trees (get_or all.trees k d) (Contains-get_or all.trees k d l))
-
-    hash_column : (k : ℕ) (d : HashOn) → k < length all.hashes → IsColumn all (get_or all.hashes k d).column.0
-    hash_column k d l = inr (Contains-map (λ (x : HashOn). x.column.0) all.hashes (get_or all.hashes k d) (Contains-get_or all.hashes k d l))
+    at : (k : ℕ) (d : IndexOn) → k < length all → Serves keys rows list (seen (get_or all k d))
+    at k d l = from_mapped (Serves keys rows list) seen all serves k d l
 
     pub await_set : AwaitSet keys now r sets mid
-    await_set = record {
-      trees = λ k d l. let inside : k < length all.trees = omega (arith, loses.tree_count, l) in
-          awaits_tree (get_or all.trees k d) (tree_column k d inside) (tree_at k d inside) (get_or mid.trees k d) (room.trees k d inside) (loses.trees k d inside);
-      hashes = λ k d l. let inside : k < length all.hashes = omega (arith, loses.hash_count, l) in
-          awaits_hash (get_or all.hashes k d) (hash_column k d inside) (hash_at_place k d inside) (get_or mid.hashes k d) (room.hashes k d inside) (loses.hashes k d inside);
-    }
+    await_set = λ k d l. let inside : k < length all = omega (arith, loses.count, l) in
+        awaits_set (get_or all k d) (column_at all k d inside) (at k d inside) (room k d inside) (get_or mid k d) (loses.at k d inside)
 
     pub served_set : (new : Indexes) → GainSet keys now r sets mid new → Serve keys now list new
-    served_set new gains = record {
-      trees = All-map (TreeServes keys now list) shown_tree new.trees (λ k d l.
-          let inside : k < length all.trees = omega (arith, loses.tree_count, gains.tree_count, l) in
-          let between : k < length mid.trees = omega (arith, gains.tree_count, l) in
-          serves_tree (get_or all.trees k d) (tree_column k d inside) (tree_at k d inside) (get_or mid.trees k d) (get_or new.trees k d) (room.trees k d inside) (loses.trees k d inside) (gains.trees k d between));
-      hashes = All-map (HashServes keys now list) shown_hash new.hashes (λ k d l.
-          let inside : k < length all.hashes = omega (arith, loses.hash_count, gains.hash_count, l) in
-          let between : k < length mid.hashes = omega (arith, gains.hash_count, l) in
-          serves_hash (get_or all.hashes k d) (hash_column k d inside) (hash_at_place k d inside) (get_or mid.hashes k d) (get_or new.hashes k d) (room.hashes k d inside) (loses.hashes k d inside) (gains.hashes k d between));
-    }
+    served_set new gains = All-map (Serves keys now list) seen new (λ k d l.
+        let inside : k < length all = omega (arith, loses.count, gains.count, l) in
+        serves_set (get_or all k d) (column_at all k d inside) (at k d inside) (room k d inside) (get_or mid k d) (get_or new k d) (loses.at k d inside) (gains.at k d (omega (arith, gains.count, l))))
 
--- the columns and the room stay
+-- the declarations and the room stay
 module _ (keys : Keys) (rows now : Tuples Row) (r : TupleRef) (sets : List (ColumnNumber × Cell)) where
-  tree_lost : (old mid : TreeOn) → TreeLosesSet keys rows r sets old mid → (mid.column.0 ≡ old.column.0) × (tree_room old ≤ tree_room mid)
-  tree_lost old mid loses =
-      elim (sets_column sets old.column.0) as (λ b. Where b (TreeLoses keys rows r old mid) (mid ≡ old) → (mid.column.0 ≡ old.column.0) × (tree_room old ≤ tree_room mid)) [
-        | true ↦ λ h. (h.column, h.room)
-        | false ↦ λ h. (ap (λ x. x.column.0) h, let same : tree_room mid ≡ tree_room old = ap tree_room h in omega arith)
-      ] loses
+  fewer_wanted : (n : ℕ) (index : Index) → wanted (n + 1) index ≤ room_in index → wanted n index ≤ room_in index
+  fewer_wanted n (Tree t) room = omega (arith, room)
+  fewer_wanted n (Hash h) room = room
 
-  tree_gained : (mid new : TreeOn) → TreeGainsSet keys now r sets mid new → (new.column.0 ≡ mid.column.0) × (tree_room mid ≤ tree_room new + 1)
-  tree_gained mid new gains =
-      elim (sets_column sets mid.column.0) as (λ b. Where b (TreeGains keys now r mid new) (new ≡ mid) → (new.column.0 ≡ mid.column.0) × (tree_room mid ≤ tree_room new + 1)) [
-        | true ↦ λ h. (h.column, h.room)
-        | false ↦ λ h. (ap (λ x. x.column.0) h, let same : tree_room new ≡ tree_room mid = ap tree_room h in omega arith)
-      ] gains
+  room_back : (n c : ℕ) (old mid new : Index) → LosesAs keys rows r c old mid → GainsAs keys now r c mid new → wanted (n + 1) old ≤ room_in old → wanted n new ≤ room_in new
+  room_back n c (Tree s) (Tree t) (Tree u) loses gains room = omega (arith, loses.room, gains.room, room)
+  room_back n c (Hash f) (Hash g) (Hash h) loses gains room = omega (arith, loses.room, gains.room, room)
+  room_back n c (Tree s) (Tree t) (Hash h) loses gains room = absurd gains
+  room_back n c (Hash f) (Hash g) (Tree u) loses gains room = absurd gains
+  room_back n c (Tree s) (Hash g) new loses gains room = absurd loses
+  room_back n c (Hash f) (Tree t) new loses gains room = absurd loses
 
-  hash_kept : (old mid new : HashOn) → HashLosesSet keys rows r sets old mid → HashGainsSet keys now r sets mid new → (new.column.0 ≡ old.column.0) × (1 ≤ hash_room old → 1 ≤ hash_room new)
-  hash_kept old mid new loses gains =
-      elim (sets_column sets old.column.0) as (λ b. sets_column sets old.column.0 ≡ b → Where b (HashLoses keys rows r old mid) (mid ≡ old) → (new.column.0 ≡ old.column.0) × (1 ≤ hash_room old → 1 ≤ hash_room new)) [
+  room_again : (n : ℕ) (old mid new : IndexOn) → LosesSet keys rows r sets old mid → GainsSet keys now r sets mid new → wanted (n + 1) old.index ≤ room_in old.index → wanted n new.index ≤ room_in new.index
+  room_again n old mid new loses gains room =
+      elim (sets_column sets old.column.0) as (λ b. sets_column sets old.column.0 ≡ b → Where b (Loses keys rows r old mid) (mid ≡ old) → wanted n new.index ≤ room_in new.index) [
         | true ↦ λ e h.
-            let set : sets_column sets mid.column.0 ≡ true = ap (sets_column sets) h.column ∙ e in
-            let back : HashGains keys now r mid new = subst (λ b. Where b (HashGains keys now r mid new) (new ≡ mid)) set gains in
-            (back.column ∙ h.column, λ some. omega (arith, h.room, back.room, some))
+            let set : sets_column sets mid.column.0 ≡ true = ap (λ (c : ColumnNumber). sets_column sets c.0) h.0 ∙ e in
+            let back : Gains keys now r mid new = subst (λ b. Where b (Gains keys now r mid new) (new ≡ mid)) set gains in
+            room_back n old.column.0 old.index mid.index new.index h.1 (subst (λ c. GainsAs keys now r c mid.index new.index) (ap (λ (c : ColumnNumber). c.0) h.0) back.1) room
         | false ↦ λ e h.
-            let beside : sets_column sets mid.column.0 ≡ false = ap (λ x. sets_column sets x.column.0) h ∙ e in
-            let same : new ≡ old = subst (λ b. Where b (HashGains keys now r mid new) (new ≡ mid)) beside gains ∙ h in
-            (ap (λ x. x.column.0) same, λ some. subst (λ x. 1 ≤ hash_room x) (sym same) some)
+            let beside : sets_column sets mid.column.0 ≡ false = ap (λ (x : IndexOn). sets_column sets x.column.0) h ∙ e in
+            let same : new ≡ old = subst (λ b. Where b (Gains keys now r mid new) (new ≡ mid)) beside gains ∙ h in
+            subst (λ (x : IndexOn). wanted n x.index ≤ room_in x.index) (sym same) (fewer_wanted n old.index room)
       ] refl loses
 
   module _ (old mid new : Indexes) (loses : LoseSet keys rows r sets old mid) (gains : GainSet keys now r sets mid new) where
-    pub trees_kept : tree_columns new ≡ tree_columns old
-    trees_kept =
-        same_mapped (λ (x : TreeOn). x.column.0) mid.trees new.trees gains.tree_count (λ k d l. (tree_gained (get_or mid.trees k d) (get_or new.trees k d) (gains.trees k d l)).0)
-        ∙ same_mapped (λ (x : TreeOn). x.column.0) old.trees mid.trees loses.tree_count (λ k d l. (tree_lost (get_or old.trees k d) (get_or mid.trees k d) (loses.trees k d l)).0)
-
-    pub hashes_kept : hash_columns new ≡ hash_columns old
-    hashes_kept =
-        same_mapped (λ (x : HashOn). x.column.0) old.hashes new.hashes (gains.hash_count ∙ loses.hash_count)
-        (λ k d l. let between : k < length mid.hashes = omega (arith, loses.hash_count, l) in
-        (hash_kept (get_or old.hashes k d) (get_or mid.hashes k d) (get_or new.hashes k d) (loses.hashes k d l) (gains.hashes k d between)).0)
+    pub declared_set : map declaration_of new ≡ map declaration_of old
+    declared_set =
+        same_mapped declaration_of mid new gains.count (λ k d l. from_where (sets_column sets (get_or mid k d).column.0) (gains_declared keys now r (get_or mid k d) (get_or new k d)) (λ h. ap declaration_of h) (gains.at k d l))
+        ∙ same_mapped declaration_of old mid loses.count (λ k d l. from_where (sets_column sets (get_or old k d).column.0) (loses_declared keys rows r (get_or old k d) (get_or mid k d)) (λ h. ap declaration_of h) (loses.at k d l))
 
     pub room_set : (n : ℕ) → HaveRoom (n + 1) old → HaveRoom n new
-    room_set n room = record {
-      trees = λ k d l.
-          let inside : k < length old.trees = omega (arith, loses.tree_count, gains.tree_count, l) in
-          let between : k < length mid.trees = omega (arith, gains.tree_count, l) in
-          let before : n + 1 ≤ tree_room (get_or old.trees k d) = room.trees k d inside in
-          let out : tree_room (get_or old.trees k d) ≤ tree_room (get_or mid.trees k d) = (tree_lost (get_or old.trees k d) (get_or mid.trees k d) (loses.trees k d inside)).1 in
-          let back : tree_room (get_or mid.trees k d) ≤ tree_room (get_or new.trees k d) + 1 = (tree_gained (get_or mid.trees k d) (get_or new.trees k d) (gains.trees k d between)).1 in
-          omega arith;
-      hashes = λ k d l.
-          let inside : k < length old.hashes = omega (arith, loses.hash_count, gains.hash_count, l) in
-          let between : k < length mid.hashes = omega (arith, gains.hash_count, l) in
-          (hash_kept (get_or old.hashes k d) (get_or mid.hashes k d) (get_or new.hashes k d) (loses.hashes k d inside) (gains.hashes k d between)).1 (room.hashes k d inside);
-    }
+    room_set n room = λ k d l.
+        let inside : k < length old = omega (arith, loses.count, gains.count, l) in
+        room_again n (get_or old k d) (get_or mid k d) (get_or new k d) (loses.at k d inside) (gains.at k d (omega (arith, gains.count, l))) (room k d inside)

@@ -4,6 +4,8 @@ use Rattle.std.specs.List.{list_any}
 use Rattle.std.specs.FinMap as finite
 use Rattle.part_raw.specs.declared.tuple_ref.TupleRef.{TupleRef}
 use Rattle.plain_tables.specs.declared.value.Value.{Value}
+use Rattle.plain_tables.specs.declared.schema.IndexKind.{IndexKind}
+use Rattle.plain_tables.specs.declared.schema.IndexKind.TheVariants.{Tree, Hash}
 use Rattle.mm_relation.specs.declared.row.Row.{Row}
 use Rattle.mm_relation.specs.declared.row.Cell.{Cell}
 use Rattle.mm_relation.specs.declared.refusal.RowRefusal.{RowRefusal}
@@ -44,6 +46,11 @@ IsToldRightly s key (Err NoMemory) = Unit {0}
 -- a row as it comes in: no link names it
 abbrev pub new_row : Value → List Cell → Row
 new_row key cells = record { key = key; cells = cells; referrers = 0 }
+
+-- whether an index of this kind is declared on this column
+abbrev pub has_declared_on : RelationState → ℕ → IndexKind → Bool
+has_declared_on s column Tree = list_any (λ t. t.0 == column) s.trees
+has_declared_on s column Hash = list_any (λ h. h.0 == column) s.hashes
 
 -- whether a tree stands on this column: the key's own, or a declared one
 abbrev pub has_tree_on : RelationState → ℕ → Bool

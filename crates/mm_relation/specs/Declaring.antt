@@ -9,9 +9,8 @@ use Rattle.plain_tables.specs.declared.schema.IndexKind.TheVariants.{Tree, Hash}
 use Rattle.plain_tables.specs.declared.numbers.ColumnNumber.{ColumnNumber}
 use Rattle.plain_tables.specs.declared.numbers.TableNumber.{TableNumber}
 use Rattle.mm_relation.specs.declared.numbers.DeclaredIndex.{DeclaredIndex}
-use Rattle.mm_relation.specs.declared.trees.TreeOn.{TreeOn}
-use Rattle.mm_relation.specs.declared.hashes.HashOn.{HashOn}
-use Rattle.mm_relation.specs.declared.indexes.Indexes.{Indexes}
+use Rattle.mm_relation.specs.declared.index.IndexOn.{IndexOn}
+use Rattle.mm_relation.specs.Indexes.{Indexes, declaration_of}
 use Rattle.mm_relation.specs.State.{RelationState, RowTree, is_tree}
 
 -- these columns and nothing else: no row, no declared index, no column whose links lead anywhere
@@ -23,13 +22,9 @@ new_relation schema =
 abbrev pub declaration : ColumnNumber → IndexKind → DeclaredIndex
 declaration column kind = record { column = column; kind = kind }
 
--- the new indexes are the old ones and one more on this column, the last of its kind
-abbrev pub IsAddedOf : IndexKind → ColumnNumber → Indexes → Indexes → Type 0
-IsAddedOf Tree column old new = (on : TreeOn) × (on.column.0 ≡ column.0) × (new ≡ record old { trees = old.trees ++ on ∷ [] })
-IsAddedOf Hash column old new = (on : HashOn) × (on.column.0 ≡ column.0) × (new ≡ record old { hashes = old.hashes ++ on ∷ [] })
-
+-- the new indexes are the old ones and this one, the last
 abbrev pub IsAdded : DeclaredIndex → Indexes → Indexes → Type 0
-IsAdded index old new = IsAddedOf index.kind index.column old new
+IsAdded index old new = (on : IndexOn) × (declaration_of on ≡ index) × (new ≡ old ++ on ∷ [])
 
 -- the new relation has one declared index more, the last, and nothing else changed: some tree, or a hash with some entries
 abbrev pub IsDeclaredOf : IndexKind → ColumnNumber → RelationState → RelationState → Type 0
@@ -54,14 +49,6 @@ is_kind Hash kind = not (is_tree kind)
 -- the two declarations are one: on one column, of one kind
 abbrev pub is_index : DeclaredIndex → DeclaredIndex → Bool
 is_index index other = (other.column.0 == index.column.0) && is_kind index.kind other.kind
-
--- the first index of a kind on a column is gone
-abbrev pub indexes_without_of : IndexKind → ℕ → Indexes → Indexes
-indexes_without_of Tree column all = record all { trees = without_first (λ t. t.column.0 == column) all.trees }
-indexes_without_of Hash column all = record all { hashes = without_first (λ h. h.column.0 == column) all.hashes }
-
-abbrev pub indexes_without : DeclaredIndex → Indexes → Indexes
-indexes_without index all = indexes_without_of index.kind index.column.0 all
 
 -- the first such declared index is gone, and nothing else changed
 abbrev pub without_of : IndexKind → ℕ → RelationState → RelationState

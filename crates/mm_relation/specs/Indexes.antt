@@ -1,103 +1,186 @@
--- What a row's coming and going does to one declared index.
-use Rattle.std.specs.Prelude.{◌≡◌, ℕ, ◌^◌, ◌+◌, ◌<◌, ◌≤◌, ◌∷◌, List, IsSome, length, map, All, Contains, slice_index_or, ◌⊎◌}
+-- What a row's coming and going does to one declared index, and to all of them.
+use Rattle.std.specs.Prelude.{Bool, true, false, not, filter, ◌≡◌, ℕ, ◌^◌, ◌+◌, ◌<◌, ◌≤◌, [], ◌∷◌, List, IsTrue, IsSome, length, map, All, Contains, slice_index_or}
 use Rattle.part_raw.specs.declared.tuple_ref.TupleRef.{TupleRef}
 use Rattle.std.specs.FinMap.{get}
 use Rattle.part_raw.specs.Store.{Tuples}
+use Rattle.ttree_node.specs.TreeWithSpares.{TreeWithSpares}
+use Rattle.ttree.specs.Held.{empty}
 use Rattle.ttree.specs.Room.{room_of}
+use Rattle.lin_hash.specs.Held.{HeldBuckets}
 use Rattle.mm_index.specs.Bag.{IsSameBag}
 use Rattle.mm_index.specs.Order.{IsRising, insert_by, remove_by}
+use Rattle.plain_tables.specs.declared.schema.IndexKind.{IndexKind}
+use Rattle.plain_tables.specs.declared.numbers.ColumnNumber.{ColumnNumber}
 use Rattle.mm_relation.specs.declared.row.Row.{Row}
-use Rattle.mm_relation.specs.declared.trees.TreeOn.{TreeOn}
-use Rattle.mm_relation.specs.declared.hashes.HashOn.{HashOn}
-use Rattle.mm_relation.specs.declared.indexes.Indexes.{Indexes}
-use Rattle.mm_relation.specs.State.{RowTree, tree_list, TreeServes, HashServes}
+use Rattle.mm_relation.specs.declared.row.Cell.{Cell}
+use Rattle.mm_relation.specs.declared.numbers.DeclaredIndex.{DeclaredIndex}
+use Rattle.mm_relation.specs.declared.index.Index.{Index}
+use Rattle.mm_relation.specs.declared.index.Index.TheVariants.{Tree, Hash}
+use Rattle.mm_relation.specs.declared.index.IndexOn.{IndexOn}
+use Rattle.mm_relation.specs.State.{RowTree, tree_list, is_tree, TreeServes, HashServes}
+use Rattle.mm_relation.specs.Settings.{sets_column}
 use Rattle.mm_relation.specs.Reading.{Keys, value_at, row_value, hash_at}
 use Rattle.mm_relation.specs.Order.{column_cmp}
 
--- a declared tree as a relation shows it, with its column
-abbrev pub shown_tree : TreeOn → ℕ × RowTree
-shown_tree t = (t.column.0, t.tree.tree)
+-- the declared indexes in the order of their declaration
+abbrev pub Indexes : Type 0
+Indexes = List IndexOn
 
--- the references that it lists
-abbrev pub shown_list : TreeOn → List TupleRef
-shown_list t = tree_list t.tree.tree
+-- which of the two an index is
+abbrev pub kind_in : Index → IndexKind
+kind_in (Tree t) = IndexKind.Tree
+kind_in (Hash h) = IndexKind.Hash
 
--- a declared hash as a relation shows it: its column and its entries
-abbrev pub shown_hash : HashOn → ℕ × List (ℕ × TupleRef)
-shown_hash h = (h.column.0, h.hash.entries)
+-- the tree that it is
+abbrev pub tree_in : Index → RowTree
+tree_in (Tree t) = t.tree
+tree_in (Hash h) = empty
 
--- how many inserts a tree, or a hash, is sure of
-abbrev pub tree_room : TreeOn → ℕ
-tree_room t = room_of 30 t.tree
+-- the entries of the hash that it is
+abbrev pub entries_in : Index → List (ℕ × TupleRef)
+entries_in (Tree t) = []
+entries_in (Hash h) = h.entries
 
-abbrev pub hash_room : HashOn → ℕ
-hash_room h = h.hash.room
+-- how many inserts it is sure of
+abbrev pub room_in : Index → ℕ
+room_in (Tree t) = room_of 30 t
+room_in (Hash h) = h.room
+
+-- how many spare nodes a tree has
+abbrev pub spares_in : Index → ℕ
+spares_in (Tree t) = t.spares
+spares_in (Hash h) = 0
+
+-- of how many inserts it has to be sure where so many rows go out and come in again one by one
+abbrev pub wanted : ℕ → Index → ℕ
+wanted n (Tree t) = n
+wanted n (Hash h) = 1
+
+-- how an index was declared
+abbrev pub declared_as : ColumnNumber → Index → DeclaredIndex
+declared_as column index = record { column = column; kind = kind_in index }
+
+abbrev pub declaration_of : IndexOn → DeclaredIndex
+declaration_of on = declared_as on.column on.index
+
+-- an index as a relation shows it: its declaration, its tree where it is one, and its entries where it is a hash
+pub record SeenIndex : Type 0 where
+  pub declaration : DeclaredIndex
+  pub tree : RowTree
+  pub entries : List (ℕ × TupleRef)
+
+abbrev pub seen_as : ColumnNumber → Index → SeenIndex
+seen_as column index = record { declaration = declared_as column index; tree = tree_in index; entries = entries_in index }
+
+abbrev pub seen : IndexOn → SeenIndex
+seen on = seen_as on.column on.index
+
+-- the trees among them, and the hashes, each with its column
+abbrev pub trees_of : List SeenIndex → List (ℕ × RowTree)
+trees_of all = map (λ s. (s.declaration.column.0, s.tree)) (filter (λ s. is_tree s.declaration.kind) all)
+
+abbrev pub hashes_of : List SeenIndex → List (ℕ × List (ℕ × TupleRef))
+hashes_of all = map (λ s. (s.declaration.column.0, s.entries)) (filter (λ s. not (is_tree s.declaration.kind)) all)
+
+-- one thing where a test passes, and another where it doesn't
+abbrev pub Where : Bool → Type 0 → Type 0 → Type 0
+Where true A B = A
+Where false A B = B
 
 -- the tree rises over the rows, which can be read in its column
-pub record IsRisingTree (keys : Keys) (rows : Tuples Row) (t : ℕ × RowTree) : Type 0 where
-  pub readable : All (λ q. IsSome (value_at keys t.0 rows q)) (tree_list t.1)
-  pub rising : IsRising (column_cmp keys t.0 rows) (tree_list t.1)
+pub record IsRisingTree (keys : Keys) (rows : Tuples Row) (column : ℕ) (t : TreeWithSpares) : Type 0 where
+  pub readable : All (λ q. IsSome (value_at keys column rows q)) (tree_list t.tree)
+  pub rising : IsRising (column_cmp keys column rows) (tree_list t.tree)
 
--- the tree can take in this row
-pub record TreeAwaits (keys : Keys) (rows : Tuples Row) (r : TupleRef) (t : TreeOn) : Type 0 where
-  pub room : 0 < tree_room t
-  pub short : length (shown_list t) < 2 ^ 32
-  pub absent : Contains (shown_list t) r → ⊥
-  pub r_readable : IsSome (value_at keys t.column.0 rows r)
-  pub tree : IsRisingTree keys rows (shown_tree t)
+-- a tree on a column can take in this row
+pub record TreeAwaits (keys : Keys) (rows : Tuples Row) (r : TupleRef) (column : ℕ) (t : TreeWithSpares) : Type 0 where
+  pub room : 0 < room_of 30 t
+  pub short : length (tree_list t.tree) < 2 ^ 32
+  pub absent : Contains (tree_list t.tree) r → ⊥
+  pub r_readable : IsSome (value_at keys column rows r)
+  pub tree : IsRisingTree keys rows column t
 
 -- the tree with this row besides
-pub record TreeGains (keys : Keys) (rows : Tuples Row) (r : TupleRef) (old new : TreeOn) : Type 0 where
-  pub column : new.column.0 ≡ old.column.0
-  pub room : tree_room old ≤ tree_room new + 1
-  pub items : shown_list new ≡ insert_by (column_cmp keys old.column.0 rows) r (shown_list old)
-  pub rising : IsRising (column_cmp keys old.column.0 rows) (shown_list new)
+pub record TreeGains (keys : Keys) (rows : Tuples Row) (r : TupleRef) (column : ℕ) (old new : TreeWithSpares) : Type 0 where
+  pub room : room_of 30 old ≤ room_of 30 new + 1
+  pub items : tree_list new.tree ≡ insert_by (column_cmp keys column rows) r (tree_list old.tree)
+  pub rising : IsRising (column_cmp keys column rows) (tree_list new.tree)
 
 -- the tree lists this row
-pub record TreeHas (keys : Keys) (rows : Tuples Row) (r : TupleRef) (t : TreeOn) : Type 0 where
-  pub held : Contains (shown_list t) r
-  pub tree : IsRisingTree keys rows (shown_tree t)
+pub record TreeHas (keys : Keys) (rows : Tuples Row) (r : TupleRef) (column : ℕ) (t : TreeWithSpares) : Type 0 where
+  pub held : Contains (tree_list t.tree) r
+  pub tree : IsRisingTree keys rows column t
 
 -- the tree without this row
-pub record TreeLoses (keys : Keys) (rows : Tuples Row) (r : TupleRef) (old new : TreeOn) : Type 0 where
-  pub column : new.column.0 ≡ old.column.0
-  pub room : tree_room old ≤ tree_room new
-  pub items : shown_list new ≡ remove_by (column_cmp keys old.column.0 rows) r (shown_list old)
-  pub rising : IsRising (column_cmp keys old.column.0 rows) (shown_list new)
+pub record TreeLoses (keys : Keys) (rows : Tuples Row) (r : TupleRef) (column : ℕ) (old new : TreeWithSpares) : Type 0 where
+  pub room : room_of 30 old ≤ room_of 30 new
+  pub items : tree_list new.tree ≡ remove_by (column_cmp keys column rows) r (tree_list old.tree)
+  pub rising : IsRising (column_cmp keys column rows) (tree_list new.tree)
 
--- the hash can take in this row
-pub record HashAwaits (keys : Keys) (rows : Tuples Row) (r : TupleRef) (h : HashOn) : Type 0 where
-  pub room : 0 < hash_room h
-  pub short : length (shown_hash h).1 < 2 ^ 32
-  pub r_readable : IsSome (value_at keys h.column.0 rows r)
+-- a hash on a column can take in this row
+pub record HashAwaits (keys : Keys) (rows : Tuples Row) (r : TupleRef) (column : ℕ) (h : HeldBuckets) : Type 0 where
+  pub room : 0 < h.room
+  pub short : length h.entries < 2 ^ 32
+  pub r_readable : IsSome (value_at keys column rows r)
 
 -- the hash with this row besides
-pub record HashGains (keys : Keys) (rows : Tuples Row) (r : TupleRef) (old new : HashOn) : Type 0 where
-  pub column : new.column.0 ≡ old.column.0
-  pub room : hash_room old ≤ hash_room new + 1
-  pub entries : IsSameBag (shown_hash new).1 ((hash_at keys old.column.0 rows r, r) ∷ (shown_hash old).1)
+pub record HashGains (keys : Keys) (rows : Tuples Row) (r : TupleRef) (column : ℕ) (old new : HeldBuckets) : Type 0 where
+  pub room : old.room ≤ new.room + 1
+  pub entries : IsSameBag new.entries ((hash_at keys column rows r, r) ∷ old.entries)
 
 -- the hash has this row
-pub record HashHas (keys : Keys) (rows : Tuples Row) (r : TupleRef) (h : HashOn) : Type 0 where
-  pub held : Contains (shown_hash h).1 (hash_at keys h.column.0 rows r, r)
-  pub r_readable : IsSome (value_at keys h.column.0 rows r)
+pub record HashHas (keys : Keys) (rows : Tuples Row) (r : TupleRef) (column : ℕ) (h : HeldBuckets) : Type 0 where
+  pub held : Contains h.entries (hash_at keys column rows r, r)
+  pub r_readable : IsSome (value_at keys column rows r)
 
 -- the hash without this row
-pub record HashLoses (keys : Keys) (rows : Tuples Row) (r : TupleRef) (old new : HashOn) : Type 0 where
-  pub column : new.column.0 ≡ old.column.0
-  pub room : hash_room old + 1 ≤ hash_room new
-  pub entries : IsSameBag (shown_hash old).1 ((hash_at keys old.column.0 rows r, r) ∷ (shown_hash new).1)
+pub record HashLoses (keys : Keys) (rows : Tuples Row) (r : TupleRef) (column : ℕ) (old new : HeldBuckets) : Type 0 where
+  pub room : old.room + 1 ≤ new.room
+  pub entries : IsSameBag old.entries ((hash_at keys column rows r, r) ∷ new.entries)
+
+-- an index on a column can take in this row
+abbrev pub AwaitsAs : Keys → Tuples Row → TupleRef → ℕ → Index → Type 0
+AwaitsAs keys rows r column (Tree t) = TreeAwaits keys rows r column t
+AwaitsAs keys rows r column (Hash h) = HashAwaits keys rows r column h
+
+abbrev pub Awaits : Keys → Tuples Row → TupleRef → IndexOn → Type 0
+Awaits keys rows r on = AwaitsAs keys rows r on.column.0 on.index
+
+-- it is of the same kind, with this row besides
+abbrev pub GainsAs : Keys → Tuples Row → TupleRef → ℕ → Index → Index → Type 0
+GainsAs keys rows r column (Tree t) (Tree u) = TreeGains keys rows r column t u
+GainsAs keys rows r column (Hash h) (Hash g) = HashGains keys rows r column h g
+GainsAs keys rows r column (Tree t) (Hash g) = ⊥
+GainsAs keys rows r column (Hash h) (Tree u) = ⊥
+
+abbrev pub Gains : Keys → Tuples Row → TupleRef → IndexOn → IndexOn → Type 0
+Gains keys rows r old new = (new.column ≡ old.column) × GainsAs keys rows r old.column.0 old.index new.index
+
+-- it has this row
+abbrev pub HasAs : Keys → Tuples Row → TupleRef → ℕ → Index → Type 0
+HasAs keys rows r column (Tree t) = TreeHas keys rows r column t
+HasAs keys rows r column (Hash h) = HashHas keys rows r column h
+
+abbrev pub Has : Keys → Tuples Row → TupleRef → IndexOn → Type 0
+Has keys rows r on = HasAs keys rows r on.column.0 on.index
+
+-- it is of the same kind, without this row
+abbrev pub LosesAs : Keys → Tuples Row → TupleRef → ℕ → Index → Index → Type 0
+LosesAs keys rows r column (Tree t) (Tree u) = TreeLoses keys rows r column t u
+LosesAs keys rows r column (Hash h) (Hash g) = HashLoses keys rows r column h g
+LosesAs keys rows r column (Tree t) (Hash g) = ⊥
+LosesAs keys rows r column (Hash h) (Tree u) = ⊥
+
+abbrev pub Loses : Keys → Tuples Row → TupleRef → IndexOn → IndexOn → Type 0
+Loses keys rows r old new = (new.column ≡ old.column) × LosesAs keys rows r old.column.0 old.index new.index
+
+-- it serves these references
+abbrev pub Serves : Keys → Tuples Row → List TupleRef → SeenIndex → Type 0
+Serves keys rows refs s = Where (is_tree s.declaration.kind) (TreeServes keys rows refs (s.declaration.column.0, s.tree)) (HashServes keys rows refs (s.declaration.column.0, s.entries))
 
 -- a declared index stands on this column
 abbrev pub IsColumn : Indexes → ℕ → Type 0
-IsColumn all column = Contains (map (λ t. t.column.0) all.trees) column ⊎ Contains (map (λ h. h.column.0) all.hashes) column
-
--- the columns with a tree, and those with a hash, in the order of their declaration
-abbrev pub tree_columns : Indexes → List ℕ
-tree_columns all = map (λ t. t.column.0) all.trees
-
-abbrev pub hash_columns : Indexes → List ℕ
-hash_columns all = map (λ h. h.column.0) all.hashes
+IsColumn all column = Contains (map (λ d. d.column.0) (map declaration_of all)) column
 
 -- each row has a value in each column with an index
 abbrev pub CanRead : Keys → Tuples Row → Indexes → Type 0
@@ -107,36 +190,47 @@ CanRead keys rows all = (c : ℕ) (q : TupleRef) → IsColumn all c → IsSome (
 abbrev pub CanReadRow : Keys → Row → Indexes → Type 0
 CanReadRow keys row all = (c : ℕ) → IsColumn all c → IsSome (row_value keys c row)
 
--- all trees and hashes can take in this row
-pub record Await (keys : Keys) (rows : Tuples Row) (r : TupleRef) (all : Indexes) : Type 0 where
-  pub trees : All (TreeAwaits keys rows r) all.trees
-  pub hashes : All (HashAwaits keys rows r) all.hashes
+-- each index changed so, and none came or went
+pub record Each (P : IndexOn → IndexOn → Type 0) (old new : Indexes) : Type 0 where
+  pub count : length new ≡ length old
+  pub at : (k : ℕ) (d : IndexOn) → k < length old → P (slice_index_or old k d) (slice_index_or new k d)
 
--- each has this row besides
-pub record Gain (keys : Keys) (rows : Tuples Row) (r : TupleRef) (old new : Indexes) : Type 0 where
-  pub tree_count : length new.trees ≡ length old.trees
-  pub hash_count : length new.hashes ≡ length old.hashes
-  pub trees : (k : ℕ) (d : TreeOn) → k < length old.trees → TreeGains keys rows r (slice_index_or old.trees k d) (slice_index_or new.trees k d)
-  pub hashes : (k : ℕ) (d : HashOn) → k < length old.hashes → HashGains keys rows r (slice_index_or old.hashes k d) (slice_index_or new.hashes k d)
+-- all can take in this row, all have it, and all serve these references
+abbrev pub Await : Keys → Tuples Row → TupleRef → Indexes → Type 0
+Await keys rows r all = All (Awaits keys rows r) all
 
--- all trees and hashes have this row
-pub record Have (keys : Keys) (rows : Tuples Row) (r : TupleRef) (all : Indexes) : Type 0 where
-  pub trees : All (TreeHas keys rows r) all.trees
-  pub hashes : All (HashHas keys rows r) all.hashes
+abbrev pub Have : Keys → Tuples Row → TupleRef → Indexes → Type 0
+Have keys rows r all = All (Has keys rows r) all
 
--- each is without this row
-pub record Lose (keys : Keys) (rows : Tuples Row) (r : TupleRef) (old new : Indexes) : Type 0 where
-  pub tree_count : length new.trees ≡ length old.trees
-  pub hash_count : length new.hashes ≡ length old.hashes
-  pub trees : (k : ℕ) (d : TreeOn) → k < length old.trees → TreeLoses keys rows r (slice_index_or old.trees k d) (slice_index_or new.trees k d)
-  pub hashes : (k : ℕ) (d : HashOn) → k < length old.hashes → HashLoses keys rows r (slice_index_or old.hashes k d) (slice_index_or new.hashes k d)
+abbrev pub Serve : Keys → Tuples Row → List TupleRef → Indexes → Type 0
+Serve keys rows refs all = All (Serves keys rows refs) (map seen all)
 
--- all indexes serve these references
-pub record Serve (keys : Keys) (rows : Tuples Row) (refs : List TupleRef) (all : Indexes) : Type 0 where
-  pub trees : All (TreeServes keys rows refs) (map shown_tree all.trees)
-  pub hashes : All (HashServes keys rows refs) (map shown_hash all.hashes)
+-- the row comes into each, or goes out of each
+abbrev pub Gain : Keys → Tuples Row → TupleRef → Indexes → Indexes → Type 0
+Gain keys rows r old new = Each (Gains keys rows r) old new
+
+abbrev pub Lose : Keys → Tuples Row → TupleRef → Indexes → Indexes → Type 0
+Lose keys rows r old new = Each (Loses keys rows r) old new
 
 -- the trees are sure of so many inserts, and the hashes of one
-pub record HaveRoom (n : ℕ) (all : Indexes) : Type 0 where
-  pub trees : All (λ t. n ≤ tree_room t) all.trees
-  pub hashes : All (λ h. 1 ≤ hash_room h) all.hashes
+abbrev pub HaveRoom : ℕ → Indexes → Type 0
+HaveRoom n all = All (λ on. wanted n on.index ≤ room_in on.index) all
+
+-- as cells are set in the row, it goes out of an index whose column is set, and comes in again; the others stay as they are
+abbrev pub LosesSet : Keys → Tuples Row → TupleRef → List (ColumnNumber × Cell) → IndexOn → IndexOn → Type 0
+LosesSet keys rows r sets old new = Where (sets_column sets old.column.0) (Loses keys rows r old new) (new ≡ old)
+
+abbrev pub AwaitsSet : Keys → Tuples Row → TupleRef → List (ColumnNumber × Cell) → IndexOn → Type 0
+AwaitsSet keys rows r sets on = IsTrue (sets_column sets on.column.0) → Awaits keys rows r on
+
+abbrev pub GainsSet : Keys → Tuples Row → TupleRef → List (ColumnNumber × Cell) → IndexOn → IndexOn → Type 0
+GainsSet keys rows r sets old new = Where (sets_column sets old.column.0) (Gains keys rows r old new) (new ≡ old)
+
+abbrev pub LoseSet : Keys → Tuples Row → TupleRef → List (ColumnNumber × Cell) → Indexes → Indexes → Type 0
+LoseSet keys rows r sets old new = Each (LosesSet keys rows r sets) old new
+
+abbrev pub AwaitSet : Keys → Tuples Row → TupleRef → List (ColumnNumber × Cell) → Indexes → Type 0
+AwaitSet keys rows r sets all = All (AwaitsSet keys rows r sets) all
+
+abbrev pub GainSet : Keys → Tuples Row → TupleRef → List (ColumnNumber × Cell) → Indexes → Indexes → Type 0
+GainSet keys rows r sets old new = Each (GainsSet keys rows r sets) old new

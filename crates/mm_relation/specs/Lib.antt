@@ -5,7 +5,6 @@ pub mod Indexes
 pub mod Agreement
 pub mod Seen
 pub mod Settings
-pub mod Resetting
 pub mod Changes
 pub mod Searching
 pub mod Declaring

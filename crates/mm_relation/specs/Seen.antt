@@ -4,10 +4,9 @@ use Rattle.part_raw.specs.Store.{Tuples}
 use Rattle.plain_tables.specs.declared.schema.Schema.{Schema}
 use Rattle.mm_relation.specs.declared.row.Row.{Row}
 use Rattle.mm_relation.specs.declared.numbers.DeclaredIndex.{DeclaredIndex}
-use Rattle.mm_relation.specs.declared.indexes.Indexes.{Indexes}
 use Rattle.mm_relation.specs.State.{RelationState, RowTree}
-use Rattle.mm_relation.specs.Indexes.{shown_tree, shown_hash}
+use Rattle.mm_relation.specs.Indexes.{Indexes, seen, trees_of, hashes_of}
 
 abbrev pub state : Schema → List (Option ℕ) → List DeclaredIndex → Tuples Row → RowTree → Indexes → RelationState
 state schema targets declared rows by_key all =
-    record { schema = schema; targets = targets; declared = declared; rows = rows; by_key = by_key; trees = map shown_tree all.trees; hashes = map shown_hash all.hashes }
+    record { schema = schema; targets = targets; declared = declared; rows = rows; by_key = by_key; trees = trees_of (map seen all); hashes = hashes_of (map seen all) }

@@ -1,5 +1,5 @@
 //! Cells set in rows, under all indexes of a relation.
-ghost use Rattle.std.specs.Prelude.{◌≡◌, ◌≢◌, ◌∷◌, ◌++◌, ℕ, ◌≤◌, ◌<◌, ◌+◌, ◌-◌, slice_set, [], List, Some, IsSome, IfOk, OnOk, OnErr, All, length};
+ghost use Rattle.std.specs.Prelude.{◌≡◌, ◌≢◌, ◌∷◌, ◌++◌, ℕ, ◌≤◌, ◌<◌, ◌+◌, ◌-◌, slice_set, [], List, Some, IsSome, IfOk, OnOk, OnErr, All, length, map};
 ghost use Rattle.std.specs.List.{AllPairs};
 ghost use Rattle.std.specs.FinMap as finite;
 ghost use Rattle.part_raw.specs.declared.tuple_ref.TupleRef.{TupleRef};
@@ -7,14 +7,15 @@ ghost use Rattle.mm_relation.specs.declared.row.Cell.{Cell};
 ghost use Rattle.mm_relation.specs.declared.row.Row.{Row};
 ghost use Rattle.mm_relation.specs.State.{IsKeyed};
 ghost use Rattle.mm_relation.specs.Settings.{with_cells, piled, pile, IsPiled, CanSet, CellsSet};
-ghost use Rattle.mm_relation.specs.Indexes.{tree_columns, hash_columns, HaveRoom, Serve, CanRead};
+ghost use Rattle.mm_relation.specs.Indexes.{declaration_of, HaveRoom, Serve, CanRead};
 
-use crate::indexes::Indexes;
+use crate::index::IndexOn;
+use crate::indexes::{insert_set, remove_set};
 use crate::linked_keys::LinkedKeys;
 use crate::row::{Cell, Row};
 use no_memory::NoMemory;
 use part_raw::{Partitions, TupleRef};
-use plain_tables::{ColumnNumber, Text, Value};
+use plain_tables::{ColumnNumber, Sequence, Text, Value};
 use std::alloc::Global;
 
 fn copy_of_value(alloc: Global, value: &Value) -> Result<Value, NoMemory>
@@ -104,7 +105,7 @@ fn write_cells(row: &mut Row, sets: &[(ColumnNumber, Cell)], copies: &mut Vec<Ce
 // Sets cells in one row, which keeps its key and its reference. It takes no memory.
 fn change_row<R: LinkedKeys>(
     rows: &mut Partitions<Row>,
-    indexes: &mut Indexes,
+    indexes: &mut Sequence<IndexOn>,
     links: &R,
     r: TupleRef,
     sets: &[(ColumnNumber, Cell)],
@@ -120,20 +121,19 @@ fn change_row<R: LinkedKeys>(
     ensures row { (t : Row) → finite.get rows.old.tuples r ≡ Some t → rows.new.tuples ≡ finite.insert rows.old.tuples r (with_cells sets.now t) }
     ensures served { (list : List TupleRef) → IsKeyed rows.old.tuples list → Serve (R.keys links.now) rows.old.tuples list indexes.old
         → IsKeyed rows.new.tuples list × Serve (R.keys links.now) rows.new.tuples list indexes.new }
-    ensures trees { tree_columns indexes.new ≡ tree_columns indexes.old }
-    ensures hashes { hash_columns indexes.new ≡ hash_columns indexes.old }
+    ensures declared { map declaration_of indexes.new ≡ map declaration_of indexes.old }
     ensures room { (n : ℕ) → HaveRoom (n + 1) indexes.old → HaveRoom n indexes.new }
     ensures left { (under : List Cell) → copies.old.items ≡ piled sets.now under → copies.new.items ≡ under }
 {
-    indexes.unlist_set(rows, links, r, sets);
+    remove_set(indexes, rows, links, r, sets);
     write_cells(rows.get_mut(r), sets, copies);
-    indexes.list_set(rows, links, r, sets);
+    insert_set(indexes, rows, links, r, sets);
 }
 
 // Sets cells in each of these rows, with the copies that were made for them. It takes no memory.
 pub fn change_each<R: LinkedKeys>(
     rows: &mut Partitions<Row>,
-    indexes: &mut Indexes,
+    indexes: &mut Sequence<IndexOn>,
     links: &R,
     rs: &[TupleRef],
     sets: &[(ColumnNumber, Cell)],
@@ -150,8 +150,7 @@ pub fn change_each<R: LinkedKeys>(
     ensures rows { CellsSet rows.old.tuples rows.new.tuples rs.now sets.now }
     ensures served { (list : List TupleRef) → IsKeyed rows.old.tuples list → Serve (R.keys links.now) rows.old.tuples list indexes.old
         → IsKeyed rows.new.tuples list × Serve (R.keys links.now) rows.new.tuples list indexes.new }
-    ensures trees { tree_columns indexes.new ≡ tree_columns indexes.old }
-    ensures hashes { hash_columns indexes.new ≡ hash_columns indexes.old }
+    ensures declared { map declaration_of indexes.new ≡ map declaration_of indexes.old }
 {
     for r in rs {
         change_row(rows, indexes, links, *r, sets, copies);

@@ -3,7 +3,8 @@ ghost use Rattle.std.specs.Prelude.{◌≡◌, ◌<◌, Some, IfOk, OnOk, OnErr,
 ghost use Rattle.std.specs.Option.{option_map};
 ghost use Rattle.mm_relation.specs.Declaring.{is_index, without_first};
 
-use crate::indexes::Indexes;
+use crate::building::{add_index, drop_index};
+use crate::indexes::is_same;
 use crate::numbers::DeclaredIndex;
 use crate::relation::Relation;
 use crate::relations::{Links, Relations};
@@ -13,18 +14,11 @@ use part_raw::Partitions;
 use plain_tables::{ColumnNumber, IndexKind, Schema, Sequence, TableNumber};
 use std::alloc::Global;
 
-// Whether two declarations are alike.
-fn is_same(a: &DeclaredIndex, b: DeclaredIndex) -> bool
-    ensures { result ≡ is_index b a.now }
-{
-    a.column.0 == b.column.0 && a.kind == b.kind
-}
-
 // The place of the first declaration like this one.
 fn first_declared(declared: &[DeclaredIndex], index: DeclaredIndex) -> Option<usize>
     ensures { result ≡ position (is_index index) declared.now }
 {
-    declared.iter().position(|d| is_same(d, index))
+    declared.iter().position(|d| is_same(*d, index))
 }
 
 // Takes out the first declaration like this one, where there is one.
@@ -55,10 +49,7 @@ impl Relation {
             declared: Vec::new(alloc),
             rows: Partitions::new(alloc),
             by_key: Tree::new(alloc),
-            indexes: Indexes {
-                trees: Sequence::new(alloc),
-                hashes: Sequence::new(alloc),
-            },
+            indexes: Sequence::new(alloc),
         })
     }
 
@@ -98,8 +89,14 @@ impl Relation {
             others,
         };
         let index = DeclaredIndex { column, kind };
-        self.indexes
-            .add(&self.rows, &self.by_key, &links, index, alloc)?;
+        add_index(
+            &mut self.indexes,
+            &self.rows,
+            &self.by_key,
+            &links,
+            index,
+            alloc,
+        )?;
         self.declared.push_reserved(index);
         Ok(())
     }
@@ -111,6 +108,6 @@ impl Relation {
     {
         let index = DeclaredIndex { column, kind };
         drop_declared(&mut self.declared, index);
-        self.indexes.remove_first(index);
+        drop_index(&mut self.indexes, index);
     }
 }

@@ -1,56 +1,257 @@
-//! The declared indexes of a relation, all together.
-ghost use Rattle.std.specs.Prelude.{◌≡◌, ℕ, ◌<◌, ◌≤◌, max, length, slice_index_or, map, OnOk};
-ghost use Rattle.mm_relation.specs.declared.trees.TreeOn.{TreeOn};
+//! The declared indexes of a relation, all together, in the order of their declaration.
+ghost use Rattle.std.specs.Prelude.{◌≡◌, ◌==◌, ◌||◌, ◌&&◌, ℕ, ◌<◌, ◌≤◌, max, length, slice_index_or, map, OnOk, All};
+ghost use Rattle.std.specs.List.{list_any};
+ghost use Rattle.lin_hash.specs.Rest.{chain_rest};
+ghost use Rattle.mm_index.specs.Bag.{IsSameBag, with_hash};
+ghost use Rattle.mm_relation.specs.declared.index.IndexOn.{IndexOn};
 ghost use Rattle.mm_relation.specs.Order.{KeysDiffer};
+ghost use Rattle.mm_relation.specs.Declaring.{is_index};
+ghost use Rattle.mm_relation.specs.Settings.{sets_column};
+ghost use Rattle.mm_relation.specs.State.{tree_of, entries_on, HasColumn, HasHashColumn};
+ghost use Rattle.mm_relation.specs.Indexes.{seen, declaration_of, room_in, wanted, spares_in, trees_of, hashes_of, Awaits, Gains, Has, Loses, GainsSet, AwaitsSet, LosesSet, HaveRoom, Await, Gain, Have, Lose, AwaitSet, GainSet, LoseSet};
 
-use crate::hashes::{HashOn, list_in_hashes, reserve_in_hashes, unlist_from_hashes};
+use crate::index::{Index, IndexOn};
 use crate::linked_keys::LinkedKeys;
-use crate::row::Row;
-use crate::trees::{TreeOn, list_in_trees, reserve_in_trees, unlist_from_trees};
+use crate::numbers::DeclaredIndex;
+use crate::row::{Cell, Row};
+use crate::tree::Tree;
+use lin_hash::Chain;
+use mm_index::ExactIndex;
 use no_memory::NoMemory;
 use part_raw::{Partitions, TupleRef};
-use plain_tables::Sequence;
+use plain_tables::{ColumnNumber, Sequence};
 
-/// The declared trees and the declared hashes, each in the order of their declaration.
-#[derive(Drop)]
-pub struct Indexes {
-    pub trees: Sequence<TreeOn>,
-    pub hashes: Sequence<HashOn>,
+// How many references more an index has to be sure of, where so many are taken out and put in again one by one: a hash
+// has room again for each that goes out.
+fn wanted_in(on: &IndexOn, n: usize) -> usize
+    ensures { result ≡ wanted n on.now.index }
+{
+    match on.index {
+        Index::Tree(_) => n,
+        Index::Hash(_) => 1,
+    }
 }
 
-impl Indexes {
-    ghost use Rattle.mm_relation.specs.Indexes.{shown_tree, shown_hash, Await, Gain, Have, Lose, HaveRoom};
-
-    // Makes sure of memory for so many references more in each tree, and for one more in each hash, where one that goes
-    // out makes room for one that comes in.
-    pub fn reserve(&mut self, n: usize) -> Result<(), NoMemory>
-        requires { n ≤ 16777216 }
-        ensures trees { map shown_tree self.new.trees ≡ map shown_tree self.old.trees }
-        ensures hashes { map shown_hash self.new.hashes ≡ map shown_hash self.old.hashes }
-        ensures reserved { OnOk result (HaveRoom n self.new) }
-        ensures spares { (k : ℕ) (d : TreeOn) → k < length self.old.trees → (slice_index_or self.new.trees k d).tree.spares ≤ max (slice_index_or self.old.trees k d).tree.spares n }
-    {
-        reserve_in_trees(self.trees.as_mut_slice(), n)?;
-        reserve_in_hashes(self.hashes.as_mut_slice(), 1)
+fn reserve_each(indexes: &mut [IndexOn], n: usize) -> Result<(), NoMemory>
+    requires { n ≤ 16777216 }
+    ensures same { (k : ℕ) (d : IndexOn) → k < length indexes.old → seen (slice_index_or indexes.new k d) ≡ seen (slice_index_or indexes.old k d) }
+    ensures room { OnOk result (All (λ on. wanted n on.index ≤ room_in on.index) indexes.new) }
+    ensures spares { (k : ℕ) (d : IndexOn) → k < length indexes.old → spares_in (slice_index_or indexes.new k d).index ≤ max (spares_in (slice_index_or indexes.old k d).index) (max n 1) }
+{
+    for on in indexes.iter_mut() {
+        let wanted = wanted_in(on, n);
+        on.reserve(wanted)?;
     }
+    Ok(())
+}
 
-    // Puts a row's reference into each. It takes no memory.
-    pub fn list<R: LinkedKeys>(&mut self, rows: &Partitions<Row>, others: &R, r: TupleRef)
-        requires keys_differ { KeysDiffer rows.now.tuples }
-        requires awaits { Await (R.keys others.now) rows.now.tuples r self.old }
-        ensures { Gain (R.keys others.now) rows.now.tuples r self.old self.new }
-    {
-        list_in_trees(self.trees.as_mut_slice(), rows, others, r);
-        list_in_hashes(self.hashes.as_mut_slice(), rows, others, r);
+fn insert_each<R: LinkedKeys>(
+    indexes: &mut [IndexOn],
+    rows: &Partitions<Row>,
+    others: &R,
+    r: TupleRef,
+)
+    requires keys_differ { KeysDiffer rows.now.tuples }
+    requires awaits { All (Awaits (R.keys others.now) rows.now.tuples r) indexes.old }
+    ensures { (k : ℕ) (d : IndexOn) → k < length indexes.old → Gains (R.keys others.now) rows.now.tuples r (slice_index_or indexes.old k d) (slice_index_or indexes.new k d) }
+{
+    for on in indexes.iter_mut() {
+        on.insert(rows, others, r);
     }
+}
 
-    // Takes a row's reference out of each. It takes no memory.
-    pub fn unlist<R: LinkedKeys>(&mut self, rows: &Partitions<Row>, others: &R, r: TupleRef)
-        requires keys_differ { KeysDiffer rows.now.tuples }
-        requires has { Have (R.keys others.now) rows.now.tuples r self.old }
-        ensures { Lose (R.keys others.now) rows.now.tuples r self.old self.new }
-    {
-        unlist_from_trees(self.trees.as_mut_slice(), rows, others, r);
-        unlist_from_hashes(self.hashes.as_mut_slice(), rows, others, r);
+fn remove_each<R: LinkedKeys>(
+    indexes: &mut [IndexOn],
+    rows: &Partitions<Row>,
+    others: &R,
+    r: TupleRef,
+)
+    requires keys_differ { KeysDiffer rows.now.tuples }
+    requires has { All (Has (R.keys others.now) rows.now.tuples r) indexes.old }
+    ensures { (k : ℕ) (d : IndexOn) → k < length indexes.old → Loses (R.keys others.now) rows.now.tuples r (slice_index_or indexes.old k d) (slice_index_or indexes.new k d) }
+{
+    for on in indexes.iter_mut() {
+        on.remove(rows, others, r);
+    }
+}
+
+// Whether one of these cells is set in this column.
+fn is_set(sets: &[(ColumnNumber, Cell)], column: ColumnNumber) -> bool
+    ensures { result ≡ sets_column sets.now column.0 }
+{
+    sets.iter().any(|set| set.0.0 == column.0)
+}
+
+fn insert_if_set<R: LinkedKeys>(
+    on: &mut IndexOn,
+    rows: &Partitions<Row>,
+    others: &R,
+    r: TupleRef,
+    sets: &[(ColumnNumber, Cell)],
+)
+    requires keys_differ { KeysDiffer rows.now.tuples }
+    requires awaits { AwaitsSet (R.keys others.now) rows.now.tuples r sets.now on.old }
+    ensures { GainsSet (R.keys others.now) rows.now.tuples r sets.now on.old on.new }
+{
+    if is_set(sets, on.column) {
+        on.insert(rows, others, r);
+    }
+}
+
+fn remove_if_set<R: LinkedKeys>(
+    on: &mut IndexOn,
+    rows: &Partitions<Row>,
+    others: &R,
+    r: TupleRef,
+    sets: &[(ColumnNumber, Cell)],
+)
+    requires keys_differ { KeysDiffer rows.now.tuples }
+    requires has { Has (R.keys others.now) rows.now.tuples r on.old }
+    ensures { LosesSet (R.keys others.now) rows.now.tuples r sets.now on.old on.new }
+{
+    if is_set(sets, on.column) {
+        on.remove(rows, others, r);
+    }
+}
+
+fn insert_each_set<R: LinkedKeys>(
+    indexes: &mut [IndexOn],
+    rows: &Partitions<Row>,
+    others: &R,
+    r: TupleRef,
+    sets: &[(ColumnNumber, Cell)],
+)
+    requires keys_differ { KeysDiffer rows.now.tuples }
+    requires awaits { All (AwaitsSet (R.keys others.now) rows.now.tuples r sets.now) indexes.old }
+    ensures { (k : ℕ) (d : IndexOn) → k < length indexes.old → GainsSet (R.keys others.now) rows.now.tuples r sets.now (slice_index_or indexes.old k d) (slice_index_or indexes.new k d) }
+{
+    for on in indexes.iter_mut() {
+        insert_if_set(on, rows, others, r, sets);
+    }
+}
+
+fn remove_each_set<R: LinkedKeys>(
+    indexes: &mut [IndexOn],
+    rows: &Partitions<Row>,
+    others: &R,
+    r: TupleRef,
+    sets: &[(ColumnNumber, Cell)],
+)
+    requires keys_differ { KeysDiffer rows.now.tuples }
+    requires has { All (Has (R.keys others.now) rows.now.tuples r) indexes.old }
+    ensures { (k : ℕ) (d : IndexOn) → k < length indexes.old → LosesSet (R.keys others.now) rows.now.tuples r sets.now (slice_index_or indexes.old k d) (slice_index_or indexes.new k d) }
+{
+    for on in indexes.iter_mut() {
+        remove_if_set(on, rows, others, r, sets);
+    }
+}
+
+// Makes sure of memory for so many references more in each tree, and for one more in each hash.
+pub fn reserve(indexes: &mut Sequence<IndexOn>, n: usize) -> Result<(), NoMemory>
+    requires { n ≤ 16777216 }
+    ensures same { map seen indexes.new ≡ map seen indexes.old }
+    ensures reserved { OnOk result (HaveRoom n indexes.new) }
+    ensures spares { (k : ℕ) (d : IndexOn) → k < length indexes.old → spares_in (slice_index_or indexes.new k d).index ≤ max (spares_in (slice_index_or indexes.old k d).index) (max n 1) }
+{
+    reserve_each(indexes.as_mut_slice(), n)
+}
+
+// Puts a row's reference into each. It takes no memory.
+pub fn insert<R: LinkedKeys>(
+    indexes: &mut Sequence<IndexOn>,
+    rows: &Partitions<Row>,
+    others: &R,
+    r: TupleRef,
+)
+    requires keys_differ { KeysDiffer rows.now.tuples }
+    requires awaits { Await (R.keys others.now) rows.now.tuples r indexes.old }
+    ensures { Gain (R.keys others.now) rows.now.tuples r indexes.old indexes.new }
+{
+    insert_each(indexes.as_mut_slice(), rows, others, r);
+}
+
+// Takes a row's reference out of each. It takes no memory.
+pub fn remove<R: LinkedKeys>(
+    indexes: &mut Sequence<IndexOn>,
+    rows: &Partitions<Row>,
+    others: &R,
+    r: TupleRef,
+)
+    requires keys_differ { KeysDiffer rows.now.tuples }
+    requires has { Have (R.keys others.now) rows.now.tuples r indexes.old }
+    ensures { Lose (R.keys others.now) rows.now.tuples r indexes.old indexes.new }
+{
+    remove_each(indexes.as_mut_slice(), rows, others, r);
+}
+
+// Puts a row's reference into each whose column is set. It takes no memory.
+pub fn insert_set<R: LinkedKeys>(
+    indexes: &mut Sequence<IndexOn>,
+    rows: &Partitions<Row>,
+    others: &R,
+    r: TupleRef,
+    sets: &[(ColumnNumber, Cell)],
+)
+    requires keys_differ { KeysDiffer rows.now.tuples }
+    requires awaits { AwaitSet (R.keys others.now) rows.now.tuples r sets.now indexes.old }
+    ensures { GainSet (R.keys others.now) rows.now.tuples r sets.now indexes.old indexes.new }
+{
+    insert_each_set(indexes.as_mut_slice(), rows, others, r, sets);
+}
+
+// Takes a row's reference out of each whose column is set. It takes no memory.
+pub fn remove_set<R: LinkedKeys>(
+    indexes: &mut Sequence<IndexOn>,
+    rows: &Partitions<Row>,
+    others: &R,
+    r: TupleRef,
+    sets: &[(ColumnNumber, Cell)],
+)
+    requires keys_differ { KeysDiffer rows.now.tuples }
+    requires has { Have (R.keys others.now) rows.now.tuples r indexes.old }
+    ensures { LoseSet (R.keys others.now) rows.now.tuples r sets.now indexes.old indexes.new }
+{
+    remove_each_set(indexes.as_mut_slice(), rows, others, r, sets);
+}
+
+// Whether two declarations are alike.
+pub fn is_same(a: DeclaredIndex, b: DeclaredIndex) -> bool
+    ensures { result ≡ is_index b a }
+{
+    a.column.0 == b.column.0 && a.kind == b.kind
+}
+
+// Whether an index like this one stands there.
+pub fn is_declared(indexes: &[IndexOn], index: DeclaredIndex) -> bool
+    ensures { result ≡ list_any (λ on. is_index index (declaration_of on)) indexes.now }
+{
+    indexes.iter().any(|on| is_same(on.declaration(), index))
+}
+
+// The first tree on this column.
+pub fn tree_on(indexes: &[IndexOn], column: ColumnNumber) -> &Tree
+    requires { HasColumn column.0 (trees_of (map seen indexes.now)) }
+    ensures { result.now.tree ≡ tree_of column.0 (trees_of (map seen indexes.now)) }
+{
+    let Some((first, rest)) = indexes.split_first() else {
+        unreachable!()
+    };
+    match &first.index {
+        Index::Tree(tree) if first.column == column => tree,
+        _ => tree_on(rest, column),
+    }
+}
+
+// The chain of the first hash on this column.
+pub fn chain_on<'a>(indexes: &'a [IndexOn], column: ColumnNumber, hash: u64) -> Chain<'a>
+    requires { HasHashColumn column.0 (hashes_of (map seen indexes.now)) }
+    ensures { IsSameBag (chain_rest result) (with_hash hash (entries_on column.0 (hashes_of (map seen indexes.now)))) }
+{
+    let Some((first, rest)) = indexes.split_first() else {
+        unreachable!()
+    };
+    match &first.index {
+        Index::Hash(held) if first.column == column => held.chain(hash),
+        _ => chain_on(rest, column, hash),
     }
 }

@@ -1,7 +1,7 @@
 //! The rows of one table, under the T-tree of its key and every declared index, which hold references and no keys.
 //!
 //! ```text
-//!  by_key, trees, hashes          rows                                   another table
+//!  by_key, indexes                rows                                   another table
 //!  references in an order,  ──▶  slot: key, cells, referrers  ──link──▶  slot: its key is the value
 //!  or under a hash
 //! ```
@@ -18,7 +18,7 @@
 mod building;
 mod change;
 mod declare;
-mod hashes;
+mod index;
 mod indexes;
 mod keyed;
 pub mod laws;
@@ -31,10 +31,8 @@ mod referring;
 mod refusal;
 mod relation;
 mod relations;
-mod resetting;
 mod row;
 mod tree;
-mod trees;
 mod view;
 
 pub use lin_hash::Chain;

@@ -3,49 +3,50 @@ ghost use Rattle.ttree.specs.Held.{items_of_tree};
 ghost use Rattle.ttree.specs.Room.{room_of, nodes_of, nodes_for};
 ghost use Rattle.std.specs.Prelude.{◌≡◌, ℕ, ◌+◌, ◌≤◌, ◌<◌, max, length, slice_index_or, None, Some, IsSome, IfSome, IfNone, OnOk, map};
 ghost use Rattle.std.specs.FinMap as finite;
-ghost use Rattle.mm_relation.specs.declared.trees.TreeOn.{TreeOn};
+ghost use Rattle.mm_relation.specs.declared.index.IndexOn.{IndexOn};
 ghost use Rattle.mm_relation.specs.State.{IsKeyed, HasKey};
-ghost use Rattle.mm_relation.specs.Indexes.{shown_tree, shown_hash, tree_columns, hash_columns, HaveRoom, Serve, CanRead, CanReadRow};
+ghost use Rattle.mm_relation.specs.Indexes.{seen, spares_in, declaration_of, HaveRoom, Serve, CanRead, CanReadRow};
 
-use crate::indexes::Indexes;
+use crate::index::IndexOn;
+use crate::indexes::{insert, remove, reserve};
 use crate::keyed::{put_row, take_row};
 use crate::linked_keys::LinkedKeys;
 use crate::row::Row;
 use crate::tree::Tree;
 use no_memory::NoMemory;
 use part_raw::{Partitions, TupleRef};
+use plain_tables::Sequence;
 
 // Makes sure of room for one row more. What the parts hold stays.
 pub fn make_room(
     rows: &mut Partitions<Row>,
     by_key: &mut Tree,
-    indexes: &mut Indexes,
+    indexes: &mut Sequence<IndexOn>,
 ) -> Result<(), NoMemory>
     requires few { finite.len rows.old.tuples < 16777216 }
     ensures rows { rows.new.tuples ≡ rows.old.tuples }
     ensures by_key { by_key.new.tree ≡ by_key.old.tree }
-    ensures trees { map shown_tree indexes.new.trees ≡ map shown_tree indexes.old.trees }
-    ensures hashes { map shown_hash indexes.new.hashes ≡ map shown_hash indexes.old.hashes }
+    ensures same { map seen indexes.new ≡ map seen indexes.old }
     ensures free { OnOk result (0 < rows.new.free) }
     ensures key_room { OnOk result (0 < (room_of 30 by_key.new)) }
     ensures room { OnOk result (HaveRoom 1 indexes.new) }
     // Each tree has one spare node more at most, and none more where its nodes suffice.
     ensures key_spares { by_key.new.spares ≤ max by_key.old.spares 1 }
     ensures key_nodes { nodes_of by_key.new ≤ max (nodes_of by_key.old) (nodes_for 30 (length (items_of_tree by_key.old) + 1)) }
-    ensures spares { (k : ℕ) (d : TreeOn) → k < length indexes.old.trees → (slice_index_or indexes.new.trees k d).tree.spares ≤ max (slice_index_or indexes.old.trees k d).tree.spares 1 }
+    ensures spares { (k : ℕ) (d : IndexOn) → k < length indexes.old → spares_in (slice_index_or indexes.new k d).index ≤ max (spares_in (slice_index_or indexes.old k d).index) 1 }
 {
     if rows.free() == 0 {
         rows.reserve()?;
     }
     by_key.reserve_one()?;
-    indexes.reserve(1)
+    reserve(indexes, 1)
 }
 
 // Takes a row in unless its key is there. There is room for it.
 pub fn place<R: LinkedKeys>(
     rows: &mut Partitions<Row>,
     by_key: &mut Tree,
-    indexes: &mut Indexes,
+    indexes: &mut Sequence<IndexOn>,
     links: &R,
     row: Row,
 ) -> Option<TupleRef>
@@ -59,8 +60,7 @@ pub fn place<R: LinkedKeys>(
     requires serve { Serve (R.keys links.now) rows.old.tuples (items_of_tree by_key.old) indexes.old }
     ensures keyed { IsKeyed rows.new.tuples (items_of_tree by_key.new) }
     ensures serve { Serve (R.keys links.now) rows.new.tuples (items_of_tree by_key.new) indexes.new }
-    ensures trees { tree_columns indexes.new ≡ tree_columns indexes.old }
-    ensures hashes { hash_columns indexes.new ≡ hash_columns indexes.old }
+    ensures declared { map declaration_of indexes.new ≡ map declaration_of indexes.old }
     ensures fresh { IfSome result (λ r. finite.get rows.old.tuples r ≡ None) }
     ensures put { IfSome result (λ r. rows.new.tuples ≡ finite.insert rows.old.tuples r row) }
     ensures no_key { IfSome result (λ _. HasKey rows.old.tuples row.key → ⊥) }
@@ -70,7 +70,7 @@ pub fn place<R: LinkedKeys>(
     ensures kept_indexes { IfNone result (indexes.new ≡ indexes.old) }
 {
     let r = put_row(rows, by_key, row)?;
-    indexes.list(rows, links, r);
+    insert(indexes, rows, links, r);
     Some(r)
 }
 
@@ -78,7 +78,7 @@ pub fn place<R: LinkedKeys>(
 pub fn displace<R: LinkedKeys>(
     rows: &mut Partitions<Row>,
     by_key: &mut Tree,
-    indexes: &mut Indexes,
+    indexes: &mut Sequence<IndexOn>,
     links: &R,
     r: TupleRef,
 )
@@ -89,9 +89,8 @@ pub fn displace<R: LinkedKeys>(
     ensures taken { rows.new.tuples ≡ finite.remove rows.old.tuples r }
     ensures keyed { IsKeyed rows.new.tuples (items_of_tree by_key.new) }
     ensures serve { Serve (R.keys links.now) rows.new.tuples (items_of_tree by_key.new) indexes.new }
-    ensures trees { tree_columns indexes.new ≡ tree_columns indexes.old }
-    ensures hashes { hash_columns indexes.new ≡ hash_columns indexes.old }
+    ensures declared { map declaration_of indexes.new ≡ map declaration_of indexes.old }
 {
-    indexes.unlist(rows, links, r);
+    remove(indexes, rows, links, r);
     take_row(rows, by_key, r);
 }

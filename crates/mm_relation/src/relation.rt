@@ -2,8 +2,8 @@
 ghost use Rattle.std.specs.Prelude.{◌≡◌, ◌≢◌, ◌+◌, ◌++◌, ◌-◌, ◌^◌, Contains, ◌<◌, ◌≤◌, All, Some, IsSome, IfSome, IfNone, IfOk, OnOk, OnErr, length};
 
 use crate::change::{change_each, copies_for};
-use crate::hashes::{chain_on, is_hash_on};
-use crate::indexes::Indexes;
+use crate::index::IndexOn;
+use crate::indexes::{chain_on, is_declared, reserve, tree_on};
 use crate::laws::a_relation_is_kept;
 use crate::numbers::DeclaredIndex;
 use crate::parts::{displace, make_room, place};
@@ -13,13 +13,12 @@ use crate::refusal::RowRefusal;
 use crate::relations::{Links, Relations};
 use crate::row::{Cell, Row};
 use crate::tree::{Tree, Walk};
-use crate::trees::{first_tree_on, is_tree_on};
 use crate::view::RowView;
 use lin_hash::Chain;
 use mm_index::Probe;
 use no_memory::NoMemory;
 use part_raw::{Partitions, TupleRef};
-use plain_tables::{ColumnNumber, MOST_ROWS, Schema, Sequence, Value};
+use plain_tables::{ColumnNumber, IndexKind, MOST_ROWS, Schema, Sequence, Value};
 use std::alloc::Global;
 use std::marker::Model;
 use ttree::{TreeShape, table_tree_shape};
@@ -32,7 +31,7 @@ pub struct Relation {
     pub(crate) declared: Vec<DeclaredIndex>,
     pub(crate) rows: Partitions<Row>,
     pub(crate) by_key: Tree,
-    pub(crate) indexes: Indexes,
+    pub(crate) indexes: Sequence<IndexOn>,
 }
 
 impl Model for Relation {
@@ -59,7 +58,7 @@ impl Relation {
     ghost use Rattle.plain_tables.specs.Values.{value_cmp};
     ghost use Rattle.mm_relation.specs.Reading.{Keys, key_at, value_at, cell_value};
     ghost use Rattle.mm_relation.specs.State.{IsReadable, IsCurrent, linked_keys, no_keys, tree_list};
-    ghost use Rattle.mm_relation.specs.Changes.{IsInserted, IsRemoved, IsChanged, IsToldRightly, new_row, HasTree, HasHash, has_tree_on, has_hash_on, tree_on, list_of, entries_of, Refers};
+    ghost use Rattle.mm_relation.specs.Changes.{IsInserted, IsRemoved, IsChanged, IsToldRightly, new_row, HasTree, HasHash, has_tree_on, has_hash_on, has_declared_on, tree_on, list_of, entries_of, Refers};
     ghost use Rattle.mm_relation.specs.Searching.{most_compared};
     ghost use Rattle.ttree.specs.Shape.{HasShape, IsWellShaped};
     ghost use Rattle.std.specs.declared.cmp.Ordering.{Ordering};
@@ -123,18 +122,25 @@ impl Relation {
         self.declared.as_slice()
     }
 
+    // Whether an index of this kind is declared on a column.
+    fn has_declared(&self, column: ColumnNumber, kind: IndexKind) -> bool
+        ensures { result ≡ has_declared_on self.now column.0 kind }
+    {
+        is_declared(self.indexes.as_slice(), DeclaredIndex { column, kind })
+    }
+
     /// Whether a tree stands on a column: the key's own, or a declared one.
     pub fn has_tree(&self, column: ColumnNumber) -> bool
         ensures { result ≡ has_tree_on self.now column.0 }
     {
-        column.0 == 0 || is_tree_on(self.indexes.trees.as_slice(), column)
+        column.0 == 0 || self.has_declared(column, IndexKind::Tree)
     }
 
     /// Whether a hash stands on a column.
     pub fn has_hash(&self, column: ColumnNumber) -> bool
         ensures { result ≡ has_hash_on self.now column.0 }
     {
-        is_hash_on(self.indexes.hashes.as_slice(), column)
+        self.has_declared(column, IndexKind::Hash)
     }
 
     /// All rows, in the order of their keys.
@@ -152,7 +158,7 @@ impl Relation {
         if column.0 == 0 {
             return &self.by_key;
         }
-        first_tree_on(self.indexes.trees.as_slice(), column)
+        tree_on(self.indexes.as_slice(), column)
     }
 
     /// How the tree on a column stands: the key's own, or the first declared one. No node has more than 32 references, each
@@ -207,7 +213,7 @@ impl Relation {
         requires { HasHash self.now column.0 }
         ensures { IsSameBag (chain_rest result) (with_hash hash (entries_of self.now column.0)) }
     {
-        chain_on(self.indexes.hashes.as_slice(), column, hash)
+        chain_on(self.indexes.as_slice(), column, hash)
     }
 
     /// A row in the probe's range, by one search of the tree of the key.
@@ -354,7 +360,7 @@ impl Relation {
         ensures unchanged { OnErr result (self.new ≡ self.old) }
     {
         let mut copies = copies_for(alloc, sets, rs.len())?;
-        self.indexes.reserve(rs.len())?;
+        reserve(&mut self.indexes, rs.len())?;
         let links = Links {
             targets: self.targets.as_slice(),
             others,

@@ -29,7 +29,7 @@ change_row-requires-clause-settable g c =
 pub change_row-requires-clause-read : goal.change_row-requires-clause-read
 change_row-requires-clause-read g c =
     read_now (g.R.LinkedKeys.keys c.args.links.now) c.args.rows.now.tuples c.loop-r.rows.tuples (take c.loop-r.r-index c.args.rs.now) c.args.sets.now c.args.indexes.now c.loop-r.indexes c.requires.settable c.loop-r.invariant.set
-    c.loop-r.invariant.trees c.loop-r.invariant.hashes c.requires.read
+    c.loop-r.invariant.declared c.requires.read
 
 pub change_row-requires-clause-served : goal.change_row-requires-clause-served
 change_row-requires-clause-served g c =
@@ -42,8 +42,7 @@ loop-r-init g c =
     record {
       set = none_set c.args.rows.now.tuples c.args.sets.now;
       served = λ list keyed serves. (keyed, serves);
-      trees = refl;
-      hashes = refl;
+      declared = refl;
       room = subst (λ n. HaveRoom n c.args.indexes.now) all c.requires.room;
       copies = c.requires.ready ∙ ap (λ n. pile n c.args.sets.now) all;
     }
@@ -53,8 +52,7 @@ loop-r-preserved g c = record {
   set = set_next c.args.rows.now.tuples c.loop-r.rows.tuples c.args.rs.now c.args.sets.now c.loop-r.r-index _ (omega arith) (search rules) c.requires.once c.requires.held c.loop-r.invariant.set
       c.change_row.new.rows.tuples c.change_row.ensures.row;
   served = λ list keyed serves. let now = c.loop-r.invariant.served list keyed serves in c.change_row.ensures.served list now.0 now.1;
-  trees = c.change_row.ensures.trees ∙ c.loop-r.invariant.trees;
-  hashes = c.change_row.ensures.hashes ∙ c.loop-r.invariant.hashes;
+  declared = c.change_row.ensures.declared ∙ c.loop-r.invariant.declared;
   room = room_next (length c.args.rs.now) c.loop-r.r-index c.loop-r.indexes c.change_row.new.indexes (omega arith) c.change_row.ensures.room c.loop-r.invariant.room;
   copies = c.change_row.ensures.left _ (c.loop-r.invariant.copies ∙ pile_split (length c.args.rs.now) c.loop-r.r-index c.args.sets.now (omega arith));
 }

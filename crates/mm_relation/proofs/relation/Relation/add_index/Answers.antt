@@ -4,11 +4,11 @@ use Rattle.mm_relation.specs.Declaring.{declaration, IsDeclared}
 use Rattle.mm_relation.specs.Seen.{state}
 use Rattle.mm_relation.specs.State.{linked_keys}
 use Rattle.mm_relation.proofs.Keeping.{served}
-use Rattle.mm_relation.proofs.Declared.{declared_added}
+use Rattle.mm_relation.proofs.Declared.{declared_added, current_with}
 use Rattle.mm_relation.proofs.relation.Relation.add_index.Goals as goal
 
-pub add-requires-clause-serve : goal.add-requires-clause-serve
-add-requires-clause-serve g c =
+pub add_index-requires-clause-serve : goal.add_index-requires-clause-serve
+add_index-requires-clause-serve g c =
     rw c.as_slice.ensures.value
     (served c.self.inside.schema c.self.inside.targets.items c.self.inside.declared.items c.self.inside.rows.tuples c.self.inside.by_key.tree c.self.inside.indexes c.self.invariant
     (linked_keys c.self.inside.targets.items (g.R.Relations.tables c.args.others.now)) (rw (← c.self.view_is) at c.requires.current))
@@ -19,6 +19,12 @@ returns-clause-declared g c =
     let old = state c.self.inside.schema c.self.inside.targets.items c.self.inside.declared.items c.self.inside.rows.tuples c.self.inside.by_key.tree c.self.inside.indexes in
     let pushed : c.push_reserved.new.self.items ≡ c.self.inside.declared.items ++ index ∷ [] = c.push_reserved.ensures.items ∙ ap (λ (ds : List DeclaredIndex). ds ++ index ∷ []) c.reserve.ensures.items in
     rw (← c.self.view_is)
-    (subst (λ ds. IsDeclared old (state c.self.inside.schema c.self.inside.targets.items ds c.self.inside.rows.tuples c.self.inside.by_key.tree c.add.new.self) index) (sym pushed)
+    (subst (λ ds. IsDeclared old (state c.self.inside.schema c.self.inside.targets.items ds c.self.inside.rows.tuples c.self.inside.by_key.tree c.add_index.new.indexes) index) (sym pushed)
     (declared_added c.self.inside.schema c.self.inside.targets.items c.self.inside.declared.items c.self.inside.rows.tuples c.self.inside.by_key.tree c.self.inside.indexes c.self.invariant
-    c.args.kind c.args.column c.add.new.self c.in_ok-add.ensures.added))
+    c.args.kind c.args.column c.add_index.new.indexes c.in_ok-add_index.ensures.added))
+
+pub returns-clause-current : goal.returns-clause-current
+returns-clause-current g c =
+    rw (← c.self.view_is)
+    (current_with c.self.inside.schema c.self.inside.targets.items c.self.inside.declared.items c.self.inside.rows.tuples c.self.inside.by_key.tree c.self.inside.indexes c.self.invariant
+    (linked_keys c.self.inside.targets.items (g.R.Relations.tables c.args.others.now)) c.push_reserved.new.self.items c.add_index.new.indexes (rw (← c.self.view_is) at c.requires.current) (rw c.as_slice.ensures.value at c.add_index.ensures.serve))

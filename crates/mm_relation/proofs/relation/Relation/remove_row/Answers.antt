@@ -26,7 +26,7 @@ invariant_of-self g c =
     let fewer : len (remove c.self.inside.rows.tuples c.args.r) + 1 ≡ len c.self.inside.rows.tuples = len-remove_held c.self.inside.rows.tuples c.args.r held in
     let now : len c.displace.new.rows.tuples ≡ len (remove c.self.inside.rows.tuples c.args.r) = ap len c.displace.ensures.taken in
     kept_on c.self.inside.schema c.self.inside.targets.items c.self.inside.declared.items c.self.inside.rows.tuples c.self.inside.by_key.tree c.self.inside.indexes c.self.invariant
-    c.displace.new.rows.tuples c.displace.new.by_key.tree c.displace.new.indexes c.displace.ensures.keyed (omega (arith, now, fewer, c.self.invariant.few)) c.displace.ensures.trees c.displace.ensures.hashes
+    c.displace.new.rows.tuples c.displace.new.by_key.tree c.displace.new.indexes c.displace.ensures.keyed (omega (arith, now, fewer, c.self.invariant.few)) c.displace.ensures.declared
 
 pub returns-clause-current : goal.returns-clause-current
 returns-clause-current g c =

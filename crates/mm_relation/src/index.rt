@@ -1,0 +1,130 @@
+//! One declared index of a relation.
+ghost use Rattle.std.specs.Prelude.{◌≡◌, ◌≤◌, [], IsSome, OnOk, max};
+ghost use Rattle.mm_relation.specs.Order.{KeysDiffer};
+ghost use Rattle.mm_relation.specs.Reading.{value_at, hash_at};
+ghost use Rattle.mm_relation.specs.State.{tree_list};
+ghost use Rattle.mm_relation.specs.Indexes.{declaration_of, tree_in, entries_in, room_in, spares_in, seen, Awaits, Gains, Has, Loses};
+
+use crate::linked_keys::LinkedKeys;
+use crate::numbers::DeclaredIndex;
+use crate::order::{ColumnOrder, value_in};
+use crate::row::Row;
+use crate::tree::Tree;
+use lin_hash::LinHash;
+use mm_index::{ExactIndex, OrderProbe};
+use no_memory::NoMemory;
+use part_raw::{Partitions, TupleRef};
+use plain_tables::{ColumnNumber, IndexKind, hash_of};
+use std::alloc::Global;
+
+/// What stands on a column: the rows in the order of their values there, or under the hash of these.
+#[derive(Drop)]
+pub enum Index {
+    Tree(Tree),
+    Hash(LinHash),
+}
+
+/// A declared index: its column, and the tree or the hash that stands on it.
+#[derive(Drop)]
+pub struct IndexOn {
+    pub column: ColumnNumber,
+    pub index: Index,
+}
+
+// The hash of a row's value in a column.
+fn hash_in<R: LinkedKeys>(
+    rows: &Partitions<Row>,
+    others: &R,
+    column: ColumnNumber,
+    r: TupleRef,
+) -> u64
+    requires { IsSome (value_at (R.keys others.now) column.0 rows.now.tuples r) }
+    ensures { result ≡ hash_at (R.keys others.now) column.0 rows.now.tuples r }
+{
+    hash_of(value_in(rows, others, column, r))
+}
+
+impl IndexOn {
+    // One with no row in it.
+    pub fn new(alloc: Global, declared: DeclaredIndex) -> IndexOn
+        ensures declaration { declaration_of result ≡ declared }
+        ensures no_list { tree_list (tree_in result.index) ≡ [] }
+        ensures no_entries { entries_in result.index ≡ [] }
+    {
+        let index = match declared.kind {
+            IndexKind::Tree => Index::Tree(Tree::new(alloc)),
+            IndexKind::Hash => Index::Hash(LinHash::new(alloc)),
+        };
+        IndexOn {
+            column: declared.column,
+            index,
+        }
+    }
+
+    // How it was declared.
+    pub fn declaration(&self) -> DeclaredIndex
+        ensures { result ≡ declaration_of self.now }
+    {
+        let kind = match self.index {
+            Index::Tree(_) => IndexKind::Tree,
+            Index::Hash(_) => IndexKind::Hash,
+        };
+        DeclaredIndex {
+            column: self.column,
+            kind,
+        }
+    }
+
+    // Makes sure of memory for so many references more, and for no spare nodes beyond these.
+    pub fn reserve(&mut self, n: usize) -> Result<(), NoMemory>
+        requires { n ≤ 16777216 }
+        ensures same { seen self.new ≡ seen self.old }
+        ensures room { OnOk result (n ≤ room_in self.new.index) }
+        ensures spares { spares_in self.new.index ≤ max (spares_in self.old.index) n }
+    {
+        match &mut self.index {
+            Index::Tree(tree) => tree.reserve(n),
+            Index::Hash(hash) => hash.reserve(n),
+        }
+    }
+
+    // Puts a row's reference in. It takes no memory.
+    pub fn insert<R: LinkedKeys>(&mut self, rows: &Partitions<Row>, others: &R, r: TupleRef)
+        requires keys_differ { KeysDiffer rows.now.tuples }
+        requires awaits { Awaits (R.keys others.now) rows.now.tuples r self.old }
+        ensures { Gains (R.keys others.now) rows.now.tuples r self.old self.new }
+    {
+        let column = self.column;
+        match &mut self.index {
+            Index::Tree(tree) => {
+                let order = ColumnOrder {
+                    rows,
+                    others,
+                    column,
+                };
+                tree.insert(&mut OrderProbe::new(&order, r));
+            }
+            Index::Hash(hash) => hash.insert(hash_in(rows, others, column, r), r),
+        }
+    }
+
+    // Takes a row's reference out. It takes no memory.
+    pub fn remove<R: LinkedKeys>(&mut self, rows: &Partitions<Row>, others: &R, r: TupleRef)
+        requires keys_differ { KeysDiffer rows.now.tuples }
+        requires has { Has (R.keys others.now) rows.now.tuples r self.old }
+        ensures { Loses (R.keys others.now) rows.now.tuples r self.old self.new }
+    {
+        let column = self.column;
+        match &mut self.index {
+            Index::Tree(tree) => {
+                let order = ColumnOrder {
+                    rows,
+                    others,
+                    column,
+                };
+                tree.remove(&mut OrderProbe::new(&order, r));
+            }
+            Index::Hash(hash) => hash.remove(hash_in(rows, others, column, r), r),
+        }
+    }
+}
