@@ -1,0 +1,234 @@
+"""Random streams, judged by SQLite: the answers, and all tables after each command, are those of an engine of other hands.
+
+In large sizes (`tests/fire referee`) the environment can say which streams: MMDB_FIRST is the number of the first,
+MMDB_STREAMS how many, MMDB_SEED the seed, and MMDB_JOBS how many are judged side by side. A stream is drawn by the seed
+and its number alone, so one that failed is judged again by its number, and a run that was ended goes on at a number.
+"""
+
+import collections
+import concurrent.futures
+import os
+import random
+import time
+import unittest
+
+import harness
+import model
+import referee
+import sizes
+import streams
+import test_model
+
+
+def said(name, default):
+    """What the environment says in large sizes."""
+    return int(os.environ.get(name, default)) if sizes.is_large else default
+
+
+SEED = said("MMDB_SEED", 19860528)
+FIRST = said("MMDB_FIRST", 0)
+STREAMS = said("MMDB_STREAMS", sizes.size(200, 5_000))
+JOBS = said("MMDB_JOBS", 1)
+AT_ONCE = 50
+PLANTED_STREAMS = 60
+# Each kind of command that SQLite has to have answered, and each refusal.
+KINDS = (
+    "table, drop table, index, drop index, insert, update, delete, load, dump, tables, select, select distinct,"
+    " select of joins, select distinct of joins"
+).split(", ")
+BY_ROWS = (41, 42, 44)
+
+
+def nulls(draw):
+    """Commands on two columns where nulls can stand, which the streams of the model seldom join."""
+    values = ["null", "null", "'a'", "'b'", "''"]
+    rows = [f"insert f ({draw.randrange(9)}, {draw.choice(values)})" for _ in range(5)]
+    rows += [f"insert e ({draw.randrange(9)}, {draw.randrange(3)}, {draw.choice(values)})" for _ in range(3)]
+    draw.shuffle(rows)
+    joined = draw.choice(["e join f on e.u = f.u", "f join e on e.u = f.u"])
+    test = f" where {draw.choice(['e.u', 'f.u'])} {draw.choice(['=', '<>', '<', '>='])} {draw.choice(values)}"
+    asked = ["select distinct u from f", f"select * from {joined}", f"select distinct f.u, e.t from {joined}{test}", f"delete f{test}"]
+    return "".join(f"{line}\n" for line in ["table f (id int, u ref u null)", *rows, *asked]).encode()
+
+
+def stream_at(number):
+    """The stream of that number: one of the model's, and every third with nulls joined behind it."""
+    draw = random.Random(f"{SEED} {number}")
+    stream = test_model.stream_and_answers(draw)[0]
+    return stream if number % 3 else streams.whole_units_of(stream) + nulls(draw)
+
+
+def told(listed):
+    return b"".join(case.unit for case in listed)
+
+
+def covered(listed):
+    """How often each kind of command came, was answered by SQLite, showed rows, and was refused, and by whom."""
+    count = collections.Counter()
+    for case in listed:
+        number = referee.refusal_of(case.answer())
+        judge = "model" if case.by_sqlite is None else "SQLite"
+        count["commands", case.kind] += 1
+        if number:
+            count[f"refused by {judge}", number] += 1
+        elif judge == "SQLite":
+            count["done by SQLite", case.kind] += 1
+            count["rows shown or changed", case.kind] += case.answer().split(b"\n")[0] not in (b"ok 0", b"rows 0")
+    return count
+
+
+def judge(number):
+    """What a stream differs by, with its number, and what it covered. The policies take turns."""
+    listed = list(referee.cases(stream_at(number)))
+    ended = harness.run_whole(told(listed), ["--policy", harness.POLICIES[number % len(harness.POLICIES)]])
+    found = referee.difference(listed, ended.out)
+    return (f"stream {number} of seed {SEED}: {found}" if found else None), covered(listed)
+
+
+def judge_some(numbers):
+    judged = [judge(number) for number in numbers]
+    return [found for found, _ in judged if found], sum((count for _, count in judged), collections.Counter())
+
+
+def judge_all():
+    """Judges all streams, some at once by each job, and tells how far it is."""
+    numbers = [range(at, min(at + AT_ONCE, FIRST + STREAMS)) for at in range(FIRST, FIRST + STREAMS, AT_ONCE)]
+    differences, count = [], collections.Counter()
+    with concurrent.futures.ProcessPoolExecutor(JOBS) as jobs:
+        for some, (found, more) in zip(numbers, jobs.map(judge_some, numbers)):
+            differences += found
+            count += more
+            if sizes.is_large and some.stop % 1_000 == 0:
+                print(f"{some.stop - FIRST} streams, the last of number {some.stop - 1}: {len(differences)} differ", flush=True)
+    return differences, count
+
+
+def tell(count, seconds):
+    print(f"seed {SEED}, streams {FIRST} to {FIRST + STREAMS - 1}, {seconds:.0f} seconds, {JOBS} side by side")
+    for what in dict.fromkeys(what for what, _ in sorted(count, key=str)):
+        listed = sorted((kind, times) for (other, kind), times in count.items() if other == what)
+        print(f"{what}: {sum(times for _, times in listed)}: " + ", ".join(f"{kind} {times}" for kind, times in listed), flush=True)
+
+
+class Judged(unittest.TestCase):
+    def test_sqlite_gives_the_same_answers_and_tables(self):
+        began = time.monotonic()
+        differences, count = judge_all()
+        if sizes.is_large:
+            tell(count, time.monotonic() - began)
+        self.assertEqual(differences, [], "\n\n".join(differences[:5]))
+        if STREAMS >= 1_000 or not sizes.is_large:
+            self.assertEqual([kind for kind in KINDS if not count["rows shown or changed", kind]], [])
+            self.assertEqual([number for number in BY_ROWS if not count["refused by SQLite", number]], [])
+
+    def test_the_rows_are_judged_so(self):
+        for name, stream, _ in harness.rows():
+            with self.subTest(row=name):
+                listed = list(referee.cases(stream))
+                self.assertIsNone(referee.difference(listed, harness.run_whole(told(listed)).out))
+
+
+def update(self, name, settings, conditions):
+    """Sets nothing."""
+    rows = [list(row) for row in self.named(name).rows]
+    answer = model.Tables.update(self, name, settings, conditions)
+    self.named(name).rows = rows
+    return answer
+
+
+def shown(change):
+    """Changes the rows that a select shows."""
+
+    def select(self, *words):
+        lines = model.Tables.select(self, *words).split(b"\n")
+        rows = change(lines[2:-1])
+        return b"\n".join([b"rows %d" % len(rows), lines[1], *rows, b""])
+
+    return select
+
+
+def select(self, distinct, *words):
+    """Shows each list of values as often as it is found."""
+    return model.Tables.select(self, False, *words)
+
+
+def delete(self, name, conditions):
+    """Takes rows out that are named."""
+    table = self.named(name)
+    self.check_conditions(table, conditions)
+    kept = [row for row in table.rows if not table.meets(row, conditions)]
+    gone, table.rows = len(table.rows) - len(kept), kept
+    return b"ok %d\n" % gone
+
+
+def load(self, name, length, block):
+    """Leaves the rows that stand before the one that is refused."""
+    table = self.named(name)
+    try:
+        return model.Tables.load(self, name, length, block)
+    except model.Refused as why:
+        if why.number in (41, 42):
+            table.put(list(self.rows_of(table, block))[: why.record - 1])
+        raise
+
+
+def check_references(self, columns_and_values):
+    """Takes references that name no row."""
+
+
+def check_row(self, table, row, keys):
+    """Looks at references before the key."""
+    self.check_references(zip(table.columns, row))
+    model.Tables.check_row(self, table, row, keys)
+
+
+def members(_, tables, sides):
+    """Joins nulls."""
+    found = [[row] for row in tables[0].rows]
+    for table, ((number, place), inner) in zip(tables[1:], sides):
+        found = [[*member, row] for member in found for row in table.rows if member[number][place] == row[inner]]
+    return found
+
+
+def drop_index(self, name, column, kind):
+    """Leaves the index."""
+    indexes = list(self.named(name).indexes)
+    answer = model.Tables.drop_index(self, name, column, kind)
+    self.named(name).indexes = indexes
+    return answer
+
+
+PLANTED = {
+    "an update sets nothing": update,
+    "a select leaves a row out": shown(lambda rows: rows[:-1]),
+    "a select shows rows in the wrong order": shown(lambda rows: rows[::-1]),
+    "a select shows a row twice": shown(lambda rows: rows + rows[-1:]),
+    "distinct shows what is equal": select,
+    "a delete takes rows that are named": delete,
+    "a refused load leaves rows": load,
+    "references name no row": check_references,
+    "references are looked at before keys": check_row,
+    "nulls are joined": members,
+    "a dropped index stays": drop_index,
+}
+
+
+def answers(stream, tables):
+    return b"".join(tables.answer(*unit) for unit in model.units_of(stream))
+
+
+class Planted(unittest.TestCase):
+    """A mistake that is planted in the tables is seen, whether it is the program that has it, or the program and the model."""
+
+    def test_each_planted_mistake_is_seen(self):
+        drawn = [stream_at(number) for number in range(PLANTED_STREAMS)]
+        units = [told(referee.cases(stream)) for stream in drawn]
+        for name, method in PLANTED.items():
+            faulty = type("Faulty", (model.Tables,), {method.__name__: method})
+            with self.subTest(planted=name):
+                self.assertTrue(any(self.differ(*both, faulty) for both in zip(drawn, units)))
+                self.assertTrue(any(self.differ(*both, faulty, faulty) for both in zip(drawn, units)))
+
+    def differ(self, stream, units, program, judge=model.Tables):
+        listed = list(referee.cases(stream, judge(model.Limits())))
+        return referee.difference(listed, answers(units, program(model.Limits())))
