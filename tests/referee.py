@@ -80,7 +80,7 @@ class Referee:
     def answer(self, word, said):
         """The answer to a command that is refused by rows or not at all."""
         try:
-            return getattr(self, word)(*said)
+            return getattr(self, word)(*said) or b"ok\n"
         except sqlite3.IntegrityError as why:
             return refused(why, word)
 
@@ -109,19 +109,15 @@ class Referee:
             declared.append(f"{sql(column.name)} {kind}{rules}")
         key = sql(columns[0].name)
         self.do(f"CREATE TABLE {sql(name)} ({', '.join(declared)}, PRIMARY KEY ({key})) STRICT, WITHOUT ROWID")
-        return b"ok\n"
 
     def drop_table(self, name):
         self.do(f"DROP TABLE {sql(name)}")
-        return b"ok\n"
 
     def index(self, name, column, kind):
         self.do(f"CREATE INDEX {sql(f'{name}.{column[1]}.{kind}')} ON {sql(name)} ({sql(column[1])})")
-        return b"ok\n"
 
     def drop_index(self, name, column, kind):
         self.do(f"DROP INDEX {sql(f'{name}.{column[1]}.{kind}')}")
-        return b"ok\n"
 
     def tables(self):
         lines = []
@@ -143,8 +139,8 @@ class Referee:
     def load(self, name, block):
         """A load is inserts in one savepoint. The first that a constraint refuses is the record that the answer tells."""
         columns = self.columns(name)
-        lines = csv.reader(io.StringIO(block.decode("utf-8-sig"), newline=""), strict=True)
-        rows = [fields for fields in lines if fields][1:]
+        text = io.StringIO(block.decode("utf-8-sig"), newline="")
+        rows = [fields for fields in csv.reader(text, strict=True) if fields][1:]
         self.do("SAVEPOINT load")
         try:
             for number, fields in enumerate(rows, 1):
@@ -165,7 +161,8 @@ class Referee:
         """SQLite looks at a reference only where it puts it into a row. In the language it has to name a row all the same."""
         to = self.references(name)
         named = [(to[column], value) for (_, column), value in settings if column in to and value is not None]
-        exist = [self.do(f"SELECT * FROM {sql(table)} WHERE {dotted(self.key(table))} = ?", [text_of(value)]).fetchone() for table, value in named]
+        look = "SELECT * FROM {} WHERE {} = ?"
+        exist = [self.do(look.format(sql(to), dotted(self.key(to))), [text_of(value)]).fetchone() for to, value in named]
         tests, values = where(conditions)
         puts = ", ".join(f"{sql(column)} = ?" for (_, column), _ in settings)
         count = self.do(f"UPDATE {sql(name)} SET {puts}{tests}", [text_of(value) for _, value in settings] + values).rowcount
@@ -181,13 +178,14 @@ class Referee:
     def select(self, distinct, items, name, joins, conditions):
         tables = [name, *(table for table, _, _ in joins)]
         every = [(table, column) for table in tables for column, _, _ in self.columns(table)]
-        shown = every if items is None else [next(one for one in every if item[1] == one[1] and item[0] in (None, one[0])) for item in items]
+        meant = [[one for one in every if name == one[1] and table in (None, one[0])][0] for table, name in items or []]
+        shown = meant or every
         tests, values = where(conditions)
         joined = "".join(f" JOIN {sql(table)} ON {dotted(left)} = {dotted(right)}" for table, left, right in joins)
         # SQLite orders nulls before integers, and these before texts, too.
         order = map(str, range(1, len(shown) + 1)) if distinct else [dotted(self.key(table)) for table in tables]
-        words = f"SELECT {'DISTINCT ' * distinct}{', '.join(map(dotted, shown))} FROM {sql(name)}{joined}{tests} ORDER BY {', '.join(order)}"
-        rows = self.do(words, values).fetchall()
+        front = f"SELECT {'DISTINCT ' * distinct}{', '.join(map(dotted, shown))} FROM {sql(name)}"
+        rows = self.do(f"{front}{joined}{tests} ORDER BY {', '.join(order)}", values).fetchall()
         return b"rows %d\n" % len(rows) + records([[f"{table}.{column}" for table, column in shown], *rows])
 
 
@@ -220,8 +218,8 @@ class Bench:
         kind = word.replace("_", " ")
         if word == "select":
             kind = "select" + " distinct" * said[0] + " of joins" * bool(said[3])
-        told = (said[0], block) if word == "load" else said
-        return Case(unit, kind, answer, self.referee.answer(word, told) if number in BY_ROWS else None)
+        said = (said[0], block) if word == "load" else said
+        return Case(unit, kind, answer, self.referee.answer(word, said) if number in BY_ROWS else None)
 
     def looks(self):
         """What shows all declarations and all rows."""
@@ -230,8 +228,7 @@ class Bench:
 
 
 def refusal_of(answer):
-    found = re.match(rb"error (\d+) ", answer)
-    return int(found[1]) if found else None
+    return int(answer[6:8]) if answer.startswith(b"error ") else None
 
 
 def cases(stream, tables=None):
@@ -246,12 +243,13 @@ def cases(stream, tables=None):
 
 
 def difference(listed, out):
-    """The first case whose answers aren't all the same: what SQLite, the model and the program say. `None` where there is none."""
+    """The first case whose answers aren't all the same, and what SQLite, the model and the program say, or `None`."""
     at = 0
     for number, case in enumerate(listed):
         answer = case.answer()
         if case.by_model != answer or not out.startswith(answer, at):
             before = b"".join(other.unit for other in listed[:number] if other.kind not in ("tables", "dump", "silent"))
-            return f"{case.unit!r}\nSQLite  {case.by_sqlite!r}\nmodel   {case.by_model!r}\nprogram {out[at : at + len(answer) + 80]!r}\nbehind  {before!r}"
+            told = {"SQLite": case.by_sqlite, "model": case.by_model, "program": out[at : at + len(answer) + 80], "behind": before}
+            return f"{case.unit!r}\n" + "\n".join(f"{who}: {what!r}" for who, what in told.items())
         at += len(answer)
     return None if at == len(out) else f"behind all answers: {out[at : at + 200]!r}"
