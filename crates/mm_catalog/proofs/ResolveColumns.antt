@@ -15,8 +15,8 @@ use Rattle.plain_tables.specs.Queries.{JoinedColumn, column_number, fits, fits_o
 use Rattle.plain_tables.specs.declared.numbers.Place.{Place}
 use Rattle.plain_tables.specs.declared.schema.Column.{Column}
 use Rattle.plain_tables.specs.declared.condition.ColName.{ColName}
-use Rattle.mm_catalog.specs.declared.scope.Scope.{Scope}
-use Rattle.mm_catalog.specs.declared.scope.NamedColumn.{NamedColumn}
+use Rattle.mm_catalog.specs.declared.bind.scope.Scope.{Scope}
+use Rattle.mm_catalog.specs.declared.bind.scope.NamedColumn.{NamedColumn}
 use Rattle.mm_catalog.proofs.ResolveLists.{none_found, is_some-map}
 use Rattle.mm_catalog.specs.Resolve.{in_table, place_in, columns_of, source_columns, columns_of_all, placed, as_found}
 

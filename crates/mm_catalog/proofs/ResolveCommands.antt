@@ -25,7 +25,7 @@ use Rattle.plain_tables.specs.declared.refusal.Refusal.{Refusal}
 use Rattle.plain_tables.specs.declared.refusal.Refusal.TheVariants.{NoSuchTable, NoSuchColumn, NoSuchIndex, IndexExists, TableIsReferenced, ColumnNamedTwice, TooMany, WrongType, KeyCannotBeSet, TextTooLong}
 use Rattle.plain_tables.specs.declared.resolved.Resolved.{Resolved}
 use Rattle.plain_tables.specs.declared.resolved.Resolved.TheVariants as resolved
-use Rattle.mm_catalog.specs.declared.scope.Scope.{Scope}
+use Rattle.mm_catalog.specs.declared.bind.scope.Scope.{Scope}
 use Rattle.mm_catalog.specs.Seen.{plain_index}
 use Rattle.mm_catalog.specs.Resolve.{IsScopeOf, bare, columns_of, own_place}
 use Rattle.mm_catalog.specs.ResolveChecks.{verdict, row_checks, delete_rest, update_rest}

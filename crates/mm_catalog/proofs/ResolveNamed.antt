@@ -19,7 +19,7 @@ use Rattle.plain_tables.specs.declared.command.Setting.{Setting}
 use Rattle.plain_tables.specs.declared.numbers.Place.{Place}
 use Rattle.plain_tables.specs.declared.resolved.Assignment.{Assignment}
 use Rattle.plain_tables.specs.declared.resolved.Test.{Test}
-use Rattle.mm_catalog.specs.declared.scope.Scope.{Scope}
+use Rattle.mm_catalog.specs.declared.bind.scope.Scope.{Scope}
 use Rattle.mm_catalog.specs.Resolve.{columns_of, test_at, test_of, assignment_at, assignment_of, shown_places}
 use Rattle.mm_catalog.specs.ResolveChecks.{mistypes_at, is_mistyped_test}
 use Rattle.mm_catalog.proofs.Finding.{list_any-map}

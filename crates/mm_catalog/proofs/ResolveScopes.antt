@@ -17,9 +17,9 @@ use Rattle.plain_tables.specs.Queries.{JoinedColumn, column_number, sides_meant,
 use Rattle.plain_tables.specs.Resolving.{once, select_names, behind, join_columns, columns_of as named_columns}
 use Rattle.plain_tables.specs.declared.command.Join.{Join}
 use Rattle.plain_tables.specs.declared.schema.Column.{Column}
-use Rattle.mm_catalog.specs.declared.scope.Scope.{Scope}
-use Rattle.mm_catalog.specs.declared.joined_scope.JoinedScope.{JoinedScope}
-use Rattle.mm_catalog.specs.declared.joined_scope.Sides.{Sides}
+use Rattle.mm_catalog.specs.declared.bind.scope.Scope.{Scope}
+use Rattle.mm_catalog.specs.declared.bind.joined_scope.JoinedScope.{JoinedScope}
+use Rattle.mm_catalog.specs.declared.bind.joined_scope.Sides.{Sides}
 use Rattle.mm_catalog.specs.Resolve.{IsScopeOf, place_in, columns_of, columns_of_all, source_columns, placed}
 use Rattle.mm_catalog.specs.Select.{placed_sides, sides_found, IsJoinedScopeOf}
 use Rattle.mm_catalog.proofs.Finding.{list_any-map}

@@ -27,9 +27,9 @@ use Rattle.plain_tables.specs.declared.resolved.Source.{Source}
 use Rattle.plain_tables.specs.declared.resolved.Resolved.{Resolved}
 use Rattle.plain_tables.specs.declared.resolved.Resolved.TheVariants as resolved
 use Rattle.plain_tables.specs.declared.schema.Column.{Column}
-use Rattle.mm_catalog.specs.declared.scope.Scope.{Scope}
-use Rattle.mm_catalog.specs.declared.joined_scope.JoinedScope.{JoinedScope}
-use Rattle.mm_catalog.specs.declared.joined_scope.Sides.{Sides}
+use Rattle.mm_catalog.specs.declared.bind.scope.Scope.{Scope}
+use Rattle.mm_catalog.specs.declared.bind.joined_scope.JoinedScope.{JoinedScope}
+use Rattle.mm_catalog.specs.declared.bind.joined_scope.Sides.{Sides}
 use Rattle.mm_catalog.specs.Resolve.{IsScopeOf, columns_of_all, shown_places}
 use Rattle.mm_catalog.specs.ResolveChecks.{verdict}
 use Rattle.mm_catalog.specs.Select.{IsJoinedScopeOf, placed_sides, sides_found, sides_differ, select_rest, source_on, joined_by}

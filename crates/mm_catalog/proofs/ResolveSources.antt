@@ -11,7 +11,7 @@ use Rattle.plain_tables.specs.Resolving.{is_on_source, tests_of}
 use Rattle.plain_tables.specs.declared.condition.Cond.{Cond}
 use Rattle.plain_tables.specs.declared.numbers.Place.{Place}
 use Rattle.plain_tables.specs.declared.resolved.Source.{Source}
-use Rattle.mm_catalog.specs.declared.scope.Scope.{Scope}
+use Rattle.mm_catalog.specs.declared.bind.scope.Scope.{Scope}
 use Rattle.mm_catalog.specs.Resolve.{test_at, test_of}
 use Rattle.mm_catalog.specs.Select.{source_on, untested, with_test}
 

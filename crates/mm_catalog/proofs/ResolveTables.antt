@@ -15,7 +15,7 @@ use Rattle.mm_relation.specs.State.{RelationState}
 use Rattle.mm_catalog.specs.State.{CatalogState}
 use Rattle.mm_catalog.specs.Seen.{database_of, table_of, plain_index}
 use Rattle.mm_catalog.specs.Resolve.{IsScopeOf, table_number}
-use Rattle.mm_catalog.specs.declared.scope.Scope.{Scope}
+use Rattle.mm_catalog.specs.declared.bind.scope.Scope.{Scope}
 use Rattle.mm_catalog.proofs.Finding.{position-map, list_any-map}
 use Rattle.mm_catalog.proofs.Lists.{get_within}
 use Rattle.mm_catalog.proofs.Tables.{database-get}

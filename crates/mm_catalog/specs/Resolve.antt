@@ -19,9 +19,9 @@ use Rattle.plain_tables.specs.declared.resolved.Assignment.{Assignment}
 use Rattle.plain_tables.specs.declared.resolved.Shown.{Shown}
 use Rattle.plain_tables.specs.declared.resolved.Shown.TheVariants as shown
 use Rattle.plain_tables.specs.declared.resolved.Test.{Test}
-use Rattle.mm_catalog.specs.declared.scope.Scope.{Scope}
-use Rattle.mm_catalog.specs.declared.scope.Name.{Name}
-use Rattle.mm_catalog.specs.declared.scope.NamedColumn.{NamedColumn}
+use Rattle.mm_catalog.specs.declared.bind.scope.Scope.{Scope}
+use Rattle.mm_catalog.specs.declared.bind.scope.Name.{Name}
+use Rattle.mm_catalog.specs.declared.bind.scope.NamedColumn.{NamedColumn}
 
 -- the number of a table
 abbrev pub table_number : ℕ → TableNumber

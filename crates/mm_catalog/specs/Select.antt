@@ -16,9 +16,9 @@ use Rattle.plain_tables.specs.declared.resolved.Shown.{Shown}
 use Rattle.plain_tables.specs.declared.resolved.Source.{Source}
 use Rattle.plain_tables.specs.declared.resolved.Test.{Test}
 use Rattle.plain_tables.specs.declared.schema.Column.{Column}
-use Rattle.mm_catalog.specs.declared.scope.Scope.{Scope}
-use Rattle.mm_catalog.specs.declared.joined_scope.Sides.{Sides}
-use Rattle.mm_catalog.specs.declared.joined_scope.JoinedScope.{JoinedScope}
+use Rattle.mm_catalog.specs.declared.bind.scope.Scope.{Scope}
+use Rattle.mm_catalog.specs.declared.bind.joined_scope.Sides.{Sides}
+use Rattle.mm_catalog.specs.declared.bind.joined_scope.JoinedScope.{JoinedScope}
 use Rattle.mm_catalog.specs.Resolve.{IsScopeOf, columns_of_all, placed, as_found, shown_places}
 
 -- ---- the tables and joins

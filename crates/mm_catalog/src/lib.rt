@@ -18,23 +18,17 @@
 #![tactic(auto)]
 
 mod before;
+mod bind;
 mod catalog;
 mod cells;
-mod checks;
 mod create;
 mod declare;
 mod delete;
 mod insert;
-mod joined_scope;
 pub mod laws;
 mod load;
-mod named;
 mod references;
 mod removal;
-mod resolve;
-mod scope;
-mod selected;
-mod types;
 mod updating;
 
 pub use catalog::Catalog;

@@ -1,0 +1,11 @@
+//! From names to numbers: what a command means of the tables that there are.
+//!
+//! It knows the names, the columns and the declared indexes of tables, and no row of one.
+
+mod checks;
+mod joined_scope;
+mod named;
+mod resolve;
+mod scope;
+mod selected;
+mod types;

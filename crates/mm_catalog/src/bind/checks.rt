@@ -1,0 +1,281 @@
+//! The checks that need no row, of commands whose names are resolved.
+ghost use Rattle.std.specs.Prelude.{◌≡◌, ◌==◌, ◌||◌, map, take, not, is_some, length, nat_lt, nat_le};
+ghost use Rattle.std.specs.List.{list_any};
+ghost use Rattle.std.specs.Str.{bytes_eq};
+ghost use Rattle.plain_tables.specs.Databases.{table_named};
+ghost use Rattle.plain_tables.specs.Effects as effects;
+ghost use Rattle.plain_tables.specs.References as plain;
+ghost use Rattle.plain_tables.specs.Resolving as resolving;
+ghost use Rattle.mm_catalog.specs.Seen.{database_of};
+ghost use Rattle.mm_catalog.specs.Resolve as resolve;
+ghost use Rattle.mm_catalog.specs.ResolveChecks.{verdict, row_checks, delete_rest, update_rest};
+ghost use Rattle.mm_catalog.specs.Select.{select_rest};
+ghost use Rattle.plain_tables.specs.Queries.{same_place};
+
+use crate::catalog::Catalog;
+use crate::create::referred;
+use crate::bind::joined_scope::JoinedScope;
+use plain_tables::{
+    Assignment, Column, Cond, LONGEST_TEXT, Place, Refusal, Schema, Setting, Shown, Test, Text,
+    Value,
+};
+
+const MOST_TABLES: usize = 64;
+
+const MOST_COLUMNS: usize = 16;
+
+const MOST_ITEMS: usize = 16;
+
+const MOST_CONDITIONS: usize = 8;
+
+const MOST_JOINS: usize = 3;
+
+// Whether a value is a text past 1,024 bytes.
+fn is_long(value: &Value) -> bool
+    ensures { result ≡ effects.is_long value.now }
+{
+    match value {
+        Value::Null | Value::Int(_) => false,
+        Value::Text(text) => text.as_bytes().len() > LONGEST_TEXT,
+    }
+}
+
+// Whether a text of the row is longer than a stored text may be.
+fn has_long_text(row: &[Value]) -> bool
+    ensures { result ≡ list_any effects.is_long row.now }
+{
+    row.iter().any(|value| is_long(value))
+}
+
+// Whether a text that is set is longer than a stored text may be.
+fn sets_long_text(assignments: &[Assignment]) -> bool
+    ensures { result ≡ list_any (λ a. effects.is_long a.value) assignments.now }
+{
+    assignments
+        .iter()
+        .any(|assignment| is_long(&assignment.value))
+}
+
+// Whether an assignment is of the key.
+fn sets_key(assignments: &[Assignment]) -> bool
+    ensures { result ≡ list_any (λ a. a.column.0 == 0) assignments.now }
+{
+    assignments
+        .iter()
+        .any(|assignment| assignment.column.0 == 0)
+}
+
+// Whether the key's column refers to a table.
+fn key_refers(columns: &[Column]) -> bool
+    ensures { result ≡ list_any (λ c. is_some (plain.referred c.kind)) (take 1 columns.now) }
+{
+    match columns.first() {
+        Some(key) => referred(key).is_some(),
+        None => false,
+    }
+}
+
+fn names_column(name: &Text, columns: &[Column]) -> bool
+    ensures { result ≡ list_any (bytes_eq name.now) (effects.column_names columns.now) }
+{
+    columns
+        .iter()
+        .any(|column| name.as_bytes() == column.name.as_bytes())
+}
+
+// Whether two columns have one name.
+fn repeats_name(columns: &[Column]) -> bool
+    ensures { result ≡ effects.repeats bytes_eq (effects.column_names columns.now) }
+{
+    let mut rest = columns;
+    while let Some((first, others)) = rest.split_first() {
+        if names_column(&first.name, others) {
+            return true;
+        }
+        rest = others;
+    }
+    false
+}
+
+fn sets_column(name: &Text, settings: &[Setting]) -> bool
+    ensures { result ≡ list_any (bytes_eq name.now) (map (λ s. s.column) settings.now) }
+{
+    settings
+        .iter()
+        .any(|setting| name.as_bytes() == setting.column.as_bytes())
+}
+
+/// Whether two settings are of one column.
+pub fn repeats_setting(settings: &[Setting]) -> bool
+    ensures { result ≡ effects.repeats bytes_eq (map (λ s. s.column) settings.now) }
+{
+    let mut rest = settings;
+    while let Some((first, others)) = rest.split_first() {
+        if sets_column(&first.column, others) {
+            return true;
+        }
+        rest = others;
+    }
+    false
+}
+
+fn shows_place(place: Place, places: &[Place]) -> bool
+    ensures { result ≡ list_any (same_place place) places.now }
+{
+    places.iter().any(|other| place.source == other.source && place.column.0 == other.column.0)
+}
+
+// Whether a place stands twice.
+fn repeats_place(places: &[Place]) -> bool
+    ensures { result ≡ effects.repeats same_place places.now }
+{
+    let mut rest = places;
+    while let Some((first, others)) = rest.split_first() {
+        if shows_place(*first, others) {
+            return true;
+        }
+        rest = others;
+    }
+    false
+}
+
+// The places of the columns that are shown by their names.
+fn shown_places(shown: &Shown) -> &[Place]
+    ensures { result.now ≡ resolve.shown_places shown.now }
+{
+    match shown {
+        Shown::All => &[],
+        Shown::Columns(places) => places.as_slice(),
+    }
+}
+
+impl Catalog {
+    // Whether a column refers to a table that isn't there.
+    fn refers_to_missing(&self, columns: &[Column]) -> bool
+        ensures { result ≡ list_any (λ c. not (plain.refers_into (database_of self.now) c)) columns.now }
+    {
+        columns.iter().any(|column| !self.refers_into(column))
+    }
+
+    pub(crate) fn has_table(&self, name: &Text) -> bool
+        ensures { result ≡ is_some (table_named name.now (database_of self.now)) }
+    {
+        self.table_number(name).is_some()
+    }
+
+    // Whether these columns are too many for a table, or one more table is.
+    fn is_full(&self, columns: &[Column]) -> bool
+        ensures { result ≡ (nat_lt 16 (length columns.now) || nat_le 64 (length (database_of self.now))) }
+    {
+        columns.len() > MOST_COLUMNS || self.table_count() >= MOST_TABLES
+    }
+
+    /// The tables that are referred to are there, the name is new, no column is named twice, the key refers to no table, and
+    /// there is room for so many columns and for the table.
+    pub(crate) fn check_table(&self, name: &Text, schema: &Schema) -> Result<(), Refusal>
+        ensures { result ≡ verdict (resolving.table_checks (database_of self.now) name.now schema.now) }
+    {
+        let columns = schema.columns.as_slice();
+        if self.refers_to_missing(columns) {
+            return Err(Refusal::NoSuchTable);
+        }
+        if self.has_table(name) {
+            return Err(Refusal::TableExists);
+        }
+        if repeats_name(columns) {
+            return Err(Refusal::ColumnNamedTwice);
+        }
+        if key_refers(columns) {
+            return Err(Refusal::WrongType);
+        }
+        if self.is_full(columns) {
+            return Err(Refusal::TooMany);
+        }
+        Ok(())
+    }
+
+    /// There is one value for each column, of its type, and no text is too long.
+    pub(crate) fn check_row(&self, columns: &[Column], row: &[Value]) -> Result<(), Refusal>
+        ensures { result ≡ verdict (row_checks (database_of self.now) columns.now row.now) }
+    {
+        if row.len() != columns.len() {
+            return Err(Refusal::WrongNumberOfValues);
+        }
+        if self.row_is_mistyped(columns, row) {
+            return Err(Refusal::WrongType);
+        }
+        if has_long_text(row) {
+            return Err(Refusal::TextTooLong);
+        }
+        Ok(())
+    }
+
+    /// Each value of a condition is of its column's type, and there are few enough.
+    pub(crate) fn check_delete(&self, columns: &[Column], tests: &[Test]) -> Result<(), Refusal>
+        ensures { result ≡ verdict (delete_rest (database_of self.now) columns.now tests.now) }
+    {
+        if self.tests_are_mistyped(columns, tests) {
+            return Err(Refusal::WrongType);
+        }
+        if tests.len() > MOST_CONDITIONS {
+            return Err(Refusal::TooMany);
+        }
+        Ok(())
+    }
+
+    /// No column is shown twice, no table named twice, each value of a condition is of its column's type, as are the two
+    /// columns of each join of one, and there are few enough items, conditions and joins.
+    pub(crate) fn check_select(
+        &self,
+        scope: &JoinedScope<'_>,
+        shown: &Shown,
+        conditions: &[Cond],
+    ) -> Result<(), Refusal>
+        ensures { result ≡ verdict (select_rest (database_of self.now) scope.now shown.now conditions.now) }
+    {
+        let items = shown_places(shown);
+        let joins = scope.sides.len();
+        if repeats_place(items) {
+            return Err(Refusal::ColumnNamedTwice);
+        }
+        if scope.scopes.len() <= joins {
+            return Err(Refusal::TableNamedTwice);
+        }
+        if self.conditions_are_mistyped(scope, conditions)
+            || self.sides_are_mistyped(scope.sides.as_slice())
+        {
+            return Err(Refusal::WrongType);
+        }
+        if items.len() > MOST_ITEMS || conditions.len() > MOST_CONDITIONS || joins > MOST_JOINS {
+            return Err(Refusal::TooMany);
+        }
+        Ok(())
+    }
+
+    /// Each value is of its column's type, no text to be set is too long, the key isn't set, and there are few enough
+    /// conditions.
+    pub(crate) fn check_update(
+        &self,
+        columns: &[Column],
+        assignments: &[Assignment],
+        tests: &[Test],
+    ) -> Result<(), Refusal>
+        ensures { result ≡ verdict (update_rest (database_of self.now) columns.now assignments.now tests.now) }
+    {
+        if self.assignments_are_mistyped(columns, assignments)
+            || self.tests_are_mistyped(columns, tests)
+        {
+            return Err(Refusal::WrongType);
+        }
+        if sets_long_text(assignments) {
+            return Err(Refusal::TextTooLong);
+        }
+        if sets_key(assignments) {
+            return Err(Refusal::KeyCannotBeSet);
+        }
+        if tests.len() > MOST_CONDITIONS {
+            return Err(Refusal::TooMany);
+        }
+        Ok(())
+    }
+}

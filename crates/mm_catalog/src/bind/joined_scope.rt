@@ -1,0 +1,143 @@
+//! The names in a command on several tables.
+ghost use Rattle.std.specs.Prelude.{◌≡◌, ◌≢◌, ◌<◌, ◌++◌, ◌∷◌, [], None, Some, true, false, not, is_some, is_none, OnOk, IfSome, IfOk, IfErr, length, map, if◌then◌else◌};
+ghost use Rattle.std.specs.List.{list_any};
+ghost use Rattle.std.specs.Option.{option_map, option_zip};
+ghost use Rattle.std.specs.Str.{bytes_eq};
+ghost use Rattle.plain_tables.specs.declared.refusal.Refusal.TheVariants as refusal;
+ghost use Rattle.plain_tables.specs.Queries.{column_meant, sides_meant, side_name};
+ghost use Rattle.mm_catalog.specs.Seen.{database_of};
+
+use crate::catalog::Catalog;
+use crate::bind::scope::{Name, NamedColumn, Scope};
+use no_memory::NoMemory;
+use plain_tables::{Join, JoinSide, Refusal, Text};
+use std::alloc::Global;
+
+/// The two columns that a join makes equal: one of the tables before it, and one of its own.
+#[derive(Clone, Copy)]
+pub struct Sides<'a> {
+    pub outer: NamedColumn<'a>,
+    pub inner: NamedColumn<'a>,
+}
+
+/// The tables that a select names, each once, in the order in which it names them, and the columns of its joins.
+#[derive(Drop)]
+pub struct JoinedScope<'a> {
+    pub scopes: Vec<Scope<'a>>,
+    pub sides: Vec<Sides<'a>>,
+}
+
+impl Catalog {
+    ghost use Rattle.mm_catalog.specs.Select.{IsJoinedScopeOf};
+    ghost use Rattle.plain_tables.specs.Databases.{table_named};
+    ghost use Rattle.plain_tables.specs.Resolving.{select_names, behind, join_columns};
+
+    /// Whether a table that a select names isn't there.
+    pub(crate) fn misses_table(&self, table: &Text, joins: &[Join]) -> bool
+        ensures { result ≡ list_any (λ name. not (is_some (table_named name (database_of self.now)))) (select_names table.now joins.now) }
+    {
+        !self.has_table(table) || joins.iter().any(|join| !self.has_table(&join.table))
+    }
+
+    /// What can be named in a select from these tables, and the columns of its joins.
+    pub(crate) fn joined_scope<'a>(
+        &'a self,
+        alloc: Global,
+        table: &Text,
+        joins: &[Join],
+    ) -> Result<JoinedScope<'a>, Refusal>
+        requires { list_any (λ name. not (is_some (table_named name (database_of self.now)))) (select_names table.now joins.now) ≡ false }
+        ensures found { IfOk result (IsJoinedScopeOf (database_of self.now) table.now joins.now) }
+        ensures refused { IfErr result (λ e. e ≢ refusal.NoMemory → e ≡ refusal.NoSuchColumn) }
+        ensures missed { IfErr result (λ e. e ≢ refusal.NoMemory → list_any is_none (map (join_columns (database_of self.now)) (behind (table.now ∷ []) joins.now)) ≡ true) }
+    {
+        let first = self.scope(table)?;
+        let mut joined = JoinedScope::of(alloc, first)?;
+        for join in joins {
+            let own = self.scope(&join.table)?;
+            joined.join(own, join)?;
+        }
+        Ok(joined)
+    }
+}
+
+impl<'a> JoinedScope<'a> {
+    ghost use Rattle.mm_catalog.specs.Resolve.{columns_of, columns_of_all, written, placed, as_found};
+    ghost use Rattle.mm_catalog.specs.Select.{placed_sides, sides_found};
+
+    // The scope of a select from one table.
+    fn of(alloc: Global, scope: Scope<'a>) -> Result<JoinedScope<'a>, NoMemory>
+        ensures first { IfOk result (λ joined. joined.scopes.items ≡ scope.entry ∷ []) }
+        ensures alone { IfOk result (λ joined. joined.sides.items ≡ []) }
+    {
+        let mut scopes = Vec::new(alloc);
+        scopes.push(scope)?;
+        Ok(JoinedScope {
+            scopes,
+            sides: Vec::new(alloc),
+        })
+    }
+
+    /// The column that a name means, where it fits just one column of the tables.
+    pub fn column(&self, name: Name<'_>) -> Option<NamedColumn<'a>>
+        ensures meant { option_map as_found result ≡ option_map placed (column_meant (columns_of_all self.now.scopes.items) (written name.entry)) }
+        ensures within { IfSome result (λ named. named.place.source < length self.now.scopes.items) }
+    {
+        let mut found = None;
+        for (source, scope) in self.scopes.iter().enumerate() {
+            if let Some(named) = scope.column(source, name) {
+                if found.is_some() {
+                    return None;
+                }
+                found = Some(named);
+            }
+        }
+        found
+    }
+
+    // The columns of a join, where the one side names a column of these tables, and the other one of its own table.
+    fn sides_so(&self, own: &Scope<'a>, outer: &JoinSide, inner: &JoinSide) -> Option<Sides<'a>>
+        ensures { option_map sides_found result ≡ option_map placed_sides (option_zip (column_meant (columns_of_all self.now.scopes.items) (side_name outer.now)) (column_meant (columns_of own.now) (side_name inner.now))) }
+    {
+        Some(Sides {
+            outer: self.column(Name::of_side(outer))?,
+            inner: own.column(0, Name::of_side(inner))?,
+        })
+    }
+
+    // The columns of a join. Either side may name either.
+    fn sides(&self, own: &Scope<'a>, join: &Join) -> Option<Sides<'a>>
+        ensures { option_map sides_found result ≡ option_map placed_sides (sides_meant (columns_of_all self.now.scopes.items) (columns_of own.now) join.now) }
+    {
+        if let Some(sides) = self.sides_so(own, &join.left, &join.right) {
+            return Some(sides);
+        }
+        self.sides_so(own, &join.right, &join.left)
+    }
+
+    // Whether a table of that name is one of them.
+    fn has(&self, name: &str) -> bool
+        ensures { result ≡ list_any (λ s. bytes_eq s.name.now name.now) self.now.scopes.items }
+    {
+        self.scopes
+            .iter()
+            .any(|scope| scope.name.as_bytes() == name.as_bytes())
+    }
+
+    // Joins the table of a scope.
+    fn join(&mut self, own: Scope<'a>, join: &Join) -> Result<(), Refusal>
+        ensures scopes { OnOk result (self.new.scopes.items ≡ (if list_any (λ s. bytes_eq s.name.now own.entry.name.now) self.old.scopes.items then self.old.scopes.items else self.old.scopes.items ++ own.entry ∷ [])) }
+        ensures sides { OnOk result (map (λ s. Some (sides_found s)) self.new.sides.items ≡ map (λ s. Some (sides_found s)) self.old.sides.items ++ option_map placed_sides (sides_meant (columns_of_all self.old.scopes.items) (columns_of own.entry) join.now) ∷ []) }
+        ensures refused { IfErr result (λ e. e ≢ refusal.NoMemory → e ≡ refusal.NoSuchColumn) }
+        ensures missed { IfErr result (λ e. e ≢ refusal.NoMemory → sides_meant (columns_of_all self.old.scopes.items) (columns_of own.entry) join.now ≡ None) }
+    {
+        let Some(sides) = self.sides(&own, join) else {
+            return Err(Refusal::NoSuchColumn);
+        };
+        self.sides.push(sides).map_err(NoMemory::from)?;
+        if !self.has(own.name) {
+            self.scopes.push(own).map_err(NoMemory::from)?;
+        }
+        Ok(())
+    }
+}

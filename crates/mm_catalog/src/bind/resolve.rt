@@ -1,0 +1,200 @@
+//! Commands by the numbers of tables and columns.
+ghost use Rattle.std.specs.Prelude.{◌≡◌, ◌≢◌, [], Ok, Err, IfOk, IfErr};
+ghost use Rattle.plain_tables.specs.declared.refusal.Refusal.TheVariants as refusal;
+ghost use Rattle.plain_tables.specs.declared.command.Command.TheVariants as command;
+ghost use Rattle.plain_tables.specs.Resolving.{resolved_of};
+ghost use Rattle.mm_catalog.specs.Seen.{database_of};
+
+use crate::catalog::Catalog;
+use crate::bind::checks::repeats_setting;
+use plain_tables::{
+    Command, Cond, IndexKind, Items, Join, Refusal, Resolved, Schema, Sequence, Setting, Text,
+    Value,
+};
+
+impl Catalog {
+    /// What a command means of these tables, with numbers in the place of names. It is refused where a check that needs no
+    /// row refuses it, by the first that does, or where there is no memory. A load is resolved as one without records.
+    pub fn resolve(&self, command: Command) -> Result<Resolved, Refusal>
+        ensures meant { IfOk result (λ r. resolved_of [] (database_of self.now) command ≡ Ok r) }
+        ensures refused { IfErr result (λ e. e ≢ refusal.NoMemory → resolved_of [] (database_of self.now) command ≡ Err e) }
+    {
+        match command {
+            Command::Table { name, schema } => self.resolve_table(name, schema),
+            Command::DropTable { table } => self.resolve_drop_table(table),
+            Command::Index {
+                table,
+                column,
+                kind,
+            } => self.resolve_index(table, column, kind),
+            Command::DropIndex {
+                table,
+                column,
+                kind,
+            } => self.resolve_drop_index(table, column, kind),
+            Command::Insert { table, values } => self.resolve_insert(table, values),
+            Command::Update {
+                table,
+                settings,
+                conditions,
+            } => self.resolve_update(table, settings, conditions),
+            Command::Delete { table, conditions } => self.resolve_delete(table, conditions),
+            Command::Select {
+                distinct,
+                items,
+                table,
+                joins,
+                conditions,
+            } => self.resolve_select(distinct, items, table, joins, conditions),
+            Command::Load { table, bytes } => self.resolve_load(table, bytes),
+            Command::Dump { table } => self.resolve_dump(table),
+            Command::Tables => Ok(Resolved::Tables),
+        }
+    }
+
+    fn resolve_table(&self, name: Text, schema: Schema) -> Result<Resolved, Refusal>
+        ensures { result ≡ resolved_of [] (database_of self.now) (command.Table name schema) }
+    {
+        self.check_table(&name, &schema)?;
+        Ok(Resolved::Table { name, schema })
+    }
+
+    fn resolve_drop_table(&self, table: Text) -> Result<Resolved, Refusal>
+        ensures { result ≡ resolved_of [] (database_of self.now) (command.DropTable table) }
+    {
+        let scope = self.scope(&table)?;
+        if self.is_table_referenced(scope.name) {
+            return Err(Refusal::TableIsReferenced);
+        }
+        Ok(Resolved::DropTable { table: scope.table })
+    }
+
+    fn resolve_index(&self, table: Text, column: Text, kind: IndexKind) -> Result<Resolved, Refusal>
+        ensures { result ≡ resolved_of [] (database_of self.now) (command.Index table column kind) }
+    {
+        let scope = self.scope(&table)?;
+        let column = scope.own_column(&column)?;
+        if scope.has_index(column, kind) {
+            return Err(Refusal::IndexExists);
+        }
+        Ok(Resolved::Index {
+            table: scope.table,
+            column,
+            kind,
+        })
+    }
+
+    fn resolve_drop_index(
+        &self,
+        table: Text,
+        column: Text,
+        kind: IndexKind,
+    ) -> Result<Resolved, Refusal>
+        ensures { result ≡ resolved_of [] (database_of self.now) (command.DropIndex table column kind) }
+    {
+        let scope = self.scope(&table)?;
+        let column = scope.own_column(&column)?;
+        if !scope.declares(column, kind) {
+            return Err(Refusal::NoSuchIndex);
+        }
+        Ok(Resolved::DropIndex {
+            table: scope.table,
+            column,
+            kind,
+        })
+    }
+
+    fn resolve_insert(&self, table: Text, values: Sequence<Value>) -> Result<Resolved, Refusal>
+        ensures { result ≡ resolved_of [] (database_of self.now) (command.Insert table values) }
+    {
+        let scope = self.scope(&table)?;
+        self.check_row(scope.columns, values.as_slice())?;
+        Ok(Resolved::Insert {
+            table: scope.table,
+            values,
+        })
+    }
+
+    fn resolve_update(
+        &self,
+        table: Text,
+        settings: Sequence<Setting>,
+        conditions: Sequence<Cond>,
+    ) -> Result<Resolved, Refusal>
+        ensures meant { IfOk result (λ r. resolved_of [] (database_of self.now) (command.Update table settings conditions) ≡ Ok r) }
+        ensures refused { IfErr result (λ e. e ≢ refusal.NoMemory → resolved_of [] (database_of self.now) (command.Update table settings conditions) ≡ Err e) }
+    {
+        let scope = self.scope(&table)?;
+        let repeated = repeats_setting(settings.as_slice());
+        let assignments = scope.assignments(settings)?;
+        let tests = scope.tests(conditions)?;
+        if repeated {
+            return Err(Refusal::ColumnNamedTwice);
+        }
+        self.check_update(scope.columns, assignments.as_slice(), tests.as_slice())?;
+        Ok(Resolved::Update {
+            table: scope.table,
+            assignments,
+            tests,
+        })
+    }
+
+    fn resolve_delete(&self, table: Text, conditions: Sequence<Cond>) -> Result<Resolved, Refusal>
+        ensures meant { IfOk result (λ r. resolved_of [] (database_of self.now) (command.Delete table conditions) ≡ Ok r) }
+        ensures refused { IfErr result (λ e. e ≢ refusal.NoMemory → resolved_of [] (database_of self.now) (command.Delete table conditions) ≡ Err e) }
+    {
+        let scope = self.scope(&table)?;
+        let tests = scope.tests(conditions)?;
+        self.check_delete(scope.columns, tests.as_slice())?;
+        Ok(Resolved::Delete {
+            table: scope.table,
+            tests,
+        })
+    }
+
+    fn resolve_select(
+        &self,
+        distinct: bool,
+        items: Items,
+        table: Text,
+        joins: Sequence<Join>,
+        conditions: Sequence<Cond>,
+    ) -> Result<Resolved, Refusal>
+        ensures meant { IfOk result (λ r. resolved_of [] (database_of self.now) (command.Select distinct items table joins conditions) ≡ Ok r) }
+        ensures refused { IfErr result (λ e. e ≢ refusal.NoMemory → resolved_of [] (database_of self.now) (command.Select distinct items table joins conditions) ≡ Err e) }
+    {
+        let joins = joins.into_vec();
+        if self.misses_table(&table, joins.as_slice()) {
+            return Err(Refusal::NoSuchTable);
+        }
+        let scope = self.joined_scope(*joins.allocator(), &table, joins.as_slice())?;
+        let shown = scope.shown(items)?;
+        if scope.misses(conditions.as_slice()) {
+            return Err(Refusal::NoSuchColumn);
+        }
+        self.check_select(&scope, &shown, conditions.as_slice())?;
+        let mut sources = scope.sources(conditions)?;
+        let source = sources.remove(0);
+        let joins = scope.joins(sources)?;
+        Ok(Resolved::Select {
+            distinct,
+            shown,
+            source,
+            joins,
+        })
+    }
+
+    fn resolve_load(&self, table: Text, bytes: u64) -> Result<Resolved, Refusal>
+        ensures { result ≡ resolved_of [] (database_of self.now) (command.Load table bytes) }
+    {
+        self.scope(&table)?;
+        Err(Refusal::BadHeader)
+    }
+
+    fn resolve_dump(&self, table: Text) -> Result<Resolved, Refusal>
+        ensures { result ≡ resolved_of [] (database_of self.now) (command.Dump table) }
+    {
+        let scope = self.scope(&table)?;
+        Ok(Resolved::Dump { table: scope.table })
+    }
+}
