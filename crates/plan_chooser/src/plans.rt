@@ -30,6 +30,20 @@ pub enum JoinPlan {
     Precomputed,
 }
 
+/// How the rows that were joined so far are joined with one table more. These rows stand in no tree, so none is walked beside
+/// another, and links are followed from them alone.
+#[derive(Clone, Copy, Debug, PartialEq, Eq)]
+pub enum NextJoinPlan {
+    /// Each row of the table is compared with each row so far.
+    Nested,
+    /// By a hash over the table's column: a declared one, or one that is made for the join.
+    HashJoin,
+    /// By the tree on the table's column.
+    TreeJoin,
+    /// The links from the rows so far into the table are followed.
+    Precomputed,
+}
+
 /// One side of a join: a table, by its number and its rows, and the column of it whose values are compared.
 #[derive(Clone, Copy)]
 pub struct Side<'a> {

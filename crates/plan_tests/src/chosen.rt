@@ -9,7 +9,8 @@ use plain_tables::{ColumnNumber, IndexKind, IndexKind as Kind, Op, TableNumber, 
 use plan_chooser::JoinPlan::{HashJoin, Nested, Precomputed, TreeJoin, TreeMerge};
 use plan_chooser::SelectPlan::{Hash, Scan, Tree};
 use plan_chooser::{
-    JoinPlan, Policy, SelectPlan, Side, choose_join, choose_next_join, choose_select,
+    JoinPlan, NextJoinPlan, NextJoinPlan as Next, Policy, SelectPlan, Side, choose_join,
+    choose_next_join, choose_select,
 };
 use std::alloc::Global;
 use std::process::Abort;
@@ -84,13 +85,21 @@ struct End {
     refers: bool,
 }
 
-// A join of two tables, or of so many rows that were joined before with one table more; and what each policy chooses.
+// A join of two tables, and what each policy chooses.
 #[derive(Clone, Copy, Debug)]
 struct Join {
-    before: Option<usize>,
     outer: End,
     inner: End,
     plans: [JoinPlan; 5],
+}
+
+// A join of so many rows that were joined before with one table more, and what each policy chooses.
+#[derive(Clone, Copy, Debug)]
+struct NextJoin {
+    before: usize,
+    outer: End,
+    inner: End,
+    plans: [NextJoinPlan; 5],
 }
 
 const KEY_OF_THREE: End = End {
@@ -128,66 +137,87 @@ const REFERENCE: End = End {
     refers: true,
 };
 
-const JOINS: [Join; 10] = [
+const JOINS: [Join; 6] = [
     Join {
-        before: None,
         outer: TWO,
         inner: KEY_OF_FOUR,
         plans: [TreeJoin, Nested, HashJoin, TreeJoin, TreeJoin],
     },
     Join {
-        before: None,
         outer: TWO,
         inner: KEY_OF_THREE,
         plans: [HashJoin, Nested, HashJoin, TreeJoin, HashJoin],
     },
     Join {
-        before: None,
         outer: KEY_OF_FOUR,
         inner: TWO,
         plans: [HashJoin, Nested, HashJoin, HashJoin, HashJoin],
     },
     Join {
-        before: None,
         outer: TWO_IN_A_TREE,
         inner: KEY_OF_FOUR,
         plans: [TreeMerge, Nested, HashJoin, TreeJoin, TreeMerge],
     },
     Join {
-        before: None,
         outer: REFERENCE,
         inner: KEY_OF_FOUR,
         plans: [Precomputed, Nested, HashJoin, TreeJoin, TreeMerge],
     },
     Join {
-        before: None,
         outer: KEY_OF_FOUR,
         inner: REFERENCE,
         plans: [Precomputed, Nested, HashJoin, TreeJoin, TreeMerge],
     },
-    Join {
-        before: Some(2),
+];
+
+const NEXT_JOINS: [NextJoin; 4] = [
+    NextJoin {
+        before: 2,
         outer: TWO_IN_A_TREE,
         inner: KEY_OF_FOUR,
-        plans: [TreeJoin, Nested, HashJoin, TreeJoin, TreeJoin],
+        plans: [
+            Next::TreeJoin,
+            Next::Nested,
+            Next::HashJoin,
+            Next::TreeJoin,
+            Next::TreeJoin,
+        ],
     },
-    Join {
-        before: Some(3),
+    NextJoin {
+        before: 3,
         outer: TWO_IN_A_TREE,
         inner: KEY_OF_FOUR,
-        plans: [HashJoin, Nested, HashJoin, TreeJoin, HashJoin],
+        plans: [
+            Next::HashJoin,
+            Next::Nested,
+            Next::HashJoin,
+            Next::TreeJoin,
+            Next::HashJoin,
+        ],
     },
-    Join {
-        before: Some(9),
+    NextJoin {
+        before: 9,
         outer: REFERENCE,
         inner: KEY_OF_FOUR,
-        plans: [Precomputed, Nested, HashJoin, TreeJoin, Precomputed],
+        plans: [
+            Next::Precomputed,
+            Next::Nested,
+            Next::HashJoin,
+            Next::TreeJoin,
+            Next::Precomputed,
+        ],
     },
-    Join {
-        before: Some(1),
+    NextJoin {
+        before: 1,
         outer: KEY_OF_FOUR,
         inner: REFERENCE,
-        plans: [HashJoin, Nested, HashJoin, TreeJoin, HashJoin],
+        plans: [
+            Next::HashJoin,
+            Next::Nested,
+            Next::HashJoin,
+            Next::TreeJoin,
+            Next::HashJoin,
+        ],
     },
 ];
 
@@ -248,10 +278,21 @@ fn joined(rt: &impl Abort, alloc: Global, policy: Policy, join: &Join) -> Result
     let inner = relation(alloc, &join.inner, TableNumber(0))?;
     let outer = side(rt, TableNumber(0), &outer, join.outer.column);
     let inner = side(rt, TableNumber(1), &inner, join.inner.column);
-    Ok(match join.before {
-        None => choose_join(policy, &outer, &inner),
-        Some(rows) => choose_next_join(policy, rows, &outer, &inner),
-    })
+    Ok(choose_join(policy, &outer, &inner))
+}
+
+// What is chosen for a join of rows of the table 0 with the table 1.
+fn joined_next(
+    rt: &impl Abort,
+    alloc: Global,
+    policy: Policy,
+    join: &NextJoin,
+) -> Result<NextJoinPlan, Fail> {
+    let outer = relation(alloc, &join.outer, TableNumber(1))?;
+    let inner = relation(alloc, &join.inner, TableNumber(0))?;
+    let outer = side(rt, TableNumber(0), &outer, join.outer.column);
+    let inner = side(rt, TableNumber(1), &inner, join.inner.column);
+    Ok(choose_next_join(policy, join.before, &outer, &inner))
 }
 
 #[test]
@@ -269,6 +310,14 @@ fn plans_follow_indexes_links_and_sizes(rt: HostRuntime) -> Result<(), Fail> {
             let plans = join.plans;
             assert_eq!(&rt;
                 joined(&rt, rt.alloc(), POLICIES[i], &join)?,
+                plans[i],
+                "{join:?}"
+            );
+        }
+        for join in NEXT_JOINS {
+            let plans = join.plans;
+            assert_eq!(&rt;
+                joined_next(&rt, rt.alloc(), POLICIES[i], &join)?,
                 plans[i],
                 "{join:?}"
             );
