@@ -78,7 +78,7 @@ def model_copy():
         shutil.copytree(harness.ROOT / name, top / name)
     (top / "crates").symlink_to(harness.ROOT / "crates")
     shutil.copy(harness.PROGRAM, top / "release")
-    for name in ("libmmdb.a", "libmmdb.so", "mmdb.h", "mmdb.pc"):
+    for name in ("libmmdb.a", "libmmdb.so", "libmmdb.so.0", "mmdb.h", "mmdb.pc"):
         shutil.copy(library.folder() / name, top / "release")
     note(top)
     return top

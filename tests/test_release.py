@@ -201,7 +201,7 @@ class Comparisons(Copies):
         self.check(1, 1)
 
     def test_one_changed_byte_of_the_library_fails(self):
-        for file in ("libmmdb.a", "libmmdb.so", "mmdb.h", "mmdb.pc"):
+        for file in ("libmmdb.a", "libmmdb.so", "libmmdb.so.0", "mmdb.h", "mmdb.pc"):
             with self.subTest(file):
                 self.change(f"release/{file}", at=20)
                 self.check(1, 1)

@@ -9,13 +9,14 @@ use Rattle.std.specs.Cmp.Lexicographic.{nat_list_eq_equiv}
 use Rattle.std.proofs.lemmas.Bool.{cases_lt, cases_eq}
 use Rattle.std.proofs.lemmas.List.{length-map, length-replicate}
 use Rattle.std.proofs.lemmas.Option.{slice_get-map, slice_get_past, slice_get_read}
+use Rattle.common_lemmas.proofs.Places.{slice_get-inside, slice_get_set, slice_get-set_other}
 use Rattle.plain_tables.specs.declared.schema.Schema.{Schema}
 use Rattle.plain_tables.specs.declared.schema.Column.{Column}
 use Rattle.mm_relation.specs.Declaring.{new_relation}
 use Rattle.mm_relation.specs.State.{RelationState}
 use Rattle.mm_catalog.specs.Linked.{target_of}
 use Rattle.mm_catalog.specs.Created.{aimed_relation, with_leads, leads_at, IsAimedUpTo}
-use Rattle.mm_catalog.proofs.Lists.{same_by_get, get_within, get-set_same, get-set_other}
+use Rattle.mm_catalog.proofs.Lists.{same_by_get}
 use Rattle.mm_catalog.proofs.Finding.{position-map}
 
 -- a name is found among the keys where it is among the names
@@ -52,11 +53,11 @@ leads_there names schema i s (Some t) h within is = record {
   wide = length-set s.targets i (Some t) ∙ h.wide;
   aimed = λ k c l at. elim (cases_eq k i) [
     | inl e ↦
-        ap (slice_get (set s.targets i (Some t))) e ∙ get-set_same s.targets i (Some t) (omega (arith, h.wide))
+        ap (slice_get (set s.targets i (Some t))) e ∙ slice_get_set s.targets i (Some t) (omega (arith, h.wide))
         ∙ ap (λ o. Some o) (sym (is c (ap (slice_get schema.columns) (sym e) ∙ at)))
-    | inr other ↦ get-set_other s.targets i k (Some t) other ∙ h.aimed k c (omega (arith, other)) at
+    | inr other ↦ slice_get-set_other s.targets i k (Some t) other ∙ h.aimed k c (omega (arith, other)) at
   ];
-  rest = λ k l m. get-set_other s.targets i k (Some t) (λ e. absurd (omega (arith, l, e))) ∙ h.rest k (omega arith) m;
+  rest = λ k l m. slice_get-set_other s.targets i k (Some t) (λ e. absurd (omega (arith, l, e))) ∙ h.rest k (omega arith) m;
 }
 
 pub aimed_next : (names : List (List ℕ)) (schema : Schema) (i : ℕ) (s new : RelationState) → IsAimedUpTo names schema i s → i < length schema.columns → new ≡ with_leads s i (leads_at names s i) → IsAimedUpTo names schema (i + 1) new
@@ -69,7 +70,7 @@ pub aimed_whole : (names : List (List ℕ)) (schema : Schema) (i : ℕ) (s : Rel
 aimed_whole names schema i s h within =
     let targets : s.targets ≡ map (target_of names) schema.columns = same_by_get s.targets (map (target_of names) schema.columns) (λ k. elim (cases_lt k (length schema.columns)) [
       | inl below ↦
-          let c = get_within schema.columns k below in
+          let c = slice_get-inside schema.columns k below in
           h.aimed k c.0 (omega arith) c.1 ∙ sym (slice_get-map (target_of names) schema.columns k ∙ ap (option_map (target_of names)) c.1)
       | inr past ↦
           slice_get_past s.targets k (omega (arith, h.wide)) ∙ sym (slice_get_past (map (target_of names) schema.columns) k (omega (arith, length-map schema.columns (target_of names))))

@@ -6,6 +6,7 @@ use Rattle.std.specs.Prelude.{nat_lt}
 use Rattle.std.proofs.lemmas.Bool.{false≢true, cond-true, lt-ltb, or_parts}
 use Rattle.std.proofs.lemmas.List.Folds.{list_any-append}
 use Rattle.std.proofs.lemmas.List.Sums.{sum_by-cons}
+use Rattle.common_lemmas.proofs.Tests.{position_where_some}
 
 pub any_flat : {A B : Type 0} (p : B → Bool) (f : A → List B) (xs : List A) → list_any p (flat_map f xs) ≡ list_any (λ x. list_any p (f x)) xs
 any_flat p f [] = refl
@@ -70,11 +71,6 @@ place_within p (x ∷ xs) h =
       | true ↦ λ e. omega arith
       | false ↦ λ e. let rest = place_within p xs e in omega (arith, rest)
     ] h
-
-pub any_place : {A : Type 0} (p : A → Bool) (xs : List A) → list_any p xs ≡ true → (t : ℕ) × (position p xs ≡ Some t)
-any_place p xs h =
-    let n = prefix_len (λ x. not (p x)) xs in
-    (n, cond-true (nat_lt n (length xs)) (Some n) None (lt-ltb n (length xs) (place_within p xs h)))
 
 -- ---- tests that say the same
 

@@ -17,8 +17,9 @@ use Rattle.mm_catalog.specs.State.{CatalogState}
 use Rattle.mm_catalog.specs.Seen.{database_of, table_of}
 use Rattle.mm_catalog.specs.Linked.{target_of, target_at}
 use Rattle.mm_catalog.specs.Consistent.{IsAmong, IsConsistent}
-use Rattle.mm_catalog.proofs.Lists.{All-get, get_within}
 use Rattle.std.proofs.lemmas.Slice.Zip.{firsts-zip}
+use Rattle.common_lemmas.proofs.Places.{slice_get-inside}
+use Rattle.common_lemmas.proofs.Elements.{All-at}
 use Rattle.mm_catalog.proofs.Tables.{database-get}
 use Rattle.mm_catalog.proofs.Outlines.{LeadBack}
 
@@ -81,13 +82,13 @@ module _ (c : CatalogState) (ok : IsConsistent c) where
   pub refers_before : (n : ℕ) (s : RelationState) → slice_get c.relations n ≡ Some s → All (RefersInto (take n (database_of c))) s.schema.columns
   unfolding table_of
   refers_before n s there =
-      let name = get_within c.names n (omega (arith, ok.named, slice_get_within c.relations n s there)) in
+      let name = slice_get-inside c.names n (omega (arith, ok.named, slice_get_within c.relations n s there)) in
       refer_back_at [] (database_of c) n (table_of c.relations name.0 s) (database-get c ok.named n name.0 s name.1 there) ok.sound.refer_back
 
   pub lead_back : (n : ℕ) (s : RelationState) → slice_get c.relations n ≡ Some s → LeadBack s.targets n
   lead_back n s there column t e =
-      let among : IsAmong c.names c.relations s = All-get (IsAmong c.names c.relations) c.relations n s ok.each there in
-      let name = get_within c.names n (omega (arith, ok.named, slice_get_within c.relations n s there)) in
+      let among : IsAmong c.names c.relations s = All-at (IsAmong c.names c.relations) c.relations n s ok.each there in
+      let name = slice_get-inside c.names n (omega (arith, ok.named, slice_get_within c.relations n s there)) in
       let col = target_there c.names s.schema.columns column t (subst (λ targets. target_at targets column ≡ Some t) among.targets e) in
-      let refers : RefersInto (take n (database_of c)) col.0 = All-get (RefersInto (take n (database_of c))) s.schema.columns column col.0 (refers_before n s there) col.1 in
+      let refers : RefersInto (take n (database_of c)) col.0 = All-at (RefersInto (take n (database_of c))) s.schema.columns column col.0 (refers_before n s there) col.1 in
       leads c.names (database_of c) (table_of c.relations name.0 s) n names-database (referred col.0.kind) refers t col.2

@@ -6,6 +6,9 @@ use Rattle.std.specs.FinMap as finite
 use Rattle.std.proofs.lemmas.List.FromFn.{length-range_with_len}
 use Rattle.std.proofs.lemmas.List.Sums.{count_by-le-length}
 use Rattle.std.proofs.lemmas.Option.{slice_get_within, slice_get-get_or}
+use Rattle.common_lemmas.proofs.Places.{slice_get-inside}
+use Rattle.common_lemmas.proofs.Elements.{All-at}
+use Rattle.common_lemmas.proofs.Maps.{length-filter_map_within}
 use Rattle.part_raw.specs.declared.tuple_ref.TupleRef.{TupleRef}
 use Rattle.plain_tables.specs.References.{IsSoundTable}
 use Rattle.mm_relation.specs.declared.row.Row.{Row}
@@ -14,7 +17,6 @@ use Rattle.mm_catalog.specs.State.{CatalogState}
 use Rattle.mm_catalog.specs.Seen.{database_of, table_of}
 use Rattle.mm_catalog.specs.Linked.{link_at, row_links, relation_links, links, links_to, is_link_to}
 use Rattle.mm_catalog.specs.Consistent.{IsConsistent}
-use Rattle.mm_catalog.proofs.Lists.{All-get, get_within}
 use Rattle.mm_catalog.proofs.Tables.{database-get, database-length}
 use Rattle.mm_catalog.proofs.Declared.{among_at}
 
@@ -24,26 +26,18 @@ length-flat_map f most (x ∷ xs) few =
     let rest = length-flat_map f most xs (λ k d l. few (suc k) d (omega arith)) in
     omega (arith, rest, few 0 x (omega arith), length-append (f x) (flat_map f xs))
 
-length-filter_map : {A B : Type 0} (f : A → Option B) (xs : List A) → length (filter_map f xs) ≤ length xs
-length-filter_map f [] = omega arith
-length-filter_map f (x ∷ xs) = one (f x) (filter_map f xs) (length-filter_map f xs)
-  where
-    one : {B : Type 0} (o : Option B) (ys : List B) {n : ℕ} → length ys ≤ n → length (cons_option o ys) ≤ suc n
-    one None ys h = omega (arith, h)
-    one (Some y) ys h = omega (arith, h)
-
 length-row_links : (targets : List (Option ℕ)) (row : Row) → length (row_links targets row) ≤ length targets
 unfolding row_links
 length-row_links targets row =
-    omega (arith, length-filter_map (link_at targets row) (range_with_len 0 (length targets)), length-range_with_len 0 (length targets))
+    omega (arith, length-filter_map_within (link_at targets row) (range_with_len 0 (length targets)), length-range_with_len 0 (length targets))
 
 module _ (c : CatalogState) (ok : IsConsistent c) where
   -- a table has at most 16 columns
   pub few_columns : (n : ℕ) (s : RelationState) → slice_get c.relations n ≡ Some s → length s.targets ≤ 16
   unfolding table_of
   few_columns n s there =
-      let name = get_within c.names n (omega (arith, ok.named, slice_get_within c.relations n s there)) in
-      let sound : IsSoundTable c.limits (table_of c.relations name.0 s) = All-get (IsSoundTable c.limits) (database_of c) n (table_of c.relations name.0 s) ok.sound.each (database-get c ok.named n name.0 s name.1 there) in
+      let name = slice_get-inside c.names n (omega (arith, ok.named, slice_get_within c.relations n s there)) in
+      let sound : IsSoundTable c.limits (table_of c.relations name.0 s) = All-at (IsSoundTable c.limits) (database_of c) n (table_of c.relations name.0 s) ok.sound.each (database-get c ok.named n name.0 s name.1 there) in
       omega (arith, sound.few_columns, (among_at c ok n s there).kept.width)
 
   few_of_relation : (n : ℕ) (s : RelationState) → slice_get c.relations n ≡ Some s → length (relation_links s) ≤ 268435456

@@ -7,6 +7,7 @@ use Rattle.std.proofs.lemmas.Bool.{cases_eq, cases_lt, ne_eqb}
 use Rattle.std.proofs.lemmas.List.{length-map}
 use Rattle.std.proofs.lemmas.List.FromFn.{length-range_with_len}
 use Rattle.std.proofs.lemmas.Option.{none-some, same_Some, slice_get_within, slice_get_past, slice_get-map}
+use Rattle.common_lemmas.proofs.Places.{slice_get-inside, slice_get-front, slice_get-last}
 use Rattle.part_raw.specs.declared.tuple_ref.TupleRef.{TupleRef}
 use Rattle.plain_tables.specs.declared.value.Value.{Value}
 use Rattle.plain_tables.specs.declared.value.Value.TheVariants.{Null}
@@ -20,7 +21,7 @@ use Rattle.mm_catalog.specs.Seen.{or_null, row_values}
 use Rattle.mm_catalog.specs.Linked.{target_at, link_at, row_links, HasLinksOrNulls}
 use Rattle.mm_catalog.specs.Counted.{IsHeldIn}
 use Rattle.mm_catalog.specs.Cells.{target_in, read_in, IsCellOf, NamesNone, AreFirstCells, AreCellsOf}
-use Rattle.mm_catalog.proofs.Lists.{same_by_get, get_within, get-front, get-last}
+use Rattle.mm_catalog.proofs.Lists.{same_by_get}
 use Rattle.mm_catalog.proofs.RowLinks.{All-filter_map, link_parts}
 
 -- ---- the cell of a value
@@ -45,9 +46,9 @@ names_none relations target value table s leads there some absent = record {
 pub cells_more : (relations : List RelationState) (targets : List (Option ℕ)) (values : List Value) (cells : List Cell) (value : Value) (cell : Cell) → AreFirstCells relations targets values cells → slice_get values (length cells) ≡ Some value → IsCellOf relations (target_at targets (length cells + 1)) value cell → AreFirstCells relations targets values (cells ++ cell ∷ [])
 cells_more relations targets values cells value cell first at is k v c e f =
     elim (cases_lt k (length cells)) [
-      | inl below ↦ first k v c e (sym (get-front cells (cell ∷ []) k below) ∙ f)
+      | inl below ↦ first k v c e (sym (slice_get-front cells (cell ∷ []) k below) ∙ f)
       | inr above ↦
-          let same : cell ≡ c = get-last cells cell k c above f in
+          let same : cell ≡ c = slice_get-last cells cell k c above f in
           let last : k ≡ length cells = last_place cells cell k c above f in
           let named : value ≡ v = same_Some value v (sym at ∙ ap (slice_get values) (sym last) ∙ e) in
           subst (λ n. IsCellOf relations (target_at targets (n + 1)) v c) (sym last)
@@ -86,7 +87,7 @@ module _ (relations : List RelationState) (targets : List (Option ℕ)) (key : V
   -- the cell of a column behind the key
   cell_at : (column : ℕ) (value : Value) → 0 < column → slice_get values (column - 1) ≡ Some value → (cell : Cell) × (slice_get cells (column - 1) ≡ Some cell) × IsCellOf relations (target_at targets column) value cell
   cell_at column value behind at =
-      let cell = get_within cells (column - 1) (omega (arith, are.count, slice_get_within values (column - 1) value at)) in
+      let cell = slice_get-inside cells (column - 1) (omega (arith, are.count, slice_get_within values (column - 1) value at)) in
       let there : (column - 1) + 1 ≡ column = omega (arith, behind) in
       (cell.0, cell.1, subst (λ n. IsCellOf relations (target_at targets n) value cell.0) there (are.each (column - 1) value cell.0 at cell.1))
 
@@ -102,7 +103,7 @@ module _ (relations : List RelationState) (targets : List (Option ℕ)) (key : V
 
   pub cells_readable : IsReadable keys (length targets) row
   cells_readable column within =
-      let value = get_within (key ∷ values) column (omega (arith, within, wide)) in
+      let value = slice_get-inside (key ∷ values) column (omega (arith, within, wide)) in
       ap is_some (shown_at column value.0 value.1)
 
   pub cells_shown : row_values keys (length targets) row ≡ key ∷ values
@@ -110,7 +111,7 @@ module _ (relations : List RelationState) (targets : List (Option ℕ)) (key : V
   cells_shown =
       same_by_get (map shown (range_with_len 0 (length targets))) (key ∷ values) (λ i. elim (cases_lt i (length targets)) [
         | inl below ↦
-            let value = get_within (key ∷ values) i (omega (arith, below, wide)) in
+            let value = slice_get-inside (key ∷ values) i (omega (arith, below, wide)) in
             slice_get-map shown (range_with_len 0 (length targets)) i ∙ ap (option_map shown) (range_at 0 (length targets) i i below (omega arith))
             ∙ ap (λ o. Some (or_null o)) (shown_at i value.0 value.1) ∙ sym value.1
         | inr above ↦
@@ -128,7 +129,7 @@ module _ (relations : List RelationState) (targets : List (Option ℕ)) (key : V
 
   -- a column of the row
   value_behind : (column : ℕ) (cell : Cell) → slice_get cells (column - 1) ≡ Some cell → (value : Value) × (slice_get values (column - 1) ≡ Some value)
-  value_behind column cell at = get_within values (column - 1) (omega (arith, are.count, slice_get_within cells (column - 1) cell at))
+  value_behind column cell at = slice_get-inside values (column - 1) (omega (arith, are.count, slice_get_within cells (column - 1) cell at))
 
   pub cells_linked : HasLinksOrNulls targets row
   cells_linked column value behind leads at =

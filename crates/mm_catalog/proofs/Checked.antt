@@ -7,6 +7,8 @@ use Rattle.std.specs.FinMap as finite
 use Rattle.std.proofs.lemmas.Bool.{and_from, and_left, and_right, false≢true, le-leb, lt-leb}
 use Rattle.std.proofs.lemmas.List.{length-map}
 use Rattle.std.proofs.lemmas.Option.{none-some, same_Some, slice_get_within}
+use Rattle.common_lemmas.proofs.Places.{slice_get-inside}
+use Rattle.common_lemmas.proofs.Elements.{All-at}
 use Rattle.plain_tables.specs.Tables.{Table, Row, has_key_of}
 use Rattle.plain_tables.specs.Databases.{Database}
 use Rattle.plain_tables.specs.Doing.{done}
@@ -28,7 +30,6 @@ use Rattle.mm_catalog.specs.Seen.{database_of, table_of, rows_of}
 use Rattle.mm_catalog.specs.Linked.{target_of, target_at}
 use Rattle.mm_catalog.specs.Consistent.{IsConsistent}
 use Rattle.mm_catalog.specs.Cells.{IsCellOf, NamesNone, AreCellsOf, SomeNamesNone}
-use Rattle.mm_catalog.proofs.Lists.{All-get, get_within}
 use Rattle.mm_catalog.proofs.Tables.{database-get}
 use Rattle.mm_catalog.proofs.Declared.{among_at}
 use Rattle.mm_catalog.proofs.Referenced.{key_shown, no_key_shown, some_column, target_here, reference_held, reference_missing}
@@ -83,7 +84,7 @@ module _ (c : CatalogState) (ok : IsConsistent c) (n : TableNumber) (s : Relatio
   key_column : (column : Column) → slice_get s.schema.columns 0 ≡ Some column → referred column.kind ≡ None
   unfolding table_of
   key_column column at =
-      let sound : IsSoundTable c.limits table = All-get (IsSoundTable c.limits) db n.0 table ok.sound.each table_here in
+      let sound : IsSoundTable c.limits table = All-at (IsSoundTable c.limits) db n.0 table ok.sound.each table_here in
       refers_none column.kind (subst (λ o. IsSome (option_and_then (λ (d : Column). own_type d.kind) o)) at sound.keyed)
 
   module _ (key : Value) (rest : List Value) where
@@ -96,7 +97,7 @@ module _ (c : CatalogState) (ok : IsConsistent c) (n : TableNumber) (s : Relatio
         each : (k : ℕ) (column : Column) (v : Value) (ref : Reference) → slice_get s.schema.columns k ≡ Some column → slice_get values k ≡ Some v → reference_of column v ≡ Some ref → is_held db ref ≡ true
         each zero column v ref at e f = absurd (none-some ref (sym (no_reference column v (key_column column at)) ∙ f))
         each (suc k) column v ref at e f =
-            let cell = get_within cells k (omega (arith, are.count, slice_get_within rest k v e)) in
+            let cell = slice_get-inside cells k (omega (arith, are.count, slice_get_within rest k v e)) in
             let is : IsCellOf (take n.0 c.relations) (target_at s.targets (k + 1)) v cell.0 = are.each k v cell.0 e cell.1 in
             let next : k + 1 ≡ suc k = omega arith in
             let target : target_at s.targets (k + 1) ≡ target_of c.names column = ap (target_at s.targets) next ∙ target_here c ok n.0 s there (suc k) column at v in
@@ -104,7 +105,7 @@ module _ (c : CatalogState) (ok : IsConsistent c) (n : TableNumber) (s : Relatio
 
     references_missing : length values ≡ length s.schema.columns → SomeNamesNone (take n.0 c.relations) s.targets rest → list_all (is_held db) (references s.schema.columns values) ≡ false
     references_missing wide (k, v, at, none) =
-        let column = get_within s.schema.columns (suc k) (omega (arith, wide, slice_get_within rest k v at)) in
+        let column = slice_get-inside s.schema.columns (suc k) (omega (arith, wide, slice_get_within rest k v at)) in
         let next : k + 1 ≡ suc k = omega arith in
         let target : target_at s.targets (k + 1) ≡ target_of c.names column.0 = ap (target_at s.targets) next ∙ target_here c ok n.0 s there (suc k) column.0 column.1 v in
         let missing = reference_missing c ok n.0 s there (suc k) column.0 column.1 v (subst (λ o. NamesNone (take n.0 c.relations) o v) target none) in

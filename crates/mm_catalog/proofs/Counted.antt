@@ -8,6 +8,7 @@ use Rattle.std.proofs.lemmas.Bool.{cases_eq, cases_lt, eq-eqb, ne_eqb, and_from,
 use Rattle.std.proofs.lemmas.List.Elements.{All-set, All-weaker, filter_map-append}
 use Rattle.std.proofs.lemmas.List.Sums.{sum_by-append, sum_by-cons}
 use Rattle.std.proofs.lemmas.Option.{same_Some, slice_get_within}
+use Rattle.common_lemmas.proofs.Places.{slice_get-inside, slice_get_set, slice_get-set_other}
 use Rattle.part_raw.specs.declared.tuple_ref.TupleRef.{TupleRef}
 use Rattle.part_raw.specs.TupleRefs.{ref_cmp}
 use Rattle.part_raw.specs.Store.{Tuples}
@@ -19,7 +20,6 @@ use Rattle.mm_relation.specs.State.{RelationState, IsKept}
 use Rattle.mm_catalog.specs.Linked.{Linked, link_at, row_links, is_link_to}
 use Rattle.mm_catalog.specs.Recounted.{IsRecounted, AreRecounted, HaveReferrers}
 use Rattle.mm_catalog.specs.Counted.{IsHeldIn, HaveRoom, HaveAtLeast, AreCountedBy, naming, none}
-use Rattle.mm_catalog.proofs.Lists.{get_within, get-set_same, get-set_other}
 
 -- ---- what is recounted
 
@@ -62,7 +62,7 @@ pub AreRecounted-trans : (old mid new : List RelationState) → AreRecounted old
 AreRecounted-trans old mid new a b = record {
   count = b.count ∙ a.count;
   each = λ k s u at here.
-      let t = get_within mid k (omega (arith, a.count, slice_get_within old k s at)) in
+      let t = slice_get-inside mid k (omega (arith, a.count, slice_get_within old k s at)) in
       IsRecounted-trans s t.0 u (a.each k s t.0 at t.1) (b.each k t.0 u t.1 here);
 }
 
@@ -74,10 +74,10 @@ AreRecounted-set relations n s t at changed = record {
       elim (cases_eq k n) [
         | inl e ↦
             let first : s ≡ u = same_Some s u (sym at ∙ ap (slice_get relations) (sym e) ∙ here) in
-            let second : t ≡ v = same_Some t v (sym (get-set_same relations n t (slice_get_within relations n s at)) ∙ ap (slice_get (set relations n t)) (sym e) ∙ there) in
+            let second : t ≡ v = same_Some t v (sym (slice_get_set relations n t (slice_get_within relations n s at)) ∙ ap (slice_get (set relations n t)) (sym e) ∙ there) in
             subst (λ w. IsRecounted w v) first (subst (IsRecounted s) second changed)
         | inr other ↦
-            subst (IsRecounted u) (same_Some u v (sym here ∙ sym (get-set_other relations n k t other) ∙ there)) (IsRecounted-refl u)
+            subst (IsRecounted u) (same_Some u v (sym here ∙ sym (slice_get-set_other relations n k t other) ∙ there)) (IsRecounted-refl u)
       ];
 }
 
@@ -97,7 +97,7 @@ recounted_before s t r now h at =
 -- what is held stays held
 pub held_still : (old new : List RelationState) (link : Linked) → AreRecounted old new → IsHeldIn old link → IsHeldIn new link
 held_still old new link h was =
-    let t = get_within new link.0 (omega (arith, h.count, slice_get_within old link.0 was.0 was.1)) in
+    let t = slice_get-inside new link.0 (omega (arith, h.count, slice_get_within old link.0 was.0 was.1)) in
     let found = held_tuple was.0.rows link.1 was.2 in
     let now = recounted_held was.0 t.0 link.1 found.0 (h.each link.0 was.0 t.0 was.1 t.1) found.1 in
     (t.0, t.1, ap is_some now.1)
@@ -160,7 +160,7 @@ counted_then old mid new m f n g a b = record {
   recounted = AreRecounted-trans old mid new a.recounted b.recounted;
   kept = b.kept;
   counts = λ table s u r row now at here e d.
-      let t = get_within mid table (omega (arith, a.recounted.count, slice_get_within old table s at)) in
+      let t = slice_get-inside mid table (omega (arith, a.recounted.count, slice_get_within old table s at)) in
       let between = recounted_held s t.0 r row (a.recounted.each table s t.0 at t.1) e in
       let first = a.counts table s t.0 r row between.0 at t.1 e between.1 in
       let second = b.counts table t.0 u r between.0 now t.1 here between.1 d in
@@ -180,7 +180,7 @@ down_then old mid new f g all both a b =
 pub counted_row : (old new : List RelationState) (m f : ℕ → TupleRef → ℕ) → AreCountedBy old new m f → (table : ℕ) (t : RelationState) (r : TupleRef) (now : Row) → slice_get new table ≡ Some t → finite.get t.rows r ≡ Some now
     → (s : RelationState) × (row : Row) × (slice_get old table ≡ Some s) × (finite.get s.rows r ≡ Some row) × (now.referrers + f table r ≡ row.referrers + m table r)
 counted_row old new m f h table t r now here d =
-    let s = get_within old table (omega (arith, h.recounted.count, slice_get_within new table t here)) in
+    let s = slice_get-inside old table (omega (arith, h.recounted.count, slice_get_within new table t here)) in
     let before = recounted_before s.0 t r now (h.recounted.each table s.0 t s.1 here) d in
     (s.0, before.0, s.1, before.1, h.counts table s.0 t r before.0 now s.1 here before.1 d)
 
@@ -241,11 +241,11 @@ module _ (relations : List RelationState) (n : ℕ) (s t : RelationState) (to : 
         elim (cases_eq table n) [
           | inl same ↦
               let first : u ≡ s = same_Some u s (sym at ∙ ap (slice_get relations) same ∙ there) in
-              let second : v ≡ t = same_Some v t (sym here ∙ ap (slice_get (set relations n t)) same ∙ get-set_same relations n t (slice_get_within relations n s there)) in
+              let second : v ≡ t = same_Some v t (sym here ∙ ap (slice_get (set relations n t)) same ∙ slice_get_set relations n t (slice_get_within relations n s there)) in
               subst (λ k. now.referrers + f * naming ((n, to) ∷ []) k r ≡ row.referrers + m * naming ((n, to) ∷ []) k r) (sym same)
               (at_table r row now (ap (λ (w : RelationState). finite.get w.rows r) (sym first) ∙ e) (ap (λ (w : RelationState). finite.get w.rows r) (sym second) ∙ d))
           | inr other ↦
-              let alike : u ≡ v = same_Some u v (sym at ∙ sym (get-set_other relations n table t other) ∙ here) in
+              let alike : u ≡ v = same_Some u v (sym at ∙ sym (slice_get-set_other relations n table t other) ∙ here) in
               let one : row ≡ now = same_Some row now (sym e ∙ ap (λ (w : RelationState). finite.get w.rows r) alike ∙ d) in
               let same : row.referrers ≡ now.referrers = ap (λ (w : Row). w.referrers) one in
               let up : m * naming ((n, to) ∷ []) table r ≡ m * 0 = ap (λ k. m * k) (naming_other_table table n r to other) in

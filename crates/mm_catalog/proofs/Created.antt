@@ -13,6 +13,8 @@ use Rattle.std.proofs.lemmas.Grind.{flat_map-append}
 use Rattle.std.proofs.lemmas.List.{map-append, take-append-le}
 use Rattle.std.proofs.lemmas.List.Elements.{All-push}
 use Rattle.std.proofs.lemmas.Option.{none-some, slice_get_within, slice_get-get_or}
+use Rattle.common_lemmas.proofs.Tests.{list_any-map}
+use Rattle.common_lemmas.proofs.Places.{zip-push, slice_get-front, slice_get-last}
 use Rattle.part_raw.specs.TupleRefs.{ref_cmp}
 use Rattle.part_raw.specs.declared.tuple_ref.TupleRef.{TupleRef}
 use Rattle.plain_tables.specs.Tables.{Table}
@@ -31,10 +33,10 @@ use Rattle.mm_catalog.specs.Created.{aimed_relation}
 use Rattle.mm_catalog.specs.Consistent.{IsAmong, IsConsistent, AreCounted}
 use Rattle.mm_catalog.specs.Changes.{IsDone}
 use Rattle.plain_tables.specs.ResolvedLaws.{IsDeclarable}
-use Rattle.mm_catalog.proofs.Lists.{map-zip, zip-push, get-front, get-last}
+use Rattle.mm_catalog.proofs.Lists.{map-zip}
 use Rattle.mm_catalog.proofs.Outlines.{keys_before}
 use Rattle.mm_catalog.proofs.Back.{RefersInto, names-database, refers_before, lead_back}
-use Rattle.mm_catalog.proofs.Finding.{is_some-find, list_any-map, found-front, position-found}
+use Rattle.mm_catalog.proofs.Finding.{is_some-find, found-front, position-found}
 use Rattle.plain_tables.proofs.SoundLemmas.{done_keeps_sound}
 
 -- what a column may refer to, where it may
@@ -121,9 +123,9 @@ module _ (c : CatalogState) (ok : IsConsistent c) where
 
     counted_more : AreCounted now
     counted_more table s r row at e = elim (cases_lt table (length c.relations)) [
-      | inl below ↦ ok.counted table s r row (sym (get-front c.relations (new ∷ []) table below) ∙ at) e ∙ sym (counts-more table r)
+      | inl below ↦ ok.counted table s r row (sym (slice_get-front c.relations (new ∷ []) table below) ∙ at) e ∙ sym (counts-more table r)
       | inr behind ↦
-          let last = get-last c.relations new table s behind at in
+          let last = slice_get-last c.relations new table s behind at in
           absurd (no_row r row (ap (λ (t : RelationState). finite.get t.rows r) last ∙ e))
     ]
 

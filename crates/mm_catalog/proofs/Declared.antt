@@ -9,6 +9,8 @@ use Rattle.std.proofs.lemmas.Bool.{and_parts, eqb-true}
 use Rattle.std.proofs.lemmas.List.{map-append}
 use Rattle.std.proofs.lemmas.List.Elements.{All-set}
 use Rattle.std.proofs.lemmas.Option.{slice_get-map, slice_get_within, get_or_from_slice_get, same_Some, none-some}
+use Rattle.common_lemmas.proofs.Places.{slice_get-inside}
+use Rattle.common_lemmas.proofs.Elements.{All-at}
 use Rattle.part_raw.specs.declared.tuple_ref.TupleRef.{TupleRef}
 use Rattle.plain_tables.specs.Tables.{Table}
 use Rattle.plain_tables.specs.Databases.{Database}
@@ -33,7 +35,7 @@ use Rattle.mm_catalog.specs.Linked.{target_of, links_to, is_link_to, HasLinksOrN
 use Rattle.mm_catalog.specs.Consistent.{IsAmong, IsConsistent, AreCounted}
 use Rattle.mm_catalog.specs.Changes.{IsChangedAt, IsCurrentAt, IsDone}
 use Rattle.plain_tables.specs.ResolvedLaws.{IsMeant}
-use Rattle.mm_catalog.proofs.Lists.{All-get, get_within, map-zip-set}
+use Rattle.mm_catalog.proofs.Lists.{map-zip-set}
 use Rattle.mm_catalog.proofs.Tables.{database-length, database-get}
 use Rattle.mm_catalog.proofs.Outlines.{Outline, outline, outlines, same_keys, keys_before, same_links}
 use Rattle.mm_catalog.proofs.Back.{lead_back}
@@ -43,7 +45,7 @@ use Rattle.plain_tables.proofs.SoundLemmas.{done_keeps_sound}
 
 module _ (c : CatalogState) (ok : IsConsistent c) where
   pub among_at : (n : ℕ) (s : RelationState) → slice_get c.relations n ≡ Some s → IsAmong c.names c.relations s
-  among_at n s there = All-get (IsAmong c.names c.relations) c.relations n s ok.each there
+  among_at n s there = All-at (IsAmong c.names c.relations) c.relations n s ok.each there
 
   pub current_at : (n : ℕ) → IsCurrentAt c.relations n
   current_at n s there =
@@ -54,7 +56,7 @@ module _ (c : CatalogState) (ok : IsConsistent c) where
 
   -- the name and the relation of a table
   pub named_at : (n : ℕ) → n < length c.relations → (name : List ℕ) × (slice_get c.names n ≡ Some name)
-  named_at n within = get_within c.names n (omega (arith, within, ok.named))
+  named_at n within = slice_get-inside c.names n (omega (arith, within, ok.named))
 
   pub table_at : (n : ℕ) (name : List ℕ) (s : RelationState) (table : Table) → slice_get c.names n ≡ Some name → slice_get c.relations n ≡ Some s → slice_get (database_of c) n ≡ Some table → table ≡ table_of c.relations name s
   table_at n name s table named there at = same_Some table (table_of c.relations name s) (sym at ∙ database-get c ok.named n name s named there)
@@ -248,7 +250,7 @@ module _ (c : CatalogState) (ok : IsConsistent c) (n : TableNumber) (column : Co
       let keeps : KeepsOutline s new = subst (KeepsOutline s) (sym changed.changed) dropped.0 in
       let declared : new.declared ≡ others = ap (λ (t : RelationState). t.declared) changed.changed ∙ dropped.1 in
       let tests : relation.is_index (declaration column k) ≡ (λ d. plain.is_index column k (plain_index d)) = λ i d. (d.column.0 == column.0) && sym (same_kind k d.kind) i in
-      let sound_table : IsSoundTable c.limits (table_of c.relations name.0 s) = All-get (IsSoundTable c.limits) (database_of c) n.0 (table_of c.relations name.0 s) ok.sound.each at in
+      let sound_table : IsSoundTable c.limits (table_of c.relations name.0 s) = All-at (IsSoundTable c.limits) (database_of c) n.0 (table_of c.relations name.0 s) ok.sound.each at in
       let apart = sound_table.indexes_apart in
       let indexes : map plain_index new.declared ≡ filter (λ i. not (plain.is_index column k i)) (map plain_index s.declared) =
       ap (map plain_index) declared ∙ ap (λ test. map plain_index (without_first test s.declared)) tests

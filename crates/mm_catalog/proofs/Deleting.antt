@@ -9,9 +9,11 @@ use Rattle.std.proofs.lemmas.Cmp.{eq_by_cmp_equiv}
 use Rattle.std.proofs.lemmas.List.Elements.{All-contains, Contains-get_or}
 use Rattle.std.proofs.lemmas.List.Folds.{Any-from_list_any, list_any-from_Any, list_any_none}
 use Rattle.std.proofs.lemmas.Option.{none-some, slice_get_within}
+use Rattle.common_lemmas.proofs.Orders.{is_eq-Equal}
+use Rattle.common_lemmas.proofs.Places.{slice_get-inside}
+use Rattle.common_lemmas.proofs.Elements.{Contains-filter, Contains-from_filter, Contains-map, Contains-from_map}
 use Rattle.part_raw.specs.declared.tuple_ref.TupleRef.{TupleRef}
 use Rattle.part_raw.proofs.Tuples.{held_tuple}
-use Rattle.mm_index.proofs.Members.{Contains-filter, Contains-from_filter, Contains-map, Contains-from_map}
 use Rattle.plain_tables.specs.Doing.{delete, picked, without}
 use Rattle.plain_tables.specs.Effects.{Changed, Refused}
 use Rattle.plain_tables.specs.Databases.{Database}
@@ -37,11 +39,11 @@ use Rattle.mm_catalog.specs.Picked.{ArePicked}
 use Rattle.mm_catalog.specs.Recounted.{HaveReferrers, IsRewritten}
 use Rattle.mm_catalog.specs.Counted.{HaveAtLeast, naming}
 use Rattle.mm_catalog.specs.Deleted.{AreDeleted, AreRemoved, AreUnlinked, AllFree, AnyReferenced, IsFree, IsReferenced}
-use Rattle.mm_catalog.proofs.Lists.{get_within, get-take}
+use Rattle.mm_catalog.proofs.Lists.{get-take}
 use Rattle.mm_catalog.proofs.Declared.{among_at, named_at}
 use Rattle.mm_catalog.proofs.Elsewhere.{rewritten_from, kept_from, counted_from, current_beside_old, consistent_rewritten, database_rewritten}
 use Rattle.mm_catalog.proofs.Counted.{counted_down}
-use Rattle.mm_catalog.proofs.Referrers.{some_columns, not_referenced, referenced, is_eq-Equal}
+use Rattle.mm_catalog.proofs.Referrers.{some_columns, not_referenced, referenced}
 use Rattle.mm_catalog.proofs.Removing.{links_within}
 use Rattle.mm_catalog.proofs.Shown.{compared}
 use Rattle.mm_catalog.proofs.Shrunk.{PicksThese, length_picked, rows_left}
@@ -250,7 +252,7 @@ module _ (c : CatalogState) (ok : IsConsistent c) (n : TableNumber) (refs : List
   pub deleted_refused : {A : Type 0} (r : Result A Refusal) → (n.0 < length c.relations) → IfErr r (λ refusal. (refusal ≡ RowIsReferenced) × AnyReferenced c.relations n.0 refs) → IfErr r (λ refusal. (picks : List Value → Bool) → ArePicked c n.0 refs picks → (delete (database_of c) n picks).outcome ≡ Refused refusal)
   deleted_refused (Ok u) within told = tt
   deleted_refused (Err e) within told = λ picks picking.
-      let s = get_within c.relations n.0 within in
+      let s = slice_get-inside c.relations n.0 within in
       let name = named_at c ok n.0 within in
       refused_with c ok n refs s.0 s.1 (held s.0 s.1) once name.0 name.1 picks (λ r here. picking s.0 r s.1 here) (told.1 s.0 s.1)
       ∙ ap (λ refusal. Refused refusal) (sym told.0)

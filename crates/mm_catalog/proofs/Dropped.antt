@@ -11,6 +11,9 @@ use Rattle.std.proofs.lemmas.List.Elements.{All-map}
 use Rattle.std.proofs.lemmas.List.Folds.{list_any_at}
 use Rattle.std.proofs.lemmas.List.Quantifiers.{position-Some}
 use Rattle.std.proofs.lemmas.Option.{none-some, same_Some, slice_get-map, slice_get_within, slice_get-get_or, get_or_from_slice_get}
+use Rattle.common_lemmas.proofs.Places.{slice_get-inside}
+use Rattle.common_lemmas.proofs.Elements.{All-at}
+use Rattle.common_lemmas.proofs.Options.{option_map_some}
 use Rattle.part_raw.specs.declared.tuple_ref.TupleRef.{TupleRef}
 use Rattle.plain_tables.specs.Tables.{Table}
 use Rattle.plain_tables.specs.References.{referred, refers_to, is_table_referenced, IsSound}
@@ -23,7 +26,6 @@ use Rattle.mm_catalog.specs.Linked.{target_of, target_at, relation_links, links,
 use Rattle.mm_catalog.specs.Consistent.{IsAmong, IsConsistent, AreCounted}
 use Rattle.mm_catalog.specs.Recounted.{IsRecounted, AreRecounted}
 use Rattle.mm_catalog.specs.Dropped.{moved_up, renumbered}
-use Rattle.mm_catalog.proofs.Lists.{All-get, get_within}
 use Rattle.mm_catalog.proofs.Tables.{database-get}
 use Rattle.mm_catalog.proofs.Recounting.{row_before, current_recounted, rows_recounted, links_recounted}
 use Rattle.mm_catalog.proofs.Removing.{recounted_keys}
@@ -114,21 +116,16 @@ some_before : {A B : Type 0} (f : A → B) (o : Option A) → IsSome (option_map
 some_before f None h = h
 some_before f (Some x) h = refl
 
--- what a function gives of something that is there
-mapped : {A B : Type 0} (f : A → B) (o : Option A) (b : B) → option_map f o ≡ Some b → (a : A) × (o ≡ Some a) × (f a ≡ b)
-mapped f None b e = absurd (none-some b e)
-mapped f (Some a) b e = (a, refl, same_Some (f a) b e)
-
 -- ---- the catalog
 
 module _ (c : CatalogState) (ok : IsConsistent c) (n : ℕ) (gone : List ℕ) (called : slice_get c.names n ≡ Some gone) (unreferred : is_table_referenced (database_of c) gone ≡ false) where
   among : (k : ℕ) (s : RelationState) → slice_get c.relations k ≡ Some s → IsAmong c.names c.relations s
-  among k s there = All-get (IsAmong c.names c.relations) c.relations k s ok.each there
+  among k s there = All-at (IsAmong c.names c.relations) c.relations k s ok.each there
 
   none_refer : (k : ℕ) (s : RelationState) → slice_get c.relations k ≡ Some s → list_any (refers_to gone) s.schema.columns ≡ false
   unfolding table_of
   none_refer k s there =
-      let name = get_within c.names k (omega (arith, ok.named, slice_get_within c.relations k s there)) in
+      let name = slice_get-inside c.names k (omega (arith, ok.named, slice_get_within c.relations k s there)) in
       fails_at (λ (t : Table). list_any (refers_to gone) t.columns) (database_of c) k (table_of c.relations name.0 s) unreferred (database-get c ok.named k name.0 s name.1 there)
 
   elsewhere : (k : ℕ) (s : RelationState) → slice_get c.relations k ≡ Some s → LeadElsewhere s.targets n
@@ -146,7 +143,7 @@ module _ (c : CatalogState) (ok : IsConsistent c) (n : ℕ) (gone : List ℕ) (c
 
     before : (k : ℕ) (t : RelationState) → slice_get counted k ≡ Some t → (u : RelationState) × (slice_get c.relations k ≡ Some u) × IsRecounted u t
     before k t at =
-        let u = get_within c.relations k (omega (arith, h.count, slice_get_within counted k t at)) in
+        let u = slice_get-inside c.relations k (omega (arith, h.count, slice_get_within counted k t at)) in
         (u.0, u.1, h.each k u.0 t u.1 at)
 
     elsewhere_still : (k : ℕ) (t : RelationState) → slice_get counted k ≡ Some t → LeadElsewhere t.targets n
@@ -173,7 +170,7 @@ module _ (c : CatalogState) (ok : IsConsistent c) (n : ℕ) (gone : List ℕ) (c
         let keys : linked_keys (map (option_map (moved_up n)) t.targets) less ≡ linked_keys u.0.targets c.relations =
         keys_renumbered counted n t.targets (elsewhere_still k t at) ∙ recounted_keys t.targets c.relations counted h ∙ ap (λ ts. linked_keys ts c.relations) targets in
         record {
-          kept = kept_renumbered n t (All-get IsKept counted k t kept at);
+          kept = kept_renumbered n t (All-at IsKept counted k t kept at);
           targets = ap (map (option_map (moved_up n))) (targets ∙ a.targets)
               ∙ sym (targets_less c.names n gone u.0.schema.columns called (none_refer k u.0 u.1))
               ∙ ap (map (target_of (remove c.names n))) (sym columns);
@@ -185,8 +182,8 @@ module _ (c : CatalogState) (ok : IsConsistent c) (n : ℕ) (gone : List ℕ) (c
     counted_left : AreCounted less
     counted_left k v r row at e =
         let j = moved_back n k in
-        let t = get_within counted n (omega (arith, h.count, slice_get_within c.relations n s there)) in
-        let from = mapped (renumbered n) (slice_get counted j) v
+        let t = slice_get-inside counted n (omega (arith, h.count, slice_get_within c.relations n s there)) in
+        let from = option_map_some (renumbered n) (slice_get counted j) v
         (sym (slice_get-map (renumbered n) (remove counted n) k ∙ ap (option_map (renumbered n)) (get-removed counted n k)) ∙ at) in
         let had : row.referrers ≡ links_to c.relations j r - count_by (is_link_to j r) (relation_links s) =
         fewer j from.0 r row (moved_back-other n k) from.1 (ap (λ (w : RelationState). finite.get w.rows r) from.2 ∙ e) in

@@ -9,6 +9,7 @@ use Rattle.std.proofs.lemmas.List.Edits.{length-remove}
 use Rattle.std.proofs.lemmas.List.Elements.{All-append, All-take, All-drop}
 use Rattle.std.proofs.lemmas.List.Folds.{map_fixed}
 use Rattle.std.proofs.lemmas.Option.{same_Some, slice_get_past, slice_get_within, slice_get-get_or}
+use Rattle.common_lemmas.proofs.Places.{slice_get-inside, slice_get-front}
 use Rattle.part_raw.specs.declared.tuple_ref.TupleRef.{TupleRef}
 use Rattle.plain_tables.specs.Tables.{Table}
 use Rattle.plain_tables.specs.References.{is_table_referenced, IsSound}
@@ -26,7 +27,7 @@ use Rattle.mm_catalog.specs.Changes.{IsDone}
 use Rattle.mm_catalog.specs.Recounted.{IsRecounted, AreRecounted}
 use Rattle.mm_catalog.specs.Counted.{HaveAtLeast, naming}
 use Rattle.mm_catalog.specs.Dropped.{moved_up, renumbered, IsUnlinked}
-use Rattle.mm_catalog.proofs.Lists.{get_within, get-front, get-take}
+use Rattle.mm_catalog.proofs.Lists.{get-take}
 use Rattle.mm_catalog.proofs.Outlines.{LeadBack}
 use Rattle.mm_catalog.proofs.Back.{lead_back}
 use Rattle.mm_catalog.proofs.Declared.{there_at, table_at}
@@ -80,7 +81,7 @@ module _ (c : CatalogState) (ok : IsConsistent c) (number : TableNumber) (meant 
   unreferred : (name : List ℕ) → slice_get c.names n ≡ Some name → is_table_referenced (database_of c) name ≡ false
   unfolding table_of
   unreferred name called =
-      let s = get_within c.relations n within in
+      let s = slice_get-inside c.relations n within in
       let same : meant.0.name ≡ name = ap (λ (t : Table). t.name) (table_at c ok n name s.0 meant.0 called s.1 meant.1) in
       subst (λ other. is_table_referenced (database_of c) other ≡ false) same meant.2
 
@@ -89,7 +90,7 @@ module _ (c : CatalogState) (ok : IsConsistent c) (number : TableNumber) (meant 
     front_length = omega (arith, h.counted.recounted.count, length-take n c.relations, within)
 
     get-before : (k : ℕ) → k < n → slice_get unlinked k ≡ slice_get h.front k
-    get-before k below = ap (λ rs. slice_get rs k) h.list ∙ get-front h.front (drop n c.relations) k (omega (arith, below, front_length))
+    get-before k below = ap (λ rs. slice_get rs k) h.list ∙ slice_get-front h.front (drop n c.relations) k (omega (arith, below, front_length))
 
     get-behind : (k : ℕ) → n ≤ k → slice_get unlinked k ≡ slice_get c.relations k
     get-behind k past = ap (λ rs. slice_get rs k) h.list ∙ get-past h.front c.relations n k front_length past
@@ -140,7 +141,7 @@ module _ (c : CatalogState) (ok : IsConsistent c) (number : TableNumber) (meant 
     before_stays k s at =
         let there = get-taken others n k s at in
         let here : slice_get unlinked k ≡ Some s = ap (slice_get unlinked) (sym (moved_back-before n k there.0)) ∙ sym (get-removed unlinked n k) ∙ there.1 in
-        let old = get_within c.relations k (omega (arith, there.0, within)) in
+        let old = slice_get-inside c.relations k (omega (arith, there.0, within)) in
         let targets : s.targets ≡ old.0.targets = ap (λ (r : RelationState). r.targets) (recounted.each k old.0 s old.1 here).same in
         let back : LeadBack s.targets n = λ column t e.
         omega (arith, there.0, lead_back c ok k old.0 old.1 column t (subst (λ ts. target_at ts column ≡ Some t) targets e)) in
@@ -159,7 +160,7 @@ module _ (c : CatalogState) (ok : IsConsistent c) (number : TableNumber) (meant 
 
     pub table_dropped : (names : List (List ℕ)) (relations : List RelationState) → names ≡ remove c.names n → relations ≡ take n others ++ map (renumbered n) (drop n others) → IsDropped (record c { names = names; relations = relations })
     table_dropped names relations less told =
-        let name = get_within c.names n (omega (arith, within, ok.named)) in
+        let name = slice_get-inside c.names n (omega (arith, within, ok.named)) in
         let database = database_left c ok n name.0 name.1 (unreferred name.0 name.1) unlinked h.relation h.there recounted kept_unlinked fewer in
         let sound = subst (IsSound c.limits) (sym database) (done_keeps_sound c.limits (database_of c) (resolved.DropTable number) ok.sound meant) in
         subst IsDropped (λ i. record c { names = sym less i; relations = sym (told ∙ all_told) i })

@@ -8,6 +8,8 @@ use Rattle.std.proofs.lemmas.Bool.{and_left, cases_eq, cases_lt, ne_eqb}
 use Rattle.std.proofs.lemmas.List.Elements.{All-append, All-set, All-drop}
 use Rattle.std.proofs.lemmas.List.Sums.{sum_by-append, sum_by-cons}
 use Rattle.std.proofs.lemmas.Option.{none-some, same_Some, slice_get_within, slice_get-get_or, option_and_then_some}
+use Rattle.common_lemmas.proofs.Places.{slice_get-inside, slice_get-front}
+use Rattle.common_lemmas.proofs.Elements.{All-at}
 use Rattle.part_raw.specs.TupleRefs.{ref_cmp}
 use Rattle.part_raw.specs.declared.tuple_ref.TupleRef.{TupleRef}
 use Rattle.part_raw.specs.Store.{Tuples}
@@ -25,7 +27,7 @@ use Rattle.mm_catalog.specs.Linked.{Linked, target_of, target_at, link_at, row_l
 use Rattle.mm_catalog.specs.Consistent.{IsAmong, IsConsistent, AreCounted}
 use Rattle.mm_catalog.specs.Changes.{IsCurrentAt}
 use Rattle.mm_catalog.specs.Recounted.{IsRecounted, AreRecounted, HaveReferrers, IsRewritten}
-use Rattle.mm_catalog.proofs.Lists.{All-get, get_within, get-take, get-front}
+use Rattle.mm_catalog.proofs.Lists.{get-take}
 use Rattle.mm_catalog.proofs.Outlines.{LeadBack, keys_before}
 use Rattle.mm_catalog.proofs.Back.{lead_back}
 use Rattle.mm_catalog.proofs.Recounting.{row_before, key_recounted, current_recounted, rows_recounted, links_recounted}
@@ -70,7 +72,7 @@ rewritten_from old before n b a there counts keeps keys =
       count = length-joined before old n a front within;
       others = λ k s t other at now. elim (cases_lt k n) [
         | inl below ↦
-            counts.each k s t (get-take old n k below ∙ at) (sym (get-front before (set (drop n old) 0 a) k (omega (arith, below, front))) ∙ now)
+            counts.each k s t (get-take old n k below ∙ at) (sym (slice_get-front before (set (drop n old) 0 a) k (omega (arith, below, front))) ∙ now)
         | inr above ↦
             let behind : n < k = omega (arith, above, other) in
             subst (IsRecounted s) (same_Some s t (sym at ∙ sym (get_behind before old n k a front within behind) ∙ now)) (recounted_itself s)
@@ -209,14 +211,14 @@ module _ (c : CatalogState) (ok : IsConsistent c) (n : ℕ) (new : List Relation
   key_in to found = option_and_then (λ (s : RelationState). key_at s.rows to) found
 
   among_before : (k : ℕ) (s : RelationState) → slice_get c.relations k ≡ Some s → IsAmong c.names c.relations s
-  among_before k s at = All-get (IsAmong c.names c.relations) c.relations k s ok.each at
+  among_before k s at = All-at (IsAmong c.names c.relations) c.relations k s ok.each at
 
   -- the old relation of a number
   old_at : (k : ℕ) (t : RelationState) → slice_get new k ≡ Some t → (s : RelationState) × (slice_get c.relations k ≡ Some s)
-  old_at k t at = get_within c.relations k (omega (arith, slice_get_within new k t at, h.count))
+  old_at k t at = slice_get-inside c.relations k (omega (arith, slice_get_within new k t at, h.count))
 
   new_at : (k : ℕ) (s : RelationState) → slice_get c.relations k ≡ Some s → (t : RelationState) × (slice_get new k ≡ Some t)
-  new_at k s at = get_within new k (omega (arith, slice_get_within c.relations k s at, h.count))
+  new_at k s at = slice_get-inside new k (omega (arith, slice_get_within c.relations k s at, h.count))
 
   same_key_other : (table : ℕ) (u : RelationState) (to : TupleRef) → table ≢ n → slice_get c.relations table ≡ Some u → key_in to (slice_get new table) ≡ key_in to (slice_get c.relations table)
   same_key_other table u to other at =
@@ -256,7 +258,7 @@ module _ (c : CatalogState) (ok : IsConsistent c) (n : ℕ) (new : List Relation
             | None ↦ λ e. refl
             | Some table ↦ λ e.
                 let below = back column table e in
-                let u = get_within c.relations table (omega (arith, below, slice_get_within c.relations n b h.there)) in
+                let u = slice_get-inside c.relations table (omega (arith, below, slice_get_within c.relations n b h.there)) in
                 same_key_other table u.0 to (λ same. absurd (omega (arith, below, same))) u.1
           ] refl
 
@@ -331,10 +333,10 @@ module _ (c : CatalogState) (ok : IsConsistent c) (n : ℕ) (new : List Relation
   among_new kept current linked k t at = elim (cases_eq k n) [
     | inl e ↦
         let same : a ≡ t = same_Some a t (sym h.here ∙ ap (slice_get new) (sym e) ∙ at) in
-        subst (IsAmong c.names new) same (among_here (All-get IsKept new n a kept h.here) current linked)
+        subst (IsAmong c.names new) same (among_here (All-at IsKept new n a kept h.here) current linked)
     | inr other ↦
         let s = old_at k t at in
-        among_other k s.0 t s.1 (h.others k s.0 t other s.1 at) (All-get IsKept new k t kept at)
+        among_other k s.0 t s.1 (h.others k s.0 t other s.1 at) (All-at IsKept new k t kept at)
   ]
 
   pub consistent_rewritten : All IsKept new → IsCurrentAt new n → ((r : TupleRef) (row : Row) → get a.rows r ≡ Some row → HasLinksOrNulls a.targets row) → AreCounted new → IsSound c.limits (database_of (record c { relations = new })) → IsConsistent (record c { relations = new })
@@ -372,7 +374,7 @@ module _ (c : CatalogState) (ok : IsConsistent c) (n : ℕ) (before : List Relat
       let within = slice_get_within c.relations n b h.there in
       elim (cases_lt table n) [
         | inl below ↦
-            let here : row.referrers ≡ count table r = have table s r row (sym (get-front before (set (drop n c.relations) 0 a) table (omega (arith, below, front))) ∙ at) held in
+            let here : row.referrers ≡ count table r = have table s r row (sym (slice_get-front before (set (drop n c.relations) 0 a) table (omega (arith, below, front))) ∙ at) held in
             let whole = links_rewritten c ok n joined b a h table r in
             omega (arith, here, whole, told table r below)
         | inr above ↦ elim (cases_eq table n) [

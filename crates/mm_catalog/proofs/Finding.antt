@@ -4,16 +4,13 @@ use Rattle.std.specs.List.{find, list_any, position, prefix_len}
 use Rattle.std.specs.Prelude.{nat_lt}
 use Rattle.std.proofs.lemmas.List.{length-map}
 use Rattle.std.proofs.lemmas.Bool.{false≢true, cond-true, lt-ltb}
+use Rattle.common_lemmas.proofs.Tests.{list_any-map}
 
 pub is_some-find : {A : Type 0} (p : A → Bool) (xs : List A) → is_some (find p xs) ≡ list_any p xs
 is_some-find p [] = refl
 is_some-find p (x ∷ xs) =
     let rest = is_some-find p xs in
     elim (p x) as (λ b. is_some (cond b (Some x) (find p xs)) ≡ (b || list_any p xs)) [ true ↦ refl | false ↦ rest ]
-
-pub list_any-map : {A B : Type 0} (p : B → Bool) (f : A → B) (xs : List A) → list_any p (map f xs) ≡ list_any (λ x. p (f x)) xs
-list_any-map p f [] = refl
-list_any-map p f (x ∷ xs) = ap (λ b. p (f x) || b) (list_any-map p f xs)
 
 -- what is found in front is found
 pub found-front : {A : Type 0} (p : A → Bool) (xs : List A) (n : ℕ) → is_some (find p (take n xs)) ≡ true → is_some (find p xs) ≡ true

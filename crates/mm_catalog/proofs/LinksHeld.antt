@@ -8,10 +8,11 @@ use Rattle.std.proofs.lemmas.Bool.{and_from, eq-eqb, false≢true, ne_eqb}
 use Rattle.std.proofs.lemmas.List.FromFn.{length-range_with_len, get_or-range_with_len}
 use Rattle.std.proofs.lemmas.List.Sums.{get_or-le-sum_by}
 use Rattle.std.proofs.lemmas.Option.{none-some, same_Some, slice_get_within, get_or_from_slice_get, option_and_then_some}
+use Rattle.common_lemmas.proofs.Elements.{Contains-cons, Contains-cons_cases, All-at}
+use Rattle.common_lemmas.proofs.Counts.{count_by-member}
 use Rattle.part_raw.proofs.Tuples.{same_ref_self}
 use Rattle.part_raw.specs.TupleRefs.{ref_cmp}
 use Rattle.part_raw.specs.declared.tuple_ref.TupleRef.{TupleRef}
-use Rattle.mm_index.proofs.Members.{Contains-cons, Contains-cons_cases}
 use Rattle.mm_relation.specs.declared.row.Cell.TheVariants.{Held, Link}
 use Rattle.mm_relation.specs.declared.row.Cell.{Cell}
 use Rattle.mm_relation.specs.declared.row.Row.{Row}
@@ -20,7 +21,6 @@ use Rattle.mm_relation.specs.State.{tree_list, RelationState, IsKept, linked_key
 use Rattle.mm_catalog.specs.State.{CatalogState}
 use Rattle.mm_catalog.specs.Linked.{Linked, target_at, link_at, row_links, relation_links, links, is_link_to, links_to}
 use Rattle.mm_catalog.specs.Consistent.{IsAmong, IsConsistent}
-use Rattle.mm_catalog.proofs.Lists.{All-get}
 
 -- ---- what lists contain
 
@@ -62,13 +62,6 @@ Contains-at xs k x at = (k, slice_get_within xs k x at, get_or_from_slice_get xs
 
 abbrev ones : Bool → ℕ
 ones b = cond b 1 0
-
--- what passes a test is counted
-counted_once : {A : Type 0} (test : A → Bool) (xs : List A) (x : A) → Contains xs x → test x ≡ true → 0 < count_by test xs
-counted_once test xs x h e =
-    let one : cond (test (get_or xs h.0 x)) 1 0 ≡ 1 = ap (λ y. ones (test y)) h.2 ∙ ap ones e in
-    let some = get_or-le-sum_by (λ y. cond (test y) 1 0) xs h.0 x h.1 in
-    omega (arith, one, some)
 
 -- ---- the links of rows
 
@@ -130,7 +123,7 @@ key_of_row found to h =
 
 module _ (c : CatalogState) (ok : IsConsistent c) where
   among : (k : ℕ) (s : RelationState) → slice_get c.relations k ≡ Some s → IsAmong c.names c.relations s
-  among k s at = All-get (IsAmong c.names c.relations) c.relations k s ok.each at
+  among k s at = All-at (IsAmong c.names c.relations) c.relations k s ok.each at
 
   pub link_held : (k : ℕ) (s : RelationState) (r : TupleRef) (row : Row) (column table : ℕ) (to : TupleRef) → slice_get c.relations k ≡ Some s → get s.rows r ≡ Some row → target_at s.targets column ≡ Some table → link_in column row ≡ Some to → (u : RelationState) × (named : Row) × (slice_get c.relations table ≡ Some u) × (get u.rows to ≡ Some named)
   link_held k s r row column table to at held target link =
@@ -143,7 +136,7 @@ module _ (c : CatalogState) (ok : IsConsistent c) where
   pub link_counted : (k : ℕ) (s : RelationState) (r : TupleRef) (row : Row) (column table : ℕ) (to : TupleRef) → slice_get c.relations k ≡ Some s → get s.rows r ≡ Some row → target_at s.targets column ≡ Some table → link_in column row ≡ Some to → 0 < links_to c.relations table to
   unfolding links_to
   link_counted k s r row column table to at held target link =
-      counted_once (is_link_to table to) (links c.relations) (table, to)
+      count_by-member (is_link_to table to) (links c.relations) (table, to)
       (catalog_has_link c.relations k s (table, to) at
       (relation_has_link s (among k s at).kept r row (table, to) held (row_has_link s.targets row column table to target link)))
       (is_link_itself table to)

@@ -3,6 +3,8 @@ use Rattle.std.proofs.Common.{◌≡◌, ◌≢◌, ℕ, zero, suc, ◌<◌, ◌
 use Rattle.std.specs.List.{All, slice_get, zip}
 use Rattle.std.proofs.Math.Seq.{take-append_seam}
 use Rattle.std.proofs.lemmas.Option.{none-some, same_Some, get_or_from_slice_get, slice_get_within}
+use Rattle.common_lemmas.proofs.Elements.{All-at}
+use Rattle.common_lemmas.proofs.Places.{slice_get_set, slice_get-set_other, slice_get-inside, zip-push, slice_get-front, slice_get-last}
 
 -- lists that have the same at each place are one
 pub same_by_get : {A : Type 0} (xs ys : List A) → ((i : ℕ) → slice_get xs i ≡ slice_get ys i) → xs ≡ ys
@@ -11,18 +13,6 @@ same_by_get [] (y ∷ ys) e = absurd (none-some y (e 0))
 same_by_get (x ∷ xs) [] e = absurd (none-some x (sym (e 0)))
 same_by_get (x ∷ xs) (y ∷ ys) e =
     ap (λ z. z ∷ xs) (same_Some x y (e 0)) ∙ ap (λ zs. y ∷ zs) (same_by_get xs ys (λ i. e (suc i)))
-
-pub get-set_same : {A : Type 0} (xs : List A) (i : ℕ) (x : A) → i < length xs → slice_get (set xs i x) i ≡ Some x
-get-set_same [] i x h = absurd (omega arith)
-get-set_same (y ∷ ys) zero x h = refl
-get-set_same (y ∷ ys) (suc i) x h = get-set_same ys i x (omega arith)
-
-pub get-set_other : {A : Type 0} (xs : List A) (i j : ℕ) (x : A) → j ≢ i → slice_get (set xs i x) j ≡ slice_get xs j
-get-set_other [] i j x h = refl
-get-set_other (y ∷ ys) zero zero x h = absurd (h refl)
-get-set_other (y ∷ ys) zero (suc j) x h = refl
-get-set_other (y ∷ ys) (suc i) zero x h = refl
-get-set_other (y ∷ ys) (suc i) (suc j) x h = get-set_other ys i j x (λ e. h (ap suc e))
 
 pub get-zip : {A B : Type 0} (xs : List A) (ys : List B) (i : ℕ) (x : A) (y : B) → slice_get xs i ≡ Some x → slice_get ys i ≡ Some y → slice_get (zip xs ys) i ≡ Some (x, y)
 get-zip [] ys i x y e f = absurd (none-some x e)
@@ -41,16 +31,6 @@ get-take [] (suc n) i h = refl
 get-take (x ∷ xs) zero i h = absurd (omega arith)
 get-take (x ∷ xs) (suc n) zero h = refl
 get-take (x ∷ xs) (suc n) (suc i) h = get-take xs n i (omega arith)
-
--- what holds of each element holds of the one at a place
-pub All-get : {A : Type 0} (P : A → Type 0) (xs : List A) (i : ℕ) (x : A) → All P xs → slice_get xs i ≡ Some x → P x
-All-get P xs i x all at = subst P (get_or_from_slice_get xs i x x at) (all i x (slice_get_within xs i x at))
-
--- what stands at a place that is there
-pub get_within : {A : Type 0} (xs : List A) (i : ℕ) → i < length xs → (x : A) × (slice_get xs i ≡ Some x)
-get_within [] i h = absurd (omega arith)
-get_within (x ∷ xs) zero h = (x, refl)
-get_within (x ∷ xs) (suc i) h = get_within xs i (omega arith)
 
 -- two lists, side by side, under tests that tell each place alike
 pub map-zip : {A B C : Type 0} (f g : A × B → C) (xs : List A) (ys : List B) → ((i : ℕ) (a : A) (b : B) → slice_get xs i ≡ Some a → slice_get ys i ≡ Some b → g (a, b) ≡ f (a, b)) → map g (zip xs ys) ≡ map f (zip xs ys)
@@ -83,22 +63,3 @@ set_first_behind (y ∷ ys) (suc n) x h = ap (λ zs. y ∷ zs) (set_first_behind
 -- a list that is written back whole
 pub whole : {A : Type 0} (xs ys : List A) (n : ℕ) → length xs ≡ n → take n (xs ++ ys) ≡ xs
 whole xs ys n e = ap (λ m. take m (xs ++ ys)) (sym e) ∙ take-append_seam xs ys
-
--- two lists that each gain one more
-pub zip-push : {A B : Type 0} (xs : List A) (ys : List B) (x : A) (y : B) → length xs ≡ length ys → zip (xs ++ x ∷ []) (ys ++ y ∷ []) ≡ zip xs ys ++ (x, y) ∷ []
-zip-push [] [] x y e = refl
-zip-push [] (b ∷ ys) x y e = absurd (omega arith)
-zip-push (a ∷ xs) [] x y e = absurd (omega arith)
-zip-push (a ∷ xs) (b ∷ ys) x y e = ap (λ zs. (a, b) ∷ zs) (zip-push xs ys x y (omega arith))
-
-pub get-front : {A : Type 0} (xs ys : List A) (i : ℕ) → i < length xs → slice_get (xs ++ ys) i ≡ slice_get xs i
-get-front [] ys i h = absurd (omega arith)
-get-front (x ∷ xs) ys zero h = refl
-get-front (x ∷ xs) ys (suc i) h = get-front xs ys i (omega arith)
-
--- behind the others stands the last
-pub get-last : {A : Type 0} (xs : List A) (y : A) (i : ℕ) (z : A) → length xs ≤ i → slice_get (xs ++ y ∷ []) i ≡ Some z → y ≡ z
-get-last [] y zero z h e = same_Some y z e
-get-last [] y (suc i) z h e = absurd (none-some z e)
-get-last (x ∷ xs) y zero z h e = absurd (omega arith)
-get-last (x ∷ xs) y (suc i) z h e = get-last xs y i z (omega arith) e

@@ -6,6 +6,8 @@ use Rattle.std.proofs.Math.Seq.{drop-cons}
 use Rattle.std.proofs.lemmas.List.{drop_all}
 use Rattle.std.proofs.lemmas.List.Elements.{All-head, All-tail, All-weaker}
 use Rattle.std.proofs.lemmas.Option.{same_Some, slice_get_within, get_or_from_slice_get}
+use Rattle.common_lemmas.proofs.Places.{slice_get_set}
+use Rattle.common_lemmas.proofs.Elements.{AllZip-set}
 use Rattle.plain_tables.specs.Tables.{Table, Row}
 use Rattle.plain_tables.specs.Databases.{Database}
 use Rattle.plain_tables.specs.Doing.{insert, in_record, left_with, goes_on, loaded, load_effect, load}
@@ -17,7 +19,6 @@ use Rattle.plain_tables.specs.declared.refusal.Refusal.{Refusal}
 use Rattle.plain_tables.specs.declared.refusal.Refusal.TheVariants.{NoMemory}
 use Rattle.plain_tables.specs.declared.resolved.Resolved.TheVariants as resolved
 use Rattle.plain_tables.proofs.EffectLemmas.{insert_satisfies}
-use Rattle.plain_tables.proofs.ListLemmas.{AllZip-set, slice_get_set}
 use Rattle.plain_tables.proofs.ReferLemmas.{HasShape, has_own_shape}
 use Rattle.plain_tables.proofs.TypeLemmas.{insertable_alike}
 use Rattle.mm_catalog.specs.State.{CatalogState}

@@ -7,9 +7,10 @@ use Rattle.std.proofs.lemmas.Bool.{false≢true}
 use Rattle.std.proofs.lemmas.List.Elements.{All-contains, All-push, Contains-append_left, Contains-push}
 use Rattle.std.proofs.lemmas.List.Quantifiers.{all_pairs_push}
 use Rattle.std.proofs.lemmas.Option.{none-some, same_Some, slice_get_within}
+use Rattle.common_lemmas.proofs.Places.{slice_get-inside}
+use Rattle.common_lemmas.proofs.Pairs.{AllPairs-nil}
 use Rattle.part_raw.specs.declared.tuple_ref.TupleRef.{TupleRef}
 use Rattle.part_raw.proofs.Tuples.{get-insert_same, get-insert_other}
-use Rattle.plain_tables.proofs.ListLemmas.{AllPairs-nil}
 use Rattle.plain_tables.specs.declared.value.Value.{Value}
 use Rattle.mm_relation.specs.declared.row.Row.{Row}
 use Rattle.mm_relation.specs.Changes.{KeepsSchema, new_row}
@@ -19,7 +20,6 @@ use Rattle.mm_catalog.specs.State.{CatalogState}
 use Rattle.mm_catalog.specs.Deleted.{IsFree}
 use Rattle.mm_catalog.specs.Loaded.{HasCome, HasMore}
 use Rattle.mm_catalog.specs.Recounted.{IsRewritten}
-use Rattle.mm_catalog.proofs.Lists.{get_within}
 use Rattle.mm_catalog.proofs.Elsewhere.{rewritten_from}
 use Rattle.mm_catalog.proofs.Counted.{AreRecounted-refl, IsRecounted-trans}
 
@@ -31,7 +31,7 @@ rewritten_then old mid new n b m a h l keys = record {
   here = l.here;
   count = l.count ∙ h.count;
   others = λ k s u other at now.
-      let t = get_within mid k (omega (arith, h.count, slice_get_within old k s at)) in
+      let t = slice_get-inside mid k (omega (arith, h.count, slice_get_within old k s at)) in
       IsRecounted-trans s t.0 u (h.others k s t.0 other at t.1) (l.others k t.0 u other t.1 now);
   keeps = record {
     schema = l.keeps.schema ∙ h.keeps.schema;

@@ -11,6 +11,10 @@ use Rattle.std.specs.declared.cmp.Ordering.TheVariants.{Less, Equal, Greater}
 use Rattle.std.proofs.lemmas.Bool.{cond-true, lt-ltb, or_from, false_from_ne_true, true_from_ne_false, false≢true}
 use Rattle.std.proofs.lemmas.List.Elements.{All-contains}
 use Rattle.std.proofs.lemmas.Option.{none-some, same_Some, slice_get_within, slice_get-map}
+use Rattle.common_lemmas.proofs.Places.{slice_get-inside}
+use Rattle.common_lemmas.proofs.Elements.{All-at}
+use Rattle.common_lemmas.proofs.Tests.{position_where_some, fails_where_none, position_found, list_any-map}
+use Rattle.common_lemmas.proofs.Orders.{then-Equal, is_eq-Equal}
 use Rattle.part_raw.specs.declared.tuple_ref.TupleRef.{TupleRef}
 use Rattle.part_raw.proofs.Tuples.{held_tuple}
 use Rattle.plain_tables.specs.Tables.{Table, key_cmp, has_key_of}
@@ -20,7 +24,6 @@ use Rattle.plain_tables.specs.Values.{value_cmp}
 use Rattle.plain_tables.specs.declared.schema.Column.{Column}
 use Rattle.plain_tables.specs.declared.value.Value.{Value}
 use Rattle.plain_tables.specs.declared.value.Value.TheVariants.{Null, Int, Text}
-use Rattle.plain_tables.proofs.ListLemmas.{fails_where_none, position_found}
 use Rattle.plain_tables.proofs.ValueLemmas.{value_cmp-exact}
 use Rattle.mm_relation.specs.declared.row.Row.{Row}
 use Rattle.mm_relation.specs.declared.row.Cell.{Cell}
@@ -32,29 +35,19 @@ use Rattle.mm_catalog.specs.Seen.{database_of, table_of, rows_of, values_of, row
 use Rattle.mm_catalog.specs.Linked.{target_of, target_at}
 use Rattle.mm_catalog.specs.Consistent.{IsConsistent}
 use Rattle.mm_catalog.specs.Cells.{IsCellOf, NamesNone, target_in}
-use Rattle.mm_catalog.proofs.Lists.{All-get, get_within, get-take}
+use Rattle.mm_catalog.proofs.Lists.{get-take}
 use Rattle.mm_catalog.proofs.Tables.{database-get}
-use Rattle.mm_catalog.proofs.Finding.{is_some-find, list_any-map, found-front, position-map}
+use Rattle.mm_catalog.proofs.Finding.{is_some-find, found-front, position-map}
 use Rattle.mm_catalog.proofs.Back.{RefersInto, names-database, refers_before, lead_back}
 use Rattle.mm_catalog.proofs.Declared.{among_at}
 
 -- ---- keys
 
-then_equal : (o : Ordering) → ordering_then o Equal ≡ o
-then_equal Less = refl
-then_equal Equal = refl
-then_equal Greater = refl
-
-is_eq-Equal : (o : Ordering) → is_eq o ≡ true → o ≡ Equal
-is_eq-Equal Less e = absurd (false≢true e)
-is_eq-Equal Equal e = refl
-is_eq-Equal Greater e = absurd (false≢true e)
-
 -- a row stands to values as its key does to the first of them
 beside_values : (keys : Keys) (width : ℕ) (t : Row) (key : Value) (rest : List Value) → 0 < width → key_cmp (row_values keys width t) (key ∷ rest) ≡ value_cmp t.key key
 unfolding row_values
 beside_values keys zero t key rest some = absurd (omega arith)
-beside_values keys (suc width) t key rest some = then_equal (value_cmp t.key key)
+beside_values keys (suc width) t key rest some = then-Equal (value_cmp t.key key)
 
 none_passes : {A : Type 0} (p : A → Bool) (xs : List A) → All (λ x. p x ≡ false) xs → list_any p xs ≡ false
 none_passes p [] h = refl
@@ -111,11 +104,6 @@ first_within p (x ∷ xs) h =
       | false ↦ λ e. let rest = first_within p xs e in omega (arith, rest)
     ] h
 
-somewhere : {A : Type 0} (p : A → Bool) (xs : List A) → list_any p xs ≡ true → (i : ℕ) × (position p xs ≡ Some i)
-somewhere p xs h =
-    let i = prefix_len (λ x. not (p x)) xs in
-    (i, cond-true (nat_lt i (length xs)) (Some i) None (lt-ltb i (length xs) (first_within p xs h)))
-
 abbrev has_name : List ℕ → List ℕ → Bool
 has_name name n = bytes_eq n name
 
@@ -128,15 +116,15 @@ module _ (c : CatalogState) (ok : IsConsistent c) where
 
   name_found : (name : List ℕ) (n : ℕ) → is_some (table_named name (take n (database_of c))) ≡ true → (i : ℕ) × (position (has_name name) c.names ≡ Some i)
   name_found name n h =
-      let there = somewhere (is_named name) (database_of c) (sym (is_some-find (is_named name) (database_of c)) ∙ found-front (is_named name) (database_of c) n h) in
+      let there = position_where_some (is_named name) (database_of c) (sym (is_some-find (is_named name) (database_of c)) ∙ found-front (is_named name) (database_of c) n h) in
       (there.0, position_named name ∙ there.1)
 
   -- each relation has a column
   pub some_column : (n : ℕ) (s : RelationState) → slice_get c.relations n ≡ Some s → 0 < length s.schema.columns
   unfolding table_of
   some_column n s there =
-      let name = get_within c.names n (omega (arith, ok.named, slice_get_within c.relations n s there)) in
-      let sound : IsSoundTable c.limits (table_of c.relations name.0 s) = All-get (IsSoundTable c.limits) (database_of c) n (table_of c.relations name.0 s) ok.sound.each (database-get c ok.named n name.0 s name.1 there) in
+      let name = slice_get-inside c.names n (omega (arith, ok.named, slice_get_within c.relations n s there)) in
+      let sound : IsSoundTable c.limits (table_of c.relations name.0 s) = All-at (IsSoundTable c.limits) (database_of c) n (table_of c.relations name.0 s) ok.sound.each (database-get c ok.named n name.0 s name.1 there) in
       within (λ (d : Column). own_type d.kind) s.schema.columns sound.keyed
     where
       within : {B : Type 0} (f : Column → Option B) (columns : List Column) → IsSome (option_and_then f (slice_get columns 0)) → 0 < length columns
@@ -146,7 +134,7 @@ module _ (c : CatalogState) (ok : IsConsistent c) where
   held_is : (name : List ℕ) (i : ℕ) (u : RelationState) (v : Value) → position (has_name name) c.names ≡ Some i → slice_get c.relations i ≡ Some u → is_held (database_of c) (name, v) ≡ has_key_of (v ∷ []) (rows_of (linked_keys u.targets c.relations) u)
   unfolding table_of
   held_is name i u v e there =
-      let called = get_within c.names i (omega (arith, ok.named, slice_get_within c.relations i u there)) in
+      let called = slice_get-inside c.names i (omega (arith, ok.named, slice_get_within c.relations i u there)) in
       ap (λ o. option_map_or (λ (t : Table). has_key_of (v ∷ []) t.rows) o false) (table_found name i e ∙ database-get c ok.named i called.0 u called.1 there)
 
   held_by_key : (name : List ℕ) (i : ℕ) (u : RelationState) (v : Value) → position (has_name name) c.names ≡ Some i → slice_get c.relations i ≡ Some u → HasKey u.rows v → is_held (database_of c) (name, v) ≡ true
@@ -169,7 +157,7 @@ module _ (c : CatalogState) (ok : IsConsistent c) where
     -- the relation that a name leads to
     relation_at : (i : ℕ) → target_of c.names column ≡ Some i → (u : RelationState) × (slice_get c.relations i ≡ Some u) × (target_in (take n c.relations) (target_of c.names column) ≡ Some u)
     relation_at i e =
-        let u = get_within c.relations i (omega (arith, leads_back i e, slice_get_within c.relations n s there)) in
+        let u = slice_get-inside c.relations i (omega (arith, leads_back i e, slice_get_within c.relations n s there)) in
         (u.0, u.1, ap (target_in (take n c.relations)) e ∙ get-take c.relations n i (leads_back i e) ∙ u.1)
 
     by_name : (o : Option (List ℕ)) (v : Value) (ref : Reference) → v ≢ Null → option_map (λ name. (name, v)) o ≡ Some ref → (v ≢ Null) × (o ≡ Some ref.0) × (ref.1 ≡ v)
@@ -192,7 +180,7 @@ module _ (c : CatalogState) (ok : IsConsistent c) where
     reference_held cell is ref e =
         let by = named_by value ref e in
         let into : is_some (table_named ref.0 (take n (database_of c))) ≡ true =
-        subst (λ o. option_map_or (λ name. is_some (table_named name (take n (database_of c)))) o true ≡ true) by.1 (All-get (RefersInto (take n (database_of c))) s.schema.columns k column (refers_before c ok n s there) at) in
+        subst (λ o. option_map_or (λ name. is_some (table_named name (take n (database_of c)))) o true ≡ true) by.1 (All-at (RefersInto (take n (database_of c))) s.schema.columns k column (refers_before c ok n s there) at) in
         let i = name_found ref.0 n into in
         let leads : target_of c.names column ≡ Some i.0 = ap (option_and_then (λ name. position (has_name name) c.names)) by.1 ∙ i.1 in
         let u = relation_at i.0 leads in

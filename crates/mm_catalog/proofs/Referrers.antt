@@ -11,6 +11,10 @@ use Rattle.std.proofs.lemmas.Bool.{false≢true, cases_order, eq-eqb, eqb-true}
 use Rattle.std.proofs.lemmas.List.Quantifiers.{position-Some}
 use Rattle.std.proofs.lemmas.Option.{none-some, same_Some, slice_get-map, slice_get_within, slice_get-get_or, get_or_from_slice_get}
 use Rattle.std.proofs.lemmas.Slice.Eq.{bytes_eq-Decides}
+use Rattle.common_lemmas.proofs.Places.{slice_get-inside}
+use Rattle.common_lemmas.proofs.Elements.{All-at}
+use Rattle.common_lemmas.proofs.Tests.{position_where_some, list_any-map}
+use Rattle.common_lemmas.proofs.Orders.{then-Equal, is_eq-Equal}
 use Rattle.part_raw.specs.declared.tuple_ref.TupleRef.{TupleRef}
 use Rattle.part_raw.specs.TupleRefs.{ref_cmp}
 use Rattle.part_raw.proofs.Tuples.{same_ref_self, same_ref_true, held_tuple}
@@ -35,12 +39,11 @@ use Rattle.mm_catalog.specs.State.{CatalogState}
 use Rattle.mm_catalog.specs.Seen.{database_of, table_of, rows_of, values_of, row_values, or_null}
 use Rattle.mm_catalog.specs.Linked.{target_of, target_at, link_at, row_links, relation_links, links, is_link_to, links_to}
 use Rattle.mm_catalog.specs.Consistent.{IsConsistent}
-use Rattle.mm_catalog.proofs.Anywhere.{any_flat, any_filter_map, any_alike, any_zip, any_numbered, any_place, none_counted, some_counted, same_tests, and_alike}
+use Rattle.mm_catalog.proofs.Anywhere.{any_flat, any_filter_map, any_alike, any_zip, any_numbered, none_counted, some_counted, same_tests, and_alike}
 use Rattle.mm_catalog.proofs.Back.{RefersInto, refers_before, names-database}
 use Rattle.mm_catalog.proofs.Declared.{among_at, named_at}
-use Rattle.mm_catalog.proofs.Finding.{is_some-find, list_any-map, found-front}
+use Rattle.mm_catalog.proofs.Finding.{is_some-find, found-front}
 use Rattle.mm_catalog.proofs.LinksHeld.{link_held, linked_value}
-use Rattle.mm_catalog.proofs.Lists.{All-get, get_within}
 use Rattle.mm_catalog.proofs.Tables.{database-get}
 
 -- ---- values and what they name
@@ -75,16 +78,11 @@ first_not_null tables [] keys row keyed fits e = false≢true keyed
 first_not_null tables (column ∷ columns) keys row keyed fits e =
     no_null_key column.kind keyed (subst (CanHold tables column.kind) e fits.0)
 
-then_equal : (o : Ordering) → ordering_then o Equal ≡ o
-then_equal Less = refl
-then_equal Equal = refl
-then_equal Greater = refl
-
 -- a row beside a key
 pub key_beside : (keys : Keys) (width : ℕ) (row : Row) (key : Value) → 0 < width → key_cmp (row_values keys width row) (key ∷ []) ≡ value_cmp row.key key
 unfolding row_values
 key_beside keys zero row key some = absurd (omega arith)
-key_beside keys (suc width) row key some = then_equal (value_cmp row.key key)
+key_beside keys (suc width) row key some = then-Equal (value_cmp row.key key)
 
 -- where the cell of a column links to no row, it is null, or there is none
 null_cell : (keys : Keys) (column : ℕ) (row : Row) → column ≢ 0 → ((v : Value) → slice_get row.cells (column - 1) ≡ Some (Held v) → v ≡ Null) → link_in column row ≡ None → or_null (row_value keys column row) ≡ Null
@@ -98,11 +96,6 @@ null_cell keys column row behind nulls none =
     at None e f = refl
     at (Some (Held v)) e f = nulls v e
     at (Some (Link to)) e f = absurd (none-some to (sym f))
-
-pub is_eq-Equal : (o : Ordering) → is_eq o ≡ true → o ≡ Equal
-is_eq-Equal Equal e = refl
-is_eq-Equal Less e = absurd (false≢true e)
-is_eq-Equal Greater e = absurd (false≢true e)
 
 module _ (c : CatalogState) (ok : IsConsistent c) where
   abbrev keys_of : RelationState → Keys
@@ -118,7 +111,7 @@ module _ (c : CatalogState) (ok : IsConsistent c) where
   unfolding table_of
   key_typed n s there =
       let t = table_here n s there in
-      let sound : IsSoundTable c.limits (table_of c.relations t.0 s) = All-get (IsSoundTable c.limits) (database_of c) n (table_of c.relations t.0 s) ok.sound.each t.2 in
+      let sound : IsSoundTable c.limits (table_of c.relations t.0 s) = All-at (IsSoundTable c.limits) (database_of c) n (table_of c.relations t.0 s) ok.sound.each t.2 in
       sound.keyed
 
   -- so there is a column
@@ -136,7 +129,7 @@ module _ (c : CatalogState) (ok : IsConsistent c) where
       let t = table_here n s there in
       let table = table_of c.relations t.0 s in
       let fit : All (IsRowOf (database_of c) table.columns) table.rows =
-      All-get (λ (u : Table). All (IsRowOf (database_of c) u.columns) u.rows) (database_of c) n table ok.sound.rows_fit t.2 in
+      All-at (λ (u : Table). All (IsRowOf (database_of c) u.columns) u.rows) (database_of c) n table ok.sound.rows_fit t.2 in
       let listed = (among_at c ok n s there).kept.keyed.lists.listed r (ap is_some at) in
       let here = from_mapped (IsRowOf (database_of c) s.schema.columns) (values_of (keys_of s) (length s.schema.columns) s.rows) (tree_list s.by_key) fit listed.0 r listed.1 in
       let values : values_of (keys_of s) (length s.schema.columns) s.rows (get_or (tree_list s.by_key) listed.0 r) ≡ row_values (keys_of s) (length s.schema.columns) row =
@@ -152,18 +145,18 @@ module _ (c : CatalogState) (ok : IsConsistent c) where
   -- a table that a column refers to is there
   pub target_found : (n : ℕ) (s : RelationState) (j : ℕ) (column : Column) (name : List ℕ) → slice_get c.relations n ≡ Some s → slice_get s.schema.columns j ≡ Some column → referred column.kind ≡ Some name → (t : ℕ) × (position (λ m. bytes_eq m name) c.names ≡ Some t)
   target_found n s j column name there at e =
-      let refers : RefersInto (take n (database_of c)) column = All-get (RefersInto (take n (database_of c))) s.schema.columns j column (refers_before c ok n s there) at in
+      let refers : RefersInto (take n (database_of c)) column = All-at (RefersInto (take n (database_of c))) s.schema.columns j column (refers_before c ok n s there) at in
       let front : is_some (table_named name (take n (database_of c))) ≡ true = subst (λ o. IsTrue (option_map_or (λ m. is_some (table_named m (take n (database_of c)))) o true)) e refers in
       let named : list_any (λ m. bytes_eq m name) (map (λ (t : Table). t.name) (database_of c)) ≡ true =
       list_any-map (λ m. bytes_eq m name) (λ (t : Table). t.name) (database_of c) ∙ sym (is_some-find (is_named name) (database_of c)) ∙ found-front (is_named name) (database_of c) n front in
-      any_place (λ m. bytes_eq m name) c.names (subst (λ names. list_any (λ m. bytes_eq m name) names ≡ true) (names-database c ok) named)
+      position_where_some (λ m. bytes_eq m name) c.names (subst (λ names. list_any (λ m. bytes_eq m name) names ≡ true) (names-database c ok) named)
 
   -- names differ
   names_apart : (i j : ℕ) (a b : List ℕ) → i < j → slice_get c.names i ≡ Some a → slice_get c.names j ≡ Some b → a ≢ b
   unfolding table_of
   names_apart i j a b below at here e =
-      let s = get_within c.relations i (omega (arith, ok.named, slice_get_within c.names i a at)) in
-      let t = get_within c.relations j (omega (arith, ok.named, slice_get_within c.names j b here)) in
+      let s = slice_get-inside c.relations i (omega (arith, ok.named, slice_get_within c.names i a at)) in
+      let t = slice_get-inside c.relations j (omega (arith, ok.named, slice_get_within c.names j b here)) in
       let first = database-get c ok.named i a s.0 at s.1 in
       let second = database-get c ok.named j b t.0 here t.1 in
       let d : Table = table_of c.relations a s.0 in

@@ -10,6 +10,7 @@ use Rattle.std.proofs.lemmas.List.Elements.{All-contains}
 use Rattle.std.proofs.lemmas.List.Sums.{sum_by-append, sum_by-cons}
 use Rattle.std.proofs.lemmas.Simd.{map-map}
 use Rattle.std.proofs.lemmas.Option.{none-some, same_Some}
+use Rattle.common_lemmas.proofs.Counts.{count_by-flat_map}
 use Rattle.part_raw.proofs.Tuples.{held_tuple}
 use Rattle.part_raw.specs.declared.tuple_ref.TupleRef.{TupleRef}
 use Rattle.plain_tables.specs.Doing.{assigned}
@@ -43,12 +44,6 @@ row_wide keys s current r row at = elim (cases_lt 1 (length s.targets)) [
       omega (arith, within, some)
   | inr few ↦ omega (arith, few)
 ]
-
-counted_by_row : {A B : Type 0} (test : B → Bool) (f : A → List B) (xs : List A) → count_by test (flat_map f xs) ≡ sum_by (λ x. count_by test (f x)) xs
-counted_by_row test f [] = refl
-counted_by_row test f (x ∷ xs) =
-    sum_by-append (λ y. cond (test y) 1 0) (f x) (flat_map f xs)
-    ∙ ap (λ n. count_by test (f x) + n) (counted_by_row test f xs) ∙ sym (sum_by-cons (λ y. count_by test (f y)) x xs)
 
 module _ (b a : RelationState) (rs : List TupleRef) (sets : List CellSet) (changed : IsChanged b a rs sets) where
   key_set : (o : Option Row) → option_and_then (λ (t : Row). Some t.key) (option_map (with_cells sets) o) ≡ option_and_then (λ (t : Row). Some t.key) o
@@ -131,12 +126,12 @@ module _ (b a : RelationState) (rs : List TupleRef) (sets : List CellSet) (chang
         unfolding relation_links links_at
         links_set =
             let listed : count_by test (relation_links a) ≡ sum_by after (tree_list b.by_key) =
-            counted_by_row test (λ r. option_map_or (row_links a.targets) (get a.rows r) []) (tree_list a.by_key)
+            count_by-flat_map test (λ r. option_map_or (row_links a.targets) (get a.rows r) []) (tree_list a.by_key)
             ∙ (λ i. sum_by (λ r. count_by test (option_map_or (row_links (changed.keeps.targets i)) (get a.rows r) [])) (by_key_set i)) in
             let was_listed : count_by test (relation_links b) ≡ sum_by before (tree_list b.by_key) =
-            counted_by_row test (λ r. option_map_or (row_links b.targets) (get b.rows r) []) (tree_list b.by_key) in
+            count_by-flat_map test (λ r. option_map_or (row_links b.targets) (get b.rows r) []) (tree_list b.by_key) in
             let lost : count_by test (links_at b sets rs) ≡ sum_by gone rs =
-            counted_by_row test (λ r. option_map_or (row_links_at b.targets sets) (get b.rows r) []) rs in
+            count_by-flat_map test (λ r. option_map_or (row_links_at b.targets sets) (get b.rows r) []) rs in
             let whole = sum_changed before after (tree_list b.by_key) rs
             (rising_apart (column_cmp no_keys 0 b.rows) (column_cmp_total no_keys 0 b.rows) (tree_list b.by_key) was.keyed.rising) once
             (λ r h. was.keyed.lists.listed r (All-contains (λ q. IsSome (get b.rows q)) rs r held h))

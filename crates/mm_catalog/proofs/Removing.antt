@@ -7,6 +7,8 @@ use Rattle.std.proofs.lemmas.List.{take_more}
 use Rattle.std.proofs.lemmas.List.Elements.{Contains-push, Contains-push_cases, Contains-append_left}
 use Rattle.std.proofs.lemmas.List.Sums.{get_or-le-sum_by, sum_by-append, sum_by-cons, sum_by-drop_more, sum_by-take-drop}
 use Rattle.std.proofs.lemmas.Option.{get_or_from_slice_get, none-some, slice_get_within}
+use Rattle.common_lemmas.proofs.Places.{slice_get-inside}
+use Rattle.common_lemmas.proofs.Counts.{count_by-flat_map}
 use Rattle.part_raw.specs.declared.tuple_ref.TupleRef.{TupleRef}
 use Rattle.part_raw.specs.Store.{Tuples}
 use Rattle.part_raw.proofs.Lookup.{same_or_other}
@@ -24,19 +26,12 @@ use Rattle.mm_catalog.specs.Recounted.{AreRecounted}
 use Rattle.mm_catalog.specs.Counted.{IsHeldIn, HaveAtLeast, AreCountedBy, naming, none}
 use Rattle.mm_catalog.specs.Deleted.{AreRemoved, AreUnlinked}
 use Rattle.mm_catalog.proofs.Keyed.{keys_removed}
-use Rattle.mm_catalog.proofs.Lists.{get_within}
 use Rattle.mm_catalog.proofs.LinksHeld.{linked_value, target_within}
 use Rattle.mm_catalog.proofs.RowLinks.{All-filter_map, link_parts}
 use Rattle.mm_catalog.proofs.Counted.{counted_none, down_then, enough_left}
 use Rattle.mm_catalog.proofs.Recounting.{key_recounted}
 
 -- ---- the links of a relation, row by row
-
-pub counted_by_row : {A B : Type 0} (test : B → Bool) (f : A → List B) (xs : List A) → count_by test (flat_map f xs) ≡ sum_by (λ x. count_by test (f x)) xs
-counted_by_row test f [] = refl
-counted_by_row test f (x ∷ xs) =
-    sum_by-append (λ y. cond (test y) 1 0) (f x) (flat_map f xs)
-    ∙ ap (λ n. count_by test (f x) + n) (counted_by_row test f xs) ∙ sym (sum_by-cons (λ y. count_by test (f y)) x xs)
 
 sum_alike : {A : Type 0} (f g : A → ℕ) (xs : List A) → All (λ x. f x ≡ g x) xs → sum_by f xs ≡ sum_by g xs
 sum_alike f g [] same = refl
@@ -50,7 +45,7 @@ passing test s r = count_by test (option_map_or (row_links s.targets) (get s.row
 
 links_by_row : (test : Linked → Bool) (s : RelationState) → count_by test (relation_links s) ≡ sum_by (passing test s) (tree_list s.by_key)
 unfolding relation_links
-links_by_row test s = counted_by_row test (λ r. option_map_or (row_links s.targets) (get s.rows r) []) (tree_list s.by_key)
+links_by_row test s = count_by-flat_map test (λ r. option_map_or (row_links s.targets) (get s.rows r) []) (tree_list s.by_key)
 
 passing_row : (test : Linked → Bool) (s : RelationState) (r : TupleRef) (row : Row) → get s.rows r ≡ Some row → passing test s r ≡ count_by test (row_links s.targets row)
 passing_row test s r row at = ap (λ o. count_by test (option_map_or (row_links s.targets) o [])) at
@@ -69,7 +64,7 @@ unfolding links
 links_within test relations n s there =
     let part = get_or-le-sum_by (λ t. count_by test (relation_links t)) relations n s (slice_get_within relations n s there) in
     let it : count_by test (relation_links (get_or relations n s)) ≡ count_by test (relation_links s) = ap (λ t. count_by test (relation_links t)) (get_or_from_slice_get relations n s s there) in
-    omega (arith, part, it, counted_by_row test relation_links relations)
+    omega (arith, part, it, count_by-flat_map test relation_links relations)
 
 module _ (old new : RelationState) (kept : IsKept old) (now : IsKept new) (r : TupleRef) (row : Row) (at : get old.rows r ≡ Some row) (removed : IsRemoved old new r) (test : Linked → Bool) where
   left : (k : ℕ) (d : TupleRef) → k < length (tree_list new.by_key) → get new.rows (get_or (tree_list new.by_key) k d) ≡ get old.rows (get_or (tree_list new.by_key) k d)
@@ -169,8 +164,8 @@ recounted_keys_at old new to h (Some n) = at (slice_get old n) (slice_get new n)
   where
     at : (o p : Option RelationState) → slice_get old n ≡ o → slice_get new n ≡ p → option_and_then (λ s. key_at s.rows to) p ≡ option_and_then (λ s. key_at s.rows to) o
     at None None e f = refl
-    at None (Some t) e f = let s = get_within old n (omega (arith, h.count, slice_get_within new n t f)) in absurd (none-some s.0 (sym e ∙ s.1))
-    at (Some s) None e f = let t = get_within new n (omega (arith, h.count, slice_get_within old n s e)) in absurd (none-some t.0 (sym f ∙ t.1))
+    at None (Some t) e f = let s = slice_get-inside old n (omega (arith, h.count, slice_get_within new n t f)) in absurd (none-some s.0 (sym e ∙ s.1))
+    at (Some s) None e f = let t = slice_get-inside new n (omega (arith, h.count, slice_get_within old n s e)) in absurd (none-some t.0 (sym f ∙ t.1))
     at (Some s) (Some t) e f = key_recounted s t (h.each n s t e f) to
 
 pub recounted_keys : (targets : List (Option ℕ)) (old new : List RelationState) → AreRecounted old new → linked_keys targets new ≡ linked_keys targets old

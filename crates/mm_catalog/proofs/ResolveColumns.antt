@@ -10,14 +10,16 @@ use Rattle.std.proofs.lemmas.Grind.{flat_map-append}
 use Rattle.std.proofs.lemmas.List.{take_more, take-append-drop, length-take, map-append}
 use Rattle.std.proofs.lemmas.List.Elements.{filter-append, All-nil, All-cons, All-head, All-tail, All-weaker}
 use Rattle.std.proofs.lemmas.Option.{same_Some}
-use Rattle.plain_tables.proofs.ListLemmas.{AllPairs-head, AllPairs-tail, fails_where_not_found}
+use Rattle.common_lemmas.proofs.Options.{is_some-option_map}
+use Rattle.common_lemmas.proofs.Tests.{fails_where_not_found}
+use Rattle.common_lemmas.proofs.Pairs.{AllPairs-head, AllPairs-tail}
 use Rattle.plain_tables.specs.Queries.{JoinedColumn, column_number, fits, fits_one, place_meant, column_meant}
 use Rattle.plain_tables.specs.declared.numbers.Place.{Place}
 use Rattle.plain_tables.specs.declared.schema.Column.{Column}
 use Rattle.plain_tables.specs.declared.condition.ColName.{ColName}
 use Rattle.mm_catalog.specs.declared.bind.scope.Scope.{Scope}
 use Rattle.mm_catalog.specs.declared.bind.scope.NamedColumn.{NamedColumn}
-use Rattle.mm_catalog.proofs.ResolveLists.{none_found, is_some-map}
+use Rattle.mm_catalog.proofs.ResolveLists.{none_found}
 use Rattle.mm_catalog.specs.Resolve.{in_table, place_in, columns_of, source_columns, columns_of_all, placed, as_found}
 
 -- ---- the only element of a list
@@ -74,7 +76,7 @@ meant_one columns name o h = sym (meant_only columns name ∙ ap only h ∙ only
 
 pub fits_one-is : (columns : List JoinedColumn) (name : ColName) → is_some (place_meant columns name) ≡ fits_one columns name
 fits_one-is columns name =
-    is_some-map (λ (j : JoinedColumn). j.place) (column_meant columns name)
+    is_some-option_map (λ (j : JoinedColumn). j.place) (column_meant columns name)
     ∙ ap is_some (find_only (fits name) columns)
     ∙ is_some-only (filter (fits name) columns)
 

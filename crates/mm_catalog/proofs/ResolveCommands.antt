@@ -5,6 +5,7 @@ use Rattle.std.specs.List.{list_any, enumerate_from}
 use Rattle.std.specs.Option.{option_map_or}
 use Rattle.std.specs.Str.{bytes_eq}
 use Rattle.std.proofs.lemmas.List.Folds.{list_any-append}
+use Rattle.common_lemmas.proofs.Tests.{list_any-map}
 use Rattle.plain_tables.specs.Tables.{Table, Row}
 use Rattle.plain_tables.specs.Databases.{Database}
 use Rattle.plain_tables.specs.Queries.{JoinedColumn, column_number, place_meant, places_meant}
@@ -29,7 +30,6 @@ use Rattle.mm_catalog.specs.declared.bind.scope.Scope.{Scope}
 use Rattle.mm_catalog.specs.Seen.{plain_index}
 use Rattle.mm_catalog.specs.Resolve.{IsScopeOf, bare, columns_of, own_place}
 use Rattle.mm_catalog.specs.ResolveChecks.{verdict, row_checks, delete_rest, update_rest}
-use Rattle.mm_catalog.proofs.Finding.{list_any-map}
 use Rattle.mm_catalog.proofs.ResolveNamed.{tests_mistyped, length-tests, assignments_mistyped, long_set, key_set}
 
 -- ---- checks

@@ -3,6 +3,8 @@ use Rattle.std.proofs.Common.{◌≡◌, ◌<◌, ◌≤◌, true, false, List, 
 use Rattle.std.specs.Prelude.{not, ◌||◌, ◌&&◌, ◌==◌}
 use Rattle.std.specs.List.{list_any, filter_map, cons_option}
 use Rattle.std.specs.Option.{option_map, option_map_or}
+use Rattle.common_lemmas.proofs.Options.{is_some-option_map, option_map_some}
+use Rattle.common_lemmas.proofs.Tests.{list_any-map}
 use Rattle.plain_tables.specs.Values.{is_null}
 use Rattle.plain_tables.specs.Databases.{Database}
 use Rattle.plain_tables.specs.References.{is_typed}
@@ -22,8 +24,7 @@ use Rattle.plain_tables.specs.declared.resolved.Test.{Test}
 use Rattle.mm_catalog.specs.declared.bind.scope.Scope.{Scope}
 use Rattle.mm_catalog.specs.Resolve.{columns_of, test_at, test_of, assignment_at, assignment_of, shown_places}
 use Rattle.mm_catalog.specs.ResolveChecks.{mistypes_at, is_mistyped_test}
-use Rattle.mm_catalog.proofs.Finding.{list_any-map}
-use Rattle.mm_catalog.proofs.ResolveLists.{list_any-same, is_some-map, option_map-Some, leaves_out, left_out, none_left_out, length-made, any_made}
+use Rattle.mm_catalog.proofs.ResolveLists.{list_any-same, leaves_out, left_out, none_left_out, length-made, any_made}
 use Rattle.mm_catalog.proofs.ResolveColumns.{fits_one-is, meant_there}
 
 -- ---- names that mean no column
@@ -37,7 +38,7 @@ module _ {X Y : Type 0} (columns : List JoinedColumn) (name : X → ColName) (ma
   misses-is xs =
       list_any-map (λ n. not (fits_one columns n)) name xs
       ∙ list_any-same (λ x. not (fits_one columns (name x))) (λ x. not (is_some (meant x))) xs
-      (λ x. ap not (sym (is_some-map (make x) (place_meant columns (name x)) ∙ fits_one-is columns (name x))))
+      (λ x. ap not (sym (is_some-option_map (make x) (place_meant columns (name x)) ∙ fits_one-is columns (name x))))
 
   pub named_fewer : (xs : List X) → length (filter_map meant xs) < length xs → misses columns (map name xs) ≡ true
   named_fewer xs less = misses-is xs ∙ left_out meant xs less
@@ -106,7 +107,7 @@ module _ (columns : List JoinedColumn) where
   key_set (s ∷ ss) = one_place (place_meant columns (setting_name s)) s (places_meant columns (map setting_name ss)) (assignments_of columns ss) (key_set ss)
 
   long_one : (s : Setting) (a : Assignment) → assignment_of columns s ≡ Some a → is_long s.value ≡ is_long a.value
-  long_one s a e = ap (λ (b : Assignment). is_long b.value) (option_map-Some (assignment_at s) (place_meant columns (setting_name s)) a e).2
+  long_one s a e = ap (λ (b : Assignment). is_long b.value) (option_map_some (assignment_at s) (place_meant columns (setting_name s)) a e).2
 
   pub long_set : (settings : List Setting) → misses columns (map setting_name settings) ≡ false → list_any (λ s. is_long s.value) settings ≡ list_any (λ a. is_long a.value) (assignments_of columns settings)
   long_set settings h = any_made (assignment_of columns) (λ s. is_long s.value) (λ a. is_long a.value) long_one settings (settings_kept settings h)
@@ -120,7 +121,7 @@ module _ (tables : Database) (scope : Scope) where
   -- a value is none for the column meant where it is none for the column at the place
   mistypes-place : (name : ColName) (v : Value) (place : Place) → place_meant columns name ≡ Some place → mistypes tables columns name v ≡ mistypes_at tables scope.columns.now place.column.0 v
   mistypes-place name v place is =
-      let found = option_map-Some (λ (j : JoinedColumn). j.place) (column_meant columns name) place is in
+      let found = option_map_some (λ (j : JoinedColumn). j.place) (column_meant columns name) place is in
       let there : slice_get scope.columns.now place.column.0 ≡ Some found.0.column =
       ap (λ (p : Place). slice_get scope.columns.now p.column.0) (sym found.2) ∙ meant_there scope name found.0 found.1 in
       ap (λ o. option_map_or (λ (j : JoinedColumn). not (is_typed tables v j.column.kind)) o false) found.1
@@ -128,7 +129,7 @@ module _ (tables : Database) (scope : Scope) where
 
   test_mistyped : (c : Cond) (t : Test) → test_of columns c ≡ Some t → is_mistyped tables columns c ≡ is_mistyped_test tables scope.columns.now t
   test_mistyped c t e =
-      let found = option_map-Some (test_at c) (place_meant columns c.column) t e in
+      let found = option_map_some (test_at c) (place_meant columns c.column) t e in
       ap (λ b. b || (is_null c.value && asks_order c.op)) (mistypes-place c.column c.value found.0 found.1) ∙ ap (is_mistyped_test tables scope.columns.now) found.2
 
   pub tests_mistyped : (conditions : List Cond) → misses columns (condition_names conditions) ≡ false
@@ -138,7 +139,7 @@ module _ (tables : Database) (scope : Scope) where
 
   assignment_mistyped : (s : Setting) (a : Assignment) → assignment_of columns s ≡ Some a → mistypes tables columns (setting_name s) s.value ≡ mistypes_at tables scope.columns.now a.column.0 a.value
   assignment_mistyped s a e =
-      let found = option_map-Some (assignment_at s) (place_meant columns (setting_name s)) a e in
+      let found = option_map_some (assignment_at s) (place_meant columns (setting_name s)) a e in
       mistypes-place (setting_name s) s.value found.0 found.1 ∙ ap (λ (b : Assignment). mistypes_at tables scope.columns.now b.column.0 b.value) found.2
 
   pub assignments_mistyped : (settings : List Setting) → misses columns (map setting_name settings) ≡ false

@@ -11,6 +11,7 @@ use Rattle.std.proofs.lemmas.List.Folds.{list_any-append, list_any_at}
 use Rattle.std.proofs.lemmas.Map.Views.{any-filter_same}
 use Rattle.std.proofs.lemmas.Slice.Eq.{bytes_eq-Decides}
 use Rattle.std.proofs.lemmas.Slice.Zip.{all_zipped_more}
+use Rattle.common_lemmas.proofs.Tests.{list_any-map}
 use Rattle.plain_tables.specs.Databases.{Database, is_named, table_named}
 use Rattle.plain_tables.specs.declared.numbers.Place.{Place}
 use Rattle.plain_tables.specs.Queries.{JoinedColumn, column_number, sides_meant, source_columns as plain_columns}
@@ -22,7 +23,6 @@ use Rattle.mm_catalog.specs.declared.bind.joined_scope.JoinedScope.{JoinedScope}
 use Rattle.mm_catalog.specs.declared.bind.joined_scope.Sides.{Sides}
 use Rattle.mm_catalog.specs.Resolve.{IsScopeOf, place_in, columns_of, columns_of_all, source_columns, placed}
 use Rattle.mm_catalog.specs.Select.{placed_sides, sides_found, IsJoinedScopeOf}
-use Rattle.mm_catalog.proofs.Finding.{list_any-map}
 
 pub zip_placed : (outer inner : Option JoinedColumn) → option_map placed_sides (option_zip outer inner) ≡ option_zip (option_map placed outer) (option_map placed inner)
 zip_placed None inner = refl

@@ -10,6 +10,8 @@ use Rattle.std.proofs.lemmas.List.{length-map, length-append}
 use Rattle.std.proofs.lemmas.Map.Views.{any-filter_same}
 use Rattle.std.proofs.lemmas.Slice.Eq.{bytes_eq-Decides}
 use Rattle.std.proofs.lemmas.Slice.Zip.{AllZip-long}
+use Rattle.common_lemmas.proofs.Options.{option_map_some}
+use Rattle.common_lemmas.proofs.Tests.{list_any-map}
 use Rattle.plain_tables.specs.Databases.{Database, table_named}
 use Rattle.plain_tables.specs.Queries.{JoinedColumn, same_place, places_meant, named_items}
 use Rattle.plain_tables.specs.References.{same_type, type_of}
@@ -33,8 +35,7 @@ use Rattle.mm_catalog.specs.declared.bind.joined_scope.Sides.{Sides}
 use Rattle.mm_catalog.specs.Resolve.{IsScopeOf, columns_of_all, shown_places}
 use Rattle.mm_catalog.specs.ResolveChecks.{verdict}
 use Rattle.mm_catalog.specs.Select.{IsJoinedScopeOf, placed_sides, sides_found, sides_differ, select_rest, source_on, joined_by}
-use Rattle.mm_catalog.proofs.Finding.{list_any-map}
-use Rattle.mm_catalog.proofs.ResolveLists.{list_any-same, option_map-Some}
+use Rattle.mm_catalog.proofs.ResolveLists.{list_any-same}
 use Rattle.mm_catalog.proofs.ResolveNamed.{shown_places-are, length-shown}
 use Rattle.mm_catalog.proofs.ResolveSources.{map-map}
 use Rattle.mm_catalog.proofs.ResolveScopes.{columns_are, or_true}
@@ -272,7 +273,7 @@ module _ (tables : Database) (distinct : Bool) (its : Items) (name : List ℕ) (
           joins_are before (j ∷ js) (s ∷ ss) (d ∷ ds) all are =
               let head : option_map placed_sides (join_columns tables (before, j)) ≡ Some (sides_found d) = cc in
               let tail : map (λ (x : Sides). Some (sides_found x)) ds ≡ map (λ k. option_map placed_sides (join_columns tables k)) (behind (before ++ j.table ∷ []) js) = cc in
-              let meant = option_map-Some placed_sides (join_columns tables (before, j)) (sides_found d) head in
+              let meant = option_map_some placed_sides (join_columns tables (before, j)) (sides_found d) head in
               let outer : meant.0.0.place ≡ d.outer.place = ap (λ p. p.0.0) meant.2 in
               let inner : meant.0.1.place ≡ d.inner.place = ap (λ p. p.1.0) meant.2 in
               let rest = joins_are (before ++ j.table ∷ []) js ss ds all.1 tail in

@@ -6,6 +6,9 @@ use Rattle.std.specs.Option.{option_map, option_and_then}
 use Rattle.std.specs.Str.{bytes_eq}
 use Rattle.std.proofs.lemmas.Option.{slice_get_within, same_Some}
 use Rattle.std.proofs.lemmas.Slice.Zip.{firsts-zip}
+use Rattle.common_lemmas.proofs.Options.{is_some-option_map, option_map_some}
+use Rattle.common_lemmas.proofs.Places.{slice_get-inside}
+use Rattle.common_lemmas.proofs.Tests.{list_any-map}
 use Rattle.plain_tables.specs.Tables.{Table}
 use Rattle.plain_tables.specs.Databases.{Database, is_named, table_named}
 use Rattle.plain_tables.specs.declared.numbers.TableNumber.{TableNumber}
@@ -16,10 +19,9 @@ use Rattle.mm_catalog.specs.State.{CatalogState}
 use Rattle.mm_catalog.specs.Seen.{database_of, table_of, plain_index}
 use Rattle.mm_catalog.specs.Resolve.{IsScopeOf, table_number}
 use Rattle.mm_catalog.specs.declared.bind.scope.Scope.{Scope}
-use Rattle.mm_catalog.proofs.Finding.{position-map, list_any-map}
-use Rattle.mm_catalog.proofs.Lists.{get_within}
+use Rattle.mm_catalog.proofs.Finding.{position-map}
 use Rattle.mm_catalog.proofs.Tables.{database-get}
-use Rattle.mm_catalog.proofs.ResolveLists.{position_or_len-position, position-within, found_at, none_found, is_some-found, is_some-map, option_map-Some, option_map-None}
+use Rattle.mm_catalog.proofs.ResolveLists.{position_or_len-position, position-within, found_at, none_found, is_some-found, option_map-None}
 
 -- a table has the name that its number has
 pub named_position : (c : CatalogState) (name : List ℕ) → length c.names ≡ length c.relations → position (is_named name) (database_of c) ≡ position (λ n. bytes_eq n name) c.names
@@ -33,7 +35,7 @@ module _ (tables : Database) (name : List ℕ) where
   -- the table of that name is there
   named_there : (n : ℕ) → position (is_named name) tables ≡ Some n → (table : Table) × (table_named name tables ≡ Some table) × (slice_get tables n ≡ Some table)
   named_there n h =
-      let there = get_within tables n (position-within (is_named name) tables n h) in
+      let there = slice_get-inside tables n (position-within (is_named name) tables n h) in
       (there.0, found_at (is_named name) tables n h ∙ there.1, there.1)
 
   pub scope_there : (scope : Scope) → option_map table_number (position (is_named name) tables) ≡ Some scope.table
@@ -41,7 +43,7 @@ module _ (tables : Database) (name : List ℕ) where
       → option_map (λ (t : Table). t.columns) (slice_get tables scope.table.0) ≡ Some scope.columns.now
       → option_map (λ (t : Table). t.indexes) (slice_get tables scope.table.0) ≡ Some (map plain_index scope.declared.now) → IsScopeOf tables name scope
   scope_there scope h called columns indexes =
-      let found = option_map-Some table_number (position (is_named name) tables) scope.table h in
+      let found = option_map_some table_number (position (is_named name) tables) scope.table h in
       let there = named_there found.0 found.1 in
       let at : slice_get tables scope.table.0 ≡ Some there.0 = ap (λ (t : TableNumber). slice_get tables t.0) (sym found.2) ∙ there.2 in
       record {
@@ -57,14 +59,14 @@ module _ (tables : Database) (name : List ℕ) where
   named_none h = none_found (is_named name) tables (option_map-None table_number (position (is_named name) tables) h)
 
   pub is_named_there : is_some (option_map table_number (position (is_named name) tables)) ≡ is_some (table_named name tables)
-  is_named_there = is_some-map table_number (position (is_named name) tables) ∙ sym (is_some-found (is_named name) tables)
+  is_named_there = is_some-option_map table_number (position (is_named name) tables) ∙ sym (is_some-found (is_named name) tables)
 
 -- a table has the columns of its relation
 pub database-columns : (c : CatalogState) → length c.names ≡ length c.relations → (n : ℕ) (s : RelationState) → slice_get c.relations n ≡ Some s → option_map (λ (t : Table). t.columns) (slice_get (database_of c) n) ≡ Some s.schema.columns
 unfolding table_of
 database-columns c named n s e =
     let within : n < length c.names = omega (arith, named, slice_get_within c.relations n s e) in
-    let name = get_within c.names n within in
+    let name = slice_get-inside c.names n within in
     ap (option_map (λ (t : Table). t.columns)) (database-get c named n name.0 s name.1 e)
 
 -- and its indexes
@@ -73,7 +75,7 @@ pub database-indexes : (c : CatalogState) → length c.names ≡ length c.relati
 unfolding table_of
 database-indexes c named n s e =
     let within : n < length c.names = omega (arith, named, slice_get_within c.relations n s e) in
-    let name = get_within c.names n within in
+    let name = slice_get-inside c.names n within in
     ap (option_map (λ (t : Table). t.indexes)) (database-get c named n name.0 s name.1 e)
 
 -- whether a column of some table refers to one is told by the columns of the relations
@@ -94,7 +96,7 @@ pub key_of : (tables : Database) (name : List ℕ) (table : TableNumber) (column
     → option_map (λ (t : Table). t.columns) (slice_get tables table.0) ≡ Some columns
     → option_and_then key_type (table_named name tables) ≡ option_and_then (λ c. own_type c.kind) (slice_get columns 0)
 key_of tables name table columns h e =
-    let found = option_map-Some table_number (position (is_named name) tables) table h in
+    let found = option_map_some table_number (position (is_named name) tables) table h in
     let there = named_there tables name found.0 found.1 in
     let at : slice_get tables table.0 ≡ Some there.0 = ap (λ (t : TableNumber). slice_get tables t.0) (sym found.2) ∙ there.2 in
     ap (option_and_then key_type) there.1

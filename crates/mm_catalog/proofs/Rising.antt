@@ -5,8 +5,8 @@ use Rattle.std.specs.Cmp.{IsTotalOrder}
 use Rattle.std.specs.Ordering.{ordering_reverse}
 use Rattle.std.specs.declared.cmp.Ordering.{Ordering}
 use Rattle.std.specs.declared.cmp.Ordering.TheVariants.{Less, Greater}
+use Rattle.common_lemmas.proofs.Elements.{Contains-cons_cases, Contains-cons}
 use Rattle.mm_index.specs.Order.{IsRising}
-use Rattle.mm_index.proofs.Members.{Contains-cons_cases, Contains-cons}
 
 module _ {A : Type 0} (cmp : A → A → Ordering) (total : IsTotalOrder cmp) where
   not_both : (a b : A) → cmp a b ≡ Less → cmp b a ≡ Less → ⊥

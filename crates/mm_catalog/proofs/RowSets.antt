@@ -7,6 +7,7 @@ use Rattle.std.proofs.lemmas.List.{length-map}
 use Rattle.std.proofs.lemmas.List.FromFn.{length-range_with_len, get_or-range_with_len}
 use Rattle.std.proofs.lemmas.List.Sums.{sum_by-cons}
 use Rattle.std.proofs.lemmas.Option.{none-some, same_Some, slice_get-get_or, slice_get-map, slice_get_within}
+use Rattle.common_lemmas.proofs.Places.{slice_get-set_other, slice_get_set}
 use Rattle.part_raw.specs.declared.tuple_ref.TupleRef.{TupleRef}
 use Rattle.plain_tables.specs.Doing.{assigned}
 use Rattle.plain_tables.specs.declared.numbers.ColumnNumber.{ColumnNumber}
@@ -22,7 +23,7 @@ use Rattle.mm_catalog.specs.Cells.{IsLinkOrNull}
 use Rattle.mm_catalog.specs.Linked.{Linked, HasLinksOrNulls, link_at, row_links, target_at}
 use Rattle.mm_catalog.specs.Seen.{or_null, row_values}
 use Rattle.mm_catalog.proofs.Counted.{one_if}
-use Rattle.mm_catalog.proofs.Lists.{get-set_other, get-set_same, same_by_get}
+use Rattle.mm_catalog.proofs.Lists.{same_by_get}
 
 -- cells behind the key, in columns of so many, and no two in one
 pub record AreApart (width : ℕ) (sets : List CellSet) : Type 0 where
@@ -86,7 +87,7 @@ range_place n k m e =
 
 -- a cell beside the one that is set
 cell_beside : (row : Row) (s : CellSet) (column : ℕ) → 0 < column → 0 < s.0.0 → column ≢ s.0.0 → slice_get (set row.cells (s.0.0 - 1) s.1) (column - 1) ≡ slice_get row.cells (column - 1)
-cell_beside row s column some behind other = get-set_other row.cells (s.0.0 - 1) (column - 1) s.1 (λ e. other (omega (arith, e, some, behind)))
+cell_beside row s column some behind other = slice_get-set_other row.cells (s.0.0 - 1) (column - 1) s.1 (λ e. other (omega (arith, e, some, behind)))
 
 not_first : (c : ℕ) → (c == 0) ≡ false → 0 < c
 not_first zero g = cc
@@ -105,7 +106,7 @@ itself_set : {A : Type 0} (row : Row) (s : CellSet) (f : Cell → Option A) (oth
 itself_set {A} row s f other behind within =
     let later : (s.0.0 == 0) ≡ false = ne_eqb s.0.0 0 (λ e. absurd (omega (arith, e, behind))) in
     ap (λ (b : Bool). cond b other (option_and_then f (slice_get (set row.cells (s.0.0 - 1) s.1) (s.0.0 - 1)))) later
-    ∙ ap (option_and_then f) (get-set_same row.cells (s.0.0 - 1) s.1 (omega (arith, behind, within)))
+    ∙ ap (option_and_then f) (slice_get_set row.cells (s.0.0 - 1) s.1 (omega (arith, behind, within)))
 
 link_beside : (targets : List (Option ℕ)) (row : Row) (s : CellSet) (column : ℕ) → 0 < s.0.0 → column ≢ s.0.0 → link_at targets (with_cell s row) column ≡ link_at targets row column
 link_beside targets row s column behind differs =
@@ -157,7 +158,7 @@ cell_linked : (targets : List (Option ℕ)) (row : Row) (s : CellSet) → 0 < s.
 cell_linked targets row s behind within linked before column value some leads at =
     elim (cases_eq column s.0.0) [
       | inl e ↦
-          let cell : s.1 ≡ Held value = same_Some s.1 (Held value) (sym (get-set_same row.cells (s.0.0 - 1) s.1 (omega (arith, behind, within))) ∙ ap (λ n. slice_get (set row.cells (s.0.0 - 1) s.1) (n - 1)) (sym e) ∙ at) in
+          let cell : s.1 ≡ Held value = same_Some s.1 (Held value) (sym (slice_get_set row.cells (s.0.0 - 1) s.1 (omega (arith, behind, within))) ∙ ap (λ n. slice_get (set row.cells (s.0.0 - 1) s.1) (n - 1)) (sym e) ∙ at) in
           linked value (subst (λ n. IsSome (target_at targets n)) e leads) cell
       | inr other ↦ before column value some leads (sym (cell_beside row s column some behind other) ∙ at)
     ]
@@ -200,9 +201,9 @@ module _ (keys : Keys) (width : ℕ) (row : Row) (s : CellSet) (value : Value) (
   value_at k = elim (cases_eq k s.0.0) [
     | inl e ↦
         let long : length (map was range) ≡ width = length-map range was ∙ length-range_with_len 0 width in
-        ap (slice_get (map now range)) e ∙ value_here ∙ sym (get-set_same (map was range) s.0.0 value (omega (arith, wide, long)))
+        ap (slice_get (map now range)) e ∙ value_here ∙ sym (slice_get_set (map was range) s.0.0 value (omega (arith, wide, long)))
         ∙ ap (slice_get (set (map was range) s.0.0 value)) (sym e)
-    | inr other ↦ value_beside k other ∙ sym (get-set_other (map was range) s.0.0 k value other)
+    | inr other ↦ value_beside k other ∙ sym (slice_get-set_other (map was range) s.0.0 k value other)
   ]
 
   -- a row with one cell set shows its value in the column

@@ -8,6 +8,7 @@ use Rattle.std.proofs.lemmas.Grind.{flat_map-append}
 use Rattle.std.proofs.lemmas.List.{length-take-le, map-append, take-append-drop, take_more}
 use Rattle.std.proofs.lemmas.List.Elements.{filter_map-append}
 use Rattle.std.proofs.lemmas.List.Sums.{count_by-le-length}
+use Rattle.common_lemmas.proofs.Maps.{length-filter_map_within}
 use Rattle.part_raw.specs.declared.tuple_ref.TupleRef.{TupleRef}
 use Rattle.mm_relation.specs.declared.row.Row.{Row}
 use Rattle.mm_relation.specs.State.{RelationState}
@@ -25,12 +26,6 @@ filter_map_more f xs i d l = ap (filter_map f) (take_more xs i d l) ∙ filter_m
 pub flat_map_more : {A B : Type 0} (f : A → List B) (xs : List A) (i : ℕ) (d : A) → i < length xs → flat_map f (take (i + 1) xs) ≡ flat_map f (take i xs) ++ f (get_or xs i d)
 flat_map_more f xs i d l =
     ap (flat_map f) (take_more xs i d l) ∙ flat_map-append f (take i xs) (get_or xs i d ∷ []) ∙ ap (λ ys. flat_map f (take i xs) ++ ys) (append-nil (f (get_or xs i d)))
-
-length-filter_map : {A B : Type 0} (f : A → Option B) (xs : List A) → length (filter_map f xs) ≤ length xs
-length-filter_map f [] = omega arith
-length-filter_map {A} {B} f (x ∷ xs) =
-    let rest = length-filter_map f xs in
-    elim (f x) as (λ o. length (cons_option {X = B} o (filter_map f xs)) ≤ suc (length xs)) [ None ↦ omega (arith, rest) | Some y ↦ omega (arith, rest) ]
 
 -- ---- the links of a row
 
@@ -92,7 +87,7 @@ count_set_links : (targets : List (Option ℕ)) (sets : List CellSet) (i : ℕ) 
 unfolding set_links
 count_set_links targets sets i test l =
     let few = count_by-le-length test (filter_map (set_link targets) (take i sets)) in
-    let short = length-filter_map (set_link targets) (take i sets) in
+    let short = length-filter_map_within (set_link targets) (take i sets) in
     let taken = length-take-le i sets l in
     omega (arith, few, short, taken)
 

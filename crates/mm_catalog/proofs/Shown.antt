@@ -8,6 +8,7 @@ use Rattle.std.specs.declared.cmp.Ordering.TheVariants.{Less, Equal, Greater}
 use Rattle.std.specs.FinMap.{get, insert}
 use Rattle.std.proofs.lemmas.List.{map-append}
 use Rattle.std.proofs.lemmas.List.Elements.{All-contains_itself}
+use Rattle.common_lemmas.proofs.Orders.{then-Equal}
 use Rattle.part_raw.proofs.Tuples.{get-insert_same, held_tuple}
 use Rattle.part_raw.specs.declared.tuple_ref.TupleRef.{TupleRef}
 use Rattle.mm_index.specs.Order.{insert_placed}
@@ -35,11 +36,6 @@ map_filter f g p test (x ∷ xs) same told =
       | false ↦ rest
     ]
 
-then_equal : (o : Ordering) → ordering_then o Equal ≡ o
-then_equal Less = refl
-then_equal Equal = refl
-then_equal Greater = refl
-
 turned : (o : Ordering) → is_gt o ≡ is_lt (ordering_reverse o)
 turned Less = refl
 turned Equal = refl
@@ -49,7 +45,7 @@ turned Greater = refl
 pub compared : (keys : Keys) (width : ℕ) (t u : Row) → 0 < width → key_cmp (row_values keys width t) (row_values keys width u) ≡ value_cmp t.key u.key
 unfolding row_values
 compared keys zero t u some = absurd (omega arith)
-compared keys (suc width) t u some = then_equal (value_cmp t.key u.key)
+compared keys (suc width) t u some = then-Equal (value_cmp t.key u.key)
 
 module _ (old new : RelationState) (kept : IsKept old) (now : IsKept new) (r : TupleRef) (row : Row) (inserted : IsInserted old new r row) (absent : HasKey old.rows row.key → ⊥) (keys : Keys) (some : 0 < length old.schema.columns) where
   abbrev width : ℕ

@@ -11,6 +11,7 @@ use Rattle.std.proofs.lemmas.Cmp.{eq_by_cmp_equiv}
 use Rattle.std.proofs.lemmas.List.Elements.{All-contains}
 use Rattle.std.proofs.lemmas.List.Kept.{AllPairs-filter}
 use Rattle.std.proofs.lemmas.Option.{none-some}
+use Rattle.common_lemmas.proofs.Elements.{Contains-filter, Contains-from_filter}
 use Rattle.part_raw.specs.declared.tuple_ref.TupleRef.{TupleRef}
 use Rattle.part_raw.specs.Store.{Tuples}
 use Rattle.part_raw.specs.TupleRefs.{ref_cmp}
@@ -19,7 +20,6 @@ use Rattle.part_raw.proofs.Tuples.{same_ref_self, same_ref_true, held_tuple}
 use Rattle.mm_index.proofs.Bags.{length-same_bag}
 use Rattle.mm_index.proofs.Distinct.{IsSameBag-from_members}
 use Rattle.mm_index.proofs.Listed.{IsRising-agree}
-use Rattle.mm_index.proofs.Members.{Contains-filter, Contains-from_filter}
 use Rattle.plain_tables.specs.declared.schema.Schema.{Schema}
 use Rattle.plain_tables.specs.declared.value.Value.{Value}
 use Rattle.mm_relation.specs.declared.row.Row.{Row}

@@ -7,10 +7,10 @@ use Rattle.std.specs.declared.cmp.Ordering.{Ordering}
 use Rattle.std.specs.declared.cmp.Ordering.TheVariants.{Less, Greater}
 use Rattle.std.proofs.Math.Nat.{suc-mul, zero-mul}
 use Rattle.std.proofs.lemmas.List.Sums.{sum_by-cons}
+use Rattle.common_lemmas.proofs.Elements.{Contains-cons, Contains-cons_cases}
 use Rattle.part_raw.specs.declared.tuple_ref.TupleRef.{TupleRef}
 use Rattle.part_raw.proofs.Lookup.{same_or_other}
 use Rattle.mm_index.specs.Order.{IsRising}
-use Rattle.mm_index.proofs.Members.{Contains-cons, Contains-cons_cases}
 
 -- a list that rises has each element once
 pub rising_apart : {A : Type 0} (cmp : A → A → Ordering) → IsTotalOrder cmp → (xs : List A) → IsRising cmp xs → AllPairs (λ a b. a ≢ b) xs

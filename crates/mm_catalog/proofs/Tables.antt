@@ -4,11 +4,12 @@ use Rattle.std.specs.List.{slice_get, zip}
 use Rattle.std.specs.Option.{option_map}
 use Rattle.std.proofs.lemmas.Option.{slice_get-map}
 use Rattle.std.proofs.lemmas.List.{length-map}
+use Rattle.common_lemmas.proofs.Places.{slice_get-inside}
 use Rattle.plain_tables.specs.Tables.{Table}
 use Rattle.mm_relation.specs.State.{RelationState}
 use Rattle.mm_catalog.specs.State.{CatalogState}
 use Rattle.mm_catalog.specs.Seen.{database_of, table_of}
-use Rattle.mm_catalog.proofs.Lists.{get-zip, length-zip, get_within}
+use Rattle.mm_catalog.proofs.Lists.{get-zip, length-zip}
 
 module _ (c : CatalogState) (named : length c.names ≡ length c.relations) where
   pub database-length : length (database_of c) ≡ length c.relations
@@ -25,5 +26,5 @@ module _ (c : CatalogState) (named : length c.names ≡ length c.relations) wher
   pub database-name : (n : ℕ) (name : List ℕ) → slice_get c.names n ≡ Some name → n < length c.relations → option_map (λ (t : Table). t.name) (slice_get (database_of c) n) ≡ Some name
   unfolding table_of
   database-name n name e within =
-      let there = get_within c.relations n within in
+      let there = slice_get-inside c.relations n within in
       ap (option_map (λ (t : Table). t.name)) (database-get n name there.0 e there.1)

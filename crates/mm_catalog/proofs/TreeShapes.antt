@@ -4,6 +4,7 @@ use Rattle.std.specs.Option.{option_map}
 use Rattle.std.specs.FinMap.{len}
 use Rattle.std.proofs.lemmas.List.{length-map}
 use Rattle.std.proofs.lemmas.Option.{slice_get_within}
+use Rattle.common_lemmas.proofs.Places.{slice_get-inside}
 use Rattle.plain_tables.specs.Tables.{Table}
 use Rattle.ttree.specs.Held.{height}
 use Rattle.ttree.specs.Shape.{HasShape, IsWellShaped, fib}
@@ -15,7 +16,6 @@ use Rattle.mm_catalog.specs.Seen.{database_of, table_of, rows_of}
 use Rattle.mm_catalog.specs.State.{CatalogState}
 use Rattle.mm_catalog.specs.Trees.{TellsTree}
 use Rattle.mm_catalog.proofs.Declared.{among_at}
-use Rattle.mm_catalog.proofs.Lists.{get_within}
 use Rattle.mm_catalog.proofs.Tables.{database-get}
 
 -- a table has as many rows as its relation
@@ -24,7 +24,7 @@ database-rows : (c : CatalogState) → length c.names ≡ length c.relations →
 unfolding table_of rows_of
 database-rows c named n s e =
     let within : n < length c.names = omega (arith, named, slice_get_within c.relations n s e) in
-    let name = get_within c.names n within in
+    let name = slice_get-inside c.names n within in
     ap (option_map (λ (t : Table). length t.rows)) (database-get c named n name.0 s name.1 e)
     ∙ ap (λ (rows : ℕ). Some rows) (length-map (tree_list s.by_key) _)
 

@@ -7,6 +7,8 @@ use Rattle.std.specs.FinMap.{get}
 use Rattle.std.proofs.lemmas.Bool.{and_from, and_left, and_right, eq-eqb, or_parts, true≢false}
 use Rattle.std.proofs.lemmas.List.Elements.{All-cons}
 use Rattle.std.proofs.lemmas.Option.{same_Some, slice_get-get_or, slice_get_within}
+use Rattle.common_lemmas.proofs.Places.{slice_get-inside}
+use Rattle.common_lemmas.proofs.Elements.{All-at}
 use Rattle.part_raw.specs.declared.tuple_ref.TupleRef.{TupleRef}
 use Rattle.plain_tables.proofs.SoundLemmas.{update_keeps_sound}
 use Rattle.plain_tables.specs.Databases.{Database}
@@ -34,7 +36,6 @@ use Rattle.mm_catalog.proofs.Back.{lead_back}
 use Rattle.mm_catalog.proofs.Declared.{among_at, named_at, table_at}
 use Rattle.mm_catalog.proofs.Deleting.{choice, choice_picks}
 use Rattle.mm_catalog.proofs.Elsewhere.{consistent_rewritten, database_rewritten}
-use Rattle.mm_catalog.proofs.Lists.{All-get, get_within}
 use Rattle.mm_catalog.proofs.Outlines.{keys_before}
 use Rattle.mm_catalog.proofs.Referenced.{reference_held, reference_missing, target_here}
 use Rattle.mm_catalog.proofs.RelationSets.{linked_set, row_wide, rows_set}
@@ -98,7 +99,7 @@ module _ (c : CatalogState) (ok : IsConsistent c) (n : TableNumber) (assignments
   column_of s there k a at =
       let name = named_at c ok n.0 (slice_get_within c.relations n.0 s there) in
       let is = table_at c ok n.0 name.0 s meant.0 name.1 there meant.1 in
-      let one = All-get (IsAssignable (database_of c) meant.0) assignments k a meant.2.each at in
+      let one = All-at (IsAssignable (database_of c) meant.0) assignments k a meant.2.each at in
       (one.behind_key, (one.of_column.0, ap (λ (t : Table). slice_get t.columns a.column.0) (sym is) ∙ one.of_column.1))
 
   -- what a call on the relation asks
@@ -157,7 +158,7 @@ module _ (c : CatalogState) (ok : IsConsistent c) (n : TableNumber) (assignments
     kept = (among_at c ok n.0 b there).kept
 
     kept_now : IsKept a
-    kept_now = All-get IsKept relations n.0 a u.kept u.rewritten.here
+    kept_now = All-at IsKept relations n.0 a u.kept u.rewritten.here
 
     -- each cell is read as its value
     read_as : (k : ℕ) (x : Assignment) (s : CellSet) → slice_get assignments k ≡ Some x → slice_get u.sets k ≡ Some s → (s.0 ≡ x.column) × (cell_value keys s.0.0 s.1 ≡ Some x.value)
@@ -170,7 +171,7 @@ module _ (c : CatalogState) (ok : IsConsistent c) (n : TableNumber) (assignments
 
     linked_sets : All (λ s. IsLinkOrNull (target_at b.targets s.0.0) s.1) u.sets
     linked_sets k d l =
-        let x = get_within assignments k (omega (arith, l, u.cells.count)) in
+        let x = slice_get-inside assignments k (omega (arith, l, u.cells.count)) in
         let is = u.cells.each k x.0 (get_or u.sets k d) x.1 (slice_get-get_or u.sets k d l) in
         subst (λ column. IsLinkOrNull (target_at b.targets column.0) (get_or u.sets k d).1) (sym is.0) is.1.linked
 
@@ -183,7 +184,7 @@ module _ (c : CatalogState) (ok : IsConsistent c) (n : TableNumber) (assignments
         all_held (database_of c) (λ x. option_and_then (λ col. reference_of col x.value) (slice_get b.schema.columns x.column.0)) assignments
         (λ k x ref at e.
         let column = (column_of b there k x at).1 in
-        let s = get_within u.sets k (omega (arith, slice_get_within assignments k x at, u.cells.count)) in
+        let s = slice_get-inside u.sets k (omega (arith, slice_get_within assignments k x at, u.cells.count)) in
         let cell = (u.cells.each k x s.0 at s.1).1 in
         reference_held c ok n.0 b there x.column.0 column.0 column.1 x.value s.0.1
         (subst (λ t. IsCellOf front t x.value s.0.1) (target_here c ok n.0 b there x.column.0 column.0 column.1 x.value) cell)

@@ -13,6 +13,9 @@ use Rattle.std.proofs.lemmas.List.Elements.{All-cons, All-contains, All-take}
 use Rattle.std.proofs.lemmas.List.FromFn.{length-range_with_len}
 use Rattle.std.proofs.lemmas.Map.Made.{IsDistinct-from_AllPairs, is_member-Decides, length-le_from_is_member}
 use Rattle.std.proofs.lemmas.Option.{get_or_from_slice_get, none-some, same_Some, slice_get-get_or, slice_get_within}
+use Rattle.common_lemmas.proofs.Places.{slice_get-inside}
+use Rattle.common_lemmas.proofs.Options.{and_then-Some, option_map_some}
+use Rattle.common_lemmas.proofs.Elements.{All-from_map, All-at}
 use Rattle.part_raw.proofs.Tuples.{held_tuple}
 use Rattle.part_raw.specs.declared.tuple_ref.TupleRef.{TupleRef}
 use Rattle.plain_tables.specs.declared.resolved.Assignment.{Assignment}
@@ -38,17 +41,13 @@ use Rattle.mm_catalog.proofs.Elsewhere.{counted_from, current_beside_old, kept_f
 use Rattle.mm_catalog.proofs.Counted as later
 use Rattle.mm_catalog.proofs.Counted.{AreRecounted-trans, all_held_still}
 use Rattle.mm_catalog.proofs.LinksHeld.{Contains-range}
-use Rattle.mm_catalog.proofs.Lists.{All-get, get-take, get_within}
+use Rattle.mm_catalog.proofs.Lists.{get-take}
 use Rattle.mm_catalog.proofs.RelationSets.{keys_set, links_set, row_wide, row_was}
 use Rattle.mm_catalog.proofs.Removing.{link_held_at, links_within}
 use Rattle.mm_catalog.proofs.RowLinks.{All-filter_map, All-flat_map}
 use Rattle.mm_catalog.proofs.RowSets.{AreApart}
 
 -- ---- lists
-
-pub All-unmapped : {A B : Type 0} (P : B → Type 0) (f : A → B) (xs : List A) → All P (map f xs) → All (λ x. P (f x)) xs
-All-unmapped P f [] h = λ k d l. absurd (omega (arith, l))
-All-unmapped {A} P f (x ∷ xs) h = All-cons (λ (y : A). P (f y)) x xs (h 0 (f x) (omega arith)) (All-unmapped P f xs (λ j e m. h (suc j) e (omega arith)))
 
 get-mapped : {A B : Type 0} (f : A → B) (xs : List A) (k : ℕ) (d : B) → k < length (map f xs) → (x : A) × (slice_get xs k ≡ Some x) × (get_or (map f xs) k d ≡ f x)
 get-mapped f [] k d l = absurd (omega (arith, l))
@@ -73,14 +72,6 @@ pub cell_read : (relations : List RelationState) (targets : List (Option ℕ)) (
 cell_read relations targets column (Held value) = refl
 cell_read relations targets column (Named to) = refl
 
-beneath : {A B : Type 0} (f : A → Option B) (o : Option A) → IsSome (option_and_then f o) → (x : A) × (o ≡ Some x) × IsSome (f x)
-beneath f None h = absurd (cc)
-beneath f (Some x) h = (x, refl, h)
-
-beneath_map : {A B : Type 0} (f : A → B) (o : Option A) (y : B) → option_map f o ≡ Some y → (x : A) × (o ≡ Some x) × (f x ≡ y)
-beneath_map f None y e = absurd (none-some y e)
-beneath_map f (Some x) y e = (x, refl, same_Some (f x) y e)
-
 then_some : {A B : Type 0} (f : A → Option B) (o : Option A) (y : B) → option_and_then f o ≡ Some y → (x : A) × (o ≡ Some x) × (f x ≡ Some y)
 then_some f None y e = absurd (none-some y e)
 then_some f (Some x) y e = (x, refl, e)
@@ -90,8 +81,8 @@ named_by : (relations : List RelationState) (target : Option ℕ) (cell : Cell) 
 named_by relations target (Held value) table to e f read = absurd (none-some to f)
 named_by relations target (Named q) table to e f read =
     let same : q ≡ to = same_Some q to f in
-    let found = beneath (λ (s : RelationState). key_at s.rows q) (target_in relations target) read in
-    let row = beneath (λ (t : Row). Some t.key) (get found.0.rows q) found.2 in
+    let found = and_then-Some (λ (s : RelationState). key_at s.rows q) (target_in relations target) read in
+    let row = and_then-Some (λ (t : Row). Some t.key) (get found.0.rows q) found.2 in
     (found.0, sym (ap (target_in relations) e) ∙ found.1, subst (λ p. IsSome (get found.0.rows p)) same (ap is_some row.1))
 
 -- ---- the relations that an update is among
@@ -121,14 +112,14 @@ module _ (k : CatalogState) (ok : IsConsistent k) (n : ℕ) (b : RelationState) 
   module _ (assignments : List Assignment) (to : AreToColumns (length b.targets) assignments) (sets : List CellSet) (cells : AreSetBy front b.targets assignments sets) where
     set_from : (i : ℕ) (d : CellSet) → i < length sets → (a : Assignment) × (slice_get assignments i ≡ Some a) × ((get_or sets i d).0 ≡ a.column) × IsSome (read_in front (target_at b.targets a.column.0) (get_or sets i d).1)
     set_from i d l =
-        let a = get_within assignments i (omega (arith, l, cells.count)) in
+        let a = slice_get-inside assignments i (omega (arith, l, cells.count)) in
         let is = cells.each i a.0 (get_or sets i d) a.1 (slice_get-get_or sets i d l) in
         (a.0, a.1, is.0, ap is_some is.1.read)
 
     pub sets_apart : AreApart (length b.targets) sets
     sets_apart = record {
-      behind = λ i d l. let a = set_from i d l in subst (λ c. 0 < c.0) (sym a.2) (All-get (λ (x : Assignment). 0 < x.column.0) assignments i a.0 to.behind_key a.1);
-      within = λ i d l. let a = set_from i d l in subst (λ c. c.0 < length b.targets) (sym a.2) (All-get (λ (x : Assignment). x.column.0 < length b.targets) assignments i a.0 to.within a.1);
+      behind = λ i d l. let a = set_from i d l in subst (λ c. 0 < c.0) (sym a.2) (All-at (λ (x : Assignment). 0 < x.column.0) assignments i a.0 to.behind_key a.1);
+      within = λ i d l. let a = set_from i d l in subst (λ c. c.0 < length b.targets) (sym a.2) (All-at (λ (x : Assignment). x.column.0 < length b.targets) assignments i a.0 to.within a.1);
       apart = λ i j d below l e.
           let p = set_from i d (omega (arith, below, l)) in
           let q = set_from j d l in
@@ -154,7 +145,7 @@ module _ (k : CatalogState) (ok : IsConsistent k) (n : ℕ) (b : RelationState) 
         All-filter_map (IsHeldIn front) (set_link b.targets) sets
         (λ s link among e.
         let found = then_some (λ (table : ℕ). option_map (λ (q : TupleRef). (table, q)) (link_of s.1)) (target_at b.targets s.0.0) link e in
-        let q = beneath_map (λ (p : TupleRef). (found.0, p)) (link_of s.1) link found.2 in
+        let q = option_map_some (λ (p : TupleRef). (found.0, p)) (link_of s.1) link found.2 in
         let read = All-contains (λ x. IsSome (cell_value (linked_keys b.targets front) x.0.0 x.1)) sets s sets_readable among in
         subst (IsHeldIn front) q.2 (named_by front (target_at b.targets s.0.0) s.1 found.0 q.0 found.1 q.1 (subst IsSome (cell_read front b.targets s.0.0 s.1) read)))
 
@@ -169,7 +160,7 @@ module _ (k : CatalogState) (ok : IsConsistent k) (n : ℕ) (b : RelationState) 
         (ap (λ (s : CellSet). s.0.0) (get_or_from_slice_get sets i p.0 p.0 p.1) ∙ sym p.2 ∙ e ∙ q.2 ∙ ap (λ (s : CellSet). s.0.0) (sym (get_or_from_slice_get sets j q.0 p.0 q.1))))
         (λ i d l.
         let p = get-mapped (λ (s : CellSet). s.0.0) sets i d l in
-        subst (λ m. m < length b.targets) (sym p.2) (All-get (λ (s : CellSet). s.0.0 < length b.targets) sets i p.0 sets_apart.within p.1)) in
+        subst (λ m. m < length b.targets) (sym p.2) (All-at (λ (s : CellSet). s.0.0 < length b.targets) sets i p.0 sets_apart.within p.1)) in
         omega (arith, few, few_columns k ok n b there, length-map sets (λ (s : CellSet). s.0.0))
 
     module _ (rs : List TupleRef) (held : All (λ r. IsSome (get b.rows r)) rs) (once : AllPairs (λ q r. q ≢ r) rs) where
@@ -218,7 +209,7 @@ module _ (k : CatalogState) (ok : IsConsistent k) (n : ℕ) (b : RelationState) 
           -- the rows that lose links have them
           pub gone_named : All (λ l. IsHeldIn raised (linked_of l)) gone
           gone_named =
-              All-unmapped (IsHeldIn raised) linked_of gone
+              All-from_map (IsHeldIn raised) linked_of gone
               (all_held_still front raised (map linked_of gone) up.recounted (subst (All (IsHeldIn front)) (sym listed) gone_held))
 
           pub gone_enough : HaveAtLeast raised (naming (map linked_of gone))

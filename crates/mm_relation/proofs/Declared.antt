@@ -7,6 +7,7 @@ use Rattle.std.proofs.lemmas.List.Elements.{filter-append, All-push}
 use Rattle.std.specs.FinMap.{get, len, empty, len-empty}
 use Rattle.std.specs.List.{list_any}
 use Rattle.std.specs.Option.{option_and_then}
+use Rattle.common_lemmas.proofs.Tests.{and_true, and_false, list_any-map}
 use Rattle.part_raw.proofs.Tuples.{held_at_first, held_tuple}
 use Rattle.part_raw.specs.TupleRefs.{ref_cmp}
 use Rattle.part_raw.specs.declared.tuple_ref.TupleRef.{TupleRef}
@@ -24,7 +25,6 @@ use Rattle.mm_relation.specs.Indexes.{Indexes, SeenIndex, seen, tree_in, entries
 use Rattle.mm_relation.specs.Declaring.{declaration, IsAdded, IsDeclaredOf, without_first, is_index, without_of}
 use Rattle.mm_relation.specs.Changes.{has_declared_on}
 use Rattle.mm_relation.specs.Seen.{state}
-use Rattle.mm_relation.proofs.Loops.{list_any-map}
 use Rattle.mm_relation.proofs.Dropping.{without_first-map, All-without_first, filter-without_first, filter-without_other}
 use Rattle.mm_relation.proofs.Keeping.{tree_columns, hash_columns, trees_served, hashes_served}
 
@@ -170,15 +170,6 @@ module _ (schema : Schema) (targets : List (Option ℕ)) (declared : List Declar
     trees = current.trees;
     hashes = All-without_first (HashServes keys rows (tree_list tree)) (λ (h : ℕ × List (ℕ × TupleRef)). h.0 == column.0) (hashes_of (map seen all)) current.hashes;
   }
-
--- whether one that passes two tests is there
-and_true : (b : Bool) → (b && true) ≡ b
-and_true true = refl
-and_true false = refl
-
-and_false : (b : Bool) → (b && false) ≡ false
-and_false true = refl
-and_false false = refl
 
 any_of : {A B : Type 0} (f : A → B) (at : B → Bool) (kind : A → Bool) (xs : List A) → list_any (λ x. at (f x) && kind x) xs ≡ list_any at (map f (filter kind xs))
 any_of f at kind [] = refl

@@ -4,11 +4,11 @@ use Rattle.std.specs.List.{All, Contains}
 use Rattle.std.specs.Option.{option_and_then}
 use Rattle.std.proofs.lemmas.List.Elements.{All-contains}
 use Rattle.std.specs.FinMap.{get, insert, remove, len}
+use Rattle.common_lemmas.proofs.Elements.{Contains-from_map, Contains-from_filter, Contains-filter, Contains-map}
 use Rattle.part_raw.specs.declared.tuple_ref.TupleRef.{TupleRef}
 use Rattle.part_raw.specs.Store.{Tuples}
 use Rattle.part_raw.proofs.Tuples.{get-insert_same, get-insert_other, get-remove_other, held_tuple, len-insert_fresh}
 use Rattle.part_raw.proofs.Lookup.{same_or_other}
-use Rattle.mm_index.proofs.Members.{Contains-from_map, Contains-from_filter, Contains-filter, Contains-map}
 use Rattle.plain_tables.specs.declared.schema.Schema.{Schema}
 use Rattle.mm_relation.specs.declared.row.Row.{Row}
 use Rattle.mm_relation.specs.declared.numbers.DeclaredIndex.{DeclaredIndex}

@@ -7,10 +7,10 @@ use Rattle.std.proofs.Math.Seq.{get_or-append_seam}
 use Rattle.std.specs.FinMap.{get, len}
 use Rattle.std.specs.declared.cmp.Ordering.{Ordering}
 use Rattle.std.specs.declared.cmp.Ordering.TheVariants.{Less, Equal}
+use Rattle.common_lemmas.proofs.Elements.{Contains-cons_cases}
 use Rattle.part_raw.specs.declared.tuple_ref.TupleRef.{TupleRef}
 use Rattle.part_raw.specs.Store.{Tuples}
 use Rattle.mm_index.proofs.Bags.{IsSameBag-sym, IsSameBag-from_same, IsSameBag-push}
-use Rattle.mm_index.proofs.Members.{Contains-cons_cases}
 use Rattle.mm_index.proofs.Placed.{cmp_itself}
 use Rattle.mm_relation.specs.declared.row.Row.{Row}
 use Rattle.mm_relation.specs.declared.index.Index.{Index}

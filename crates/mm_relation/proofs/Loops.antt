@@ -6,6 +6,7 @@ use Rattle.std.specs.List.{All, refill, list_any}
 use Rattle.std.proofs.Common.{drop}
 use Rattle.std.proofs.lemmas.List.{get_or_default}
 use Rattle.std.proofs.lemmas.Bool.{cases_order}
+use Rattle.common_lemmas.proofs.Tests.{list_any-map}
 
 module _ {A : Type 0} (P : A → A → Type 0) (old now : List A) (i : ℕ) (x : A) (inside : i < length now) (left : (k : ℕ) (d : A) → i ≤ k → get_or now k d ≡ get_or old k d) where
   pub changed_so_far : ((k : ℕ) (d : A) → k < i → P (get_or old k d) (get_or now k d)) → ((d : A) → P (get_or old i d) x) → (k : ℕ) (d : A) → k < i + 1 → P (get_or old k d) (get_or (set now i x) k d)
@@ -39,8 +40,3 @@ same_mapped f (x ∷ xs) (y ∷ ys) n each =
 -- a list that was lent whole ends as what was written
 pub refilled : {A : Type 0} (xs ws : List A) → length ws ≡ length xs → refill (length xs) xs ws ≡ ws
 refilled xs ws same = rw (← same) (take-append_seam ws (drop (length ws) xs))
-
--- a test passed through a map
-pub list_any-map : {A B : Type 0} (p : B → Bool) (f : A → B) (xs : List A) → list_any p (map f xs) ≡ list_any (λ x. p (f x)) xs
-list_any-map p f [] = refl
-list_any-map p f (x ∷ xs) = ap (λ b. p (f x) || b) (list_any-map p f xs)

@@ -7,6 +7,7 @@ use Rattle.std.specs.declared.cmp.Ordering.{Ordering}
 use Rattle.std.specs.declared.cmp.Ordering.TheVariants.{Less, Equal, Greater}
 use Rattle.std.specs.Cmp.{IsTotalOrder}
 use Rattle.std.specs.Cmp.Lexicographic.{options_total}
+use Rattle.common_lemmas.proofs.Orders.{ordering_index_within, then_first}
 use Rattle.part_raw.specs.declared.tuple_ref.TupleRef.{TupleRef}
 use Rattle.part_raw.specs.Store.{Tuples}
 use Rattle.mm_index.specs.Order.{IsRising}
@@ -17,11 +18,6 @@ use Rattle.plain_tables.specs.Values.{value_cmp, value_cmp_total}
 use Rattle.mm_relation.specs.declared.row.Row.{Row}
 use Rattle.mm_relation.specs.Reading.{Keys, value_at, key_at}
 use Rattle.mm_relation.specs.Order.{column_cmp, option_exact}
-
-at_most_greater : (o : Ordering) → ordering_index o ≤ 2
-at_most_greater Less = omega arith
-at_most_greater Equal = omega arith
-at_most_greater Greater = omega arith
 
 module _ {A : Type 0} (cmp : A → A → Ordering) (total : IsTotalOrder cmp) where
   equal_back : (x y : A) → cmp x y ≡ Equal → cmp y x ≡ Equal
@@ -38,13 +34,8 @@ module _ {A : Type 0} (cmp : A → A → Ordering) (total : IsTotalOrder cmp) wh
         let back : cmp s x ≡ Greater = sym (total.congr y s x e) ∙ greater_back x y l in
         let below : cmp x s ≡ Less = total.antisymm x s ∙ ap ordering_reverse back in
         rw below (omega arith)
-    | Greater ↦ λ e. at_most_greater (cmp x s)
+    | Greater ↦ λ e. ordering_index_within (cmp x s)
   ] refl
-
-first_of_then : (o p : Ordering) → ordering_then o p ≡ Less → (o ≡ Less) ⊎ (o ≡ Equal)
-first_of_then Less p e = inl refl
-first_of_then Equal p e = inr refl
-first_of_then Greater p e = cc
 
 pub NeverFalls-value : (keys : Keys) (column : ℕ) (tuples : Tuples Row) (sought : Option Value) (xs : List TupleRef) → IsRising (column_cmp keys column tuples) xs → NeverFalls (λ r. option_cmp value_cmp (value_at keys column tuples r) sought) xs
 NeverFalls-value keys column tuples sought xs rising =
@@ -53,7 +44,7 @@ NeverFalls-value keys column tuples sought xs rising =
     let key : TupleRef → Option Value = key_at tuples in
     NeverFalls-from_rising (column_cmp keys column tuples) (λ r. option_cmp value_cmp (value r) sought) xs
     (λ p q _ _ h.
-    elim (first_of_then (option_cmp value_cmp (value p) (value q)) (option_cmp value_cmp (key p) (key q)) h) [
+    elim (then_first (option_cmp value_cmp (value p) (value q)) (option_cmp value_cmp (key p) (key q)) h) [
       | inl below ↦ rises_beside (option_cmp value_cmp) total (value p) (value q) sought below
       | inr same ↦ rw (total.congr (value p) (value q) sought same) (omega arith)
     ])

@@ -6,11 +6,11 @@ use Rattle.std.proofs.lemmas.List.{get_or-map, length-map}
 use Rattle.std.proofs.lemmas.Bool.{eqb-true, eq-eqb, and_parts, and_from}
 use Rattle.std.specs.Bool.{Decides}
 use Rattle.std.proofs.lemmas.List.Sums.{sum_by-cons}
+use Rattle.common_lemmas.proofs.Elements.{Contains-map, Contains-cons}
 use Rattle.part_raw.specs.declared.tuple_ref.TupleRef.{TupleRef}
 use Rattle.part_raw.specs.Store.{Tuples}
 use Rattle.mm_index.specs.Bag.{IsSameBag}
 use Rattle.mm_index.proofs.Bags.{IsSameBag-sym, IsSameBag-trans, IsSameBag-cons, IsSameBag-from_same, Contains-same_bag, length-same_bag}
-use Rattle.mm_index.proofs.Members.{Contains-map, Contains-cons}
 use Rattle.mm_index.proofs.Refs.{same_ref, Decides-same_ref, Contains-same_refs}
 use Rattle.mm_index.proofs.Listed.{IsRising-agree, IsSameBag-insert_by, IsSameBag-remove_by}
 use Rattle.mm_relation.specs.declared.row.Row.{Row}

@@ -12,13 +12,14 @@ use Rattle.std.proofs.lemmas.List.{length-set, length-take-le, get_or_default, g
 use Rattle.std.proofs.lemmas.List.Elements.{Contains-append_left, Contains-append_right, Contains-append_cases}
 use Rattle.std.proofs.lemmas.Map.Made.{length-le_from_is_member, is_member-Decides, IsDistinct-from_AllPairs}
 use Rattle.std.proofs.lemmas.Option.{slice_get_within, slice_get-get_or}
+use Rattle.common_lemmas.proofs.Elements.{Contains-cons, Contains-cons_cases}
+use Rattle.common_lemmas.proofs.Options.{and_then-Some}
 use Rattle.part_raw.specs.declared.tuple_ref.TupleRef.{TupleRef}
 use Rattle.part_raw.specs.Store.{Tuples}
 use Rattle.part_raw.specs.TupleRefs.{ref_cmp}
 use Rattle.part_raw.proofs.Refs.{ref_cmp_total}
 use Rattle.part_raw.proofs.Tuples.{same_ref_self, same_ref_true, get-insert_same, get-insert_other}
 use Rattle.part_raw.proofs.Lookup.{same_or_other}
-use Rattle.mm_index.proofs.Members.{Contains-cons, Contains-cons_cases}
 use Rattle.plain_tables.specs.declared.numbers.ColumnNumber.{ColumnNumber}
 use Rattle.mm_relation.specs.declared.row.Row.{Row}
 use Rattle.mm_relation.specs.declared.row.Cell.{Cell}
@@ -73,11 +74,6 @@ pub with_cells-key : (sets : List (ColumnNumber × Cell)) (t : Row) → (with_ce
 with_cells-key [] t = refl
 with_cells-key (s ∷ rest) t = with_cells-key rest (record t { cells = slice_set t.cells (s.0.0 - 1) s.1 })
 
--- what is there beneath a step that may lead nowhere
-beneath : {A B : Type 0} (f : A → Option B) (o : Option A) → IsSome (option_and_then f o) → (x : A) × (o ≡ Some x) × IsSome (f x)
-beneath f None h = absurd (cc)
-beneath f (Some x) h = (x, refl, h)
-
 not_first : (c : ℕ) → (c == 0) ≡ false → 0 < c
 not_first zero g = cc
 not_first (suc c) g = omega arith
@@ -86,7 +82,7 @@ module _ (keys : Keys) (c : ℕ) where
   -- the value of a cell that was set, or of one beside it
   cell_with : (cells : List Cell) (s : ColumnNumber × Cell) → 0 < c → 0 < s.0.0 → IsSome (cell_value keys s.0.0 s.1) → IsSome (option_and_then (cell_value keys c) (slice_get cells (c - 1))) → IsSome (option_and_then (cell_value keys c) (slice_get (slice_set cells (s.0.0 - 1) s.1) (c - 1)))
   cell_with cells s inside beside readable before =
-      let there = beneath (cell_value keys c) (slice_get cells (c - 1)) before in
+      let there = and_then-Some (cell_value keys c) (slice_get cells (c - 1)) before in
       let within : c - 1 < length cells = slice_get_within cells (c - 1) there.0 there.1 in
       let kept : length (slice_set cells (s.0.0 - 1) s.1) ≡ length cells = length-set cells (s.0.0 - 1) s.1 in
       let now : slice_get (slice_set cells (s.0.0 - 1) s.1) (c - 1) ≡ Some (get_or (slice_set cells (s.0.0 - 1) s.1) (c - 1) s.1) = slice_get-get_or (slice_set cells (s.0.0 - 1) s.1) (c - 1) s.1 (omega arith) in
@@ -119,7 +115,7 @@ pub column_there : (keys : Keys) (rows : Tuples Row) (r : TupleRef) (t : Row) �
 column_there keys rows r t found c beside read =
     let here : IsSome (row_value keys c t) = subst (λ o. IsSome (option_and_then (row_value keys c) o)) found read in
     let not_key : (c == 0) ≡ false = later c beside in
-    let there = beneath (cell_value keys c) (slice_get t.cells (c - 1)) (subst (λ b. IsSome (cond b (Some t.key) (option_and_then (cell_value keys c) (slice_get t.cells (c - 1))))) not_key here) in
+    let there = and_then-Some (cell_value keys c) (slice_get t.cells (c - 1)) (subst (λ b. IsSome (cond b (Some t.key) (option_and_then (cell_value keys c) (slice_get t.cells (c - 1))))) not_key here) in
     let within : c - 1 < length t.cells = slice_get_within t.cells (c - 1) there.0 there.1 in
     omega arith
   where

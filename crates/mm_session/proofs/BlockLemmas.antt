@@ -4,7 +4,7 @@ use Rattle.std.specs.List.{All}
 use Rattle.std.specs.Option.{option_map}
 use Rattle.std.proofs.lemmas.List.Elements.{All-nil, All-cons}
 use Rattle.std.proofs.lemmas.Option.{none-some}
-use Rattle.plain_tables.proofs.ListLemmas.{option_map_some}
+use Rattle.common_lemmas.proofs.Options.{option_map_some}
 use Rattle.plain_tables.specs.CsvReading.{all_of}
 
 -- where none is missing, each is there

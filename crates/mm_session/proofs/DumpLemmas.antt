@@ -10,9 +10,9 @@ use Rattle.std.proofs.lemmas.List.{flat_map_more, length-append, map_push}
 use Rattle.std.proofs.lemmas.Grind.{flat_map-append}
 use Rattle.std.proofs.lemmas.List.FromFn.{length-map-range_with_len}
 use Rattle.std.proofs.lemmas.List.Elements.{All-head}
+use Rattle.common_lemmas.proofs.Elements.{All-append_parts}
 use Rattle.part_raw.proofs.Tuples.{held_tuple}
 use Rattle.part_raw.specs.declared.tuple_ref.TupleRef.{TupleRef}
-use Rattle.plain_tables.proofs.ListLemmas.{All-append_parts}
 use Rattle.plain_tables.specs.Csv.{record_text, row_record}
 use Rattle.plain_tables.specs.Tables.{Table, Row}
 use Rattle.mm_relation.specs.State.{RelationState, linked_keys}

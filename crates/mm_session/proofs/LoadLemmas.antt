@@ -4,7 +4,8 @@ use Rattle.std.specs.Prelude.{position, slice_get, Result, Err}
 use Rattle.std.specs.List.{All, position_or_len}
 use Rattle.std.proofs.lemmas.Option.{same_Some}
 use Rattle.std.specs.Option.{option_map, option_map_or}
-use Rattle.plain_tables.proofs.ListLemmas.{option_map_some}
+use Rattle.common_lemmas.proofs.Places.{slice_get-inside}
+use Rattle.common_lemmas.proofs.Options.{option_map_some}
 use Rattle.plain_tables.specs.CsvReading.{Record, Reading, BadHeader, records_reading}
 use Rattle.plain_tables.specs.Databases.{Database, is_named}
 use Rattle.plain_tables.specs.Resolving.{block_column, block_columns, load_of, on_numbered, resolved_of, table_reading}
@@ -22,7 +23,6 @@ use Rattle.mm_catalog.specs.Consistent.{IsConsistent}
 use Rattle.mm_catalog.specs.Resolve.{table_number}
 use Rattle.mm_catalog.specs.Seen.{database_of}
 use Rattle.mm_catalog.specs.State.{CatalogState}
-use Rattle.mm_catalog.proofs.Lists.{get_within}
 use Rattle.mm_catalog.proofs.ResolveLists.{position_or_len-position, position-within, found_at, none_found}
 use Rattle.mm_session.proofs.BlockLemmas.{each_there}
 
@@ -39,7 +39,7 @@ module _ (tables : Database) (name : List ℕ) where
       → (t : Table) × (slice_get tables table.0 ≡ Some t) × (on_numbered name tables means ≡ means table t)
   numbered means table found =
       let (n, there, is) = option_map_some table_number (position (is_named name) tables) table found in
-      let (t, at) = get_within tables n (position-within (is_named name) tables n there) in (
+      let (t, at) = slice_get-inside tables n (position-within (is_named name) tables n there) in (
         t,
         subst (λ (u : TableNumber). slice_get tables u.0 ≡ Some t) is at,
         ap (λ o. option_map_or (means (record { 0 = position_or_len (is_named name) tables })) o (Err NoSuchTable)) (found_at (is_named name) tables n there ∙ at)
@@ -73,7 +73,7 @@ module _ (tables : Database) (name : List ℕ) where
 pub columns_typed : (c : CatalogState) → IsConsistent c → (n : ℕ) (columns : List Column) → n < length (database_of c)
     → option_map (λ (t : Table). t.columns) (slice_get (database_of c) n) ≡ Some columns → All (λ column. IsSome (block_column (database_of c) column)) columns
 columns_typed c ok n columns within told =
-    let (t, at) = get_within (database_of c) n within in
+    let (t, at) = slice_get-inside (database_of c) n within in
     let (blocks, all) = table-typed c.limits (database_of c) n t ok.sound at in
     let same : t.columns ≡ columns = same_Some t.columns columns (sym (ap (option_map (λ (u : Table). u.columns)) at) ∙ told) in
     subst (All (λ column. IsSome (block_column (database_of c) column))) same (each_there (block_column (database_of c)) t.columns blocks all)

@@ -20,7 +20,7 @@ use Rattle.part_raw.proofs.Tuples.{same_ref_self, same_ref_true}
 use Rattle.std.specs.Cmp.{eq_by_cmp_equiv}
 use Rattle.std.specs.Ordering.{eq_by_cmp}
 use Rattle.std.proofs.lemmas.List.Concat.{flat_map-cons}
-use Rattle.mm_index.proofs.Members.{Contains-filter, Contains-from_filter}
+use Rattle.common_lemmas.proofs.Elements.{Contains-filter, Contains-from_filter}
 use Rattle.plain_tables.specs.Tables.{Table}
 use Rattle.plain_tables.specs.Doing.{passes_all}
 use Rattle.plain_tables.specs.ResolvedLaws.{AreTests}

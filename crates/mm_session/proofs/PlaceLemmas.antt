@@ -7,6 +7,7 @@ use Rattle.std.proofs.lemmas.Option.{none-some}
 use Rattle.std.specs.List.{All, range_with_len, enumerate_from, flat_map, cons_option}
 use Rattle.std.specs.Option.{option_and_then, option_map, option_map_or}
 use Rattle.std.specs.Prelude.{slice_get}
+use Rattle.common_lemmas.proofs.Places.{slice_get-inside}
 use Rattle.plain_tables.specs.Tables.{Table}
 use Rattle.plain_tables.specs.Queries.{column_number, JoinedColumn, source_columns, full_name}
 use Rattle.plain_tables.specs.declared.numbers.Place.{Place}
@@ -16,7 +17,6 @@ use Rattle.mm_relation.specs.State.{RelationState}
 use Rattle.mm_catalog.specs.State.{CatalogState}
 use Rattle.mm_catalog.specs.Seen.{database_of, table_of}
 use Rattle.mm_catalog.specs.Consistent.{IsConsistent}
-use Rattle.mm_catalog.proofs.Lists.{get_within}
 use Rattle.mm_catalog.proofs.Tables.{database-length, database-get}
 use Rattle.temp_list.specs.Lists.{relation_of}
 use Rattle.mm_session.specs.Members.{tables_at}
@@ -52,7 +52,7 @@ places_behind c first sources = map (λ (j : JoinedColumn). j.place) (flat_map s
 module _ (c : CatalogState) (ok : IsConsistent c) where
   -- the table of a number that is there
   pub table_there : (n : ℕ) → n < length c.relations → (table : Table) × (slice_get (database_of c) n ≡ Some table)
-  table_there n within = get_within (database_of c) n (omega (arith, within, database-length c ok.named))
+  table_there n within = slice_get-inside (database_of c) n (omega (arith, within, database-length c ok.named))
 
   -- the tables of sources, one by one
   pub tables_get : (sources : List ℕ) (k : ℕ) → All (λ n. n < length c.relations) sources

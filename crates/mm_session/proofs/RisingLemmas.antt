@@ -8,7 +8,9 @@ use Rattle.std.specs.Ordering.{is_lt}
 use Rattle.std.specs.declared.cmp.Ordering.TheVariants.{Less}
 use Rattle.std.proofs.lemmas.List.Elements.{All-contains}
 use Rattle.std.proofs.lemmas.List.Sorted.{sorted_far, ranks_by}
-use Rattle.plain_tables.proofs.ListLemmas.{AllPairs-head, AllPairs-tail, Contains-cases, Contains-head}
+use Rattle.common_lemmas.proofs.Elements.{Contains-head}
+use Rattle.common_lemmas.proofs.Pairs.{AllPairs-head, AllPairs-tail}
+use Rattle.plain_tables.proofs.ListLemmas.{Contains-cases}
 use Rattle.mm_index.specs.Bag.{IsSameBag}
 use Rattle.mm_index.specs.Order.{IsRising}
 use Rattle.mm_index.proofs.Bags.{IsSameBag-sym, Contains-same_bag, length-same_bag}

@@ -9,6 +9,8 @@ use Rattle.std.specs.List.{All, Contains, flat_map, filter_map, cons_option, enu
 use Rattle.std.specs.List.Sorted.{IsSorted}
 use Rattle.std.specs.Option.{option_and_then}
 use Rattle.std.specs.Prelude.{slice_get}
+use Rattle.common_lemmas.proofs.Places.{slice_get-inside}
+use Rattle.common_lemmas.proofs.Elements.{All-from_map, Contains-map, Contains-from_map}
 use Rattle.part_raw.specs.declared.tuple_ref.TupleRef.{TupleRef}
 use Rattle.plain_tables.specs.Tables.{Table}
 use Rattle.plain_tables.specs.Queries.{JoinedColumn, source_columns, joined_columns}
@@ -29,13 +31,11 @@ use Rattle.plain_tables.proofs.HeadingLemmas.{IsMember, members_fit}
 use Rattle.mm_index.specs.Bag.{IsSameBag}
 use Rattle.mm_index.specs.Order.{IsRising}
 use Rattle.mm_index.proofs.Bags.{IsSameBag-sym, IsSameBag-trans, Contains-same_bag}
-use Rattle.mm_index.proofs.Members.{Contains-map, Contains-from_map}
 use Rattle.mm_index.proofs.Refs.{same_ref, Decides-same_ref}
 use Rattle.mm_catalog.specs.State.{CatalogState}
 use Rattle.mm_catalog.specs.Seen.{database_of}
 use Rattle.mm_catalog.specs.Consistent.{IsConsistent}
 use Rattle.mm_catalog.proofs.Declared.{there_at}
-use Rattle.mm_catalog.proofs.Lists.{get_within}
 use Rattle.mm_catalog.proofs.References.{some_columns}
 use Rattle.temp_list.specs.Lists.{ListState, IsOver, IsRowOver, HasPlace, value_of, keys_cmp}
 use Rattle.temp_list.proofs.SortLemmas.{keys_total}
@@ -45,10 +45,6 @@ use Rattle.mm_session.proofs.MemberLemmas.{map_map, map_same, value_same, width_
 use Rattle.mm_session.proofs.PlaceLemmas.{tables_get}
 use Rattle.mm_session.proofs.RisingLemmas.{sorted_is_rising}
 use Rattle.mm_session.proofs.ShowLemmas.{still_over, headings_shown, values_shown}
-
-pub all_back : {A B : Type 0} (P : B → Type 0) (f : A → B) (xs : List A) → All P (map f xs) → All (λ x. P (f x)) xs
-all_back P f [] all = All-nil (λ x. P (f x))
-all_back P f (x ∷ xs) all = All-cons (λ x. P (f x)) x xs (All-head P (f x) (map f xs) all) (all_back P f xs (All-tail P (f x) (map f xs) all))
 
 -- ---- the places that are shown
 
@@ -81,7 +77,7 @@ module _ (c : CatalogState) (ok : IsConsistent c) where
       found None e = absurd (none-some table (sym (ap (option_and_then (slice_get (database_of c))) e) ∙ sym (tables_get c ok sources place.source there) ∙ at))
       found (Some n) e =
           let stands : slice_get (database_of c) n ≡ Some table = sym (ap (option_and_then (slice_get (database_of c))) e) ∙ sym (tables_get c ok sources place.source there) ∙ at in
-          let s = get_within c.relations n (there_at c ok n table stands) in
+          let s = slice_get-inside c.relations n (there_at c ok n table stands) in
           let same = width_same c ok n table stands s.0 s.1 in
           (s.0, ap (option_and_then (slice_get c.relations)) e ∙ s.1, omega (arith, same, within))
 
@@ -118,7 +114,7 @@ module _ (c : CatalogState) (ok : IsConsistent c) where
       some_places : 0 < length places
       some_places =
           let first = means.0 in
-          let s = get_within c.relations source.table.0 (there_at c ok source.table.0 first.0 first.1) in
+          let s = slice_get-inside c.relations source.table.0 (there_at c ok source.table.0 first.0 first.1) in
           let same = width_same c ok source.table.0 first.0 first.1 s.0 s.1 in
           let least = some_columns c ok source.table.0 s.0 s.1 in
           let rest = filter_map (slice_get (database_of c)) (joined_numbers joins) in
@@ -138,7 +134,7 @@ module _ (c : CatalogState) (ok : IsConsistent c) where
 
       are_members : All (λ row. IsMember (database_of c) tables (member_of c list.sources row)) has.ordered
       are_members =
-          all_back (IsMember (database_of c) tables) (member_of c list.sources) has.ordered
+          All-from_map (IsMember (database_of c) tables) (member_of c list.sources) has.ordered
           (subst (All (IsMember (database_of c) tables)) (sym lead)
           (subst (λ ts. All (IsMember (database_of c) ts) members) (sym are_tables)
           (members_fit c.limits (database_of c) source joins ok.sound (means.0.0, means.0.1, means.0.2.1))))

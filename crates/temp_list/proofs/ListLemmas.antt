@@ -6,10 +6,10 @@ use Rattle.std.specs.Option.{option_and_then, option_map}
 use Rattle.std.proofs.lemmas.Option.{slice_get-map, slice_get-get_or, slice_get_within}
 use Rattle.std.proofs.lemmas.List.{length-map, map-append, take_more}
 use Rattle.std.specs.FinMap as finite
+use Rattle.common_lemmas.proofs.Elements.{All-at}
 use Rattle.part_raw.specs.declared.tuple_ref.TupleRef.{TupleRef}
 use Rattle.plain_tables.specs.declared.numbers.TableNumber.{TableNumber}
 use Rattle.plain_tables.specs.declared.numbers.Place.{Place}
-use Rattle.temp_list.proofs.ReadingLemmas.{All-get}
 use Rattle.mm_relation.proofs.KeyOrder.{some_alike}
 use Rattle.mm_relation.specs.State.{RelationState}
 use Rattle.temp_list.specs.Reading.{or_null, value_in}
@@ -33,11 +33,11 @@ place_read relations sources row place s r from at =
 
 -- a row of a list that is over relations
 pub row_over : (relations : List RelationState) (list : ListState) → IsOver relations list → (i : ℕ) (row : List TupleRef) → slice_get list.rows i ≡ Some row → IsRowOver relations list.sources row
-row_over relations list over i row at = All-get (IsRowOver relations list.sources) list.rows i row over.rows at
+row_over relations list over i row at = All-at (IsRowOver relations list.sources) list.rows i row over.rows at
 
 -- a column of a list that is over relations
 pub column_over : (relations : List RelationState) (list : ListState) → IsOver relations list → (i : ℕ) (place : Place) → slice_get list.columns i ≡ Some place → HasPlace relations list.sources place
-column_over relations list over i place at = All-get (HasPlace relations list.sources) list.columns i place over.columns at
+column_over relations list over i place at = All-at (HasPlace relations list.sources) list.columns i place over.columns at
 
 -- two elements that are read at one place are one
 pub same_at : {A : Type 0} (o : Option A) (x y : A) → o ≡ Some x → o ≡ Some y → x ≡ y

@@ -5,6 +5,7 @@ use Rattle.std.specs.List.{All}
 use Rattle.std.proofs.lemmas.Option.{get_or_from_slice_get, slice_get_within}
 use Rattle.std.specs.Option.{option_and_then}
 use Rattle.std.specs.FinMap as finite
+use Rattle.common_lemmas.proofs.Elements.{All-at}
 use Rattle.part_raw.specs.declared.tuple_ref.TupleRef.{TupleRef}
 use Rattle.plain_tables.specs.declared.value.Value.{Value}
 use Rattle.plain_tables.specs.declared.resolved.Test.{Test}
@@ -13,13 +14,9 @@ use Rattle.mm_relation.specs.Reading.{Keys, row_value}
 use Rattle.mm_relation.specs.State.{RelationState, LentRow, IsKept, IsCurrent, linked_keys}
 use Rattle.temp_list.specs.Reading.{AreSound, or_null, value_in, row_passes}
 
--- what holds of each element holds of one that is read
-pub All-get : {A : Type 0} (P : A → Type 0) (xs : List A) (i : ℕ) (x : A) → All P xs → slice_get xs i ≡ Some x → P x
-All-get P xs i x each at = subst P (get_or_from_slice_get xs i x x at) (each i x (slice_get_within xs i x at))
-
 -- a relation of sound ones
 pub sound_at : (relations : List RelationState) → AreSound relations → (n : ℕ) (s : RelationState) → slice_get relations n ≡ Some s → IsKept s × IsCurrent (linked_keys s.targets relations) s
-sound_at relations sound n s at = All-get (λ t. IsKept t × IsCurrent (linked_keys t.targets relations) t) relations n s sound.each at
+sound_at relations sound n s at = All-at (λ t. IsKept t × IsCurrent (linked_keys t.targets relations) t) relations n s sound.each at
 
 module _ (relations : List RelationState) (s : RelationState) (r : TupleRef) (row : LentRow) (there : finite.get s.rows r ≡ Some row.row) (aims : row.targets ≡ s.targets) where
   abbrev keys : Keys

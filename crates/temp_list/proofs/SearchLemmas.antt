@@ -8,6 +8,8 @@ use Rattle.std.specs.FinMap as finite
 use Rattle.std.proofs.lemmas.Bool.{cases_Bool, eqb-true, eq-eqb}
 use Rattle.std.proofs.lemmas.List.Sums.{sum_by-cons}
 use Rattle.std.proofs.lemmas.List.Elements.{All-contains, All-contains_itself, filter_agree}
+use Rattle.common_lemmas.proofs.Elements.{Contains-from_filter}
+use Rattle.common_lemmas.proofs.Orders.{is_eq-Equal, then_first}
 use Rattle.part_raw.specs.Store.{Tuples}
 use Rattle.part_raw.specs.declared.tuple_ref.TupleRef.{TupleRef}
 use Rattle.part_raw.proofs.Tuples.{held_tuple}
@@ -15,7 +17,6 @@ use Rattle.mm_index.specs.Bag.{IsSameBag, with_hash}
 use Rattle.mm_index.specs.Range.{NeverFalls, in_range}
 use Rattle.mm_index.specs.Order.{IsRising}
 use Rattle.mm_index.proofs.Bags.{IsSameBag-refl, IsSameBag-trans, IsSameBag-from_same, IsSameBag-with_hash}
-use Rattle.mm_index.proofs.Members.{Contains-from_filter}
 use Rattle.mm_index.proofs.Refs.{Contains-same_refs}
 use Rattle.mm_index.proofs.Listed.{NeverFalls-from_rising}
 use Rattle.plain_tables.specs.declared.condition.Op.{Op}
@@ -78,14 +79,9 @@ with_hash-map {A} f hash (x ∷ xs) =
       | false ↦ with_hash-map f hash xs
     ]
 
-is_eq-true : (o : Ordering) → is_eq o ≡ true → o ≡ Equal
-is_eq-true Less e = cc
-is_eq-true Equal e = refl
-is_eq-true Greater e = cc
-
 -- what equals a value is that value
 equal_one : (v w : Value) → stands op.Eq v w ≡ true → v ≡ w
-equal_one v w e = (value_cmp-exact v w).0 (is_eq-true (value_cmp v w) (range_stands op.Eq (λ f. cc) v w ∙ e))
+equal_one v w e = (value_cmp-exact v w).0 (is_eq-Equal (value_cmp v w) (range_stands op.Eq (λ f. cc) v w ∙ e))
 
 -- ---- the indexes of a relation
 
@@ -105,11 +101,6 @@ hash_found keys rows refs column (h ∷ hashes) has serve =
       | inl e ↦ rw e (subst (λ c. IsSameBag h.1 (map (λ r. (hash_at keys c rows r, r)) refs)) (eqb-true h.0 column e) (serve 0 h (omega arith)))
       | inr f ↦ rw f (hash_found keys rows refs column hashes (rw f at has) (λ k d l. serve (suc k) d (omega (arith, l))))
     ]
-
-first_of_then : (o p : Ordering) → ordering_then o p ≡ Less → (o ≡ Less) ⊎ (o ≡ Equal)
-first_of_then Less p e = inl refl
-first_of_then Equal p e = inr refl
-first_of_then Greater p e = cc
 
 some_read : (o : Option Value) → IsSome o → o ≡ Some (or_null o)
 some_read Option.None h = cc
@@ -151,7 +142,7 @@ module _ (relations : List RelationState) (s : RelationState) (column : ℕ) (ke
     rises p q hp hq less =
         let ep = has_value p (listed_held p (listed_tree p hp)) in
         let eq = has_value q (listed_held q (listed_tree q hq)) in
-        first_of_then (value_cmp (value_in relations s column p) (value_in relations s column q)) (option_cmp value_cmp (key_at s.rows p) (key_at s.rows q))
+        then_first (value_cmp (value_in relations s column p) (value_in relations s column q)) (option_cmp value_cmp (key_at s.rows p) (key_at s.rows q))
         (ap (λ o. ordering_then (option_cmp value_cmp o (Some (value_in relations s column q))) (option_cmp value_cmp (key_at s.rows p) (key_at s.rows q))) (sym ep)
         ∙ ap (λ o. ordering_then (option_cmp value_cmp (value_at keys column s.rows p) o) (option_cmp value_cmp (key_at s.rows p) (key_at s.rows q))) (sym eq) ∙ less)
 

@@ -9,6 +9,7 @@ use Rattle.std.proofs.lemmas.List.Elements.{All-contains, All-contains_itself, A
 use Rattle.std.proofs.lemmas.Bool.{cases_Bool, eqb-true}
 use Rattle.std.proofs.lemmas.List.Folds.{list_all_at}
 use Rattle.std.proofs.lemmas.Option.{slice_get_within}
+use Rattle.common_lemmas.proofs.Elements.{Contains-from_filter}
 use Rattle.part_raw.specs.declared.tuple_ref.TupleRef.{TupleRef}
 use Rattle.plain_tables.specs.declared.resolved.Test.{Test}
 use Rattle.plain_tables.specs.declared.condition.Op.{Op}
@@ -18,7 +19,6 @@ use Rattle.plan_chooser.specs.Plans.{is_equality, is_range, hash_serves}
 use Rattle.mm_relation.specs.Changes.{has_hash_on}
 use Rattle.mm_index.specs.Bag.{IsSameBag, AppendsBag}
 use Rattle.mm_index.proofs.Bags.{IsSameBag-trans, IsSameBag-from_same}
-use Rattle.mm_index.proofs.Members.{Contains-from_filter}
 use Rattle.mm_index.proofs.Refs.{Contains-same_refs}
 use Rattle.mm_relation.proofs.Serving.{map_bag}
 use Rattle.mm_relation.proofs.KeyOrder.{some_alike}

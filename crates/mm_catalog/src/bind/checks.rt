@@ -12,9 +12,9 @@ ghost use Rattle.mm_catalog.specs.ResolveChecks.{verdict, row_checks, delete_res
 ghost use Rattle.mm_catalog.specs.Select.{select_rest};
 ghost use Rattle.plain_tables.specs.Queries.{same_place};
 
+use crate::bind::joined_scope::JoinedScope;
 use crate::catalog::Catalog;
 use crate::create::referred;
-use crate::bind::joined_scope::JoinedScope;
 use plain_tables::{
     Assignment, Column, Cond, LONGEST_TEXT, Place, Refusal, Schema, Setting, Shown, Test, Text,
     Value,

@@ -7,8 +7,8 @@ ghost use Rattle.plain_tables.specs.declared.refusal.Refusal.TheVariants as refu
 ghost use Rattle.plain_tables.specs.Queries.{column_meant, sides_meant, side_name};
 ghost use Rattle.mm_catalog.specs.Seen.{database_of};
 
-use crate::catalog::Catalog;
 use crate::bind::scope::{Name, NamedColumn, Scope};
+use crate::catalog::Catalog;
 use no_memory::NoMemory;
 use plain_tables::{Join, JoinSide, Refusal, Text};
 use std::alloc::Global;

@@ -5,8 +5,8 @@ ghost use Rattle.plain_tables.specs.declared.command.Command.TheVariants as comm
 ghost use Rattle.plain_tables.specs.Resolving.{resolved_of};
 ghost use Rattle.mm_catalog.specs.Seen.{database_of};
 
-use crate::catalog::Catalog;
 use crate::bind::checks::repeats_setting;
+use crate::catalog::Catalog;
 use plain_tables::{
     Command, Cond, IndexKind, Items, Join, Refusal, Resolved, Schema, Sequence, Setting, Text,
     Value,

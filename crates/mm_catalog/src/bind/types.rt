@@ -11,10 +11,10 @@ ghost use Rattle.mm_catalog.specs.ResolveChecks.{mistypes_at, is_mistyped_test};
 ghost use Rattle.mm_catalog.specs.Resolve.{columns_of_all};
 ghost use Rattle.mm_catalog.specs.Select.{sides_differ};
 
-use crate::catalog::Catalog;
-use crate::create::referred;
 use crate::bind::joined_scope::{JoinedScope, Sides};
 use crate::bind::scope::Name;
+use crate::catalog::Catalog;
+use crate::create::referred;
 use plain_tables::{
     Assignment, BaseKind, ColKind, Column, ColumnNumber, Cond, Op, Test, Text, Value,
 };

@@ -4,7 +4,7 @@ use Rattle.std.specs.Str.{bytes_eq}
 use Rattle.plain_tables.specs.declared.schema.Column.{Column}
 use Rattle.std.proofs.lemmas.Iterator.{YieldsList-from_slice}
 use Rattle.std.proofs.lemmas.Iterator.Search.{any_from_yields_List}
-use Rattle.mm_catalog.proofs.Finding.{list_any-map}
+use Rattle.common_lemmas.proofs.Tests.{list_any-map}
 use Rattle.mm_catalog.proofs.bind.checks.names_column.Goals as goal
 
 pub returns : goal.returns

@@ -4,6 +4,7 @@ use Rattle.std.proofs.lemmas.Iterator.Adapters.{YieldsList-from_vec}
 use Rattle.std.proofs.lemmas.Iterator.Consumers.{YieldsList-turn}
 use Rattle.std.proofs.lemmas.List.{length_push}
 use Rattle.std.proofs.lemmas.Option.{slice_get_read, slice_get_within}
+use Rattle.common_lemmas.proofs.Places.{slice_get-inside}
 use Rattle.plain_tables.specs.Doing.{in_record, load}
 use Rattle.plain_tables.specs.Effects.{Refused}
 use Rattle.plain_tables.specs.Tables.{Row}
@@ -13,7 +14,6 @@ use Rattle.mm_catalog.specs.Loaded.{HasMore, HaveGone}
 use Rattle.mm_catalog.specs.Seen.{database_of}
 use Rattle.mm_catalog.specs.State.{CatalogState}
 use Rattle.mm_catalog.proofs.Declared.{there_at}
-use Rattle.mm_catalog.proofs.Lists.{get_within}
 use Rattle.mm_catalog.proofs.Loaded.{more_none, more_then}
 use Rattle.mm_catalog.proofs.LoadSteps.{IsUnderWay, under_way_none, under_way_meant, under_way_then, under_way_refused}
 use Rattle.mm_catalog.proofs.TakenBack.{taken_back}
@@ -23,7 +23,7 @@ pub loop-row-init : goal.loop-row-init
 loop-row-init c =
     let old : CatalogState = c.args.self.now in
     let n = c.args.table.0 in
-    let there = get_within old.relations n (there_at old c.a_catalog_is_consistent.ensures n c.requires.0 c.requires.1) in
+    let there = slice_get-inside old.relations n (there_at old c.a_catalog_is_consistent.ensures n c.requires.0 c.requires.1) in
     record {
       can_next = tt;
       is_finite = tt;

@@ -3,10 +3,10 @@ use Rattle.std.specs.Prelude.{◌||◌}
 use Rattle.std.specs.List.{list_any}
 use Rattle.std.proofs.lemmas.Iterator.{YieldsList-from_slice}
 use Rattle.std.proofs.lemmas.Iterator.Search.{any_from_yields_List}
+use Rattle.common_lemmas.proofs.Tests.{list_any-map}
 use Rattle.plain_tables.specs.Databases.{table_named}
 use Rattle.plain_tables.specs.declared.command.Join.{Join}
 use Rattle.mm_catalog.specs.Seen.{database_of}
-use Rattle.mm_catalog.proofs.Finding.{list_any-map}
 use Rattle.mm_catalog.proofs.catalog.Catalog.misses_table.Goals as goal
 
 pub returns-else-not-has_table : goal.returns-else-not-has_table

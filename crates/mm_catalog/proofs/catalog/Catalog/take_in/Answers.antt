@@ -2,6 +2,7 @@ use Rattle.std.proofs.Common.{◌≡◌, ◌<◌, ◌++◌, ℕ, List, Some, len
 use Rattle.std.specs.Prelude.{IfOk, OnOk, IfErr}
 use Rattle.std.specs.List.{slice_get}
 use Rattle.std.specs.String.{string_bytes}
+use Rattle.common_lemmas.proofs.Places.{slice_get-inside}
 use Rattle.plain_tables.specs.Doing.{done}
 use Rattle.plain_tables.specs.ResolvedLaws.{IsMeant}
 use Rattle.plain_tables.specs.declared.resolved.Resolved.TheVariants as resolved
@@ -13,7 +14,7 @@ use Rattle.mm_catalog.specs.Consistent.{IsConsistent}
 use Rattle.mm_catalog.specs.Changes.{IsCurrentAt, HasEffect, IsRefusedFor}
 use Rattle.mm_catalog.specs.Loaded.{HasCome}
 use Rattle.mm_catalog.specs.Counted.{HaveRoom}
-use Rattle.mm_catalog.proofs.Lists.{whole, get_within}
+use Rattle.mm_catalog.proofs.Lists.{whole}
 use Rattle.mm_catalog.proofs.Back.{lead_back}
 use Rattle.mm_catalog.proofs.Declared.{there_at, current_at}
 use Rattle.mm_catalog.proofs.Inserted.{room_for_links, some_value, values_width, inserted_consistent, inserted_effect, inserted_came, inserted_refused}
@@ -40,7 +41,7 @@ pub insert-requires-clause-some : goal.insert-requires-clause-some
 insert-requires-clause-some c =
     let s : CatalogState = record { limits = c.self.inside.limits; names = map string_bytes c.self.inside.names.keys; relations = c.self.inside.relations.items } in
     let meant : IsMeant s.limits (database_of s) (resolved.Insert c.args.table c.args.values) = rw (← c.self.view_is) at c.requires in
-    let there = get_within s.relations c.args.table.0 (there_at s c.self.invariant c.args.table.0 meant.0 meant.1) in
+    let there = slice_get-inside s.relations c.args.table.0 (there_at s c.self.invariant c.args.table.0 meant.0 meant.1) in
     some_value s c.self.invariant c.args.table c.args.values meant there.0 there.1
 
 pub insert-requires-clause-width : goal.insert-requires-clause-width

@@ -1,6 +1,7 @@
 use Rattle.std.proofs.Common.{◌∙◌, ◌++◌, ◌<◌, List, ℕ, length, ap, sym, subst, map}
 use Rattle.std.specs.List.{All}
 use Rattle.std.proofs.lemmas.Result.{on_ok_weaker}
+use Rattle.common_lemmas.proofs.Elements.{All-from_map}
 use Rattle.plain_tables.specs.AnswerText.{answer_text}
 use Rattle.plain_tables.specs.Effects.{Rows}
 use Rattle.plain_tables.specs.Tables.{Row}
@@ -10,13 +11,13 @@ use Rattle.mm_catalog.specs.Seen.{database_of}
 use Rattle.temp_list.specs.Lists.{ListState, IsOver}
 use Rattle.mm_session.specs.Members.{tables_at}
 use Rattle.mm_session.specs.Shown.{places_shown, list_values, IsOrderedOf}
-use Rattle.mm_session.proofs.SelectLemmas.{all_back, described_over, can_show, headed, rowed}
+use Rattle.mm_session.proofs.SelectLemmas.{described_over, can_show, headed, rowed}
 use Rattle.mm_session.proofs.execute.select.show_members.Goals as goal
 
 pub places_of-requires : goal.places_of-requires
 places_of-requires c =
     let there : ℕ → Type 0 = λ n. n < length c.args.catalog.now.relations in
-    all_back there (λ (t : TableNumber). t.0) c.sources.result.now (subst (All there) (sym c.sources.ensures) c.requires.members.over.sources)
+    All-from_map there (λ (t : TableNumber). t.0) c.sources.result.now (subst (All there) (sym c.sources.ensures) c.requires.members.over.sources)
 
 pub ordered-requires : goal.ordered-requires
 ordered-requires c =
