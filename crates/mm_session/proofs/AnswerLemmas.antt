@@ -40,49 +40,39 @@ declines records limits old new line c (Err r) spells h = elim h.1 [
   | inr refuses_so ↦ refuses c r spells refuses_so
 ]
 
--- the line is that of the request
-module _ (limits : Limits) (tables : Database) (request : Request) (line : List ℕ) (trimmed : line ≡ line_of request) where
+module _ (limits : Limits) (tables : Database) (request : Request) where
   abbrev AnswersSo : Database → List ℕ → Type 0
   AnswersSo new answer = Answers limits tables request answer new
 
-  pub answers-too_long : (answer : List ℕ) → 8192 < length line → answer ≡ codes "error 10 line too long\n" → AnswersSo tables answer
+  pub answers-too_long : (answer : List ℕ) → 8192 < length (line_of request) → answer ≡ codes "error 10 line too long\n" → AnswersSo tables answer
   answers-too_long answer long is =
-      subst (AnswersSo tables) (refusal_text-too_long ∙ sym is)
-      (runs.effect (refused tables LineTooLong) (runs.too_long (subst (λ l. 8192 < length l) trimmed long)))
+      subst (AnswersSo tables) (refusal_text-too_long ∙ sym is) (runs.effect (refused tables LineTooLong) (runs.too_long long))
 
-  pub answers-not_utf8 : (answer : List ℕ) → length line ≤ 8192 → ¬ (IsUtf8 line) → answer ≡ codes "error 11 not UTF-8\n" → AnswersSo tables answer
+  pub answers-not_utf8 : (answer : List ℕ) → length (line_of request) ≤ 8192 → ¬ (IsUtf8 (line_of request)) → answer ≡ codes "error 11 not UTF-8\n"
+      → AnswersSo tables answer
   answers-not_utf8 answer short bad is =
-      subst (AnswersSo tables) (refusal_text-not_utf8 ∙ sym is)
-      (runs.effect (refused tables NotUtf8) (runs.not_utf8 (subst (λ l. length l ≤ 8192) trimmed short) (subst (λ l. ¬ (IsUtf8 l)) trimmed bad)))
+      subst (AnswersSo tables) (refusal_text-not_utf8 ∙ sym is) (runs.effect (refused tables NotUtf8) (runs.not_utf8 short bad))
 
-  module _ (short : length line ≤ 8192) (utf8 : IsUtf8 line) where
-    readable : IsReadable (line_of request)
-    readable = subst IsReadable trimmed (record { short = short; utf8 = utf8 })
+  module _ (readable : IsReadable (line_of request)) where
+    pub answers-silent : (answer : List ℕ) → is_silent (line_of request) ≡ true → answer ≡ [] → AnswersSo tables answer
+    answers-silent answer says is = subst (AnswersSo tables) (sym is) (runs.silent readable says)
 
-    pub answers-silent : (answer : List ℕ) → is_silent line ≡ true → answer ≡ [] → AnswersSo tables answer
-    answers-silent answer says is =
-        subst (AnswersSo tables) (sym is) (runs.silent readable (subst (λ l. is_silent l ≡ true) trimmed says))
-
-    module _ (silent : is_silent line ≡ false) (has : HasBlock limits request) where
-      heard : is_silent (line_of request) ≡ false
-      heard = subst (λ l. is_silent l ≡ false) trimmed silent
-
+    module _ (heard : is_silent (line_of request) ≡ false) (has : HasBlock limits request) where
       abbrev records : List Record
       records = block_records request.block
 
-      pub answers-obeyed : (new : Database) (answer : List ℕ) → Obeys records limits tables line new [] answer → AnswersSo new answer
+      pub answers-obeyed : (new : Database) (answer : List ℕ) → Obeys records limits tables (line_of request) new [] answer → AnswersSo new answer
       answers-obeyed new answer (c, spells, does) =
           subst (AnswersSo new) (sym does.1) (subst (λ d. AnswersSo d (answer_text (effect_of records limits tables c).outcome)) does.0
-          (runs.effect (effect_of records limits tables c) (runs.command c readable heard (subst (λ l. Spells l c) trimmed spells) has)))
+          (runs.effect (effect_of records limits tables c) (runs.command c readable heard spells has)))
 
-      declined : (refusal : Refusal) → Declines records limits tables line refusal → AnswersSo tables (refusal_text refusal)
+      declined : (refusal : Refusal) → Declines records limits tables (line_of request) refusal → AnswersSo tables (refusal_text refusal)
       declined refusal no_memory = runs.no_memory readable heard has
-      declined refusal (not_a_command none) =
-          runs.effect (refused tables NotACommand) (runs.not_a_command readable heard (subst (λ l. (c : Command) → ¬ (Spells l c)) trimmed none))
+      declined refusal (not_a_command none) = runs.effect (refused tables NotACommand) (runs.not_a_command readable heard none)
       declined refusal (refuses c r spells is) =
           subst (λ (e : Effect). AnswersSo e.database (answer_text e.outcome)) is
-          (runs.effect (effect_of records limits tables c) (runs.command c readable heard (subst (λ l. Spells l c) trimmed spells) has))
+          (runs.effect (effect_of records limits tables c) (runs.command c readable heard spells has))
 
-      pub answers-declined : (refusal : Refusal) (answer : List ℕ) → Declines records limits tables line refusal → answer ≡ refusal_text refusal
+      pub answers-declined : (refusal : Refusal) (answer : List ℕ) → Declines records limits tables (line_of request) refusal → answer ≡ refusal_text refusal
           → AnswersSo tables answer
       answers-declined refusal answer why is = subst (AnswersSo tables) (sym is) (declined refusal why)

@@ -1,5 +1,5 @@
 -- Which lines ask for a block, and which blocks they have.
-use Rattle.std.proofs.Common.{◌≡◌, ℕ, ◌<◌, ◌≤◌, false, List, [], ◌∷◌, ◌++◌, length, Option, Some, None, refl, sym, ◌∙◌, arith}
+use Rattle.std.proofs.Common.{◌≡◌, ℕ, ◌<◌, ◌≤◌, false, List, [], ◌∷◌, ◌++◌, length, Option, Some, None, refl, sym, ◌∙◌, arith, Bor}
 use Rattle.std.specs.Prelude.{MatchOption, unwrap_or, is_some}
 use lib.Chars.{codes}
 use Rattle.plain_tables.specs.Spelling.{Spells, AreBlanks}
@@ -8,6 +8,8 @@ use Rattle.plain_tables.specs.declared.command.Limits.{Limits}
 use Rattle.plain_streams.specs.Requests.{Request, IsReadable, Asks, without_return, is_silent}
 use Rattle.plain_streams.specs.Runs.{HasBlock}
 use Rattle.plain_streams.proofs.Asking.{asks_one}
+use Rattle.mm_session.specs.Judging.{IsJudged}
+use Rattle.mm_session.specs.declared.lines.Judged.TheVariants.{TooLong, NotUtf8, Silent, Text}
 
 -- whether a line asks for a block, and for how long a one
 abbrev pub AsksAs : List ℕ → Option ℕ → Type 0
@@ -34,6 +36,24 @@ load-heard line table n spells =
 
 pub asks-heard : (line : List ℕ) (n : ℕ) → Asks line n → is_silent (without_return line) ≡ false
 asks-heard line n asks = load-heard (without_return line) asks.1.0 n asks.1.1
+
+-- ---- lines that were judged
+
+-- a line that was judged a text asks for what that spells
+pub asks-judged : (line : List ℕ) (text : Bor (List ℕ)) (length : Option ℕ) → IsJudged line (Text text)
+    → MatchOption length ((n : ℕ) (table : List ℕ) → ¬ (Spells text.now (Load table n))) (λ n. (table : List ℕ) × Spells text.now (Load table n))
+    → AsksAs line length
+asks-judged line text length (readable, heard, same) spells = asks-spelled line length readable (rw same at spells)
+
+-- any other asks for no block
+pub unasked-too_long : (line : List ℕ) → IsJudged line TooLong → (n : ℕ) → ¬ (Asks line n)
+unasked-too_long line long n asks = let short = asks.0.short in omega arith
+
+pub unasked-not_utf8 : (line : List ℕ) → IsJudged line NotUtf8 → (n : ℕ) → ¬ (Asks line n)
+unasked-not_utf8 line (short, bad) n asks = bad asks.0.utf8
+
+pub unasked-silent : (line : List ℕ) → IsJudged line Silent → (n : ℕ) → ¬ (Asks line n)
+unasked-silent line (readable, silent) n asks = let heard = asks-heard line n asks in cc
 
 -- ---- blocks
 

@@ -1,9 +1,9 @@
 -- What is kept of a line says what the line is.
-use Rattle.std.proofs.Common.{◌≡◌, ℕ, ◌<◌, ◌≤◌, ◌+◌, true, false, cond, Bool, List, [], ◌∷◌, ◌++◌, length, leb, refl, sym, ◌∙◌, arith, length-append, length-take, Some, None}
+use Rattle.std.proofs.Common.{◌≡◌, ℕ, ◌<◌, ◌≤◌, ◌+◌, true, false, cond, Bool, List, [], ◌∷◌, ◌++◌, length, leb, refl, sym, ◌∙◌, arith, length-append, length-take}
 use Rattle.std.proofs.lemmas.Bool.Decides.{nat_tests}
 use Rattle.std.specs.Prelude.{slice_index, take, ◌-◌, ◌==◌}
 use Rattle.plain_streams.specs.Requests.{without_return}
-use Rattle.mm_session.specs.Buffers.{KeptLine, PartOfLine, LongLine, kept_of, grown, line_kept, is_start}
+use Rattle.mm_session.specs.Buffers.{KeptLine, PartOfLine, LongLine, kept_of, grown, is_start}
 
 part : (b : Bool) (x l : List ℕ) → cond b (PartOfLine x) LongLine ≡ PartOfLine l → l ≡ x
 part true x l h = cc
@@ -43,14 +43,6 @@ pub start : (kept : KeptLine) (rest : List ℕ) → is_start kept ≡ true → k
 start (PartOfLine []) rest h is = kept_of-part rest [] (sym is)
 start (PartOfLine (b ∷ bs)) rest h is = cc
 start LongLine rest h is = cc
-
-pub line_of-kept : (kept : KeptLine) (x line : List ℕ) → line_kept kept ≡ Some line → kept ≡ kept_of x → line ≡ x
-line_of-kept (PartOfLine l) x line h is = let same : l ≡ line = cc in sym same ∙ kept_of-part x l (sym is)
-line_of-kept LongLine x line h is = cc
-
-pub long-kept : (kept : KeptLine) (x : List ℕ) → line_kept kept ≡ None → kept ≡ kept_of x → 8192 < length (without_return x)
-long-kept (PartOfLine l) x h is = cc
-long-kept LongLine x h is = kept_of-long x (sym is)
 
 pub start-nothing : (kept : KeptLine) → is_start kept ≡ true → kept ≡ PartOfLine []
 start-nothing (PartOfLine []) h = refl

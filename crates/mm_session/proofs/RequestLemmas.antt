@@ -7,15 +7,11 @@ use Rattle.plain_tables.specs.Databases.{Database}
 use Rattle.plain_tables.specs.Effects.{refused}
 use Rattle.plain_tables.specs.AnswerText.{refusal_text}
 use Rattle.plain_tables.specs.declared.command.Limits.{Limits}
-use Rattle.plain_tables.specs.declared.refusal.Refusal.TheVariants.{LineTooLong, BlockTooLong, BlockCutShort, NoMemory}
+use Rattle.plain_tables.specs.declared.refusal.Refusal.TheVariants.{BlockTooLong, BlockCutShort, NoMemory}
 use Rattle.plain_streams.specs.Requests.{Request, Asks}
-use Rattle.plain_streams.specs.Runs.{Answers, HasBlock, line_of}
+use Rattle.plain_streams.specs.Runs.{Answers, HasBlock}
 use Rattle.plain_streams.specs.Runs as runs
 use Rattle.mm_session.proofs.AskLemmas.{asks-heard}
-
-refusal_text-line_too_long : refusal_text LineTooLong ≡ codes "error 10 line too long\n"
-unfolding digits
-refusal_text-line_too_long = refl
 
 refusal_text-block_too_long : refusal_text BlockTooLong ≡ codes "error 12 block too long\n"
 unfolding digits
@@ -30,10 +26,6 @@ unfolding digits
 refusal_text-no_memory = refl
 
 module _ (limits : Limits) (tables : Database) (request : Request) (answer : List ℕ) where
-  pub answers-line_too_long : 8192 < length (line_of request) → answer ≡ codes "error 10 line too long\n" → Answers limits tables request answer tables
-  answers-line_too_long long is =
-      subst (λ a. Answers limits tables request a tables) (refusal_text-line_too_long ∙ sym is) (runs.effect (refused tables LineTooLong) (runs.too_long long))
-
   module _ (n : ℕ) (asks : Asks request.line n) where
     pub answers-block_too_long : limits.block < n → answer ≡ codes "error 12 block too long\n" → Answers limits tables request answer tables
     answers-block_too_long long is =

@@ -1,5 +1,5 @@
 -- What buffers hold of a line and of a block that have not ended.
-use Rattle.std.specs.Prelude.{ℕ, List, [], ◌∷◌, ◌++◌, Bool, true, false, length, nat_le, Option, Some, None, if◌then◌else◌}
+use Rattle.std.specs.Prelude.{ℕ, List, [], ◌∷◌, ◌++◌, Bool, true, false, length, nat_le, if◌then◌else◌}
 
 -- of a line its bytes, or only that it is too long
 pub data KeptLine : Type 0 where
@@ -14,11 +14,6 @@ kept_of line = if nat_le (length line) 8193 then PartOfLine line else LongLine
 abbrev pub grown : KeptLine → List ℕ → KeptLine
 grown (PartOfLine line) more = kept_of (line ++ more)
 grown LongLine more = LongLine
-
--- the line, where it is kept
-abbrev pub line_kept : KeptLine → Option (List ℕ)
-line_kept (PartOfLine line) = Some line
-line_kept LongLine = None
 
 -- whether nothing of the line has come
 abbrev pub is_start : KeptLine → Bool

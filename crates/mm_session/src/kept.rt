@@ -1,10 +1,11 @@
 //! What is kept of a request that has not come whole.
 
-ghost use Rattle.std.specs.Prelude.{◌≡◌, [], IfOk};
-ghost use Rattle.mm_session.specs.Buffers.{PartOfLine, grown, line_kept, is_start};
-ghost use Rattle.std.specs.Option.{option_copied};
+ghost use Rattle.std.specs.Prelude.{◌≡◌, ℕ, List, [], IfOk};
+ghost use Rattle.mm_session.specs.Buffers.{PartOfLine, kept_of, grown, is_start};
+ghost use Rattle.mm_session.specs.Judging.{IsJudged};
 
 use crate::block::Block;
+use crate::lines::{Judged, judge};
 use plain_tables::NoMemory;
 use std::alloc::Global;
 use std::marker::Model;
@@ -43,14 +44,14 @@ impl LineBuffer {
         })
     }
 
-    /// The line so far, unless it is too long.
-    pub fn line(&self) -> Option<&[u8]>
-        ensures { option_copied result ≡ line_kept self.now }
+    /// The line so far, judged as one that has ended.
+    pub fn judged(&self) -> Judged<'_>
+        ensures { (line : List ℕ) → self.now ≡ kept_of line → IsJudged line result }
     {
         if self.is_too_long {
-            None
+            Judged::TooLong
         } else {
-            Some(self.bytes.as_slice())
+            judge(self.bytes.as_slice())
         }
     }
 

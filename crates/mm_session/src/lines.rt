@@ -1,14 +1,45 @@
 //! How a stream is cut into lines, and what a line is before it is read as a command.
 
-ghost use Rattle.std.specs.Prelude.{◌≡◌, ◌++◌, ◌∷◌, ℕ, MatchOption, IsTrue, ◌↔◌};
+ghost use Rattle.std.specs.Prelude.{◌≡◌, ◌++◌, ◌∷◌, MatchOption, IsTrue, ◌↔◌};
 ghost use Rattle.plain_streams.specs.Division.{IsUnbroken, IsWhole};
-ghost use Rattle.plain_streams.specs.Requests.{Asks, without_return, is_silent as is_silent_line};
+ghost use Rattle.plain_streams.specs.Requests.{without_return, is_silent as is_silent_line};
+ghost use Rattle.mm_session.specs.Judging.{IsJudged};
 
 use memchr::memchr;
 use mm_lang::block_length;
 
-/// The greatest number of bytes that a line may have.
-pub const LONGEST_LINE: usize = 8192;
+// The greatest number of bytes that a line may have.
+const LONGEST_LINE: usize = 8192;
+
+/// What a line is that has ended, before it is read as a command.
+#[derive(Clone, Copy)]
+pub enum Judged<'a> {
+    /// It has more than 8,192 bytes.
+    TooLong,
+    NotUtf8,
+    /// It is blanks alone or a comment, and so has no answer.
+    Silent,
+    /// It can be read. The text is without the carriage return at the line's end.
+    Text(&'a str),
+}
+
+impl Judged<'_> {
+    ghost use Rattle.std.specs.Prelude.{ℕ, List, MatchOption};
+    ghost use Rattle.plain_streams.specs.Requests.{Asks};
+    ghost use Rattle.mm_session.specs.Judging.{IsJudged};
+
+    /// How long a block the line asks for, if it asks for one.
+    pub fn asked(&self) -> Option<u64>
+        ensures { (line : List ℕ) → IsJudged line self.now → MatchOption result ((n : ℕ) → ¬ (Asks line n)) (λ n. Asks line n) }
+    {
+        match self {
+            Judged::Text(text) => block_length(text),
+            Judged::TooLong => None,
+            Judged::NotUtf8 => None,
+            Judged::Silent => None,
+        }
+    }
+}
 
 /// The bytes before the first line feed and those behind it, where there is one.
 pub fn split_line(bytes: &[u8]) -> Option<(&[u8], &[u8])>
@@ -19,8 +50,8 @@ pub fn split_line(bytes: &[u8]) -> Option<(&[u8], &[u8])>
     Some((&bytes[..at], &bytes[at + 1..]))
 }
 
-/// The line without one carriage return at its end.
-pub fn trim_return(line: &[u8]) -> &[u8]
+// The line without one carriage return at its end.
+fn trim_return(line: &[u8]) -> &[u8]
     ensures { result.now ≡ without_return line.now }
 {
     match line.last() {
@@ -29,8 +60,8 @@ pub fn trim_return(line: &[u8]) -> &[u8]
     }
 }
 
-/// Whether a line is blanks alone or a comment, and so has no answer.
-pub fn is_silent(line: &[u8]) -> bool
+// Whether a line is blanks alone or a comment.
+fn is_silent(line: &[u8]) -> bool
     ensures { result ≡ is_silent_line line.now }
 {
     for c in line {
@@ -41,24 +72,28 @@ pub fn is_silent(line: &[u8]) -> bool
     true
 }
 
-/// How long a block the line asks for, if it asks for one.
-pub fn asked_length(line: &[u8]) -> Option<u64>
-    ensures { MatchOption result ((n : ℕ) → ¬ (Asks line.now n)) (λ n. Asks line.now n) }
+/// Judges a line: its length, its UTF-8, and whether it is silent, each looked at once.
+pub fn judge(line: &[u8]) -> Judged<'_>
+    ensures { IsJudged line.now result }
 {
     let line = trim_return(line);
     if line.len() > LONGEST_LINE {
-        return None;
+        return Judged::TooLong;
     }
     let Ok(text) = std::str::from_utf8(line) else {
-        return None;
+        return Judged::NotUtf8;
     };
-    block_length(text)
+    if is_silent(line) {
+        return Judged::Silent;
+    }
+    Judged::Text(text)
 }
 
-/// Whether a line and a block are one whole request.
-pub fn is_whole(line: &[u8], block: &[u8]) -> bool
+/// Whether a line, judged so, and a block are one whole request.
+pub fn is_whole(line: &[u8], judged: &Judged<'_>, block: &[u8]) -> bool
+    requires { IsJudged line.now judged.now }
     ensures { IsTrue result ↔ IsWhole (record { line = line.now; block = block.now }) }
 {
-    let length = asked_length(line).unwrap_or(0);
+    let length = judged.asked().unwrap_or(0);
     split_line(line).is_none() && length == block.len() as u64
 }

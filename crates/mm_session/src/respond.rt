@@ -1,24 +1,16 @@
 //! The answer to one request: a line, and the block behind it.
 
-ghost use Rattle.std.specs.Prelude.{◌≡◌, OnOk, IfErr, OnErr};
+ghost use Rattle.std.specs.Prelude.{◌≡◌};
 ghost use Rattle.plain_tables.specs.AnswerText.{refusal_text};
-ghost use Rattle.mm_csv.specs.BlockReading.{block_records};
-ghost use Rattle.plain_streams.specs.Runs.{Answers, HasBlock};
-ghost use Rattle.mm_catalog.specs.Seen.{database_of};
-ghost use Rattle.mm_session.specs.Answered.{Obeys, Declines};
 
 use crate::answer::Answer;
-use crate::execute::execute;
-use crate::lines::{LONGEST_LINE, is_silent, trim_return};
+use crate::execute::Executor;
+use crate::lines::Judged;
 use crate::records::push_refusal;
-use mm_catalog::Catalog;
 use mm_lang::{ParseRefusal, parse};
 use plain_tables::Refusal;
-use plan_chooser::Policy;
-use std::alloc::Global;
 
-/// The answer to a line that is too long, which takes no memory.
-pub const LINE_TOO_LONG: &[u8] = b"error 10 line too long\n";
+const LINE_TOO_LONG: &[u8] = b"error 10 line too long\n";
 
 const NOT_UTF8: &[u8] = b"error 11 not UTF-8\n";
 
@@ -30,55 +22,71 @@ fn refuse(answer: &mut Answer, refusal: Refusal)
     let _ = push_refusal(answer, refusal);
 }
 
-// Reads a line as a command, and does what it says with the block behind it.
-fn obey(
-    alloc: Global,
-    catalog: &mut Catalog,
-    policy: Policy,
-    line: &str,
-    block: &[u8],
-    answer: &mut Answer,
-) -> Result<(), Refusal>
-    ensures ok { OnOk result (Obeys (block_records block.now) catalog.old.limits (database_of catalog.old) line.now (database_of catalog.new) answer.old answer.new) }
-    ensures err { IfErr result (Declines (block_records block.now) catalog.old.limits (database_of catalog.old) line.now) }
-    ensures unchanged { OnErr result (database_of catalog.new ≡ database_of catalog.old) }
-    ensures limits { catalog.new.limits ≡ catalog.old.limits }
-{
-    let command = match parse(alloc, line) {
-        Ok(command) => command,
-        Err(ParseRefusal::Syntax) => return Err(Refusal::NotACommand),
-        Err(ParseRefusal::NoMemory) => return Err(Refusal::NoMemory),
-    };
-    execute(alloc, catalog, policy, command, block, answer)
-}
+impl Executor {
+    ghost use Rattle.std.specs.Prelude.{◌≡◌, ℕ, List, OnOk, IfOk, IfErr, OnErr, ◌<◌};
+    ghost use Rattle.mm_csv.specs.BlockReading.{block_records};
+    ghost use Rattle.plain_streams.specs.Requests.{Asks};
+    ghost use Rattle.plain_streams.specs.Runs.{Answers, HasBlock};
+    ghost use Rattle.mm_catalog.specs.Seen.{database_of};
+    ghost use Rattle.mm_session.specs.Answered.{Obeys, Declines};
+    ghost use Rattle.mm_session.specs.Judging.{IsJudged, AnswersIn};
 
-/// Answers a line that has ended, and the block behind it. A silent line has the empty answer.
-pub fn respond(
-    alloc: Global,
-    catalog: &mut Catalog,
-    policy: Policy,
-    line: &[u8],
-    block: &[u8],
-    answer: &mut Answer,
-)
-    ensures answers { HasBlock catalog.old.limits (record { line = line.now; block = block.now })
-        → Answers catalog.old.limits (database_of catalog.old) (record { line = line.now; block = block.now }) answer.new (database_of catalog.new) }
-    ensures limits { catalog.new.limits ≡ catalog.old.limits }
-{
-    let line = trim_return(line);
-    if line.len() > LONGEST_LINE {
-        answer.set(LINE_TOO_LONG);
-        return;
+    // Reads a line as a command, and does what it says with the block behind it.
+    fn obey(&mut self, line: &str, block: &[u8], answer: &mut Answer) -> Result<(), Refusal>
+        ensures ok { OnOk result (Obeys (block_records block.now) self.old.catalog.limits (database_of self.old.catalog) line.now (database_of self.new.catalog) answer.old answer.new) }
+        ensures err { IfErr result (Declines (block_records block.now) self.old.catalog.limits (database_of self.old.catalog) line.now) }
+        ensures unchanged { OnErr result (database_of self.new.catalog ≡ database_of self.old.catalog) }
+        ensures limits { self.new.catalog.limits ≡ self.old.catalog.limits }
+    {
+        let command = match parse(self.alloc, line) {
+            Ok(command) => command,
+            Err(ParseRefusal::Syntax) => return Err(Refusal::NotACommand),
+            Err(ParseRefusal::NoMemory) => return Err(Refusal::NoMemory),
+        };
+        self.execute(command, block, answer)
     }
-    let Ok(text) = std::str::from_utf8(line) else {
-        answer.set(NOT_UTF8);
-        return;
-    };
-    answer.clear();
-    if is_silent(line) {
-        return;
+
+    /// Answers a line that has ended, and the block behind it. A silent line has the empty answer.
+    pub fn respond(&mut self, line: &Judged<'_>, block: &[u8], answer: &mut Answer)
+        ensures answers { (bytes : List ℕ) → IsJudged bytes line.now → HasBlock self.old.catalog.limits (record { line = bytes; block = block.now })
+            → Answers self.old.catalog.limits (database_of self.old.catalog) (record { line = bytes; block = block.now }) answer.new (database_of self.new.catalog) }
+        ensures limits { self.new.catalog.limits ≡ self.old.catalog.limits }
+    {
+        match line {
+            Judged::TooLong => answer.set(LINE_TOO_LONG),
+            Judged::NotUtf8 => answer.set(NOT_UTF8),
+            Judged::Silent => answer.clear(),
+            Judged::Text(text) => {
+                answer.clear();
+                if let Err(refusal) = self.obey(text, block, answer) {
+                    refuse(answer, refusal);
+                }
+            }
+        }
     }
-    if let Err(refusal) = obey(alloc, catalog, policy, text, block, answer) {
-        refuse(answer, refusal);
+
+    /// Answers a line that has ended, and the block that it asks for, where the bytes begin with that and it is within the
+    /// limit; and gives the bytes behind it. Else it does nothing, and gives the length of the block.
+    pub fn respond_in<'a>(
+        &mut self,
+        line: &Judged<'_>,
+        bytes: &'a [u8],
+        answer: &mut Answer,
+    ) -> Result<&'a [u8], u64>
+        ensures answered { IfOk result (λ others. AnswersIn self.old.catalog.limits (database_of self.old.catalog) line.now bytes.now others.now answer.new (database_of self.new.catalog)) }
+        ensures asks { IfErr result (λ n. (0 < n) × ((l : List ℕ) → IsJudged l line.now → Asks l n)) }
+        ensures unchanged { OnErr result (self.new ≡ self.old) }
+        ensures limits { self.new.catalog.limits ≡ self.old.catalog.limits }
+    {
+        let Some(length) = line.asked() else {
+            self.respond(line, &[], answer);
+            return Ok(bytes);
+        };
+        if length > self.block_limit().min(bytes.len() as u64) {
+            return Err(length);
+        }
+        let (block, others) = bytes.split_at(length as usize);
+        self.respond(line, block, answer);
+        Ok(others)
     }
 }

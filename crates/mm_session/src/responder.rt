@@ -2,10 +2,10 @@
 
 use crate::answer::Answer;
 use crate::block::{Block, Unkept};
+use crate::execute::Executor;
 use crate::fault::NotOneRequest;
 use crate::kept::Kept;
-use crate::lines::{asked_length, is_whole, split_line};
-use crate::respond::{LINE_TOO_LONG, respond};
+use crate::lines::{is_whole, judge, split_line};
 use mm_catalog::Catalog;
 use plain_tables::NoMemory;
 use plan_chooser::Policy;
@@ -21,63 +21,45 @@ const NO_MEMORY: &[u8] = b"error 90 no memory\n";
 #[derive(Drop)]
 pub struct Responder {
     alloc: Global,
-    policy: Policy,
-    pub catalog: Catalog,
+    pub executor: Executor,
     pub kept: Kept,
     pub answer: Answer,
 }
 
 impl Responder {
-    ghost use Rattle.std.specs.Prelude.{◌≡◌, ◌≢◌, ◌<◌, ◌≤◌, ◌+◌, ◌++◌, ◌∷◌, [], ℕ, List, Some, None, IfOk, OnOk, OnErr, IfSome, MatchOption, true, false, length, is_some, if◌then◌else◌, codes};
+    ghost use Rattle.std.specs.Prelude.{◌≡◌, ◌≢◌, ◌<◌, ◌≤◌, ◌+◌, ◌++◌, ◌∷◌, [], ℕ, List, Some, None, IfOk, OnOk, OnErr, IfSome, true, false, length, is_some, if◌then◌else◌, codes};
     ghost use Rattle.std.specs.Option.{option_copied};
     ghost use Rattle.plain_streams.specs.Requests.{Asks};
     ghost use Rattle.plain_streams.specs.Division.{IsUnbroken, IsWhole};
     ghost use Rattle.plain_streams.specs.Runs.{Answers, HasBlock};
     ghost use Rattle.mm_catalog.specs.Seen.{database_of};
-    ghost use Rattle.mm_session.specs.Buffers.{kept_of, line_kept, is_start};
+    ghost use Rattle.mm_session.specs.Buffers.{kept_of};
     ghost use Rattle.mm_session.specs.Kept.{KeepsBlock, nothing};
     ghost use Rattle.mm_session.specs.OneRequest.{AnswersOne};
     ghost use Rattle.mm_session.specs.Responding.{IsRest, IsRestWith, IsLoadLine, IsLineWith, Responds, Takes, Ends, waits};
 
     /// A responder over the tables of a catalog, to which nothing has come.
     pub fn new(alloc: Global, policy: Policy, catalog: Catalog) -> Result<Responder, NoMemory>
-        ensures catalog { IfOk result (λ r. r.catalog ≡ catalog) }
+        ensures catalog { IfOk result (λ r. r.executor.catalog ≡ catalog) }
         ensures kept { IfOk result (λ r. r.kept ≡ nothing) }
     {
         Ok(Responder {
             alloc,
-            policy,
-            catalog,
+            executor: Executor::new(alloc, policy, catalog),
             kept: Kept::new(alloc)?,
             answer: Answer::new(alloc)?,
         })
     }
 
-    // How long a block the line that is kept asks for, if it asks for one.
-    fn asked(&self) -> Option<u64>
-        ensures { (line : List ℕ) → self.now.kept.line ≡ kept_of line → MatchOption result ((n : ℕ) → ¬ (Asks line n)) (λ n. Asks line n) }
-    {
-        asked_length(self.kept.line.line()?)
-    }
-
     // Answers the request of the line that is kept and this block. Nothing of the line is kept then.
     fn respond_kept(&mut self, block: &[u8])
-        ensures answers { (line : List ℕ) → self.old.kept.line ≡ kept_of line → HasBlock self.old.catalog.limits (record { line = line; block = block.now })
+        ensures answers { (line : List ℕ) → self.old.kept.line ≡ kept_of line → HasBlock self.old.executor.catalog.limits (record { line = line; block = block.now })
             → Responds self.old self.new (record { line = line; block = block.now }) }
         ensures kept { self.new.kept ≡ record self.old.kept { line = kept_of [] } }
-        ensures limits { self.new.catalog.limits ≡ self.old.catalog.limits }
+        ensures limits { self.new.executor.catalog.limits ≡ self.old.executor.catalog.limits }
     {
-        match self.kept.line.line() {
-            Some(line) => respond(
-                self.alloc,
-                &mut self.catalog,
-                self.policy,
-                line,
-                block,
-                &mut self.answer,
-            ),
-            None => self.answer.set(LINE_TOO_LONG),
-        }
+        let line = self.kept.line.judged();
+        self.executor.respond(&line, block, &mut self.answer);
         self.kept.line.clear();
     }
 
@@ -85,10 +67,10 @@ impl Responder {
     fn end_block(&mut self, block: Block)
         requires { self.old.kept.block ≡ None }
         ensures answers { (line bytes : List ℕ) → self.old.kept.line ≡ kept_of line → Asks line (length bytes)
-            → KeepsBlock self.old.catalog.limits.block (length bytes) bytes block
+            → KeepsBlock self.old.executor.catalog.limits.block (length bytes) bytes block
             → Responds self.old self.new (record { line = line; block = bytes }) }
         ensures kept { self.new.kept ≡ nothing }
-        ensures limits { self.new.catalog.limits ≡ self.old.catalog.limits }
+        ensures limits { self.new.executor.catalog.limits ≡ self.old.executor.catalog.limits }
     {
         match block {
             Block::Storing(buffer) => self.respond_kept(buffer.as_slice()),
@@ -106,7 +88,7 @@ impl Responder {
     fn take_block<'a>(&mut self, mut block: Block, bytes: &'a [u8]) -> Option<&'a [u8]>
         requires { self.old.kept.block ≡ None }
         ensures takes { Takes (IsRestWith self.old block) self.old self.new bytes.now (option_copied result) }
-        ensures limits { self.new.catalog.limits ≡ self.old.catalog.limits }
+        ensures limits { self.new.executor.catalog.limits ≡ self.old.executor.catalog.limits }
     {
         let to_come = block.to_come();
         if (bytes.len() as u64) < to_come {
@@ -120,47 +102,44 @@ impl Responder {
         Some(others)
     }
 
-    // Takes the bytes behind a line that asks for a block of this length. A block that is there whole is not copied.
+    // Takes the bytes behind the line that is kept, which asks for a block of this length that is not there whole, or passes
+    // the limit.
     fn begin_block<'a>(&mut self, length: u64, bytes: &'a [u8]) -> Option<&'a [u8]>
-        requires { self.old.kept.block ≡ None }
+        requires block { self.old.kept.block ≡ None }
+        requires some { 0 < length }
         ensures takes { Takes (IsLoadLine self.old length) self.old self.new bytes.now (option_copied result) }
-        ensures limits { self.new.catalog.limits ≡ self.old.catalog.limits }
+        ensures limits { self.new.executor.catalog.limits ≡ self.old.executor.catalog.limits }
     {
-        let limit = u64::from(self.catalog.limits().block);
-        if length <= limit.min(bytes.len() as u64) {
-            let (block, others) = bytes.split_at(length as usize);
-            self.respond_kept(block);
-            return Some(others);
-        }
-        let block = Block::new(self.alloc, length, limit);
+        let block = Block::new(self.alloc, length, self.executor.block_limit());
         self.take_block(block, bytes)
     }
 
-    // Takes the end of a line, and the bytes behind its line feed.
+    // Takes the end of a line, and the bytes behind its line feed. A line that came in one piece is not copied, nor is its
+    // block, where that is there whole.
     fn end_line<'a>(&mut self, tail: &[u8], bytes: &'a [u8]) -> Option<&'a [u8]>
         requires block { self.old.kept.block ≡ None }
         requires unbroken { IsUnbroken tail.now }
         ensures takes { Takes (IsLineWith self.old tail.now) self.old self.new bytes.now (option_copied result) }
-        ensures limits { self.new.catalog.limits ≡ self.old.catalog.limits }
+        ensures limits { self.new.executor.catalog.limits ≡ self.old.executor.catalog.limits }
     {
-        if self.kept.line.is_empty() && asked_length(tail).is_none() {
-            respond(
-                self.alloc,
-                &mut self.catalog,
-                self.policy,
-                tail,
-                &[],
-                &mut self.answer,
-            );
-            return Some(bytes);
+        if self.kept.line.is_empty() {
+            let line = judge(tail);
+            return match self.executor.respond_in(&line, bytes, &mut self.answer) {
+                Ok(others) => Some(others),
+                Err(length) => {
+                    self.kept.line.extend(tail);
+                    self.begin_block(length, bytes)
+                }
+            };
         }
         self.kept.line.extend(tail);
-        match self.asked() {
-            Some(length) => self.begin_block(length, bytes),
-            None => {
-                self.respond_kept(&[]);
-                Some(bytes)
+        let line = self.kept.line.judged();
+        match self.executor.respond_in(&line, bytes, &mut self.answer) {
+            Ok(others) => {
+                self.kept.line.clear();
+                Some(others)
             }
+            Err(length) => self.begin_block(length, bytes),
         }
     }
 
@@ -169,7 +148,7 @@ impl Responder {
     pub fn take<'a>(&mut self, bytes: &'a [u8]) -> Option<&'a [u8]>
         ensures takes { Takes (IsRest self.old) self.old self.new bytes.now (option_copied result) }
         ensures shorter { IfSome result (λ others. length others.now < length bytes.now + waits self.old.kept) }
-        ensures limits { self.new.catalog.limits ≡ self.old.catalog.limits }
+        ensures limits { self.new.executor.catalog.limits ≡ self.old.executor.catalog.limits }
     {
         if let Some(block) = self.kept.block.take() {
             return self.take_block(block, bytes);
@@ -198,12 +177,12 @@ impl Responder {
     fn finish_line(&mut self)
         ensures { (line : List ℕ) → self.old.kept.line ≡ kept_of line → Responds self.old self.new (record { line = line; block = [] }) }
     {
-        let length = self.asked().unwrap_or(0);
+        let line = self.kept.line.judged();
+        let length = line.asked().unwrap_or(0);
         if length == 0 {
-            return self.respond_kept(&[]);
+            return self.executor.respond(&line, &[], &mut self.answer);
         }
-        let limit = u64::from(self.catalog.limits().block);
-        let passes = length > limit;
+        let passes = length > self.executor.block_limit();
         self.refuse_block(passes);
     }
 
@@ -227,27 +206,21 @@ impl Responder {
         block: &[u8],
         answer: &mut Answer,
     ) -> Result<(), NotOneRequest>
-        ensures ok { OnOk result (AnswersOne self.old.catalog.limits (database_of self.old.catalog) (record { line = line.now; block = block.now }) answer.new (database_of self.new.catalog)) }
+        ensures ok { OnOk result (AnswersOne self.old.executor.catalog.limits (database_of self.old.executor.catalog) (record { line = line.now; block = block.now }) answer.new (database_of self.new.executor.catalog)) }
         ensures err { OnErr result (¬ (IsWhole (record { line = line.now; block = block.now }))) }
         ensures unchanged { OnErr result ((self.new ≡ self.old) × (answer.new ≡ answer.old)) }
         ensures kept { self.new.kept ≡ self.old.kept }
-        ensures limits { self.new.catalog.limits ≡ self.old.catalog.limits }
+        ensures limits { self.new.executor.catalog.limits ≡ self.old.executor.catalog.limits }
     {
-        if !is_whole(line, block) {
+        let judged = judge(line);
+        if !is_whole(line, &judged, block) {
             return Err(NotOneRequest);
         }
-        if block.len() as u64 > u64::from(self.catalog.limits().block) {
+        if block.len() as u64 > self.executor.block_limit() {
             answer.set(BLOCK_TOO_LONG);
             return Ok(());
         }
-        respond(
-            self.alloc,
-            &mut self.catalog,
-            self.policy,
-            line,
-            block,
-            answer,
-        );
+        self.executor.respond(&judged, block, answer);
         Ok(())
     }
 }

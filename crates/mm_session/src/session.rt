@@ -27,7 +27,7 @@ impl Model for Session {
 
     ghost Value = { State };
 
-    ghost view = { λ s. record { limits = s.responder.catalog.limits; database = database_of s.responder.catalog; ended = s.ended; kept = s.responder.kept } };
+    ghost view = { λ s. record { limits = s.responder.executor.catalog.limits; database = database_of s.responder.executor.catalog; ended = s.ended; kept = s.responder.kept } };
 }
 
 impl Session {
@@ -66,7 +66,7 @@ impl Session {
         ensures tables { database_of result.now ≡ self.now.database }
         ensures limits { result.now.limits ≡ self.now.limits }
     {
-        &self.responder.catalog
+        &self.responder.executor.catalog
     }
 
     /// Whether the session has ended.

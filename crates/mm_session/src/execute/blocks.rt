@@ -19,6 +19,7 @@ ghost use Rattle.mm_catalog.specs.Picked.{seen_values};
 ghost use Rattle.mm_catalog.specs.Seen.{database_of};
 ghost use Rattle.mm_session.specs.Dumps.{IsWithin, IsPast, GoesOnWithin, GoesPast, IsGivenUp};
 
+use super::Executor;
 use crate::answer::Answer;
 use mm_catalog::Catalog;
 use mm_catalog::laws::a_catalog_is_consistent;
@@ -153,46 +154,6 @@ fn push_row<'a>(
     check_length(records, limit)
 }
 
-// Each row as a record, in the order of their keys, behind a front of a block that is within the limit. The record that takes
-// the block past it is the last that is made.
-fn push_rows(
-    alloc: Global,
-    records: &mut RecordWriter<Answer>,
-    limit: usize,
-    catalog: &Catalog,
-    relation: &Relation,
-) -> Result<(), Refusal>
-    requires within { IsWithin limit records.old.bytes }
-    requires some { 0 < length relation.now.schema.columns }
-    requires current { IsCurrent (linked_keys relation.now.targets catalog.now.relations) relation.now }
-    ensures pushed { OnOk result (GoesOnWithin limit records.old.bytes records.new.bytes (flat_map row_record (map (seen_values catalog.now relation.now) (tree_list relation.now.by_key)))) }
-    ensures refused { IfErr result (λ e. (e ≡ refusal.NoMemory) ⊎ ((e ≡ refusal.DumpTooLong) × IsGivenUp limit records.old.bytes records.new.bytes (map (seen_values catalog.now relation.now) (tree_list relation.now.by_key)))) }
-{
-    a_relation_is_kept(relation);
-    let mut values = Vec::new(alloc);
-    for r in relation.walk() {
-        push_row(records, limit, &mut values, catalog, relation, r)?;
-    }
-    Ok(())
-}
-
-// The block of a table: the names of its columns, and its rows. Where it passes its limit, it is given up on the way.
-fn block_of(alloc: Global, catalog: &Catalog, table: TableNumber) -> Result<Answer, Refusal>
-    requires { table.0 < length (database_of catalog.now) }
-    ensures whole { IfOk result (λ block. (t : Table) → slice_get (database_of catalog.now) table.0 ≡ Some t → (block ≡ dump_block t) × (length block ≤ catalog.now.limits.block)) }
-    ensures refused { IfErr result (λ e. (e ≡ refusal.NoMemory) ⊎ ((e ≡ refusal.DumpTooLong) × ((t : Table) → slice_get (database_of catalog.now) table.0 ≡ Some t → catalog.now.limits.block < length (dump_block t)))) }
-{
-    a_catalog_is_consistent(catalog);
-    let relation = catalog.at(table);
-    let limit = catalog.limits().block as usize;
-    let names = names_of(alloc, relation.schema().columns.as_slice())?;
-    let mut records = RecordWriter::new(alloc, Answer::new(alloc)?);
-    records.push_names(&names)?;
-    check_length(&records, limit)?;
-    push_rows(alloc, &mut records, limit, catalog, relation)?;
-    Ok(records.finish()?)
-}
-
 // Puts the line that loads a block of so many bytes into the table behind the answer.
 fn push_load_line(
     alloc: Global,
@@ -208,21 +169,59 @@ fn push_load_line(
     answer.push(line.as_bytes())
 }
 
-/// Adds the line that loads a table's rows to the answer, and the block that it loads. Where the block passes its limit, the
-/// answer is 64 in their place.
-pub fn dump(
-    alloc: Global,
-    catalog: &Catalog,
-    table: TableNumber,
-    answer: &mut Answer,
-) -> Result<(), Refusal>
-    requires { table.0 < length (database_of catalog.now) }
-    ensures done { OnOk result (answer.new ≡ answer.old ++ answer_text (done catalog.now.limits (database_of catalog.now) (resolved.Dump table)).outcome) }
-    ensures refused { IfErr result (λ e. (e ≡ refusal.NoMemory) ⊎ ((done catalog.now.limits (database_of catalog.now) (resolved.Dump table)).outcome ≡ Refused e)) }
-{
-    let block = block_of(alloc, catalog, table)?;
-    let bytes = block.as_slice().len();
-    push_load_line(alloc, catalog.table_name(table), bytes, answer)?;
-    answer.push(block.as_slice())?;
-    Ok(())
+impl Executor {
+    // Each row as a record, in the order of their keys, behind a front of a block that is within the limit. The record that takes
+    // the block past it is the last that is made.
+    fn push_rows(
+        &self,
+        records: &mut RecordWriter<Answer>,
+        limit: usize,
+        relation: &Relation,
+    ) -> Result<(), Refusal>
+        requires within { IsWithin limit records.old.bytes }
+        requires some { 0 < length relation.now.schema.columns }
+        requires current { IsCurrent (linked_keys relation.now.targets self.now.catalog.relations) relation.now }
+        ensures pushed { OnOk result (GoesOnWithin limit records.old.bytes records.new.bytes (flat_map row_record (map (seen_values self.now.catalog relation.now) (tree_list relation.now.by_key)))) }
+        ensures refused { IfErr result (λ e. (e ≡ refusal.NoMemory) ⊎ ((e ≡ refusal.DumpTooLong) × IsGivenUp limit records.old.bytes records.new.bytes (map (seen_values self.now.catalog relation.now) (tree_list relation.now.by_key)))) }
+    {
+        a_relation_is_kept(relation);
+        let Ok(mut values) = Vec::with_capacity(self.alloc, relation.schema().columns.len()) else {
+            return Err(Refusal::NoMemory);
+        };
+        for r in relation.walk() {
+            push_row(records, limit, &mut values, &self.catalog, relation, r)?;
+        }
+        Ok(())
+    }
+
+    // The block of a table: the names of its columns, and its rows. Where it passes its limit, it is given up on the way.
+    fn block_of(&self, table: TableNumber) -> Result<Answer, Refusal>
+        requires { table.0 < length (database_of self.now.catalog) }
+        ensures whole { IfOk result (λ block. (t : Table) → slice_get (database_of self.now.catalog) table.0 ≡ Some t → (block ≡ dump_block t) × (length block ≤ self.now.catalog.limits.block)) }
+        ensures refused { IfErr result (λ e. (e ≡ refusal.NoMemory) ⊎ ((e ≡ refusal.DumpTooLong) × ((t : Table) → slice_get (database_of self.now.catalog) table.0 ≡ Some t → self.now.catalog.limits.block < length (dump_block t)))) }
+    {
+        a_catalog_is_consistent(&self.catalog);
+        let relation = self.catalog.at(table);
+        let limit = self.catalog.limits().block as usize;
+        let names = names_of(self.alloc, relation.schema().columns.as_slice())?;
+        let mut records = RecordWriter::new(self.alloc, Answer::new(self.alloc)?);
+        records.push_names(&names)?;
+        check_length(&records, limit)?;
+        self.push_rows(&mut records, limit, relation)?;
+        Ok(records.finish()?)
+    }
+
+    /// Adds the line that loads a table's rows to the answer, and the block that it loads. Where the block passes its limit, the
+    /// answer is 64 in their place.
+    pub fn dump(&self, table: TableNumber, answer: &mut Answer) -> Result<(), Refusal>
+        requires { table.0 < length (database_of self.now.catalog) }
+        ensures done { OnOk result (answer.new ≡ answer.old ++ answer_text (done self.now.catalog.limits (database_of self.now.catalog) (resolved.Dump table)).outcome) }
+        ensures refused { IfErr result (λ e. (e ≡ refusal.NoMemory) ⊎ ((done self.now.catalog.limits (database_of self.now.catalog) (resolved.Dump table)).outcome ≡ Refused e)) }
+    {
+        let block = self.block_of(table)?;
+        let bytes = block.as_slice().len();
+        push_load_line(self.alloc, self.catalog.table_name(table), bytes, answer)?;
+        answer.push(block.as_slice())?;
+        Ok(())
+    }
 }

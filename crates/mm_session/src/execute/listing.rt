@@ -9,6 +9,7 @@ ghost use Rattle.plain_tables.specs.Tables.{Table};
 ghost use Rattle.mm_catalog.specs.Seen.{database_of};
 ghost use Rattle.mm_session.specs.Listing.{command_lines, index_commands};
 
+use super::Executor;
 use crate::answer::Answer;
 use crate::records::push_changed;
 use mm_catalog::Catalog;
@@ -17,7 +18,6 @@ use mm_lang::{print_index, print_table};
 use mm_relation::{Relation, Relations};
 use no_memory::NoMemory;
 use plain_tables::TableNumber;
-use std::alloc::Global;
 
 // A line for each index that is declared on a table.
 fn push_index_lines(lines: &mut String, name: &str, relation: &Relation) -> Result<(), NoMemory>
@@ -50,14 +50,16 @@ fn push_table_lines(
     push_index_lines(lines, name, relation)
 }
 
-/// Adds what declares the tables to the answer, and how many there are.
-pub fn list_tables(alloc: Global, catalog: &Catalog, answer: &mut Answer) -> Result<(), NoMemory>
-    ensures { OnOk result (answer.new ≡ answer.old ++ answer_text (Listed (database_of catalog.now))) }
-{
-    let mut lines = String::new(alloc);
-    for number in 0..catalog.table_count() {
-        push_table_lines(&mut lines, catalog, TableNumber(number))?;
+impl Executor {
+    /// Adds what declares the tables to the answer, and how many there are.
+    pub fn list_tables(&self, answer: &mut Answer) -> Result<(), NoMemory>
+        ensures { OnOk result (answer.new ≡ answer.old ++ answer_text (Listed (database_of self.now.catalog))) }
+    {
+        let mut lines = String::new(self.alloc);
+        for number in 0..self.catalog.table_count() {
+            push_table_lines(&mut lines, &self.catalog, TableNumber(number))?;
+        }
+        answer.push(lines.as_bytes())?;
+        push_changed(answer, self.catalog.table_count())
     }
-    answer.push(lines.as_bytes())?;
-    push_changed(answer, catalog.table_count())
 }

@@ -1,25 +1,22 @@
-use Rattle.std.proofs.Common.{◌≡◌, ◌<◌, ◌≤◌, length, ap, ◌∙◌, arith}
-use Rattle.plain_tables.specs.declared.command.Limits.{Limits}
+use Rattle.std.proofs.Common.{◌<◌, ◌≤◌, length, arith}
 use Rattle.plain_streams.specs.Requests.{Request}
 use Rattle.plain_streams.specs.Division.{IsWhole}
 use Rattle.mm_catalog.specs.Seen.{database_of}
 use Rattle.mm_session.proofs.BesideLemmas.{has_block-whole, answers-whole_too_long}
 use Rattle.mm_session.proofs.responder.Responder.answer_request.Goals as goal
 
-pub returns-then-block-from-clause-ok : goal.returns-then-block-from-clause-ok
-returns-then-block-from-clause-ok c =
-    let limits = c.args.self.now.catalog.limits in
+pub returns-then-block-block_limit-clause-ok : goal.returns-then-block-block_limit-clause-ok
+returns-then-block-block_limit-clause-ok c =
+    let limits = c.args.self.now.executor.catalog.limits in
     let request : Request = record { line = c.args.line.now; block = c.args.block.now } in
     let whole : IsWhole request = c.is_whole.ensures.0 c.if-not-is_whole.false in
-    let limit : c.from.result ≡ limits.block = c.from.ensures ∙ ap (λ (l : Limits). l.block) c.limits.ensures in
-    let long : limits.block < length c.args.block.now = omega arith in
-    record { whole = whole; answers = answers-whole_too_long limits (database_of c.args.self.now.catalog) request c.set.new.self whole long c.set.ensures }
+    let long : limits.block < length c.args.block.now = omega (arith, c.block_limit.ensures) in
+    record { whole = whole; answers = answers-whole_too_long limits (database_of c.args.self.now.executor.catalog) request c.set.new.self whole long c.set.ensures }
 
 pub returns-clause-ok : goal.returns-clause-ok
 returns-clause-ok c =
-    let limits = c.args.self.now.catalog.limits in
+    let limits = c.args.self.now.executor.catalog.limits in
     let request : Request = record { line = c.args.line.now; block = c.args.block.now } in
     let whole : IsWhole request = c.is_whole.ensures.0 c.if-not-is_whole.false in
-    let limit : c.from.result ≡ limits.block = c.from.ensures ∙ ap (λ (l : Limits). l.block) c.limits.ensures in
-    let within : length c.args.block.now ≤ limits.block = omega arith in
-    record { whole = whole; answers = c.respond.ensures.answers (has_block-whole limits request whole within) }
+    let within : length c.args.block.now ≤ limits.block = omega (arith, c.block_limit.ensures) in
+    record { whole = whole; answers = c.respond.ensures.answers c.args.line.now c.judge-judged.ensures (has_block-whole limits request whole within) }

@@ -13,7 +13,7 @@ returns-in-Ok-clause-ok g c = (
   c.as_slice.result.now,
   c.in-Ok.ensures.ok,
   rw (← c.self.view_is, c.as_slice.ensures)
-      (finishes_last _ c.finish.new.self.answer (database_of c.finish.new.self.catalog) (sym c.is_nothing.ensures ∙ c.if-is_nothing.false) c.finish.ensures),
+      (finishes_last _ c.finish.new.self.answer (database_of c.finish.new.self.executor.catalog) (sym c.is_nothing.ensures ∙ c.if-is_nothing.false) c.finish.ensures),
 )
 
 pub returns-clause-write : goal.returns-clause-write
@@ -22,5 +22,5 @@ returns-clause-write g c = λ _.
       sent,
       gained,
       rw (← c.self.view_is) (breaks_off_at_end _ c.finish.new.self.answer sent unsent
-          (finishes_last _ c.finish.new.self.answer (database_of c.finish.new.self.catalog) (sym c.is_nothing.ensures ∙ c.if-is_nothing.false) c.finish.ensures) (sym c.as_slice.ensures ∙ is)),
+          (finishes_last _ c.finish.new.self.answer (database_of c.finish.new.self.executor.catalog) (sym c.is_nothing.ensures ∙ c.if-is_nothing.false) c.finish.ensures) (sym c.as_slice.ensures ∙ is)),
     )
