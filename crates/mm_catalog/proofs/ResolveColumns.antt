@@ -168,9 +168,10 @@ module _ (source : ℕ) (table : List ℕ) (whole : List Column) where
 pub meant_there : (scope : Scope) (name : ColName) (joined : JoinedColumn) → column_meant (columns_of scope) name ≡ Some joined
     → slice_get scope.columns.now joined.place.column.0 ≡ Some joined.column
 meant_there scope name joined h =
-    find_satisfies (IsThere 0 scope.name.now scope.columns.now) (fits name) (columns_of scope) joined
+    let own = source_columns (0, scope) in
+    find_satisfies (IsThere 0 scope.name.now scope.columns.now) (fits name) own joined
     (numbered_there 0 scope.name.now scope.columns.now 0 scope.columns.now (λ i. ap (slice_get scope.columns.now) (zero-add i)))
-    (find_meant (fits_one (columns_of scope) name) (find (fits name) (columns_of scope)) joined h)
+    (find_meant (fits_one own name) (find (fits name) own) joined (ap (λ cs. column_meant cs name) (sym (append-nil own)) ∙ h))
 
 -- where none has a place none passes
 pub position_none : {X : Type 0} (p : X → Bool) (xs : List X) → position p xs ≡ None → All (λ x. p x ≡ false) xs

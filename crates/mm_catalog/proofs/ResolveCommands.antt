@@ -71,8 +71,8 @@ module _ (tables : Database) (name : List ℕ) (scope : Scope) (h : IsScopeOf ta
   own_columns-are : own_columns h.table ≡ columns_of scope
   own_columns-are =
       let own : List ℕ → List Column → List JoinedColumn =
-      λ name columns. map (λ c. record { table = name; place = own_place (column_number c.0); column = c.1 }) (enumerate_from 0 columns) in
-      append-nil (own h.table.name h.table.columns) ∙ ap (λ name. own name h.table.columns) h.called ∙ ap (own scope.name.now) h.columns
+      λ name columns. map (λ c. record { table = name; place = own_place (column_number c.0); column = c.1 }) (enumerate_from 0 columns) ++ [] in
+      ap (λ name. own name h.table.columns) h.called ∙ ap (own scope.name.now) h.columns
 
   abbrev columns : List JoinedColumn
   columns = columns_of scope

@@ -121,7 +121,7 @@ module _ (tables : Database) where
   columns_are names scopes all = columns_from 0 (once names) scopes all
 
   own_columns_are : (name : List ℕ) (own : Scope) → IsScopeOf tables name own → named_columns tables (name ∷ []) ≡ columns_of own
-  own_columns_are name own h = columns_from 0 (name ∷ []) (own ∷ []) (h, tt) ∙ append-nil (columns_of own)
+  own_columns_are name own h = columns_from 0 (name ∷ []) (own ∷ []) (h, tt)
 
 -- ---- joins, one after another
 

@@ -1,5 +1,5 @@
 -- What a command names of a catalog: a table, and columns of it.
-use Rattle.std.specs.Prelude.{◌≡◌, ℕ, List, [], Option, Some, None, map}
+use Rattle.std.specs.Prelude.{◌≡◌, ℕ, List, [], ◌∷◌, Option, Some, None, map}
 use Rattle.std.specs.List.{enumerate_from, flat_map}
 use Rattle.std.specs.Option.{option_map, option_copied}
 use Rattle.plain_tables.specs.Tables.{Table}
@@ -43,13 +43,13 @@ abbrev pub source_columns : ℕ × Scope → List JoinedColumn
 source_columns s =
     map (λ c. record { table = s.1.name.now; place = place_in s.0 (column_number c.0); column = c.1 }) (enumerate_from 0 s.1.columns.now)
 
--- the columns that can be named in a command on the table of a scope
-abbrev pub columns_of : Scope → List JoinedColumn
-columns_of scope = source_columns (0, scope)
-
 -- the columns that can be named in a command on the tables of scopes
 abbrev pub columns_of_all : List Scope → List JoinedColumn
 columns_of_all scopes = flat_map source_columns (enumerate_from 0 scopes)
+
+-- the columns that can be named in a command on the table of a scope alone
+abbrev pub columns_of : Scope → List JoinedColumn
+columns_of scope = columns_of_all (scope ∷ [])
 
 -- a column and its place, among joined columns and as it was found
 abbrev pub placed : JoinedColumn → Place × Column

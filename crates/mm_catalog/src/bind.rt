@@ -5,6 +5,7 @@
 mod checks;
 mod joined_scope;
 mod named;
+mod names;
 mod resolve;
 mod scope;
 mod selected;

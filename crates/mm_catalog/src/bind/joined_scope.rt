@@ -7,11 +7,13 @@ ghost use Rattle.plain_tables.specs.declared.refusal.Refusal.TheVariants as refu
 ghost use Rattle.plain_tables.specs.Queries.{column_meant, sides_meant, side_name};
 ghost use Rattle.mm_catalog.specs.Seen.{database_of};
 
+use crate::bind::names::column;
 use crate::bind::scope::{Name, NamedColumn, Scope};
 use crate::catalog::Catalog;
 use no_memory::NoMemory;
 use plain_tables::{Join, JoinSide, Refusal, Text};
 use std::alloc::Global;
+use std::slice::from_ref;
 
 /// The two columns that a join makes equal: one of the tables before it, and one of its own.
 #[derive(Clone, Copy)]
@@ -78,30 +80,13 @@ impl<'a> JoinedScope<'a> {
         })
     }
 
-    /// The column that a name means, where it fits just one column of the tables.
-    pub fn column(&self, name: Name<'_>) -> Option<NamedColumn<'a>>
-        ensures meant { option_map as_found result ≡ option_map placed (column_meant (columns_of_all self.now.scopes.items) (written name.entry)) }
-        ensures within { IfSome result (λ named. named.place.source < length self.now.scopes.items) }
-    {
-        let mut found = None;
-        for (source, scope) in self.scopes.iter().enumerate() {
-            if let Some(named) = scope.column(source, name) {
-                if found.is_some() {
-                    return None;
-                }
-                found = Some(named);
-            }
-        }
-        found
-    }
-
     // The columns of a join, where the one side names a column of these tables, and the other one of its own table.
     fn sides_so(&self, own: &Scope<'a>, outer: &JoinSide, inner: &JoinSide) -> Option<Sides<'a>>
         ensures { option_map sides_found result ≡ option_map placed_sides (option_zip (column_meant (columns_of_all self.now.scopes.items) (side_name outer.now)) (column_meant (columns_of own.now) (side_name inner.now))) }
     {
         Some(Sides {
-            outer: self.column(Name::of_side(outer))?,
-            inner: own.column(0, Name::of_side(inner))?,
+            outer: column(&self.scopes, Name::of_side(outer))?,
+            inner: column(from_ref(own), Name::of_side(inner))?,
         })
     }
 

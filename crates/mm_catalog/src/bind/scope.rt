@@ -10,12 +10,14 @@ ghost use Rattle.plain_tables.specs.References as plain;
 ghost use Rattle.plain_tables.specs.declared.schema.IndexKind.TheVariants as index;
 ghost use Rattle.mm_catalog.specs.Seen.{database_of, plain_index};
 
+use crate::bind::names::column;
 use crate::catalog::Catalog;
 use crate::laws::a_catalog_is_consistent;
 use mm_relation::DeclaredIndex;
 use plain_tables::{
     ColName, Column, ColumnNumber, IndexKind, JoinSide, Place, Refusal, TableNumber, Text,
 };
+use std::slice::from_ref;
 
 /// A column's name, and the name of its table where one is written before it.
 #[derive(Clone, Copy)]
@@ -158,7 +160,7 @@ impl<'a> Scope<'a> {
     pub fn place(&self, name: Name<'_>) -> Option<ColumnNumber>
         ensures { option_map own_place result ≡ place_meant (columns_of self.now) (written name.entry) }
     {
-        let named = self.column(0, name)?;
+        let named = column(from_ref(self), name)?;
         Some(named.place.column)
     }
 

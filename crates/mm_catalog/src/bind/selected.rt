@@ -10,6 +10,7 @@ ghost use Rattle.plain_tables.specs.Effects.{misses, condition_names};
 ghost use Rattle.mm_catalog.specs.Select.{with_test, untested, joined_by};
 
 use crate::bind::joined_scope::JoinedScope;
+use crate::bind::names::column;
 use crate::bind::scope::{Name, Scope};
 use no_memory::NoMemory;
 use plain_tables::{ColName, Cond, Items, Joined, Place, Refusal, Sequence, Shown, Source, Test};
@@ -42,7 +43,7 @@ impl<'a> JoinedScope<'a> {
         ensures meant { result ≡ place_meant (columns_of_all self.now.scopes.items) name.now }
         ensures within { IfSome result (λ place. place.source < length self.now.scopes.items) }
     {
-        let named = self.column(Name::of(name))?;
+        let named = column(&self.scopes, Name::of(name))?;
         Some(named.place)
     }
 

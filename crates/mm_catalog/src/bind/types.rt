@@ -12,6 +12,7 @@ ghost use Rattle.mm_catalog.specs.Resolve.{columns_of_all};
 ghost use Rattle.mm_catalog.specs.Select.{sides_differ};
 
 use crate::bind::joined_scope::{JoinedScope, Sides};
+use crate::bind::names::column;
 use crate::bind::scope::Name;
 use crate::catalog::Catalog;
 use crate::create::referred;
@@ -169,7 +170,7 @@ impl Catalog {
     fn condition_is_mistyped(&self, scope: &JoinedScope<'_>, condition: &Cond) -> bool
         ensures { result ≡ resolving.is_mistyped (database_of self.now) (columns_of_all scope.now.scopes.items) condition.now }
     {
-        let mistyped = match scope.column(Name::of(&condition.column)) {
+        let mistyped = match column(&scope.scopes, Name::of(&condition.column)) {
             Some(named) => !self.is_typed(&condition.value, &named.column.kind),
             None => false,
         };

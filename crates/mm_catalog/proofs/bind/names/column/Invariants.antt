@@ -2,10 +2,10 @@ use Rattle.std.proofs.Common.{◌≡◌, ◌<◌, length, take}
 use Rattle.std.specs.Option.{IfSome, option_map, option_to_list}
 use Rattle.mm_catalog.specs.Resolve.{columns_of_all, written, as_found}
 use Rattle.mm_catalog.proofs.ResolveColumns.{fitted}
-use Rattle.mm_catalog.proofs.bind.joined_scope.JoinedScope.column.Given as goal
+use Rattle.mm_catalog.proofs.bind.names.column.Given as goal
 
 abbrev pub invariant-loop-source : goal.invariant-loop-source
 invariant-loop-source l = record {
-  fitted : fitted (written l.name) (columns_of_all (take l.source l.self.scopes.items)) ≡ option_to_list (option_map as_found l.found);
-  within : IfSome l.found (λ named. named.place.source < length l.self.scopes.items);
+  fitted : fitted (written l.name) (columns_of_all (take l.source l.scopes)) ≡ option_to_list (option_map as_found l.found);
+  within : IfSome l.found (λ named. named.place.source < length l.scopes);
 }
