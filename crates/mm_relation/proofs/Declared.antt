@@ -21,7 +21,7 @@ use Rattle.mm_relation.specs.declared.numbers.DeclaredIndex.{DeclaredIndex}
 use Rattle.mm_relation.specs.declared.index.IndexOn.{IndexOn}
 use Rattle.mm_relation.specs.Reading.{Keys, value_at, row_value}
 use Rattle.mm_relation.specs.State.{RowTree, tree_list, IsKept, IsCurrent, TreeServes, HashServes, columns_with_tree, columns_with_hash, is_tree}
-use Rattle.mm_relation.specs.Indexes.{Indexes, SeenIndex, seen, tree_in, entries_in, kind_in, declaration_of, trees_of, hashes_of, Serve, Serves}
+use Rattle.mm_relation.specs.Indexes.{Indexes, SeenIndex, seen, tree_in, entries_in, declaration_of, trees_of, hashes_of, Serve, Serves}
 use Rattle.mm_relation.specs.Declaring.{declaration, IsAdded, IsDeclaredOf, without_first, is_index, without_of}
 use Rattle.mm_relation.specs.Changes.{has_declared_on}
 use Rattle.mm_relation.specs.Seen.{state}

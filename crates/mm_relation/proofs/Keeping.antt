@@ -1,5 +1,5 @@
 -- What a relation keeps, told of its parts.
-use Rattle.std.proofs.Common.{◌≡◌, ◌≤◌, ◌<◌, ◌+◌, ℕ, List, [], ◌∷◌, IfSome, IfNone, Option, Some, None, IsSome, is_some, Bool, true, false, cond, not, zero, suc, get_or, refl, sym, ap, ◌∙◌, arith, subst, length, map, filter, inl, inr}
+use Rattle.std.proofs.Common.{◌≡◌, ◌≤◌, ◌<◌, ◌+◌, ℕ, List, [], ◌∷◌, IfSome, IfNone, Option, Some, None, IsSome, is_some, Bool, true, false, cond, not, zero, suc, refl, sym, ap, ◌∙◌, arith, subst, length, map, filter, inl, inr}
 use Rattle.std.specs.List.{All, Contains}
 use Rattle.std.specs.Option.{option_and_then}
 use Rattle.std.proofs.lemmas.List.Elements.{All-contains}
@@ -12,7 +12,6 @@ use Rattle.part_raw.proofs.Lookup.{same_or_other}
 use Rattle.plain_tables.specs.declared.schema.Schema.{Schema}
 use Rattle.mm_relation.specs.declared.row.Row.{Row}
 use Rattle.mm_relation.specs.declared.numbers.DeclaredIndex.{DeclaredIndex}
-use Rattle.mm_relation.specs.declared.index.IndexOn.{IndexOn}
 use Rattle.mm_relation.specs.Reading.{Keys, row_value}
 use Rattle.mm_relation.specs.State.{RowTree, tree_list, IsKeyed, IsKept, IsCurrent, IsReadable, TreeServes, HashServes, columns_with_tree, columns_with_hash, is_tree}
 use Rattle.mm_relation.specs.Indexes.{Indexes, SeenIndex, seen, declaration_of, kind_in, trees_of, hashes_of, Where, Serve, Serves, CanRead, CanReadRow, IsColumn}

@@ -1,12 +1,11 @@
 -- A loop that changes each element of a list in turn.
-use Rattle.std.proofs.Common.{Bool, ◌||◌, ◌≡◌, ◌≢◌, ◌≤◌, ◌<◌, ◌+◌, ℕ, suc, List, [], ◌∷◌, map, refl, sym, ap, ◌∙◌, arith, subst, length, get_or, inl, inr, get_or-set_same, get_or-set_other}
+use Rattle.std.proofs.Common.{◌≡◌, ◌≢◌, ◌≤◌, ◌<◌, ◌+◌, ℕ, suc, List, [], ◌∷◌, map, refl, sym, ◌∙◌, arith, subst, length, get_or, inl, inr, get_or-set_same, get_or-set_other}
 use Rattle.std.proofs.Math.ListN.{set}
 use Rattle.std.proofs.Math.Seq.{take-append_seam}
-use Rattle.std.specs.List.{All, refill, list_any}
+use Rattle.std.specs.List.{All, refill}
 use Rattle.std.proofs.Common.{drop}
 use Rattle.std.proofs.lemmas.List.{get_or_default}
 use Rattle.std.proofs.lemmas.Bool.{cases_order}
-use Rattle.common_lemmas.proofs.Tests.{list_any-map}
 
 module _ {A : Type 0} (P : A → A → Type 0) (old now : List A) (i : ℕ) (x : A) (inside : i < length now) (left : (k : ℕ) (d : A) → i ≤ k → get_or now k d ≡ get_or old k d) where
   pub changed_so_far : ((k : ℕ) (d : A) → k < i → P (get_or old k d) (get_or now k d)) → ((d : A) → P (get_or old i d) x) → (k : ℕ) (d : A) → k < i + 1 → P (get_or old k d) (get_or (set now i x) k d)

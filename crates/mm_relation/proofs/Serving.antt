@@ -1,5 +1,5 @@
 -- Declared indexes that serve a list of references, as a row comes and goes.
-use Rattle.std.proofs.Common.{length, get_or, inl, inr, ◌^◌, ◌==◌, ◌&&◌, ◌≡◌, ◌<◌, ◌≤◌, ◌+◌, ◌∷◌, ℕ, List, IsSome, [], true, false, refl, sym, ap, ◌∙◌, arith, subst, map, count_by, Bool, cond}
+use Rattle.std.proofs.Common.{length, get_or, ◌^◌, ◌==◌, ◌&&◌, ◌≡◌, ◌<◌, ◌≤◌, ◌+◌, ◌∷◌, ℕ, List, IsSome, [], true, false, refl, sym, ap, ◌∙◌, arith, subst, map, count_by, Bool, cond}
 use Rattle.std.specs.List.{All, Contains}
 use Rattle.std.proofs.lemmas.List.Elements.{All-contains, All-map, Contains-get_or}
 use Rattle.std.proofs.lemmas.List.{get_or-map, length-map}
@@ -15,17 +15,15 @@ use Rattle.mm_index.proofs.Refs.{same_ref, Decides-same_ref, Contains-same_refs}
 use Rattle.mm_index.proofs.Listed.{IsRising-agree, IsSameBag-insert_by, IsSameBag-remove_by}
 use Rattle.mm_relation.specs.declared.row.Row.{Row}
 use Rattle.ttree_node.specs.TreeWithSpares.{TreeWithSpares}
-use Rattle.lin_hash.specs.Held.{HeldBuckets}
 use Rattle.mm_relation.specs.declared.index.Index.{Index}
 use Rattle.mm_relation.specs.declared.index.Index.TheVariants.{Tree, Hash}
 use Rattle.mm_relation.specs.declared.index.IndexOn.{IndexOn}
 use Rattle.plain_tables.specs.declared.numbers.ColumnNumber.{ColumnNumber}
-use Rattle.plain_tables.specs.declared.schema.IndexKind.{IndexKind}
 use Rattle.mm_relation.specs.declared.numbers.DeclaredIndex.{DeclaredIndex}
 use Rattle.mm_relation.specs.Reading.{Keys, value_at, key_at, hash_at, hash_of_value}
 use Rattle.mm_relation.specs.Order.{KeysDiffer, column_cmp, column_cmp_strict}
 use Rattle.mm_relation.specs.State.{RowTree, tree_list, is_tree, TreeServes, HashServes}
-use Rattle.mm_relation.specs.Indexes.{Indexes, SeenIndex, seen, seen_as, kind_in, declaration_of, room_in, wanted, Where, Await, Gain, Have, Lose, Serve, Serves, HaveRoom, IsColumn, TreeAwaits, TreeGains, TreeHas, TreeLoses, HashGains, HashLoses, Awaits, AwaitsAs, Gains, GainsAs, HasAs, Loses, LosesAs}
+use Rattle.mm_relation.specs.Indexes.{Indexes, SeenIndex, seen, seen_as, kind_in, declaration_of, room_in, wanted, Where, Await, Gain, Have, Lose, Serve, Serves, HaveRoom, IsColumn, TreeAwaits, TreeGains, TreeHas, TreeLoses, Awaits, AwaitsAs, Gains, GainsAs, HasAs, Loses, LosesAs}
 use Rattle.mm_relation.proofs.Loops.{same_mapped}
 
 -- what is left of two bags from which one element is taken

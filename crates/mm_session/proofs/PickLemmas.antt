@@ -46,39 +46,6 @@ rising_apart cmp total xs rises i j d before within same =
     let no : Less ≡ Equal = sym below ∙ level in
     cc
 
--- ---- the references of a list of one source
-
--- an element, if there is one
-abbrev if_any : {A : Type 0} → Option A → List A
-if_any None = []
-if_any (Some x) = x ∷ []
-
-abbrev behind : {A : Type 0} → List A → List A
-behind [] = []
-behind (x ∷ xs) = xs
-
-gathered : {A B : Type 0} (g : A → Option B) (bs : List B) (xs : List A) → map (λ b. Some b) bs ≡ map g xs → bs ≡ flat_map (λ x. if_any (g x)) xs
-gathered g [] [] e = refl
-gathered g [] (x ∷ xs) e = cc
-gathered g (b ∷ bs) [] e = cc
-gathered {A} {B} g (b ∷ bs) (x ∷ xs) e =
-    let head : Some b ≡ g x = same_Some (Some b) (g x) (ap (λ (os : List (Option B)). slice_get os 0) e) in
-    ap (λ cs. b ∷ cs) (gathered g bs xs (ap behind e))
-    ∙ ap (λ o. if_any o ++ flat_map (λ y. if_any (g y)) xs) head
-    ∙ sym (flat_map-cons (λ y. if_any (g y)) x xs)
-
-firsts : (refs : List TupleRef) → flat_map (λ (row : List TupleRef). if_any (slice_get row 0)) (map (λ r. r ∷ []) refs) ≡ refs
-firsts [] = refl
-firsts (r ∷ refs) =
-    flat_map-cons (λ (row : List TupleRef). if_any (slice_get row 0)) (r ∷ []) (map (λ q. q ∷ []) refs) ∙ ap (λ qs. r ∷ qs) (firsts refs)
-
--- they are those of the bag
-pub found_bag : (refs found : List TupleRef) (rows : List (List TupleRef)) → map (λ r. Some r) refs ≡ map (λ row. slice_get row 0) rows → IsSameBag rows (map (λ r. r ∷ []) found) → IsSameBag refs found
-found_bag refs found rows read bag =
-    subst (λ (qs : List TupleRef). IsSameBag refs qs) (firsts found)
-    (subst (λ (qs : List TupleRef). IsSameBag qs (flat_map (λ (row : List TupleRef). if_any (slice_get row 0)) (map (λ r. r ∷ []) found))) (sym (gathered (λ (row : List TupleRef). slice_get row 0) refs rows read))
-    (IsSameBag-flat_map (λ (row : List TupleRef). if_any (slice_get row 0)) bag))
-
 -- ---- the rows that pass
 
 -- a bag of references that repeats nothing repeats nothing in another order

@@ -9,7 +9,7 @@ use Rattle.part_raw.specs.Layout.{tuples_of, tuples_from, IsVacant}
 use Rattle.part_raw.specs.Open.{HaveBitmaps}
 use Rattle.part_raw.specs.declared.store.Occupancy.{Occupancy}
 use Rattle.part_raw.proofs.Tuples.{same_tuples, get-insert_same, get-insert_other, get-remove_same, get-remove_other}
-use Rattle.part_raw.proofs.Refs.{ref_to-itself, slot_of-within, part_of-to, slot_of-to}
+use Rattle.part_raw.proofs.Refs.{ref_to-itself, part_of-to, slot_of-to}
 use Rattle.part_raw.proofs.Lookup.{held_in, AreSmall, get-tuples_of, same_or_other}
 
 -- what each slot of each block holds

@@ -1,7 +1,7 @@
 //! The plans that there are.
 
 use mm_relation::Relation;
-use plain_tables::{ColumnNumber, TableNumber};
+use plain_tables::{ColumnNumber, TableNumber, Test};
 
 /// How the rows of a table that pass tests are found. The number is that of the test, counted from 0, for which an index is
 /// searched; the other tests are made on each row that is found so.
@@ -44,10 +44,12 @@ pub enum NextJoinPlan {
     Precomputed,
 }
 
-/// One side of a join: a table, by its number and its rows, and the column of it whose values are compared.
+/// One side of a join: a table, by its number and its rows; the column of it whose values are compared; and what its rows have
+/// to pass.
 #[derive(Clone, Copy)]
 pub struct Side<'a> {
     pub table: TableNumber,
     pub relation: &'a Relation,
     pub column: ColumnNumber,
+    pub tests: &'a [Test],
 }

@@ -253,6 +253,7 @@ fn side<'a>(rt: &impl Abort, table: TableNumber, relation: &'a Relation, column:
         table,
         relation,
         column: ColumnNumber(column),
+        tests: &[],
     }
 }
 

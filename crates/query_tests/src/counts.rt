@@ -73,7 +73,7 @@ fn join(
     alloc: Global,
     tables: &Counting<'_>,
     method: Method,
-    link: &Link,
+    link: &Link<'_>,
 ) -> Result<TempList, NoMemory>
     requires { AreJoinable tables.now.catalog.now.relations link.now.key link.now.reference }
 {

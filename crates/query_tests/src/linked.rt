@@ -1,37 +1,44 @@
 //! Two tables of which one refers to the other, as the joins ask for them.
-ghost use Rattle.std.specs.Prelude.{◌≡◌, ◌<◌, Some, length, slice_get};
+ghost use Rattle.std.specs.Prelude.{◌≡◌};
 ghost use Rattle.mm_relation.specs.Changes.{HasTree};
+ghost use Rattle.join_ops.specs.Joins.{IsThere};
 ghost use Rattle.query_tests.specs.Linked.{AreJoinable};
 
-use join_ops::Joinable;
 use mm_catalog::Catalog;
 use mm_catalog::laws::a_catalog_is_consistent;
 use mm_relation::{Relation, Relations};
 use plain_tables::{ColumnNumber, TableNumber};
+use plan_chooser::Side;
 use std::process::Abort;
 
 /// The key of a table, and a column of another that refers to it.
 #[derive(Clone, Copy)]
-pub struct Link {
-    pub key: Joinable<'static>,
-    pub reference: Joinable<'static>,
+pub struct Link<'a> {
+    pub key: Side<'a>,
+    pub reference: Side<'a>,
 }
 
-// The relation of a table that has this column.
-fn relation_with<'a>(
+// A column of a table as a side of a join, without tests.
+fn side<'a>(
     rt: &impl Abort,
     catalog: &'a Catalog,
     table: TableNumber,
     column: ColumnNumber,
-) -> &'a Relation
-    ensures there { slice_get catalog.now.relations table.0 ≡ Some result.now }
-    ensures wide { column.0 < length result.now.schema.columns }
+) -> Side<'a>
+    ensures table { result.table ≡ table }
+    ensures column { result.column ≡ column }
+    ensures there { IsThere catalog.now.relations result }
 {
     assert!(rt; table.0 < catalog.table_count());
     a_catalog_is_consistent(catalog);
     let relation = catalog.at(table);
     assert!(rt; column.0 < relation.schema().columns.len());
-    relation
+    Side {
+        table,
+        relation,
+        column,
+        tests: &[],
+    }
 }
 
 // A tree stands on the column.
@@ -42,22 +49,13 @@ fn has_tree(rt: &impl Abort, relation: &Relation, column: ColumnNumber)
 }
 
 /// The link of the second table's second column. A tree stands on it.
-pub fn find_link(rt: &impl Abort, catalog: &Catalog) -> Link
+pub fn find_link<'a>(rt: &impl Abort, catalog: &'a Catalog) -> Link<'a>
     ensures { AreJoinable catalog.now.relations result.key result.reference }
 {
     a_catalog_is_consistent(catalog);
-    let reference = Joinable {
-        table: TableNumber(1),
-        column: ColumnNumber(1),
-        tests: &[],
-    };
-    let relation = relation_with(rt, catalog, reference.table, reference.column);
-    has_tree(rt, relation, reference.column);
-    let key = Joinable {
-        table: relation.target(reference.column).expect(rt, "no target"),
-        column: ColumnNumber(0),
-        tests: &[],
-    };
-    relation_with(rt, catalog, key.table, key.column);
+    let reference = side(rt, catalog, TableNumber(1), ColumnNumber(1));
+    has_tree(rt, reference.relation, reference.column);
+    let target = reference.relation.target(reference.column);
+    let key = side(rt, catalog, target.expect(rt, "no target"), ColumnNumber(0));
     Link { key, reference }
 }

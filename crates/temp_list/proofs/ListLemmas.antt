@@ -69,29 +69,3 @@ module _ (relations : List RelationState) (list : ListState) (over : IsOver rela
   place_value e other is =
       let one : row ≡ other = same_at (slice_get list.rows i) row other at is in
       sym (place_read relations list.sources row place s (get_or row place.source e) from (slice_get-get_or row place.source e place_wide)) ∙ ap (λ (q : List TupleRef). value_of relations list.sources q place) one
-
--- ---- a list's parts
-
--- a row that is read has a reference of each source
-pub reference_inside : (sources : List TableNumber) (rows : List (SmallVec TupleRef)) (columns : List Place) (seen : ListState) → list_of sources rows columns ≡ seen → IsEven (list_of sources rows columns) → (read : List (SmallVec TupleRef)) → read ≡ rows
-    → (i : ℕ) (row : SmallVec TupleRef) → i < length read → row ≡ get_or read i row → (source : ℕ) → source < length seen.sources → source < length row.items
-reference_inside sources rows columns seen is even read same i row within item source there =
-    let one : row ≡ get_or rows i row = item ∙ ap (λ (qs : List (SmallVec TupleRef)). get_or qs i row) same in
-    let long : length (get_or rows i row).items ≡ length (map (λ (t : TableNumber). t.0) sources) = All-at (λ q. length q ≡ length (map (λ (t : TableNumber). t.0) sources)) rows even.rows i row (omega (arith, ap length same)) in
-    omega (arith, long, ap (λ (q : SmallVec TupleRef). length q.items) one, ap (λ (l : ListState). length l.sources) is, there)
-  where
-    All-at : (P : List TupleRef → Type 0) (rows : List (SmallVec TupleRef)) → All P (map (λ q. q.items) rows) → (i : ℕ) (d : SmallVec TupleRef) → i < length rows → P (get_or rows i d).items
-    All-at P [] each i d h = absurd (omega arith)
-    All-at P (q ∷ rows) each zero d h = each 0 q.items (omega arith)
-    All-at P (q ∷ rows) each (suc i) d h = All-at P rows (λ k e l. each (suc k) e (omega arith)) i d (omega arith)
-
--- the references of one more row
-pub references_next : (refs : List TupleRef) (rows : List (SmallVec TupleRef)) (i source : ℕ) (row : SmallVec TupleRef) (d : TupleRef) → i < length rows → row ≡ get_or rows i row → source < length row.items
-    → map (λ r. Some r) refs ≡ map (λ (q : SmallVec TupleRef). slice_get q.items source) (take i rows)
-    → map (λ r. Some r) (refs ++ get_or row.items source d ∷ []) ≡ map (λ (q : SmallVec TupleRef). slice_get q.items source) (take (i + 1) rows)
-references_next refs rows i source row d within item inside so =
-    let f : SmallVec TupleRef → Option TupleRef = λ q. slice_get q.items source in
-    let r : TupleRef = get_or row.items source d in
-    let here : Some r ≡ f (get_or rows i row) = sym (slice_get-get_or row.items source d inside) ∙ ap f item in
-    map-append (λ (q : TupleRef). Some q) refs (r ∷ []) ∙ ap (λ (qs : List (Option TupleRef)). qs ++ Some r ∷ []) so ∙ ap (λ (o : Option TupleRef). map f (take i rows) ++ o ∷ []) here
-    ∙ sym (map-append f (take i rows) (get_or rows i row ∷ [])) ∙ ap (map f) (sym (take_more rows i row within))

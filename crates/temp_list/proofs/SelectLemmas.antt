@@ -25,57 +25,29 @@ use Rattle.mm_relation.proofs.KeyOrder.{some_alike}
 use Rattle.mm_relation.specs.State.{tree_list, RelationState, IsKept}
 use Rattle.temp_list.specs.Reading.{OfRelation, value_in, row_passes, passing, bounds, is_between}
 use Rattle.temp_list.specs.Lists.{ListState, IsOver, IsRowOver, relation_of}
-use Rattle.temp_list.specs.Selecting.{IsSelected}
+use Rattle.temp_list.specs.Selecting.{AreSelected}
 use Rattle.temp_list.proofs.ListLemmas.{same_at}
 use Rattle.temp_list.proofs.SearchLemmas.{IsSameBag-filter, filter_inner}
 
--- a list with these rows of one table
-abbrev pub listing : ℕ → List TupleRef → ListState
-listing table refs = record { sources = table ∷ []; rows = map (λ r. r ∷ []) refs; columns = [] }
-
-module _ (relations : List RelationState) (table : ℕ) (s : RelationState) (lent : slice_get relations table ≡ Some s) where
-  row_over_one : (r : TupleRef) → IsSome (finite.get s.rows r) → IsRowOver relations (table ∷ []) (r ∷ [])
-  row_over_one r held = record { width = refl; held = at }
-    where
-      at : (source : ℕ) (t : RelationState) (q : TupleRef) → relation_of relations (table ∷ []) source ≡ Some t → slice_get (r ∷ []) source ≡ Some q → IsSome (finite.get t.rows q)
-      at zero t q from is =
-          let one : s ≡ t = same_at (slice_get relations table) s t lent from in
-          let same : r ≡ q = some_alike r q is in
-          subst (λ (u : RelationState). IsSome (finite.get u.rows q)) one (subst (λ (x : TupleRef). IsSome (finite.get s.rows x)) same held)
-      at (suc k) t q from is = cc
-
-  listing_over : (refs : List TupleRef) → All (λ r. IsSome (finite.get s.rows r)) refs → IsOver relations (listing table refs)
-  listing_over refs held = record {
-    sources = there;
-    rows = All-map (IsRowOver relations (table ∷ [])) (λ (r : TupleRef). r ∷ []) refs (λ k d l. row_over_one (get_or refs k d) (held k d l));
-    columns = λ k d l. absurd (omega arith);
-  }
-    where
-      there : All (λ n. n < length relations) (table ∷ [])
-      there zero d l = slice_get_within relations table s lent
-      there (suc k) d l = absurd (omega arith)
-
-  pub selected : (tests : List Test) (refs : List TupleRef) → All (λ r. IsSome (finite.get s.rows r)) refs → IsSameBag refs (passing relations s tests)
-      → (list : ListState) → list ≡ listing table refs → OfRelation relations table (λ t. IsSelected relations table t tests list)
-  selected tests refs held bag list is t at =
-      subst (λ (u : RelationState). IsSelected relations table u tests list) (same_at (slice_get relations table) s t lent at)
-      (subst (λ (l : ListState). IsSelected relations table s tests l) (sym is)
-      (record { sources = refl; columns = refl; over = listing_over refs held; rows = map_bag (λ (r : TupleRef). r ∷ []) refs (passing relations s tests) bag }))
+module _ (relations : List RelationState) (s : RelationState) (kept : IsKept s) where
+  pub passing_held : (tests : List Test) → All (λ r. IsSome (finite.get s.rows r)) (passing relations s tests)
+  passing_held tests = All-filter (row_passes relations s tests) (λ r. IsSome (finite.get s.rows r)) (tree_list s.by_key) kept.keyed.lists.held
 
   -- rows that some test picks are held
-  pub found_held : IsKept s → (found : List TupleRef) (so : TupleRef → Bool) → IsSameBag found (filter so (tree_list s.by_key)) → All (λ r. IsSome (finite.get s.rows r)) found
-  found_held kept found so bag = λ k d l.
+  pub found_held : (found : List TupleRef) (so : TupleRef → Bool) → IsSameBag found (filter so (tree_list s.by_key)) → All (λ r. IsSome (finite.get s.rows r)) found
+  found_held found so bag = λ k d l.
       All-contains (λ r. IsSome (finite.get s.rows r)) (tree_list s.by_key) (get_or found k d) kept.keyed.lists.held
       (Contains-from_filter so (tree_list s.by_key) (get_or found k d) (Contains-same_refs found (filter so (tree_list s.by_key)) (get_or found k d) bag (All-contains_itself found k d l))).0
 
-  -- rows among which are all that pass
-  pub selected_of : (kept : IsKept s) (tests : List Test) (found : List TupleRef) (so : TupleRef → Bool) → IsSameBag found (filter so (tree_list s.by_key)) → ((r : TupleRef) → row_passes relations s tests r ≡ true → so r ≡ true) → (list : ListState) → list ≡ listing table (filter (row_passes relations s tests) found) → OfRelation relations table (λ t. IsSelected relations table t tests list)
-  selected_of kept tests found so bag passes list is =
+  -- of rows among which are all that pass, those that pass
+  pub selected : (tests : List Test) (found rows : List TupleRef) (so : TupleRef → Bool) → IsSameBag found (filter so (tree_list s.by_key)) → ((r : TupleRef) → row_passes relations s tests r ≡ true → so r ≡ true) → rows ≡ filter (row_passes relations s tests) found → AreSelected relations s tests rows
+  selected tests found rows so bag passes is =
       let p : TupleRef → Bool = row_passes relations s tests in
-      selected tests (filter p found) (All-filter p (λ r. IsSome (finite.get s.rows r)) found (found_held kept found so bag))
-      (IsSameBag-trans (IsSameBag-filter p found (filter so (tree_list s.by_key)) bag)
-      (IsSameBag-from_same (filter p (filter so (tree_list s.by_key))) (filter p (tree_list s.by_key)) (filter_inner p so (tree_list s.by_key) (λ k d l. passes (get_or (tree_list s.by_key) k d)))))
-      list is
+      subst (AreSelected relations s tests) (sym is) (record {
+        held = All-filter p (λ r. IsSome (finite.get s.rows r)) found (found_held found so bag);
+        bag = IsSameBag-trans (IsSameBag-filter p found (filter so (tree_list s.by_key)) bag)
+            (IsSameBag-from_same (filter p (filter so (tree_list s.by_key))) (filter p (tree_list s.by_key)) (filter_inner p so (tree_list s.by_key) (λ k d l. passes (get_or (tree_list s.by_key) k d))));
+      })
 
 -- a row that passes all tests passes each
 pub passes_each : (relations : List RelationState) (s : RelationState) (tests : List Test) (n : ℕ) (test : Test) → n < length tests → test ≡ get_or tests n test → (r : TupleRef) → row_passes relations s tests r ≡ true → stands test.op (value_in relations s test.column.0 r) test.value ≡ true
@@ -119,10 +91,11 @@ passes_equality relations s tests n test within item served r e =
     (equality_op test.op (first_so (is_equality test.op) (has_hash_on s test.column.0) serves))
     (passes_each relations s tests n test within item r e)
 
--- what is read of a vector to which nothing but a bag was appended
-pub found_bag : {A : Type 0} (read items old bag : List A) → read ≡ items → old ≡ [] → AppendsBag old items bag → IsSameBag read bag
-found_bag read items old bag same none h = IsSameBag-trans (IsSameBag-from_same read h.0 (same ∙ h.1 ∙ ap (λ xs. xs ++ h.0) none)) h.2
+-- what is appended to an empty vector
+pub all_appended : {A : Type 0} (old new bag : List A) → old ≡ [] → AppendsBag old new bag → IsSameBag new bag
+all_appended {A} old new bag none h =
+    IsSameBag-trans (IsSameBag-from_same new h.0 (h.1 ∙ ap (λ (xs : List A). xs ++ h.0) none)) h.2
 
--- rows appended to none
-pub listing_after : (table : ℕ) (refs : List TupleRef) (old new : ListState) → old ≡ listing table [] → new ≡ record old { rows = old.rows ++ map (λ r. r ∷ []) refs } → new ≡ listing table refs
-listing_after table refs old new none more = more ∙ ap (λ (l : ListState). record l { rows = l.rows ++ map (λ (r : TupleRef). r ∷ []) refs }) none
+-- the relation that is lent is that of the table
+pub selected_there : (relations : List RelationState) (table : ℕ) (s : RelationState) → slice_get relations table ≡ Some s → (tests : List Test) (rows : List TupleRef) → AreSelected relations s tests rows → OfRelation relations table (λ t. AreSelected relations t tests rows)
+selected_there relations table s lent tests rows so t at = subst (λ (u : RelationState). AreSelected relations u tests rows) (same_at (slice_get relations table) s t lent at) so

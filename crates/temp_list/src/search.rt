@@ -1,12 +1,12 @@
 //! The rows of one relation that a test asks for.
-ghost use Rattle.std.specs.Prelude.{◌≡◌, ◌<◌, IsTrue, IsSome, OnOk, OnErr, length};
+ghost use Rattle.std.specs.Prelude.{◌≡◌, ◌<◌, IsTrue, IsSome, IfOk, OnOk, OnErr, All, filter, length};
 ghost use Rattle.std.specs.FinMap as finite;
 ghost use Rattle.mm_relation.specs.State.{IsCurrent, linked_keys};
 ghost use Rattle.mm_relation.specs.Changes.{HasTree, HasHash};
 ghost use Rattle.mm_index.specs.Bag.{AppendsBag};
 ghost use Rattle.plan_chooser.specs.Plans.{is_range};
 ghost use Rattle.plain_tables.specs.declared.condition.Op.TheVariants as operator;
-ghost use Rattle.temp_list.specs.Reading.{standing, between, HasColumns, value_in, row_passes as row_passes_so};
+ghost use Rattle.temp_list.specs.Reading.{standing, between, HasColumns, value_in, row_passes as row_passes_so, passing as passing_so};
 
 use crate::bounds_probe::BoundsProbe;
 use crate::range_probe::RangeProbe;
@@ -16,9 +16,10 @@ use mm_relation::{Relation, Relations};
 use no_memory::NoMemory;
 use part_raw::TupleRef;
 use plain_tables::{ColumnNumber, Op, Test, Value, hash_of};
+use std::alloc::Global;
 
-// The value in a column of a row that is lent.
-pub(crate) fn read<'a, R: Relations>(
+/// The value in a column of a row that is lent.
+pub fn read<'a, R: Relations>(
     tables: &'a R,
     relation: &'a Relation,
     r: TupleRef,
@@ -53,6 +54,50 @@ pub fn passes_all<R: Relations>(
         }
     }
     true
+}
+
+/// The rows that pass the tests, in the order of their keys.
+pub fn passing<R: Relations>(
+    alloc: Global,
+    tables: &R,
+    relation: &Relation,
+    tests: &[Test],
+) -> Result<Vec<TupleRef>, NoMemory>
+    requires current { IsCurrent (linked_keys relation.now.targets (R.tables tables.now)) relation.now }
+    requires columns { HasColumns relation.now tests.now }
+    ensures { IfOk result (λ rows. rows.items ≡ passing_so (R.tables tables.now) relation.now tests.now) }
+{
+    a_relation_is_kept(relation);
+    let mut rows = Vec::new(alloc);
+    for r in relation.walk() {
+        if passes_all(tables, relation, r, tests) {
+            rows.push(r)?;
+        }
+    }
+    Ok(rows)
+}
+
+/// Keeps those of the rows that pass the tests, in their order.
+pub fn keep_passing<R: Relations>(
+    tables: &R,
+    relation: &Relation,
+    tests: &[Test],
+    rows: &mut Vec<TupleRef>,
+)
+    requires held { All (λ r. IsSome (finite.get relation.now.rows r)) rows.old.items }
+    requires current { IsCurrent (linked_keys relation.now.targets (R.tables tables.now)) relation.now }
+    requires columns { HasColumns relation.now tests.now }
+    ensures { rows.new.items ≡ filter (row_passes_so (R.tables tables.now) relation.now tests.now) rows.old.items }
+{
+    let mut kept = 0;
+    for i in 0..rows.len() {
+        let r = rows[i];
+        if passes_all(tables, relation, r, tests) {
+            rows[kept] = r;
+            kept += 1;
+        }
+    }
+    rows.truncate(kept);
 }
 
 /// Appends the rows whose value in a column with a tree stands so to this value, each once. At an error nothing is appended.

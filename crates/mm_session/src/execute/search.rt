@@ -27,6 +27,5 @@ pub fn rows_passing(
 {
     a_catalog_is_consistent(catalog);
     let plan = choose_select(policy, catalog.at(table), tests);
-    let list = select(alloc, catalog, table, plan, tests)?;
-    list.references(0)
+    select(alloc, catalog, table, plan, tests)
 }

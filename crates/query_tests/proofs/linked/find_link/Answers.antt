@@ -1,16 +1,19 @@
-use Rattle.std.proofs.Common.{◌∙◌, ap, refl, arith, Option, Some}
+use Rattle.std.proofs.Common.{◌≡◌, ◌∙◌, ◌<◌, ap, sym, subst, refl, arith, Option, Some}
 use Rattle.std.specs.Option.{option_map}
+use Rattle.plain_tables.specs.declared.numbers.ColumnNumber.{ColumnNumber}
 use Rattle.plain_tables.specs.declared.numbers.TableNumber.{TableNumber}
 use Rattle.mm_catalog.proofs.Declared.{among_at}
 use Rattle.query_tests.proofs.LinkLemmas.{joinable}
 use Rattle.query_tests.proofs.linked.find_link.Goals as goal
 
-pub target-requires : goal.target-requires
-target-requires g c =
-    let among = among_at c.args.catalog.now c.a_catalog_is_consistent.ensures 1 c.relation_with-relation.result.now c.relation_with-relation.ensures.there in
-    omega (arith, among.kept.width, c.relation_with-relation.ensures.wide)
+pub target-target-requires : goal.target-target-requires
+target-target-requires g c =
+    let there = c.side-reference.ensures.there in
+    let among = among_at c.args.catalog.now c.a_catalog_is_consistent.ensures c.side-reference.result.table.0 c.side-reference.result.relation.now there.lent in
+    omega (arith, among.kept.width, there.column)
 
 pub returns : goal.returns
 returns g c =
-    joinable c.args.catalog.now c.a_catalog_is_consistent.ensures _ _ c.relation_with.result.now c.relation_with-relation.result.now c.relation_with.ensures.there c.relation_with-relation.ensures.there
-    refl c.relation_with.ensures.wide (omega arith) c.relation_with-relation.ensures.wide c.has_tree.ensures (c.target.ensures ∙ ap (λ (o : Option TableNumber). Some (option_map (λ (t : TableNumber). t.0) o)) c.expect.ensures) refl refl
+    joinable c.args.catalog.now c.a_catalog_is_consistent.ensures c.side-key.result c.side-reference.result c.side-key.ensures.there c.side-reference.ensures.there
+    (ap (λ (n : ColumnNumber). n.0) c.side-key.ensures.column) (subst (λ (n : ColumnNumber). 0 < n.0) (sym c.side-reference.ensures.column) (omega arith)) c.has_tree.ensures
+    (c.target-target.ensures ∙ ap (λ (o : Option TableNumber). Some (option_map (λ (t : TableNumber). t.0) o)) c.expect.ensures ∙ ap (λ (t : TableNumber). Some (Some t.0)) (sym c.side-key.ensures.table))

@@ -1,8 +1,7 @@
 use Rattle.std.proofs.lemmas.Result.{IfOk-weaker}
-use Rattle.common_lemmas.proofs.Places.{slice_get-inside}
 use Rattle.mm_catalog.proofs.Declared.{there_at}
-use Rattle.temp_list.specs.Reading.{passing}
-use Rattle.mm_session.proofs.PickLemmas.{test_columns, found_bag, are_passing}
+use Rattle.common_lemmas.proofs.Places.{slice_get-inside}
+use Rattle.mm_session.proofs.PickLemmas.{test_columns, are_passing}
 use Rattle.mm_session.proofs.execute.search.rows_passing.Goals as goal
 
 pub at-requires : goal.at-requires
@@ -17,7 +16,7 @@ select-requires-clause-columns c = test_columns c.args.catalog.now c.a_catalog_i
 pub returns : goal.returns
 returns c =
     let found = slice_get-inside c.args.catalog.now.relations c.args.table.0 (there_at c.args.catalog.now c.a_catalog_is_consistent.ensures c.args.table.0 c.requires.0 c.requires.1) in
-    IfOk-weaker c.references.result _ _
-    (λ refs read. are_passing c.args.catalog.now c.a_catalog_is_consistent.ensures c.args.table.0 c.requires.0 c.requires.1 c.args.tests.now found.0 found.1 (test_columns c.args.catalog.now c.a_catalog_is_consistent.ensures c.args.table.0 c.requires.0 c.requires.1 c.args.tests.now c.requires.2 found.0 found.1) refs.items
-    (found_bag refs.items (passing c.args.catalog.now.relations found.0 c.args.tests.now) c.in_ok-list.list.rows read (c.in_ok-list.ensures found.0 found.1).rows))
-    c.references.ensures
+    IfOk-weaker c.select.result _ _
+    (λ refs of. are_passing c.args.catalog.now c.a_catalog_is_consistent.ensures c.args.table.0 c.requires.0 c.requires.1 c.args.tests.now found.0 found.1 (test_columns c.args.catalog.now c.a_catalog_is_consistent.ensures c.args.table.0 c.requires.0 c.requires.1 c.args.tests.now c.requires.2 found.0 found.1) refs.items
+    (of found.0 found.1).bag)
+    c.select.ensures

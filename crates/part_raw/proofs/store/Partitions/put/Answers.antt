@@ -1,6 +1,5 @@
 use Rattle.std.proofs.Common.{Some, arith, refl, sym, ◌∙◌}
 use Rattle.std.proofs.lemmas.Bool.{true≢false}
-use Rattle.part_raw.specs.TupleRefs.{ref_to}
 use Rattle.part_raw.proofs.Slots.{no_vacancy_of_bits, bits_of_no_vacancy}
 use Rattle.part_raw.proofs.Parts.{small_blocks, found_before, tuples-written}
 use Rattle.part_raw.proofs.Bitmaps.{bits_at}
