@@ -1,12 +1,10 @@
 -- Whether an element passes a test, in lists that are made of others.
 use Rattle.std.proofs.Common.{◌≡◌, ℕ, zero, suc, ◌<◌, ◌+◌, Bool, true, false, not, cond, ◌||◌, ◌&&◌, List, [], ◌∷◌, Option, Some, None, refl, sym, ap, ◌∙◌, subst, arith, length, map, add-zero}
-use Rattle.std.specs.List.{All, cons_option, count_by, filter_map, flat_map, list_any, position, prefix_len, range_with_len, slice_get, zip}
+use Rattle.std.specs.List.{All, cons_option, count_by, filter_map, flat_map, list_any, prefix_len, range_with_len, slice_get, zip}
 use Rattle.std.specs.Option.{option_map_or}
-use Rattle.std.specs.Prelude.{nat_lt}
-use Rattle.std.proofs.lemmas.Bool.{false≢true, cond-true, lt-ltb, or_parts}
+use Rattle.std.proofs.lemmas.Bool.{false≢true, or_parts}
 use Rattle.std.proofs.lemmas.List.Folds.{list_any-append}
 use Rattle.std.proofs.lemmas.List.Sums.{sum_by-cons}
-use Rattle.common_lemmas.proofs.Tests.{position_where_some}
 
 pub any_flat : {A B : Type 0} (p : B → Bool) (f : A → List B) (xs : List A) → list_any p (flat_map f xs) ≡ list_any (λ x. list_any p (f x)) xs
 any_flat p f [] = refl

@@ -1,6 +1,6 @@
 -- How many links there can be.
 use Rattle.std.proofs.Common.{◌≡◌, ℕ, suc, ◌*◌, ◌≤◌, List, [], ◌∷◌, Option, Some, None, arith, length, length-append, get_or}
-use Rattle.std.specs.List.{All, slice_get, flat_map, filter_map, range_with_len, cons_option}
+use Rattle.std.specs.List.{All, slice_get, flat_map, range_with_len}
 use Rattle.std.specs.Option.{option_map_or}
 use Rattle.std.specs.FinMap as finite
 use Rattle.std.proofs.lemmas.List.FromFn.{length-range_with_len}

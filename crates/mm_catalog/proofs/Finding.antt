@@ -4,7 +4,6 @@ use Rattle.std.specs.List.{find, list_any, position, prefix_len}
 use Rattle.std.specs.Prelude.{nat_lt}
 use Rattle.std.proofs.lemmas.List.{length-map}
 use Rattle.std.proofs.lemmas.Bool.{false≢true, cond-true, lt-ltb}
-use Rattle.common_lemmas.proofs.Tests.{list_any-map}
 
 pub is_some-find : {A : Type 0} (p : A → Bool) (xs : List A) → is_some (find p xs) ≡ list_any p xs
 is_some-find p [] = refl

@@ -1,10 +1,8 @@
 -- Lists, by what they have at each place.
-use Rattle.std.proofs.Common.{◌≡◌, ◌≢◌, ℕ, zero, suc, ◌<◌, ◌≤◌, List, [], ◌∷◌, Some, refl, sym, ap, subst, ◌∙◌, arith, length, map, set, take, drop, get_or, ◌++◌}
-use Rattle.std.specs.List.{All, slice_get, zip}
+use Rattle.std.proofs.Common.{◌≡◌, ◌≢◌, ℕ, zero, suc, ◌<◌, List, [], ◌∷◌, Some, refl, sym, ap, ◌∙◌, arith, length, map, set, take, drop, get_or, ◌++◌}
+use Rattle.std.specs.List.{slice_get, zip}
 use Rattle.std.proofs.Math.Seq.{take-append_seam}
-use Rattle.std.proofs.lemmas.Option.{none-some, same_Some, get_or_from_slice_get, slice_get_within}
-use Rattle.common_lemmas.proofs.Elements.{All-at}
-use Rattle.common_lemmas.proofs.Places.{slice_get_set, slice_get-set_other, slice_get-inside, zip-push, slice_get-front, slice_get-last}
+use Rattle.std.proofs.lemmas.Option.{none-some, same_Some}
 
 -- lists that have the same at each place are one
 pub same_by_get : {A : Type 0} (xs ys : List A) → ((i : ℕ) → slice_get xs i ≡ slice_get ys i) → xs ≡ ys

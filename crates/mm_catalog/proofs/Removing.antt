@@ -1,6 +1,6 @@
 -- Rows that go out of a relation one after another, and the links that go with them.
-use Rattle.std.proofs.Common.{◌≡◌, ◌≢◌, ℕ, suc, ◌<◌, ◌≤◌, ◌+◌, Bool, cond, List, [], ◌∷◌, ◌++◌, Option, Some, None, IsSome, is_some, refl, sym, ap, ◌∙◌, subst, arith, length, get_or, take, drop, zero-add, inl, inr}
-use Rattle.std.specs.List.{range_with_len, All, AllPairs, Contains, count_by, flat_map, slice_get, sum_by}
+use Rattle.std.proofs.Common.{◌≡◌, ◌≢◌, ℕ, suc, ◌<◌, ◌≤◌, ◌+◌, Bool, List, [], ◌∷◌, ◌++◌, Option, Some, None, IsSome, is_some, refl, sym, ap, ◌∙◌, subst, arith, length, get_or, take, drop, zero-add, inl, inr}
+use Rattle.std.specs.List.{range_with_len, All, AllPairs, Contains, count_by, slice_get, sum_by}
 use Rattle.std.specs.Option.{option_and_then, option_map_or}
 use Rattle.std.specs.FinMap.{get, remove}
 use Rattle.std.proofs.lemmas.List.{take_more}

@@ -49,8 +49,10 @@ pub fn read_words(rt: &HostRuntime) -> Result<Policy, Error> {
         Err(error) => return Err(fault_of(rt, &error)),
     };
     let matches = command(rt)?.try_get_matches_from(words.as_slice())?;
-    Ok(matches
-        .get_str(POLICY)
-        .and_then(Policy::named)
-        .unwrap_or_default())
+    Ok(
+        matches
+            .get_str(POLICY)
+            .and_then(Policy::named)
+            .unwrap_or_default(),
+    )
 }

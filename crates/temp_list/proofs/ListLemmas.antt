@@ -1,10 +1,9 @@
 -- What is read of a row of a list.
-use Rattle.std.proofs.Common.{◌≡◌, ℕ, ◌<◌, List, Option, Some, IsSome, length, get_or, map, sym, ap, ◌∙◌, subst, refl, arith, zero, suc, take, ◌+◌, ◌++◌, ◌∷◌, []}
+use Rattle.std.proofs.Common.{◌≡◌, ℕ, ◌<◌, List, Option, Some, IsSome, length, get_or, map, sym, ap, ◌∙◌, subst, refl, arith}
 use Rattle.std.specs.Prelude.{slice_get}
-use Rattle.std.specs.List.{All}
 use Rattle.std.specs.Option.{option_and_then, option_map}
 use Rattle.std.proofs.lemmas.Option.{slice_get-map, slice_get-get_or, slice_get_within}
-use Rattle.std.proofs.lemmas.List.{length-map, map-append, take_more}
+use Rattle.std.proofs.lemmas.List.{length-map}
 use Rattle.std.specs.FinMap as finite
 use Rattle.common_lemmas.proofs.Elements.{All-at}
 use Rattle.part_raw.specs.declared.tuple_ref.TupleRef.{TupleRef}
@@ -13,8 +12,6 @@ use Rattle.plain_tables.specs.declared.numbers.Place.{Place}
 use Rattle.mm_relation.proofs.KeyOrder.{some_alike}
 use Rattle.mm_relation.specs.State.{RelationState}
 use Rattle.temp_list.specs.Reading.{or_null, value_in}
-use Rattle.smallvec.specs.SmallVec.{SmallVec}
-use Rattle.temp_list.specs.Seen.{list_of, IsEven}
 use Rattle.temp_list.specs.Lists.{ListState, IsOver, IsRowOver, HasPlace, relation_of, value_of}
 
 -- a source of the list

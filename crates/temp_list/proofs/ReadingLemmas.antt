@@ -1,8 +1,6 @@
 -- What is read of a row of relations that are sound.
 use Rattle.std.proofs.Common.{◌≡◌, ℕ, ◌<◌, List, Some, IsSome, length, sym, ap, ◌∙◌, subst, arith, Bool, ◌&&◌, ◌∷◌, drop, drop-cons, add-one, get_or, suc, ◌+◌}
 use Rattle.std.specs.Prelude.{slice_get}
-use Rattle.std.specs.List.{All}
-use Rattle.std.proofs.lemmas.Option.{get_or_from_slice_get, slice_get_within}
 use Rattle.std.specs.Option.{option_and_then}
 use Rattle.std.specs.FinMap as finite
 use Rattle.common_lemmas.proofs.Elements.{All-at}

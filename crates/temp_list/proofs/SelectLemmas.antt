@@ -1,14 +1,13 @@
 -- What a select finds is the rows that pass.
-use Rattle.std.proofs.Common.{◌≡◌, ℕ, zero, suc, ◌<◌, Bool, true, false, ◌==◌, IsTrue, List, [], ◌∷◌, ◌++◌, Some, IsSome, length, map, filter, get_or, refl, sym, ap, ◌∙◌, subst, arith, inl, inr}
+use Rattle.std.proofs.Common.{◌≡◌, ℕ, ◌<◌, Bool, true, false, ◌==◌, IsTrue, List, [], ◌∷◌, ◌++◌, Some, IsSome, length, filter, get_or, refl, sym, ap, ◌∙◌, subst, inl, inr}
 use Rattle.std.specs.Prelude.{slice_get}
 use Rattle.std.specs.List.{All, HoldsAt}
 use Rattle.std.specs.FinMap as finite
 use Rattle.std.specs.Cmp.{first_so, second_so}
 use Rattle.std.specs.Cmp.Derive.{both_true}
-use Rattle.std.proofs.lemmas.List.Elements.{All-contains, All-contains_itself, All-map, All-filter}
+use Rattle.std.proofs.lemmas.List.Elements.{All-contains, All-contains_itself, All-filter}
 use Rattle.std.proofs.lemmas.Bool.{cases_Bool, eqb-true}
 use Rattle.std.proofs.lemmas.List.Folds.{list_all_at}
-use Rattle.std.proofs.lemmas.Option.{slice_get_within}
 use Rattle.common_lemmas.proofs.Elements.{Contains-from_filter}
 use Rattle.part_raw.specs.declared.tuple_ref.TupleRef.{TupleRef}
 use Rattle.plain_tables.specs.declared.resolved.Test.{Test}
@@ -20,11 +19,8 @@ use Rattle.mm_relation.specs.Changes.{has_hash_on}
 use Rattle.mm_index.specs.Bag.{IsSameBag, AppendsBag}
 use Rattle.mm_index.proofs.Bags.{IsSameBag-trans, IsSameBag-from_same}
 use Rattle.mm_index.proofs.Refs.{Contains-same_refs}
-use Rattle.mm_relation.proofs.Serving.{map_bag}
-use Rattle.mm_relation.proofs.KeyOrder.{some_alike}
 use Rattle.mm_relation.specs.State.{tree_list, RelationState, IsKept}
 use Rattle.temp_list.specs.Reading.{OfRelation, value_in, row_passes, passing, bounds, is_between}
-use Rattle.temp_list.specs.Lists.{ListState, IsOver, IsRowOver, relation_of}
 use Rattle.temp_list.specs.Selecting.{AreSelected}
 use Rattle.temp_list.proofs.ListLemmas.{same_at}
 use Rattle.temp_list.proofs.SearchLemmas.{IsSameBag-filter, filter_inner}
