@@ -34,6 +34,12 @@
 extern "C" {
 #endif
 
+/* The version of this header, which is that of its library. */
+#define MMDB_VERSION "0.1.0"
+#define MMDB_VERSION_MAJOR 0
+#define MMDB_VERSION_MINOR 1
+#define MMDB_VERSION_PATCH 0
+
 /* An open database, or none where inside is null. It is never copied: a copy would be freed twice. */
 typedef struct mmdb {
     void *inside;
