@@ -34,11 +34,13 @@ pub mod SumsApart
 pub mod RowSets
 pub mod RelationSets
 pub mod Referenced
+pub mod BlockColumns
 pub mod Bounded
 pub mod Checked
 pub mod Taking
 pub mod Inserted
 pub mod Loaded
+pub mod Loads
 pub mod TakenBack
 pub mod LoadSteps
 pub mod ResolveLists

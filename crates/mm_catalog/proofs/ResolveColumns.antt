@@ -1,5 +1,5 @@
 -- The columns that a name fits.
-use Rattle.std.proofs.Common.{◌≡◌, ◌≢◌, ◌+◌, ◌<◌, get_or, ℕ, zero, suc, Bool, true, false, cond, eqb, List, [], ◌∷◌, ◌++◌, length, map, take, drop, slice_get, subst, Some, None, Option, is_some, refl, sym, ap, ◌∙◌, position, arith, inl, inr, add-zero, zero-add, append-nil}
+use Rattle.std.proofs.Common.{◌≡◌, ◌≢◌, ◌+◌, ◌<◌, get_or, ℕ, zero, suc, Bool, true, false, cond, eqb, List, [], ◌∷◌, ◌++◌, length, map, take, drop, Some, None, Option, is_some, refl, sym, ap, ◌∙◌, position, arith, inl, inr, add-zero, zero-add, append-nil}
 use Rattle.std.specs.Option.{option_map, option_map_or, option_to_list}
 use Rattle.std.specs.Str.{bytes_eq}
 use Rattle.std.specs.List.{All, AllPairs, filter, find, flat_map, enumerate_from}
@@ -8,8 +8,7 @@ use Rattle.std.proofs.lemmas.Bool.{cases_Bool, and_parts}
 use Rattle.std.proofs.lemmas.Bool.Decides.{nat_tests}
 use Rattle.std.proofs.lemmas.Grind.{flat_map-append}
 use Rattle.std.proofs.lemmas.List.{take_more, take-append-drop, length-take, map-append}
-use Rattle.std.proofs.lemmas.List.Elements.{filter-append, All-nil, All-cons, All-head, All-tail, All-weaker}
-use Rattle.std.proofs.lemmas.Option.{same_Some}
+use Rattle.std.proofs.lemmas.List.Elements.{filter-append, All-head, All-tail, All-weaker}
 use Rattle.common_lemmas.proofs.Options.{is_some-option_map}
 use Rattle.common_lemmas.proofs.Tests.{fails_where_not_found}
 use Rattle.common_lemmas.proofs.Pairs.{AllPairs-head, AllPairs-tail}
@@ -20,7 +19,7 @@ use Rattle.plain_tables.specs.declared.condition.ColName.{ColName}
 use Rattle.mm_catalog.specs.declared.bind.scope.Scope.{Scope}
 use Rattle.mm_catalog.specs.declared.bind.scope.NamedColumn.{NamedColumn}
 use Rattle.mm_catalog.proofs.ResolveLists.{none_found}
-use Rattle.mm_catalog.specs.Resolve.{in_table, place_in, columns_of, source_columns, columns_of_all, placed, as_found}
+use Rattle.mm_catalog.specs.Resolve.{in_table, place_in, source_columns, columns_of_all, placed, as_found}
 
 -- ---- the only element of a list
 
@@ -136,42 +135,6 @@ module _ (source : ℕ) (table : List ℕ) (name : ColName) where
       rw other
       (fitted_one (k + 1) i cs d (AllPairs-tail (λ p r. p.name ≢ r.name) c cs apart) (omega arith) h
       ∙ ap (λ n. (place_in source (column_number n), get_or cs i d) ∷ []) more)
-
--- ---- the column at a place
-
-find_satisfies : {X : Type 0} (P : X → Type 0) (p : X → Bool) (xs : List X) (x : X) → All P xs → find p xs ≡ Some x → P x
-find_satisfies P p [] x h e = cc
-find_satisfies P p (y ∷ ys) x h e =
-    elim (p y) as (λ b. cond b (Some y) (find p ys) ≡ Some x → P x) [
-      | true ↦ λ same. subst P (same_Some y x same) (All-head P y ys h)
-      | false ↦ λ rest. find_satisfies P p ys x (All-tail P y ys h) rest
-    ] e
-
-find_meant : {X : Type 0} (b : Bool) (o : Option X) (x : X) → cond b o None ≡ Some x → o ≡ Some x
-find_meant true o x h = h
-find_meant false o x h = cc
-
-module _ (source : ℕ) (table : List ℕ) (whole : List Column) where
-  abbrev IsThere : JoinedColumn → Type 0
-  IsThere joined = slice_get whole joined.place.column.0 ≡ Some joined.column
-
-  numbered_there : (k : ℕ) (columns : List Column) → ((i : ℕ) → slice_get whole (k + i) ≡ slice_get columns i)
-      → All IsThere (map (λ c. record { table = table; place = place_in source (column_number c.0); column = c.1 }) (enumerate_from k columns))
-  numbered_there k [] h = All-nil IsThere
-  numbered_there k (c ∷ cs) h =
-      let first : slice_get whole k ≡ Some c = ap (slice_get whole) (sym (add-zero k)) ∙ h zero in
-      let rest = numbered_there (k + 1) cs (λ i. let more : (k + 1) + i ≡ k + suc i = omega arith in ap (slice_get whole) more ∙ h (suc i)) in
-      All-cons IsThere (record { table = table; place = place_in source (column_number k); column = c })
-      (map (λ d. record { table = table; place = place_in source (column_number d.0); column = d.1 }) (enumerate_from (k + 1) cs)) first rest
-
--- the column that a name means on a table stands at its place
-pub meant_there : (scope : Scope) (name : ColName) (joined : JoinedColumn) → column_meant (columns_of scope) name ≡ Some joined
-    → slice_get scope.columns.now joined.place.column.0 ≡ Some joined.column
-meant_there scope name joined h =
-    let own = source_columns (0, scope) in
-    find_satisfies (IsThere 0 scope.name.now scope.columns.now) (fits name) own joined
-    (numbered_there 0 scope.name.now scope.columns.now 0 scope.columns.now (λ i. ap (slice_get scope.columns.now) (zero-add i)))
-    (find_meant (fits_one own name) (find (fits name) own) joined (ap (λ cs. column_meant cs name) (sym (append-nil own)) ∙ h))
 
 -- where none has a place none passes
 pub position_none : {X : Type 0} (p : X → Bool) (xs : List X) → position p xs ≡ None → All (λ x. p x ≡ false) xs

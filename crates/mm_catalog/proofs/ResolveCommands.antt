@@ -24,13 +24,16 @@ use Rattle.plain_tables.specs.declared.numbers.Place.{Place}
 use Rattle.plain_tables.specs.declared.numbers.TableNumber.{TableNumber}
 use Rattle.plain_tables.specs.declared.refusal.Refusal.{Refusal}
 use Rattle.plain_tables.specs.declared.refusal.Refusal.TheVariants.{NoSuchTable, NoSuchColumn, NoSuchIndex, IndexExists, TableIsReferenced, ColumnNamedTwice, TooMany, WrongType, KeyCannotBeSet, TextTooLong}
+use Rattle.plain_tables.specs.declared.resolved.Assignment.{Assignment}
+use Rattle.plain_tables.specs.declared.resolved.Test.{Test}
 use Rattle.plain_tables.specs.declared.resolved.Resolved.{Resolved}
 use Rattle.plain_tables.specs.declared.resolved.Resolved.TheVariants as resolved
 use Rattle.mm_catalog.specs.declared.bind.scope.Scope.{Scope}
 use Rattle.mm_catalog.specs.Seen.{plain_index}
+use Rattle.mm_catalog.specs.declared.bind.placed.Placed.{Placed}
 use Rattle.mm_catalog.specs.Resolve.{IsScopeOf, bare, columns_of, own_place}
 use Rattle.mm_catalog.specs.ResolveChecks.{verdict, row_checks, delete_rest, update_rest}
-use Rattle.mm_catalog.proofs.ResolveNamed.{tests_mistyped, length-tests, assignments_mistyped, long_set, key_set}
+use Rattle.mm_catalog.proofs.ResolveNamed.{length-tests, long_set, key_set}
 
 -- ---- checks
 
@@ -161,20 +164,21 @@ module _ (tables : Database) (name : List ℕ) (scope : Scope) (h : IsScopeOf ta
         in_scope (λ n table. meaning (delete_on (own_columns table)) (resolved.Delete n (tests_of (own_columns table) conditions)))
         ∙ ap (λ cs. meaning (delete_on cs) (resolved.Delete scope.table (tests_of cs conditions))) own_columns-are
 
-    delete_named : misses columns (condition_names conditions) ≡ false → verdict (delete_on columns) ≡ verdict (delete_rest tables scope.columns.now (tests_of columns conditions))
-    delete_named named =
-        rw (named, tests_mistyped tables scope conditions named, sym (length-tests columns conditions named)) refl
-
     pub delete_missed : misses columns (condition_names conditions) ≡ true → resolved_of [] tables (command.Delete name conditions) ≡ Err NoSuchColumn
     delete_missed missed = delete_is ∙ rw missed refl
 
-    pub delete_meant : misses columns (condition_names conditions) ≡ false → verdict (delete_rest tables scope.columns.now (tests_of columns conditions)) ≡ Ok tt
-        → resolved_of [] tables (command.Delete name conditions) ≡ Ok (resolved.Delete scope.table (tests_of columns conditions))
-    delete_meant named ok = delete_is ∙ meaning_ok (delete_on columns) (resolved.Delete scope.table (tests_of columns conditions)) (delete_named named ∙ ok)
+    module _ (named : misses columns (condition_names conditions) ≡ false) (tested : Placed Test) (tests : tested.items ≡ tests_of columns conditions)
+        (types : tested.mistyped ≡ list_any (is_mistyped tables columns) conditions) where
+      delete_named : verdict (delete_on columns) ≡ verdict (delete_rest tested)
+      delete_named = rw (named, types, ap length tests ∙ length-tests columns conditions named) refl
 
-    pub delete_refused : misses columns (condition_names conditions) ≡ false → (e : Refusal) → verdict (delete_rest tables scope.columns.now (tests_of columns conditions)) ≡ Err e
-        → resolved_of [] tables (command.Delete name conditions) ≡ Err e
-    delete_refused named e err = delete_is ∙ meaning_err (delete_on columns) (resolved.Delete scope.table (tests_of columns conditions)) e (delete_named named ∙ err)
+      pub delete_meant : verdict (delete_rest tested) ≡ Ok tt → resolved_of [] tables (command.Delete name conditions) ≡ Ok (resolved.Delete scope.table tested.items)
+      delete_meant ok =
+          delete_is ∙ meaning_ok (delete_on columns) (resolved.Delete scope.table (tests_of columns conditions)) (delete_named ∙ ok)
+          ∙ ap (λ ts. Ok (resolved.Delete scope.table ts)) (sym tests)
+
+      pub delete_refused : (e : Refusal) → verdict (delete_rest tested) ≡ Err e → resolved_of [] tables (command.Delete name conditions) ≡ Err e
+      delete_refused e err = delete_is ∙ meaning_err (delete_on columns) (resolved.Delete scope.table (tests_of columns conditions)) e (delete_named ∙ err)
 
   -- ---- update
 
@@ -210,30 +214,32 @@ module _ (tables : Database) (name : List ℕ) (scope : Scope) (h : IsScopeOf ta
       pub tests_missed : misses columns (condition_names conditions) ≡ true → resolved_of [] tables (command.Update name settings conditions) ≡ Err NoSuchColumn
       tests_missed missed = update_missed (rest_missed columns (map setting_name settings) (condition_names conditions) true settings_named missed)
 
-      module _ (named : misses columns (condition_names conditions) ≡ false) where
+      module _ (named : misses columns (condition_names conditions) ≡ false) (set : Placed Assignment) (tested : Placed Test)
+          (assigned : set.items ≡ assignments_of columns settings) (set_types : set.mistyped ≡ list_any (λ s. mistypes tables columns (setting_name s) s.value) settings)
+          (tests : tested.items ≡ tests_of columns conditions) (types : tested.mistyped ≡ list_any (is_mistyped tables columns) conditions) where
         all_named : misses columns update_names ≡ false
         all_named = rest_missed columns (map setting_name settings) (condition_names conditions) false settings_named named
 
-        pub set_twice : repeats bytes_eq (map (λ s. s.column) settings) ≡ true → resolved_of [] tables (command.Update name settings conditions) ≡ Err ColumnNamedTwice
-        set_twice twice = update_is ∙ rw (all_named, twice) refl
+        abbrev twice : Bool
+        twice = repeats bytes_eq (map (λ s. s.column) settings)
 
-        module _ (once : repeats bytes_eq (map (λ s. s.column) settings) ≡ false) where
-          update_named : verdict (update_on columns) ≡ verdict (update_rest tables scope.columns.now (assignments_of columns settings) (tests_of columns conditions))
-          update_named =
-              rw (
-                all_named,
-                once,
-                assignments_mistyped tables scope settings settings_named,
-                tests_mistyped tables scope conditions named,
-                long_set columns settings settings_named,
-                key_set columns settings,
-                sym (length-tests columns conditions named),
-              ) refl
+        update_named : verdict (update_on columns) ≡ verdict (update_rest twice set tested)
+        update_named =
+            rw (
+              all_named,
+              set_types,
+              types,
+              long_set columns settings settings_named ∙ ap (list_any (λ (a : Assignment). is_long a.value)) (sym assigned),
+              key_set columns settings ∙ ap (list_any (λ (a : Assignment). a.column.0 == 0)) (sym assigned),
+              ap length tests ∙ length-tests columns conditions named,
+            ) refl
 
-          pub update_meant : verdict (update_rest tables scope.columns.now (assignments_of columns settings) (tests_of columns conditions)) ≡ Ok tt
-              → resolved_of [] tables (command.Update name settings conditions) ≡ Ok change
-          update_meant ok = update_is ∙ meaning_ok (update_on columns) change (update_named ∙ ok)
+        pub update_meant : verdict (update_rest twice set tested) ≡ Ok tt
+            → resolved_of [] tables (command.Update name settings conditions) ≡ Ok (resolved.Update scope.table set.items tested.items)
+        update_meant ok =
+            update_is ∙ meaning_ok (update_on columns) change (update_named ∙ ok)
+            ∙ ap (λ as'. Ok (resolved.Update scope.table as' (tests_of columns conditions))) (sym assigned)
+            ∙ ap (λ ts. Ok (resolved.Update scope.table set.items ts)) (sym tests)
 
-          pub update_refused : (e : Refusal) → verdict (update_rest tables scope.columns.now (assignments_of columns settings) (tests_of columns conditions)) ≡ Err e
-              → resolved_of [] tables (command.Update name settings conditions) ≡ Err e
-          update_refused e err = update_is ∙ meaning_err (update_on columns) change e (update_named ∙ err)
+        pub update_refused : (e : Refusal) → verdict (update_rest twice set tested) ≡ Err e → resolved_of [] tables (command.Update name settings conditions) ≡ Err e
+        update_refused e err = update_is ∙ meaning_err (update_on columns) change e (update_named ∙ err)

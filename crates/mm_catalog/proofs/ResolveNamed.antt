@@ -1,8 +1,11 @@
--- What conditions, settings and items name, and the types of their values.
-use Rattle.std.proofs.Common.{◌≡◌, ◌<◌, ◌≤◌, true, false, List, [], ◌∷◌, length, map, Option, Some, None, is_some, refl, sym, ap, ◌∙◌, slice_get}
+-- The columns that conditions, settings and items name, and what is asked of them.
+use Rattle.std.proofs.Common.{◌≡◌, ℕ, ◌<◌, ◌≤◌, Bool, true, false, List, [], ◌∷◌, ◌++◌, length, map, get_or, Option, Some, None, is_some, refl, sym, ap, ◌∙◌}
 use Rattle.std.specs.Prelude.{not, ◌||◌, ◌&&◌, ◌==◌}
 use Rattle.std.specs.List.{list_any, filter_map, cons_option}
 use Rattle.std.specs.Option.{option_map, option_map_or}
+use Rattle.std.proofs.lemmas.List.{map-append}
+use Rattle.std.proofs.lemmas.List.Elements.{filter_map-append}
+use Rattle.std.proofs.lemmas.List.Folds.{list_any-append, list_any_at}
 use Rattle.common_lemmas.proofs.Options.{is_some-option_map, option_map_some}
 use Rattle.common_lemmas.proofs.Tests.{list_any-map}
 use Rattle.plain_tables.specs.Values.{is_null}
@@ -20,59 +23,110 @@ use Rattle.plain_tables.specs.declared.command.Items.TheVariants as items
 use Rattle.plain_tables.specs.declared.command.Setting.{Setting}
 use Rattle.plain_tables.specs.declared.numbers.Place.{Place}
 use Rattle.plain_tables.specs.declared.resolved.Assignment.{Assignment}
-use Rattle.plain_tables.specs.declared.resolved.Test.{Test}
-use Rattle.mm_catalog.specs.declared.bind.scope.Scope.{Scope}
-use Rattle.mm_catalog.specs.Resolve.{columns_of, test_at, test_of, assignment_at, assignment_of, shown_places}
-use Rattle.mm_catalog.specs.ResolveChecks.{mistypes_at, is_mistyped_test}
-use Rattle.mm_catalog.proofs.ResolveLists.{list_any-same, leaves_out, left_out, none_left_out, length-made, any_made}
-use Rattle.mm_catalog.proofs.ResolveColumns.{fits_one-is, meant_there}
+use Rattle.mm_catalog.specs.declared.bind.scope.NamedColumn.{NamedColumn}
+use Rattle.mm_catalog.specs.Resolve.{as_found, assignment_at, placed, shown_places, test_at}
+use Rattle.mm_catalog.proofs.ResolveLists.{list_any-same, option_map-None, leaves_out, left_out, none_left_out, length-made, any_made}
+use Rattle.mm_catalog.proofs.ResolveColumns.{fits_one-is, place_found}
 
--- ---- names that mean no column
+-- ---- one name more
+
+option_map_or-map : {X Y : Type 0} (g : Y → Bool) (f : X → Y) (o : Option X) → option_map_or (λ x. g (f x)) o false ≡ option_map_or g (option_map f o) false
+option_map_or-map g f None = refl
+option_map_or-map g f (Some x) = refl
+
+module _ (columns : List JoinedColumn) (name : ColName) where
+  pub name_missed : option_map placed (column_meant columns name) ≡ None → fits_one columns name ≡ false
+  name_missed none =
+      sym (fits_one-is columns name)
+      ∙ ap is_some (ap (option_map (λ (j : JoinedColumn). j.place)) (option_map-None placed (column_meant columns name) none))
+
+  module _ (found : NamedColumn) (is : Some (as_found found) ≡ option_map placed (column_meant columns name)) where
+    pub place_is : place_meant columns name ≡ Some found.place
+    place_is = sym (place_found columns name (Some found) is)
+
+    name_fits : fits_one columns name ≡ true
+    name_fits = sym (fits_one-is columns name) ∙ ap is_some place_is
+
+    pub mistypes_found : (tables : Database) (v : Value) → mistypes tables columns name v ≡ not (is_typed tables v found.column.now.kind)
+    mistypes_found tables v =
+        option_map_or-map (λ (p : Place × Column). not (is_typed tables v p.1.kind)) placed (column_meant columns name)
+        ∙ ap (λ o. option_map_or (λ (p : Place × Column). not (is_typed tables v p.1.kind)) o false) (sym is)
+
+module _ {X : Type 0} (columns : List JoinedColumn) (name : X → ColName) where
+  -- a name that means no column is missed among all
+  pub missed_at : (xs : List X) (i : ℕ) (x : X) → i < length xs → x ≡ get_or xs i x → option_map placed (column_meant columns (name x)) ≡ None → misses columns (map name xs) ≡ true
+  missed_at xs i x within at none =
+      let here : not (fits_one columns (name (get_or xs i x))) ≡ true = ap (λ y. not (fits_one columns (name y))) (sym at) ∙ ap not (name_missed columns (name x) none) in
+      list_any-map (λ n. not (fits_one columns n)) name xs ∙ list_any_at (λ y. not (fits_one columns (name y))) xs i x within here
+
+  module _ (given : List X) (x : X) (found : NamedColumn) (is : Some (as_found found) ≡ option_map placed (column_meant columns (name x))) where
+    pub named_more : misses columns (map name given) ≡ false → misses columns (map name (given ++ x ∷ [])) ≡ false
+    named_more h =
+        ap (misses columns) (map-append name given (x ∷ []))
+        ∙ list_any-append (λ n. not (fits_one columns n)) (map name given) (name x ∷ [])
+        ∙ ap (λ b. b || (not (fits_one columns (name x)) || false)) h
+        ∙ ap (λ b. not b || false) (name_fits columns (name x) found is)
+
+    pub made_more : {Y : Type 0} → (make : X → Place → Y) → filter_map (λ y. option_map (make y) (place_meant columns (name y))) (given ++ x ∷ [])
+        ≡ filter_map (λ y. option_map (make y) (place_meant columns (name y))) given ++ make x found.place ∷ []
+    made_more {Y = Y} make =
+        let made : X → Option Y = λ y. option_map (make y) (place_meant columns (name y)) in
+        filter_map-append made given (x ∷ [])
+        ∙ ap (λ o. filter_map made given ++ cons_option (option_map (make x) o) []) (place_is columns (name x) found is)
+
+-- one element more passes or not
+pub any_more : {X : Type 0} (p : X → Bool) (xs : List X) (x : X) (b : Bool) → p x ≡ b → list_any p (xs ++ x ∷ []) ≡ (list_any p xs || b)
+any_more p xs x b h = list_any-append p xs (x ∷ []) ∙ ap (λ c. list_any p xs || (c || false)) h ∙ ap (λ c. list_any p xs || c) (or_none b)
+  where
+    or_none : (c : Bool) → (c || false) ≡ c
+    or_none true = refl
+    or_none false = refl
+
+module _ (tables : Database) (columns : List JoinedColumn) (given : List Cond) (c : Cond) (found : NamedColumn)
+    (is : Some (as_found found) ≡ option_map placed (column_meant columns c.column)) where
+  pub tests_more : tests_of columns (given ++ c ∷ []) ≡ tests_of columns given ++ test_at c found.place ∷ []
+  tests_more = made_more columns (λ (d : Cond). d.column) given c found is test_at
+
+  pub conditions_more : misses columns (condition_names given) ≡ false → misses columns (condition_names (given ++ c ∷ [])) ≡ false
+  conditions_more h = named_more columns (λ (d : Cond). d.column) given c found is h
+
+  pub mistyped_more : (b : Bool) → (not (is_typed tables c.value found.column.now.kind) || (is_null c.value && asks_order c.op)) ≡ b
+      → list_any (is_mistyped tables columns) (given ++ c ∷ []) ≡ (list_any (is_mistyped tables columns) given || b)
+  mistyped_more b h =
+      any_more (is_mistyped tables columns) given c b (ap (λ x. x || (is_null c.value && asks_order c.op)) (mistypes_found columns c.column found is tables c.value) ∙ h)
+
+module _ (tables : Database) (columns : List JoinedColumn) (given : List Setting) (s : Setting) (found : NamedColumn)
+    (is : Some (as_found found) ≡ option_map placed (column_meant columns (setting_name s))) where
+  pub assignments_more : assignments_of columns (given ++ s ∷ []) ≡ assignments_of columns given ++ assignment_at s found.place ∷ []
+  assignments_more = made_more columns setting_name given s found is assignment_at
+
+  pub settings_more : misses columns (map setting_name given) ≡ false → misses columns (map setting_name (given ++ s ∷ [])) ≡ false
+  settings_more h = named_more columns setting_name given s found is h
+
+  pub mistypes_more : (b : Bool) → not (is_typed tables s.value found.column.now.kind) ≡ b
+      → list_any (λ t. mistypes tables columns (setting_name t) t.value) (given ++ s ∷ []) ≡ (list_any (λ t. mistypes tables columns (setting_name t) t.value) given || b)
+  mistypes_more b h =
+      any_more (λ (t : Setting). mistypes tables columns (setting_name t) t.value) given s b (mistypes_found columns (setting_name s) found is tables s.value ∙ h)
+
+-- ---- what all names mean
 
 module _ {X Y : Type 0} (columns : List JoinedColumn) (name : X → ColName) (make : X → Place → Y) where
   abbrev meant : X → Option Y
   meant x = option_map (make x) (place_meant columns (name x))
 
   -- what names no column is left out
-  pub misses-is : (xs : List X) → misses columns (map name xs) ≡ leaves_out meant xs
+  misses-is : (xs : List X) → misses columns (map name xs) ≡ leaves_out meant xs
   misses-is xs =
       list_any-map (λ n. not (fits_one columns n)) name xs
       ∙ list_any-same (λ x. not (fits_one columns (name x))) (λ x. not (is_some (meant x))) xs
       (λ x. ap not (sym (is_some-option_map (make x) (place_meant columns (name x)) ∙ fits_one-is columns (name x))))
 
-  pub named_fewer : (xs : List X) → length (filter_map meant xs) < length xs → misses columns (map name xs) ≡ true
-  named_fewer xs less = misses-is xs ∙ left_out meant xs less
-
-  pub named_all : (xs : List X) → length xs ≤ length (filter_map meant xs) → misses columns (map name xs) ≡ false
-  named_all xs all = misses-is xs ∙ none_left_out meant xs all
+  pub length_meant : (xs : List X) → misses columns (map name xs) ≡ false → length (filter_map meant xs) ≡ length xs
+  length_meant xs h = length-made meant xs (sym (misses-is xs) ∙ h)
 
 module _ (columns : List JoinedColumn) where
-  pub tests_fewer : (conditions : List Cond) → length (tests_of columns conditions) < length conditions → misses columns (condition_names conditions) ≡ true
-  tests_fewer conditions less = named_fewer columns (λ c. c.column) test_at conditions less
-
-  pub tests_all : (conditions : List Cond) → length conditions ≤ length (tests_of columns conditions) → misses columns (condition_names conditions) ≡ false
-  tests_all conditions all = named_all columns (λ c. c.column) test_at conditions all
-
   pub length-tests : (conditions : List Cond) → misses columns (condition_names conditions) ≡ false → length (tests_of columns conditions) ≡ length conditions
-  length-tests conditions h = length-made (test_of columns) conditions (sym (misses-is columns (λ (c : Cond). c.column) test_at conditions) ∙ h)
-
-  pub assignments_fewer : (settings : List Setting) → length (assignments_of columns settings) < length settings → misses columns (map setting_name settings) ≡ true
-  assignments_fewer settings less = named_fewer columns setting_name assignment_at settings less
-
-  pub assignments_all : (settings : List Setting) → length settings ≤ length (assignments_of columns settings) → misses columns (map setting_name settings) ≡ false
-  assignments_all settings all = named_all columns setting_name assignment_at settings all
-
-  pub settings_kept : (settings : List Setting) → misses columns (map setting_name settings) ≡ false → leaves_out (assignment_of columns) settings ≡ false
-  settings_kept settings h = sym (misses-is columns setting_name assignment_at settings) ∙ h
-
-  pub conditions_kept : (conditions : List Cond) → misses columns (condition_names conditions) ≡ false → leaves_out (test_of columns) conditions ≡ false
-  conditions_kept conditions h = sym (misses-is columns (λ (c : Cond). c.column) test_at conditions) ∙ h
-
-  pub conditions_missed : (conditions : List Cond) → misses columns (condition_names conditions) ≡ list_any (λ c. not (is_some (place_meant columns c.column))) conditions
-  conditions_missed conditions =
-      list_any-map (λ n. not (fits_one columns n)) (λ (c : Cond). c.column) conditions
-      ∙ list_any-same (λ (c : Cond). not (fits_one columns c.column)) (λ c. not (is_some (place_meant columns c.column))) conditions
-      (λ c. ap not (sym (fits_one-is columns c.column)))
+  length-tests conditions h = length_meant columns (λ (c : Cond). c.column) test_at conditions h
 
   -- ---- items
 
@@ -106,43 +160,10 @@ module _ (columns : List JoinedColumn) where
   key_set [] = refl
   key_set (s ∷ ss) = one_place (place_meant columns (setting_name s)) s (places_meant columns (map setting_name ss)) (assignments_of columns ss) (key_set ss)
 
-  long_one : (s : Setting) (a : Assignment) → assignment_of columns s ≡ Some a → is_long s.value ≡ is_long a.value
+  long_one : (s : Setting) (a : Assignment) → option_map (assignment_at s) (place_meant columns (setting_name s)) ≡ Some a → is_long s.value ≡ is_long a.value
   long_one s a e = ap (λ (b : Assignment). is_long b.value) (option_map_some (assignment_at s) (place_meant columns (setting_name s)) a e).2
 
   pub long_set : (settings : List Setting) → misses columns (map setting_name settings) ≡ false → list_any (λ s. is_long s.value) settings ≡ list_any (λ a. is_long a.value) (assignments_of columns settings)
-  long_set settings h = any_made (assignment_of columns) (λ s. is_long s.value) (λ a. is_long a.value) long_one settings (settings_kept settings h)
-
--- ---- types
-
-module _ (tables : Database) (scope : Scope) where
-  abbrev columns : List JoinedColumn
-  columns = columns_of scope
-
-  -- a value is none for the column meant where it is none for the column at the place
-  mistypes-place : (name : ColName) (v : Value) (place : Place) → place_meant columns name ≡ Some place → mistypes tables columns name v ≡ mistypes_at tables scope.columns.now place.column.0 v
-  mistypes-place name v place is =
-      let found = option_map_some (λ (j : JoinedColumn). j.place) (column_meant columns name) place is in
-      let there : slice_get scope.columns.now place.column.0 ≡ Some found.0.column =
-      ap (λ (p : Place). slice_get scope.columns.now p.column.0) (sym found.2) ∙ meant_there scope name found.0 found.1 in
-      ap (λ o. option_map_or (λ (j : JoinedColumn). not (is_typed tables v j.column.kind)) o false) found.1
-      ∙ sym (ap (λ o. option_map_or (λ (c : Column). not (is_typed tables v c.kind)) o false) there)
-
-  test_mistyped : (c : Cond) (t : Test) → test_of columns c ≡ Some t → is_mistyped tables columns c ≡ is_mistyped_test tables scope.columns.now t
-  test_mistyped c t e =
-      let found = option_map_some (test_at c) (place_meant columns c.column) t e in
-      ap (λ b. b || (is_null c.value && asks_order c.op)) (mistypes-place c.column c.value found.0 found.1) ∙ ap (is_mistyped_test tables scope.columns.now) found.2
-
-  pub tests_mistyped : (conditions : List Cond) → misses columns (condition_names conditions) ≡ false
-      → list_any (is_mistyped tables columns) conditions ≡ list_any (is_mistyped_test tables scope.columns.now) (tests_of columns conditions)
-  tests_mistyped conditions h =
-      any_made (test_of columns) (is_mistyped tables columns) (is_mistyped_test tables scope.columns.now) test_mistyped conditions (conditions_kept columns conditions h)
-
-  assignment_mistyped : (s : Setting) (a : Assignment) → assignment_of columns s ≡ Some a → mistypes tables columns (setting_name s) s.value ≡ mistypes_at tables scope.columns.now a.column.0 a.value
-  assignment_mistyped s a e =
-      let found = option_map_some (assignment_at s) (place_meant columns (setting_name s)) a e in
-      mistypes-place (setting_name s) s.value found.0 found.1 ∙ ap (λ (b : Assignment). mistypes_at tables scope.columns.now b.column.0 b.value) found.2
-
-  pub assignments_mistyped : (settings : List Setting) → misses columns (map setting_name settings) ≡ false
-      → list_any (λ s. mistypes tables columns (setting_name s) s.value) settings ≡ list_any (λ a. mistypes_at tables scope.columns.now a.column.0 a.value) (assignments_of columns settings)
-  assignments_mistyped settings h =
-      any_made (assignment_of columns) (λ s. mistypes tables columns (setting_name s) s.value) (λ a. mistypes_at tables scope.columns.now a.column.0 a.value) assignment_mistyped settings (settings_kept columns settings h)
+  long_set settings h =
+      any_made (λ s. option_map (assignment_at s) (place_meant columns (setting_name s))) (λ s. is_long s.value) (λ a. is_long a.value) long_one settings
+      (sym (misses-is columns setting_name assignment_at settings) ∙ h)

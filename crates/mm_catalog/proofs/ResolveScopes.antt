@@ -11,7 +11,6 @@ use Rattle.std.proofs.lemmas.List.Folds.{list_any-append, list_any_at}
 use Rattle.std.proofs.lemmas.Map.Views.{any-filter_same}
 use Rattle.std.proofs.lemmas.Slice.Eq.{bytes_eq-Decides}
 use Rattle.std.proofs.lemmas.Slice.Zip.{all_zipped_more}
-use Rattle.common_lemmas.proofs.Tests.{list_any-map}
 use Rattle.plain_tables.specs.Databases.{Database, is_named, table_named}
 use Rattle.plain_tables.specs.declared.numbers.Place.{Place}
 use Rattle.plain_tables.specs.Queries.{JoinedColumn, column_number, sides_meant, source_columns as plain_columns}
@@ -82,7 +81,7 @@ find_passes p (y ∷ ys) x h = elim (cases_Bool (p y)) [
 
 module _ (tables : Database) where
   -- a scope goes by the name that it is of
-  called_so : (name : List ℕ) (scope : Scope) → IsScopeOf tables name scope → scope.name.now ≡ name
+  pub called_so : (name : List ℕ) (scope : Scope) → IsScopeOf tables name scope → scope.name.now ≡ name
   called_so name scope h = sym h.called ∙ (bytes_eq-Decides h.table.name name).0 (find_passes (is_named name) tables h.table h.found)
 
   any_named : (name : List ℕ) (own : Scope) (names : List (List ℕ)) (scopes : List Scope) → IsScopeOf tables name own → AllZip (IsScopeOf tables) names scopes
@@ -191,14 +190,11 @@ module _ (tables : Database) (name : List ℕ) where
       ∙ missed_at (list_any is_none (map columns (behind (name ∷ []) joins))) (list_any is_none (map columns (behind (names ++ join.table ∷ []) rest)))
 
   -- where no table is missed each join's is there
-  pub table_there : (joins : List Join) (i : ℕ) (d : Join) → i < length joins → list_any (λ n. not (is_some (table_named n tables))) (select_names name joins) ≡ false
+  pub table_there : (joins : List Join) (i : ℕ) (d : Join) → i < length joins → list_any (λ j. not (is_some (table_named j.table tables))) joins ≡ false
       → table_named (get_or joins i d).table tables ≡ None → ⊥
   table_there joins i d within all none =
-      let missing : List ℕ → Bool = λ n. not (is_some (table_named n tables)) in
-      let here : missing (get_or joins i d).table ≡ true = ap (λ o. not (is_some o)) none in
-      let some : list_any missing (map (λ (j : Join). j.table) joins) ≡ true =
-      list_any-map missing (λ (j : Join). j.table) joins ∙ list_any_at (λ (j : Join). missing j.table) joins i d within here in
-      false≢true (sym all ∙ ap (λ b. missing name || b) some ∙ or_true (missing name))
+      let missing : Join → Bool = λ j. not (is_some (table_named j.table tables)) in
+      false≢true (sym all ∙ list_any_at missing joins i d within (ap (λ o. not (is_some o)) none))
 
   pub split_at : (joins : List Join) (i : ℕ) (join : Join) → join ≡ get_or joins i join → i < length joins
       → list_any is_none (map (join_columns tables) (behind (name ∷ []) (take i joins ++ join ∷ drop (i + 1) joins))) ≡ true

@@ -173,6 +173,19 @@ module _ (tables : Database) (distinct : Bool) (its : Items) (name : List ℕ) (
   abbrev pub misses_table : Bool
   misses_table = list_any (λ n. not (is_some (table_named n tables))) names
 
+  -- whether the table of a join isn't there
+  abbrev pub misses_joined : Bool
+  misses_joined = list_any (λ (j : Join). not (is_some (table_named j.table tables))) joins
+
+  misses_is : is_some (table_named name tables) ≡ true → misses_table ≡ misses_joined
+  misses_is h = ap (λ b. not b || list_any (λ n. not (is_some (table_named n tables))) (map (λ (j : Join). j.table) joins)) h ∙ list_any-map (λ n. not (is_some (table_named n tables))) (λ (j : Join). j.table) joins
+
+  pub joined_missed : is_some (table_named name tables) ≡ true → misses_joined ≡ true → resolved_so ≡ Err NoSuchTable
+  joined_missed here h = let missed : misses_table ≡ true = misses_is here ∙ h in rw missed refl
+
+  pub none_misses : is_some (table_named name tables) ≡ true → misses_joined ≡ false → misses_table ≡ false
+  none_misses here h = misses_is here ∙ h
+
   -- the checks behind that of the tables
   abbrev checks : List JoinedColumn → List Check
   checks cs =
@@ -214,7 +227,7 @@ module _ (tables : Database) (distinct : Bool) (its : Items) (name : List ℕ) (
         pub conditions_missed : misses columns (condition_names conditions) ≡ true → resolved_so ≡ Err NoSuchColumn
         conditions_missed missed = column_missed (rest_missed columns (named_items its) (condition_names conditions) true items_named missed)
 
-        module _ (named : misses columns (condition_names conditions) ≡ false) where
+        module _ (named : misses columns (condition_names conditions) ≡ false) (mistyped : Bool) (types : mistyped ≡ list_any (is_mistyped tables columns) conditions) where
           found_sides : map (λ (s : Sides). Some (sides_found s)) scope.sides.items ≡ map (option_map placed_sides) sides
           found_sides = h.sides ∙ map-map (option_map placed_sides) (join_columns tables) (behind (name ∷ []) joins)
 
@@ -240,22 +253,23 @@ module _ (tables : Database) (distinct : Bool) (its : Items) (name : List ℕ) (
               ∙ ap (λ n. nat_le n (length (map (λ (j : Join). j.table) joins))) (sym (AllZip-long (IsScopeOf tables) (once names) scope.scopes.items h.scopes))
               ∙ ap (nat_le (length scope.scopes.items)) (length-map joins (λ (j : Join). j.table) ∙ many_joins)
 
-          select_named : verdict (checks columns) ≡ verdict (select_rest tables scope (shown_of columns its) conditions)
+          select_named : verdict (checks columns) ≡ verdict (select_rest tables scope (shown_of columns its) (length conditions) mistyped)
           select_named =
               rw (
                 rest_missed columns (named_items its) (condition_names conditions) false items_named named,
                 none_missing,
                 sym (shown_places-are columns its),
                 named_twice,
+                sym types,
                 sides_differ_so,
                 sym (length-shown columns its items_named),
                 many_joins,
               ) refl
 
-          pub select_refused : (e : Refusal) → verdict (select_rest tables scope (shown_of columns its) conditions) ≡ Err e → resolved_so ≡ Err e
+          pub select_refused : (e : Refusal) → verdict (select_rest tables scope (shown_of columns its) (length conditions) mistyped) ≡ Err e → resolved_so ≡ Err e
           select_refused e err = select_is ∙ meaning_err (checks columns) (selection columns) e (select_named ∙ err)
 
-          select_meant : verdict (select_rest tables scope (shown_of columns its) conditions) ≡ Ok tt → resolved_so ≡ Ok (selection columns)
+          select_meant : verdict (select_rest tables scope (shown_of columns its) (length conditions) mistyped) ≡ Ok tt → resolved_so ≡ Ok (selection columns)
           select_meant ok = select_is ∙ meaning_ok (checks columns) (selection columns) (select_named ∙ ok)
 
           -- ---- what it means
@@ -299,7 +313,7 @@ module _ (tables : Database) (distinct : Bool) (its : Items) (name : List ℕ) (
               (joins_are (name ∷ []) joins ss scope.sides.items all.1 h.sides ∙ ap (λ xs. map (λ s. joined_by s.0 s.1) (zip xs scope.sides.items)) (sym others))
 
           pub select_done : (source : Source) (sources : List Source) → sources ≡ map (source_on columns conditions) (enumerate_from 0 scope.scopes.items) → source ≡ get_or sources 0 source
-              → verdict (select_rest tables scope (shown_of columns its) conditions) ≡ Ok tt
+              → verdict (select_rest tables scope (shown_of columns its) (length conditions) mistyped) ≡ Ok tt
               → resolved_so ≡ Ok (resolved.Select distinct (shown_of columns its) source (map (λ s. joined_by s.0 s.1) (zip (remove sources 0) scope.sides.items)))
           select_done source sources made at ok =
               let apart : once names ≡ names = once_all names (named_twice ∙ second_passes (repeats same_place (shown_places (shown_of columns its))) (nat_le (length scope.scopes.items) (length scope.sides.items)) _ _ _ ok) in

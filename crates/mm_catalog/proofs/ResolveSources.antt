@@ -2,7 +2,7 @@
 use Rattle.std.proofs.Common.{◌≡◌, ◌≢◌, ℕ, zero, suc, ◌+◌, ◌≤◌, Bool, true, false, cond, List, [], ◌∷◌, ◌++◌, Some, refl, ap, ◌∙◌, map, set, slice_get, arith, append-nil, add-zero}
 use Rattle.std.specs.Prelude.{◌==◌, Result, Ok, Err, OnOk}
 use Rattle.std.specs.List.{filter, enumerate_from}
-use Rattle.std.specs.Option.{option_map_or}
+use Rattle.std.specs.Option.{option_map, option_map_or}
 use Rattle.std.proofs.lemmas.Bool.Decides.{nat_tests}
 use Rattle.std.proofs.lemmas.List.Elements.{filter-append, filter_map-append}
 use Rattle.std.proofs.lemmas.Option.{same_Some}
@@ -12,7 +12,7 @@ use Rattle.plain_tables.specs.declared.condition.Cond.{Cond}
 use Rattle.plain_tables.specs.declared.numbers.Place.{Place}
 use Rattle.plain_tables.specs.declared.resolved.Source.{Source}
 use Rattle.mm_catalog.specs.declared.bind.scope.Scope.{Scope}
-use Rattle.mm_catalog.specs.Resolve.{test_at, test_of}
+use Rattle.mm_catalog.specs.Resolve.{test_at}
 use Rattle.mm_catalog.specs.Select.{source_on, untested, with_test}
 
 pub on_ok : {X E : Type 0} {P Q : Type 0} (r : Result X E) → OnOk r P → (P → Q) → OnOk r Q
@@ -47,7 +47,7 @@ module _ (columns : List JoinedColumn) where
         → tests_of columns (filter (is_on_source columns n) (given ++ c ∷ [])) ≡ tests_of columns (filter (is_on_source columns n) given) ++ tests_of columns (cond b (c ∷ []) [])
     tests_more n b h =
         ap (tests_of columns) (filter-append (is_on_source columns n) given (c ∷ []) ∙ ap (λ x. filter (is_on_source columns n) given ++ cond x (c ∷ []) []) h)
-        ∙ filter_map-append (test_of columns) (filter (is_on_source columns n) given) (cond b (c ∷ []) [])
+        ∙ filter_map-append (λ d. option_map (test_at d) (place_meant columns d.column)) (filter (is_on_source columns n) given) (cond b (c ∷ []) [])
 
     source_same : (n : ℕ) (s : Scope) → is_on_source columns n c ≡ false → source_on columns (given ++ c ∷ []) (n, s) ≡ source_on columns given (n, s)
     source_same n s h =

@@ -1,11 +1,10 @@
 -- What a command names of a catalog: a table, and columns of it.
-use Rattle.std.specs.Prelude.{◌≡◌, ℕ, List, [], ◌∷◌, Option, Some, None, map}
+use Rattle.std.specs.Prelude.{◌≡◌, ℕ, List, [], ◌∷◌, Some, None, map}
 use Rattle.std.specs.List.{enumerate_from, flat_map}
-use Rattle.std.specs.Option.{option_map, option_copied}
+use Rattle.std.specs.Option.{option_copied}
 use Rattle.plain_tables.specs.Tables.{Table}
 use Rattle.plain_tables.specs.Databases.{Database, table_named}
-use Rattle.plain_tables.specs.Queries.{JoinedColumn, column_number, place_meant}
-use Rattle.plain_tables.specs.Effects.{setting_name}
+use Rattle.plain_tables.specs.Queries.{JoinedColumn, column_number}
 use Rattle.plain_tables.specs.Resolving.{number_of}
 use Rattle.plain_tables.specs.declared.numbers.ColumnNumber.{ColumnNumber}
 use Rattle.plain_tables.specs.declared.numbers.Place.{Place}
@@ -81,13 +80,6 @@ test_at c place = record { column = place.column; op = c.op; value = c.value }
 
 abbrev pub assignment_at : Setting → Place → Assignment
 assignment_at s place = record { column = place.column; value = s.value }
-
--- the test that a condition is, and the assignment that a setting is, if its name means a column
-abbrev pub test_of : List JoinedColumn → Cond → Option Test
-test_of columns c = option_map (test_at c) (place_meant columns c.column)
-
-abbrev pub assignment_of : List JoinedColumn → Setting → Option Assignment
-assignment_of columns s = option_map (assignment_at s) (place_meant columns (setting_name s))
 
 -- the places of the columns that are shown by their names
 abbrev pub shown_places : Shown → List Place

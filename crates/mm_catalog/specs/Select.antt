@@ -6,7 +6,7 @@ use Rattle.plain_tables.specs.Databases.{Database}
 use Rattle.plain_tables.specs.Queries.{JoinedColumn, same_place}
 use Rattle.plain_tables.specs.References.{same_type, type_of}
 use Rattle.plain_tables.specs.Effects.{Check, repeats}
-use Rattle.plain_tables.specs.Resolving.{once, select_names, behind, join_columns, is_mistyped, is_on_source, tests_of}
+use Rattle.plain_tables.specs.Resolving.{once, select_names, behind, join_columns, is_on_source, tests_of}
 use Rattle.plain_tables.specs.declared.command.Join.{Join}
 use Rattle.plain_tables.specs.declared.condition.Cond.{Cond}
 use Rattle.plain_tables.specs.declared.numbers.Place.{Place}
@@ -19,7 +19,7 @@ use Rattle.plain_tables.specs.declared.schema.Column.{Column}
 use Rattle.mm_catalog.specs.declared.bind.scope.Scope.{Scope}
 use Rattle.mm_catalog.specs.declared.bind.joined_scope.Sides.{Sides}
 use Rattle.mm_catalog.specs.declared.bind.joined_scope.JoinedScope.{JoinedScope}
-use Rattle.mm_catalog.specs.Resolve.{IsScopeOf, columns_of_all, placed, as_found, shown_places}
+use Rattle.mm_catalog.specs.Resolve.{IsScopeOf, placed, as_found, shown_places}
 
 -- ---- the tables and joins
 
@@ -42,15 +42,16 @@ pub record IsJoinedScopeOf (tables : Database) (name : List ℕ) (joins : List J
 abbrev pub sides_differ : Database → Sides → Bool
 sides_differ tables s = not (same_type (type_of tables s.outer.column.now.kind) (type_of tables s.inner.column.now.kind))
 
--- the checks of a select in which each name means a column; a table that is named twice has but one scope
-abbrev pub select_rest : Database → JoinedScope → Shown → List Cond → List Check
-select_rest tables scope shown conditions =
+-- The checks of a select in which each name means a column, with so many conditions, where a value in one is none for its column
+-- or not. A table that is named twice has but one scope.
+abbrev pub select_rest : Database → JoinedScope → Shown → ℕ → Bool → List Check
+select_rest tables scope shown conditions mistyped =
     let scopes = scope.scopes.items in
     let sides = scope.sides.items in
     record { refuses = repeats same_place (shown_places shown); refusal = ColumnNamedTwice }
     ∷ record { refuses = nat_le (length scopes) (length sides); refusal = TableNamedTwice }
-    ∷ record { refuses = list_any (is_mistyped tables (columns_of_all scopes)) conditions || list_any (sides_differ tables) sides; refusal = WrongType }
-    ∷ record { refuses = nat_lt 16 (length (shown_places shown)) || nat_lt 8 (length conditions) || nat_lt 3 (length sides); refusal = TooMany }
+    ∷ record { refuses = mistyped || list_any (sides_differ tables) sides; refusal = WrongType }
+    ∷ record { refuses = nat_lt 16 (length (shown_places shown)) || nat_lt 8 conditions || nat_lt 3 (length sides); refusal = TooMany }
     ∷ []
 
 -- ---- sources

@@ -4,8 +4,9 @@
 
 mod checks;
 mod joined_scope;
-mod named;
+mod load;
 mod names;
+mod placed;
 mod resolve;
 mod scope;
 mod selected;

@@ -269,7 +269,7 @@ impl Catalog {
         Ok(())
     }
 
-    fn allocator(&self) -> Global {
+    pub(crate) fn allocator(&self) -> Global {
         *self.relations.allocator()
     }
 

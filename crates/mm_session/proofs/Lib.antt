@@ -1,12 +1,10 @@
 pub mod AnswerLemmas
 pub mod AskLemmas
 pub mod BesideLemmas
-pub mod BlockLemmas
 pub mod DumpLemmas
 pub mod KeptLemmas
 pub mod LineLemmas
 pub mod ListingLemmas
-pub mod LoadLemmas
 pub mod MemberLemmas
 pub mod PerformLemmas
 pub mod PickLemmas

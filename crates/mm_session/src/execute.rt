@@ -1,11 +1,5 @@
 //! What commands do to the tables of a catalog, and what they answer.
 
-ghost use Rattle.std.specs.Prelude.{◌≡◌, ◌≢◌, Ok, Err, IfOk, IfErr};
-ghost use Rattle.plain_tables.specs.Resolving.{resolved_of};
-ghost use Rattle.plain_tables.specs.declared.refusal.Refusal.TheVariants as refusal;
-ghost use Rattle.mm_csv.specs.BlockReading.{block_records};
-ghost use Rattle.mm_catalog.specs.Seen.{database_of};
-
 mod blocks;
 mod listing;
 mod query;
@@ -14,7 +8,6 @@ mod select;
 
 use crate::answer::Answer;
 use crate::records::push_changed;
-use blocks::resolve_load;
 use mm_catalog::Catalog;
 use plain_tables::{Assignment, Command, Refusal, Resolved, Sequence, TableNumber, Test};
 use plan_chooser::Policy;
@@ -26,22 +19,6 @@ use std::alloc::Global;
 const OK: &[u8] = b"ok\n";
 
 const OK_ONE: &[u8] = b"ok 1\n";
-
-// What a command means, with numbers in the place of names, and rows in the place of its block.
-fn resolve(
-    alloc: Global,
-    catalog: &Catalog,
-    command: Command,
-    block: &[u8],
-) -> Result<Resolved, Refusal>
-    ensures meant { IfOk result (λ r. resolved_of (block_records block.now) (database_of catalog.now) command ≡ Ok r) }
-    ensures refused { IfErr result (λ e. e ≢ refusal.NoMemory → resolved_of (block_records block.now) (database_of catalog.now) command ≡ Err e) }
-{
-    match command {
-        Command::Load { table, .. } => resolve_load(alloc, catalog, &table, block),
-        command => catalog.resolve(command),
-    }
-}
 
 /// What carries commands out: the tables, and how plans are picked.
 #[derive(Drop)]
@@ -194,7 +171,7 @@ impl Executor {
         ensures err { IfErr result (DoesNothing (effect_of (block_records block.now) self.old.catalog.limits (database_of self.old.catalog) command) (database_of self.old.catalog) (database_of self.new.catalog)) }
         ensures limits { self.new.catalog.limits ≡ self.old.catalog.limits }
     {
-        let resolved = resolve(self.alloc, &self.catalog, command, block)?;
+        let resolved = self.catalog.resolve(command, block)?;
         self.perform(resolved, answer)
     }
 }

@@ -30,7 +30,8 @@ use Rattle.common_lemmas.proofs.Places.{set_again, set_itself}
 use Rattle.mm_csv.specs.BlockReading.{block_records}
 use Rattle.mm_csv.proofs.BlockLaws.{blocks-back}
 use Rattle.plain_streams.specs.Dumps.{AreReadBack, IsEmptyCopy, DumpsLoadAgain, DumpsRestore, emptied}
-use Rattle.plain_streams.proofs.BlockFits.{IsElsewhere, block-names, blocks-named, refers_elsewhere, row-fits, table-typed}
+use Rattle.plain_tables.proofs.ColumnTypes.{IsElsewhere, refers_elsewhere, table-typed}
+use Rattle.plain_streams.proofs.BlockFits.{block-names, blocks-named, row-fits}
 use Rattle.plain_streams.proofs.LoadRows.{SameReferred, loaded-all, named-other}
 
 -- ---- the dump

@@ -3,6 +3,7 @@ pub mod BlockLemmas
 pub mod Canonical
 pub mod ChangeLemmas
 pub mod ColumnLemmas
+pub mod ColumnTypes
 pub mod DistinctLemmas
 pub mod EffectLemmas
 pub mod FirstWords

@@ -47,7 +47,7 @@ fn insertion(alloc: Global, id: i64) -> Result<Command, NoMemory>
 fn grow(catalog: &mut Catalog, command: Command) -> Result<(), Refusal>
     requires { IsGiven command }
 {
-    match catalog.resolve(command)? {
+    match catalog.resolve(command, &[])? {
         Resolved::Table { name, schema } => catalog.create(name, schema)?,
         Resolved::Insert { table, values } => catalog.insert(table, values)?,
         _ => return Err(Refusal::NotACommand),

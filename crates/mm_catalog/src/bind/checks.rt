@@ -13,11 +13,11 @@ ghost use Rattle.mm_catalog.specs.Select.{select_rest};
 ghost use Rattle.plain_tables.specs.Queries.{same_place};
 
 use crate::bind::joined_scope::JoinedScope;
+use crate::bind::placed::Placed;
 use crate::catalog::Catalog;
 use crate::create::referred;
 use plain_tables::{
-    Assignment, Column, Cond, LONGEST_TEXT, Place, Refusal, Schema, Setting, Shown, Test, Text,
-    Value,
+    Assignment, Column, LONGEST_TEXT, Place, Refusal, Schema, Setting, Shown, Test, Text, Value,
 };
 
 const MOST_TABLES: usize = 64;
@@ -149,6 +149,47 @@ fn shown_places(shown: &Shown) -> &[Place]
     }
 }
 
+/// Each value of a condition is of its column's type, and there are few enough.
+pub fn check_delete(tested: &Placed<Test>) -> Result<(), Refusal>
+    ensures { result ≡ verdict (delete_rest tested.now) }
+{
+    if tested.mistyped {
+        return Err(Refusal::WrongType);
+    }
+    if tested.items.len() > MOST_CONDITIONS {
+        return Err(Refusal::TooMany);
+    }
+    Ok(())
+}
+
+/// No column is set twice, each value is of its column's type, no text to be set is too long, the key isn't set, and there are
+/// few enough conditions.
+pub fn check_update(
+    repeated: bool,
+    set: &Placed<Assignment>,
+    tested: &Placed<Test>,
+) -> Result<(), Refusal>
+    ensures { result ≡ verdict (update_rest repeated set.now tested.now) }
+{
+    let assignments = set.items.as_slice();
+    if repeated {
+        return Err(Refusal::ColumnNamedTwice);
+    }
+    if set.mistyped || tested.mistyped {
+        return Err(Refusal::WrongType);
+    }
+    if sets_long_text(assignments) {
+        return Err(Refusal::TextTooLong);
+    }
+    if sets_key(assignments) {
+        return Err(Refusal::KeyCannotBeSet);
+    }
+    if tested.items.len() > MOST_CONDITIONS {
+        return Err(Refusal::TooMany);
+    }
+    Ok(())
+}
+
 impl Catalog {
     // Whether a column refers to a table that isn't there.
     fn refers_to_missing(&self, columns: &[Column]) -> bool
@@ -210,28 +251,16 @@ impl Catalog {
         Ok(())
     }
 
-    /// Each value of a condition is of its column's type, and there are few enough.
-    pub(crate) fn check_delete(&self, columns: &[Column], tests: &[Test]) -> Result<(), Refusal>
-        ensures { result ≡ verdict (delete_rest (database_of self.now) columns.now tests.now) }
-    {
-        if self.tests_are_mistyped(columns, tests) {
-            return Err(Refusal::WrongType);
-        }
-        if tests.len() > MOST_CONDITIONS {
-            return Err(Refusal::TooMany);
-        }
-        Ok(())
-    }
-
     /// No column is shown twice, no table named twice, each value of a condition is of its column's type, as are the two
     /// columns of each join of one, and there are few enough items, conditions and joins.
     pub(crate) fn check_select(
         &self,
         scope: &JoinedScope<'_>,
         shown: &Shown,
-        conditions: &[Cond],
+        conditions: usize,
+        mistyped: bool,
     ) -> Result<(), Refusal>
-        ensures { result ≡ verdict (select_rest (database_of self.now) scope.now shown.now conditions.now) }
+        ensures { result ≡ verdict (select_rest (database_of self.now) scope.now shown.now conditions mistyped) }
     {
         let items = shown_places(shown);
         let joins = scope.sides.len();
@@ -241,39 +270,10 @@ impl Catalog {
         if scope.scopes.len() <= joins {
             return Err(Refusal::TableNamedTwice);
         }
-        if self.conditions_are_mistyped(scope, conditions)
-            || self.sides_are_mistyped(scope.sides.as_slice())
-        {
+        if mistyped || self.sides_are_mistyped(scope.sides.as_slice()) {
             return Err(Refusal::WrongType);
         }
-        if items.len() > MOST_ITEMS || conditions.len() > MOST_CONDITIONS || joins > MOST_JOINS {
-            return Err(Refusal::TooMany);
-        }
-        Ok(())
-    }
-
-    /// Each value is of its column's type, no text to be set is too long, the key isn't set, and there are few enough
-    /// conditions.
-    pub(crate) fn check_update(
-        &self,
-        columns: &[Column],
-        assignments: &[Assignment],
-        tests: &[Test],
-    ) -> Result<(), Refusal>
-        ensures { result ≡ verdict (update_rest (database_of self.now) columns.now assignments.now tests.now) }
-    {
-        if self.assignments_are_mistyped(columns, assignments)
-            || self.tests_are_mistyped(columns, tests)
-        {
-            return Err(Refusal::WrongType);
-        }
-        if sets_long_text(assignments) {
-            return Err(Refusal::TextTooLong);
-        }
-        if sets_key(assignments) {
-            return Err(Refusal::KeyCannotBeSet);
-        }
-        if tests.len() > MOST_CONDITIONS {
+        if items.len() > MOST_ITEMS || conditions > MOST_CONDITIONS || joins > MOST_JOINS {
             return Err(Refusal::TooMany);
         }
         Ok(())

@@ -11,7 +11,7 @@ use crate::bind::names::column;
 use crate::bind::scope::{Name, NamedColumn, Scope};
 use crate::catalog::Catalog;
 use no_memory::NoMemory;
-use plain_tables::{Join, JoinSide, Refusal, Text};
+use plain_tables::{Join, JoinSide, Refusal};
 use std::alloc::Global;
 use std::slice::from_ref;
 
@@ -30,31 +30,31 @@ pub struct JoinedScope<'a> {
 }
 
 impl Catalog {
+    ghost use Rattle.mm_catalog.specs.Resolve.{IsScopeOf};
     ghost use Rattle.mm_catalog.specs.Select.{IsJoinedScopeOf};
     ghost use Rattle.plain_tables.specs.Databases.{table_named};
-    ghost use Rattle.plain_tables.specs.Resolving.{select_names, behind, join_columns};
+    ghost use Rattle.plain_tables.specs.Resolving.{behind, join_columns};
 
-    /// Whether a table that a select names isn't there.
-    pub(crate) fn misses_table(&self, table: &Text, joins: &[Join]) -> bool
-        ensures { result ≡ list_any (λ name. not (is_some (table_named name (database_of self.now)))) (select_names table.now joins.now) }
+    /// Whether a table that a select joins isn't there.
+    pub(crate) fn misses_joined(&self, joins: &[Join]) -> bool
+        ensures { result ≡ list_any (λ join. not (is_some (table_named join.table (database_of self.now)))) joins.now }
     {
-        !self.has_table(table) || joins.iter().any(|join| !self.has_table(&join.table))
+        joins.iter().any(|join| !self.has_table(&join.table))
     }
 
-    /// What can be named in a select from these tables, and the columns of its joins.
+    /// What can be named in a select from a table and those that are joined with it, and the columns of its joins.
     pub(crate) fn joined_scope<'a>(
         &'a self,
-        alloc: Global,
-        table: &Text,
+        first: Scope<'a>,
         joins: &[Join],
     ) -> Result<JoinedScope<'a>, Refusal>
-        requires { list_any (λ name. not (is_some (table_named name (database_of self.now)))) (select_names table.now joins.now) ≡ false }
-        ensures found { IfOk result (IsJoinedScopeOf (database_of self.now) table.now joins.now) }
+        requires first { IsScopeOf (database_of self.now) first.name.now first }
+        requires there { list_any (λ join. not (is_some (table_named join.table (database_of self.now)))) joins.now ≡ false }
+        ensures found { IfOk result (IsJoinedScopeOf (database_of self.now) first.entry.name.now joins.now) }
         ensures refused { IfErr result (λ e. e ≢ refusal.NoMemory → e ≡ refusal.NoSuchColumn) }
-        ensures missed { IfErr result (λ e. e ≢ refusal.NoMemory → list_any is_none (map (join_columns (database_of self.now)) (behind (table.now ∷ []) joins.now)) ≡ true) }
+        ensures missed { IfErr result (λ e. e ≢ refusal.NoMemory → list_any is_none (map (join_columns (database_of self.now)) (behind (first.entry.name.now ∷ []) joins.now)) ≡ true) }
     {
-        let first = self.scope(table)?;
-        let mut joined = JoinedScope::of(alloc, first)?;
+        let mut joined = JoinedScope::of(self.allocator(), first)?;
         for join in joins {
             let own = self.scope(&join.table)?;
             joined.join(own, join)?;

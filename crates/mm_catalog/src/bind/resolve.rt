@@ -3,21 +3,23 @@ ghost use Rattle.std.specs.Prelude.{◌≡◌, ◌≢◌, [], Ok, Err, IfOk, IfE
 ghost use Rattle.plain_tables.specs.declared.refusal.Refusal.TheVariants as refusal;
 ghost use Rattle.plain_tables.specs.declared.command.Command.TheVariants as command;
 ghost use Rattle.plain_tables.specs.Resolving.{resolved_of};
+ghost use Rattle.mm_csv.specs.BlockReading.{block_records};
 ghost use Rattle.mm_catalog.specs.Seen.{database_of};
 
-use crate::bind::checks::repeats_setting;
+use crate::bind::checks::{check_delete, check_update, repeats_setting};
 use crate::catalog::Catalog;
 use plain_tables::{
     Command, Cond, IndexKind, Items, Join, Refusal, Resolved, Schema, Sequence, Setting, Text,
     Value,
 };
+use std::slice::from_ref;
 
 impl Catalog {
     /// What a command means of these tables, with numbers in the place of names. It is refused where a check that needs no
-    /// row refuses it, by the first that does, or where there is no memory. A load is resolved as one without records.
-    pub fn resolve(&self, command: Command) -> Result<Resolved, Refusal>
-        ensures meant { IfOk result (λ r. resolved_of [] (database_of self.now) command ≡ Ok r) }
-        ensures refused { IfErr result (λ e. e ≢ refusal.NoMemory → resolved_of [] (database_of self.now) command ≡ Err e) }
+    /// row refuses it, by the first that does, or where there is no memory. The rows of a load are those of its block.
+    pub fn resolve(&self, command: Command, block: &[u8]) -> Result<Resolved, Refusal>
+        ensures meant { IfOk result (λ r. resolved_of (block_records block.now) (database_of self.now) command ≡ Ok r) }
+        ensures refused { IfErr result (λ e. e ≢ refusal.NoMemory → resolved_of (block_records block.now) (database_of self.now) command ≡ Err e) }
     {
         match command {
             Command::Table { name, schema } => self.resolve_table(name, schema),
@@ -46,7 +48,7 @@ impl Catalog {
                 joins,
                 conditions,
             } => self.resolve_select(distinct, items, table, joins, conditions),
-            Command::Load { table, bytes } => self.resolve_load(table, bytes),
+            Command::Load { table, .. } => self.resolve_load(&table, block),
             Command::Dump { table } => self.resolve_dump(table),
             Command::Tables => Ok(Resolved::Tables),
         }
@@ -126,16 +128,13 @@ impl Catalog {
     {
         let scope = self.scope(&table)?;
         let repeated = repeats_setting(settings.as_slice());
-        let assignments = scope.assignments(settings)?;
-        let tests = scope.tests(conditions)?;
-        if repeated {
-            return Err(Refusal::ColumnNamedTwice);
-        }
-        self.check_update(scope.columns, assignments.as_slice(), tests.as_slice())?;
+        let set = self.assignments(from_ref(&scope), settings)?;
+        let tested = self.tests(from_ref(&scope), conditions)?;
+        check_update(repeated, &set, &tested)?;
         Ok(Resolved::Update {
             table: scope.table,
-            assignments,
-            tests,
+            assignments: set.items,
+            tests: tested.items,
         })
     }
 
@@ -144,11 +143,11 @@ impl Catalog {
         ensures refused { IfErr result (λ e. e ≢ refusal.NoMemory → resolved_of [] (database_of self.now) (command.Delete table conditions) ≡ Err e) }
     {
         let scope = self.scope(&table)?;
-        let tests = scope.tests(conditions)?;
-        self.check_delete(scope.columns, tests.as_slice())?;
+        let tested = self.tests(from_ref(&scope), conditions)?;
+        check_delete(&tested)?;
         Ok(Resolved::Delete {
             table: scope.table,
-            tests,
+            tests: tested.items,
         })
     }
 
@@ -163,17 +162,16 @@ impl Catalog {
         ensures meant { IfOk result (λ r. resolved_of [] (database_of self.now) (command.Select distinct items table joins conditions) ≡ Ok r) }
         ensures refused { IfErr result (λ e. e ≢ refusal.NoMemory → resolved_of [] (database_of self.now) (command.Select distinct items table joins conditions) ≡ Err e) }
     {
-        let joins = joins.into_vec();
-        if self.misses_table(&table, joins.as_slice()) {
+        let first = self.scope(&table)?;
+        if self.misses_joined(joins.as_slice()) {
             return Err(Refusal::NoSuchTable);
         }
-        let scope = self.joined_scope(*joins.allocator(), &table, joins.as_slice())?;
+        let scope = self.joined_scope(first, joins.as_slice())?;
         let shown = scope.shown(items)?;
-        if scope.misses(conditions.as_slice()) {
-            return Err(Refusal::NoSuchColumn);
-        }
-        self.check_select(&scope, &shown, conditions.as_slice())?;
-        let mut sources = scope.sources(conditions)?;
+        let count = conditions.len();
+        let tested = self.sources(&scope.scopes, conditions)?;
+        self.check_select(&scope, &shown, count, tested.mistyped)?;
+        let mut sources = tested.items;
         let source = sources.remove(0);
         let joins = scope.joins(sources)?;
         Ok(Resolved::Select {
@@ -182,13 +180,6 @@ impl Catalog {
             source,
             joins,
         })
-    }
-
-    fn resolve_load(&self, table: Text, bytes: u64) -> Result<Resolved, Refusal>
-        ensures { result ≡ resolved_of [] (database_of self.now) (command.Load table bytes) }
-    {
-        self.scope(&table)?;
-        Err(Refusal::BadHeader)
     }
 
     fn resolve_dump(&self, table: Text) -> Result<Resolved, Refusal>

@@ -3,15 +3,18 @@ ghost use Rattle.std.specs.Prelude.{◌≡◌, ◌≢◌, ◌<◌, ◌++◌, ◌
 ghost use Rattle.std.specs.List.{list_any, enumerate_from};
 ghost use Rattle.plain_tables.specs.declared.refusal.Refusal.TheVariants as refusal;
 ghost use Rattle.plain_tables.specs.declared.resolved.Source.{Source as PlainSource};
-ghost use Rattle.plain_tables.specs.declared.condition.Cond.{Cond as PlainCond};
 ghost use Rattle.plain_tables.specs.Queries.{named_items, place_meant, places_meant};
-ghost use Rattle.plain_tables.specs.Resolving.{shown_of};
+ghost use Rattle.plain_tables.specs.Resolving.{shown_of, is_mistyped};
 ghost use Rattle.plain_tables.specs.Effects.{misses, condition_names};
-ghost use Rattle.mm_catalog.specs.Select.{with_test, untested, joined_by};
+ghost use Rattle.mm_catalog.specs.Resolve.{columns_of_all};
+ghost use Rattle.mm_catalog.specs.Seen.{database_of};
+ghost use Rattle.mm_catalog.specs.Select.{source_on, with_test, untested, joined_by};
 
 use crate::bind::joined_scope::JoinedScope;
 use crate::bind::names::column;
+use crate::bind::placed::{Placed, test};
 use crate::bind::scope::{Name, Scope};
+use crate::catalog::Catalog;
 use no_memory::NoMemory;
 use plain_tables::{ColName, Cond, Items, Joined, Place, Refusal, Sequence, Shown, Source, Test};
 use std::alloc::Global;
@@ -34,10 +37,49 @@ fn add_test(sources: &mut [Source], source: usize, test: Test) -> Result<(), NoM
     sources[source].tests.push(test)
 }
 
-impl<'a> JoinedScope<'a> {
-    ghost use Rattle.mm_catalog.specs.Resolve.{columns_of_all};
-    ghost use Rattle.mm_catalog.specs.Select.{source_on};
+// The tables of scopes as sources that no condition is on.
+fn untested_sources(alloc: Global, scopes: &[Scope<'_>]) -> Result<Vec<Source>, NoMemory>
+    ensures { IfOk result (λ sources. sources.items ≡ map untested scopes.now) }
+{
+    let sources = scopes
+        .iter()
+        .map(|scope| source(alloc, scope))
+        .collect(alloc)?;
+    Ok(sources)
+}
 
+impl Catalog {
+    /// The tables of scopes as sources, each with the conditions on it as tests, in their order.
+    pub(crate) fn sources(
+        &self,
+        scopes: &[Scope<'_>],
+        conditions: Sequence<Cond>,
+    ) -> Result<Placed<Source>, Refusal>
+        ensures sources { IfOk result (λ tested. tested.items ≡ map (source_on (columns_of_all scopes.now) conditions) (enumerate_from 0 scopes.now)) }
+        ensures types { IfOk result (λ tested. tested.mistyped ≡ list_any (is_mistyped (database_of self.now) (columns_of_all scopes.now)) conditions) }
+        ensures named { IfOk result (λ _. misses (columns_of_all scopes.now) (condition_names conditions) ≡ false) }
+        ensures refused { IfErr result (λ e. e ≢ refusal.NoMemory → e ≡ refusal.NoSuchColumn) }
+        ensures missed { IfErr result (λ e. e ≢ refusal.NoMemory → misses (columns_of_all scopes.now) (condition_names conditions) ≡ true) }
+    {
+        let mut sources = untested_sources(self.allocator(), scopes)?;
+        let mut mistyped = false;
+        for condition in conditions.into_vec() {
+            let Some(named) = column(scopes, Name::of(&condition.column)) else {
+                return Err(Refusal::NoSuchColumn);
+            };
+            let source = named.place.source;
+            let wrong = self.is_mistyped(&condition, named.column);
+            mistyped = mistyped || wrong;
+            add_test(sources.as_mut_slice(), source, test(condition, named.place))?;
+        }
+        Ok(Placed {
+            items: Sequence::from_vec(sources),
+            mistyped,
+        })
+    }
+}
+
+impl<'a> JoinedScope<'a> {
     // The place of the column that a name means.
     fn place(&self, name: &ColName) -> Option<Place>
         ensures meant { result ≡ place_meant (columns_of_all self.now.scopes.items) name.now }
@@ -76,60 +118,11 @@ impl<'a> JoinedScope<'a> {
         Ok(Shown::Columns(Sequence::from_vec(places)))
     }
 
-    /// Whether a condition names no column, or one that several tables have.
-    pub fn misses(&self, conditions: &[Cond]) -> bool
-        ensures { result ≡ misses (columns_of_all self.now.scopes.items) (condition_names conditions.now) }
-    {
-        conditions
-            .iter()
-            .any(|condition| self.place(&condition.column).is_none())
-    }
-
-    // The tables as sources that no condition is on.
-    fn untested(&self) -> Result<Vec<Source>, NoMemory>
-        ensures { IfOk result (λ sources. sources.items ≡ map untested self.now.scopes.items) }
-    {
-        let alloc = *self.scopes.allocator();
-        let sources = self
-            .scopes
-            .iter()
-            .map(|scope| source(alloc, scope))
-            .collect(alloc)?;
-        Ok(sources)
-    }
-
-    // Puts a condition, as a test, behind the others on its table. One whose name means no column is left out.
-    fn add_condition(&self, sources: &mut [Source], condition: Cond) -> Result<(), NoMemory>
-        requires { length sources.old ≡ length self.now.scopes.items }
-        ensures { OnOk result ((given : List PlainCond) → sources.old ≡ map (source_on (columns_of_all self.now.scopes.items) given) (enumerate_from 0 self.now.scopes.items) → sources.new ≡ map (source_on (columns_of_all self.now.scopes.items) (given ++ condition ∷ [])) (enumerate_from 0 self.now.scopes.items)) }
-    {
-        let Cond { column, op, value } = condition;
-        let Some(place) = self.place(&column) else {
-            return Ok(());
-        };
-        let test = Test {
-            column: place.column,
-            op,
-            value,
-        };
-        add_test(sources, place.source, test)
-    }
-
-    /// The tables as sources, each with the conditions on it as tests, in their order.
-    pub fn sources(&self, conditions: Sequence<Cond>) -> Result<Vec<Source>, NoMemory>
-        ensures { IfOk result (λ sources. sources.items ≡ map (source_on (columns_of_all self.now.scopes.items) conditions) (enumerate_from 0 self.now.scopes.items)) }
-    {
-        let mut sources = self.untested()?;
-        for condition in conditions.into_vec() {
-            self.add_condition(sources.as_mut_slice(), condition)?;
-        }
-        Ok(sources)
-    }
-
     /// The sources behind the first, each joined by the columns of its join.
-    pub fn joins(self, sources: Vec<Source>) -> Result<Sequence<Joined>, NoMemory>
-        ensures { IfOk result (λ joins. joins ≡ map (λ s. joined_by s.0 s.1) (zip sources.items self.entry.sides.items)) }
+    pub fn joins(self, sources: Sequence<Source>) -> Result<Sequence<Joined>, NoMemory>
+        ensures { IfOk result (λ joins. joins ≡ map (λ s. joined_by s.0 s.1) (zip sources self.entry.sides.items)) }
     {
+        let sources = sources.into_vec();
         let mut joins = Vec::new(*sources.allocator());
         for (source, sides) in sources.into_iter().zip(self.sides) {
             joins.push(Joined {

@@ -1,5 +1,5 @@
 //! The types of columns and values.
-ghost use Rattle.std.specs.Prelude.{◌≡◌, slice_get, zip};
+ghost use Rattle.std.specs.Prelude.{◌≡◌, not};
 ghost use Rattle.std.specs.List.{list_any};
 ghost use Rattle.std.specs.Option.{option_and_then};
 ghost use Rattle.plain_tables.specs.Databases.{table_named};
@@ -7,18 +7,13 @@ ghost use Rattle.plain_tables.specs.Values as values;
 ghost use Rattle.plain_tables.specs.Resolving as resolving;
 ghost use Rattle.plain_tables.specs.References as plain;
 ghost use Rattle.mm_catalog.specs.Seen.{database_of};
-ghost use Rattle.mm_catalog.specs.ResolveChecks.{mistypes_at, is_mistyped_test};
-ghost use Rattle.mm_catalog.specs.Resolve.{columns_of_all};
+ghost use Rattle.mm_catalog.specs.ResolveChecks.{is_mistyped_on};
 ghost use Rattle.mm_catalog.specs.Select.{sides_differ};
 
-use crate::bind::joined_scope::{JoinedScope, Sides};
-use crate::bind::names::column;
-use crate::bind::scope::Name;
+use crate::bind::joined_scope::Sides;
 use crate::catalog::Catalog;
 use crate::create::referred;
-use plain_tables::{
-    Assignment, BaseKind, ColKind, Column, ColumnNumber, Cond, Op, Test, Text, Value,
-};
+use plain_tables::{BaseKind, ColKind, Column, Cond, Op, Text, Value};
 
 // The type of a column's values, unless it refers to a table.
 fn own_type(kind: &ColKind) -> Option<BaseKind>
@@ -116,46 +111,6 @@ impl Catalog {
         }
     }
 
-    // Whether a value is none for the column of that number.
-    fn mistypes(&self, columns: &[Column], column: ColumnNumber, value: &Value) -> bool
-        ensures { result ≡ mistypes_at (database_of self.now) columns.now column.0 value.now }
-    {
-        match columns.get(column.0) {
-            Some(column) => !self.is_typed(value, &column.kind),
-            None => false,
-        }
-    }
-
-    // Whether a test has a value that is none for its column, or asks how a null is ordered.
-    fn is_mistyped(&self, columns: &[Column], test: &Test) -> bool
-        ensures { result ≡ is_mistyped_test (database_of self.now) columns.now test.now }
-    {
-        self.mistypes(columns, test.column, &test.value)
-            || (is_null(&test.value) && asks_order(test.op))
-    }
-
-    /// Whether one of the tests has a value that is none for its column.
-    pub(crate) fn tests_are_mistyped(&self, columns: &[Column], tests: &[Test]) -> bool
-        ensures { result ≡ list_any (is_mistyped_test (database_of self.now) columns.now) tests.now }
-    {
-        tests.iter().any(|test| self.is_mistyped(columns, test))
-    }
-
-    /// Whether one of the assignments has a value that is none for its column.
-    pub(crate) fn assignments_are_mistyped(
-        &self,
-        columns: &[Column],
-        assignments: &[Assignment],
-    ) -> bool
-        ensures { result ≡ list_any (λ a. mistypes_at (database_of self.now) columns.now a.column.0 a.value) assignments.now }
-    {
-        assignments.iter().any(|assignment| self.mistypes(
-            columns,
-            assignment.column,
-            &assignment.value,
-        ))
-    }
-
     /// Whether a row has a value that is none for its column.
     pub(crate) fn row_is_mistyped(&self, columns: &[Column], row: &[Value]) -> bool
         ensures { result ≡ resolving.has_mistyped (database_of self.now) columns.now row.now }
@@ -166,28 +121,19 @@ impl Catalog {
             .any(|(column, value)| !self.is_typed(value, &column.kind))
     }
 
-    // Whether a condition has a value that is none for its column, or asks how a null is ordered.
-    fn condition_is_mistyped(&self, scope: &JoinedScope<'_>, condition: &Cond) -> bool
-        ensures { result ≡ resolving.is_mistyped (database_of self.now) (columns_of_all scope.now.scopes.items) condition.now }
+    /// Whether a value is none for a column.
+    pub(crate) fn mistypes(&self, value: &Value, column: &Column) -> bool
+        ensures { result ≡ not (plain.is_typed (database_of self.now) value.now column.now.kind) }
     {
-        let mistyped = match column(&scope.scopes, Name::of(&condition.column)) {
-            Some(named) => !self.is_typed(&condition.value, &named.column.kind),
-            None => false,
-        };
-        mistyped || (is_null(&condition.value) && asks_order(condition.op))
+        !self.is_typed(value, &column.kind)
     }
 
-    /// Whether one of the conditions has a value that is none for its column.
-    pub(crate) fn conditions_are_mistyped(
-        &self,
-        scope: &JoinedScope<'_>,
-        conditions: &[Cond],
-    ) -> bool
-        ensures { result ≡ list_any (resolving.is_mistyped (database_of self.now) (columns_of_all scope.now.scopes.items)) conditions.now }
+    /// Whether a condition on a column has a value that is none for it, or asks how a null is ordered.
+    pub(crate) fn is_mistyped(&self, condition: &Cond, column: &Column) -> bool
+        ensures { result ≡ is_mistyped_on (database_of self.now) condition.now column.now }
     {
-        conditions
-            .iter()
-            .any(|condition| self.condition_is_mistyped(scope, condition))
+        self.mistypes(&condition.value, column)
+            || (is_null(&condition.value) && asks_order(condition.op))
     }
 
     // Whether the two columns of a join are of different types.

@@ -1,4 +1,4 @@
-//! Load and dump: the rows of one table as a block of CSV.
+//! Dump: the rows of one table as a block of CSV.
 
 ghost use Rattle.std.specs.Prelude.{◌≡◌, ◌≢◌, ◌++◌, ◌<◌, ◌≤◌, ℕ, Ok, Err, Some, IsSome, IfOk, IfErr, OnOk, length, map, slice_get, ◌⊎◌};
 ghost use Rattle.std.specs.FinMap as finite;
@@ -7,13 +7,11 @@ ghost use Rattle.plain_tables.specs.AnswerText.{answer_text, text_line};
 ghost use Rattle.plain_tables.specs.Csv.{row_record};
 ghost use Rattle.plain_tables.specs.Doing.{done, dump_block};
 ghost use Rattle.plain_tables.specs.Effects.{Refused, column_names};
-ghost use Rattle.plain_tables.specs.Resolving.{block_column, block_columns, resolved_of};
 ghost use Rattle.plain_tables.specs.Spelling.{canonical_spelling};
 ghost use Rattle.plain_tables.specs.Tables.{Table};
 ghost use Rattle.plain_tables.specs.declared.command.Command.TheVariants as command;
 ghost use Rattle.plain_tables.specs.declared.refusal.Refusal.TheVariants as refusal;
 ghost use Rattle.plain_tables.specs.declared.resolved.Resolved.TheVariants as resolved;
-ghost use Rattle.mm_csv.specs.BlockReading.{block_records, column_of, columns_of};
 ghost use Rattle.mm_relation.specs.State.{tree_list, IsCurrent, linked_keys};
 ghost use Rattle.mm_catalog.specs.Picked.{seen_values};
 ghost use Rattle.mm_catalog.specs.Seen.{database_of};
@@ -23,73 +21,13 @@ use super::Executor;
 use crate::answer::Answer;
 use mm_catalog::Catalog;
 use mm_catalog::laws::a_catalog_is_consistent;
-use mm_csv::{CsvRefusal, Field, RecordWriter, rows_of};
+use mm_csv::RecordWriter;
 use mm_lang::print_load;
 use mm_relation::laws::a_relation_is_kept;
 use mm_relation::{Relation, Relations, TupleRef};
 use no_memory::NoMemory;
-use plain_tables::{
-    ColKind, Column, ColumnNumber, Refusal, Resolved, Sequence, TableNumber, Text, Value,
-};
+use plain_tables::{Column, ColumnNumber, Refusal, TableNumber, Text, Value};
 use std::alloc::Global;
-
-// ---- load
-
-// A column as a block has it. In a reference column stand the keys that it names.
-fn field(alloc: Global, catalog: &Catalog, column: &Column) -> Result<Field, NoMemory>
-    requires { IsSome (block_column (database_of catalog.now) column.now) }
-    ensures { IfOk result (λ field. block_column (database_of catalog.now) column.now ≡ Some (column_of field)) }
-{
-    let Some(kind) = catalog.type_of(&column.kind) else {
-        unreachable!()
-    };
-    Ok(Field {
-        name: Text::from_str(alloc, column.name.as_str())?,
-        kind,
-        null: matches!(&column.kind, ColKind::RefOrNull(_)),
-    })
-}
-
-// The columns of a table as a block has them.
-fn layout_of(alloc: Global, catalog: &Catalog, table: TableNumber) -> Result<Vec<Field>, NoMemory>
-    requires { table.0 < length (database_of catalog.now) }
-    ensures { IfOk result (λ layout. (t : Table) → slice_get (database_of catalog.now) table.0 ≡ Some t → block_columns (database_of catalog.now) t ≡ Some (columns_of layout.items)) }
-{
-    a_catalog_is_consistent(catalog);
-    let columns = catalog.columns(table);
-    let mut layout = Vec::with_capacity(alloc, columns.len())?;
-    for column in columns {
-        layout.push(field(alloc, catalog, column)?)?;
-    }
-    Ok(layout)
-}
-
-/// What a load of a block into the table of that name means: its rows, by the number of the table.
-pub fn resolve_load(
-    alloc: Global,
-    catalog: &Catalog,
-    name: &Text,
-    block: &[u8],
-) -> Result<Resolved, Refusal>
-    ensures meant { IfOk result (λ r. (bytes : ℕ) → resolved_of (block_records block.now) (database_of catalog.now) (command.Load name.now bytes) ≡ Ok r) }
-    ensures refused { IfErr result (λ e. e ≢ refusal.NoMemory → (bytes : ℕ) → resolved_of (block_records block.now) (database_of catalog.now) (command.Load name.now bytes) ≡ Err e) }
-{
-    let Some(table) = catalog.table_number(name) else {
-        return Err(Refusal::NoSuchTable);
-    };
-    let layout = layout_of(alloc, catalog, table)?;
-    match rows_of(alloc, &layout, block) {
-        Ok(rows) => Ok(Resolved::Load {
-            table,
-            rows: Sequence::from_vec(rows),
-        }),
-        Err(CsvRefusal::Header) => Err(Refusal::BadHeader),
-        Err(CsvRefusal::BadRow(record)) => Err(Refusal::BadRecord { record }),
-        Err(CsvRefusal::NoMemory) => Err(Refusal::NoMemory),
-    }
-}
-
-// ---- dump
 
 // The names of columns.
 fn names_of(alloc: Global, columns: &[Column]) -> Result<Vec<Text>, NoMemory>

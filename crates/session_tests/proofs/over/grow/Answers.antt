@@ -1,4 +1,4 @@
-use Rattle.std.proofs.Common.{[], ap, ◌∙◌}
+use Rattle.std.proofs.Common.{ap, ◌∙◌}
 use Rattle.std.specs.Prelude.{Ok}
 use Rattle.plain_tables.specs.declared.resolved.Resolved.TheVariants as resolved
 use Rattle.plain_tables.proofs.ResolvedLemmas.{resolved_are_meant}
@@ -7,10 +7,10 @@ use Rattle.session_tests.proofs.over.grow.Goals as goal
 
 pub create-requires : goal.create-requires
 create-requires c =
-    resolved_are_meant [] c.args.catalog.now.limits (database_of c.args.catalog.now) c.args.command (resolved.Table c.in-Table.name c.in-Table.schema)
+    resolved_are_meant _ c.args.catalog.now.limits (database_of c.args.catalog.now) c.args.command (resolved.Table c.in-Table.name c.in-Table.schema)
     c.requires (c.in_ok-name.ensures.meant ∙ ap Ok c.in-Table.is)
 
 pub insert-requires : goal.insert-requires
 insert-requires c =
-    resolved_are_meant [] c.args.catalog.now.limits (database_of c.args.catalog.now) c.args.command (resolved.Insert c.in-Insert.table c.in-Insert.values)
+    resolved_are_meant _ c.args.catalog.now.limits (database_of c.args.catalog.now) c.args.command (resolved.Insert c.in-Insert.table c.in-Insert.values)
     c.requires (c.in_ok-name.ensures.meant ∙ ap Ok c.in-Insert.is)

@@ -14,7 +14,7 @@ returns-in_err-own-clause-refused c =
     let i = c.loop-join.join-index in
     let within : i < length joins = search rules in
     let at = c.join-item.is in
-    absurd (table_there (database_of c.args.self.now) c.args.table.now joins i c.join-item.result within c.requires
+    absurd (table_there (database_of c.args.self.now) c.args.first.name.now joins i c.join-item.result within c.requires.there
     (ap (λ (j : Join). table_named j.table (database_of c.args.self.now)) (sym at) ∙ c.in_err-own.ensures.missed))
 
 pub returns-in_err-own-clause-missed : goal.returns-in_err-own-clause-missed
@@ -23,7 +23,7 @@ returns-in_err-own-clause-missed c =
     let i = c.loop-join.join-index in
     let within : i < length joins = search rules in
     let at = c.join-item.is in
-    absurd (table_there (database_of c.args.self.now) c.args.table.now joins i c.join-item.result within c.requires
+    absurd (table_there (database_of c.args.self.now) c.args.first.name.now joins i c.join-item.result within c.requires.there
     (ap (λ (j : Join). table_named j.table (database_of c.args.self.now)) (sym at) ∙ c.in_err-own.ensures.missed))
 
 pub returns-in_err-join-clause-missed : goal.returns-in_err-join-clause-missed
@@ -34,8 +34,8 @@ returns-in_err-join-clause-missed c =
     let within : i < length joins = search rules in
     let is : c.from_residual-in_err-join.result ≡ Err c.in_err-join.field-0.0 = search rules in
     rw is (λ other.
-    split_at tables c.args.table.now joins i c.join-item.result c.join-item.is within
-    (join_missed tables c.args.table.now (take i joins) (drop (i + 1) joins) c.join-item.result c.loop-join.joined c.in_ok-own.own c.loop-join.invariant c.in_ok-own.ensures.found
+    split_at tables c.args.first.name.now joins i c.join-item.result c.join-item.is within
+    (join_missed tables c.args.first.name.now (take i joins) (drop (i + 1) joins) c.join-item.result c.loop-join.joined c.in_ok-own.own c.loop-join.invariant c.in_ok-own.ensures.found
     (c.in_err-join.ensures.missed other)))
 
 pub loop-join-preserved : goal.loop-join-preserved
@@ -46,6 +46,6 @@ loop-join-preserved c =
     let within : i < length joins = search rules in
     let more : take (i + 1) joins ≡ take i joins ++ c.join-item.result ∷ [] =
     take_more joins i c.join-item.result within ∙ ap (λ (j : Join). take i joins ++ j ∷ []) (sym c.join-item.is) in
-    let step : IsJoinedScopeOf tables c.args.table.now (take i joins ++ c.join-item.result ∷ []) c.join.new.self =
-    joined_more tables c.args.table.now (take i joins) c.join-item.result c.loop-join.joined c.join.new.self c.in_ok-own.own c.loop-join.invariant c.in_ok-own.ensures.found c.in_ok-join.ensures.scopes c.in_ok-join.ensures.sides in
-    subst (λ (js : List Join). IsJoinedScopeOf tables c.args.table.now js c.join.new.self) (sym more) step
+    let step : IsJoinedScopeOf tables c.args.first.name.now (take i joins ++ c.join-item.result ∷ []) c.join.new.self =
+    joined_more tables c.args.first.name.now (take i joins) c.join-item.result c.loop-join.joined c.join.new.self c.in_ok-own.own c.loop-join.invariant c.in_ok-own.ensures.found c.in_ok-join.ensures.scopes c.in_ok-join.ensures.sides in
+    subst (λ (js : List Join). IsJoinedScopeOf tables c.args.first.name.now js c.join.new.self) (sym more) step

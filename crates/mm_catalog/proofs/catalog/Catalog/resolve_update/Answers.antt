@@ -1,63 +1,71 @@
-use Rattle.std.proofs.Common.{rules, ◌≡◌, ◌∙◌, List, sym, ap, true, false, map}
-use Rattle.std.specs.Prelude.{Ok, Err}
+use Rattle.std.proofs.Common.{rules, ◌≡◌, ◌∙◌, List, sym, ap, map}
+use Rattle.std.specs.Prelude.{Err}
+use Rattle.std.specs.List.{list_any}
 use Rattle.std.specs.Str.{bytes_eq}
-use Rattle.plain_tables.specs.Effects.{repeats}
-use Rattle.plain_tables.specs.Resolving.{assignments_of, tests_of}
+use Rattle.plain_tables.specs.Effects.{misses, condition_names, setting_name, repeats}
+use Rattle.plain_tables.specs.Resolving.{assignments_of, is_mistyped, mistypes, tests_of}
+use Rattle.plain_tables.specs.Queries.{JoinedColumn}
 use Rattle.plain_tables.specs.declared.command.Setting.{Setting}
-use Rattle.plain_tables.specs.declared.resolved.Assignment.{Assignment}
-use Rattle.plain_tables.specs.declared.resolved.Test.{Test}
-use Rattle.plain_tables.specs.declared.resolved.Resolved.TheVariants.{Update}
 use Rattle.mm_catalog.specs.Seen.{database_of}
-use Rattle.mm_catalog.specs.Resolve.{columns_of}
+use Rattle.mm_catalog.specs.Resolve.{columns_of, columns_of_all}
 use Rattle.mm_catalog.specs.ResolveChecks.{verdict, update_rest}
-use Rattle.mm_catalog.proofs.ResolveCommands.{settings_missed, tests_missed, set_twice, update_refused, update_meant}
+use Rattle.mm_catalog.proofs.ResolveCommands.{settings_missed, tests_missed, update_refused, update_meant}
 use Rattle.mm_catalog.proofs.catalog.Catalog.resolve_update.Goals as goal
 
-pub returns-in_err-assignments-clause-refused : goal.returns-in_err-assignments-clause-refused
-returns-in_err-assignments-clause-refused c =
+pub returns-in_err-set-clause-refused : goal.returns-in_err-set-clause-refused
+returns-in_err-set-clause-refused c =
     let scope = c.in_ok-scope.scope in
-    let is : c.from_residual-in_err-assignments.result ≡ Err c.in_err-assignments.field-0.0 = search rules in
+    let own : columns_of_all c.from_ref.result.now ≡ columns_of scope = ap columns_of_all c.from_ref.ensures.value in
+    let is : c.from_residual-in_err-set.result ≡ Err c.in_err-set.field-0.0 = search rules in
     rw is (λ other.
-    settings_missed (database_of c.args.self.now) c.args.table scope c.in_ok-scope.ensures.found c.args.settings c.args.conditions (c.in_err-assignments.ensures.missed other)
-    ∙ ap (λ e. Err e) (sym (c.in_err-assignments.ensures.refused other)))
+    settings_missed (database_of c.args.self.now) c.args.table scope c.in_ok-scope.ensures.found c.args.settings c.args.conditions
+    (ap (λ cs. misses cs (map setting_name c.args.settings)) (sym own) ∙ c.in_err-set.ensures.missed other)
+    ∙ ap (λ e. Err e) (sym (c.in_err-set.ensures.refused other)))
 
-pub returns-in_err-tests-clause-refused : goal.returns-in_err-tests-clause-refused
-returns-in_err-tests-clause-refused c =
+pub returns-in_err-tested-clause-refused : goal.returns-in_err-tested-clause-refused
+returns-in_err-tested-clause-refused c =
     let scope = c.in_ok-scope.scope in
-    let is : c.from_residual-in_err-tests.result ≡ Err c.in_err-tests.field-0.0 = search rules in
+    let own : columns_of_all c.from_ref.result.now ≡ columns_of scope = ap columns_of_all c.from_ref.ensures.value in
+    let own-2 : columns_of_all c.from_ref-2.result.now ≡ columns_of scope = ap columns_of_all c.from_ref-2.ensures.value in
+    let is : c.from_residual-in_err-tested.result ≡ Err c.in_err-tested.field-0.0 = search rules in
     rw is (λ other.
-    tests_missed (database_of c.args.self.now) c.args.table scope c.in_ok-scope.ensures.found c.args.settings c.args.conditions c.in_ok-assignments.ensures.named
-    (c.in_err-tests.ensures.missed other)
-    ∙ ap (λ e. Err e) (sym (c.in_err-tests.ensures.refused other)))
-
-pub returns-then-repeated-clause-refused : goal.returns-then-repeated-clause-refused
-returns-then-repeated-clause-refused c =
-    let twice : repeats bytes_eq (map (λ (s : Setting). s.column) c.args.settings) ≡ true =
-    ap (λ (ss : List Setting). repeats bytes_eq (map (λ s. s.column) ss)) (sym c.as_slice.ensures) ∙ sym c.repeats_setting-repeated.ensures ∙ c.if-repeated.true in
-    λ _. set_twice (database_of c.args.self.now) c.args.table c.in_ok-scope.scope c.in_ok-scope.ensures.found c.args.settings c.args.conditions c.in_ok-assignments.ensures.named c.in_ok-tests.ensures.named twice
+    tests_missed (database_of c.args.self.now) c.args.table scope c.in_ok-scope.ensures.found c.args.settings c.args.conditions
+    (ap (λ cs. misses cs (map setting_name c.args.settings)) (sym own) ∙ c.in_ok-set.ensures.named)
+    (ap (λ cs. misses cs (condition_names c.args.conditions)) (sym own-2) ∙ c.in_err-tested.ensures.missed other)
+    ∙ ap (λ e. Err e) (sym (c.in_err-tested.ensures.refused other)))
 
 pub returns-in_err-check_update-clause-refused : goal.returns-in_err-check_update-clause-refused
 returns-in_err-check_update-clause-refused c =
     let tables = database_of c.args.self.now in
     let scope = c.in_ok-scope.scope in
+    let own : columns_of_all c.from_ref.result.now ≡ columns_of scope = ap columns_of_all c.from_ref.ensures.value in
+    let own-2 : columns_of_all c.from_ref-2.result.now ≡ columns_of scope = ap columns_of_all c.from_ref-2.ensures.value in
     let e = c.in_err-check_update.field-0.0 in
     let is : c.from_residual-in_err-check_update.result ≡ Err e = search rules in
-    let once : repeats bytes_eq (map (λ (s : Setting). s.column) c.args.settings) ≡ false =
-    ap (λ (ss : List Setting). repeats bytes_eq (map (λ s. s.column) ss)) (sym c.as_slice.ensures) ∙ sym c.repeats_setting-repeated.ensures ∙ c.if-repeated.false in
-    rw is (λ _. update_refused tables c.args.table scope c.in_ok-scope.ensures.found c.args.settings c.args.conditions c.in_ok-assignments.ensures.named c.in_ok-tests.ensures.named once e
-    (ap (λ (ts : List Test). verdict (update_rest tables scope.columns.now (assignments_of (columns_of scope) c.args.settings) ts)) (sym (c.as_slice-3.ensures ∙ c.in_ok-tests.ensures.tests))
-    ∙ ap (λ (as' : List Assignment). verdict (update_rest tables scope.columns.now as' c.as_slice-3.result.now)) (sym (c.as_slice-2.ensures ∙ c.in_ok-assignments.ensures.assignments))
-    ∙ sym c.check_update.ensures ∙ c.in_err-check_update.was))
+    let twice = c.repeats_setting-repeated.ensures ∙ ap (λ (ss : List Setting). repeats bytes_eq (map (λ s. s.column) ss)) c.as_slice.ensures in
+    rw is (λ _. update_refused tables c.args.table scope c.in_ok-scope.ensures.found c.args.settings c.args.conditions
+    (ap (λ cs. misses cs (map setting_name c.args.settings)) (sym own) ∙ c.in_ok-set.ensures.named)
+    (ap (λ cs. misses cs (condition_names c.args.conditions)) (sym own-2) ∙ c.in_ok-tested.ensures.named)
+    c.in_ok-set.set c.in_ok-tested.tested
+    (c.in_ok-set.ensures.assignments ∙ ap (λ (cs : List JoinedColumn). assignments_of cs c.args.settings) own)
+    (c.in_ok-set.ensures.types ∙ ap (λ (cs : List JoinedColumn). list_any (λ s. mistypes tables cs (setting_name s) s.value) c.args.settings) own)
+    (c.in_ok-tested.ensures.tests ∙ ap (λ (cs : List JoinedColumn). tests_of cs c.args.conditions) own-2)
+    (c.in_ok-tested.ensures.types ∙ ap (λ (cs : List JoinedColumn). list_any (is_mistyped tables cs) c.args.conditions) own-2)
+    e (ap (λ b. verdict (update_rest b c.in_ok-set.set c.in_ok-tested.tested)) (sym twice) ∙ sym c.check_update.ensures ∙ c.in_err-check_update.was))
 
 pub returns-clause-meant : goal.returns-clause-meant
 returns-clause-meant c =
     let tables = database_of c.args.self.now in
     let scope = c.in_ok-scope.scope in
-    let once : repeats bytes_eq (map (λ (s : Setting). s.column) c.args.settings) ≡ false =
-    ap (λ (ss : List Setting). repeats bytes_eq (map (λ s. s.column) ss)) (sym c.as_slice.ensures) ∙ sym c.repeats_setting-repeated.ensures ∙ c.if-repeated.false in
-    update_meant tables c.args.table scope c.in_ok-scope.ensures.found c.args.settings c.args.conditions c.in_ok-assignments.ensures.named c.in_ok-tests.ensures.named once
-    (ap (λ (ts : List Test). verdict (update_rest tables scope.columns.now (assignments_of (columns_of scope) c.args.settings) ts)) (sym (c.as_slice-3.ensures ∙ c.in_ok-tests.ensures.tests))
-    ∙ ap (λ (as' : List Assignment). verdict (update_rest tables scope.columns.now as' c.as_slice-3.result.now)) (sym (c.as_slice-2.ensures ∙ c.in_ok-assignments.ensures.assignments))
-    ∙ sym c.check_update.ensures ∙ c.in_ok-check_update.was)
-    ∙ ap (λ (as' : List Assignment). Ok (Update scope.table as' (tests_of (columns_of scope) c.args.conditions))) (sym c.in_ok-assignments.ensures.assignments)
-    ∙ ap (λ (ts : List Test). Ok (Update scope.table c.in_ok-assignments.assignments ts)) (sym c.in_ok-tests.ensures.tests)
+    let own : columns_of_all c.from_ref.result.now ≡ columns_of scope = ap columns_of_all c.from_ref.ensures.value in
+    let own-2 : columns_of_all c.from_ref-2.result.now ≡ columns_of scope = ap columns_of_all c.from_ref-2.ensures.value in
+    let twice = c.repeats_setting-repeated.ensures ∙ ap (λ (ss : List Setting). repeats bytes_eq (map (λ s. s.column) ss)) c.as_slice.ensures in
+    update_meant tables c.args.table scope c.in_ok-scope.ensures.found c.args.settings c.args.conditions
+    (ap (λ cs. misses cs (map setting_name c.args.settings)) (sym own) ∙ c.in_ok-set.ensures.named)
+    (ap (λ cs. misses cs (condition_names c.args.conditions)) (sym own-2) ∙ c.in_ok-tested.ensures.named)
+    c.in_ok-set.set c.in_ok-tested.tested
+    (c.in_ok-set.ensures.assignments ∙ ap (λ (cs : List JoinedColumn). assignments_of cs c.args.settings) own)
+    (c.in_ok-set.ensures.types ∙ ap (λ (cs : List JoinedColumn). list_any (λ s. mistypes tables cs (setting_name s) s.value) c.args.settings) own)
+    (c.in_ok-tested.ensures.tests ∙ ap (λ (cs : List JoinedColumn). tests_of cs c.args.conditions) own-2)
+    (c.in_ok-tested.ensures.types ∙ ap (λ (cs : List JoinedColumn). list_any (is_mistyped tables cs) c.args.conditions) own-2)
+    (ap (λ b. verdict (update_rest b c.in_ok-set.set c.in_ok-tested.tested)) (sym twice) ∙ sym c.check_update.ensures ∙ c.in_ok-check_update.was)

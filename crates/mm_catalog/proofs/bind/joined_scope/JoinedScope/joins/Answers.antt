@@ -1,4 +1,5 @@
-use Rattle.std.proofs.Common.{◌∙◌, ap, map, arith}
+use Rattle.std.proofs.Common.{◌∙◌, List, ap, map, arith}
+use Rattle.std.specs.Prelude.{zip}
 use Rattle.std.proofs.lemmas.Iterator.{YieldsList-from_zip}
 use Rattle.std.proofs.lemmas.Iterator.Adapters.{YieldsList-from_vec}
 use Rattle.std.proofs.lemmas.Iterator.Consumers.{YieldsList-at, YieldsList-end}
@@ -10,7 +11,7 @@ use Rattle.mm_catalog.proofs.bind.joined_scope.JoinedScope.joins.Goals as goal
 
 pub returns : goal.returns
 returns c =
-    let sources = c.args.sources in
+    let sources = c.into_vec-sources.result in
     let sides = c.args.self.sides in
     let second = c.zip-source-items.ensures.second in
     let pairs = YieldsList-at c.into_iter-source-iterator.ensures.into_iter_gives
@@ -21,4 +22,4 @@ returns c =
     c.from_vec.ensures
     ∙ c.loop-source.invariant
     ∙ map-map (λ (s : Source × Sides). joined_by s.0 s.1) (λ (s : Source × Sides). (s.0, s.1)) c.loop-source.yielded
-    ∙ ap (map (λ (s : Source × Sides). joined_by s.0 s.1)) all.0
+    ∙ ap (map (λ (s : Source × Sides). joined_by s.0 s.1)) (all.0 ∙ ap (λ (ss : List Source). zip ss sides.items) c.into_vec-sources.ensures)

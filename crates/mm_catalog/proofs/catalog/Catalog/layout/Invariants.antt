@@ -3,8 +3,8 @@ use Rattle.plain_tables.specs.CsvReading.{all_of}
 use Rattle.plain_tables.specs.Resolving.{block_column}
 use Rattle.mm_csv.specs.BlockReading.{columns_of}
 use Rattle.mm_catalog.specs.Seen.{database_of}
-use Rattle.mm_session.proofs.execute.blocks.layout_of.Given as goal
+use Rattle.mm_catalog.proofs.catalog.Catalog.layout.Given as goal
 
 abbrev pub invariant-loop-column : goal.invariant-loop-column
 invariant-loop-column l =
-    all_of (map (block_column (database_of l.catalog)) (take l.column-index l.columns)) ≡ Some (columns_of l.layout.items)
+    all_of (map (block_column (database_of l.self)) (take l.column-index l.columns)) ≡ Some (columns_of l.layout.items)

@@ -9,20 +9,20 @@ use Rattle.plain_tables.specs.declared.schema.Column.{Column}
 use Rattle.mm_csv.specs.BlockReading.{column_of, columns_of}
 use Rattle.mm_csv.specs.declared.field.Field.{Field}
 use Rattle.mm_catalog.specs.Seen.{database_of}
-use Rattle.mm_session.proofs.BlockLemmas.{all_more}
-use Rattle.mm_session.proofs.LoadLemmas.{columns_typed}
-use Rattle.mm_session.proofs.execute.blocks.layout_of.Goals as goal
+use Rattle.mm_catalog.proofs.BlockColumns.{all_more}
+use Rattle.mm_catalog.proofs.Loads.{columns_typed}
+use Rattle.mm_catalog.proofs.catalog.Catalog.layout.Goals as goal
 
 pub field-requires : goal.field-requires
 field-requires c =
-    let catalog = c.args.catalog.now in
+    let catalog = c.args.self.now in
     let typed = columns_typed catalog c.a_catalog_is_consistent.ensures c.args.table.0 c.columns-columns.result.now c.requires c.columns-columns.ensures in
     subst (λ (k : Column). IsSome (block_column (database_of catalog) k)) (sym c.column-item.is)
     (typed c.loop-column.column-index c.column-item.result c.loop-column-test.true)
 
 pub loop-column-preserved : goal.loop-column-preserved
 loop-column-preserved c =
-    let block = block_column (database_of c.args.catalog.now) in
+    let block = block_column (database_of c.args.self.now) in
     let i = c.loop-column.column-index in
     let columns = c.columns-columns.result.now in
     let column : Column = c.column-item.result in
@@ -37,5 +37,5 @@ pub returns : goal.returns
 returns c = λ t at.
     let columns = c.columns-columns.result.now in
     let same : t.columns ≡ columns = same_Some t.columns columns (sym (ap (option_map (λ (u : Table). u.columns)) at) ∙ c.columns-columns.ensures) in
-    ap (λ (ks : List Column). all_of (map (block_column (database_of c.args.catalog.now)) ks)) (same ∙ sym (take_all c.loop-column.column-index columns c.loop-column-test.false))
+    ap (λ (ks : List Column). all_of (map (block_column (database_of c.args.self.now)) ks)) (same ∙ sym (take_all c.loop-column.column-index columns c.loop-column-test.false))
     ∙ c.loop-column.invariant

@@ -5,29 +5,29 @@ use Rattle.plain_tables.specs.declared.refusal.Refusal.TheVariants as refusal
 use Rattle.plain_tables.specs.declared.resolved.Resolved.TheVariants as resolved
 use Rattle.mm_csv.specs.BlockReading.{block_records}
 use Rattle.mm_catalog.specs.Seen.{database_of}
-use Rattle.mm_session.proofs.LoadLemmas.{table_within, load_nowhere, load_meant}
-use Rattle.mm_session.proofs.execute.blocks.resolve_load.Goals as goal
+use Rattle.mm_catalog.proofs.Loads.{table_within, load_nowhere, load_meant}
+use Rattle.mm_catalog.proofs.catalog.Catalog.resolve_load.Goals as goal
 
-pub layout_of-requires : goal.layout_of-requires
-layout_of-requires c = table_within (database_of c.args.catalog.now) c.args.name.now c.in-Some.table (sym c.table_number.ensures ∙ c.in-Some.is)
+pub layout-requires : goal.layout-requires
+layout-requires c = table_within (database_of c.args.self.now) c.args.name.now c.in-Some.table (sym c.table_number.ensures ∙ c.in-Some.is)
 
 pub returns-in_default-clause-refused : goal.returns-in_default-clause-refused
 returns-in_default-clause-refused c = λ other bytes.
-    load_nowhere (database_of c.args.catalog.now) c.args.name.now (block_records c.args.block.now) bytes (sym c.table_number.ensures ∙ c.in_default.is)
+    load_nowhere (database_of c.args.self.now) c.args.name.now (block_records c.args.block.now) bytes (sym c.table_number.ensures ∙ c.in_default.is)
 
 pub returns-in-Ok-clause-meant : goal.returns-in-Ok-clause-meant
 returns-in-Ok-clause-meant c = λ bytes.
-    load_meant (database_of c.args.catalog.now) c.args.name.now (block_records c.args.block.now) bytes c.in-Some.table c.in_ok-layout.layout.items c.deref.result.now
+    load_meant (database_of c.args.self.now) c.args.name.now (block_records c.args.block.now) bytes c.in-Some.table c.in_ok-layout.layout.items c.deref.result.now
     (Rows c.in-Ok.rows.items) (sym c.table_number.ensures ∙ c.in-Some.is) c.in_ok-layout.ensures c.deref.ensures.value c.in-Ok.ensures.rows
     ∙ ap (λ (rows : List Row). Ok (resolved.Load c.in-Some.table rows)) (sym c.from_vec.ensures)
 
 pub returns-in-Err-Header-clause-refused : goal.returns-in-Err-Header-clause-refused
 returns-in-Err-Header-clause-refused c = λ other bytes.
-    load_meant (database_of c.args.catalog.now) c.args.name.now (block_records c.args.block.now) bytes c.in-Some.table c.in_ok-layout.layout.items c.deref.result.now
+    load_meant (database_of c.args.self.now) c.args.name.now (block_records c.args.block.now) bytes c.in-Some.table c.in_ok-layout.layout.items c.deref.result.now
     BadHeader (sym c.table_number.ensures ∙ c.in-Some.is) c.in_ok-layout.ensures c.deref.ensures.value (rw c.in-Err-Header.field-0-is at c.in-Err-Header.ensures.refused)
 
 pub returns-in-Err-BadRow-clause-refused : goal.returns-in-Err-BadRow-clause-refused
 returns-in-Err-BadRow-clause-refused c = λ other bytes.
-    let is = load_meant (database_of c.args.catalog.now) c.args.name.now (block_records c.args.block.now) bytes c.in-Some.table c.in_ok-layout.layout.items c.deref.result.now
+    let is = load_meant (database_of c.args.self.now) c.args.name.now (block_records c.args.block.now) bytes c.in-Some.table c.in_ok-layout.layout.items c.deref.result.now
     (BadRecord c.in-Err-BadRow.record) (sym c.table_number.ensures ∙ c.in-Some.is) c.in_ok-layout.ensures c.deref.ensures.value (rw c.in-Err-BadRow.field-0-is at c.in-Err-BadRow.ensures.refused) in
     is ∙ ap (λ k. Err (refusal.BadRecord k)) (sym c.in-Err-BadRow.record-is)

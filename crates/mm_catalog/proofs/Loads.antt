@@ -18,13 +18,13 @@ use Rattle.plain_tables.specs.declared.resolved.Resolved.{Resolved}
 use Rattle.plain_tables.specs.declared.schema.Column.{Column}
 use Rattle.mm_csv.specs.BlockReading.{columns_of}
 use Rattle.mm_csv.specs.declared.field.Field.{Field}
-use Rattle.plain_streams.proofs.BlockFits.{table-typed}
+use Rattle.plain_tables.proofs.ColumnTypes.{table-typed}
 use Rattle.mm_catalog.specs.Consistent.{IsConsistent}
 use Rattle.mm_catalog.specs.Resolve.{table_number}
 use Rattle.mm_catalog.specs.Seen.{database_of}
 use Rattle.mm_catalog.specs.State.{CatalogState}
 use Rattle.mm_catalog.proofs.ResolveLists.{position_or_len-position, position-within, found_at, none_found}
-use Rattle.mm_session.proofs.BlockLemmas.{each_there}
+use Rattle.mm_catalog.proofs.BlockColumns.{each_there}
 
 -- ---- the table of a name
 
