@@ -2,7 +2,6 @@
 
 ghost use Rattle.std.specs.Prelude.{◌≡◌, ◌<◌, ◌++◌, List, length, IfOk, IsErrOf, OnOk, refl};
 ghost use Rattle.std.specs.Str.{IsUtf8};
-ghost use Rattle.std.specs.String.{string_bytes};
 ghost use Rattle.plain_tables.specs.Spelling.{Symbol, Literal, IsSymbol, kind_symbols, column_symbols, value_symbols, name_symbols, setting_symbols, condition_symbols, spaced, operator_text};
 ghost use Rattle.plain_tables.specs.declared.value.Value.{Value};
 ghost use Rattle.mm_lang.specs.Parsing.{EndsItem, BeginsWith, BeginsWithNone, BeginsWithList, BeginsWithNoList};
@@ -11,6 +10,7 @@ ghost use Rattle.mm_lang.specs.Printing.{IsFree, joined, kind_symbols-free, colu
 use crate::ParseRefusal;
 use crate::lexemes::split_lexeme;
 use crate::numbers::{integer, push_integer};
+use crate::sink::Sink;
 use crate::symbols::{after, expect, name, operator};
 use crate::texts::{push_text, text};
 use plain_tables::{ColKind, ColName, Column, Cond, NoMemory, Op, Setting, Value};
@@ -27,8 +27,8 @@ pub trait Item: Drop {
         ensures syntax { IsErrOf result ParseRefusal.Syntax → BeginsWithNone symbols line.now };
 
     /// Writes the item.
-    fn push_to(&self, line: &mut String) -> Result<(), NoMemory>
-        ensures { OnOk result (string_bytes line.new ≡ string_bytes line.old ++ spaced (symbols self.now)) };
+    fn push_to<S: Sink>(&self, line: &mut S) -> Result<(), NoMemory>
+        ensures { OnOk result (S.held line.new ≡ S.held line.old ++ spaced (symbols self.now)) };
 
     ghost free: { (x : Self) → IsFree (symbols x) };
 }
@@ -57,7 +57,7 @@ impl Item for Value {
         Ok((value(alloc, characters)?, rest))
     }
 
-    fn push_to(&self, line: &mut String) -> Result<(), NoMemory> {
+    fn push_to<S: Sink>(&self, line: &mut S) -> Result<(), NoMemory> {
         match self {
             Value::Null => line.push_str("null")?,
             Value::Int(number) => push_integer(line, *number)?,
@@ -87,7 +87,7 @@ impl Item for ColKind {
         }
     }
 
-    fn push_to(&self, line: &mut String) -> Result<(), NoMemory> {
+    fn push_to<S: Sink>(&self, line: &mut S) -> Result<(), NoMemory> {
         match self {
             ColKind::Int => line.push_str("int")?,
             ColKind::Text => line.push_str("text")?,
@@ -116,7 +116,7 @@ impl Item for Column {
         Ok((Column { name, kind }, line))
     }
 
-    fn push_to(&self, line: &mut String) -> Result<(), NoMemory> {
+    fn push_to<S: Sink>(&self, line: &mut S) -> Result<(), NoMemory> {
         line.push_str(self.name.as_str())?;
         line.push_str(" ")?;
         self.kind.push_to(line)
@@ -151,7 +151,7 @@ impl Item for ColName {
         }
     }
 
-    fn push_to(&self, line: &mut String) -> Result<(), NoMemory> {
+    fn push_to<S: Sink>(&self, line: &mut S) -> Result<(), NoMemory> {
         if let Some(table) = &self.table {
             line.push_str(table.as_str())?;
             line.push_str(".")?;
@@ -173,7 +173,7 @@ impl Item for Setting {
         Ok((Setting { column, value }, line))
     }
 
-    fn push_to(&self, line: &mut String) -> Result<(), NoMemory> {
+    fn push_to<S: Sink>(&self, line: &mut S) -> Result<(), NoMemory> {
         line.push_str(self.column.as_str())?;
         line.push_str(" = ")?;
         self.value.push_to(line)
@@ -206,7 +206,7 @@ impl Item for Cond {
         Ok((Cond { column, op, value }, line))
     }
 
-    fn push_to(&self, line: &mut String) -> Result<(), NoMemory> {
+    fn push_to<S: Sink>(&self, line: &mut S) -> Result<(), NoMemory> {
         self.column.push_to(line)?;
         line.push_str(" ")?;
         line.push_str(operator_str(self.op))?;
@@ -239,8 +239,8 @@ pub fn list<'a, T: Item>(
 }
 
 /// Writes items with a text between two of them.
-pub fn push_list<T: Item>(line: &mut String, items: &[T], between: &str) -> Result<(), NoMemory>
-    ensures { OnOk result (string_bytes line.new ≡ string_bytes line.old ++ joined T.symbols between.now items.now) }
+pub fn push_list<T: Item, S: Sink>(line: &mut S, items: &[T], between: &str) -> Result<(), NoMemory>
+    ensures { OnOk result (S.held line.new ≡ S.held line.old ++ joined T.symbols between.now items.now) }
 {
     let Some((first, others)) = items.split_first() else {
         return Ok(());

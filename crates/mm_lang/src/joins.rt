@@ -2,13 +2,13 @@
 
 ghost use Rattle.std.specs.Prelude.{◌≡◌, ◌++◌, IfOk, IsErrOf, OnOk, refl};
 ghost use Rattle.std.specs.List.{flat_map};
-ghost use Rattle.std.specs.String.{string_bytes};
 ghost use Rattle.plain_tables.specs.Spelling.{side_symbols, joined_symbols, join_symbols};
 ghost use Rattle.mm_lang.specs.Parsing.{BeginsWithJoins, BeginsWithNoJoins};
 ghost use Rattle.mm_lang.specs.Printing.{behind};
 
 use crate::ParseRefusal;
 use crate::items::{Item, list, push_list};
+use crate::sink::Sink;
 use crate::symbols::{after, expect, name};
 use plain_tables::{Join, JoinSide, NoMemory};
 use std::alloc::Global;
@@ -25,7 +25,7 @@ impl Item for JoinSide {
         Ok((JoinSide { table, column }, line))
     }
 
-    fn push_to(&self, line: &mut String) -> Result<(), NoMemory> {
+    fn push_to<S: Sink>(&self, line: &mut S) -> Result<(), NoMemory> {
         line.push_str(self.table.as_str())?;
         line.push_str(".")?;
         line.push_str(self.column.as_str())?;
@@ -48,7 +48,7 @@ impl Item for Join {
         Ok((Join { table, left, right }, line))
     }
 
-    fn push_to(&self, line: &mut String) -> Result<(), NoMemory> {
+    fn push_to<S: Sink>(&self, line: &mut S) -> Result<(), NoMemory> {
         line.push_str(self.table.as_str())?;
         line.push_str(" on ")?;
         self.left.push_to(line)?;
@@ -69,8 +69,8 @@ pub fn joins(alloc: Global, line: &[u8]) -> Result<(Vec<Join>, &[u8]), ParseRefu
 }
 
 /// Writes joins behind another symbol.
-pub fn push_joins(line: &mut String, joins: &[Join]) -> Result<(), NoMemory>
-    ensures { OnOk result (string_bytes line.new ≡ string_bytes line.old ++ behind (flat_map join_symbols joins.now)) }
+pub fn push_joins<S: Sink>(line: &mut S, joins: &[Join]) -> Result<(), NoMemory>
+    ensures { OnOk result (S.held line.new ≡ S.held line.old ++ behind (flat_map join_symbols joins.now)) }
 {
     if joins.is_empty() {
         return Ok(());

@@ -6,7 +6,7 @@
 //! `symbols`, `numbers`, `texts`, `items` and `joins` read what they stand for, and `parser` has a function for each production of
 //! the grammar. No memory is taken but for what the command holds, and none to tell the length of the block behind a
 //! line. The module `printer` writes a command in its one canonical spelling, which `items`, `joins`, `numbers` and
-//! `texts` have the parts of.
+//! `texts` have the parts of, to anything that takes text (`sink`).
 #![tactic(auto)]
 
 mod items;
@@ -16,9 +16,11 @@ mod numbers;
 mod parser;
 mod printer;
 mod refusal;
+mod sink;
 mod symbols;
 mod texts;
 
 pub use parser::{block_length, parse};
 pub use printer::{print, print_index, print_load, print_table};
 pub use refusal::ParseRefusal;
+pub use sink::Sink;

@@ -3,9 +3,9 @@
 ghost use Rattle.std.specs.Prelude.{◌≡◌, ◌++◌, ℕ, ℤ, ◌^◌, ◌<◌, MatchOption, OnOk, SomeIff};
 ghost use Rattle.std.specs.Fmt.{decimal, signed_decimal};
 ghost use Rattle.std.specs.Str.Parse.{IsNumeral, digits_value};
-ghost use Rattle.std.specs.String.{string_bytes};
 ghost use Rattle.plain_tables.specs.Spelling.{IsInteger, IsCount};
 
+use crate::sink::Sink;
 use itoa::Buffer;
 use plain_tables::NoMemory;
 
@@ -45,8 +45,8 @@ pub fn count(characters: &[u8]) -> Option<u64>
 }
 
 /// Writes an integer, with no zeros in front.
-pub fn push_integer(line: &mut String, number: i64) -> Result<(), NoMemory>
-    ensures { OnOk result (string_bytes line.new ≡ string_bytes line.old ++ signed_decimal number) }
+pub fn push_integer<S: Sink>(line: &mut S, number: i64) -> Result<(), NoMemory>
+    ensures { OnOk result (S.held line.new ≡ S.held line.old ++ signed_decimal number) }
 {
     let mut buffer = Buffer::new();
     line.push_str(buffer.format(number))?;
@@ -54,8 +54,8 @@ pub fn push_integer(line: &mut String, number: i64) -> Result<(), NoMemory>
 }
 
 /// Writes a count, with no zeros in front.
-pub fn push_count(line: &mut String, number: u64) -> Result<(), NoMemory>
-    ensures { OnOk result (string_bytes line.new ≡ string_bytes line.old ++ decimal number) }
+pub fn push_count<S: Sink>(line: &mut S, number: u64) -> Result<(), NoMemory>
+    ensures { OnOk result (S.held line.new ≡ S.held line.old ++ decimal number) }
 {
     let mut buffer = Buffer::new();
     line.push_str(buffer.format(number))?;

@@ -9,6 +9,7 @@ ghost use Rattle.mm_lang.specs.Printing.{behind};
 use crate::items::{Item, push_list};
 use crate::joins::push_joins;
 use crate::numbers::push_count;
+use crate::sink::Sink;
 use plain_tables::{
     Command, Cond, IndexKind, Items, Join, NoMemory, Schema, Sequence, Setting, Text,
 };
@@ -26,8 +27,8 @@ pub fn print(alloc: Global, command: &Command) -> Result<String, NoMemory>
     Ok(line)
 }
 
-fn push_command(line: &mut String, command: &Command) -> Result<(), NoMemory>
-    ensures { OnOk result (string_bytes line.new ≡ string_bytes line.old ++ canonical_spelling command.now) }
+fn push_command<S: Sink>(line: &mut S, command: &Command) -> Result<(), NoMemory>
+    ensures { OnOk result (S.held line.new ≡ S.held line.old ++ canonical_spelling command.now) }
 {
     match command {
         Command::Table { name, schema } => print_table(line, name.as_str(), schema),
@@ -68,27 +69,27 @@ fn push_command(line: &mut String, command: &Command) -> Result<(), NoMemory>
 }
 
 /// Puts the canonical spelling of the command that declares a table behind the line.
-pub fn print_table(line: &mut String, name: &str, schema: &Schema) -> Result<(), NoMemory>
-    ensures { OnOk result (string_bytes line.new ≡ string_bytes line.old ++ canonical_spelling (command.Table name.now schema.now)) }
+pub fn print_table<S: Sink>(line: &mut S, name: &str, schema: &Schema) -> Result<(), NoMemory>
+    ensures { OnOk result (S.held line.new ≡ S.held line.old ++ canonical_spelling (command.Table name.now schema.now)) }
 {
     push_name_and_list(line, "table ", name, schema.columns.as_slice())
 }
 
 /// Puts the canonical spelling of the command that declares an index behind the line.
-pub fn print_index(
-    line: &mut String,
+pub fn print_index<S: Sink>(
+    line: &mut S,
     table: &str,
     column: &str,
     kind: IndexKind,
 ) -> Result<(), NoMemory>
-    ensures { OnOk result (string_bytes line.new ≡ string_bytes line.old ++ canonical_spelling (command.Index table.now column.now kind)) }
+    ensures { OnOk result (S.held line.new ≡ S.held line.old ++ canonical_spelling (command.Index table.now column.now kind)) }
 {
     push_index(line, "index ", table, column, kind)
 }
 
 /// Puts the canonical spelling of the command that loads a block of so many bytes behind the line.
-pub fn print_load(line: &mut String, table: &str, bytes: u64) -> Result<(), NoMemory>
-    ensures { OnOk result (string_bytes line.new ≡ string_bytes line.old ++ canonical_spelling (command.Load table.now bytes)) }
+pub fn print_load<S: Sink>(line: &mut S, table: &str, bytes: u64) -> Result<(), NoMemory>
+    ensures { OnOk result (S.held line.new ≡ S.held line.old ++ canonical_spelling (command.Load table.now bytes)) }
 {
     line.push_str("load ")?;
     line.push_str(table)?;
@@ -97,13 +98,13 @@ pub fn print_load(line: &mut String, table: &str, bytes: u64) -> Result<(), NoMe
 }
 
 // WORD NAME ( ITEM {, ITEM} )
-fn push_name_and_list<T: Item>(
-    line: &mut String,
+fn push_name_and_list<T: Item, S: Sink>(
+    line: &mut S,
     word: &str,
     name: &str,
     items: &[T],
 ) -> Result<(), NoMemory>
-    ensures { OnOk result (string_bytes line.new ≡ string_bytes line.old ++ (word.now ++ (name.now ++ behind (Sign Open ∷ separated (map T.symbols items.now) ++ Sign Close ∷ [])))) }
+    ensures { OnOk result (S.held line.new ≡ S.held line.old ++ (word.now ++ (name.now ++ behind (Sign Open ∷ separated (map T.symbols items.now) ++ Sign Close ∷ [])))) }
 {
     line.push_str(word)?;
     line.push_str(name)?;
@@ -113,16 +114,16 @@ fn push_name_and_list<T: Item>(
     Ok(())
 }
 
-fn push_drop_table(line: &mut String, table: &Text) -> Result<(), NoMemory>
-    ensures { OnOk result (string_bytes line.new ≡ string_bytes line.old ++ spaced (symbols_of (command.DropTable table.now))) }
+fn push_drop_table<S: Sink>(line: &mut S, table: &Text) -> Result<(), NoMemory>
+    ensures { OnOk result (S.held line.new ≡ S.held line.old ++ spaced (symbols_of (command.DropTable table.now))) }
 {
     line.push_str("drop table ")?;
     line.push_str(table.as_str())?;
     Ok(())
 }
 
-fn push_dump(line: &mut String, table: &Text) -> Result<(), NoMemory>
-    ensures { OnOk result (string_bytes line.new ≡ string_bytes line.old ++ spaced (symbols_of (command.Dump table.now))) }
+fn push_dump<S: Sink>(line: &mut S, table: &Text) -> Result<(), NoMemory>
+    ensures { OnOk result (S.held line.new ≡ S.held line.old ++ spaced (symbols_of (command.Dump table.now))) }
 {
     line.push_str("dump ")?;
     line.push_str(table.as_str())?;
@@ -140,14 +141,14 @@ fn index_str(kind: IndexKind) -> &'static str
 }
 
 // WORD NAME NAME KIND
-fn push_index(
-    line: &mut String,
+fn push_index<S: Sink>(
+    line: &mut S,
     word: &str,
     table: &str,
     column: &str,
     kind: IndexKind,
 ) -> Result<(), NoMemory>
-    ensures { OnOk result (string_bytes line.new ≡ string_bytes line.old ++ (word.now ++ spaced (index_symbols table.now column.now kind))) }
+    ensures { OnOk result (S.held line.new ≡ S.held line.old ++ (word.now ++ spaced (index_symbols table.now column.now kind))) }
 {
     line.push_str(word)?;
     line.push_str(table)?;
@@ -158,13 +159,13 @@ fn push_index(
     Ok(())
 }
 
-fn push_update(
-    line: &mut String,
+fn push_update<S: Sink>(
+    line: &mut S,
     table: &Text,
     settings: &[Setting],
     conditions: &[Cond],
 ) -> Result<(), NoMemory>
-    ensures { OnOk result (string_bytes line.new ≡ string_bytes line.old ++ spaced (symbols_of (command.Update table.now settings.now conditions.now))) }
+    ensures { OnOk result (S.held line.new ≡ S.held line.old ++ spaced (symbols_of (command.Update table.now settings.now conditions.now))) }
 {
     line.push_str("update ")?;
     line.push_str(table.as_str())?;
@@ -173,8 +174,8 @@ fn push_update(
     push_where(line, conditions)
 }
 
-fn push_delete(line: &mut String, table: &Text, conditions: &[Cond]) -> Result<(), NoMemory>
-    ensures { OnOk result (string_bytes line.new ≡ string_bytes line.old ++ spaced (symbols_of (command.Delete table.now conditions.now))) }
+fn push_delete<S: Sink>(line: &mut S, table: &Text, conditions: &[Cond]) -> Result<(), NoMemory>
+    ensures { OnOk result (S.held line.new ≡ S.held line.old ++ spaced (symbols_of (command.Delete table.now conditions.now))) }
 {
     line.push_str("delete ")?;
     line.push_str(table.as_str())?;
@@ -192,15 +193,15 @@ fn select_str(distinct: bool) -> &'static str
     }
 }
 
-fn push_select(
-    line: &mut String,
+fn push_select<S: Sink>(
+    line: &mut S,
     distinct: bool,
     items: &Items,
     table: &Text,
     joins: &Sequence<Join>,
     conditions: &Sequence<Cond>,
 ) -> Result<(), NoMemory>
-    ensures { OnOk result (string_bytes line.new ≡ string_bytes line.old ++ spaced (symbols_of (command.Select distinct items.now table.now joins.now conditions.now))) }
+    ensures { OnOk result (S.held line.new ≡ S.held line.old ++ spaced (symbols_of (command.Select distinct items.now table.now joins.now conditions.now))) }
 {
     line.push_str(select_str(distinct))?;
     push_items(line, items)?;
@@ -211,8 +212,8 @@ fn push_select(
 }
 
 // * or NAME {, NAME}
-fn push_items(line: &mut String, items: &Items) -> Result<(), NoMemory>
-    ensures { OnOk result (string_bytes line.new ≡ string_bytes line.old ++ behind (items_symbols items.now)) }
+fn push_items<S: Sink>(line: &mut S, items: &Items) -> Result<(), NoMemory>
+    ensures { OnOk result (S.held line.new ≡ S.held line.old ++ behind (items_symbols items.now)) }
 {
     match items {
         Items::All => {
@@ -224,8 +225,8 @@ fn push_items(line: &mut String, items: &Items) -> Result<(), NoMemory>
 }
 
 // ITEM {, ITEM}, behind another symbol
-fn push_behind<T: Item>(line: &mut String, items: &[T]) -> Result<(), NoMemory>
-    ensures { OnOk result (string_bytes line.new ≡ string_bytes line.old ++ behind (separated (map T.symbols items.now))) }
+fn push_behind<T: Item, S: Sink>(line: &mut S, items: &[T]) -> Result<(), NoMemory>
+    ensures { OnOk result (S.held line.new ≡ S.held line.old ++ behind (separated (map T.symbols items.now))) }
 {
     if items.is_empty() {
         return Ok(());
@@ -235,8 +236,8 @@ fn push_behind<T: Item>(line: &mut String, items: &[T]) -> Result<(), NoMemory>
 }
 
 // where CONDITION {and CONDITION}, behind another symbol, or nothing
-fn push_where(line: &mut String, conditions: &[Cond]) -> Result<(), NoMemory>
-    ensures { OnOk result (string_bytes line.new ≡ string_bytes line.old ++ behind (where_symbols conditions.now)) }
+fn push_where<S: Sink>(line: &mut S, conditions: &[Cond]) -> Result<(), NoMemory>
+    ensures { OnOk result (S.held line.new ≡ S.held line.old ++ behind (where_symbols conditions.now)) }
 {
     if conditions.is_empty() {
         return Ok(());

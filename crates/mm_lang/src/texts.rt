@@ -3,10 +3,10 @@
 ghost use Rattle.std.specs.Prelude.{◌≡◌, ◌++◌, ◌∷◌, [], ℕ, List, MatchOption, IfOk, IsErrOf, OnOk};
 ghost use Rattle.std.specs.List.{flat_map};
 ghost use Rattle.std.specs.Str.{IsUtf8};
-ghost use Rattle.std.specs.String.{string_bytes};
 ghost use Rattle.plain_tables.specs.Spelling.{doubled, text_literal};
 
 use crate::ParseRefusal;
+use crate::sink::Sink;
 use plain_tables::{NoMemory, Text};
 use std::alloc::Global;
 
@@ -63,8 +63,8 @@ pub fn text(alloc: Global, characters: &[u8]) -> Result<Text, ParseRefusal>
 }
 
 // Writes a text with each quote mark doubled.
-fn push_doubled(line: &mut String, text: &str) -> Result<(), NoMemory>
-    ensures { OnOk result (string_bytes line.new ≡ string_bytes line.old ++ flat_map doubled text.now) }
+fn push_doubled<S: Sink>(line: &mut S, text: &str) -> Result<(), NoMemory>
+    ensures { OnOk result (S.held line.new ≡ S.held line.old ++ flat_map doubled text.now) }
 {
     let mut rest = text;
     while let Some((part, behind)) = rest.split_once('\'') {
@@ -77,8 +77,8 @@ fn push_doubled(line: &mut String, text: &str) -> Result<(), NoMemory>
 }
 
 /// Writes a text between quote marks.
-pub fn push_text(line: &mut String, text: &str) -> Result<(), NoMemory>
-    ensures { OnOk result (string_bytes line.new ≡ string_bytes line.old ++ text_literal text.now) }
+pub fn push_text<S: Sink>(line: &mut S, text: &str) -> Result<(), NoMemory>
+    ensures { OnOk result (S.held line.new ≡ S.held line.old ++ text_literal text.now) }
 {
     line.push_str("'")?;
     push_doubled(line, text)?;

@@ -1,12 +1,15 @@
 -- The rows of a relation, as the records of its table's block.
-use Rattle.std.proofs.Common.{◌≡◌, ◌⊎◌, inl, inr, Result, Ok, Err, ℕ, ◌<◌, ◌≤◌, List, [], ◌∷◌, ◌++◌, Option, None, Some, IsSome, ap, ◌∙◌, sym, subst, arith, append_assoc, length, map}
-use Rattle.std.specs.Prelude.{slice_get, IfErr, IsErrAnd}
-use Rattle.std.specs.Option.{option_map_or}
+use Rattle.std.proofs.Common.{◌≡◌, false, ◌⊎◌, inl, inr, Result, Ok, Err, ℕ, ◌+◌, ◌-◌, ◌<◌, ◌≤◌, List, [], ◌∷◌, ◌++◌, Option, None, Some, IsSome, ap, ◌∙◌, sym, subst, arith, append_assoc, length, take, drop, map}
+use Rattle.std.specs.Prelude.{slice_get, IfErr, IsErrAnd, nat_lt}
+use Rattle.std.specs.Option.{option_map, option_map_or}
 use Rattle.std.specs.FinMap as finite
 use Rattle.std.specs.Io.KnownBytes.{Appends, Keeps}
 use Rattle.std.specs.List.{All, flat_map}
+use Rattle.std.proofs.lemmas.Bool.Decides.{nat_tests}
+use Rattle.std.proofs.lemmas.Option.{same_Some}
 use Rattle.std.proofs.KnownBytes.{Appends-kept, Appends-nil, Appends-trans}
 use Rattle.std.proofs.lemmas.List.{flat_map_more, length-append, map_push}
+use Rattle.std.proofs.Math.Seq.{take-append_seam, drop-append_seam}
 use Rattle.std.proofs.lemmas.Grind.{flat_map-append}
 use Rattle.std.proofs.lemmas.List.FromFn.{length-map-range_with_len}
 use Rattle.std.proofs.lemmas.List.Elements.{All-head}
@@ -14,7 +17,14 @@ use Rattle.common_lemmas.proofs.Elements.{All-append_parts}
 use Rattle.part_raw.proofs.Tuples.{held_tuple}
 use Rattle.part_raw.specs.declared.tuple_ref.TupleRef.{TupleRef}
 use Rattle.plain_tables.specs.Csv.{record_text, row_record}
+use Rattle.plain_tables.specs.AnswerText.{answer_text, text_line}
+use Rattle.plain_tables.specs.Databases.{Database}
+use Rattle.plain_tables.specs.Doing.{dump, dump_block}
+use Rattle.plain_tables.specs.Spelling.{canonical_spelling}
 use Rattle.plain_tables.specs.Tables.{Table, Row}
+use Rattle.plain_tables.specs.declared.command.Command.TheVariants as command
+use Rattle.plain_tables.specs.declared.command.Limits.{Limits}
+use Rattle.plain_tables.specs.declared.numbers.TableNumber.{TableNumber}
 use Rattle.mm_relation.specs.State.{RelationState, linked_keys}
 use Rattle.mm_relation.specs.Reading.{row_value}
 use Rattle.mm_catalog.specs.State.{CatalogState}
@@ -55,41 +65,64 @@ records_more f first old new rs r row before more is =
     (ap (λ v. flat_map row_record (map f rs) ++ row_record v) is ∙ flat_map_more row_record [] (map f rs) (f r) ∙ ap (flat_map row_record) (sym (map_push f rs r)))
     (Appends-trans first old new (flat_map row_record (map f rs)) (row_record row) before more)
 
--- the names at the front of a block
-pub names_begin : (start first : Option (List ℕ)) (names : List (List ℕ)) → Keeps (Some []) start → Appends start first (record_text names) → Appends (Some []) first (record_text names)
-names_begin start first names fresh begun =
-    Appends-trans (Some []) start first [] (record_text names) (Appends-kept (Some []) (Some []) start [] (Appends-nil (Some [])) fresh) begun
+-- the names at the front of a block that is behind a page
+pub names_begin : (page : List ℕ) (start first : Option (List ℕ)) (names : List (List ℕ)) → Keeps (Some page) start → Appends start first (record_text names)
+    → Appends (Some page) first (record_text names)
+names_begin page start first names fresh begun =
+    Appends-trans (Some page) start first [] (record_text names) (Appends-kept (Some page) (Some page) start [] (Appends-nil (Some page)) fresh) begun
 
--- a block that was written from nothing: the names, and then the records
-pub block_whole : (start first last : Option (List ℕ)) (names : List (List ℕ)) (records block : List ℕ) → Keeps (Some []) start
-    → Appends start first (record_text names) → Appends first last records → Keeps last (Some block) → block ≡ record_text names ++ records
-block_whole start first last names records block fresh begun more whole =
-    Appends-kept (Some []) last (Some block) (record_text names ++ records)
-    (Appends-trans (Some []) first last (record_text names) records (names_begin start first names fresh begun) more) whole
+-- a block that was written behind a page: the names, and then the records
+pub block_whole : (page : List ℕ) (start first last : Option (List ℕ)) (names : List (List ℕ)) (records whole : List ℕ) → Keeps (Some page) start
+    → Appends start first (record_text names) → Appends first last records → Keeps last (Some whole) → whole ≡ page ++ (record_text names ++ records)
+block_whole page start first last names records whole fresh begun more kept =
+    Appends-kept (Some page) last (Some whole) (record_text names ++ records)
+    (Appends-trans (Some page) first last (record_text names) records (names_begin page start first names fresh begun) more) kept
 
--- what was written within the limit is so long at most
-pub within_kept : (limit : ℕ) (bytes : Option (List ℕ)) (block : List ℕ) → IsWithin limit bytes → Keeps bytes (Some block) → length block ≤ limit
-within_kept limit None block within kept = absurd within
-within_kept limit (Some front) block within kept = omega (arith, ap length kept, within)
+-- where all is within the limit of a page and a block, the block is within its own
+pub within_kept : (limit : ℕ) (page block : List ℕ) (bytes : Option (List ℕ)) (whole : List ℕ) → IsWithin (length page + limit) bytes → Keeps bytes (Some whole)
+    → whole ≡ page ++ block → length block ≤ limit
+within_kept limit page block None whole within kept made = absurd within
+within_kept limit page block (Some front) whole within kept made = omega (arith, ap length kept, within, ap length made, length-append page block)
 
--- where a front is past the limit, so is the whole
-pub past_front : (limit : ℕ) (bytes : Option (List ℕ)) (front rest : List ℕ) → Appends (Some []) bytes front → IsPast limit bytes → limit < length (front ++ rest)
-past_front limit None front rest made past = absurd made
-past_front limit (Some bytes) front rest made past = omega (arith, length-append front rest, ap length made, past)
+-- where a front is past the limit, so is the whole block
+pub past_front : (limit : ℕ) (page : List ℕ) (bytes : Option (List ℕ)) (front rest : List ℕ) → Appends (Some page) bytes front → IsPast (length page + limit) bytes
+    → limit < length (front ++ rest)
+past_front limit page None front rest made past = absurd made
+past_front limit page (Some bytes) front rest made past = omega (arith, length-append front rest, length-append page front, ap length made, past)
 
 -- a block that was given up is past the limit as a whole
-pub past_whole : (limit : ℕ) (first last : Option (List ℕ)) (names : List ℕ) (rows : List Row) → Appends (Some []) first names → IsGivenUp limit first last rows
-    → limit < length (names ++ flat_map row_record rows)
-past_whole limit first last names rows begun given =
+pub past_whole : (limit : ℕ) (page : List ℕ) (first last : Option (List ℕ)) (names : List ℕ) (rows : List Row) → Appends (Some page) first names
+    → IsGivenUp (length page + limit) first last rows → limit < length (names ++ flat_map row_record rows)
+past_whole limit page first last names rows begun given =
     let front = flat_map row_record given.front in
     let passing = row_record given.last in
-    let made = Appends-trans (Some []) first last names (front ++ passing) begun (Appends-trans first given.kept last front passing given.within.0 given.past.0) in
-    let long = past_front limit last (names ++ (front ++ passing)) (flat_map row_record given.rest) made given.past.1 in
+    let made = Appends-trans (Some page) first last names (front ++ passing) begun (Appends-trans first given.kept last front passing given.within.0 given.past.0) in
+    let long = past_front limit page last (names ++ (front ++ passing)) (flat_map row_record given.rest) made given.past.1 in
     let same : (names ++ (front ++ passing)) ++ flat_map row_record given.rest ≡ names ++ flat_map row_record rows =
     append_assoc names (front ++ passing) (flat_map row_record given.rest)
     ∙ ap (λ bytes. names ++ bytes)
     (append_assoc front passing (flat_map row_record given.rest) ∙ sym (flat_map-append row_record given.front (given.last ∷ given.rest)) ∙ ap (flat_map row_record) (sym given.split)) in
     subst (λ bytes. limit < length bytes) same long
+
+-- A line that says how long the block is was put in front of it.
+pub line_before : (line_of : ℕ → List ℕ) (start : ℕ) (line whole new : List ℕ) → line ≡ line_of (length whole - start)
+    → new ≡ take start whole ++ (line ++ drop start whole) → (page block : List ℕ) → whole ≡ page ++ block → length page ≡ start
+    → new ≡ page ++ (line_of (length block) ++ block)
+line_before line_of start line whole new says made page block is at =
+    let size : length whole - start ≡ length block = omega (arith, ap length is, length-append page block, at) in
+    let front : take start whole ≡ page = ap (λ n. take n whole) (sym at) ∙ ap (take (length page)) is ∙ take-append_seam page block in
+    let back : drop start whole ≡ block = ap (λ n. drop n whole) (sym at) ∙ ap (drop (length page)) is ∙ drop-append_seam page block in
+    made ∙ ap (λ p. p ++ (line ++ drop start whole)) front ∙ ap (λ b. page ++ (line ++ b)) back ∙ ap (λ l. page ++ (l ++ block)) (says ∙ ap line_of size)
+
+-- the answer to a dump of a table whose block is within the limit
+pub dump_answered : (limits : Limits) (tables : Database) (n : TableNumber) (t : Table) (name page new : List ℕ) → slice_get tables n.0 ≡ Some t
+    → option_map (λ (t : Table). t.name) (slice_get tables n.0) ≡ Some name → length (dump_block t) ≤ limits.block
+    → new ≡ page ++ (text_line (canonical_spelling (command.Load name (length (dump_block t)))) ++ dump_block t)
+    → new ≡ page ++ answer_text (dump limits tables n).outcome
+dump_answered limits tables n t name page new there named within made =
+    let same : t.name ≡ name = same_Some t.name name (rw there at named) in
+    let passes : nat_lt limits.block (length (dump_block t)) ≡ false = grind (arith, nat_tests) in
+    rw (there, passes) (made ∙ ap (λ m. page ++ (text_line (canonical_spelling (command.Load m (length (dump_block t)))) ++ dump_block t)) (sym same))
 
 -- a refusal at the row behind a front that was written
 pub refused_at : (limit : ℕ) (old kept new : Option (List ℕ)) (rows front rest : List Row) (last : Row) (e : Refusal) → rows ≡ front ++ last ∷ rest

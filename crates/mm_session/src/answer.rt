@@ -1,9 +1,10 @@
 //! The bytes of one answer, made whole before the first of them is written.
 
-ghost use Rattle.std.specs.Prelude.{◌≡◌, ◌++◌, ◌+◌, ◌-◌, ◌*◌, ◌≤◌, [], length, IsOk, IfOk, OnOk};
+ghost use Rattle.std.specs.Prelude.{◌≡◌, ◌++◌, ◌+◌, ◌-◌, ◌*◌, ◌≤◌, [], length, take, drop, IsOk, IfOk, OnOk};
 ghost use Rattle.std.specs.Fmt.{decimal};
 
 use itoa::Buffer;
+use mm_lang::Sink;
 use plain_tables::NoMemory;
 use std::alloc::Global;
 use std::io;
@@ -52,6 +53,13 @@ impl Answer {
         self.bytes.as_slice()
     }
 
+    /// How many bytes there are so far.
+    pub fn len(&self) -> usize
+        ensures { result ≡ length self.now }
+    {
+        self.bytes.len()
+    }
+
     /// The vector of the bytes so far.
     pub fn as_vec(&self) -> &Vec<u8>
         ensures { result.now.items ≡ self.now }
@@ -97,6 +105,16 @@ impl Answer {
         Ok(())
     }
 
+    /// Puts bytes in at an index, in front of those that stand there and behind it.
+    pub fn insert(&mut self, at: usize, bytes: &[u8]) -> Result<(), NoMemory>
+        requires { at ≤ length self.old }
+        ensures { OnOk result (self.new ≡ take at self.old ++ (bytes.now ++ drop at self.old)) }
+    {
+        self.bytes.extend_from_slice(bytes)?;
+        self.bytes[at..].rotate_right(bytes.len());
+        Ok(())
+    }
+
     /// Puts a number at the end, in decimal digits. While the answer is short it needs no memory.
     pub fn push_number(&mut self, n: u64) -> Result<(), NoMemory>
         ensures pushed { OnOk result (self.new ≡ self.old ++ decimal n) }
@@ -104,6 +122,14 @@ impl Answer {
     {
         let mut buffer = Buffer::new();
         self.push(buffer.format(n).as_bytes())
+    }
+}
+
+impl Sink for Answer {
+    ghost held = { λ a. a };
+
+    fn push_str(&mut self, text: &str) -> Result<(), NoMemory> {
+        self.push(text.as_bytes())
     }
 }
 

@@ -1,6 +1,6 @@
 //! Dump: the rows of one table as a block of CSV.
 
-ghost use Rattle.std.specs.Prelude.{◌≡◌, ◌≢◌, ◌++◌, ◌<◌, ◌≤◌, ℕ, Ok, Err, Some, IsSome, IfOk, IfErr, OnOk, length, map, slice_get, ◌⊎◌};
+ghost use Rattle.std.specs.Prelude.{◌≡◌, ◌≢◌, ◌++◌, ◌<◌, ◌≤◌, ℕ, List, Ok, Err, Some, IsSome, IfOk, IfErr, OnOk, length, map, slice_get, ◌⊎◌};
 ghost use Rattle.std.specs.FinMap as finite;
 ghost use Rattle.std.specs.List.{flat_map};
 ghost use Rattle.plain_tables.specs.AnswerText.{answer_text, text_line};
@@ -28,6 +28,7 @@ use mm_relation::{Relation, Relations, TupleRef};
 use no_memory::NoMemory;
 use plain_tables::{Column, ColumnNumber, Refusal, TableNumber, Text, Value};
 use std::alloc::Global;
+use std::mem;
 
 // The names of columns.
 fn names_of(alloc: Global, columns: &[Column]) -> Result<Vec<Text>, NoMemory>
@@ -64,7 +65,7 @@ fn check_length(records: &RecordWriter<Answer>, limit: usize) -> Result<(), Refu
     ensures within { OnOk result (IsWithin limit records.now.bytes) }
     ensures past { IfErr result (λ e. (e ≡ refusal.DumpTooLong) × IsPast limit records.now.bytes) }
 {
-    if records.get_ref().as_slice().len() > limit {
+    if records.get_ref().len() > limit {
         return Err(Refusal::DumpTooLong);
     }
     Ok(())
@@ -92,19 +93,21 @@ fn push_row<'a>(
     check_length(records, limit)
 }
 
-// Puts the line that loads a block of so many bytes into the table behind the answer.
-fn push_load_line(
+// Puts the line that loads the block into the table in front of the block, which begins at an index of the answer.
+fn insert_load_line(
     alloc: Global,
     name: &str,
-    bytes: usize,
+    start: usize,
     answer: &mut Answer,
 ) -> Result<(), NoMemory>
-    ensures { OnOk result (answer.new ≡ answer.old ++ text_line (canonical_spelling (command.Load name.now bytes))) }
+    requires { start ≤ length answer.old }
+    ensures { OnOk result ((page block : List ℕ) → answer.old ≡ page ++ block → length page ≡ start → answer.new ≡ page ++ (text_line (canonical_spelling (command.Load name.now (length block))) ++ block)) }
 {
+    let bytes = answer.len() - start;
     let mut line = String::new(alloc);
     print_load(&mut line, name, bytes as u64)?;
     line.push_str("\n")?;
-    answer.push(line.as_bytes())
+    answer.insert(start, line.as_bytes())
 }
 
 impl Executor {
@@ -132,17 +135,18 @@ impl Executor {
         Ok(())
     }
 
-    // The block of a table: the names of its columns, and its rows. Where it passes its limit, it is given up on the way.
-    fn block_of(&self, table: TableNumber) -> Result<Answer, Refusal>
+    // The page with the block of a table behind it: the names of its columns, and its rows. Where the block passes its limit, it is
+    // given up on the way.
+    fn with_block_of(&self, page: Answer, table: TableNumber) -> Result<Answer, Refusal>
         requires { table.0 < length (database_of self.now.catalog) }
-        ensures whole { IfOk result (λ block. (t : Table) → slice_get (database_of self.now.catalog) table.0 ≡ Some t → (block ≡ dump_block t) × (length block ≤ self.now.catalog.limits.block)) }
+        ensures whole { IfOk result (λ whole. (t : Table) → slice_get (database_of self.now.catalog) table.0 ≡ Some t → (whole ≡ page ++ dump_block t) × (length (dump_block t) ≤ self.now.catalog.limits.block)) }
         ensures refused { IfErr result (λ e. (e ≡ refusal.NoMemory) ⊎ ((e ≡ refusal.DumpTooLong) × ((t : Table) → slice_get (database_of self.now.catalog) table.0 ≡ Some t → self.now.catalog.limits.block < length (dump_block t)))) }
     {
         a_catalog_is_consistent(&self.catalog);
         let relation = self.catalog.at(table);
-        let limit = self.catalog.limits().block as usize;
+        let limit = page.len() + self.catalog.limits().block as usize;
         let names = names_of(self.alloc, relation.schema().columns.as_slice())?;
-        let mut records = RecordWriter::new(self.alloc, Answer::new(self.alloc)?);
+        let mut records = RecordWriter::new(self.alloc, page);
         records.push_names(&names)?;
         check_length(&records, limit)?;
         self.push_rows(&mut records, limit, relation)?;
@@ -151,15 +155,17 @@ impl Executor {
 
     /// Adds the line that loads a table's rows to the answer, and the block that it loads. Where the block passes its limit, the
     /// answer is 64 in their place.
+    ///
+    /// The block is made where it goes, and the line, which has its length, is put in front of it.
     pub fn dump(&self, table: TableNumber, answer: &mut Answer) -> Result<(), Refusal>
         requires { table.0 < length (database_of self.now.catalog) }
         ensures done { OnOk result (answer.new ≡ answer.old ++ answer_text (done self.now.catalog.limits (database_of self.now.catalog) (resolved.Dump table)).outcome) }
         ensures refused { IfErr result (λ e. (e ≡ refusal.NoMemory) ⊎ ((done self.now.catalog.limits (database_of self.now.catalog) (resolved.Dump table)).outcome ≡ Refused e)) }
     {
-        let block = self.block_of(table)?;
-        let bytes = block.as_slice().len();
-        push_load_line(self.alloc, self.catalog.table_name(table), bytes, answer)?;
-        answer.push(block.as_slice())?;
+        let start = answer.len();
+        let page = mem::replace(answer, Answer::new(self.alloc)?);
+        *answer = self.with_block_of(page, table)?;
+        insert_load_line(self.alloc, self.catalog.table_name(table), start, answer)?;
         Ok(())
     }
 }

@@ -2,7 +2,6 @@
 
 ghost use Rattle.std.specs.Prelude.{◌≡◌, ◌++◌, ◌∷◌, [], ◌<◌, Some, length, OnOk, slice_get};
 ghost use Rattle.std.specs.List.{All};
-ghost use Rattle.std.specs.String.{string_bytes};
 ghost use Rattle.plain_tables.specs.AnswerText.{answer_text, declaration_lines};
 ghost use Rattle.plain_tables.specs.Effects.{Listed};
 ghost use Rattle.plain_tables.specs.Tables.{Table};
@@ -20,34 +19,34 @@ use no_memory::NoMemory;
 use plain_tables::TableNumber;
 
 // A line for each index that is declared on a table.
-fn push_index_lines(lines: &mut String, name: &str, relation: &Relation) -> Result<(), NoMemory>
+fn push_index_lines(answer: &mut Answer, name: &str, relation: &Relation) -> Result<(), NoMemory>
     requires { All (λ d. d.column.0 < length relation.now.schema.columns) relation.now.declared }
-    ensures { OnOk result (string_bytes lines.new ≡ string_bytes lines.old ++ command_lines (index_commands name.now relation.now.schema.columns relation.now.declared)) }
+    ensures { OnOk result (answer.new ≡ answer.old ++ command_lines (index_commands name.now relation.now.schema.columns relation.now.declared)) }
 {
     let columns = relation.schema().columns.as_slice();
     for index in relation.declared() {
         let column = columns[index.column.0].name.as_str();
-        print_index(lines, name, column, index.kind)?;
-        lines.push_str("\n")?;
+        print_index(answer, name, column, index.kind)?;
+        answer.push(b"\n")?;
     }
     Ok(())
 }
 
 // The lines of a table: one for its declaration, and one for each index.
 fn push_table_lines(
-    lines: &mut String,
+    answer: &mut Answer,
     catalog: &Catalog,
     table: TableNumber,
 ) -> Result<(), NoMemory>
     requires { table.0 < length (database_of catalog.now) }
-    ensures { OnOk result ((t : Table) → slice_get (database_of catalog.now) table.0 ≡ Some t → string_bytes lines.new ≡ string_bytes lines.old ++ declaration_lines (t ∷ [])) }
+    ensures { OnOk result ((t : Table) → slice_get (database_of catalog.now) table.0 ≡ Some t → answer.new ≡ answer.old ++ declaration_lines (t ∷ [])) }
 {
     a_catalog_is_consistent(catalog);
     let name = catalog.table_name(table);
     let relation = catalog.at(table);
-    print_table(lines, name, relation.schema())?;
-    lines.push_str("\n")?;
-    push_index_lines(lines, name, relation)
+    print_table(answer, name, relation.schema())?;
+    answer.push(b"\n")?;
+    push_index_lines(answer, name, relation)
 }
 
 impl Executor {
@@ -55,11 +54,9 @@ impl Executor {
     pub fn list_tables(&self, answer: &mut Answer) -> Result<(), NoMemory>
         ensures { OnOk result (answer.new ≡ answer.old ++ answer_text (Listed (database_of self.now.catalog))) }
     {
-        let mut lines = String::new(self.alloc);
         for number in 0..self.catalog.table_count() {
-            push_table_lines(&mut lines, &self.catalog, TableNumber(number))?;
+            push_table_lines(answer, &self.catalog, TableNumber(number))?;
         }
-        answer.push(lines.as_bytes())?;
         push_changed(answer, self.catalog.table_count())
     }
 }

@@ -1,12 +1,11 @@
 use Rattle.std.proofs.Common.{sym, ◌∙◌}
 use Rattle.std.proofs.lemmas.Result.{on_ok_weaker}
-use Rattle.std.specs.String.{string_bytes}
 use Rattle.mm_lang.proofs.Spacing.{written-where}
 use Rattle.mm_lang.proofs.printer.push_where.Goals as goal
 
 pub returns : goal.returns
-returns c =
+returns g c =
     on_ok_weaker c.push_list.result
-    (written-where _ _ (string_bytes c.push_list.new.line) c.args.conditions.now (sym c.is_empty.ensures ∙ c.if-is_empty.false)
+    (written-where _ _ (g.S.Sink.held c.push_list.new.line) c.args.conditions.now (sym c.is_empty.ensures ∙ c.if-is_empty.false)
     c.in_ok-push_str.ensures.bytes)
     c.push_list.ensures

@@ -6,7 +6,7 @@ use Rattle.mm_lang.proofs.Utf8.{utf8-behind}
 use Rattle.mm_lang.proofs.texts.push_doubled.Goals as goal
 
 pub loop-part-preserved : goal.loop-part-preserved
-loop-part-preserved c =
+loop-part-preserved g c =
     let parts = split_parts 39 c.loop-part.rest.now (Some (c.in-Some.part, c.in-Some.behind)) c.in-Some.ensures.cases (omega arith) in (
       utf8-behind c.in-Some.part.now 39 c.in-Some.behind.now (omega arith) (subst IsUtf8 parts.0 c.loop-part.invariant.0),
       doubled-step _ _ _ c.in-Some.part.now c.in-Some.behind.now c.loop-part.rest.now _ c.in_ok-push_str.ensures.bytes
@@ -14,6 +14,6 @@ loop-part-preserved c =
     )
 
 pub returns : goal.returns
-returns c =
+returns g c =
     let parts = split_parts 39 c.loop-part.rest.now c.split_once.result c.split_once.ensures.cases (omega arith) in
     doubled-last _ _ c.loop-part.rest.now _ c.in_ok-push_str-3.ensures.bytes (rw c.in_default.is at parts) c.loop-part.invariant.1

@@ -1,4 +1,4 @@
-use Rattle.std.proofs.Common.{◌∙◌, ◌++◌, ◌<◌, ◌∷◌, [], length, sym, ap, arith}
+use Rattle.std.proofs.Common.{◌∙◌, ◌++◌, ◌<◌, ◌∷◌, [], append_assoc, length, take, sym, ap, arith}
 use Rattle.common_lemmas.proofs.Places.{slice_get-inside}
 use Rattle.plain_tables.specs.AnswerText.{declaration_lines}
 use Rattle.mm_catalog.specs.Seen.{database_of}
@@ -12,4 +12,5 @@ loop-number-preserved c =
     let found = slice_get-inside tables c.loop-number.number within in
     c.in_ok-push_table_lines.ensures found.0 found.1
     ∙ ap (λ text. text ++ declaration_lines (found.0 ∷ [])) c.loop-number.invariant
-    ∙ sym (tables_more tables c.loop-number.number found.0 found.1)
+    ∙ append_assoc c.args.answer.now (declaration_lines (take c.loop-number.number tables)) (declaration_lines (found.0 ∷ []))
+    ∙ ap (λ text. c.args.answer.now ++ text) (sym (tables_more tables c.loop-number.number found.0 found.1))

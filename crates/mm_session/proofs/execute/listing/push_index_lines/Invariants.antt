@@ -1,8 +1,7 @@
 use Rattle.std.proofs.Common.{◌≡◌, ◌++◌, take}
-use Rattle.std.specs.String.{string_bytes}
 use Rattle.mm_session.specs.Listing.{command_lines, index_commands}
 use Rattle.mm_session.proofs.execute.listing.push_index_lines.Given as goal
 
 abbrev pub invariant-loop-index : goal.invariant-loop-index
 invariant-loop-index l =
-    string_bytes l.lines ≡ string_bytes l.fn.lines ++ command_lines (index_commands l.name l.columns (take l.index-index l.index-items))
+    l.answer ≡ l.fn.answer ++ command_lines (index_commands l.name l.columns (take l.index-index l.index-items))

@@ -1,7 +1,6 @@
 use Rattle.std.proofs.Common.{◌≡◌, ◌∙◌, ◌++◌, ◌<◌, ◌∷◌, [], List, ℕ, length, sym, ap, arith}
 use Rattle.std.proofs.lemmas.Option.{same_Some}
 use Rattle.std.proofs.lemmas.Result.{on_ok_weaker}
-use Rattle.std.specs.String.{string_bytes}
 use Rattle.plain_tables.specs.AnswerText.{declaration_lines}
 use Rattle.plain_tables.specs.Tables.{Table}
 use Rattle.mm_catalog.specs.Seen.{table_of}
@@ -29,8 +28,8 @@ returns c =
     same_Some c.table_name-name.result.now named.0 (sym c.table_name-name.ensures ∙ database-name catalog ok.named c.args.table.0 named.0 named.1 within) in
     on_ok_weaker c.push_index_lines.result
     (λ listed t at.
-    table_step catalog.relations c.table_name-name.result.now s c.schema.result.now (string_bytes c.args.lines.now) (string_bytes c.print_table.new.line)
-    (string_bytes c.push_str.new.self) (string_bytes c.push_index_lines.new.lines) c.schema.ensures c.in_ok-print_table.ensures c.in_ok-push_str.ensures.bytes listed
-    ∙ ap (λ (n : List ℕ). string_bytes c.args.lines.now ++ declaration_lines (table_of catalog.relations n s ∷ [])) called
-    ∙ ap (λ (u : Table). string_bytes c.args.lines.now ++ declaration_lines (u ∷ [])) (sym (table_at catalog ok c.args.table.0 named.0 s t named.1 c.at-relation.ensures at)))
+    table_step catalog.relations c.table_name-name.result.now s c.schema.result.now c.args.answer.now c.print_table.new.line
+    c.push.new.self c.push_index_lines.new.answer c.schema.ensures c.in_ok-print_table.ensures c.in_ok-push.ensures.pushed listed
+    ∙ ap (λ (n : List ℕ). c.args.answer.now ++ declaration_lines (table_of catalog.relations n s ∷ [])) called
+    ∙ ap (λ (u : Table). c.args.answer.now ++ declaration_lines (u ∷ [])) (sym (table_at catalog ok c.args.table.0 named.0 s t named.1 c.at-relation.ensures at)))
     c.push_index_lines.ensures

@@ -1,5 +1,4 @@
-use Rattle.std.proofs.Common.{◌≡◌, ◌⊎◌, ◌∙◌, ◌++◌, ◌<◌, List, ℕ, Some, inl, inr, ap, sym, subst, arith, length, map}
-use Rattle.std.specs.Io.KnownBytes.{Keeps}
+use Rattle.std.proofs.Common.{◌≡◌, ◌⊎◌, ◌∙◌, ◌++◌, ◌+◌, ◌<◌, List, ℕ, Some, inl, inr, ap, sym, subst, arith, length, map}
 use Rattle.std.specs.List.{flat_map, slice_get}
 use Rattle.std.proofs.lemmas.List.{length-map}
 use Rattle.plain_tables.specs.Csv.{record_text, row_record, block_text}
@@ -19,9 +18,10 @@ use Rattle.mm_catalog.proofs.Declared.{among_at}
 use Rattle.mm_catalog.proofs.Referrers.{some_columns}
 use Rattle.mm_catalog.proofs.Tables.{database-length}
 use Rattle.mm_relation.specs.State.{RelationState, tree_list}
+use Rattle.mm_session.specs.Dumps.{IsWithin, IsPast, IsGivenUp}
 use Rattle.mm_session.proofs.DumpLemmas.{columns_same, names_begin, block_whole, within_kept, past_front, past_whole, handed_on}
 use Rattle.mm_session.proofs.MemberLemmas.{rows_same}
-use Rattle.mm_session.proofs.execute.Executor.block_of.Goals as goal
+use Rattle.mm_session.proofs.execute.Executor.with_block_of.Goals as goal
 
 -- the names and the records of a relation's rows are the block of its table
 block_is : (c : CatalogState) → IsConsistent c → (n : ℕ) (s : RelationState) → slice_get c.relations n ≡ Some s → (names : List (List ℕ)) → names ≡ column_names s.schema.columns
@@ -56,16 +56,16 @@ returns-in_err-check_length-clause-refused c =
     let columns : c.as_slice.result.now ≡ s.schema.columns = c.as_slice.ensures ∙ ap (λ (h : Schema). h.columns) c.schema.ensures in
     let names : c.deref.result.now ≡ column_names s.schema.columns = c.deref.ensures.value ∙ c.in_ok-names.ensures ∙ ap column_names columns in
     let rows = flat_map row_record (map (seen_values catalog s) (tree_list s.by_key)) in
-    let fresh = subst (λ bytes. Keeps (Some bytes) c.new-records.result.bytes) c.in_ok-new.ensures c.new-records.ensures.bytes in
-    let begun = names_begin c.new-records.result.bytes c.push_names.new.self.bytes c.deref.result.now fresh c.in_ok-push_names.ensures.bytes in
-    let limit : c.limits.result.block ≡ catalog.limits.block = ap (λ (l : Limits). l.block) c.limits.ensures in
+    let begun = names_begin c.args.page c.new-records.result.bytes c.push_names.new.self.bytes c.deref.result.now c.new-records.ensures.bytes c.in_ok-push_names.ensures.bytes in
+    let limit : c.len.result + c.limits.result.block ≡ length c.args.page + catalog.limits.block =
+    ap (λ n. n + c.limits.result.block) c.len.ensures ∙ ap (λ (l : Limits). length c.args.page + l.block) c.limits.ensures in
     handed_on (λ (e : Refusal). (e ≡ refusal.NoMemory) ⊎ ((e ≡ refusal.DumpTooLong) × ((t : Table) → slice_get (database_of catalog) c.args.table.0 ≡ Some t → catalog.limits.block < length (dump_block t))))
     c.from_residual-in_err-check_length.result c.in_err-check_length.field-0.0 c.from_residual-in_err-check_length.ensures.1
     (inr (
       c.in_err-check_length.ensures.past.0,
       λ t at.
           subst (λ bytes. catalog.limits.block < length bytes) (block_is catalog c.a_catalog_is_consistent.ensures c.args.table.0 s c.at-relation.ensures c.deref.result.now names t at)
-          (subst (λ l. l < length (record_text c.deref.result.now ++ rows)) limit (past_front c.limits.result.block c.push_names.new.self.bytes (record_text c.deref.result.now) rows begun c.in_err-check_length.ensures.past.1)),
+          (past_front catalog.limits.block c.args.page c.push_names.new.self.bytes (record_text c.deref.result.now) rows begun (subst (λ l. IsPast l c.push_names.new.self.bytes) limit c.in_err-check_length.ensures.past.1)),
     ))
 
 pub returns-in_err-push_rows-clause-refused : goal.returns-in_err-push_rows-clause-refused
@@ -75,9 +75,9 @@ returns-in_err-push_rows-clause-refused c =
     let columns : c.as_slice.result.now ≡ s.schema.columns = c.as_slice.ensures ∙ ap (λ (h : Schema). h.columns) c.schema.ensures in
     let names : c.deref.result.now ≡ column_names s.schema.columns = c.deref.ensures.value ∙ c.in_ok-names.ensures ∙ ap column_names columns in
     let rows = map (seen_values catalog s) (tree_list s.by_key) in
-    let fresh = subst (λ bytes. Keeps (Some bytes) c.new-records.result.bytes) c.in_ok-new.ensures c.new-records.ensures.bytes in
-    let begun = names_begin c.new-records.result.bytes c.push_names.new.self.bytes c.deref.result.now fresh c.in_ok-push_names.ensures.bytes in
-    let limit : c.limits.result.block ≡ catalog.limits.block = ap (λ (l : Limits). l.block) c.limits.ensures in
+    let begun = names_begin c.args.page c.new-records.result.bytes c.push_names.new.self.bytes c.deref.result.now c.new-records.ensures.bytes c.in_ok-push_names.ensures.bytes in
+    let limit : c.len.result + c.limits.result.block ≡ length c.args.page + catalog.limits.block =
+    ap (λ n. n + c.limits.result.block) c.len.ensures ∙ ap (λ (l : Limits). length c.args.page + l.block) c.limits.ensures in
     handed_on (λ (e : Refusal). (e ≡ refusal.NoMemory) ⊎ ((e ≡ refusal.DumpTooLong) × ((t : Table) → slice_get (database_of catalog) c.args.table.0 ≡ Some t → catalog.limits.block < length (dump_block t))))
     c.from_residual-in_err-push_rows.result c.in_err-push_rows.field-0.0 c.from_residual-in_err-push_rows.ensures.1
     (elim c.in_err-push_rows.ensures.refused [
@@ -86,7 +86,8 @@ returns-in_err-push_rows-clause-refused c =
         given.0,
         λ t at.
             subst (λ bytes. catalog.limits.block < length bytes) (block_is catalog c.a_catalog_is_consistent.ensures c.args.table.0 s c.at-relation.ensures c.deref.result.now names t at)
-            (subst (λ l. l < length (record_text c.deref.result.now ++ flat_map row_record rows)) limit (past_whole c.limits.result.block c.push_names.new.self.bytes c.push_rows.new.records.bytes (record_text c.deref.result.now) rows begun given.1)),
+            (past_whole catalog.limits.block c.args.page c.push_names.new.self.bytes c.push_rows.new.records.bytes (record_text c.deref.result.now) rows begun
+            (subst (λ l. IsGivenUp l c.push_names.new.self.bytes c.push_rows.new.records.bytes rows) limit given.1)),
       )
     ])
 
@@ -97,10 +98,12 @@ returns-clause-whole c = λ t at.
     let columns : c.as_slice.result.now ≡ s.schema.columns = c.as_slice.ensures ∙ ap (λ (h : Schema). h.columns) c.schema.ensures in
     let names : c.deref.result.now ≡ column_names s.schema.columns = c.deref.ensures.value ∙ c.in_ok-names.ensures ∙ ap column_names columns in
     let rows = flat_map row_record (map (seen_values catalog s) (tree_list s.by_key)) in
-    let fresh = subst (λ bytes. Keeps (Some bytes) c.new-records.result.bytes) c.in_ok-new.ensures c.new-records.ensures.bytes in
-    let limit : c.limits.result.block ≡ catalog.limits.block = ap (λ (l : Limits). l.block) c.limits.ensures in (
-      block_whole c.new-records.result.bytes c.push_names.new.self.bytes c.push_rows.new.records.bytes c.deref.result.now rows c.in_ok-finish.field-0 fresh
-          c.in_ok-push_names.ensures.bytes c.in_ok-push_rows.ensures.pushed.0 c.in_ok-finish.ensures.bytes
-          ∙ block_is catalog c.a_catalog_is_consistent.ensures c.args.table.0 s c.at-relation.ensures c.deref.result.now names t at,
-      within_kept catalog.limits.block c.push_rows.new.records.bytes c.in_ok-finish.field-0 (rw limit at c.in_ok-push_rows.ensures.pushed.1) c.in_ok-finish.ensures.bytes,
+    let limit : c.len.result + c.limits.result.block ≡ length c.args.page + catalog.limits.block =
+    ap (λ n. n + c.limits.result.block) c.len.ensures ∙ ap (λ (l : Limits). length c.args.page + l.block) c.limits.ensures in
+    let made = block_whole c.args.page c.new-records.result.bytes c.push_names.new.self.bytes c.push_rows.new.records.bytes c.deref.result.now rows c.in_ok-finish.field-0
+    c.new-records.ensures.bytes c.in_ok-push_names.ensures.bytes c.in_ok-push_rows.ensures.pushed.0 c.in_ok-finish.ensures.bytes
+    ∙ ap (λ bytes. c.args.page ++ bytes) (block_is catalog c.a_catalog_is_consistent.ensures c.args.table.0 s c.at-relation.ensures c.deref.result.now names t at) in (
+      made,
+      within_kept catalog.limits.block c.args.page (dump_block t) c.push_rows.new.records.bytes c.in_ok-finish.field-0
+          (subst (λ l. IsWithin l c.push_rows.new.records.bytes) limit c.in_ok-push_rows.ensures.pushed.1) c.in_ok-finish.ensures.bytes made,
     )
