@@ -5,7 +5,7 @@ import re
 import harness
 
 # What a text is drawn from: what the language or a careless binding would read as more than a character.
-MARKS = ["'", "''", '"', "?", "\\", "\\'", "%", "%s", "\0", "\r", "\t", ",", "(", ")", "#", "--", ";", " ", ""]
+MARKS = ["'", "''", '"', "?", ":", ":s", "\\", "\\'", "%", "%s", "\0", "\r", "\t", ",", "(", ")", "#", "--", ";", " ", ""]
 WORDS = ["null", "1", "-7", "007", "a", "B", "é", "ß", "€", "\u2028", "\x85", "\ufeff", "\ufffd", "😀", "\U0010ffff"]
 BREAKS = ["') ", "); delete t", "' or id <> '"]
 UNSPEAKABLE = ["\n", "\r\n", "\n\n", "'\ndelete t\n"]
@@ -15,7 +15,12 @@ def text(draw):
     return "".join(draw.choice([*MARKS, *WORDS, *BREAKS]) for _ in range(draw.choice([0, 1, 1, 2, 3, 8])))
 
 
+def programs(page, language):
+    """The programs of a page that tells what they print, each with that."""
+    whole = (harness.ROOT / page).read_text()
+    return re.findall(rf"```{language}\n(.*?)```\n.*?```\n(.*?)```", whole, re.DOTALL)
+
+
 def first_program(page, language):
     """The first program of a page, and what the page says that it prints."""
-    whole = (harness.ROOT / page).read_text()
-    return re.search(rf"```{language}\n(.*?)```\n.*?```\n(.*?)```", whole, re.DOTALL).groups()
+    return programs(page, language)[0]

@@ -1,33 +1,26 @@
-"""The binding for Python: its page's first program, its examples, its values, and random streams through it."""
+"""The binding for Python: its page's programs, its examples, its calls and values, and random streams through it."""
 
-import os
 import random
+import shutil
 import subprocess
-import sys
 import tempfile
 import threading
 import unittest
 
+import binding
 import embedding
 import harness
-import library
 import model
 import sizes
 import streams
 import test_model
+from binding import mmdb
 
 SEED = 20260901
 STREAMS = sizes.size(300, 10_000)
 TEXTS = sizes.size(2_000, 100_000)
 TABLES = sizes.size(60, 2_000)
-BINDING = harness.ROOT / "bindings" / "python"
 EXAMPLES = harness.ROOT / "examples" / "python"
-WHERE = {"MMDB_LIBRARY": str(library.folder()), "PYTHONPATH": str(BINDING), "PYTHONDONTWRITEBYTECODE": "1"}
-
-os.environ["MMDB_LIBRARY"] = WHERE["MMDB_LIBRARY"]
-sys.path.insert(0, str(BINDING))
-
-import mmdb
 
 # A program in which an answer finds no memory: it is of 50 megabytes, and what Python takes itself is small beside one.
 LITTLE_MEMORY = """
@@ -51,25 +44,20 @@ print(type(why).__name__, isinstance(why, mmdb.Refused), why, len(db.execute("se
 """
 
 
-def run_python(program):
-    how = {**os.environ, **WHERE}
-    ran = subprocess.run([sys.executable, *program], capture_output=True, timeout=harness.SECONDS, check=False, env=how)
-    return harness.Ended(ran.returncode, ran.stdout.decode(), ran.stderr.decode())
-
-
 class Programs(unittest.TestCase):
     """Programs that use the binding print what they shall."""
 
     def check(self, program, printed):
-        ended = run_python(program)
+        ended = binding.run_python(*program)
         self.assertEqual((ended.err, ended.out, ended.status), ("", printed, 0))
 
-    def test_the_first_program_of_each_page(self):
-        for page in ("README.md", "docs/python.md"):
-            with self.subTest(page=page):
-                program, printed = embedding.first_program(page, "python")
-                self.assertEqual(program.count("\n"), 10)
-                self.check(["-c", program], printed)
+    def test_the_programs_of_each_page(self):
+        for page, count in (("README.md", 1), ("docs/python.md", 1)):
+            found = embedding.programs(page, "python")
+            self.assertEqual(len(found), count)
+            for program, printed in found:
+                with self.subTest(page=page, program=program):
+                    self.check(["-c", program], printed)
 
     def test_examples(self):
         for example in sorted(EXAMPLES.glob("*.py")):
@@ -83,26 +71,23 @@ class Programs(unittest.TestCase):
         self.check(["-c", "import mmdb\ndb = mmdb.Database()\nprint(db.execute('tables'))"], "\n")
 
     def test_no_library(self):
-        with tempfile.TemporaryDirectory() as empty:
-            how = {**os.environ, **WHERE, "MMDB_LIBRARY": empty}
-            ran = subprocess.run([sys.executable, "-c", "import mmdb"], capture_output=True, env=how, check=False)
-        self.assertIn(b"ImportError: mmdb: ", ran.stderr)
+        with tempfile.TemporaryDirectory() as folder:
+            ended = binding.run_python("-c", "import mmdb", MMDB_LIBRARY=folder)
+            self.assertRegex(ended.err, "ImportError: mmdb: .*libmmdb.so is missing: .*MMDB_LIBRARY")
+            subprocess.run(["cc", "-shared", "-x", "c", "/dev/null", "-o", f"{folder}/libmmdb.so"], check=True)
+            ended = binding.run_python("-c", "import mmdb", MMDB_LIBRARY=folder)
+            self.assertRegex(ended.err, "ImportError: mmdb: .*libmmdb.so is another library")
+
+    def test_a_library_beside_the_package(self):
+        with tempfile.TemporaryDirectory() as folder:
+            shutil.copytree(binding.FOLDER / "mmdb", f"{folder}/mmdb", ignore=shutil.ignore_patterns("libmmdb.so"))
+            shutil.copy(f"{binding.WHERE['MMDB_LIBRARY']}/libmmdb.so", folder)
+            program = "import mmdb; print(mmdb.__path__, mmdb.Database().execute('tables'))"
+            ended = binding.run_python("-c", program, MMDB_LIBRARY="", PYTHONPATH=folder)
+        self.assertEqual((ended.err, ended.out), ("", f"['{folder}/mmdb'] \n"))
 
 
-class WithDatabase(unittest.TestCase):
-    """A test with a database."""
-
-    def setUp(self):
-        self.db = mmdb.Database()
-        self.addCleanup(self.db.close)
-
-    def refused(self, number, call, *given):
-        with self.assertRaises(mmdb.Refused) as raised:
-            call(*given)
-        self.assertEqual((raised.exception.number, raised.exception.text.split(" (")[0]), (number, model.TEXTS[number]))
-
-
-class Calls(WithDatabase):
+class Calls(binding.WithDatabase):
     """What each call gives."""
 
     def test_what_execute_gives(self):
@@ -135,17 +120,79 @@ class Calls(WithDatabase):
         self.db.execute("insert t (1)")
         self.refused(20, self.db.execute, "insert t (1")
         self.refused(30, self.db.execute, "select * from u")
-        self.refused(41, self.db.execute, "insert t (?)", 1)
         self.refused(30, self.db.load, "u", [])
+        self.refused(30, self.db.load_dicts, "u", [{}])
         self.refused(30, self.db.dump, "u")
         self.refused(30, self.db.load_csv, "u", "id\n")
         self.refused(61, self.db.load_csv, "t", "")
-        self.refused(41, self.db.load, "t", [(2,), (1,)])
+        for number, line, call, *given in (
+            (41, "insert t (1)", self.db.execute, "insert t (?)", 1),
+            (35, "insert t ('it''s')", self.db.change, "insert t (?)", "it's"),
+            (32, "select a from t", self.db.select, "select a from t"),
+            (41, "load t 6", self.db.load, "t", [(2,), (1,)]),
+            (20, "dump t t", self.db.dump, "t t"),
+        ):
+            with self.subTest(line=line):
+                self.assertEqual(self.refused(number, call, *given).line, line)
         with self.assertRaisesRegex(mmdb.Refused, "^error 41 key exists \\(record 2\\)$"):
             self.db.load("t", [(2,), (1,)])
         with self.assertRaisesRegex(mmdb.Refused, "^error 62 bad record 2$"):
             self.db.load_csv("t", b"id\n2\nx\n")
         self.assertEqual(self.db.dump("t"), [[1]])
+
+    def test_select_and_change(self):
+        self.assertIsNone(self.db.execute("table t (id int, s text)"))
+        self.assertEqual(self.db.change("insert t (?, ?)", 1, "a"), 1)
+        self.assertEqual(self.db.change("\tupdate t set s = :s", s="b"), 1)
+        found = self.db.select(" select s from t where id = ?", 1)
+        self.assertEqual((type(found), found.names, found), (mmdb.Rows, ("t.s",), [["b"]]))
+        self.assertEqual(self.db.change("delete t where id > 1"), 0)
+
+    def test_lines_of_another_kind(self):
+        self.db.execute("table t (id int)")
+        self.db.execute("insert t (1)")
+        for line in ("delete t", "insert t (2)", " drop table t", "tables", "dump t", "load t 0", "# select", "", " ", "\r"):
+            with self.subTest(line=line), self.assertRaisesRegex(TypeError, "select takes a line that begins with select"):
+                self.db.select(line)
+        for call in (self.db.change, lambda line: self.db.executemany(line, [()])):
+            for line in ("select * from t", "\tdrop table t", "index t id hash", "tables", "#delete t", "", " \r"):
+                with self.subTest(line=line), self.assertRaisesRegex(TypeError, "a line that begins with insert, update, delete"):
+                    call(line)
+            for line in ("deletes t", "Delete t", "? t", ":delete t", "\ufeffdelete t", "(delete t)"):
+                with self.subTest(line=line), self.assertRaises((mmdb.Refused, ValueError)):
+                    call(line)
+        for line in (b"delete t", None, 5, ["delete t"]):
+            for call in (self.db.execute, self.db.select, self.db.change):
+                with self.subTest(line=line), self.assertRaisesRegex(TypeError, "a line is a str"):
+                    call(line)
+        self.assertEqual(self.db.dump("t"), [[1]])
+
+    def test_executemany(self):
+        self.db.execute("table t (id int, s text)")
+        self.assertEqual(self.db.executemany("insert t (?, ?)", [(1, "a"), [2, "b"]]), 2)
+        self.assertEqual(self.db.executemany("insert t (:id, :s)", ({"s": str(id), "id": id} for id in (3, 4))), 2)
+        self.assertEqual(self.db.executemany("update t set s = ? where id > ?", self.db.select("select s, id from t")), 6)
+        self.assertEqual(self.db.executemany("delete t where id = ?", []), 0)
+        self.assertEqual(self.db.dump("t"), [[1, "a"], [2, "a"], [3, "b"], [4, "3"]])
+
+    def test_executemany_with_a_row_that_is_wrong(self):
+        self.db.execute("table t (id int, s text)")
+        for wrong, row, why in (
+            (ValueError, (2,), "2 places for 1 parameters .row 2."),
+            (ValueError, {"id": 2}, "no place :id .row 2."),
+            (ValueError, (2, "\n"), "line feed .* .row 2."),
+            (ValueError, (2, "\ud800"), "surrogate.* .row 2."),
+            (TypeError, (2, 2.5), "not float .row 2."),
+            (TypeError, "ab", "not str .row 2."),
+            (TypeError, {1, 2}, "not set .row 2."),
+            (TypeError, 7, "not int .row 2."),
+        ):
+            with self.subTest(row=row), self.assertRaisesRegex(wrong, why):
+                self.db.executemany("insert t (?, ?)", [(1, "a"), row])
+        self.assertEqual(self.db.dump("t"), [])
+        why = self.refused(41, self.db.executemany, "insert t (?, ?)", [(1, "a"), (2, "b"), (1, "it's"), (3, "c")])
+        self.assertEqual(why.line, "insert t (1, 'it''s')")
+        self.assertEqual(self.db.dump("t"), [[1, "a"], [2, "b"]])
 
     def test_limits(self):
         with mmdb.Database(rows=2, block=6) as db:
@@ -163,11 +210,17 @@ class Calls(WithDatabase):
 
     def test_a_closed_database(self):
         self.db.execute("table t (id int)")
+        self.assertFalse(self.db.closed)
         self.db.close()
         self.db.close()
+        self.assertTrue(self.db.closed)
         for call in (
             lambda: self.db.execute("tables"),
             lambda: self.db.execute(""),
+            lambda: self.db.select("select * from t"),
+            lambda: self.db.change("insert t (:id)", id=1),
+            lambda: self.db.executemany("insert t (?)", [(1,)]),
+            lambda: self.db.load_dicts("t", [{"id": 1}]),
             lambda: self.db.answer(b""),
             lambda: self.db.answer("load t 0", b""),
             lambda: self.db.load("t", [(1,)]),
@@ -202,7 +255,7 @@ class Calls(WithDatabase):
         self.assertEqual(self.db.dump("t"), [[number, str(number)] for number in range(1_200)])
 
 
-class Parameters(WithDatabase):
+class Parameters(binding.WithDatabase):
     """A parameter is one value, whatever it holds."""
 
     def setUp(self):
@@ -220,9 +273,10 @@ class Parameters(WithDatabase):
                 found = self.db.execute("select s, id from t where s = ? and id = ? and s <> '?'", text, number)
                 self.assertEqual(found, [] if text == "?" else [[text, number]])
                 if draw.random() < 0.5:
-                    expected[number] = text + "'?"
-                    line = "update t set s = ? where id = ?and s = ?"
-                    self.assertEqual(self.db.execute(line, expected[number], number, text), 1)
+                    expected[number] = text if text == ":s" else text + "':s"
+                    line = "update t set s = :new where id = :id and s=:s and s <> ':s'"
+                    changed = self.db.change(line, {"id": number, "s": text, "new": text + "':s"})
+                    self.assertEqual(changed, text != ":s")
         self.assertEqual(self.db.dump("t"), [[number, text] for number, text in expected.items()])
         self.assertEqual(self.db.execute("tables"), "table t (id int, s text)\n")
 
@@ -236,6 +290,8 @@ class Parameters(WithDatabase):
                 for line in ("insert t (2, ?)", "delete t where s <> ?", "select * from t where s = ?"):
                     with self.assertRaises(ValueError):
                         self.db.execute(line, text)
+                    with self.assertRaises(ValueError):
+                        self.db.execute(line.replace("?", ":s"), s=text)
         self.assertEqual(self.db.dump("t"), [[1, "a"]])
 
     def test_a_parameter_runs_into_nothing_beside_it(self):
@@ -257,6 +313,9 @@ class Parameters(WithDatabase):
         ):
             with self.subTest(line=line):
                 self.refused(20, self.db.execute, line, *given)
+        for line in ("insert t (1:s, 'a')", "insert t (:s:s)", "insert t (1, 'a':s)", "insert t (1, :s'a')", ":s t"):
+            with self.subTest(line=line):
+                self.refused(20, self.db.execute, line, s="a")
         self.assertEqual(self.db.dump("t"), [])
 
     def test_places(self):
@@ -268,17 +327,55 @@ class Parameters(WithDatabase):
             ("insert t (?, ?)", 1),
             ("# ?", 1),
         ):
-            with self.subTest(line=line), self.assertRaisesRegex(ValueError, "places"):
+            with self.subTest(line=line), self.assertRaisesRegex(ValueError, "places for"):
                 self.db.execute(line, *given)
-        self.assertEqual(self.db.execute("insert t (?, 'it''s ?')", 1), 1)
+        self.assertEqual(self.db.execute("insert t (?, 'it''s ? %s')", 1), 1)
         self.assertEqual(self.db.execute("insert t (2, '?')"), 1)
-        self.assertEqual(self.db.dump("t"), [[1, "it's ?"], [2, "?"]])
+        self.assertEqual(self.db.dump("t"), [[1, "it's ? %s"], [2, "?"]])
+
+    def test_places_with_names(self):
+        self.assertEqual(self.db.execute("insert t (:line, 'it''s :s %s')", line=1), 1)
+        self.assertEqual(self.db.execute("insert t (:self,:größe)", {"self": 2, "größe": ":s"}), 1)
+        self.assertEqual(self.db.execute("insert t (3, '12:30')"), 1)
+        self.assertEqual(self.db.select("select id from t where id>=:x and id<=:x and id <> :y", x=2, y=3), [[2]])
+        self.assertIsNone(self.db.execute("# :x"))
+        self.refused(20, self.db.execute, "insert t (4, 12:30)")
+        self.assertEqual(self.db.dump("t"), [[1, "it's :s %s"], [2, ":s"], [3, "12:30"]])
+
+    def test_names_that_do_not_fit(self):
+        both = {"id": 1, "s": "a"}
+        for why, line, given, named in (
+            ("no parameter is given for :id, :s$", "insert t (:id, :s)", (), {}),
+            ("no parameter is given for :s$", "insert t (:id, :s)", (), {"id": 1}),
+            ("no parameter is given for :s$", "delete t where s = :s or s <> :s", ({},), {}),
+            ("no place :Id$", "insert t (:id, :s)", (), {**both, "Id": 1}),
+            ("no place :x$", "insert t (:id, :s)", ({**both, "x": 1},), {}),
+            ("no place :s$", "insert t (:id, ':s')", (both,), {}),
+            ("no place :id, :s$", "insert t (?, ?)", (), both),
+            ("no place :id, :s$", "tables", (both,), {}),
+            ("by its name", "insert t (:id, :s)", (1, "a"), {}),
+            ("by its name", "insert t (:id, :s)", ((1, "a"),), {}),
+            ("by its name", "insert t (?, ?)", (1,), {"s": "a"}),
+            ("by its name", "insert t (:id, :s)", ({"id": 1},), {"s": "a"}),
+            ("places of both kinds", "insert t (?, :s)", (1,), {"s": "a"}),
+        ):
+            with self.subTest(line=line, given=given, named=named), self.assertRaisesRegex(ValueError, why):
+                self.db.execute(line, *given, **named)
+        self.assertEqual(self.db.dump("t"), [])
+
+    def test_a_sequence_in_the_place_of_parameters(self):
+        for line in ("insert t (?, ?)", "delete t where id = ?", "delete t"):
+            for values in ((1, "a"), [1, "a"], (1,), ()):
+                with self.subTest(line=line, values=values), self.assertRaisesRegex(TypeError, r"pass \*values"):
+                    self.db.execute(line, values)
 
     def test_values_of_no_type(self):
-        for value in (True, False, 1.0, b"a", (), [1], 1j):
+        for value in (True, False, 1.0, b"a", (), [1], {}, 1j):
             with self.subTest(value=value):
                 with self.assertRaises(TypeError):
                     self.db.execute("insert t (1, ?)", value)
+                with self.assertRaises(TypeError):
+                    self.db.execute("insert t (1, :s)", s=value)
                 with self.assertRaises(TypeError):
                     self.db.load("t", [(value, "a")])
                 with self.assertRaises(TypeError):
@@ -309,13 +406,16 @@ class Parameters(WithDatabase):
         for line, block in (("load t 3", b"ab"), ("load t 3", b""), ("tables", b"a"), ("load t 3\n", b"abc")):
             with self.subTest(line=line), self.assertRaises(ValueError):
                 self.db.answer(line, block)
+        for line, block in ((5, None), (None, None), ([100], None), ("load t 3", 3), ("load t 3", [1, 2, 3])):
+            with self.subTest(line=line), self.assertRaisesRegex(TypeError, "bytes or a str are wanted"):
+                self.db.answer(line, block)
         for name in ("t 4", "t\n", "t 4\n", "t 4 #"):
             with self.subTest(name=name), self.assertRaises((ValueError, mmdb.Refused)):
                 self.db.load_csv(name, "id,s\n1,a\n")
         self.assertEqual(self.db.dump("t"), [])
 
 
-class Types(WithDatabase):
+class Types(binding.WithDatabase):
     """Each value comes back as it went in, by execute, load and dump."""
 
     DECLARED = ["table u (k text)", "table v (k int)", "table e (id int, s text, u ref u null, v ref v null, w ref u)"]

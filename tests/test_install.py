@@ -15,6 +15,8 @@ import embedding
 import harness
 import library
 
+# The package for Python, as it stands in the repository.
+MODULES = [path.name for path in (harness.ROOT / "bindings" / "python" / "mmdb").iterdir() if path.suffix in (".py", ".typed")]
 FILES = {
     "bin/mmdb",
     "include/mmdb.h",
@@ -23,8 +25,8 @@ FILES = {
     "lib/libmmdb.so.MAJOR",
     "lib/libmmdb.so.VERSION",
     "lib/pkgconfig/mmdb.pc",
-    "lib/python3/dist-packages/libmmdb.so",
-    "lib/python3/dist-packages/mmdb.py",
+    "lib/python3/dist-packages/mmdb/libmmdb.so",
+    *(f"lib/python3/dist-packages/mmdb/{name}" for name in MODULES),
     "share/doc/mmdb/CHANGELOG.md",
     "share/doc/mmdb/LICENSE-APACHE",
     "share/doc/mmdb/LICENSE-MIT",
@@ -154,6 +156,18 @@ class Places(Installs):
         self.assertEqual(self.ran("--remove", self.prefix).returncode, 0)
         self.assertFalse(self.prefix.exists())
 
+    def test_the_package_takes_the_place_of_the_module(self):
+        listed = self.top / "scripts" / "installed"
+        now = listed.read_text()
+        older = [line for line in now.splitlines() if not line.startswith("PYTHON/")]
+        older += ["PYTHON/mmdb.py 644 README.md", "PYTHON/libmmdb.so -> ../../libmmdb.so.MAJOR"]
+        listed.write_text("\n".join(older))
+        self.install()
+        self.assertTrue((self.prefix / "lib" / "python3" / "dist-packages" / "mmdb.py").is_file())
+        listed.write_text(now)
+        self.install()
+        self.assertEqual(below(self.prefix), named(FILES))
+
     def test_a_relative_prefix_with_blanks(self):
         self.install("a folder/../b c")
         self.assertEqual(below(self.room / "b c"), named(FILES))
@@ -188,21 +202,21 @@ class Uses(Installs):
         ran = subprocess.run([self.prefix / "bin" / "mmdb"], input=stream, capture_output=True, check=False)
         self.assertEqual((ran.returncode, ran.stdout, ran.stderr), (0, answers, b""))
 
-    def test_the_module_is_imported(self):
+    def test_the_package_is_imported(self):
         program, printed = embedding.first_program("docs/python.md", "python")
         modules = self.lib / "python3" / "dist-packages"
         self.assertEqual(self.said_by(sys.executable, "-c", program, PYTHONPATH=str(modules)), printed)
         self.assertEqual(self.ran("--remove", self.prefix).returncode, 0)
         self.assertFalse(self.prefix.exists())
 
-    def test_a_folder_of_which_python_knows_gets_the_module(self):
+    def test_a_folder_of_which_python_knows_gets_the_package(self):
         ask = "import site; print(*site.getsitepackages(), sep='\\n')"
         self.said_by(sys.executable, "-m", "venv", "--without-pip", self.room / "env")
         self.install(self.room / "env", PATH=f"{self.room}/env/bin:{os.environ['PATH']}")
         modules = pathlib.Path(self.said_by(self.room / "env" / "bin" / "python3", "-c", ask).split("\n", maxsplit=1)[0])
-        self.assertTrue((modules / "mmdb.py").is_file())
+        self.assertTrue((modules / "mmdb" / "__init__.py").is_file())
         told = self.said_by(self.room / "env" / "bin" / "python3", "-c", "import mmdb; print(mmdb.__file__)")
-        self.assertEqual(told, f"{modules}/mmdb.py\n")
+        self.assertEqual(told, f"{modules}/mmdb/__init__.py\n")
 
     @unittest.skipUnless(shutil.which("pkg-config"), "pkg-config is not there")
     def test_c_programs_are_built_by_pkg_config(self):

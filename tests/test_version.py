@@ -9,7 +9,7 @@ import harness
 PLACES = (
     ("include/mmdb.h", r'^#define MMDB_VERSION "(.*)"$'),
     ("crates/mmdb/src/words.rt", r'\.version\("(.*)"\)'),
-    ("bindings/python/mmdb.py", r'^__version__ = "(.*)"$'),
+    ("bindings/python/mmdb/__init__.py", r'^__version__ = "(.*)"$'),
     ("bindings/python/pyproject.toml", r'^version = "(.*)"$'),
     ("bindings/rust/Cargo.toml", r'^version = "(.*)"$'),
     ("bindings/rust/Cargo.lock", r'^name = "mmdb"\nversion = "(.*)"$'),

@@ -1,6 +1,6 @@
 """Who is signed in: a table of sessions by token, with the users that they are of and the time when they end.
 
-Run with MMDB_LIBRARY as the folder of libmmdb.so, and PYTHONPATH as bindings/python.
+Run where mmdb is installed, or with MMDB_LIBRARY as the folder of libmmdb.so, and PYTHONPATH as bindings/python.
 """
 
 from typing import List, Optional, Tuple
@@ -21,7 +21,7 @@ class Sessions:
     def sign_up(self, name: str, mail: str) -> bool:
         """Takes a user in, if the name isn't taken."""
         try:
-            self.db.execute("insert user (?, ?)", name, mail)
+            self.db.change("insert user (?, ?)", name, mail)
         except mmdb.Refused as why:
             if why.number != 41:
                 raise
@@ -31,7 +31,7 @@ class Sessions:
     def sign_in(self, token: str, name: str, ends: int) -> bool:
         """Begins a session, if there is such a user."""
         try:
-            self.db.execute("insert session (?, ?, ?)", token, name, ends)
+            self.db.change("insert session (?, ?, ?)", token, name, ends)
         except mmdb.Refused as why:
             if why.number != 42:
                 raise
@@ -40,25 +40,25 @@ class Sessions:
 
     def mail_of(self, token: str, now: int) -> Optional[str]:
         """The mail of the user whose session a token is, if it hasn't ended. A stranger may have sent any text."""
-        line = "select mail from session join user on session.user = user.name where token = ? and ends > ?"
-        found = self.db.execute(line, token, now)
-        return found[0][0] if found else None
+        line = "select mail from session join user on session.user = user.name where token = :token and ends > :now"
+        found = self.db.select(line, token=token, now=now)
+        mail: Optional[str] = found[0].mail if found else None
+        return mail
 
     def of(self, name: str) -> List[Tuple[str, int]]:
         """The sessions of a user."""
-        found = self.db.execute("select token, ends from session where user = ?", name)
-        return [(token, ends) for token, ends in found]
+        return [(session.token, session.ends) for session in self.db.select("select * from session where user = ?", name)]
 
     def prolong(self, token: str, ends: int) -> bool:
-        return self.db.execute("update session set ends = ? where token = ?", ends, token) == 1
+        return self.db.change("update session set ends = ? where token = ?", ends, token) == 1
 
     def sign_out(self, name: str) -> int:
         """Ends all sessions of a user, and gives how many they were."""
-        return self.db.execute("delete session where user = ?", name)
+        return self.db.change("delete session where user = ?", name)
 
     def sweep(self, now: int) -> int:
         """Takes out the sessions that have ended, and gives how many they were. The tree on `ends` finds them."""
-        return self.db.execute("delete session where ends <= ?", now)
+        return self.db.change("delete session where ends <= ?", now)
 
 
 def main() -> None:
@@ -83,7 +83,8 @@ def main() -> None:
         rows = [(f"t{number:04}", ("ann", "o'hara")[number % 2], 1_000 + number) for number in range(500)]
         print("loaded:", db.load("session", rows))
         print("ended by 1200:", sessions.sweep(1_200))
-        print("left:", len(db.dump("session")), "the first", db.dump("session")[0])
+        left = db.dump("session")
+        print("left:", len(left), "the first", left.dicts()[0])
 
 
 if __name__ == "__main__":

@@ -1,0 +1,52 @@
+"""mmdb, a relational database in main memory, in this process.
+
+    with mmdb.Database() as db:
+        db.execute("table book (id int, title text)")
+        db.change("insert book (?, ?)", 1, "Middlemarch")
+        for book in db.select("select * from book where id < :most", most=10):
+            print(book.id, book.title)
+
+The shared library `libmmdb.so` is taken from the folder that the environment variable MMDB_LIBRARY names, else from
+this package or beside it, else from where the system keeps libraries.
+"""
+
+from .database import MOST, POLICIES, Database, Parameters
+from .errors import (
+    DatabaseError,
+    DataError,
+    Error,
+    IntegrityError,
+    InterfaceError,
+    InternalError,
+    NoMemory,
+    NotSupportedError,
+    OperationalError,
+    ProgrammingError,
+    Refused,
+    Warning,  # pylint: disable=redefined-builtin
+)
+from .rows import Row, Rows
+from .values import Value
+
+__all__ = [
+    "MOST",
+    "POLICIES",
+    "DataError",
+    "Database",
+    "DatabaseError",
+    "Error",
+    "IntegrityError",
+    "InterfaceError",
+    "InternalError",
+    "NoMemory",
+    "NotSupportedError",
+    "OperationalError",
+    "Parameters",
+    "ProgrammingError",
+    "Refused",
+    "Row",
+    "Rows",
+    "Value",
+    "Warning",
+]
+__version__ = "0.1.0"

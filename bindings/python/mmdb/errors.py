@@ -1,0 +1,113 @@
+"""What is raised: the tree of PEP 249, in which a refusal of the library and each wrong use of a call has its place."""
+
+from __future__ import annotations
+
+from typing import Dict, Optional, Type
+
+
+class Warning(Exception):  # pylint: disable=redefined-builtin
+    """Never raised; PEP 249 has it."""
+
+
+class Error(Exception):
+    """The root of all others."""
+
+
+class InterfaceError(Error):
+    """Never raised; PEP 249 has it."""
+
+
+class DatabaseError(Error):
+    """What has to do with the database."""
+
+
+class DataError(DatabaseError):
+    """A value that has no room, or no place in its column."""
+
+
+class OperationalError(DatabaseError):
+    """A limit was met, of memory, of rows or of a block."""
+
+
+class IntegrityError(DatabaseError):
+    """A rule of keys or references would have been broken."""
+
+
+class InternalError(DatabaseError):
+    """Never raised; PEP 249 has it."""
+
+
+class ProgrammingError(DatabaseError):
+    """A line, or a call, that is wrong in itself."""
+
+
+class NotSupportedError(DatabaseError):
+    """What mmdb doesn't have."""
+
+
+class Refused(DatabaseError):
+    """An answer `error NUMBER TEXT`. The tables are as they were.
+
+    It is of one of the classes above too, by its number.
+    """
+
+    def __init__(self, number: int, text: str, line: Optional[str] = None, reason: Optional[str] = None) -> None:
+        super().__init__(number, text)
+        #: The number of the refusal.
+        self.number = number
+        #: What stands behind the number, with the number of a record where the refusal of a load has one.
+        self.text = text
+        #: The line as it was sent, with its parameters in their places; None where a database finds no memory to open.
+        self.line = line
+        #: What the library tells beyond that. It tells nothing so far, and this is None.
+        self.reason = reason
+
+    def __str__(self) -> str:
+        return f"error {self.number} {self.text}"
+
+
+class DataRefused(Refused, DataError):
+    """The refusals 46, 61 and 62."""
+
+
+class LimitRefused(Refused, OperationalError):
+    """The refusals 12, 43 and 64."""
+
+
+class IntegrityRefused(Refused, IntegrityError):
+    """The refusals 40, 41, 42 and 44."""
+
+
+class LineRefused(Refused, ProgrammingError):
+    """The refusals 10, 11, 20, 30 to 39, and 45."""
+
+
+class NoMemory(Refused, OperationalError, MemoryError):
+    """The refusal 90. No memory was found, to open a database or for a request."""
+
+
+class WrongUse(ProgrammingError, ValueError):
+    """Parameters that don't fit the line, a line that is none, a closed database."""
+
+
+class WrongType(ProgrammingError, TypeError):
+    """A value of another type, or a line of another kind, than the call takes."""
+
+
+class WrongValue(DataError, ValueError):
+    """A value of the right type that can't be sent, or one that can't be told from another."""
+
+
+_CLASSES: Dict[int, Type[Refused]] = {
+    **dict.fromkeys((46, 61, 62), DataRefused),
+    **dict.fromkeys((12, 43, 64), LimitRefused),
+    **dict.fromkeys((40, 41, 42, 44), IntegrityRefused),
+    **dict.fromkeys((10, 11, 20, *range(30, 40), 45), LineRefused),
+    90: NoMemory,
+}
+
+
+def refusal(answer: bytes, line: str) -> Refused:
+    """The refusal that an answer is, to this line."""
+    number, text = answer[6:-1].decode().split(" ", 1)
+    return _CLASSES.get(int(number), Refused)(int(number), text, line)

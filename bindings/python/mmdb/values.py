@@ -1,0 +1,167 @@
+"""Values: how they are spelled in a line and in the block of a load, and the columns that they stand in."""
+
+from __future__ import annotations
+
+import collections.abc
+import operator
+import re
+from typing import Any, Dict, Iterable, List, Mapping, NamedTuple, Optional, Sequence, Tuple, Union
+
+from .errors import WrongType, WrongUse, WrongValue
+
+#: A value of a row: an integer of 64 bits, a text, or None, which is null.
+Value = Union[int, str, None]
+
+_LEAST, _GREATEST = -(1 << 63), (1 << 63) - 1
+_IS_QUOTED = re.compile('[",\r\n]').search
+_DECLARATION = re.compile(r"table (\w+) \((.*)\)", re.ASCII)
+
+# What is no row, though values can be taken of it one by one.
+_NO_ROWS = (str, bytes, bytearray, memoryview, collections.abc.Mapping, collections.abc.Set)
+
+
+class Column(NamedTuple):
+    """A column as it is declared. Its kind is that of its values: for a reference that of the keys."""
+
+    name: str
+    kind: type
+    takes_null: bool
+    refers_to: Optional[str]
+
+
+def columns_of(listing: str) -> Dict[str, List[Column]]:
+    """The columns of each table of a listing, by the table's name. A table stands behind those that it refers to."""
+    tables: Dict[str, List[Column]] = {}
+    for name, columns in _DECLARATION.findall(listing):
+        tables[name] = []
+        for declaration in columns.split(", "):
+            column, kind, *more = declaration.split(" ")
+            to = more[0] if more else None
+            of_values = tables[to][0].kind if to else {"int": int, "text": str}[kind]
+            tables[name].append(Column(column, of_values, len(more) == 2, to))
+    return tables
+
+
+def _digits(value: int) -> str:
+    """An integer as the language spells it."""
+    if not _LEAST <= value <= _GREATEST:
+        raise WrongValue("mmdb: an integer has at most 64 bits")
+    return int.__repr__(value)
+
+
+def spelled(value: Any) -> str:
+    """A value as it stands in a line."""
+    if value is None:
+        return "null"
+    if isinstance(value, str):
+        doubled = str.replace(value, "'", "''")
+        if "\n" in doubled:
+            raise WrongValue("mmdb: a text with a line feed cannot stand in a line; a load takes it")
+        return f"'{doubled}'"
+    if isinstance(value, int) and not isinstance(value, bool):
+        return _digits(value)
+    hint = "; pass *values" if isinstance(value, (tuple, list)) else ""
+    raise WrongType(f"mmdb: a value is an int, a str or None, not {type(value).__name__}{hint}")
+
+
+def encoded(text: str) -> bytes:
+    """The bytes of a line or a block."""
+    try:
+        return text.encode()
+    except UnicodeEncodeError as why:
+        raise WrongValue(f"mmdb: a text has a lone surrogate, {text[why.start]!r}") from why
+
+
+def as_bytes(given: Any) -> bytes:
+    """The bytes of a line or a block that is given as text or bytes."""
+    if isinstance(given, str):
+        return encoded(given)
+    if isinstance(given, (bytes, bytearray, memoryview)):
+        return bytes(given)
+    raise WrongType(f"mmdb: bytes or a str are wanted, not {type(given).__name__}")
+
+
+def _quoted(text: str) -> str:
+    """A text as a field of CSV."""
+    doubled = str.replace(text, '"', '""')
+    return f'"{doubled}"' if _IS_QUOTED(doubled) else doubled
+
+
+def _field(value: Any, column: Column) -> str:
+    """A value as it stands in the block of a load, in that column."""
+    if value is None and column.takes_null:
+        return ""
+    if column.kind is int and isinstance(value, int) and not isinstance(value, bool):
+        return _digits(value)
+    if column.kind is str and isinstance(value, str):
+        if column.takes_null and not value:
+            raise WrongValue(f"mmdb: in the column {column.name} a load would read the empty text as null")
+        return _quoted(value)
+    taken = column.kind.__name__ + (" or None" if column.takes_null else "")
+    raise WrongType(f"mmdb: the column {column.name} takes {taken}, not {type(value).__name__}")
+
+
+def _fields(values: List[Any], column: Column) -> List[str]:
+    """The values of a column as they stand in the block of a load."""
+    kinds = set(map(type, values))
+    if kinds == {int} and column.kind is int and _LEAST <= min(values) and max(values) <= _GREATEST:
+        return list(map(str, values))
+    if kinds == {str} and column.kind is str and not column.takes_null:
+        return list(map(_quoted, values)) if _IS_QUOTED("".join(values)) else values
+    fields = []
+    for number, value in enumerate(values, 1):
+        try:
+            fields.append(_field(value, column))
+        except (WrongType, WrongValue) as why:
+            raise type(why)(f"{why} (row {number})") from None
+    return fields
+
+
+def block_of(columns: List[Column], rows: Sequence[Tuple[Any, ...]]) -> bytes:
+    """The block of a load that has these rows."""
+    for number, row in enumerate(rows, 1):
+        if len(row) != len(columns):
+            raise WrongUse(f"mmdb: row {number} has {len(row)} values for {len(columns)} columns")
+    fields = [_fields(list(map(operator.itemgetter(at), rows)), column) for at, column in enumerate(columns)]
+    records: Iterable[str] = map(",".join, zip(*fields))
+    if len(columns) == 1:
+        # (an empty line would be no record)
+        records = (record or '""' for record in records)
+    return encoded("\n".join([",".join(column.name for column in columns), *records]))
+
+
+def rows_of(rows: Iterable[Any]) -> List[Tuple[Any, ...]]:
+    """Rows whose values have an order, each as a tuple."""
+    taken = list(rows)
+    return taken if set(map(type, taken)) <= {tuple} else [row_of(row, number) for number, row in enumerate(taken, 1)]
+
+
+def row_of(row: Any, number: int) -> Tuple[Any, ...]:
+    """A row whose values have an order, as a tuple. Raises WrongType where it is none."""
+    if type(row) in (tuple, list):
+        return tuple(row)
+    if isinstance(row, _NO_ROWS) or not isinstance(row, collections.abc.Iterable):
+        more = "; load_dicts takes dicts" if isinstance(row, collections.abc.Mapping) else ""
+        raise WrongType(f"mmdb: a row is a list or tuple of values, not {type(row).__name__} (row {number}){more}")
+    return tuple(row)
+
+
+def rows_of_dicts(table: str, columns: List[Column], dicts: Iterable[Any]) -> List[Tuple[Any, ...]]:
+    """Rows that are given by the names of the columns, in the order of these."""
+    names = [column.name for column in columns]
+    wanted, rows = set(names), []
+    for number, given in enumerate(dicts, 1):
+        if type(given) is not dict and not isinstance(given, collections.abc.Mapping):
+            raise WrongType(f"mmdb: a row is a dict, not {type(given).__name__} (row {number}); load takes others")
+        if given.keys() != wanted:
+            raise WrongUse(f"mmdb: {_misfit(names, given)} of {table} (row {number})")
+        rows.append(tuple([given[name] for name in names]))
+    return rows
+
+
+def _misfit(names: List[str], given: Mapping[str, Any]) -> str:
+    """Why a dict is no row of these columns."""
+    lacking = [name for name in names if name not in given]
+    if lacking:
+        return f"a row lacks the column {', '.join(lacking)}"
+    return f"a row has {', '.join(str(name) for name in given if name not in names)}, which is no column"
