@@ -11,6 +11,7 @@ this package or beside it, else from where the system keeps libraries.
 """
 
 from .database import MOST, POLICIES, Database, Parameters
+from .dbapi import NUMBER, STRING, Connection, Cursor, apilevel, connect, paramstyle, threadsafety
 from .errors import (
     DatabaseError,
     DataError,
@@ -30,7 +31,11 @@ from .values import Value
 
 __all__ = [
     "MOST",
+    "NUMBER",
     "POLICIES",
+    "STRING",
+    "Connection",
+    "Cursor",
     "DataError",
     "Database",
     "DatabaseError",
@@ -48,5 +53,9 @@ __all__ = [
     "Rows",
     "Value",
     "Warning",
+    "apilevel",
+    "connect",
+    "paramstyle",
+    "threadsafety",
 ]
 __version__ = "0.1.0"

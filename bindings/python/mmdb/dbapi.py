@@ -1,0 +1,176 @@
+"""PEP 249 over a database, as far as a store without transactions has it."""
+
+from __future__ import annotations
+
+from typing import Any, Iterable, List, Mapping, NoReturn, Optional, Sequence, Tuple
+
+from .database import MOST, Database, Parameters
+from .errors import NotSupportedError, WrongType, WrongUse
+from .rows import Row, Rows, row_type, short_names
+
+apilevel = "2.0"
+
+#: Threads may share the module and connections, and no cursors.
+threadsafety = 2
+
+#: `?`, and `:name` too, where the parameters are a mapping.
+paramstyle = "qmark"
+
+#: The types of columns, as `Cursor.description` has them. There are no others.
+STRING, NUMBER = str, int
+
+#: What `Cursor.description` has for a column.
+Description = Tuple[str, type, None, None, None, None, None]
+
+
+def connect(policy: str = "auto", rows: int = MOST, block: int = MOST) -> Connection:
+    """A connection to a new database, which has no tables yet. The arguments are those of `Database`."""
+    return Connection(Database(policy, rows, block))
+
+
+class Connection:
+    """A connection to a database. Each command is done for good once its call is; there are no transactions.
+
+    Used as a context manager, it is closed at the end. Each call of a closed one but `close` raises ProgrammingError.
+    """
+
+    def __init__(self, database: Database) -> None:
+        #: The database, for what PEP 249 has no call for, as `load` and `dump`.
+        self.database = database
+
+    def cursor(self) -> Cursor:
+        self._check()
+        return Cursor(self)
+
+    def commit(self) -> None:
+        """Does nothing, since there is nothing to do."""
+        self._check()
+
+    def rollback(self) -> NoReturn:
+        """Raises NotSupportedError, since nothing can be taken back."""
+        raise NotSupportedError("mmdb: there are no transactions, so nothing can be rolled back")
+
+    def close(self) -> None:
+        """Closes the database, which gives all its memory back. A second call does nothing."""
+        self.database.close()
+
+    def __enter__(self) -> Connection:
+        return self
+
+    def __exit__(self, *_: object) -> None:
+        self.close()
+
+    def _check(self) -> None:
+        """Raises ProgrammingError where the connection is closed."""
+        if self.database.closed:
+            raise WrongUse("mmdb: the connection is closed")
+
+
+class Cursor:
+    """Does commands, and hands out the rows of the last select.
+
+    What `tables` and `dump` answer is one row of one column, a text.
+    """
+
+    def __init__(self, connection: Connection) -> None:
+        self.connection = connection
+        #: How many rows `fetchmany` gives where it isn't told.
+        self.arraysize = 1
+        #: How many rows the last command was about, or selected; -1 where it was about none.
+        self.rowcount = -1
+        #: For each column of the last select its name, its type, and five times None; None where nothing was selected.
+        self.description: Optional[List[Description]] = None
+        self._rows: Optional[Rows] = None
+        self._at = 0
+        self._is_closed = False
+
+    def execute(self, operation: str, parameters: Parameters = ()) -> Cursor:
+        """Does a command, with a sequence of parameters for `?`, or a mapping for `:name`, and gives this cursor.
+
+        Raises one of the errors of PEP 249.
+        """
+        self._begin()
+        if isinstance(parameters, (str, bytes)) or not isinstance(parameters, (Sequence, Mapping)):
+            raise WrongType(f"mmdb: parameters are a sequence or a mapping, not a {type(parameters).__name__}")
+        given = (parameters,) if isinstance(parameters, Mapping) else tuple(parameters)
+        self._take(operation, self.connection.database.execute(operation, *given))
+        return self
+
+    def executemany(self, operation: str, seq_of_parameters: Iterable[Parameters]) -> Cursor:
+        """Does an insert, an update or a delete with each of these, and gives this cursor.
+
+        `rowcount` is the sum of all. Raises what `Database.executemany` raises.
+        """
+        self._begin()
+        self.rowcount = self.connection.database.executemany(operation, seq_of_parameters)
+        return self
+
+    def fetchone(self) -> Optional[Row]:
+        """The next row, or None where there is none left. Raises ProgrammingError where nothing was selected."""
+        rows = self.fetchmany(1)
+        return rows[0] if rows else None
+
+    def fetchmany(self, size: Optional[int] = None) -> List[Row]:
+        """The next so many rows, fewer where fewer are left. Raises ProgrammingError where nothing was selected."""
+        rows = self._selected()
+        begin = self._at
+        self._at = min(begin + max(self.arraysize if size is None else size, 0), len(rows))
+        return rows[begin : self._at]
+
+    def fetchall(self) -> List[Row]:
+        """All rows that are left. Raises ProgrammingError where nothing was selected."""
+        return self.fetchmany(len(self._selected()))
+
+    def __iter__(self) -> Cursor:
+        return self
+
+    def __next__(self) -> Row:
+        row = self.fetchone()
+        if row is None:
+            raise StopIteration
+        return row
+
+    def setinputsizes(self, sizes: Any) -> None:
+        """Does nothing."""
+
+    def setoutputsize(self, size: int, column: Optional[int] = None) -> None:
+        """Does nothing."""
+
+    def close(self) -> None:
+        """Lets its rows go. Each further call but this raises ProgrammingError."""
+        self._is_closed = True
+        self._rows = self.description = None
+
+    def _check(self) -> None:
+        self.connection._check()
+        if self._is_closed:
+            raise WrongUse("mmdb: the cursor is closed")
+
+    def _begin(self) -> None:
+        """Forgets what the last command gave."""
+        self._check()
+        self._rows, self.description, self.rowcount, self._at = None, None, -1, 0
+
+    def _take(self, operation: str, found: Any) -> None:
+        """Keeps what a command gave."""
+        if isinstance(found, str):
+            found = _one_text(operation.split()[0], found)
+        if isinstance(found, Rows):
+            names = short_names(found.names)
+            self.description = [(name, kind, None, None, None, None, None) for name, kind in zip(names, found.types)]
+            self._rows, self.rowcount = found, len(found)
+        elif found is not None:
+            self.rowcount = found
+
+    def _selected(self) -> Rows:
+        self._check()
+        if self._rows is None:
+            raise WrongUse("mmdb: there are no rows to fetch: the last command of this cursor selected nothing")
+        return self._rows
+
+
+def _one_text(name: str, text: str) -> Rows:
+    """A text as the one row of one column of that name."""
+    rows = Rows((row_type((name,))((text,)),))
+    rows.names, rows.types = (name,), (str,)
+    return rows

@@ -1,0 +1,213 @@
+"""The binding for Python: PEP 249, and the classes of its errors."""
+
+import contextlib
+import datetime
+import pickle
+import re
+import unittest
+
+import binding
+import model
+from binding import mmdb
+
+# By the class of PEP 249, the numbers of the refusals that are of it.
+NUMBERS = {
+    mmdb.ProgrammingError: (10, 11, 20, *range(30, 40), 45),
+    mmdb.IntegrityError: (40, 41, 42, 44),
+    mmdb.DataError: (46, 61, 62),
+    mmdb.OperationalError: (12, 43, 64, 90),
+}
+
+
+class Errors(unittest.TestCase):
+    """The tree of exceptions, and where refusals stand in it."""
+
+    def test_the_tree(self):
+        tree = {
+            Exception: [mmdb.Warning, mmdb.Error],
+            mmdb.Error: [mmdb.InterfaceError, mmdb.DatabaseError],
+            mmdb.DatabaseError: [*NUMBERS, mmdb.InternalError, mmdb.NotSupportedError, mmdb.Refused],
+        }
+        for above, classes in tree.items():
+            for each in classes:
+                self.assertEqual(each.__bases__, (above,))
+
+    def test_each_refusal_has_its_class(self):
+        known = {number for numbers in NUMBERS.values() for number in numbers}
+        self.assertEqual({*model.TEXTS, 90} - {13}, known)
+        with mmdb.Database(rows=1, block=20) as db:
+            raised = {}
+            for line, block in (
+                ("table t (id int, s text)", None),
+                ("table u (id int, t ref t)", None),
+                ("insert t (1, 'a')", None),
+                ("insert u (1, 1)", None),
+                ("x" * 8193, None),
+                ("x", None),
+                ("drop table t", None),
+                ("insert t (1, 'a')", None),
+                ("insert u (2, 2)", None),
+                ("insert t (2, 'a')", None),
+                ("delete t", None),
+                ("insert t (1)", None),
+                (f"insert t (2, '{'x' * 1025}')", None),
+                ("index v id hash", None),
+                ("index t id tree", None),
+                ("t", "id\n"),
+                ("t", "id,s\n1\n"),
+                ("t", "id,s\n" + "x" * 20),
+            ):
+                try:
+                    _ = db.execute(line) if block is None else db.load_csv(line, block)
+                except mmdb.Refused as why:
+                    raised[why.number] = why
+        self.assertEqual(sorted(raised), [10, 12, 20, 30, 39, 40, 41, 42, 43, 44, 45, 46, 61, 62])
+        for number, why in raised.items():
+            is_of = [each for each, numbers in NUMBERS.items() if isinstance(why, each)]
+            self.assertEqual([number in NUMBERS[each] for each in is_of], [True], number)
+            again = pickle.loads(pickle.dumps(why))
+            self.assertEqual((type(again), vars(again), str(again)), (type(why), vars(why), str(why)))
+        for each in (mmdb.Refused, mmdb.OperationalError, MemoryError):
+            self.assertTrue(issubclass(mmdb.NoMemory, each))
+
+    def test_wrong_use_is_an_error_of_both_kinds(self):
+        with mmdb.Database() as db:
+            db.execute("table t (id int, s text)")
+            for classes, call in (
+                ((mmdb.ProgrammingError, ValueError), lambda: db.execute("insert t (?, ?)", 1)),
+                ((mmdb.ProgrammingError, TypeError), lambda: db.execute("insert t (1, ?)", 1.5)),
+                ((mmdb.ProgrammingError, TypeError), lambda: db.select("tables")),
+                ((mmdb.DataError, ValueError), lambda: db.execute("insert t (1, ?)", "\n")),
+                ((mmdb.DataError, ValueError), lambda: db.execute("insert t (1, ?)", "\ud800")),
+                ((mmdb.DataError, ValueError), lambda: db.execute("insert t (?, '')", 2**63)),
+            ):
+                for each in classes:
+                    self.assertRaises(each, call)
+
+
+class Connections(unittest.TestCase):
+    """What PEP 249 asks for."""
+
+    def setUp(self):
+        self.connection = mmdb.connect()
+        self.addCleanup(self.connection.close)
+        self.cursor = self.connection.cursor()
+        self.cursor.execute("table t (id int, s text)")
+
+    def test_the_module(self):
+        self.assertEqual((mmdb.apilevel, mmdb.threadsafety, mmdb.paramstyle), ("2.0", 2, "qmark"))
+
+    def test_changes(self):
+        self.assertEqual((self.cursor.rowcount, self.cursor.description), (-1, None))
+        for operation, parameters, count in (
+            ("insert t (?, ?)", (1, "a"), 1),
+            ("insert t (?, ?)", [2, "b"], 1),
+            ("insert t (:id, :s)", {"id": 3, "s": "c"}, 1),
+            ("update t set s = 'd' where id > ?", (1,), 2),
+            ("delete t where id = 9", (), 0),
+        ):
+            self.assertIs(self.cursor.execute(operation, parameters), self.cursor)
+            self.assertEqual((self.cursor.rowcount, self.cursor.description), (count, None), operation)
+        self.cursor.executemany("insert t (?, ?)", [(4, "d"), (5, "e")])
+        self.assertEqual(self.cursor.rowcount, 2)
+        self.connection.commit()
+        self.assertEqual(self.connection.database.dump("t"), [[1, "a"], [2, "d"], [3, "d"], [4, "d"], [5, "e"]])
+
+    def test_rows_are_fetched(self):
+        self.connection.database.load("t", ((number, str(number)) for number in range(10)))
+        self.cursor.execute("select * from t where id < ?", (9,))
+        columns = [("id", mmdb.NUMBER), ("s", mmdb.STRING)]
+        self.assertEqual(self.cursor.description, [(*column, None, None, None, None, None) for column in columns])
+        self.assertEqual(self.cursor.rowcount, 9)
+        self.assertEqual((self.cursor.fetchone(), self.cursor.fetchmany()), ([0, "0"], [[1, "1"]]))
+        self.cursor.arraysize = 2
+        self.assertEqual((self.cursor.fetchmany(), self.cursor.fetchmany(1)), ([[2, "2"], [3, "3"]], [[4, "4"]]))
+        self.assertEqual((self.cursor.fetchmany(0), self.cursor.fetchmany(-1), next(self.cursor).s), ([], [], "5"))
+        self.assertEqual((self.cursor.fetchall(), self.cursor.fetchall()), ([[6, "6"], [7, "7"], [8, "8"]], []))
+        self.assertEqual((self.cursor.fetchone(), self.cursor.fetchmany(2), list(self.cursor)), (None, [], []))
+        self.assertEqual([row.id for row in self.cursor.execute("select id from t where id > 7")], [8, 9])
+        self.assertEqual(self.cursor.execute("select * from t where id > 9").fetchall(), [])
+        self.assertEqual((self.cursor.rowcount, self.cursor.description[1][0]), (0, "s"))
+
+    def test_cursors_stand_by_themselves(self):
+        other = self.connection.cursor().execute("insert t (1, 'a')").execute("select * from t")
+        self.cursor.execute("delete t")
+        self.assertEqual((other.fetchall(), other.connection), ([[1, "a"]], self.connection))
+
+    def test_texts_that_are_answered(self):
+        for operation, text in (("tables", "table t (id int, s text)\n"), ("\tdump t", "load t 5\nid,s\n")):
+            self.cursor.execute(operation)
+            self.assertEqual(self.cursor.description[0][:2], (operation.split()[0], mmdb.STRING))
+            self.assertEqual(self.cursor.fetchall(), [[text]])
+
+    def test_nothing_to_fetch(self):
+        for operation in (None, "insert t (1, 'a')", "# select", "drop table t"):
+            cursor = self.connection.cursor() if operation is None else self.cursor.execute(operation)
+            for fetch in (cursor.fetchone, cursor.fetchmany, cursor.fetchall, lambda cursor=cursor: next(cursor)):
+                with self.assertRaisesRegex(mmdb.ProgrammingError, "no rows to fetch"):
+                    fetch()
+
+    def test_what_fails_leaves_no_rows(self):
+        for error, operation, parameters in (
+            (mmdb.IntegrityError, "insert t (1, 'b')", ()),
+            (mmdb.ProgrammingError, "selct", ()),
+            (mmdb.ProgrammingError, "select * from u", ()),
+            (mmdb.ProgrammingError, "insert t (?, ?)", (1,)),
+            (mmdb.ProgrammingError, "delete t where s = ?", "a"),
+            (mmdb.ProgrammingError, "delete t where s = ?", b"a"),
+            (mmdb.ProgrammingError, "delete t where s = ?", 1),
+            (mmdb.ProgrammingError, "delete t where s = ?", None),
+            (mmdb.ProgrammingError, "delete t where s = ?", (datetime.date(2026, 1, 1),)),
+            (mmdb.ProgrammingError, "delete t where s = :s", {"t": 1}),
+            (mmdb.ProgrammingError, None, ()),
+            (mmdb.DataError, "delete t where id <> ?", (2**63,)),
+        ):
+            self.connection.database.execute("delete t")
+            self.connection.database.execute("insert t (1, 'a')")
+            self.cursor.execute("select * from t")
+            with self.subTest(operation=operation, parameters=parameters):
+                self.assertRaises(error, self.cursor.execute, operation, parameters)
+                self.assertRaises(mmdb.ProgrammingError, self.cursor.fetchall)
+                self.assertEqual((self.cursor.description, self.cursor.rowcount), (None, -1))
+        self.assertRaises(mmdb.ProgrammingError, self.cursor.executemany, "select * from t", [()])
+        self.assertEqual(self.connection.database.dump("t"), [[1, "a"]])
+
+    def test_no_transactions(self):
+        self.cursor.execute("insert t (1, 'a')")
+        self.assertRaises(mmdb.NotSupportedError, self.connection.rollback)
+        self.assertEqual(self.cursor.execute("select * from t").fetchall(), [[1, "a"]])
+
+    def test_sizes_are_taken(self):
+        self.cursor.setinputsizes([int])
+        self.cursor.setoutputsize(10)
+        self.cursor.setoutputsize(10, 0)
+        self.assertEqual(self.cursor.rowcount, -1)
+
+    def check_closed(self, cursor, why):
+        for call in (
+            lambda: cursor.execute("tables"),
+            lambda: cursor.executemany("insert t (?, ?)", []),
+            cursor.fetchone,
+            cursor.fetchmany,
+            cursor.fetchall,
+            lambda: next(cursor),
+        ):
+            with self.assertRaisesRegex(mmdb.ProgrammingError, why):
+                call()
+
+    def test_a_closed_cursor(self):
+        with contextlib.closing(self.cursor.execute("select * from t")):
+            pass
+        self.cursor.close()
+        self.check_closed(self.cursor, "the cursor is closed")
+        self.assertEqual(self.connection.cursor().execute("select * from t").fetchall(), [])
+
+    def test_a_closed_connection(self):
+        with self.connection as connection:
+            self.cursor.execute("select * from t")
+        connection.close()
+        self.check_closed(self.cursor, "the connection is closed")
+        for call in (connection.cursor, connection.commit):
+            with self.assertRaisesRegex(mmdb.ProgrammingError, re.escape("the connection is closed")):
+                call()
+        self.cursor.close()
