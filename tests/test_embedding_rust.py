@@ -1,4 +1,4 @@
-"""The binding for Rust: its crate's own tests, its page's first program, and its example. cargo has to be there."""
+"""The binding for Rust: its crate's own tests, its page's programs, its example and package. cargo has to be there."""
 
 import os
 import pathlib
@@ -16,8 +16,10 @@ CRATE = harness.ROOT / "bindings" / "rust"
 EXAMPLE = harness.ROOT / "examples" / "rust"
 SECONDS = sizes.size(600, 3_600)
 PASSED = re.compile(r"^test result: ok\. (\d+) passed; 0 failed; 0 ignored;", re.MULTILINE)
+LICENSES = ("LICENSE-MIT", "LICENSE-APACHE")
+PIECE = re.compile(r"^```rust\n(.*?)^```$", re.MULTILINE | re.DOTALL)
 MANIFEST = f"""[package]
-name = "first"
+name = "of_page"
 version = "0.1.0"
 edition = "2021"
 
@@ -65,14 +67,34 @@ class Cargo(unittest.TestCase):
         self.check_tests(EXAMPLE)
         self.check_run(EXAMPLE, (EXAMPLE / "expected.txt").read_text())
 
+    def check_program(self, name, program, printed):
+        crate = self.folder / name
+        (crate / "src").mkdir(parents=True)
+        (crate / "Cargo.toml").write_text(MANIFEST)
+        (crate / "src" / "main.rs").write_text(program)
+        self.check_run(crate, printed)
+
     def test_the_first_program_of_the_page(self):
         program, printed = embedding.first_program("docs/rust.md", "rust")
-        self.assertEqual(program.count("\n"), 10)
-        first = self.folder / "first"
-        (first / "src").mkdir(parents=True)
-        (first / "Cargo.toml").write_text(MANIFEST)
-        (first / "src" / "main.rs").write_text(program)
-        self.check_run(first, printed)
+        self.assertEqual(program.count("\n"), 13)
+        self.check_program("first", program, printed)
+
+    def test_the_pieces_of_the_page(self):
+        """Those behind the first program are one program."""
+        pieces = PIECE.findall((harness.ROOT / "docs" / "rust.md").read_text())[1:]
+        self.assertEqual(len(pieces), 7)
+        program = f"#![allow(unused)]\nfn main() -> Result<(), mmdb::Error> {{\n{''.join(pieces)}Ok(())\n}}\n"
+        self.check_program("pieces", program, "1 Ann Some(10)\n2 O'Hara None\n")
+
+    def test_the_package(self):
+        """It is made without a warning, and has the licences."""
+        made = self.cargo(CRATE, "package", "--allow-dirty", "--no-verify")
+        self.assertEqual(made.status, 0, made.err)
+        self.assertNotIn("warning", made.err)
+        listed = self.cargo(CRATE, "package", "--allow-dirty", "--list")
+        self.assertLessEqual({"Cargo.toml", "README.md", "build.rs", "src/lib.rs", *LICENSES}, set(listed.out.split()))
+        for name in LICENSES:
+            self.assertEqual((CRATE / name).read_bytes(), (harness.ROOT / name).read_bytes())
 
     def test_no_library(self):
         ended = self.cargo(CRATE, "build", MMDB_LIBRARY=str(self.folder), CARGO_TARGET_DIR=str(self.folder / "none"))

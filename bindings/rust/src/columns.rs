@@ -1,10 +1,11 @@
 //! The columns of tables, as a listing declares them, and how a row of values is written for a load.
 
 use std::collections::HashMap;
-use std::fmt::Write;
 
-use crate::error::Error;
-use crate::value::Value;
+use crate::error::{Error, Result};
+use crate::params::Values;
+use crate::spelling::{push_integer, push_marked};
+use crate::value::ValueRef;
 
 /// What the values of a column are: for a reference what the keys of its table are.
 #[derive(Clone, Copy, Debug, PartialEq, Eq)]
@@ -54,33 +55,35 @@ fn column_of(declared: &str, before: &Tables) -> Column {
 }
 
 /// The block of a load that has these rows.
-pub(crate) fn block_of<R: AsRef<[Value]>>(
-    columns: &[Column],
-    rows: impl IntoIterator<Item = R>,
-) -> Result<String, Error> {
+pub(crate) fn block_of<V: Values>(columns: &[Column], rows: impl IntoIterator<Item = V>) -> Result<String> {
     let names: Vec<&str> = columns.iter().map(|column| column.name.as_str()).collect();
     let mut block = names.join(",");
     for (before, row) in rows.into_iter().enumerate() {
         block.push('\n');
-        push_row(&mut block, columns, row.as_ref(), before + 1)?;
+        push_row(&mut block, columns, &row, before + 1)?;
     }
     Ok(block)
 }
 
-fn push_row(block: &mut String, columns: &[Column], values: &[Value], row: usize) -> Result<(), Error> {
-    if values.len() != columns.len() {
+fn push_row<V: Values>(block: &mut String, columns: &[Column], values: &V, row: usize) -> Result<()> {
+    let from = block.len();
+    let mut count = 0;
+    values.each(&mut |value| {
+        if let Some(column) = columns.get(count) {
+            if count > 0 {
+                block.push(',');
+            }
+            push_field(block, (&value.to_value()?).into(), column, row)?;
+        }
+        count += 1;
+        Ok(())
+    })?;
+    if count != columns.len() {
         return Err(Error::RowLength {
             row,
-            values: values.len(),
+            values: count,
             columns: columns.len(),
         });
-    }
-    let from = block.len();
-    for (place, (value, column)) in values.iter().zip(columns).enumerate() {
-        if place > 0 {
-            block.push(',');
-        }
-        push_field(block, value, column, row)?;
     }
     if block.len() == from {
         block.push_str("\"\"");
@@ -88,30 +91,20 @@ fn push_row(block: &mut String, columns: &[Column], values: &[Value], row: usize
     Ok(())
 }
 
-fn push_field(block: &mut String, value: &Value, column: &Column, row: usize) -> Result<(), Error> {
+fn push_field(block: &mut String, value: ValueRef<'_>, column: &Column, row: usize) -> Result<()> {
+    let named = || column.name.clone();
     match (value, column.kind) {
-        (Value::Null, _) if column.takes_null => {}
-        (Value::Integer(integer), Kind::Integer) => {
-            write!(block, "{integer}").expect("a string takes what is written");
-        }
-        (Value::Text(text), Kind::Text) if text.is_empty() && column.takes_null => {
-            return Err(Error::EmptyText {
-                row,
-                column: column.name.clone(),
-            });
-        }
-        (Value::Text(text), Kind::Text) if text.contains(&[',', '"', '\r', '\n'][..]) => {
-            block.push('"');
-            block.push_str(&text.replace('"', "\"\""));
-            block.push('"');
-        }
-        (Value::Text(text), Kind::Text) => block.push_str(text),
-        _ => {
-            return Err(Error::WrongType {
-                row,
-                column: column.name.clone(),
-            })
-        }
+        (ValueRef::Null, _) if column.takes_null => {}
+        (ValueRef::Integer(integer), Kind::Integer) => push_integer(block, integer),
+        (ValueRef::Text(""), Kind::Text) if column.takes_null => return Err(Error::EmptyText { row, column: named() }),
+        (ValueRef::Text(text), Kind::Text) if text.bytes().any(wants_marks) => push_marked(block, text, '"'),
+        (ValueRef::Text(text), Kind::Text) => block.push_str(text),
+        _ => return Err(Error::WrongType { row, column: named() }),
     }
     Ok(())
+}
+
+/// Whether a field with this byte stands between marks.
+fn wants_marks(byte: u8) -> bool {
+    matches!(byte, b',' | b'"' | b'\r' | b'\n')
 }

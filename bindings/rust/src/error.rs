@@ -2,16 +2,24 @@
 
 use std::fmt;
 
+use crate::from_value::FromValueError;
+
+/// What a call gives.
+pub type Result<T, E = Error> = std::result::Result<T, E>;
+
 /// Why a call wasn't done. The tables are as they were.
 #[derive(Clone, Debug, PartialEq, Eq)]
 #[non_exhaustive]
 pub enum Error {
     /// The answer is `error NUMBER TEXT`. The number is 90 too where a database finds no memory to open.
+    #[non_exhaustive]
     Refused {
         /// The number of the refusal.
         number: u32,
         /// What stands behind the number, with the number of a record where the refusal of a load has one.
         text: String,
+        /// The line that was refused, with its parameters. It is empty where a database wasn't opened.
+        line: String,
     },
     /// The limits of a database to open are none.
     OutOfRange,
@@ -22,10 +30,55 @@ pub enum Error {
         /// How many parameters there are.
         parameters: usize,
     },
+    /// No value is given for a place of the line.
+    MissingParameter {
+        /// The place as it stands in the line, as `:id` or `?`.
+        name: String,
+    },
+    /// A value is given for a name that is no place of the line.
+    UnknownParameter {
+        /// The name that was given.
+        name: String,
+    },
     /// A parameter is a text with a line feed, which can't stand in a line. A load takes it.
     LineFeed,
+    /// A value is an integer that isn't one of `i64`.
+    IntegerOutOfRange {
+        /// The integer, in digits.
+        integer: String,
+    },
     /// The line has a line feed, or asks for a block of another length than the one given.
     NotOneRequest,
+    /// The line is no select, and was to be queried.
+    NotASelect,
+    /// The line is a `select`, a `dump` or `tables`, and was to be executed, which gives a number alone.
+    NotAChange,
+    /// A row was to be read of a select that gives none.
+    NoRows,
+    /// No column has this name.
+    NoSuchColumn {
+        /// The name that was asked for.
+        name: String,
+    },
+    /// Columns of several tables have this name: `table.column` says which is meant.
+    AmbiguousColumn {
+        /// The name that was asked for.
+        name: String,
+    },
+    /// There are not so many columns.
+    NoSuchIndex {
+        /// The index that was asked for, counted from 0.
+        index: usize,
+        /// How many columns there are.
+        columns: usize,
+    },
+    /// A value isn't read as the type that was asked for.
+    Unread {
+        /// The name of the column.
+        column: String,
+        /// Why not.
+        cause: FromValueError,
+    },
     /// A row to load has not as many values as the table has columns.
     RowLength {
         /// The number of the row, counted from 1.
@@ -57,12 +110,14 @@ pub enum Error {
         /// The name of the column, with its table.
         column: String,
     },
+    /// What a type of the program's own says, in its [`ToValue`](crate::ToValue), or a closure of it.
+    Other(String),
     /// The library answered with a status that has no place there.
     Status(u32),
 }
 
 impl Error {
-    /// The number of the refusal, where it is one.
+    /// The number of the refusal, where it is one, as 41 of `error 41 key exists`.
     pub fn number(&self) -> Option<u32> {
         match self {
             Error::Refused { number, .. } => Some(*number),
@@ -70,13 +125,35 @@ impl Error {
         }
     }
 
-    /// The refusal that an answer is, where it is one.
-    pub(crate) fn refusal_of(answer: &[u8]) -> Option<Error> {
+    /// The text of the refusal, where it is one, as `key exists`.
+    pub fn text(&self) -> Option<&str> {
+        match self {
+            Error::Refused { text, .. } => Some(text),
+            _ => None,
+        }
+    }
+
+    /// The line that was refused, as it was sent: with its parameters. There is none where a database wasn't opened.
+    pub fn line(&self) -> Option<&str> {
+        match self {
+            Error::Refused { line, .. } if !line.is_empty() => Some(line),
+            _ => None,
+        }
+    }
+
+    /// What the refusal tells beyond its text. The library tells nothing yet, so it is `None`.
+    pub fn reason(&self) -> Option<&str> {
+        None
+    }
+
+    /// The refusal that an answer to a line is, where it is one.
+    pub(crate) fn refusal_of(line: &str, answer: &[u8]) -> Option<Error> {
         let told = std::str::from_utf8(answer.strip_prefix(b"error ")?).ok()?;
         let (number, text) = told.trim_end_matches('\n').split_once(' ')?;
         Some(Error::Refused {
             number: number.parse().ok()?,
             text: text.to_string(),
+            line: line.to_string(),
         })
     }
 }
@@ -84,7 +161,7 @@ impl Error {
 impl fmt::Display for Error {
     fn fmt(&self, to: &mut fmt::Formatter<'_>) -> fmt::Result {
         match self {
-            Error::Refused { number, text } => write!(to, "error {number} {text}"),
+            Error::Refused { number, text, .. } => write!(to, "error {number} {text}"),
             Error::OutOfRange => write!(
                 to,
                 "the limits of a database lie from 1 row to 16777216, and as many bytes"
@@ -92,29 +169,53 @@ impl fmt::Display for Error {
             Error::Places { places, parameters } => {
                 write!(to, "the line has {places} places for {parameters} parameters")
             }
+            Error::MissingParameter { name } => write!(to, "the place {name} has no parameter"),
+            Error::UnknownParameter { name } => write!(to, "the line has no place {name}"),
             Error::LineFeed => write!(to, "a text with a line feed cannot stand in a line; a load takes it"),
+            Error::IntegerOutOfRange { integer } => write!(to, "the integer {integer} is no i64"),
             Error::NotOneRequest => {
                 write!(to, "a line has no line feed, and a load has a block as long as it says")
             }
-            Error::RowLength { row, values, columns } => {
-                write!(to, "row {row} has {values} values for {columns} columns")
-            }
-            Error::WrongType { row, column } => write!(to, "row {row} has a value of no type of the column {column}"),
-            Error::EmptyText { row, column } => {
-                write!(
-                    to,
-                    "row {row} has an empty text in the column {column}, where a load would read null"
-                )
-            }
-            Error::NullOrEmpty { column } => {
-                write!(
-                    to,
-                    "an empty field of {column} is null or the empty text: select where it is either, without it"
-                )
-            }
+            Error::NotASelect => write!(to, "the line to query is no select"),
+            Error::NotAChange => write!(to, "the line to execute is a select, a dump or tables"),
+            Error::Other(text) => to.write_str(text),
             Error::Status(status) => write!(to, "the library answers {status}"),
+            other => other.fmt_of_values(to),
         }
     }
 }
 
-impl std::error::Error for Error {}
+impl Error {
+    /// Writes an error about values: of rows that are read, or are to be loaded.
+    fn fmt_of_values(&self, to: &mut fmt::Formatter<'_>) -> fmt::Result {
+        match self {
+            Error::NoRows => write!(to, "the select gives no rows"),
+            Error::NoSuchColumn { name } => write!(to, "there is no column {name}"),
+            Error::AmbiguousColumn { name } => write!(to, "several tables have a column {name}"),
+            Error::NoSuchIndex { index, columns } => write!(to, "there is no column {index} of {columns}"),
+            Error::Unread { column, cause } => write!(to, "the column {column}: {cause}"),
+            Error::RowLength { row, values, columns } => {
+                write!(to, "row {row} has {values} values for {columns} columns")
+            }
+            Error::WrongType { row, column } => write!(to, "row {row} has a value of no type of the column {column}"),
+            Error::EmptyText { row, column } => write!(
+                to,
+                "row {row} has an empty text in the column {column}, where a load would read null"
+            ),
+            Error::NullOrEmpty { column } => write!(
+                to,
+                "an empty field of {column} is null or the empty text: select where it is either, without it"
+            ),
+            _ => Ok(()),
+        }
+    }
+}
+
+impl std::error::Error for Error {
+    fn source(&self) -> Option<&(dyn std::error::Error + 'static)> {
+        match self {
+            Error::Unread { cause, .. } => Some(cause),
+            _ => None,
+        }
+    }
+}

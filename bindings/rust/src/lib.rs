@@ -1,20 +1,21 @@
 //! mmdb, a relational database in main memory, in this process.
 //!
 //! ```
-//! use mmdb::{Database, Limits, Policy, Value};
+//! use mmdb::{params, Database};
 //!
-//! # fn main() -> Result<(), mmdb::Error> {
-//! let mut db = Database::open(Policy::Auto, Limits::default())?;
-//! db.execute("table book (id int, title text)", &[])?;
-//! let count = db.execute("insert book (?, ?)", &[1.into(), "It's ?".into()])?.count();
-//! assert_eq!(count, Some(1));
+//! # fn main() -> mmdb::Result<()> {
+//! let mut db = Database::open_in_memory()?;
+//! db.execute("table book (id int, title text)", [])?;
+//! assert_eq!(db.execute("insert book (?, ?)", params![1, "It's ?"])?, 1);
 //!
-//! let rows = db.execute("select * from book where id < ?", &[9.into()])?.into_rows().expect("a select");
-//! assert_eq!(rows.names(), ["book.id", "book.title"]);
-//! assert_eq!(rows[0], [Value::Integer(1), Value::Text("It's ?".to_string())]);
+//! let rows = db.query("select * from book where id < ?", [9])?;
+//! for row in &rows {
+//!     let (id, title): (i64, &str) = (row.get("id")?, row.get("title")?);
+//!     assert_eq!((id, title), (1, "It's ?"));
+//! }
 //!
-//! let refused = db.execute("insert book (1, 'again')", &[]).expect_err("the key is there");
-//! assert_eq!(refused.number(), Some(41));
+//! let refused = db.execute("insert book (1, 'again')", []).expect_err("the key is there");
+//! assert_eq!((refused.number(), refused.text()), (Some(41), Some("key exists")));
 //! # Ok(())
 //! # }
 //! ```
@@ -22,17 +23,72 @@
 //! The archive `libmmdb.a` is linked from the folder that the environment variable `MMDB_LIBRARY` names when the crate
 //! is built, else from where pkg-config knows `mmdb`.
 
-#![warn(missing_docs)]
+#![warn(missing_docs, missing_debug_implementations)]
+
+/// Tests the program of the README.
+#[cfg(doctest)]
+#[doc = include_str!("../README.md")]
+pub struct Readme;
 
 mod columns;
 mod database;
 mod error;
+mod from_value;
+mod known;
 mod library;
+mod limits;
 mod line;
+mod optional;
+mod outcome;
+mod params;
 mod records;
+mod row;
+mod rows;
+mod session;
+mod spelling;
+mod to_value;
 mod value;
 
-pub use database::{Database, Limits, Outcome, Policy, MOST};
-pub use error::Error;
-pub use records::Rows;
-pub use value::Value;
+pub use database::Database;
+pub use error::{Error, Result};
+pub use from_value::{FromValue, FromValueError};
+pub use limits::{Limits, Policy, MOST};
+pub use optional::OptionalExtension;
+pub use outcome::Outcome;
+pub use params::{params_from_iter, Params, ParamsFromIter, Take, Values};
+pub use row::{ColumnIndex, Row};
+pub use rows::{MappedRows, Rows, RowsIter};
+pub use to_value::{ToValue, ToValueOutput};
+pub use value::{Value, ValueRef};
+
+/// Parameters of several types, for the places `?` of a line in their order: a slice of references.
+///
+/// ```
+/// let mut db = mmdb::Database::open_in_memory()?;
+/// db.execute("table t (id int, s text)", mmdb::params![])?;
+/// assert_eq!(db.execute("insert t (?, ?)", mmdb::params![1, "a"])?, 1);
+/// # Ok::<(), mmdb::Error>(())
+/// ```
+#[macro_export]
+macro_rules! params {
+    ($($value:expr),* $(,)?) => {
+        &[$(&$value as &dyn $crate::ToValue),*] as &[&dyn $crate::ToValue]
+    };
+}
+
+/// Parameters with names, for the places `:name` of a line: each name as it stands there, with its colon.
+///
+/// ```
+/// use mmdb::named_params;
+///
+/// let mut db = mmdb::Database::open_in_memory()?;
+/// db.execute("table t (id int, s text)", [])?;
+/// assert_eq!(db.execute("insert t (:id, :s)", named_params! { ":s": "a", ":id": 1 })?, 1);
+/// # Ok::<(), mmdb::Error>(())
+/// ```
+#[macro_export]
+macro_rules! named_params {
+    ($($name:literal: $value:expr),* $(,)?) => {
+        &[$(($name, &$value as &dyn $crate::ToValue)),*] as &[(&str, &dyn $crate::ToValue)]
+    };
+}

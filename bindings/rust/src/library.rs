@@ -60,6 +60,7 @@ impl Handle {
             NO_MEMORY => Err(Error::Refused {
                 number: 90,
                 text: "no memory".to_string(),
+                line: String::new(),
             }),
             status => Err(Error::Status(status)),
         }

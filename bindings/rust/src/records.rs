@@ -1,56 +1,9 @@
-//! Rows, and how they are read from records of CSV.
+//! Records of CSV, and how their fields are read by the columns that they belong to.
 
-use std::borrow::Cow;
-use std::ops::Deref;
 use std::sync::Arc;
 
 use crate::columns::{Column, Kind};
-use crate::value::Value;
-
-/// Rows, each a list of values, with the names of their columns. It is used as the slice of its rows.
-#[derive(Clone, Debug, Default, PartialEq, Eq)]
-pub struct Rows {
-    names: Arc<Vec<String>>,
-    pub(crate) rows: Vec<Vec<Value>>,
-}
-
-impl Rows {
-    /// The columns' names, in order: each as `table.column` in a select, and as `column` in a dump.
-    pub fn names(&self) -> &[String] {
-        &self.names
-    }
-
-    /// The rows alone.
-    pub fn into_vec(self) -> Vec<Vec<Value>> {
-        self.rows
-    }
-}
-
-impl Deref for Rows {
-    type Target = [Vec<Value>];
-
-    fn deref(&self) -> &[Vec<Value>] {
-        &self.rows
-    }
-}
-
-impl IntoIterator for Rows {
-    type Item = Vec<Value>;
-    type IntoIter = std::vec::IntoIter<Vec<Value>>;
-
-    fn into_iter(self) -> Self::IntoIter {
-        self.rows.into_iter()
-    }
-}
-
-impl<'rows> IntoIterator for &'rows Rows {
-    type Item = &'rows Vec<Value>;
-    type IntoIter = std::slice::Iter<'rows, Vec<Value>>;
-
-    fn into_iter(self) -> Self::IntoIter {
-        self.rows.iter()
-    }
-}
+use crate::rows::Rows;
 
 /// What the columns of records are, by which their fields are read.
 #[derive(Clone, Debug)]
@@ -62,21 +15,37 @@ pub(crate) struct Shape {
 impl Shape {
     /// The rows that records say. An empty field of a reference by text stays an empty text, where it may be a null.
     pub(crate) fn rows(&self, records: &str) -> Rows {
-        let mut rows = Vec::new();
+        let mut rows = Rows::default().emptied(&self.names);
+        rows.reserve(records.len());
         let mut rest = records;
         while !rest.is_empty() {
-            let mut row = Vec::with_capacity(self.columns.len());
-            for column in &self.columns {
-                let (field, behind) = first_field(rest);
-                row.push(value_of(field, column));
-                rest = behind;
+            rest = self.push_first_record(&mut rows, rest);
+        }
+        rows
+    }
+
+    /// The first of these rows, if there is one, in the room of rows that are wanted no more.
+    pub(crate) fn first_row(&self, records: &str, room: Rows) -> Rows {
+        let mut rows = room.emptied(&self.names);
+        if !records.is_empty() {
+            self.push_first_record(&mut rows, records);
+        }
+        rows
+    }
+
+    /// Reads the first record, and gives those behind it.
+    fn push_first_record<'r>(&self, rows: &mut Rows, records: &'r str) -> &'r str {
+        let mut rest = records;
+        for column in &self.columns {
+            let (field, behind) = first_field(rest);
+            match column.kind {
+                Kind::Integer => rows.push(field.content.parse().ok()),
+                Kind::Text if field.has_marks => rows.push_text(field.content.split_inclusive('"').step_by(2)),
+                Kind::Text => rows.push_text(std::iter::once(field.content)),
             }
-            rows.push(row);
+            rest = behind;
         }
-        Rows {
-            names: Arc::clone(&self.names),
-            rows,
-        }
+        rest
     }
 
     /// Where the columns are that refer to texts and take nulls.
@@ -96,26 +65,33 @@ pub(crate) fn header_and_records(answer: &str) -> (&str, &str) {
     below.split_once('\n').unwrap_or((below, ""))
 }
 
-/// The first field of some records, and what stands behind it and its end.
-fn first_field(records: &str) -> (Cow<'_, str>, &str) {
-    match records.strip_prefix('"') {
-        Some(quoted) => first_quoted_field(quoted),
-        None => {
-            let end = records.find(&[',', '\n'][..]).unwrap_or(records.len());
-            (Cow::Borrowed(&records[..end]), records.get(end + 1..).unwrap_or(""))
-        }
-    }
+/// A field, without the marks around it.
+struct Field<'r> {
+    content: &'r str,
+    /// Whether marks stand in it, each of them doubled.
+    has_marks: bool,
 }
 
-/// The same, behind the mark that opens the field.
-fn first_quoted_field(quoted: &str) -> (Cow<'_, str>, &str) {
-    let end = end_of_quoted(quoted);
-    let (field, behind) = (&quoted[..end], quoted.get(end + 2..).unwrap_or(""));
-    if field.contains('"') {
-        (Cow::Owned(field.replace("\"\"", "\"")), behind)
-    } else {
-        (Cow::Borrowed(field), behind)
-    }
+/// The first field of some records, and what stands behind it and its end.
+fn first_field(records: &str) -> (Field<'_>, &str) {
+    let quoted = records.strip_prefix('"');
+    let (content, behind) = match quoted {
+        Some(quoted) => parted(quoted, end_of_quoted(quoted), 2),
+        None => parted(records, end_of_plain(records), 1),
+    };
+    let has_marks = quoted.is_some() && content.contains('"');
+    (Field { content, has_marks }, behind)
+}
+
+/// What stands before an end, and what stands behind it and its marks.
+fn parted(records: &str, end: usize, marks: usize) -> (&str, &str) {
+    (&records[..end], records.get(end + marks..).unwrap_or(""))
+}
+
+/// Where a field ends that isn't quoted.
+fn end_of_plain(records: &str) -> usize {
+    let end = records.bytes().position(|byte| byte == b',' || byte == b'\n');
+    end.unwrap_or(records.len())
 }
 
 /// Where the mark stands that ends a quoted field: the first that isn't doubled.
@@ -130,11 +106,4 @@ fn end_of_quoted(quoted: &str) -> usize {
         at += 2;
     }
     quoted.len()
-}
-
-fn value_of(field: Cow<'_, str>, column: &Column) -> Value {
-    match column.kind {
-        Kind::Integer => field.parse().map_or(Value::Null, Value::Integer),
-        Kind::Text => Value::Text(field.into_owned()),
-    }
 }

@@ -1,27 +1,14 @@
 //! What each call gives, and what it is refused by.
 
-use mmdb::{Database, Error, Limits, Outcome, Policy, Value, MOST};
+mod common;
 
-fn open() -> Database {
-    Database::open(Policy::Auto, Limits::default()).expect("memory is there")
-}
+use std::error::Error as _;
 
-fn with_table() -> Database {
-    let mut db = open();
-    db.execute("table t (id int, s text)", &[]).expect("a table");
-    db
-}
-
-fn row(id: i64, text: &str) -> Vec<Value> {
-    vec![id.into(), text.into()]
-}
-
-fn number<T: std::fmt::Debug>(answered: Result<T, Error>) -> Option<u32> {
-    answered.expect_err("it is refused").number()
-}
+use common::{number, open, row, selected, with_rows, with_table};
+use mmdb::{Database, Error, OptionalExtension, Outcome, Row};
 
 #[test]
-fn outcomes() {
+fn outcomes_of_commands() {
     let mut db = open();
     let listing = "table t (id int, s text)\nindex t s hash\n".to_string();
     for (line, outcome) in [
@@ -38,92 +25,202 @@ fn outcomes() {
         ("delete t", Outcome::Count(1)),
         ("drop table t", Outcome::Done),
     ] {
-        assert_eq!(db.execute(line, &[]), Ok(outcome), "{line}");
+        assert_eq!(db.command(line, []), Ok(outcome), "{line}");
     }
 }
 
 #[test]
-fn rows_have_the_names_of_their_columns() {
-    let mut db = with_table();
-    assert_eq!(db.load("t", [row(1, "a"), row(2, "b")]), Ok(2));
-    let rows = db.execute("select s, id from t", &[]).unwrap().into_rows().unwrap();
-    assert_eq!(rows.names(), ["t.s", "t.id"]);
-    assert_eq!(rows.into_vec(), [["a".into(), 1.into()], ["b".into(), 2.into()]]);
+fn an_outcome_has_rows_or_a_count() {
+    let mut db = with_rows();
+    let selected = db.command("select * from t", []).unwrap();
+    assert_eq!(selected.count(), None);
+    assert_eq!(selected.into_rows().unwrap().to_vec(), [row(1, "a"), row(2, "b")]);
+    let deleted = db.command("delete t", []).unwrap();
+    assert_eq!(deleted.count(), Some(2));
+    assert_eq!(deleted.into_rows(), None);
+}
+
+#[test]
+fn execute_counts_rows() {
+    let mut db = open();
+    for (line, count) in [
+        ("table t (id int, s text)", 0),
+        ("insert t (1, 'a')", 1),
+        ("insert t (2, 'b')", 1),
+        ("update t set s = 'c'", 2),
+        ("delete t where id > 5", 0),
+        ("index t s tree", 0),
+        ("drop index t s tree", 0),
+        ("# a comment", 0),
+        ("", 0),
+        ("delete t", 2),
+        ("drop table t", 0),
+    ] {
+        assert_eq!(db.execute(line, []), Ok(count), "{line}");
+    }
+}
+
+#[test]
+fn a_line_goes_to_its_call() {
+    let mut db = with_rows();
+    for line in ["select * from t", " \tselect", "dump t", "tables", "tables "] {
+        assert_eq!(db.execute(line, []), Err(Error::NotAChange), "{line}");
+    }
+    for line in [
+        "insert t (3, 'c')",
+        "delete t",
+        "dump t",
+        "selects * from t",
+        "#select",
+        "",
+    ] {
+        assert_eq!(db.query(line, []), Err(Error::NotASelect), "{line}");
+        assert_eq!(db.query_row(line, [], |_| Ok(())), Err(Error::NotASelect), "{line}");
+        assert_eq!(
+            db.query_map(line, [], |_| Ok(())).err(),
+            Some(Error::NotASelect),
+            "{line}"
+        );
+    }
+    assert_eq!(selected(&mut db, "select * from t", []), [row(1, "a"), row(2, "b")]);
+}
+
+#[test]
+fn rows_are_gone_through() {
+    let mut db = with_rows();
+    let rows = db.query("select s, id from t", []).unwrap();
+    assert_eq!(rows.column_names(), ["t.s", "t.id"]);
+    assert_eq!((rows.len(), rows.is_empty()), (2, false));
+    let mut iter = rows.iter();
+    assert_eq!(iter.len(), 2);
+    assert_eq!(iter.next_back(), rows.get(1));
+    assert_eq!(iter.next(), rows.get(0));
+    assert_eq!(iter.next(), None);
+    assert_eq!((rows.get(2), rows.get(usize::MAX)), (None, None));
+    assert_eq!(rows.get(0).unwrap().column_names(), rows.column_names());
+    assert_eq!(rows.to_vec(), [["a".into(), 1.into()], ["b".into(), 2.into()]]);
+    assert_eq!(db.query("select s, id from t", []).unwrap(), rows);
+    assert_ne!(db.query("select s, id from t where id = 1", []).unwrap(), rows);
+    let none = db.query("select * from t where id = 3", []).unwrap();
+    assert_eq!((none.len(), none.is_empty(), none.iter().len()), (0, true, 0));
+}
+
+#[test]
+fn rows_are_mapped() {
+    let mut db = with_rows();
+    let pair = |row: &Row<'_>| Ok((row.get("id")?, row.get("s")?));
+    let mut mapped = db.query_map("select * from t where id > ?", [0], pair).unwrap();
+    assert_eq!(mapped.len(), 2);
+    assert_eq!(
+        format!("{mapped:?}"),
+        r#"[{"t.id": Integer(1), "t.s": Text("a")}, {"t.id": Integer(2), "t.s": Text("b")}]"#
+    );
+    assert_eq!(mapped.next(), Some(Ok((1, "a".to_string()))));
+    assert_eq!(mapped.len(), 1);
+    assert_eq!(mapped.next(), Some(Ok((2, "b".to_string()))));
+    assert_eq!(mapped.next(), None);
+    let failing = db
+        .query_map("select * from t", [], |row| row.get::<_, i64>("s"))
+        .unwrap();
+    assert_eq!(failing.filter(Result::is_err).count(), 2);
+}
+
+#[test]
+fn one_row_is_read() {
+    let mut db = with_rows();
+    for (id, text) in [(1, "a"), (2, "b"), (1, "a")] {
+        let read = db.query_row("select s from t where id = ?", [id], |row| row.get::<_, String>(0));
+        assert_eq!(read, Ok(text.to_string()));
+    }
+    assert_eq!(db.query_row("select id from t", [], |row| row.get(0)), Ok(1));
+    let absent = |db: &mut Database| db.query_row("select id from t where id = 3", [], |row| row.get::<_, i64>(0));
+    assert_eq!(absent(&mut db), Err(Error::NoRows));
+    assert_eq!(absent(&mut db).optional(), Ok(None));
+    assert_eq!(
+        db.query_row("select id from t", [], |row| row.get(0)).optional(),
+        Ok(Some(1))
+    );
+    let refused = db
+        .query_row("select id from u", [], |row| row.get::<_, i64>(0))
+        .optional();
+    assert_eq!(number(refused), Some(30));
+    let failing = db.query_row("select * from t", [], |_| Err::<(), _>(Error::Other("no".to_string())));
+    assert_eq!(failing.unwrap_err().to_string(), "no");
+}
+
+#[test]
+fn dumps_have_bare_names() {
+    let mut db = with_rows();
     let dumped = db.dump("t").unwrap();
-    assert_eq!(dumped.names(), ["id", "s"]);
-    assert_eq!(dumped.into_vec(), [row(1, "a"), row(2, "b")]);
+    assert_eq!(dumped.column_names(), ["id", "s"]);
+    assert_eq!(dumped.to_vec(), [row(1, "a"), row(2, "b")]);
+    assert_eq!(dumped.get(1).unwrap().get("s"), Ok("b"));
+    let selected = db.query("select * from t", []).unwrap();
+    assert!(selected.iter().eq(&dumped));
+    assert_ne!(selected, dumped);
 }
 
 #[test]
 fn refusals() {
     let mut db = with_table();
-    assert_eq!(number(db.execute("insert t (1", &[])), Some(20));
-    assert_eq!(number(db.execute("select * from u", &[])), Some(30));
-    assert_eq!(number(db.load("u", [row(1, "a")])), Some(30));
+    assert_eq!(number(db.execute("insert t (1", [])), Some(20));
+    assert_eq!(number(db.query("select * from u", [])), Some(30));
+    assert_eq!(number(db.command("dump u", [])), Some(30));
+    assert_eq!(number(db.load("u", [(1, "a")])), Some(30));
     assert_eq!(number(db.dump("u")), Some(30));
+    assert_eq!(number(db.dump("t\n")), Some(30));
     assert_eq!(number(db.load_csv("u", "id\n")), Some(30));
     assert_eq!(number(db.load_csv("t", "")), Some(61));
-    let twice = db.load("t", [row(1, "a"), row(1, "b")]).unwrap_err();
-    assert_eq!(
-        twice,
-        Error::Refused {
-            number: 41,
-            text: "key exists (record 2)".to_string()
-        }
-    );
-    assert_eq!(twice.to_string(), "error 41 key exists (record 2)");
     assert!(db.dump("t").unwrap().is_empty());
 }
 
 #[test]
-fn limits() {
-    let mut db = Database::open(Policy::Tree, Limits { rows: 2, block: 6 }).unwrap();
-    db.execute("table t (id int)", &[]).unwrap();
-    assert_eq!(db.load("t", [[1.into()]]), Ok(1));
-    assert_eq!(db.execute("insert t (2)", &[]), Ok(Outcome::Count(1)));
-    assert_eq!(number(db.execute("insert t (3)", &[])), Some(43));
-    assert_eq!(number(db.dump("t")), Some(64));
-    assert_eq!(number(db.load("t", [[3.into()], [4.into()], [5.into()]])), Some(12));
-    for limits in [
-        Limits { rows: 0, block: 1 },
-        Limits {
-            rows: MOST + 1,
-            block: 1,
-        },
-        Limits {
-            rows: 1,
-            block: MOST + 1,
-        },
-    ] {
-        assert_eq!(Database::open(Policy::Auto, limits).err(), Some(Error::OutOfRange));
-    }
+fn a_refusal_tells_what_was_sent() {
+    let mut db = with_rows();
+    let refused = db.execute("insert t (?, ?)", (1, "it's")).unwrap_err();
+    assert_eq!((refused.number(), refused.text()), (Some(41), Some("key exists")));
+    assert_eq!(refused.line(), Some("insert t (1, 'it''s')"));
+    assert_eq!(refused.reason(), None);
+    assert_eq!(refused.to_string(), "error 41 key exists");
+    assert!(refused.source().is_none());
+    let twice = db.load("t", [(3, "a"), (3, "b")]).unwrap_err();
+    assert_eq!(
+        (twice.text(), twice.line()),
+        (Some("key exists (record 2)"), Some("load t 12"))
+    );
+    assert_eq!(db.dump("u").unwrap_err().line(), Some("dump u"));
+    assert_eq!(
+        db.query("select u from t", []).unwrap_err().line(),
+        Some("select u from t")
+    );
+    let other = db.execute("insert t (?, ?)", [1]).unwrap_err();
+    assert_eq!(
+        (other.number(), other.text(), other.line(), other.reason()),
+        (None, None, None, None)
+    );
 }
 
 #[test]
-fn a_database_goes_to_another_thread() {
-    let mut db = with_table();
-    db.execute("insert t (1, 'a')", &[]).unwrap();
-    let mut db = std::thread::spawn(move || {
-        db.execute("insert t (2, 'b')", &[]).unwrap();
-        db
-    })
-    .join()
-    .unwrap();
-    assert_eq!(db.dump("t").unwrap().into_vec(), [row(1, "a"), row(2, "b")]);
-}
-
-#[test]
-fn lines_are_one_request() {
-    let mut db = with_table();
-    for line in ["insert t (1, 'a')\ndelete t", "insert t (1, 'a')\n", "\n", "load t 9"] {
-        assert_eq!(db.execute(line, &[]), Err(Error::NotOneRequest), "{line}");
-    }
-    assert_eq!(db.answer_to_load(b"load t 3", b"ab"), Err(Error::NotOneRequest));
-    for name in ["t\n", "t 9", "t 9\n"] {
-        assert_eq!(db.load_csv(name, "id,s\n1,a"), Err(Error::NotOneRequest), "{name:?}");
-    }
-    assert_eq!(db.answer_to_load(b"load t 8", b"id,s\n1,a"), Ok(&b"ok 1\n"[..]));
-    assert_eq!(db.answer(b"select s from t"), Ok(&b"rows 1\nt.s\na\n"[..]));
-    assert_eq!(db.answer(b""), Ok(&b""[..]));
-    assert_eq!(db.answer(b"\xff"), Ok(&b"error 11 not UTF-8\n"[..]));
+fn a_database_is_used_on_after_a_refusal() {
+    let mut db = with_rows();
+    assert_eq!(number(db.execute("insert t (1, 'c')", [])), Some(41));
+    assert_eq!(
+        db.execute("insert t (?, ?)", [3]),
+        Err(Error::Places {
+            places: 2,
+            parameters: 1
+        })
+    );
+    assert_eq!(db.execute("insert t (3, ?)", ["\n"]), Err(Error::LineFeed));
+    assert_eq!(
+        db.query_row("select * from t where id = 3", [], |_| Ok(())),
+        Err(Error::NoRows)
+    );
+    assert_eq!(number(db.query_row("select u from t", [], |_| Ok(()))), Some(32));
+    assert_eq!(db.execute("insert t (3, 'c')", []), Ok(1));
+    assert_eq!(
+        db.query_row("select s from t where id = 3", [], |row| row.get(0)),
+        Ok("c".to_string())
+    );
+    assert_eq!(db.dump("t").unwrap().len(), 3);
 }

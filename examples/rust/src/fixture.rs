@@ -1,7 +1,7 @@
-//! A small library with some books out, from the CSV files in `fixtures`. Each test opens one of its own, in well under a
-//! millisecond, so none sees what another does.
+//! A small library with some books out, from the CSV files in `fixtures`. Each test opens one of its own, in well under
+//! a millisecond, so none sees what another does.
 
-use mmdb::{Database, Error, Limits, Policy};
+use mmdb::{Database, Error};
 
 const TABLES: [(&str, &str, &str); 3] = [
     (
@@ -23,9 +23,9 @@ const TABLES: [(&str, &str, &str); 3] = [
 
 /// The library, with three people, four books, and three of these out.
 pub fn library() -> Result<Database, Error> {
-    let mut db = Database::open(Policy::Auto, Limits::default())?;
+    let mut db = Database::open_in_memory()?;
     for (name, declaration, csv) in TABLES {
-        db.execute(declaration, &[])?;
+        db.execute(declaration, [])?;
         db.load_csv(name, csv)?;
     }
     Ok(db)

@@ -2,7 +2,7 @@
 
 pub mod fixture;
 
-use mmdb::{Database, Error, Rows};
+use mmdb::{Database, Error, OptionalExtension, Row};
 
 const KEY_EXISTS: Option<u32> = Some(41);
 const NO_REFERENCED_ROW: Option<u32> = Some(42);
@@ -16,13 +16,33 @@ pub enum Refusal {
     Unknown,
 }
 
+/// A book that is out past its day.
+#[derive(Debug, PartialEq, Eq)]
+pub struct Overdue {
+    pub title: String,
+    pub mail: String,
+    pub due: u32,
+}
+
+impl Overdue {
+    fn of(row: &Row<'_>) -> Result<Overdue, Error> {
+        Ok(Overdue {
+            title: row.get("title")?,
+            mail: row.get("mail")?,
+            due: row.get("due")?,
+        })
+    }
+}
+
 /// Lends a book until a day.
-pub fn lend(db: &mut Database, book: i64, person: &str, due: i64) -> Result<Result<(), Refusal>, Error> {
-    let is_there = select(db, "select id from book where id = ?", &[book.into()])?.len() == 1;
-    if !is_there {
+pub fn lend(db: &mut Database, book: i64, person: &str, due: u32) -> Result<Result<(), Refusal>, Error> {
+    let title = db.query_row("select title from book where id = ?", [book], |row| {
+        row.get::<_, String>(0)
+    });
+    if title.optional()?.is_none() {
         return Ok(Err(Refusal::Unknown));
     }
-    match db.execute("insert loan (?, ?, ?)", &[book.into(), person.into(), due.into()]) {
+    match db.execute("insert loan (?, ?, ?)", (book, person, due)) {
         Ok(_) => Ok(Ok(())),
         Err(refused) if refused.number() == KEY_EXISTS => Ok(Err(Refusal::IsOut)),
         Err(refused) if refused.number() == NO_REFERENCED_ROW => Ok(Err(Refusal::Unknown)),
@@ -32,19 +52,12 @@ pub fn lend(db: &mut Database, book: i64, person: &str, due: i64) -> Result<Resu
 
 /// Takes a book back. Says whether it was out.
 pub fn give_back(db: &mut Database, book: i64) -> Result<bool, Error> {
-    let count = db.execute("delete loan where book = ?", &[book.into()])?.count();
-    Ok(count == Some(1))
+    Ok(db.execute("delete loan where book = ?", [book])? == 1)
 }
 
-/// The titles that are out past a day, each with the mail of who has it.
-pub fn overdue(db: &mut Database, day: i64) -> Result<Vec<(String, String)>, Error> {
-    let line = "select book.title, person.mail from loan join book on loan.book = book.id \
+/// The books that are out past a day, each with the mail of who has it.
+pub fn overdue(db: &mut Database, day: u32) -> Result<Vec<Overdue>, Error> {
+    let line = "select book.title, person.mail, loan.due from loan join book on loan.book = book.id \
                 join person on loan.person = person.name where due < ?";
-    let rows = select(db, line, &[day.into()])?;
-    let text = |value: &mmdb::Value| value.as_text().unwrap_or_default().to_string();
-    Ok(rows.iter().map(|row| (text(&row[0]), text(&row[1]))).collect())
-}
-
-fn select(db: &mut Database, line: &str, values: &[mmdb::Value]) -> Result<Rows, Error> {
-    Ok(db.execute(line, values)?.into_rows().unwrap_or_default())
+    db.query_map(line, [day], Overdue::of)?.collect()
 }

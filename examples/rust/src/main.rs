@@ -1,19 +1,27 @@
 //! Shows the fixture, and what the code makes of it.
 
 use lending::{fixture, give_back, lend, overdue};
+use mmdb::{Database, Error};
 
-fn main() -> Result<(), mmdb::Error> {
+fn print_overdue(db: &mut Database, day: u32) -> Result<(), Error> {
+    println!("overdue on day {day}:");
+    for book in overdue(db, day)? {
+        println!("  {}, due on day {}: {}", book.title, book.due, book.mail);
+    }
+    Ok(())
+}
+
+fn main() -> Result<(), Error> {
     let mut db = fixture::library()?;
     for table in ["person", "book", "loan"] {
         let rows = db.dump(table)?;
-        println!("{table}: {}, {} rows", rows.names().join(" "), rows.len());
+        println!("{table}: {}, {} rows", rows.column_names().join(" "), rows.len());
     }
-    println!("overdue on day 120: {:?}", overdue(&mut db, 120)?);
+    print_overdue(&mut db, 120)?;
     println!("book 4 is given back: {}", give_back(&mut db, 4)?);
     println!("book 4 is given back: {}", give_back(&mut db, 4)?);
     println!("book 4 to Bo O'Hara: {:?}", lend(&mut db, 4, "Bo O'Hara", 150)?);
     println!("book 1 to Bo O'Hara: {:?}", lend(&mut db, 1, "Bo O'Hara", 150)?);
     println!("book 3 to a stranger: {:?}", lend(&mut db, 3, "' or name <> '", 150)?);
-    println!("overdue on day 160: {:?}", overdue(&mut db, 160)?);
-    Ok(())
+    print_overdue(&mut db, 160)
 }

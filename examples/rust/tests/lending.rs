@@ -1,6 +1,6 @@
 //! Tests that share a fixture: each begins with the same library, which is its own.
 
-use lending::{fixture, give_back, lend, overdue, Refusal};
+use lending::{fixture, give_back, lend, overdue, Overdue, Refusal};
 
 #[test]
 fn a_book_that_is_out_is_not_lent() {
@@ -31,12 +31,17 @@ fn strangers_and_unknown_books() {
 #[test]
 fn what_is_overdue() {
     let mut db = fixture::library().unwrap();
-    let told = |title: &str, mail: &str| (title.to_string(), mail.to_string());
-    let of_ann = [told("Middlemarch", "ann@example.org"), told("1984", "ann@example.org")];
+    let out = |title: &str, mail: &str, due: u32| Overdue {
+        title: title.to_string(),
+        mail: mail.to_string(),
+        due,
+    };
+    let ann = "ann@example.org";
     assert_eq!(overdue(&mut db, 90).unwrap(), []);
-    assert_eq!(overdue(&mut db, 101).unwrap(), of_ann);
     assert_eq!(
-        overdue(&mut db, 141).unwrap()[1],
-        told("Tinker, Tailor, Soldier, Spy", "bo@example.org")
+        overdue(&mut db, 101).unwrap(),
+        [out("Middlemarch", ann, 100), out("1984", ann, 90)]
     );
+    let of_bo = out("Tinker, Tailor, Soldier, Spy", "bo@example.org", 140);
+    assert_eq!(overdue(&mut db, 141).unwrap()[1], of_bo);
 }

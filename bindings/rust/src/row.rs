@@ -1,0 +1,127 @@
+//! A row, and its columns by name or number.
+
+use std::fmt;
+
+use crate::error::{Error, Result};
+use crate::from_value::FromValue;
+use crate::rows::Cell;
+use crate::value::ValueRef;
+
+/// A row of [`Rows`](crate::Rows), which lend it.
+///
+/// ```
+/// let mut db = mmdb::Database::open_in_memory()?;
+/// db.execute("table t (id int, s text)", [])?;
+/// db.execute("insert t (1, 'a')", [])?;
+///
+/// let rows = db.query("select * from t", [])?;
+/// let row = rows.get(0).expect("there is a row");
+/// assert_eq!(row.get::<_, i64>("id")?, 1);
+/// assert_eq!(row.get::<_, Option<&str>>(1)?, Some("a"));
+/// assert!(row.get::<_, u8>("t.s").is_err());
+/// # Ok::<(), mmdb::Error>(())
+/// ```
+#[derive(Clone, Copy)]
+pub struct Row<'r> {
+    pub(crate) names: &'r [String],
+    pub(crate) cells: &'r [Cell],
+    pub(crate) texts: &'r str,
+}
+
+impl<'r> Row<'r> {
+    /// The value of a column, as the type that is asked for.
+    ///
+    /// The column is named by its number, counted from 0, or by its name: as `table.column`, or as `column` alone where
+    /// one column of the row has that name. [`Error::NoSuchIndex`], [`Error::NoSuchColumn`] and
+    /// [`Error::AmbiguousColumn`] say that it isn't one of these; [`Error::Unread`] that its value isn't of that type.
+    pub fn get<I: ColumnIndex, T: FromValue<'r>>(&self, column: I) -> Result<T> {
+        let at = column.place_in(self.names)?;
+        T::from_value(self.value(at)).map_err(|cause| Error::Unread {
+            column: self.names[at].clone(),
+            cause,
+        })
+    }
+
+    /// The value of a column as it is. The column is named as for [`Row::get`].
+    pub fn get_ref<I: ColumnIndex>(&self, column: I) -> Result<ValueRef<'r>> {
+        column.place_in(self.names).map(|at| self.value(at))
+    }
+
+    /// The names of the columns, in order.
+    pub fn column_names(&self) -> &'r [String] {
+        self.names
+    }
+
+    /// The values, in the order of the columns.
+    pub fn values(&self) -> impl Iterator<Item = ValueRef<'r>> {
+        let texts = self.texts;
+        self.cells.iter().map(move |cell| cell.value_in(texts))
+    }
+
+    pub(crate) fn value(&self, at: usize) -> ValueRef<'r> {
+        self.cells[at].value_in(self.texts)
+    }
+}
+
+/// Rows are equal where their values are.
+impl PartialEq for Row<'_> {
+    fn eq(&self, other: &Row<'_>) -> bool {
+        self.values().eq(other.values())
+    }
+}
+
+impl Eq for Row<'_> {}
+
+impl fmt::Debug for Row<'_> {
+    fn fmt(&self, to: &mut fmt::Formatter<'_>) -> fmt::Result {
+        to.debug_map().entries(self.names.iter().zip(self.values())).finish()
+    }
+}
+
+/// What names a column of a row: its number, counted from 0, or its name.
+pub trait ColumnIndex {
+    /// The number of the column, by the names of all.
+    fn place_in(&self, names: &[String]) -> Result<usize>;
+}
+
+impl ColumnIndex for usize {
+    fn place_in(&self, names: &[String]) -> Result<usize> {
+        let wrong = || Error::NoSuchIndex {
+            index: *self,
+            columns: names.len(),
+        };
+        Some(*self).filter(|index| *index < names.len()).ok_or_else(wrong)
+    }
+}
+
+impl ColumnIndex for str {
+    fn place_in(&self, names: &[String]) -> Result<usize> {
+        let mut found = None;
+        for (place, name) in names.iter().enumerate() {
+            if name == self {
+                return Ok(place);
+            }
+            if is_bare(self, name) && found.replace(place).is_some() {
+                return Err(Error::AmbiguousColumn { name: self.to_string() });
+            }
+        }
+        found.ok_or_else(|| Error::NoSuchColumn { name: self.to_string() })
+    }
+}
+
+impl ColumnIndex for String {
+    fn place_in(&self, names: &[String]) -> Result<usize> {
+        self.as_str().place_in(names)
+    }
+}
+
+impl<I: ColumnIndex + ?Sized> ColumnIndex for &I {
+    fn place_in(&self, names: &[String]) -> Result<usize> {
+        (**self).place_in(names)
+    }
+}
+
+/// Whether a name is what stands behind the table of another.
+fn is_bare(bare: &str, name: &str) -> bool {
+    name.strip_suffix(bare).map_or(false, |table| table.ends_with('.'))
+}

@@ -1,0 +1,36 @@
+//! What the tests share.
+#![allow(dead_code)]
+
+pub mod draw;
+
+use mmdb::{Database, Error, Params, Value};
+
+pub fn open() -> Database {
+    Database::open_in_memory().expect("memory is there")
+}
+
+/// A database with an empty table `t (id int, s text)`.
+pub fn with_table() -> Database {
+    let mut db = open();
+    db.execute("table t (id int, s text)", []).expect("a table");
+    db
+}
+
+/// A database with a table `t (id int, s text)` of the rows 1, `a` and 2, `b`.
+pub fn with_rows() -> Database {
+    let mut db = with_table();
+    db.load("t", [(1, "a"), (2, "b")]).expect("two rows");
+    db
+}
+
+pub fn row(id: i64, text: &str) -> Vec<Value> {
+    vec![id.into(), text.into()]
+}
+
+pub fn selected(db: &mut Database, line: &str, params: impl Params) -> Vec<Vec<Value>> {
+    db.query(line, params).expect("a select").to_vec()
+}
+
+pub fn number<T: std::fmt::Debug>(answered: Result<T, Error>) -> Option<u32> {
+    answered.expect_err("it is refused").number()
+}
