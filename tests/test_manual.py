@@ -8,8 +8,9 @@ import unittest
 
 import compiling
 import harness
+import library
 
-PROGRAM, LIBRARY = (harness.ROOT / "docs" / "man" / name for name in ("mmdb.1", "mmdb.3"))
+PROGRAM, LIBRARY, SHELL = (harness.ROOT / "docs" / "man" / name for name in ("mmdb.1", "mmdb.3", "mmdb-shell.1"))
 LANGUAGE = (harness.ROOT / "docs" / "language.md").read_text()
 HEADER = (harness.ROOT / "include" / "mmdb.h").read_text()
 ESCAPES = {r"\(dq": '"', r"\(aq": "'", r"\-": "-", r"\e": "\\"}
@@ -30,7 +31,7 @@ class Form(unittest.TestCase):
     """No reader of such pages finds fault with them."""
 
     def check(self, *words):
-        for page in (PROGRAM, LIBRARY):
+        for page in (PROGRAM, LIBRARY, SHELL):
             with self.subTest(page.name):
                 ran = subprocess.run([*words, page], capture_output=True, text=True, check=False)
                 self.assertEqual((ran.returncode, ran.stdout, ran.stderr), (0, "", ""))
@@ -62,11 +63,17 @@ class Contents(unittest.TestCase):
         told = re.findall(r'^\.BI "[\w ]*\*?(mmdb_\w+)\(', LIBRARY.read_text(), re.MULTILINE)
         self.assertEqual(told, calls)
 
-    def test_the_example_of_the_program(self):
-        (example,) = examples(PROGRAM)
-        typed, answers = re.fullmatch(r"\$ (.*?\| mmdb\n)(.*)", example, re.DOTALL).groups()
-        where = {**os.environ, "PATH": f"{harness.PROGRAM.parent}:{os.environ['PATH']}"}
+    def check_typed(self, page, folder, **variables):
+        (example,) = examples(page)
+        typed, answers = re.fullmatch(r"\$ (.*?\| \S+\n)(.*)", example, re.DOTALL).groups()
+        where = {**os.environ, "PATH": f"{folder}:{os.environ['PATH']}", **variables}
         self.assertEqual(subprocess.run(["bash", "-c", typed], stdout=subprocess.PIPE, text=True, check=True, env=where).stdout, answers)
+
+    def test_the_example_of_the_program(self):
+        self.check_typed(PROGRAM, harness.PROGRAM.parent)
+
+    def test_the_example_of_the_shell(self):
+        self.check_typed(SHELL, harness.ROOT / "shell", MMDB_LIBRARY=str(library.folder()), PYTHONDONTWRITEBYTECODE="1")
 
     def test_the_example_of_the_library(self):
         program, _ = examples(LIBRARY)

@@ -15,6 +15,7 @@ PLACES = (
     ("bindings/rust/Cargo.lock", r'^name = "mmdb"\nversion = "(.*)"$'),
     ("examples/rust/Cargo.lock", r'^name = "mmdb"\nversion = "(.*)"$'),
     ("docs/man/mmdb.1", r'^\.TH MMDB 1 \S+ "mmdb (.*?)" '),
+    ("docs/man/mmdb-shell.1", r'^\.TH MMDB-SHELL 1 \S+ "mmdb (.*?)" '),
     ("docs/man/mmdb.3", r'^\.TH MMDB 3 \S+ "mmdb (.*?)" '),
 )
 CHANGES = re.compile(r"^## \[(.*?)\](?: - \d{4}-\d{2}-\d{2})?$", re.MULTILINE)

@@ -1,0 +1,1 @@
+"""The shell of mmdb: a prompt for people, and files of command lines."""

@@ -1,0 +1,74 @@
+"""Files that are written whole or not at all, and files that are read."""
+
+from __future__ import annotations
+
+import os
+import stat
+import tempfile
+from contextlib import contextmanager
+from typing import BinaryIO, Iterator
+
+from .interrupts import Interrupts
+from .trouble import Trouble, told_of
+
+# Below these stand devices, and what a process has open.
+_STRAIGHT = ("/dev/", "/proc/")
+
+
+def full_name(path: str) -> str:
+    """A name with the user's home in place of ~."""
+    if not path or "\0" in path:
+        raise Trouble(f"{path!r} is no name of a file")
+    return os.path.expanduser(path)
+
+
+@contextmanager
+def opened(path: str, interrupts: Interrupts) -> Iterator[BinaryIO]:
+    """A file to be read. Ctrl-C ends the wait for a pipe that nobody writes into."""
+    with told_of(path), interrupts.allowed():
+        file = open(full_name(path), "rb")
+    with file:
+        yield file
+
+
+@contextmanager
+def written(path: str) -> Iterator[BinaryIO]:
+    """A file to be written, which takes its place once it is whole: if that fails, what stood there stays. What is no
+    plain file, as a pipe or a device, is written straight."""
+    name = full_name(path)
+    is_there = os.path.exists(name)
+    if os.path.isdir(name):
+        raise Trouble(f"{path} is a folder")
+    if is_there and not os.access(name, os.W_OK):
+        raise Trouble(f"there is no right to {path}")
+    if name.startswith(_STRAIGHT) or is_there and not os.path.isfile(name):
+        with told_of(path), open(name, "wb") as file:
+            yield file
+    else:
+        yield from _replacing(path, os.path.realpath(name))
+
+
+def _replacing(path: str, place: str) -> Iterator[BinaryIO]:
+    folder, name = os.path.split(place)
+    with told_of(path if os.path.isdir(folder) else folder):
+        number, new = tempfile.mkstemp(dir=folder, prefix=f".{name[:60]}.")
+    try:
+        with told_of(path):
+            with open(number, "wb") as file:
+                os.fchmod(number, _mode(place))
+                yield file
+                file.flush()
+                os.fsync(number)
+            os.replace(new, place)
+    except BaseException:
+        os.unlink(new)
+        raise
+
+
+def _mode(place: str) -> int:
+    """The rights of the file that stands there, or of a new one."""
+    if os.path.exists(place):
+        return stat.S_IMODE(os.stat(place).st_mode)
+    mask = os.umask(0)
+    os.umask(mask)
+    return 0o666 & ~mask

@@ -1,0 +1,55 @@
+"""Ctrl-C, and the end of a terminal."""
+
+from __future__ import annotations
+
+import signal
+from contextlib import contextmanager
+from types import FrameType
+from typing import Iterator, Optional
+
+
+class Interrupts:
+    """What Ctrl-C does: it is noted, and only where it is allowed it raises KeyboardInterrupt at once. So none comes
+    between a call of the library and what has to follow it."""
+
+    def __init__(self) -> None:
+        self._is_allowed = False
+        self._is_noted = False
+
+    def install(self) -> None:
+        """Takes Ctrl-C, and lets the end of the terminal, or of the shell's time, unwind the program. What was ignored
+        where the shell was begun, as by nohup, stays ignored."""
+        ends = {signal.SIGINT: self.on_interrupt, signal.SIGHUP: self._on_end, signal.SIGTERM: self._on_end}
+        for number, taken in ends.items():
+            if signal.getsignal(number) is not signal.SIG_IGN:
+                signal.signal(number, taken)
+
+    @contextmanager
+    def allowed(self) -> Iterator[None]:
+        """Lets KeyboardInterrupt come meanwhile, and at once if one was noted."""
+        before, self._is_allowed = self._is_allowed, True
+        try:
+            self.check()
+            yield
+        finally:
+            self._is_allowed = before
+
+    def check(self) -> None:
+        """Raises KeyboardInterrupt if one was noted."""
+        if self._is_noted:
+            self._is_noted = False
+            raise KeyboardInterrupt
+
+    def forget(self) -> None:
+        """Forgets what was noted."""
+        self._is_noted = False
+
+    def on_interrupt(self, _number: int, _frame: Optional[FrameType]) -> None:
+        """Takes one Ctrl-C."""
+        if self._is_allowed:
+            self._is_allowed = False
+            raise KeyboardInterrupt
+        self._is_noted = True
+
+    def _on_end(self, number: int, _frame: Optional[FrameType]) -> None:
+        raise SystemExit(128 + number)

@@ -1,0 +1,206 @@
+"""Rows by the file: loads that are whole or not at all, and records of a table of any size."""
+
+from __future__ import annotations
+
+import io
+import re
+from typing import BinaryIO, Iterator, List, Optional, Tuple, Union
+
+import mmdb
+
+from .cutting import Block, Endless, blocks, without_mark
+from .interrupts import Interrupts
+from .schema import Table
+from .trouble import Trouble
+
+Key = Union[int, str]
+
+PIECE = 1 << 20
+# How many rows a select of a range has at least, and how many ranges there are at most.
+_LEAST_RANGE, _MOST_RANGES = 4096, 256
+
+_TEXT_KEY = re.compile(rb'(?:"((?:[^"]|"")*)"|([^"\n]*))\n')
+_PLACE = re.compile(r"\d+(?=\)?\Z)")
+
+
+def spelled(key: Key) -> str:
+    """A key as it stands in a line."""
+    return str(key) if isinstance(key, int) else "'" + key.replace("'", "''") + "'"
+
+
+def can_stand_in_a_line(key: Optional[Key]) -> bool:
+    """Whether there is a spelling of the key: of a text with a line feed there is none."""
+    return not (isinstance(key, str) and "\n" in key)
+
+
+def answer(db: mmdb.Database, line: Union[str, bytes], block: Optional[bytes] = None) -> bytes:
+    """The answer to a line with its block. Raises the refusal that it is."""
+    told = db.answer(line, block)
+    if told.startswith(b"error "):
+        number, text = told[len(b"error ") : -1].decode().split(" ", 1)
+        raise mmdb.Refused(int(number), text)
+    return told
+
+
+def keys_in(selected: bytes, kind: str) -> Iterator[Key]:
+    """The keys that a select of them alone has answered, one after the other."""
+    start = selected.index(b"\n", selected.index(b"\n") + 1) + 1
+    if kind == "int":
+        lines = io.BytesIO(selected)
+        lines.seek(start)
+        yield from map(int, lines)
+        return
+    for found in _TEXT_KEY.finditer(selected, start):
+        quoted, plain = found.groups(b"")
+        yield (quoted.replace(b'""', b'"') or plain).decode()
+
+
+def between(key: str, low: Tuple[str, Optional[Key]], high: Tuple[str, Optional[Key]]) -> str:
+    """The conditions that a key lies between two bounds, each a sign and a key, or None where it is open."""
+    bounds = [f"{key} {sign} {spelled(at)}" for sign, at in (low, high) if at is not None]
+    return " where " + " and ".join(bounds) if bounds else ""
+
+
+def all_keys(table: Table) -> str:
+    """The line that selects all keys of a table."""
+    return f"select {table.key.name} from {table.name}"
+
+
+# ---- loads
+
+
+class Load:
+    """A load of a CSV of any size into a table: all of its rows go in, or none."""
+
+    def __init__(self, db: mmdb.Database, table: Table, interrupts: Interrupts) -> None:
+        self._db = db
+        self._table = table
+        self._interrupts = interrupts
+        self._before: Optional[bytes] = None
+        #: How many rows have gone in.
+        self.count = 0
+
+    def run(self, file: BinaryIO, limit: int) -> int:
+        """Puts in the rows of a file, and gives how many they are. If it raises, none of them is in."""
+        try:
+            for block in blocks(without_mark(self._pieces(file, limit)), limit, b"", self._table.header):
+                self._interrupts.check()
+                self._put(block)
+        except Endless as why:
+            self._take_back()
+            place = f"behind record {self.count} " if self.count else ""
+            raise Trouble(f"{place}{why} (no row of the file went in)") from why
+        except BaseException:
+            self._take_back()
+            raise
+        return self.count
+
+    def _pieces(self, file: BinaryIO, limit: int) -> Iterator[bytes]:
+        """The file piece by piece. Ctrl-C ends the wait for one."""
+        piece = b"-"
+        while piece:
+            with self._interrupts.allowed():
+                piece = file.read(min(PIECE, limit + 1))
+            yield piece
+
+    def _put(self, block: Block) -> None:
+        if self._before is None and not block.is_last:
+            self._before = self._keys_before()
+        try:
+            self.count += self._db.load_csv(self._table.name, block.content)
+        except mmdb.Refused as why:
+            place = _PLACE.search(why.text)
+            if place is None or not self.count:
+                raise
+            text = why.text[: place.start()] + str(self.count + int(place[0])) + why.text[place.end() :]
+            raise mmdb.Refused(why.number, text) from why
+
+    def _keys_before(self) -> bytes:
+        """The keys before a load of several blocks, by which its rows can be taken back."""
+        before = answer(self._db, all_keys(self._table))
+        if not all(map(can_stand_in_a_line, keys_in(before, self._table.key.kind))):
+            raise Trouble(
+                f"the file is longer than a block, and {self._table.name} has a key with a line feed, beside which "
+                "rows could not be taken back: load it in parts"
+            )
+        return before
+
+    def _take_back(self) -> None:
+        """Takes out what has gone in: of each gap between two keys that were there before, all rows."""
+        if self._before is None:
+            return
+        name, key = self._table.name, self._table.key
+        for below, above in _gaps(keys_in(self._before, key.kind), self._keys_now()):
+            try:
+                answer(self._db, f"delete {name}" + between(key.name, (">", below), ("<", above)))
+            except (MemoryError, mmdb.Refused) as why:
+                told = str(why) or "no memory"
+                raise Trouble(f"rows of the file stay in {name}, since to take them back is refused: {told}") from why
+
+    def _keys_now(self) -> Optional[Iterator[Key]]:
+        """The keys that are there now, or None where no memory is found to say."""
+        try:
+            return keys_in(answer(self._db, all_keys(self._table)), self._table.key.kind)
+        except (MemoryError, mmdb.Refused):
+            return None
+
+
+def _gaps(old: Iterator[Key], now: Optional[Iterator[Key]]) -> Iterator[Tuple[Optional[Key], Optional[Key]]]:
+    """The gaps between the old keys that have new keys in them, each by the old ones below and above it. Both lists
+    rise, and the keys now are the old and the new ones. Where they aren't known, all gaps."""
+    below: Optional[Key] = None
+    if now is None:
+        for above in old:
+            yield below, above
+            below = above
+        yield below, None
+        return
+    next_old, is_used = next(old, None), False
+    for key in now:
+        if key != next_old:
+            is_used = True
+            continue
+        if is_used:
+            yield below, key
+        below, next_old, is_used = key, next(old, None), False
+    if is_used:
+        yield below, None
+
+
+# ---- records
+
+
+def records(db: mmdb.Database, table: Table) -> Iterator[bytes]:
+    """The records of all rows of a table by rising keys, in pieces: of a dump, or where that is too long of selects."""
+    try:
+        yield _below_two_lines(answer(db, f"dump {table.name}"))
+    except mmdb.Refused as why:
+        if why.number != 64:
+            raise
+        yield from _records_by_ranges(db, table)
+
+
+def _records_by_ranges(db: mmdb.Database, table: Table) -> Iterator[bytes]:
+    cuts: List[Optional[Key]] = [None, *_cuts(answer(db, all_keys(table)), table.key.kind), None]
+    for low, high in zip(cuts, cuts[1:]):
+        where = between(table.key.name, (">=", low), ("<", high))
+        yield _below_two_lines(answer(db, f"select * from {table.name}{where}"))
+
+
+def _cuts(selected: bytes, kind: str) -> List[Key]:
+    """Keys that cut all those selected into ranges of many rows. A key that can't stand in a line is none."""
+    count = int(selected[len(b"rows ") : selected.index(b"\n")])
+    size = max(_LEAST_RANGE, count // _MOST_RANGES)
+    cuts: List[Key] = []
+    since = 0
+    for key in keys_in(selected, kind):
+        if since >= size and can_stand_in_a_line(key):
+            cuts.append(key)
+            since = 0
+        since += 1
+    return cuts
+
+
+def _below_two_lines(told: bytes) -> bytes:
+    """The records of an answer, below the line that counts and that of the names."""
+    return told[told.index(b"\n", told.index(b"\n") + 1) + 1 :]

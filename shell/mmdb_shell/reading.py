@@ -1,0 +1,122 @@
+"""Where requests come from: a stream of bytes, or a terminal."""
+
+from __future__ import annotations
+
+import re
+from typing import BinaryIO, Optional
+
+import mmdb
+
+from .trouble import Unreadable, sentence
+from .words import RESERVED
+
+LONGEST_LINE = 8192
+PROMPT, PROMPT_IN_BLOCK = "mmdb> ", " ...> "
+
+_LOAD = re.compile(rb"[ \t]*load[ \t]+([A-Za-z_][A-Za-z0-9_]{0,31})[ \t]+0*([0-9]{1,19})[ \t]*\r?")
+_GREATEST_COUNT = (1 << 63) - 1
+_PIECE = 1 << 16
+
+
+def block_length(line: bytes) -> Optional[int]:
+    """How many bytes belong to a line as its block, where it spells a load."""
+    spelled = _LOAD.fullmatch(line)
+    if spelled is None or spelled[1].decode() in RESERVED or len(line) - line.endswith(b"\r") > LONGEST_LINE:
+        return None
+    count = int(spelled[2])
+    return count if count <= _GREATEST_COUNT else None
+
+
+class Source:
+    """A source of lines and blocks. `name` is what messages call it, and `number` that of the last line."""
+
+    name = ""
+    number = 0
+    is_typed = False
+
+    def line(self) -> Optional[bytes]:
+        """The next line without its line feed, or None at the end."""
+        raise NotImplementedError
+
+    def take(self, count: int) -> bytes:
+        """The next so many bytes, fewer only at the end."""
+        raise NotImplementedError
+
+    def forget(self) -> None:
+        """Forgets what was typed and isn't done yet."""
+
+    def block(self, count: int, limit: int) -> bytes:
+        """The block of a load. Raises the refusals 12, of a block past the limit, and 13, of one that is cut short."""
+        if count <= limit:
+            block = self.take(count)
+            if len(block) < count:
+                raise mmdb.Refused(13, "block cut short")
+            return block
+        while count and self.take(min(count, _PIECE)):
+            count -= min(count, _PIECE)
+        raise mmdb.Refused(12, "block too long")
+
+
+class Stream(Source):
+    """The requests of a file or a pipe."""
+
+    def __init__(self, file: BinaryIO, name: str) -> None:
+        self._file = file
+        self.name = name
+
+    def line(self) -> Optional[bytes]:
+        """The next line. Of one that is too long, only a front that is too long as well is kept."""
+        longest = LONGEST_LINE + len(b"\r\n") + 1
+        try:
+            line = piece = self._file.readline(longest)
+            while len(line) == longest and piece and not piece.endswith(b"\n"):
+                piece = self._file.readline(_PIECE)
+        except OSError as why:
+            raise Unreadable(sentence(self.name or "standard input", why)) from why
+        self.number += 1
+        return (line[:-1] if line.endswith(b"\n") else line) if line else None
+
+    def take(self, count: int) -> bytes:
+        try:
+            taken = self._file.read(count)
+        except OSError as why:
+            raise Unreadable(sentence(self.name or "standard input", why)) from why
+        self.number += taken.count(b"\n")
+        return taken
+
+
+class Terminal(Source):
+    """What is typed. A line that was pasted with others waits for its turn."""
+
+    is_typed = True
+
+    def __init__(self) -> None:
+        self._typed = b""
+
+    def line(self) -> Optional[bytes]:
+        if not self._typed and not self._read(PROMPT):
+            return None
+        line, self._typed = self._typed.split(b"\n", 1)
+        return line
+
+    def take(self, count: int) -> bytes:
+        while len(self._typed) < count and self._read(PROMPT_IN_BLOCK):
+            pass
+        taken, self._typed = self._typed[:count], self._typed[count:]
+        return taken
+
+    def forget(self) -> None:
+        self._typed = b""
+
+    def _read(self, prompt: str) -> bool:
+        """Reads one more line, and tells whether there was one."""
+        try:
+            typed = input(prompt)
+        except EOFError:
+            return False
+        except UnicodeDecodeError:
+            raise mmdb.Refused(11, "not UTF-8") from None
+        except OSError as why:
+            raise Unreadable(sentence("the terminal", why)) from why
+        self._typed += typed.encode("utf-8", "surrogateescape") + b"\n"
+        return True
