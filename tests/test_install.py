@@ -19,6 +19,7 @@ import library
 MODULES = [path.name for path in (harness.ROOT / "bindings" / "python" / "mmdb").iterdir() if path.suffix in (".py", ".typed")]
 FILES = {
     "bin/mmdb",
+    "bin/mmdb-shell",
     "include/mmdb.h",
     "lib/libmmdb.a",
     "lib/libmmdb.so",
@@ -37,9 +38,12 @@ FILES = {
     "share/doc/mmdb/docs/language.md",
     "share/doc/mmdb/docs/plans.md",
     "share/doc/mmdb/docs/python.md",
+    "share/doc/mmdb/docs/shell.md",
     "share/man/man1/mmdb.1",
+    "share/man/man1/mmdb-shell.1",
     "share/man/man3/mmdb.3",
     "share/mmdb/installed",
+    *(f"share/mmdb/shell/mmdb_shell/{module.name}" for module in (harness.ROOT / "shell" / "mmdb_shell").glob("*.py")),
 }
 # Holds the copy that each test has a copy of.
 ROOM = tempfile.TemporaryDirectory(prefix="mmdb-tests-")
@@ -76,7 +80,7 @@ def model_copy():
     (top / "release").mkdir()
     for name in ("install", "README.md", "CHANGELOG.md", "LICENSE-MIT", "LICENSE-APACHE", "crates.txt", "release/THIRD-PARTY"):
         shutil.copy(harness.ROOT / name, top / name)
-    for name in ("scripts", "include", "docs", "bindings/python"):
+    for name in ("scripts", "include", "docs", "bindings/python", "shell"):
         shutil.copytree(harness.ROOT / name, top / name)
     (top / "crates").symlink_to(harness.ROOT / "crates")
     shutil.copy(harness.PROGRAM, top / "release")
@@ -201,6 +205,14 @@ class Uses(Installs):
         _, stream, answers = next(harness.rows())
         ran = subprocess.run([self.prefix / "bin" / "mmdb"], input=stream, capture_output=True, check=False)
         self.assertEqual((ran.returncode, ran.stdout, ran.stderr), (0, answers, b""))
+
+    def test_the_shell_runs(self):
+        lines = "table t (id int)\ninsert t (7)\nselect * from t\n"
+        where = {**self.where, "PATH": f"{self.prefix}/bin:{self.where['PATH']}"}
+        ran = subprocess.run(["mmdb-shell"], input=lines, capture_output=True, text=True, env=where, timeout=harness.SECONDS, check=False)
+        self.assertEqual((ran.returncode, ran.stdout, ran.stderr), (0, "t.id\n7\n", ""))
+        self.assertEqual(self.ran("--remove", self.prefix).returncode, 0)
+        self.assertFalse(self.prefix.exists())
 
     def test_the_package_is_imported(self):
         program, printed = embedding.first_program("docs/python.md", "python")
