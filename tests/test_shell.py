@@ -194,6 +194,8 @@ class Typed:
     def __init__(self, environment, *said):
         self.process, self.terminal = pty.fork()
         if self.process == 0:
+            for number in (signal.SIGINT, signal.SIGHUP):
+                signal.signal(number, signal.SIG_DFL)
             os.execve(RUN[0], [*RUN, "--plain", *said], environment)
         self.seen = ""
 
