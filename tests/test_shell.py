@@ -660,14 +660,13 @@ class CtrlC(unittest.TestCase):
 class Tables(unittest.TestCase):
     """How values are shown."""
 
+    NAMES = ("t.id", "t.s", "t.u")
     ROWS = [[1, "Ann", None], [-20, "", ""], [3, " a", "null"], [4, "日本|x", 'a,"b"\n'], [5, "e\u0301\x1b", "''"]]
 
     CELLS = boxes.Cells(["id", "s"], [["-20", "Ann"], ["3", "[b]"], ["4", "日本|x"]], [True, False])
 
     def shown(self, mode, rows=None):
-        given = mmdb.Rows(self.ROWS if rows is None else rows)
-        given.names = ("t.id", "t.s", "t.u")
-        return "".join(showing.modes(boxes.plain_box("utf-8"))[mode](given))
+        return "".join(showing.modes(boxes.plain_box("utf-8"))[mode](self.NAMES, self.ROWS if rows is None else rows))
 
     def test_box(self):
         box = """\
@@ -687,8 +686,7 @@ class Tables(unittest.TestCase):
 
     def test_the_others(self):
         self.assertEqual(self.shown("csv"), 't.id,t.s,t.u\n1,Ann,\n-20,"",""\n3, a,null\n4,日本|x,"a,""b""\n"\n5,e\u0301\x1b,\'\'\n')
-        names = ("t.id", "t.s", "t.u")
-        self.assertEqual(json.loads(self.shown("json")), [dict(zip(names, row)) for row in self.ROWS])
+        self.assertEqual(json.loads(self.shown("json")), [dict(zip(self.NAMES, row)) for row in self.ROWS])
         self.assertEqual(self.shown("json", []), "[]\n")
         self.assertIn("| 4 | 日本\\|x | 'a,\"b\"␊' |\n", self.shown("markdown"))
 

@@ -102,12 +102,11 @@ def _schema(shell: Shell, name: str = "") -> None:
 
 @_dotted(".indexes", "lists the indexes of each table")
 def _indexes(shell: Shell) -> None:
-    rows = mmdb.Rows()
-    rows.names = ("table", "column", "kind", "declared")
+    rows: List[List[mmdb.Value]] = []
     for table in tables_of(shell.db).values():
         rows.append([table.name, table.key.name, "tree", "with the table"])
         rows.extend([table.name, column, kind, "by index"] for column, kind in table.indexes)
-    shell.show(rows)
+    shell.show(("table", "column", "kind", "declared"), rows)
 
 
 @_dotted(".load TABLE FILE", "puts in the rows of a CSV file, all or none")

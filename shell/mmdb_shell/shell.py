@@ -14,7 +14,7 @@ from .files import full_name
 from .interrupts import Interrupts
 from .moving import answer
 from .reading import Source, block_length
-from .showing import count, modes
+from .showing import Names, Rows, count, modes
 from .trouble import NAME, Trouble, Unreadable, Unwritable
 from .words import COMMANDS, REFUSALS
 
@@ -106,7 +106,7 @@ class Shell:
         told = self._answered(line, block)
         took = time.perf_counter() - began
         if isinstance(told, mmdb.Rows):
-            self.show(told)
+            self.show(told.names, told)
         else:
             self._show_answer(source, front, told)
         if self.has_timer and front and not front.startswith(b"#"):
@@ -126,10 +126,10 @@ class Shell:
 
     # ---- answers
 
-    def show(self, rows: mmdb.Rows) -> None:
+    def show(self, names: Names, rows: Rows) -> None:
         """Shows rows in the mode that is set."""
         with self.interrupts.allowed():
-            for piece in self.modes[self.mode](rows):
+            for piece in self.modes[self.mode](names, rows):
                 self.say(piece)
         if self._is_at_terminal and self.mode == "box":
             self.say(f"{count(rows)}\n")

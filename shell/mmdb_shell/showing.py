@@ -8,14 +8,18 @@ from __future__ import annotations
 
 import json
 import re
-from typing import Callable, Dict, Iterator, List
+from typing import Callable, Dict, Iterator, List, Sequence
 
 import mmdb
 
 from .boxes import Cells, width
 
-#: A mode gives the lines of some rows, each with its line feed.
-Mode = Callable[[mmdb.Rows], Iterator[str]]
+#: The rows of a table, and the names of its columns.
+Rows = Sequence[Sequence[mmdb.Value]]
+Names = Sequence[str]
+
+#: A mode gives names and rows in pieces of text, the last of which ends a line.
+Mode = Callable[[Names, Rows], Iterator[str]]
 
 _NEEDS_QUOTES = re.compile('[",\r\n]').search
 _IS_ODD = re.compile(r"\A(?:'|\s|\Z)|\s\Z").search
@@ -42,15 +46,15 @@ def cell(value: mmdb.Value) -> str:
     return f"'{shown}'" if _IS_ODD(value) or not width(shown) else shown
 
 
-def cells_of(rows: mmdb.Rows) -> Cells:
+def cells_of(names: Names, rows: Rows) -> Cells:
     """What stands in the cells of a table, and which columns have numbers."""
-    numbers = [any(isinstance(row[at], int) for row in rows) for at in range(len(rows.names))]
-    return Cells(list(rows.names), [[cell(value) for value in row] for row in rows], numbers)
+    numbers = [any(isinstance(row[at], int) for row in rows) for at in range(len(names))]
+    return Cells(list(names), [[cell(value) for value in row] for row in rows], numbers)
 
 
-def csv(rows: mmdb.Rows) -> Iterator[str]:
+def csv(names: Names, rows: Rows) -> Iterator[str]:
     """The names and the rows as CSV."""
-    yield ",".join(rows.names) + "\n"
+    yield ",".join(names) + "\n"
     for row in rows:
         yield (",".join(map(_field, row)) or '""') + "\n"
 
@@ -61,18 +65,18 @@ def _field(value: mmdb.Value) -> str:
     return '"' + value.replace('"', '""') + '"' if not value or _NEEDS_QUOTES(value) else value
 
 
-def as_json(rows: mmdb.Rows) -> Iterator[str]:
+def as_json(names: Names, rows: Rows) -> Iterator[str]:
     """A list of objects, one a line."""
     before = "["
     for row in rows:
-        yield before + json.dumps(dict(zip(rows.names, row)), ensure_ascii=False)
+        yield before + json.dumps(dict(zip(names, row)), ensure_ascii=False)
         before = ",\n "
     yield "[]\n" if before == "[" else "]\n"
 
 
-def markdown(rows: mmdb.Rows) -> Iterator[str]:
+def markdown(names: Names, rows: Rows) -> Iterator[str]:
     """A table of Markdown."""
-    cells = cells_of(rows)
+    cells = cells_of(names, rows)
     yield _row_of_markdown(cells.names)
     yield "|" + "|".join("---:" if is_number else "---" for is_number in cells.numbers) + "|\n"
     for row in cells.rows:
@@ -89,9 +93,9 @@ def _escaped(mark: "re.Match[str]") -> str:
 
 def modes(box: Callable[[Cells], Iterator[str]]) -> Dict[str, Mode]:
     """The modes by name, with a way to draw a box."""
-    return {"box": lambda rows: box(cells_of(rows)), "csv": csv, "json": as_json, "markdown": markdown}
+    return {"box": lambda names, rows: box(cells_of(names, rows)), "csv": csv, "json": as_json, "markdown": markdown}
 
 
-def count(rows: mmdb.Rows) -> str:
+def count(rows: Rows) -> str:
     """How many rows there are, in words."""
     return "1 row" if len(rows) == 1 else f"{len(rows)} rows"
