@@ -9,8 +9,8 @@ ghost use Rattle.mmdb_c.specs.declared.database.Database.{Database};
 ghost use Rattle.mmdb_c.specs.contracts.database.Database.{the_row};
 ghost use Rattle.mmdb_c.specs.Handles.{holds};
 
-use crate::block::Block;
 use crate::database::Database;
+use raw_box::RawBox;
 use std::alloc::Global;
 use std::marker::Model;
 use std::mem::replace;
@@ -36,22 +36,22 @@ impl Handle {
     }
 
     /// A handle of that database.
-    fn of(block: Block<Database, Global>) -> Handle
-        ensures { result.database ≡ Some block.value }
+    fn of(raw: RawBox<Database, Global>) -> Handle
+        ensures { result.database ≡ Some raw.value }
     {
-        let Block { at, alloc: _ } = block;
+        let RawBox { at, alloc: _ } = raw;
         Handle { at: at as *mut u8 }
     }
 
     /// The database, if there is one.
-    fn into_block(self, alloc: Global) -> Option<Block<Database, Global>>
+    fn into_raw(self, alloc: Global) -> Option<RawBox<Database, Global>>
         ensures { MatchOption result (self.database ≡ None) (λ b. self.database ≡ Some b.value) }
     {
         let Handle { at } = self;
         if at.is_null() {
             None
         } else {
-            Some(Block {
+            Some(RawBox {
                 at: at as *mut Database,
                 alloc,
             })
@@ -63,9 +63,9 @@ impl Handle {
         ensures taken { MatchOption result (self.old.database ≡ None) (λ b. self.old.database ≡ Some b.value) }
         ensures closed { self.new.database ≡ None }
     {
-        match replace(self, Handle::closed()).into_block(alloc) {
+        match replace(self, Handle::closed()).into_raw(alloc) {
             None => None,
-            Some(block) => Some(block.into_box()),
+            Some(raw) => Some(raw.into_box()),
         }
     }
 
@@ -73,9 +73,9 @@ impl Handle {
     pub fn put(&mut self, alloc: Global, database: Box<Database>)
         ensures { self.new.database ≡ Some database.value }
     {
-        let before = replace(self, Handle::of(Block::of(database)));
-        if let Some(block) = before.into_block(alloc) {
-            drop(block.into_box());
+        let before = replace(self, Handle::of(RawBox::from_box(database)));
+        if let Some(raw) = before.into_raw(alloc) {
+            drop(raw.into_box());
         }
     }
 }

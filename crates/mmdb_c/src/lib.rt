@@ -13,7 +13,6 @@ ghost use Rattle.plain_streams.specs.Division.{IsWhole};
 ghost use Rattle.mm_session.specs.Refused.{TellsRefusal};
 ghost use Rattle.mmdb_c.specs.Calls.{AreLimits, new_database, request, Becomes, AnswersRequest, TakesPiece, LosesStream};
 
-mod block;
 mod database;
 mod handle;
 

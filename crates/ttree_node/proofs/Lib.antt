@@ -1,4 +1,3 @@
-pub mod Blocks
 pub mod Cuts
 pub mod Depth
 pub mod Changes

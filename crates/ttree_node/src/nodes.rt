@@ -1,58 +1,16 @@
 //! The one module that reads and writes through a pointer: a set of nodes on the heap, which is seen as a finite map from places to nodes.
-ghost use Rattle.std.specs.Prelude.{◌≡◌, List as Seq, [], ◌∷◌, ◌++◌, IfOk};
-ghost use Rattle.std_alloc.specs.Box.Ownership.{box_owns};
+ghost use Rattle.std.specs.Prelude.{◌≡◌, List as Seq, [], ◌∷◌, ◌++◌};
 ghost use denote.RawPtr.{Ptr};
 ghost use Rattle.ttree_node.specs.Held.{node_at, without, held_owns, held_lent};
 
-use no_memory::NoMemory;
-use std::alloc::{Allocator, Global};
+use raw_box::RawBox;
+use std::alloc::Global;
 use std::marker::{Model, PhantomData};
 
 // Where a node lies. It owns nothing.
 #[derive(Clone, Copy)]
 pub struct Place {
     at: *mut u8,
-}
-
-// The memory of one value, which lies there: a box as its pointer. It can't be dropped, and only this module takes it apart. So whoever has
-// one puts it into a set, or gives the memory back by `into_value`.
-pub(crate) struct Block<T, A: Allocator> {
-    at: *mut T,
-    alloc: A,
-    ghost value: { T },
-}
-
-impl<T, A: Allocator> Model for Block<T, A> {
-    ghost also_owns = { λ b. box_owns (A.dealloc_token b.alloc) T.row b.at b.value };
-}
-
-impl<T: Drop, A: Allocator> Block<T, A> {
-    pub(crate) fn new(alloc: A, value: T) -> Result<Block<T, A>, NoMemory>
-        ensures { IfOk result (λ block. block.value ≡ value) }
-    {
-        Ok(Block::of(Box::new(alloc, value)?))
-    }
-
-    // Gives the memory back, and the value that lay there.
-    pub(crate) fn into_value(self) -> T
-        ensures { result ≡ self.value }
-    {
-        Box::into_inner(self.into_box())
-    }
-
-    fn of(value: Box<T, A>) -> Block<T, A>
-        ensures { result.value ≡ value.value }
-    {
-        let (at, alloc) = Box::into_raw_with_allocator(value);
-        Block { at, alloc }
-    }
-
-    fn into_box(self) -> Box<T, A>
-        ensures { result.value ≡ self.value }
-    {
-        let Block { at, alloc } = self;
-        unsafe { Box::from_raw(alloc, at) }
-    }
 }
 
 // The owner of the nodes' memory. It takes no space: the places lie in the nodes.
@@ -87,22 +45,22 @@ impl<T> Nodes<T> {
         let Nodes { mark: _ } = self;
     }
 
-    pub(crate) fn take_in(&mut self, block: Block<T, Global>) -> Place
+    pub(crate) fn take_in(&mut self, block: RawBox<T, Global>) -> Place
         requires { 0 < size (lone T.row.mir) }
         ensures held { self.new.held ≡ (result.at, block.value) ∷ self.old.held }
         ensures fresh { node_at result.at self.old.held ≡ None }
     {
-        let Block { at, alloc: _ } = block;
+        let RawBox { at, alloc: _ } = block;
         Place { at: at as *mut u8 }
     }
 
-    pub(crate) fn give_out(&mut self, place: Place, alloc: Global) -> Block<T, Global>
+    pub(crate) fn give_out(&mut self, place: Place, alloc: Global) -> RawBox<T, Global>
         requires { IsSome (node_at place.at self.old.held) }
         ensures held { self.new.held ≡ without place.at self.old.held }
         ensures value { node_at place.at self.old.held ≡ Some result.value }
     {
         let _set = self;
-        Block {
+        RawBox {
             at: place.at as *mut T,
             alloc,
         }

@@ -3,10 +3,11 @@ ghost use Rattle.std.specs.Prelude.{◌≡◌, ◌+◌, ◌-◌, ◌<◌, ◌≤
 ghost use denote.RawPtr.{Ptr};
 
 use crate::node::{Node, Side};
-use crate::nodes::{Block, Nodes, Place};
+use crate::nodes::{Nodes, Place};
 use arrayvec::ArrayVec;
 use no_memory::NoMemory;
 use part_raw::TupleRef;
+use raw_box::RawBox;
 use std::alloc::Global;
 
 // No heap has a block for a node of more items.
@@ -159,7 +160,7 @@ impl<const MAX: usize> Parts<MAX> {
             parent: None,
             items: ArrayVec::new(),
         };
-        let block = Block::new(self.alloc, node)?;
+        let block = RawBox::new(self.alloc, node)?;
         let place = self.nodes.take_in(block);
         self.free = Some(place);
         self.spares += 1;
@@ -175,7 +176,7 @@ impl<const MAX: usize> Parts<MAX> {
         ensures spares { self.new.spares + 1 ≡ self.old.spares }
     {
         let place = self.free.unwrap();
-        let node = self.nodes.give_out(place, self.alloc).into_value();
+        let node = self.nodes.give_out(place, self.alloc).into_inner();
         self.free = node.left;
         self.spares -= 1;
     }

@@ -33,7 +33,7 @@ use Rattle.std.specs.contracts.impls.GlobalAllocator.TheImpl.{ghosts}
 use Rattle.std_alloc.proofs.RcSteps.{word, word-Good}
 use Rattle.std_alloc.specs.Box.Ownership.{box_owns}
 use Rattle.ttree_node.specs.Held.{token, node_at, without, held_owns}
-use Rattle.ttree_node.proofs.Blocks.{two, Block, block_good, block_in, heap}
+use Rattle.raw_box.proofs.Values.{two, RawBox, raw_good, raw_in, heap}
 use Rattle.ttree_node.proofs.Cuts.{cut_at}
 use Rattle.ttree_node.proofs.Memory.{place_read, One, node_cut}
 use Rattle.ttree_node.specs.contracts.nodes.Nodes as nodes
@@ -46,7 +46,7 @@ use Rattle.ttree_node.proofs.nodes.Nodes.give_out.Code as code
 pub give_out_spec : {M : Type 1} → statement M
 give_out_spec 𝓤 𝓛 𝓜 𝓡 wired T L =
     let H = 𝓛.H in let 𝓣 = tables 𝓤 H 𝓜 𝓡 𝓡.env in let R : RattleType = param 0 T in let En = ended T in let c = clauses T 𝓛 𝓜.mem 𝓡.returns in
-    let inst = layouts (a_type ∷ []) (T, tt) in let fn = inst_fn inst code.function in let N : RattleType = nodes.the_row R in let P : RattleType = place.the_row in let Z : RattleType = global.the_row in let LZ = global_laws.the_row_laws in let B : RattleType = Block R Z LZ ghosts in
+    let inst = layouts (a_type ∷ []) (T, tt) in let fn = inst_fn inst code.function in let N : RattleType = nodes.the_row R in let P : RattleType = place.the_row in let Z : RattleType = global.the_row in let LZ = global_laws.the_row_laws in let B : RattleType = RawBox R Z LZ ghosts in
     let hs : Stays En.signature.params En.kept = (stay_ref (0 ∷ []) tt (plain (λ _. N)), (stay_dropped (plain (λ _. P)) yes, (stay_dropped (plain (λ _. Z)) yes, tt))) in
     proved_at 𝓛 En hs c 𝓜 𝓡 (Goes-ref 𝓛 2 0 tt (plain (λ _. N)), (Goes-dropped 𝓛 2 (plain (λ _. P)) yes (λ κs x f. refl), (Goes-dropped 𝓛 2 (plain (λ _. Z)) yes (λ κs x f. refl), tt))) (#self inst) fn (code.unfolded 𝓤 H 𝓜 𝓡 wired (T, tt)) (λ z are.
     let κs = z.0.0 in let qs = z.0.1 in let Post : Val → SProp 𝓤 = (walk_of 𝓛 En hs c).post z in let Run : List Val → SProp 𝓤 = λ ws. WpFn 𝓤 H 𝓣.C 𝓣.Λ fn ws Post in
@@ -68,8 +68,8 @@ give_out_spec 𝓤 𝓛 𝓜 𝓡 wired T L =
     -- [the block; the other nodes; the mark; its cell; the open borrow, in three entries; the handle]
     move ! (1 ∷ []) $ rewrite ! 0 (λ m. ‵ (held_owns R m)) (sym cut.rest) refl $ move ! (2 ∷ 0 ∷ []) $ fjoin ! $ move ! (2 ∷ 0 ∷ 3 ∷ 4 ∷ 5 ∷ []) $ closes ! tt N d' vs b o $ feq_i ! (List Val) z.0.4.0 (vptr b o ∷ []) are.0.0 $ fjoin3 ! $
     -- [the set; the token; the block; the handle]
-    move ! (2 ∷ 3 ∷ []) $ block_in R Z LZ ghosts ! pb po h a x $
-    sets ! (of_opd ! (get ! refl)) refl (tt, tt) $ sets ! (of_opd ! (get_in ! (fld ! refl (stop !)) (sub ! 0 refl (whole !)))) refl (tt, tt) $ sets ! (agg ! (and_then ! (get ! refl) (and_then ! (get ! refl) (no_more !)))) refl (block_good R Z LZ ghosts pb po h fits) $
+    move ! (2 ∷ 3 ∷ []) $ raw_in R Z LZ ghosts ! pb po h a x $
+    sets ! (of_opd ! (get ! refl)) refl (tt, tt) $ sets ! (of_opd ! (get_in ! (fld ! refl (stop !)) (sub ! 0 refl (whole !)))) refl (tt, tt) $ sets ! (agg ! (and_then ! (get ! refl) (and_then ! (get ! refl) (no_more !)))) refl (raw_good R Z LZ ghosts pb po h fits) $
     -- [the block; the set; two tokens; nothing]
     move ! (2 ∷ 3 ∷ 4 ∷ []) $ move ! (1 ∷ 2 ∷ []) $ join ! $ move ! (1 ∷ 0 ∷ []) $ join ! $
     move ! (2 ∷ []) $ nothing ! $ nothing ! $ fjoin ! $ nothing ! $ fjoin ! $ move ! (1 ∷ 0 ∷ []) $ fjoin ! $
