@@ -76,6 +76,16 @@ impl LinHash {
         }
     }
 
+    /// For how many nodes there is memory. Each entry has one of them.
+    pub fn nodes(&self) -> usize
+        ensures { result ≡ self.now.nodes }
+    {
+        match &self.table {
+            Some(table) => table.nodes(),
+            None => 0,
+        }
+    }
+
     /// The references with that hash, each as often as it is held, in any order. It borrows the index and takes no memory.
     pub fn chain(&self, hash: u64) -> Chain<'_>
         ensures { IsSameBag (chain_rest result) (with_hash hash self.now.entries) }

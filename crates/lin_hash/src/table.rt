@@ -85,6 +85,13 @@ impl Table {
         self.heads.len()
     }
 
+    // For how many nodes there is memory.
+    pub fn nodes(&self) -> usize
+        ensures { result ≡ self.now.nodes }
+    {
+        self.nodes.capacity().min(MOST_NODES)
+    }
+
     // Makes sure of a node for each of so many entries, and of a head for every two. There are no more nodes than
     // links can name. After an error what was gained is kept.
     pub fn reserve(&mut self, entries: usize) -> Result<(), NoMemory>

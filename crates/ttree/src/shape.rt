@@ -33,7 +33,7 @@ impl<const MIN: usize, const MAX: usize> TTree<MIN, MAX> {
         let height = self.height();
         TreeShape {
             height,
-            nodes: self.nodes - self.links.spares(),
+            nodes: self.nodes(),
             items: self.len,
         }
     }

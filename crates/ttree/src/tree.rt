@@ -309,6 +309,20 @@ impl<const MIN: usize, const MAX: usize> TTree<MIN, MAX> {
         self.len
     }
 
+    /// How many nodes are in use.
+    pub fn nodes(&self) -> usize
+        ensures { result ≡ size self.now.tree }
+    {
+        self.nodes - self.links.spares()
+    }
+
+    /// How many nodes are spare.
+    pub fn spares(&self) -> usize
+        ensures { result ≡ self.now.spares }
+    {
+        self.links.spares()
+    }
+
     /// Gives back the memory that was reserved and not used. Takes no memory.
     pub fn release_spares(&mut self)
         ensures tree { self.new.tree ≡ self.old.tree }
