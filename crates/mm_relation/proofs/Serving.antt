@@ -26,6 +26,14 @@ use Rattle.mm_relation.specs.State.{RowTree, tree_list, is_tree, TreeServes, Has
 use Rattle.mm_relation.specs.Indexes.{Indexes, SeenIndex, seen, seen_as, kind_in, declaration_of, room_in, wanted, Where, Await, Gain, Have, Lose, Serve, Serves, HaveRoom, IsColumn, TreeAwaits, TreeGains, TreeHas, TreeLoses, Awaits, AwaitsAs, Gains, GainsAs, HasAs, Loses, LosesAs}
 use Rattle.mm_relation.proofs.Loops.{same_mapped}
 
+-- indexes that are seen alike were declared alike
+declared_seen : (all : Indexes) → map (λ (s : SeenIndex). s.declaration) (map seen all) ≡ map declaration_of all
+declared_seen [] = refl
+declared_seen (on ∷ all) = ap (λ ds. declaration_of on ∷ ds) (declared_seen all)
+
+pub seen_declared : (old new : Indexes) → map seen new ≡ map seen old → map declaration_of new ≡ map declaration_of old
+seen_declared old new same = sym (declared_seen new) ∙ ap (map (λ (s : SeenIndex). s.declaration)) same ∙ declared_seen old
+
 -- what is left of two bags from which one element is taken
 pub same_behind : {A : Type 0} (x : A) (xs ys : List A) → IsSameBag (x ∷ xs) (x ∷ ys) → IsSameBag xs ys
 same_behind {A} x xs ys h = record {

@@ -1,10 +1,10 @@
 -- What a row's coming and going does to one declared index, and to all of them.
-use Rattle.std.specs.Prelude.{Bool, true, false, not, filter, ◌≡◌, ℕ, ◌^◌, ◌+◌, ◌<◌, ◌≤◌, [], ◌∷◌, List, IsTrue, IsSome, length, map, All, Contains, slice_index_or}
+use Rattle.std.specs.Prelude.{Bool, true, false, not, filter, ◌≡◌, ℕ, ◌^◌, ◌+◌, ◌<◌, ◌≤◌, max, [], ◌∷◌, List, IsTrue, IsSome, length, map, All, Contains, slice_index_or}
 use Rattle.part_raw.specs.declared.tuple_ref.TupleRef.{TupleRef}
 use Rattle.std.specs.FinMap.{get}
 use Rattle.part_raw.specs.Store.{Tuples}
 use Rattle.ttree_node.specs.TreeWithSpares.{TreeWithSpares}
-use Rattle.ttree.specs.Held.{empty}
+use Rattle.ttree.specs.Held.{empty, size}
 use Rattle.ttree.specs.Room.{room_of}
 use Rattle.lin_hash.specs.Held.{HeldBuckets}
 use Rattle.mm_index.specs.Bag.{IsSameBag}
@@ -50,6 +50,10 @@ room_in (Hash h) = h.room
 abbrev pub spares_in : Index → ℕ
 spares_in (Tree t) = t.spares
 spares_in (Hash h) = 0
+
+-- a tree has no more spare nodes than nodes in use, but for a few
+abbrev pub HasFewSpares : IndexOn → Type 0
+HasFewSpares on = spares_in on.index ≤ max (size (tree_in on.index)) 64
 
 -- of how many inserts it has to be sure where so many rows go out and come in again one by one
 abbrev pub wanted : ℕ → Index → ℕ

@@ -3,12 +3,13 @@ ghost use Rattle.std.specs.Prelude.{◌≡◌, ◌≤◌, [], IsSome, OnOk, max}
 ghost use Rattle.mm_relation.specs.Order.{KeysDiffer};
 ghost use Rattle.mm_relation.specs.Reading.{value_at, hash_at};
 ghost use Rattle.mm_relation.specs.State.{tree_list};
-ghost use Rattle.mm_relation.specs.Indexes.{declaration_of, tree_in, entries_in, room_in, spares_in, seen, Awaits, Gains, Has, Loses};
+ghost use Rattle.mm_relation.specs.Indexes.{declaration_of, tree_in, entries_in, room_in, spares_in, HasFewSpares, seen, Awaits, Gains, Has, Loses};
 
 use crate::linked_keys::LinkedKeys;
 use crate::numbers::DeclaredIndex;
 use crate::order::{ColumnOrder, value_in};
 use crate::row::Row;
+use crate::spares::{shed_hash, shed_tree};
 use crate::tree::Tree;
 use lin_hash::LinHash;
 use mm_index::{ExactIndex, OrderProbe};
@@ -125,6 +126,17 @@ impl IndexOn {
                 tree.remove(&mut OrderProbe::new(&order, r));
             }
             Index::Hash(hash) => hash.remove(hash_in(rows, others, column, r), r),
+        }
+    }
+
+    // Gives back what is spare, where that is more than what is in use.
+    pub fn shed_spares(&mut self)
+        ensures same { seen self.new ≡ seen self.old }
+        ensures few { HasFewSpares self.new }
+    {
+        match &mut self.index {
+            Index::Tree(tree) => shed_tree(tree),
+            Index::Hash(hash) => shed_hash(hash),
         }
     }
 }

@@ -8,7 +8,7 @@ ghost use Rattle.mm_relation.specs.Order.{KeysDiffer};
 ghost use Rattle.mm_relation.specs.Declaring.{is_index};
 ghost use Rattle.mm_relation.specs.Settings.{sets_column};
 ghost use Rattle.mm_relation.specs.State.{tree_of, entries_on, HasColumn, HasHashColumn};
-ghost use Rattle.mm_relation.specs.Indexes.{seen, declaration_of, room_in, wanted, spares_in, trees_of, hashes_of, Awaits, Gains, Has, Loses, GainsSet, AwaitsSet, LosesSet, HaveRoom, Await, Gain, Have, Lose, AwaitSet, GainSet, LoseSet};
+ghost use Rattle.mm_relation.specs.Indexes.{seen, declaration_of, room_in, wanted, spares_in, HasFewSpares, trees_of, hashes_of, Awaits, Gains, Has, Loses, GainsSet, AwaitsSet, LosesSet, HaveRoom, Await, Gain, Have, Lose, AwaitSet, GainSet, LoseSet};
 
 use crate::index::{Index, IndexOn};
 use crate::linked_keys::LinkedKeys;
@@ -43,6 +43,15 @@ fn reserve_each(indexes: &mut [IndexOn], n: usize) -> Result<(), NoMemory>
         on.reserve(wanted)?;
     }
     Ok(())
+}
+
+fn shed_each(indexes: &mut [IndexOn])
+    ensures same { (k : ℕ) (d : IndexOn) → k < length indexes.old → seen (slice_index_or indexes.new k d) ≡ seen (slice_index_or indexes.old k d) }
+    ensures few { All HasFewSpares indexes.new }
+{
+    for on in indexes.iter_mut() {
+        on.shed_spares();
+    }
 }
 
 fn insert_each<R: LinkedKeys>(
@@ -154,6 +163,14 @@ pub fn reserve(indexes: &mut Sequence<IndexOn>, n: usize) -> Result<(), NoMemory
     ensures spares { (k : ℕ) (d : IndexOn) → k < length indexes.old → spares_in (slice_index_or indexes.new k d).index ≤ max (spares_in (slice_index_or indexes.old k d).index) (max n 1) }
 {
     reserve_each(indexes.as_mut_slice(), n)
+}
+
+// Gives back what is spare of each, where that is more than what is in use.
+pub fn shed_spares(indexes: &mut Sequence<IndexOn>)
+    ensures same { map seen indexes.new ≡ map seen indexes.old }
+    ensures few { All HasFewSpares indexes.new }
+{
+    shed_each(indexes.as_mut_slice());
 }
 
 // Puts a row's reference into each. It takes no memory.

@@ -13,6 +13,7 @@
 //! - Under the keys that links lead to, each declared tree has each row once in its column's order, and each declared hash
 //!   each row under the hash of its value. A call asks this and ensures it again.
 //! - What finds no memory finds none before the first change.
+//! - Once a row was taken out, no tree has more spare nodes than nodes in use, but for a few.
 #![tactic(auto)]
 
 mod building;
@@ -32,6 +33,7 @@ mod refusal;
 mod relation;
 mod relations;
 mod row;
+mod spares;
 mod tree;
 mod view;
 

@@ -1,17 +1,18 @@
 //! A row under all indexes of a relation, over the relation's parts.
-ghost use Rattle.ttree.specs.Held.{items_of_tree};
+ghost use Rattle.ttree.specs.Held.{items_of_tree, size};
 ghost use Rattle.ttree.specs.Room.{room_of, nodes_of, nodes_for};
-ghost use Rattle.std.specs.Prelude.{◌≡◌, ℕ, ◌+◌, ◌≤◌, ◌<◌, max, length, slice_index_or, None, Some, IsSome, IfSome, IfNone, OnOk, map};
+ghost use Rattle.std.specs.Prelude.{◌≡◌, ℕ, ◌+◌, ◌≤◌, ◌<◌, max, length, slice_index_or, None, Some, IsSome, IfSome, IfNone, OnOk, All, map};
 ghost use Rattle.std.specs.FinMap as finite;
 ghost use Rattle.mm_relation.specs.declared.index.IndexOn.{IndexOn};
 ghost use Rattle.mm_relation.specs.State.{IsKeyed, HasKey};
-ghost use Rattle.mm_relation.specs.Indexes.{seen, spares_in, declaration_of, HaveRoom, Serve, CanRead, CanReadRow};
+ghost use Rattle.mm_relation.specs.Indexes.{seen, spares_in, HasFewSpares, declaration_of, HaveRoom, Serve, CanRead, CanReadRow};
 
 use crate::index::IndexOn;
-use crate::indexes::{insert, remove, reserve};
+use crate::indexes::{insert, remove, reserve, shed_spares};
 use crate::keyed::{put_row, take_row};
 use crate::linked_keys::LinkedKeys;
 use crate::row::Row;
+use crate::spares::shed_tree;
 use crate::tree::Tree;
 use no_memory::NoMemory;
 use part_raw::{Partitions, TupleRef};
@@ -74,7 +75,7 @@ pub fn place<R: LinkedKeys>(
     Some(r)
 }
 
-// Takes a row out. It takes no memory.
+// Takes a row out. It takes no memory, and gives back what is spare of an index where that is more than what is in use.
 pub fn displace<R: LinkedKeys>(
     rows: &mut Partitions<Row>,
     by_key: &mut Tree,
@@ -90,7 +91,12 @@ pub fn displace<R: LinkedKeys>(
     ensures keyed { IsKeyed rows.new.tuples (items_of_tree by_key.new) }
     ensures serve { Serve (R.keys links.now) rows.new.tuples (items_of_tree by_key.new) indexes.new }
     ensures declared { map declaration_of indexes.new ≡ map declaration_of indexes.old }
+    // A tree has no more spare nodes then than nodes in use, but for a few.
+    ensures key_spares { by_key.new.spares ≤ max (size by_key.new.tree) 64 }
+    ensures spares { All HasFewSpares indexes.new }
 {
     remove(indexes, rows, links, r);
     take_row(rows, by_key, r);
+    shed_tree(by_key);
+    shed_spares(indexes);
 }

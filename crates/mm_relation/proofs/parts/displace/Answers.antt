@@ -1,6 +1,7 @@
+use Rattle.std.proofs.Common.{◌∙◌}
 use Rattle.ttree.specs.Held.{items_of_tree}
 use Rattle.mm_relation.proofs.Changing.{have, served_without}
-use Rattle.mm_relation.proofs.Serving.{lose_declared}
+use Rattle.mm_relation.proofs.Serving.{lose_declared, seen_declared}
 use Rattle.mm_relation.proofs.parts.displace.Goals as goal
 
 pub remove-requires-clause-has : goal.remove-requires-clause-has
@@ -9,9 +10,11 @@ remove-requires-clause-has g c =
 
 pub returns-clause-serve : goal.returns-clause-serve
 returns-clause-serve g c =
-    rw c.take_row.ensures.taken
+    rw (c.take_row.ensures.taken, c.shed_tree.ensures.tree, c.shed_spares.ensures.same)
     (served_without (g.R.LinkedKeys.keys c.args.links.now) c.args.rows.now.tuples (items_of_tree c.args.by_key.now) c.args.indexes.now c.requires.keyed c.requires.read c.requires.serve c.args.r c.requires.held
     (items_of_tree c.take_row.new.by_key) c.remove.new.indexes c.take_row.ensures.unlisted (rw c.take_row.ensures.taken at c.take_row.ensures.keyed) c.remove.ensures)
 
 pub returns-clause-declared : goal.returns-clause-declared
-returns-clause-declared g c = lose_declared (g.R.LinkedKeys.keys c.args.links.now) _ _ c.args.indexes.now c.remove.new.indexes c.remove.ensures
+returns-clause-declared g c =
+    seen_declared c.remove.new.indexes c.shed_spares.new.indexes c.shed_spares.ensures.same
+    ∙ lose_declared (g.R.LinkedKeys.keys c.args.links.now) _ _ c.args.indexes.now c.remove.new.indexes c.remove.ensures
