@@ -1,6 +1,6 @@
 //! Worked lines: what each spells, or that it spells no command.
 
-use mm_lang::{ParseRefusal, parse, print};
+use mm_lang::{Line, ParseRefusal, parse, print};
 use plain_tables::{Command, NoMemory};
 use std::alloc::Global;
 
@@ -140,9 +140,12 @@ fn printed(alloc: Global, command: Command) -> Result<String, NoMemory> {
     text
 }
 
-// The canonical spelling of the command that the line spells.
+// The canonical spelling of the command that the line spells. A text with a line feed is no line.
 fn spelled(alloc: Global, line: &str) -> Result<String, ParseRefusal> {
-    match parse(alloc, line) {
+    if line.as_bytes().contains(&b'\n') {
+        return Err(ParseRefusal::Syntax);
+    }
+    match parse(alloc, &Line::new(line)) {
         Ok(command) => Ok(printed(alloc, command)?),
         Err(refusal) => Err(refusal),
     }

@@ -1,9 +1,7 @@
 -- Spelled: a line spells a command where its lexemes are the command's symbols.
-use Rattle.std.proofs.Common.{◌≡◌, ◌≢◌, ℕ, List, [], ◌∷◌, map, get_or, Bool, true, false, Option, Some, None, refl, sym, ◌∙◌, ap, subst}
-use Rattle.std.specs.Prelude.{◌==◌}
-use Rattle.std.specs.List.{AllByRecursion, Contains, list_any, flat_map}
+use Rattle.std.proofs.Common.{◌≡◌, ◌≢◌, ℕ, List, [], ◌∷◌, map, Bool, true, false, Option, Some, None, refl, sym, ◌∙◌, ap, subst}
+use Rattle.std.specs.List.{AllByRecursion, Contains, flat_map}
 use Rattle.std.specs.Str.{bytes_eq}
-use Rattle.std.proofs.lemmas.List.Folds.{list_any_at}
 use lib.Chars.{codes}
 use Rattle.plain_tables.specs.Spelling.{Symbol, Keyword, Literal, Sign, Close, Comma, Operator, separated_by, symbols_of, kind_symbols, column_symbols, index_symbols, value_symbols, name_symbols, setting_symbols, condition_symbols, distinct_symbols, items_symbols, join_symbols, where_symbols, IsSymbol, IsMadeOf, Spells}
 use Rattle.plain_tables.specs.Reading.{lexeme, after_lexeme}
@@ -187,17 +185,8 @@ unknown-word line insert select update delete table drop index tables load dump 
 
 -- ---- the tests of the parser
 
-pub lexeme-is : (line bytes xs ys zs : List ℕ) (r : Bool) → bytes ≡ line → xs ≡ lexeme bytes → r ≡ true → r ≡ bytes_eq xs ys → ys ≡ zs
-    → lexeme line ≡ zs
-lexeme-is line bytes xs ys zs r e f h same g = ap lexeme (sym e) ∙ (sym f ∙ same-bytes xs ys zs r h same g)
+pub lexeme-is : (line xs ys zs : List ℕ) (r : Bool) → xs ≡ lexeme line → r ≡ true → r ≡ bytes_eq xs ys → ys ≡ zs → lexeme line ≡ zs
+lexeme-is line xs ys zs r f h same g = sym f ∙ same-bytes xs ys zs r h same g
 
-pub lexeme-is_not : (line bytes xs ys zs : List ℕ) (r : Bool) → bytes ≡ line → xs ≡ lexeme bytes → r ≡ false → r ≡ bytes_eq xs ys → ys ≡ zs
-    → lexeme line ≢ zs
-lexeme-is_not line bytes xs ys zs r e f h same g is = other-bytes xs ys zs r h same g (f ∙ (ap lexeme e ∙ is))
-
-pub no-feed : (line bytes : List ℕ) (r : Bool) → bytes ≡ line → r ≡ false → r ≡ list_any (λ y. y == 10) bytes → ¬ (Contains line 10)
-no-feed line bytes r e f g (k, inside, is) =
-    let test : (get_or line k 10 == 10) ≡ true = ap (λ y. y == 10) is in
-    let some : list_any (λ y. y == 10) line ≡ true = list_any_at (λ y. y == 10) line k 10 inside test in
-    let same : r ≡ list_any (λ y. y == 10) line = g ∙ ap (λ l. list_any (λ y. y == 10) l) e in
-    cc
+pub lexeme-is_not : (line xs ys zs : List ℕ) (r : Bool) → xs ≡ lexeme line → r ≡ false → r ≡ bytes_eq xs ys → ys ≡ zs → lexeme line ≢ zs
+lexeme-is_not line xs ys zs r f h same g is = other-bytes xs ys zs r h same g (f ∙ is)

@@ -2,7 +2,8 @@
 //!
 //! It doesn't care which tables there are, nor what a command does to them: a name is a name here.
 //!
-//! A line is symbols with blanks between them. The module `lexemes` finds the characters of a line's first symbol,
+//! A line is symbols with blanks between them. The module `lexemes` finds the characters of a text's first symbol, `line` keeps
+//! those of a line,
 //! `symbols`, `numbers`, `texts`, `items` and `joins` read what they stand for, and `parser` has a function for each production of
 //! the grammar. No memory is taken but for what the command holds, and none to tell the length of the block behind a
 //! line. The module `printer` writes a command in its one canonical spelling, which `items`, `joins`, `numbers` and
@@ -12,6 +13,7 @@
 mod items;
 mod joins;
 mod lexemes;
+mod line;
 mod numbers;
 mod parser;
 mod printer;
@@ -20,6 +22,7 @@ mod sink;
 mod symbols;
 mod texts;
 
+pub use line::Line;
 pub use parser::{block_length, parse};
 pub use printer::{print, print_index, print_load, print_table};
 pub use refusal::ParseRefusal;

@@ -14,6 +14,7 @@ use crate::ParseRefusal;
 use crate::items::{Item, list};
 use crate::joins::joins;
 use crate::lexemes::split_lexeme;
+use crate::line::Line;
 use crate::numbers::count;
 use crate::symbols::{after, after_name, expect, index_kind, name};
 use plain_tables::{Command, Cond, IndexKind, Items, Join, Schema, Sequence, Text};
@@ -22,15 +23,12 @@ use std::alloc::Global;
 /// The command that a line spells.
 ///
 /// The error is `Syntax` where the line spells none, and `NoMemory` where a growth was refused.
-pub fn parse(alloc: Global, line: &str) -> Result<Command, ParseRefusal>
+pub fn parse(alloc: Global, line: &Line<'_>) -> Result<Command, ParseRefusal>
     ensures command { IfOk result (λ c. Spells line.now c) }
     ensures syntax { IsErrOf result ParseRefusal.Syntax → (c : Command) → Spells line.now c → ⊥ }
 {
-    let bytes = line.as_bytes();
-    if bytes.contains(&b'\n') {
-        return Err(ParseRefusal::Syntax);
-    }
-    let (word, rest) = split_lexeme(bytes);
+    let word = line.word();
+    let rest = line.rest();
     if word == b"insert".as_slice() {
         insert(alloc, rest)
     } else if word == b"select".as_slice() {
@@ -58,15 +56,14 @@ pub fn parse(alloc: Global, line: &str) -> Result<Command, ParseRefusal>
 
 /// The length of the block that follows a line: the count of bytes of the load that the line spells, if it spells one.
 /// No memory is taken.
-pub fn block_length(line: &str) -> Option<u64>
+pub fn block_length(line: &Line<'_>) -> Option<u64>
     ensures { MatchOption result ((n : ℕ) (table : List ℕ) → ¬ (Spells line.now (Load table n))) (λ n. (table : List ℕ) × Spells line.now (Load table n)) }
 {
-    let bytes = line.as_bytes();
-    let behind_word = after(bytes, b"load")?;
-    let behind_name = after_name(behind_word)?;
-    if bytes.contains(&b'\n') {
+    let is_load = line.word() == b"load".as_slice();
+    if !is_load {
         return None;
     }
+    let behind_name = after_name(line.rest())?;
     only_count(behind_name).ok()
 }
 

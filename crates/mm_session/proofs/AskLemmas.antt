@@ -1,5 +1,5 @@
 -- Which lines ask for a block, and which blocks they have.
-use Rattle.std.proofs.Common.{◌≡◌, ℕ, ◌<◌, ◌≤◌, false, List, [], ◌∷◌, ◌++◌, length, Option, Some, None, refl, sym, ◌∙◌, arith, Bor}
+use Rattle.std.proofs.Common.{◌≡◌, ℕ, ◌<◌, ◌≤◌, false, List, [], ◌∷◌, ◌++◌, length, Option, Some, None, refl, sym, ◌∙◌, arith}
 use Rattle.std.specs.Prelude.{MatchOption, unwrap_or, is_some}
 use lib.Chars.{codes}
 use Rattle.plain_tables.specs.Spelling.{Spells, AreBlanks}
@@ -40,8 +40,8 @@ asks-heard line n asks = load-heard (without_return line) asks.1.0 n asks.1.1
 -- ---- lines that were judged
 
 -- a line that was judged a text asks for what that spells
-pub asks-judged : (line : List ℕ) (text : Bor (List ℕ)) (length : Option ℕ) → IsJudged line (Text text)
-    → MatchOption length ((n : ℕ) (table : List ℕ) → ¬ (Spells text.now (Load table n))) (λ n. (table : List ℕ) × Spells text.now (Load table n))
+pub asks-judged : (line text : List ℕ) (length : Option ℕ) → IsJudged line (Text text)
+    → MatchOption length ((n : ℕ) (table : List ℕ) → ¬ (Spells text (Load table n))) (λ n. (table : List ℕ) × Spells text (Load table n))
     → AsksAs line length
 asks-judged line text length (readable, heard, same) spells = asks-spelled line length readable (rw same at spells)
 

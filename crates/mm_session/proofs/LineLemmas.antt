@@ -1,7 +1,11 @@
 -- What is kept of a line says what the line is.
-use Rattle.std.proofs.Common.{◌≡◌, ℕ, ◌<◌, ◌≤◌, ◌+◌, true, false, cond, Bool, List, [], ◌∷◌, ◌++◌, length, leb, refl, sym, ◌∙◌, arith, length-append, length-take}
+use Rattle.std.proofs.Common.{◌≡◌, ℕ, ◌<◌, ◌≤◌, ◌+◌, true, false, cond, Bool, List, [], ◌∷◌, ◌++◌, length, drop, leb, refl, sym, ◌∙◌, subst, arith, length-append, length-take}
 use Rattle.std.proofs.lemmas.Bool.Decides.{nat_tests}
+use Rattle.std.proofs.lemmas.List.{take-append-drop}
+use Rattle.std.proofs.lemmas.List.Elements.{Contains-append_left}
+use Rattle.std.specs.List.{Contains}
 use Rattle.std.specs.Prelude.{slice_index, take, ◌-◌, ◌==◌}
+use Rattle.plain_streams.specs.Division.{IsUnbroken}
 use Rattle.plain_streams.specs.Requests.{without_return}
 use Rattle.mm_session.specs.Buffers.{KeptLine, PartOfLine, LongLine, kept_of, grown, is_start}
 
@@ -48,3 +52,12 @@ pub start-nothing : (kept : KeptLine) → is_start kept ≡ true → kept ≡ Pa
 start-nothing (PartOfLine []) h = refl
 start-nothing (PartOfLine (b ∷ bs)) h = cc
 start-nothing LongLine h = cc
+
+-- a line without its carriage return has no line feed where the line has none
+pub without_return-unbroken : (line : List ℕ) → IsUnbroken line → IsUnbroken (without_return line)
+without_return-unbroken line unbroken =
+    let last = length line - 1 in
+    elim (slice_index line last == 13) as (λ b. IsUnbroken (cond b (take last line) line)) [
+      | true ↦ λ found. unbroken (subst (λ l. Contains l 10) (take-append-drop last line) (Contains-append_left (take last line) (drop last line) 10 found))
+      | false ↦ unbroken
+    ]

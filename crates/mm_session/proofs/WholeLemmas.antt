@@ -1,7 +1,6 @@
 -- Which lines and blocks are whole requests.
-use Rattle.std.proofs.Common.{◌≡◌, ℕ, List, ◌∷◌, ◌++◌, true, false, length, Option, Some, None, refl, subst, Bor, arith}
-use Rattle.std.specs.Prelude.{MatchOption, unwrap_or, is_some, nat_eq, ◌↔◌, IsTrue}
-use Rattle.std.proofs.lemmas.Bool.{eqb-true, eq-eqb}
+use Rattle.std.proofs.Common.{◌≡◌, ◌≢◌, ℕ, List, ◌∷◌, ◌++◌, true, false, length, Option, Some, None, refl, subst, Bor, arith}
+use Rattle.std.specs.Prelude.{MatchOption, unwrap_or, is_some}
 use Rattle.std.proofs.lemmas.List.Elements.{Contains-append_right}
 use Rattle.plain_streams.specs.Division.{IsUnbroken, IsWhole}
 use Rattle.plain_streams.specs.Requests.{Takes, asked, unasked}
@@ -27,9 +26,8 @@ split-broken line (Some p) split some =
     λ unbroken. unbroken (rw split.1 (Contains-append_right p.0.now (10 ∷ p.1.now) 10 (0, omega arith, refl)))
 
 -- A line with no line feed is whole with the block that it takes, and with no other.
-pub whole-by_length : (line block : List ℕ) (n : ℕ) → IsUnbroken line → Takes line n
-    → IsTrue (nat_eq n (length block)) ↔ IsWhole (record { line = line; block = block })
-whole-by_length line block n unbroken takes = (
-  λ same. record { line = unbroken; block = subst (Takes line) (eqb-true n (length block) same) takes },
-  λ whole. eq-eqb n (length block) (takes_one line n (length block) takes whole.block),
-)
+pub whole-with : (line block : List ℕ) (n : ℕ) → IsUnbroken line → Takes line n → n ≡ length block → IsWhole (record { line = line; block = block })
+whole-with line block n unbroken takes same = record { line = unbroken; block = subst (Takes line) same takes }
+
+pub not_whole-with : (line block : List ℕ) (n : ℕ) → Takes line n → n ≢ length block → ¬ (IsWhole (record { line = line; block = block }))
+not_whole-with line block n takes differ whole = differ (takes_one line n (length block) takes whole.block)

@@ -14,7 +14,7 @@ abbrev pub IsJudged : List ℕ → Judged → Type 0
 IsJudged line TooLong = 8192 < length (without_return line)
 IsJudged line NotUtf8 = (length (without_return line) ≤ 8192) × ¬ (IsUtf8 (without_return line))
 IsJudged line Silent = IsReadable (without_return line) × IsTrue (is_silent (without_return line))
-IsJudged line (Text text) = IsReadable (without_return line) × IsFalse (is_silent (without_return line)) × (text.now ≡ without_return line)
+IsJudged line (Text text) = IsReadable (without_return line) × IsFalse (is_silent (without_return line)) × (text ≡ without_return line)
 
 -- A front of the bytes is the block that the line, which was judged so, takes; the others stand behind it. The request of
 -- both has this answer.

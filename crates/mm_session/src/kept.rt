@@ -2,6 +2,7 @@
 
 ghost use Rattle.std.specs.Prelude.{◌≡◌, ℕ, List, [], IfOk};
 ghost use Rattle.mm_session.specs.Buffers.{PartOfLine, kept_of, grown, is_start};
+ghost use Rattle.plain_streams.specs.Division.{IsUnbroken};
 ghost use Rattle.mm_session.specs.Judging.{IsJudged};
 
 use crate::block::Block;
@@ -23,13 +24,14 @@ pub struct LineBuffer {
 impl Model for LineBuffer {
     ghost use Rattle.std.specs.Prelude.{◌≤◌, if◌then◌else◌};
     ghost use Rattle.std.specs.Vec.{vec_capacity, vec_len};
+    ghost use Rattle.plain_streams.specs.Division.{IsUnbroken};
     ghost use Rattle.mm_session.specs.Buffers.{KeptLine, PartOfLine, LongLine};
 
     ghost Value = { KeptLine };
 
     ghost view = { λ b. if b.is_too_long then LongLine else PartOfLine b.bytes.items };
 
-    ghost invariant = { λ b. (8193 ≤ vec_capacity b.bytes) × (vec_len b.bytes ≤ 8193) };
+    ghost invariant = { λ b. (8193 ≤ vec_capacity b.bytes) × (vec_len b.bytes ≤ 8193) × IsUnbroken b.bytes.items };
 }
 
 impl LineBuffer {
@@ -64,6 +66,7 @@ impl LineBuffer {
 
     /// Adds the next bytes of the line.
     pub fn extend(&mut self, more: &[u8])
+        requires { IsUnbroken more.now }
         ensures { self.new ≡ grown self.old more.now }
     {
         if self.is_too_long || more.len() > ROOM - self.bytes.len() {

@@ -1,18 +1,18 @@
 //! How a stream is cut into lines, and what a line is before it is read as a command.
 
-ghost use Rattle.std.specs.Prelude.{◌≡◌, ◌++◌, ◌∷◌, MatchOption, IsTrue, ◌↔◌};
+ghost use Rattle.std.specs.Prelude.{◌≡◌, ◌++◌, ◌∷◌, MatchOption};
 ghost use Rattle.plain_streams.specs.Division.{IsUnbroken, IsWhole};
 ghost use Rattle.plain_streams.specs.Requests.{without_return, is_silent as is_silent_line};
 ghost use Rattle.mm_session.specs.Judging.{IsJudged};
 
 use memchr::memchr;
-use mm_lang::block_length;
+use mm_lang::{Line, block_length};
 
 // The greatest number of bytes that a line may have.
 const LONGEST_LINE: usize = 8192;
 
 /// What a line is that has ended, before it is read as a command.
-#[derive(Clone, Copy)]
+#[derive(Drop)]
 pub enum Judged<'a> {
     /// It has more than 8,192 bytes.
     TooLong,
@@ -20,7 +20,7 @@ pub enum Judged<'a> {
     /// It is blanks alone or a comment, and so has no answer.
     Silent,
     /// It can be read. The text is without the carriage return at the line's end.
-    Text(&'a str),
+    Text(Line<'a>),
 }
 
 impl Judged<'_> {
@@ -74,6 +74,7 @@ fn is_silent(line: &[u8]) -> bool
 
 /// Judges a line: its length, its UTF-8, and whether it is silent, each looked at once.
 pub fn judge(line: &[u8]) -> Judged<'_>
+    requires { IsUnbroken line.now }
     ensures { IsJudged line.now result }
 {
     let line = trim_return(line);
@@ -86,14 +87,21 @@ pub fn judge(line: &[u8]) -> Judged<'_>
     if is_silent(line) {
         return Judged::Silent;
     }
-    Judged::Text(text)
+    Judged::Text(Line::new(text))
 }
 
-/// Whether a line, judged so, and a block are one whole request.
-pub fn is_whole(line: &[u8], judged: &Judged<'_>, block: &[u8]) -> bool
-    requires { IsJudged line.now judged.now }
-    ensures { IsTrue result ↔ IsWhole (record { line = line.now; block = block.now }) }
+/// The line, judged, where it and the block are one whole request.
+pub fn judge_whole<'a>(line: &'a [u8], block: &[u8]) -> Option<Judged<'a>>
+    ensures { MatchOption result (¬ (IsWhole (record { line = line.now; block = block.now })))
+        (λ judged. IsWhole (record { line = line.now; block = block.now }) × IsJudged line.now judged) }
 {
-    let length = judged.asked().unwrap_or(0);
-    split_line(line).is_none() && length == block.len() as u64
+    if split_line(line).is_some() {
+        return None;
+    }
+    let judged = judge(line);
+    if judged.asked().unwrap_or(0) == block.len() as u64 {
+        Some(judged)
+    } else {
+        None
+    }
 }

@@ -7,7 +7,7 @@ use crate::answer::Answer;
 use crate::execute::Executor;
 use crate::lines::Judged;
 use crate::records::push_refusal;
-use mm_lang::{ParseRefusal, parse};
+use mm_lang::{Line, ParseRefusal, parse};
 use plain_tables::Refusal;
 
 const LINE_TOO_LONG: &[u8] = b"error 10 line too long\n";
@@ -32,7 +32,7 @@ impl Executor {
     ghost use Rattle.mm_session.specs.Judging.{IsJudged, AnswersIn};
 
     // Reads a line as a command, and does what it says with the block behind it.
-    fn obey(&mut self, line: &str, block: &[u8], answer: &mut Answer) -> Result<(), Refusal>
+    fn obey(&mut self, line: &Line<'_>, block: &[u8], answer: &mut Answer) -> Result<(), Refusal>
         ensures ok { OnOk result (Obeys (block_records block.now) self.old.catalog.limits (database_of self.old.catalog) line.now (database_of self.new.catalog) answer.old answer.new) }
         ensures err { IfErr result (Declines (block_records block.now) self.old.catalog.limits (database_of self.old.catalog) line.now) }
         ensures unchanged { OnErr result (database_of self.new.catalog ≡ database_of self.old.catalog) }

@@ -5,7 +5,7 @@ use crate::block::{Block, Unkept};
 use crate::execute::Executor;
 use crate::fault::NotOneRequest;
 use crate::kept::Kept;
-use crate::lines::{is_whole, judge, split_line};
+use crate::lines::{judge, judge_whole, split_line};
 use mm_catalog::Catalog;
 use plain_tables::NoMemory;
 use plan_chooser::Policy;
@@ -212,10 +212,9 @@ impl Responder {
         ensures kept { self.new.kept ≡ self.old.kept }
         ensures limits { self.new.executor.catalog.limits ≡ self.old.executor.catalog.limits }
     {
-        let judged = judge(line);
-        if !is_whole(line, &judged, block) {
+        let Some(judged) = judge_whole(line, block) else {
             return Err(NotOneRequest);
-        }
+        };
         if block.len() as u64 > self.executor.block_limit() {
             answer.set(BLOCK_TOO_LONG);
             return Ok(());

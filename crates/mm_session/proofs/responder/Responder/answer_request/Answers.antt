@@ -9,7 +9,7 @@ pub returns-then-block-block_limit-clause-ok : goal.returns-then-block-block_lim
 returns-then-block-block_limit-clause-ok c =
     let limits = c.args.self.now.executor.catalog.limits in
     let request : Request = record { line = c.args.line.now; block = c.args.block.now } in
-    let whole : IsWhole request = c.is_whole.ensures.0 c.if-not-is_whole.false in
+    let whole : IsWhole request = c.in-Some.ensures.0 in
     let long : limits.block < length c.args.block.now = omega (arith, c.block_limit.ensures) in
     record { whole = whole; answers = answers-whole_too_long limits (database_of c.args.self.now.executor.catalog) request c.set.new.self whole long c.set.ensures }
 
@@ -17,6 +17,6 @@ pub returns-clause-ok : goal.returns-clause-ok
 returns-clause-ok c =
     let limits = c.args.self.now.executor.catalog.limits in
     let request : Request = record { line = c.args.line.now; block = c.args.block.now } in
-    let whole : IsWhole request = c.is_whole.ensures.0 c.if-not-is_whole.false in
+    let whole : IsWhole request = c.in-Some.ensures.0 in
     let within : length c.args.block.now ≤ limits.block = omega (arith, c.block_limit.ensures) in
-    record { whole = whole; answers = c.respond.ensures.answers c.args.line.now c.judge-judged.ensures (has_block-whole limits request whole within) }
+    record { whole = whole; answers = c.respond.ensures.answers c.args.line.now c.in-Some.ensures.1 (has_block-whole limits request whole within) }
