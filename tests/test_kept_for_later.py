@@ -1,7 +1,9 @@
 """What a session keeps of memory for later, counted from outside: the room of its largest answer, and nothing of a block.
-A dump that is given up takes little more than its limit while it is made."""
+A dump that is given up takes little more than its limit while it is made. A table that has shrunk keeps few nodes of what
+it grew to."""
 
 import os
+import random
 import re
 import unittest
 
@@ -9,6 +11,7 @@ import compiling
 import harness
 import model
 import preloading
+import sizes
 
 ROWS = 500
 HELD = re.compile(rb"\n\[held (\d+), most (\d+)\]\n")
@@ -46,15 +49,18 @@ class Counted(unittest.TestCase):
         self.assertEqual((ended.status, ended.err), (0, b""))
         self.assertTrue(HELD.sub(b"", ended.out) == answers, "the stream is answered otherwise")
 
+    def held_over(self, pieces, answers):
+        """The bytes that the program holds at each select of an empty table, at which the memory is looked at."""
+        ended = harness.run_in_pieces(pieces, env=self.counted())
+        self.check_ended(ended, answers)
+        return [int(held) for held, _ in re.findall(HELD.pattern + MARKED, ended.out)]
+
 
 class Kept(Counted):
-    """The program, over streams in which selects of an empty table stand, at which the memory is looked at."""
+    """The program, over streams in which such selects stand."""
 
     def held(self, *pieces):
-        """The bytes that are held at each of these selects."""
-        ended = harness.run_in_pieces(pieces, env=self.counted())
-        self.check_ended(ended, model.answers_to(b"".join(pieces)))
-        return [int(held) for held, _ in re.findall(HELD.pattern + MARKED, ended.out)]
+        return self.held_over(pieces, model.answers_to(b"".join(pieces)))
 
     def check_answers(self, *lines):
         """What is kept once all of these lines are answered is the room of the largest answer, which doubles as it grows."""
@@ -111,3 +117,50 @@ class GivenUp(Counted):
         # The block doubles as it grows, and lies there twice while it is copied; and fields between quotes have a buffer of
         # their own. The whole block would take some 200,000 bytes.
         self.assertLessEqual(most - before, 6 * (self.LIMIT + len(RECORDS[0])))
+
+
+class Shrunk(Counted):
+    """A table fills with many rows, in an order at random, and loses them, three times over."""
+
+    ROWS = sizes.size(100_000, 1_000_000)
+    LEFT = 1_000
+    ROUNDS = 3
+    REFERENCE = 4
+    FEW_NODES = 64 * 256
+
+    def rounds(self, *columns, indexes=()):
+        """The bytes that are held in each round when the rows are there, when few are left, and when none is."""
+        keys = random.Random(19860528).sample(range(self.ROWS), self.ROWS)
+        records = [b",".join(columns), *(b",".join([b"%d" % key] * len(columns)) for key in keys)]
+        block = b"\n".join(records) + b"\n"
+        lines = [b"load t %d\n" % len(block) + block, b"delete t where id >= %d\n" % self.LEFT, b"delete t\n"]
+        table = b"table t (%s int)\n" % b" int, ".join(columns)
+        pieces = [b"table marks (id int)\n", table, *indexes]
+        for line in lines * self.ROUNDS:
+            pieces += [*harness.pieces_of(line, 50_000), MARK]
+        counts = [self.ROWS, self.ROWS - self.LEFT, self.LEFT]
+        answers = b"ok\n" * (2 + len(indexes)) + b"".join(b"ok %d\n" % count + MARKED for count in counts) * self.ROUNDS
+        held = self.held_over(pieces, answers)
+        return [held[at : at + len(counts)] for at in range(0, len(held), len(counts))]
+
+    def test_the_tree_of_the_key_gives_its_nodes_back(self):
+        """A row of a key alone takes its slot and its reference in the tree. The slots are kept."""
+        full, few, none = self.rounds(b"id")[0]
+        self.assertGreater(full - none, self.ROWS * self.REFERENCE)
+        self.assertLess(few - none, 2 * self.FEW_NODES)
+
+    def test_a_declared_index_gives_back_what_it_grew_to(self):
+        """In each round, measured against the same table without it. A hash keeps memory for some thousand nodes, and the
+        heads of the buckets that it has not folded yet, as a removal folds one at most."""
+        plain = self.rounds(b"id", b"n")[0]
+        for kind, kept in ((b"tree", self.FEW_NODES), (b"hash", 16 * self.FEW_NODES)):
+            for of_round in self.rounds(b"id", b"n", indexes=[b"index t n %s\n" % kind]):
+                with self.subTest(kind):
+                    full, few, none = (held - without for held, without in zip(of_round, plain))
+                    self.assertGreater(full, self.ROWS * self.REFERENCE)
+                    self.assertLess(few, 2 * kept)
+                    self.assertLess(none, kept)
+
+    def test_each_round_of_rows_under_trees_holds_what_the_first_held(self):
+        rounds = self.rounds(b"id", b"n", indexes=[b"index t n tree\n"])
+        self.assertEqual(rounds, [rounds[0]] * self.ROUNDS)
