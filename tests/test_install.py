@@ -38,6 +38,7 @@ FILES = {
     "share/doc/mmdb/docs/language.md",
     "share/doc/mmdb/docs/plans.md",
     "share/doc/mmdb/docs/python.md",
+    "share/doc/mmdb/docs/running.md",
     "share/doc/mmdb/docs/shell.md",
     "share/man/man1/mmdb.1",
     "share/man/man1/mmdb-shell.1",
