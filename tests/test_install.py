@@ -34,6 +34,7 @@ FILES = {
     "share/doc/mmdb/README.md",
     "share/doc/mmdb/THIRD-PARTY",
     "share/doc/mmdb/docs/c.md",
+    "share/doc/mmdb/docs/guide.md",
     "share/doc/mmdb/docs/installing.md",
     "share/doc/mmdb/docs/language.md",
     "share/doc/mmdb/docs/plans.md",
