@@ -19,7 +19,10 @@ use Rattle.plain_tables.proofs.Separated.{all-append}
 use Rattle.plain_tables.proofs.FirstWords.{first_word, behind_word, split-word}
 use Rattle.plain_tables.proofs.SingleItems.{whole_name}
 use Rattle.plain_tables.proofs.WellFormed.{index_word-word}
+use Rattle.mm_lang.specs.declared.parser.CommandWord.{CommandWord}
+use Rattle.mm_lang.specs.declared.parser.CommandWord.TheVariants as word
 use Rattle.mm_lang.specs.Parsing.{Reads, IsWhole, Completes}
+use Rattle.mm_lang.specs.Words.{letters}
 use Rattle.mm_lang.proofs.Fronts.{same-bytes, other-bytes}
 
 -- ---- symbols whose keywords are words
@@ -162,26 +165,24 @@ not-spelled line word rest e f not command spells =
     let parts : (lexeme line ≡ first_word command) × Completes (first_word command) (after_lexeme line) command = spelled-completes line command spells in
     not command (subst (λ w. Completes w rest command) (sym parts.0 ∙ e) (subst (λ r. Completes (first_word command) r command) (sym f) parts.1))
 
-known-word : (command : Command) (word : List ℕ) → word ≡ first_word command → word ≢ codes "insert" → word ≢ codes "select"
-    → word ≢ codes "update" → word ≢ codes "delete" → word ≢ codes "table" → word ≢ codes "drop" → word ≢ codes "index"
-    → word ≢ codes "tables" → word ≢ codes "load" → word ≢ codes "dump" → ⊥
-known-word (Table name schema) word e insert select update delete table drop index tables load dump = table e
-known-word (DropTable t) word e insert select update delete table drop index tables load dump = drop e
-known-word (Index t c k) word e insert select update delete table drop index tables load dump = index e
-known-word (DropIndex t c k) word e insert select update delete table drop index tables load dump = drop e
-known-word (Insert t values) word e insert select update delete table drop index tables load dump = insert e
-known-word (Update t settings conditions) word e insert select update delete table drop index tables load dump = update e
-known-word (Delete t conditions) word e insert select update delete table drop index tables load dump = delete e
-known-word (Select distinct items t joins conditions) word e insert select update delete table drop index tables load dump = select e
-known-word (Load t bytes) word e insert select update delete table drop index tables load dump = load e
-known-word (Dump t) word e insert select update delete table drop index tables load dump = dump e
-known-word Tables word e insert select update delete table drop index tables load dump = tables e
+-- each command begins with one of the words
+word-of : (command : Command) → (w : CommandWord) × (first_word command ≡ letters w)
+word-of (Table name schema) = (word.Table, refl)
+word-of (DropTable t) = (word.Drop, refl)
+word-of (Index t c k) = (word.Index, refl)
+word-of (DropIndex t c k) = (word.Drop, refl)
+word-of (Insert t values) = (word.Insert, refl)
+word-of (Update t settings conditions) = (word.Update, refl)
+word-of (Delete t conditions) = (word.Delete, refl)
+word-of (Select distinct items t joins conditions) = (word.Select, refl)
+word-of (Load t bytes) = (word.Load, refl)
+word-of (Dump t) = (word.Dump, refl)
+word-of Tables = (word.Tables, refl)
 
-pub unknown-word : (line : List ℕ) → lexeme line ≢ codes "insert" → lexeme line ≢ codes "select" → lexeme line ≢ codes "update"
-    → lexeme line ≢ codes "delete" → lexeme line ≢ codes "table" → lexeme line ≢ codes "drop" → lexeme line ≢ codes "index"
-    → lexeme line ≢ codes "tables" → lexeme line ≢ codes "load" → lexeme line ≢ codes "dump" → (command : Command) → Spells line command → ⊥
-unknown-word line insert select update delete table drop index tables load dump command spells =
-    known-word command (lexeme line) (spelled-completes line command spells).0 insert select update delete table drop index tables load dump
+pub unknown-word : (line : List ℕ) → ((w : CommandWord) → lexeme line ≢ letters w) → (command : Command) → Spells line command → ⊥
+unknown-word line unknown command spells =
+    let of = word-of command in
+    unknown of.0 ((spelled-completes line command spells).0 ∙ of.1)
 
 -- ---- the tests of the parser
 

@@ -1,2 +1,3 @@
 pub mod Parsing
 pub mod Printing
+pub mod Words

@@ -8,6 +8,8 @@ ghost use Rattle.plain_tables.specs.declared.command.Command.TheVariants.{Load};
 ghost use Rattle.plain_tables.specs.declared.command.Join.{Join};
 ghost use Rattle.plain_tables.specs.declared.condition.Cond.{Cond};
 ghost use Rattle.plain_tables.specs.declared.schema.IndexKind.{IndexKind};
+ghost use Rattle.mm_lang.specs.declared.parser.CommandWord.{CommandWord as Word};
+ghost use Rattle.mm_lang.specs.Words.{letters};
 ghost use Rattle.mm_lang.specs.Parsing.{Completes, IsOfText, IsWhole, IsNameAndList, IsFrom, IsWhere, BeginsWithDistinct, BeginsWithItems, BeginsWithNoItems};
 
 use crate::ParseRefusal;
@@ -20,6 +22,59 @@ use crate::symbols::{after, after_name, expect, index_kind, name};
 use plain_tables::{Command, Cond, IndexKind, Items, Join, Schema, Sequence, Text};
 use std::alloc::Global;
 
+/// The word that a command begins with.
+#[derive(Clone, Copy)]
+pub(crate) enum CommandWord {
+    Delete,
+    Drop,
+    Dump,
+    Index,
+    Insert,
+    Load,
+    Select,
+    Table,
+    Tables,
+    Update,
+}
+
+// The word of a command that these characters are.
+fn command_word(characters: &[u8]) -> Option<CommandWord>
+    ensures { MatchOption result ((w : Word) → characters.now ≢ letters w) (λ w. characters.now ≡ letters w) }
+{
+    match characters {
+        b"insert" => Some(CommandWord::Insert),
+        b"select" => Some(CommandWord::Select),
+        b"update" => Some(CommandWord::Update),
+        b"delete" => Some(CommandWord::Delete),
+        b"table" => Some(CommandWord::Table),
+        b"drop" => Some(CommandWord::Drop),
+        b"index" => Some(CommandWord::Index),
+        b"tables" => Some(CommandWord::Tables),
+        b"load" => Some(CommandWord::Load),
+        b"dump" => Some(CommandWord::Dump),
+        _ => None,
+    }
+}
+
+// The command that begins with a word, of which this is the rest.
+fn command(alloc: Global, word: CommandWord, rest: &[u8]) -> Result<Command, ParseRefusal>
+    ensures command { IfOk result (Completes (letters word) rest.now) }
+    ensures syntax { IsErrOf result ParseRefusal.Syntax → IsOfText rest.now → (c : Command) → Completes (letters word) rest.now c → ⊥ }
+{
+    match word {
+        CommandWord::Delete => delete(alloc, rest),
+        CommandWord::Drop => drop_command(alloc, rest),
+        CommandWord::Dump => dump(alloc, rest),
+        CommandWord::Index => index(alloc, rest),
+        CommandWord::Insert => insert(alloc, rest),
+        CommandWord::Load => load(alloc, rest),
+        CommandWord::Select => select(alloc, rest),
+        CommandWord::Table => table(alloc, rest),
+        CommandWord::Tables => tables(rest),
+        CommandWord::Update => update(alloc, rest),
+    }
+}
+
 /// The command that a line spells.
 ///
 /// The error is `Syntax` where the line spells none, and `NoMemory` where a growth was refused.
@@ -27,31 +82,10 @@ pub fn parse(alloc: Global, line: &Line<'_>) -> Result<Command, ParseRefusal>
     ensures command { IfOk result (λ c. Spells line.now c) }
     ensures syntax { IsErrOf result ParseRefusal.Syntax → (c : Command) → Spells line.now c → ⊥ }
 {
-    let word = line.word();
-    let rest = line.rest();
-    if word == b"insert".as_slice() {
-        insert(alloc, rest)
-    } else if word == b"select".as_slice() {
-        select(alloc, rest)
-    } else if word == b"update".as_slice() {
-        update(alloc, rest)
-    } else if word == b"delete".as_slice() {
-        delete(alloc, rest)
-    } else if word == b"table".as_slice() {
-        table(alloc, rest)
-    } else if word == b"drop".as_slice() {
-        drop_command(alloc, rest)
-    } else if word == b"index".as_slice() {
-        index(alloc, rest)
-    } else if word == b"tables".as_slice() {
-        tables(rest)
-    } else if word == b"load".as_slice() {
-        load(alloc, rest)
-    } else if word == b"dump".as_slice() {
-        dump(alloc, rest)
-    } else {
-        Err(ParseRefusal::Syntax)
-    }
+    let Some(word) = command_word(line.word()) else {
+        return Err(ParseRefusal::Syntax);
+    };
+    command(alloc, word, line.rest())
 }
 
 /// The length of the block that follows a line: the count of bytes of the load that the line spells, if it spells one.
