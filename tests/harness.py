@@ -37,10 +37,10 @@ def run_whole(stream, words=(), **how):
     return Ended(ran.returncode, ran.stdout, ran.stderr)
 
 
-def run_in_pieces(pieces, **how):
+def run_in_pieces(pieces, words=(), **how):
     """Runs the program over a stream that a pipe gives piece by piece: each is sent once the last has been read."""
     with tempfile.TemporaryFile() as out, tempfile.TemporaryFile() as err:
-        with subprocess.Popen([PROGRAM], stdin=subprocess.PIPE, stdout=out, stderr=err, bufsize=0, **how) as program:
+        with subprocess.Popen([PROGRAM, *words], stdin=subprocess.PIPE, stdout=out, stderr=err, bufsize=0, **how) as program:
             try:
                 for piece in pieces:
                     os.write(program.stdin.fileno(), piece)

@@ -4,25 +4,29 @@
 //! write failed, and 4 where there was no memory to begin.
 #![tactic(auto)]
 
+mod explain;
 mod words;
 
-use crate::words::read_words;
+use crate::explain::explain;
+use crate::words::{Wish, read_words};
 use clap::error::ErrorKind;
 use mm_session::{RunFault, run};
-use plan_chooser::Policy;
 use std::io::BufWriter;
 use std::process::ExitCode;
 
 // The bytes of answers that are kept back until a piece of the input is answered.
 const ROOM: usize = 65_536;
 
-// Answers standard input on standard output.
-fn answer_input(rt: &HostRuntime, policy: Policy) -> Result<(), RunFault> {
+// Answers standard input on standard output, with reasons on standard error where they are wanted.
+fn answer_input(rt: &HostRuntime, wish: Wish) -> Result<(), RunFault> {
     let mut reader = rt.stdin();
     let Ok(mut writer) = BufWriter::with_capacity(rt.alloc(), ROOM, rt.stdout()) else {
         return Err(RunFault::NoMemory);
     };
-    run(rt.alloc(), &mut reader, &mut writer, policy)
+    if wish.explain {
+        return explain(rt, &mut reader, &mut writer, wish.policy);
+    }
+    run(rt.alloc(), &mut reader, &mut writer, wish.policy)
 }
 
 // Names the fault on standard error, and gives the status to end with.
@@ -47,11 +51,11 @@ fn report_words(rt: &HostRuntime, error: &clap::Error) -> ExitCode {
 }
 
 fn main(rt: HostRuntime) -> ExitCode {
-    let policy = match read_words(&rt) {
-        Ok(policy) => policy,
+    let wish = match read_words(&rt) {
+        Ok(wish) => wish,
         Err(error) => return report_words(&rt, &error),
     };
-    match answer_input(&rt, policy) {
+    match answer_input(&rt, wish) {
         Ok(()) => ExitCode::SUCCESS,
         Err(fault) => report(&rt, fault),
     }

@@ -1,0 +1,300 @@
+//! Why the rows of a block are not put in.
+
+use crate::declaring::no_table;
+use crate::found::{Found, Search, tell};
+use crate::inserting::{full, held_key, unheld};
+use crate::shown::{Cut, Shown};
+use crate::tables::{Seen, table_named};
+use crate::values::takes_null;
+use csv::{ByteRecord, Reader, ReaderBuilder};
+use mm_catalog::Catalog;
+use mm_csv::{CsvRefusal, Field, rows_of};
+use no_memory::NoMemory;
+use plain_tables::{BaseKind, LONGEST_TEXT, Refusal, Sequence, Text, Value};
+use std::alloc::Global;
+use std::collections::BTreeMap;
+
+// The bytes that may mark a text as UTF-8 at its front.
+const MARK: [u8; 3] = [0xEF, 0xBB, 0xBF];
+
+// The columns of a table as a block has them.
+fn layout_of(alloc: Global, catalog: &Catalog, table: &Seen<'_>) -> Result<Vec<Field>, NoMemory> {
+    let mut layout = Vec::new(alloc);
+    for column in table.columns {
+        if let Some(kind) = catalog.type_of(&column.kind) {
+            layout.push(Field {
+                name: Text::from_str(alloc, column.name.as_str())?,
+                kind,
+                null: takes_null(column),
+            })?;
+        }
+    }
+    Ok(layout)
+}
+
+// The records of a block.
+fn reader_of(alloc: Global, block: &[u8]) -> Reader<&[u8]> {
+    ReaderBuilder::new()
+        .has_headers(false)
+        .flexible(true)
+        .from_reader(alloc, block.strip_prefix(&MARK).unwrap_or(block))
+}
+
+// The record that so many others stand before. There is none where the block has no more.
+fn record_at(alloc: Global, block: &[u8], before: u64) -> Result<Option<ByteRecord>, NoMemory> {
+    let mut reader = reader_of(alloc, block);
+    let mut fields = ByteRecord::new(alloc);
+    for _ in 0..before {
+        if reader.read_byte_record(&mut fields).is_err() {
+            return Err(NoMemory);
+        }
+    }
+    match reader.read_byte_record(&mut fields) {
+        Ok(true) => Ok(Some(fields)),
+        Ok(false) => Ok(None),
+        Err(_) => Err(NoMemory),
+    }
+}
+
+// The text of a field, where it is one.
+fn text_of(field: &[u8]) -> &str {
+    str::from_utf8(field).unwrap_or("what is not UTF-8")
+}
+
+// The first field of a header that is not the name of its column.
+fn misnamed_field(
+    alloc: Global,
+    table: &Seen<'_>,
+    layout: &[Field],
+    fields: &ByteRecord,
+) -> Result<String, NoMemory> {
+    for (place, column) in layout.iter().enumerate() {
+        let field = fields.get(place).unwrap_or(b"");
+        if field != column.name.as_bytes() {
+            let (field, name) = (Cut(text_of(field)), column.name.as_str());
+            let number = place.saturating_add(1);
+            return Ok(format!(in alloc;
+                "field {number} of the header is {field}, and column {number} is {name}"
+            )?);
+        }
+    }
+    let name = table.name;
+    Ok(format!(in alloc; "more than one mark stands before the header of {name}")?)
+}
+
+// Why the first record of a block is not the header of a table.
+fn why_no_header(
+    alloc: Global,
+    table: &Seen<'_>,
+    layout: &[Field],
+    block: &[u8],
+) -> Result<String, NoMemory> {
+    let (name, columns) = (table.name, layout.len());
+    let Some(fields) = record_at(alloc, block, 0)? else {
+        return Ok(format!(in alloc; "the block has no header of the columns of {name}")?);
+    };
+    let count = fields.len();
+    if count == columns {
+        return misnamed_field(alloc, table, layout, &fields);
+    }
+    Ok(format!(in alloc;
+        "the header has a field for each column of {name}: {columns}, not {count}"
+    )?)
+}
+
+// Whether a field may stand in a column, or why not.
+fn why_no_value(alloc: Global, column: &Field, field: &[u8]) -> Result<Option<String>, NoMemory> {
+    if column.null && field.is_empty() {
+        return Ok(None);
+    }
+    let (name, bytes) = (column.name.as_str(), field.len());
+    let Ok(text) = str::from_utf8(field) else {
+        return Ok(Some(format!(in alloc; "the field of {name} is not UTF-8")?));
+    };
+    let shown = Cut(text);
+    let words = match column.kind {
+        BaseKind::Int if text.starts_with('+') || text.parse::<i64>().is_err() => {
+            format!(in alloc; "the field of {name} is {shown}, and that is no integer of 64 bits")?
+        }
+        BaseKind::Text if bytes > LONGEST_TEXT => {
+            format!(in alloc;
+                "the field of {name} has {bytes} bytes, and {LONGEST_TEXT} are allowed"
+            )?
+        }
+        _ => return Ok(None),
+    };
+    Ok(Some(words))
+}
+
+// Why a record is no row of a table.
+fn why_no_row(
+    alloc: Global,
+    table: &Seen<'_>,
+    layout: &[Field],
+    fields: &ByteRecord,
+) -> Result<Option<String>, NoMemory> {
+    let (count, name, columns) = (fields.len(), table.name, layout.len());
+    if count != columns {
+        return Ok(Some(format!(in alloc;
+            "a row of {name} has a field for each column: {columns}, not {count}"
+        )?));
+    }
+    for (place, column) in layout.iter().enumerate() {
+        let field = fields.get(place).unwrap_or(b"");
+        if let Some(words) = why_no_value(alloc, column, field)? {
+            return Ok(Some(words));
+        }
+    }
+    Ok(None)
+}
+
+// That a record of a block is no row of a table.
+fn bad_record(
+    alloc: Global,
+    table: &Seen<'_>,
+    layout: &[Field],
+    block: &[u8],
+    record: u64,
+) -> Search {
+    let Some(fields) = record_at(alloc, block, record)? else {
+        return Ok(None);
+    };
+    match why_no_row(alloc, table, layout, &fields)? {
+        Some(words) => tell(
+            Refusal::BadRecord { record },
+            format!(in alloc; "record {record}: {words}"),
+        ),
+        None => Ok(None),
+    }
+}
+
+// A reason of an insert, told of a record.
+fn in_record(alloc: Global, inner: Option<Found>, record: u64) -> Search {
+    let Some(Found { refusal, words }) = inner else {
+        return Ok(None);
+    };
+    let refusal = match refusal {
+        Refusal::KeyExists { .. } => Refusal::KeyExists {
+            record: Some(record),
+        },
+        Refusal::NoReferencedRow { .. } => Refusal::NoReferencedRow {
+            record: Some(record),
+        },
+        _ => Refusal::TableFull {
+            record: Some(record),
+        },
+    };
+    tell(refusal, format!(in alloc; "record {record}: {words}"))
+}
+
+// A record with the key of an earlier one.
+fn repeated_key(alloc: Global, earlier: Option<&u64>, key: &Value) -> Search {
+    let Some(earlier) = earlier else {
+        return Ok(None);
+    };
+    let key = Shown(key);
+    tell(
+        Refusal::KeyExists { record: None },
+        format!(in alloc; "record {earlier} has the key {key} too"),
+    )
+}
+
+// Why the row of a record is not put in behind so many others.
+fn kept_out(
+    alloc: Global,
+    catalog: &Catalog,
+    table: &Seen<'_>,
+    values: &[Value],
+    before: u64,
+) -> Search {
+    if let Some(found) = held_key(alloc, table, values)? {
+        return Ok(Some(found));
+    }
+    if let Some(found) = unheld(alloc, catalog, table, values)? {
+        return Ok(Some(found));
+    }
+    full(
+        alloc,
+        catalog,
+        table,
+        table.relation.len().saturating_add(before),
+    )
+}
+
+// Why the rows of a block are not put in, all of which are rows of the table.
+fn refused_rows(
+    alloc: Global,
+    catalog: &Catalog,
+    table: &Seen<'_>,
+    rows: &[Sequence<Value>],
+) -> Search {
+    let mut keys: BTreeMap<&Value, u64> = BTreeMap::new(alloc);
+    let mut before: u64 = 0;
+    for row in rows {
+        let values = row.as_slice();
+        let record = before.saturating_add(1);
+        if let Some(key) = values.first() {
+            let repeated = repeated_key(alloc, keys.get(&key), key)?;
+            if let Some(found) = in_record(alloc, repeated, record)? {
+                return Ok(Some(found));
+            }
+            keys.insert(key, record)?;
+        }
+        let refused = kept_out(alloc, catalog, table, values, before)?;
+        if let Some(found) = in_record(alloc, refused, record)? {
+            return Ok(Some(found));
+        }
+        before = record;
+    }
+    Ok(None)
+}
+
+// Why the rows of a block that is whole are not put in.
+fn load_whole(alloc: Global, catalog: &Catalog, table: &Text, block: &[u8]) -> Search {
+    let Some(table) = table_named(catalog, table) else {
+        return no_table(alloc, table);
+    };
+    let layout = layout_of(alloc, catalog, &table)?;
+    match rows_of(alloc, &layout, block) {
+        Ok(rows) => refused_rows(alloc, catalog, &table, &rows),
+        Err(CsvRefusal::Header) => tell(
+            Refusal::BadHeader,
+            Ok(why_no_header(alloc, &table, &layout, block)?),
+        ),
+        Err(CsvRefusal::BadRow(record)) => bad_record(alloc, &table, &layout, block, record),
+        Err(CsvRefusal::NoMemory) => Err(NoMemory),
+    }
+}
+
+/// Why the rows of a block are not put in. The line asks for so many bytes.
+pub fn load(alloc: Global, catalog: &Catalog, table: &Text, bytes: u64, block: &[u8]) -> Search {
+    let most = u64::from(catalog.limits().block);
+    if bytes > most {
+        return tell(
+            Refusal::BlockTooLong,
+            format!(in alloc; "the line asks for {bytes} bytes, and a block has at most {most}"),
+        );
+    }
+    let come = block.len();
+    if (come as u64) < bytes {
+        return tell(
+            Refusal::BlockCutShort,
+            format!(in alloc; "the line asks for {bytes} bytes, and {come} have come"),
+        );
+    }
+    load_whole(alloc, catalog, table, block)
+}
+
+/// Why a table is not dumped.
+pub fn dump(alloc: Global, catalog: &Catalog, table: &Text) -> Search {
+    let Some(table) = table_named(catalog, table) else {
+        return no_table(alloc, table);
+    };
+    let (name, most) = (table.name, catalog.limits().block);
+    tell(
+        Refusal::DumpTooLong,
+        format!(in alloc;
+            "the rows of {name} have more bytes than a block, which has at most {most}"
+        ),
+    )
+}

@@ -1,0 +1,142 @@
+//! What is said to those who write as other databases want it, and to those who mistype a command.
+
+use crate::grammar::{COMMANDS, State};
+use no_memory::NoMemory;
+use std::alloc::Global;
+use strsim::osa_distance;
+
+// The most edits that lead from a word to the command that may be meant.
+const MOST_EDITS: usize = 2;
+
+// Symbols that stand where they may not, or any where none is named; where that is, if it matters; and what is to be known.
+type Hint = (&'static [&'static str], Option<State>, &'static str);
+
+const HINTS: [Hint; 32] = [
+    (
+        &["create"],
+        None,
+        "table T (id int) declares a table, and index T id hash an index",
+    ),
+    (
+        &["alter"],
+        None,
+        "the columns of a table stay as they were declared",
+    ),
+    (
+        &["begin", "commit", "rollback"],
+        None,
+        "each command is done whole or not at all, and several make no transaction",
+    ),
+    (&["truncate"], None, "delete T takes out all rows of T"),
+    (&["show", "describe"], None, "tables tells of all tables"),
+    (&["quit", "exit"], None, "a session ends with its input"),
+    (
+        &[],
+        Some(State::InsertList),
+        "an insert is insert T (1, 'x')",
+    ),
+    (
+        &["from"],
+        Some(State::Delete),
+        "a delete is delete T where id = 1",
+    ),
+    (
+        &["exists"],
+        None,
+        "a table is dropped by drop table T alone",
+    ),
+    (
+        &["limit", "offset"],
+        None,
+        "a select answers all of its rows",
+    ),
+    (&["order"], None, "rows come in the order of their keys"),
+    (&["group"], None, "there are no groups"),
+    (&["as"], None, "nothing gets another name"),
+    (
+        &["inner", "left", "right", "cross"],
+        None,
+        "a join is join U on T.a = U.b",
+    ),
+    (
+        &[","],
+        Some(State::BehindTable),
+        "a join is join U on T.a = U.b",
+    ),
+    (
+        &["="],
+        Some(State::LeftDot),
+        "a join names each column with its table",
+    ),
+    (&["="], Some(State::ConditionValue), "the operator is ="),
+    (&["!"], None, "the operator is <>"),
+    (&["or"], None, "conditions are joined by and alone"),
+    (&["is"], None, "the condition is = null or <> null"),
+    (&["like"], None, "a text is compared as a whole"),
+    (&["between"], None, "the conditions are >= and <="),
+    (&["in"], None, "a condition has one value"),
+    (
+        &["not"],
+        None,
+        "a column takes nulls only where ref T null says so",
+    ),
+    (&["primary"], None, "the first column is the key"),
+    (&["references"], None, "a reference is dept ref dept"),
+    (
+        &["integer", "bigint", "varchar", "char", "string"],
+        None,
+        "the types are int, text and ref T",
+    ),
+    (
+        &["true", "false"],
+        None,
+        "values are integers, texts and null",
+    ),
+    (
+        &["\"", "`"],
+        None,
+        "texts stand between single quote marks, and names between none",
+    ),
+    (&[";"], None, "a line needs no sign at its end"),
+    (&["("], Some(State::BehindName), "there are no functions"),
+    (
+        &["-"],
+        None,
+        "a comment begins with #, and a - stands only before digits",
+    ),
+];
+
+// Whether a symbol is one of these, in capitals or not.
+fn is_one_of(symbol: &str, symbols: &[&str]) -> bool {
+    symbols
+        .iter()
+        .any(|known| known.eq_ignore_ascii_case(symbol))
+}
+
+/// What is to be known where a symbol stands at a place where it may not.
+pub fn hint(state: State, symbol: &str) -> Option<&'static str> {
+    for (symbols, at, words) in HINTS {
+        let is_here = at.is_none() || at == Some(state);
+        if is_here && (symbols.is_empty() || is_one_of(symbol, symbols)) {
+            return Some(words);
+        }
+    }
+    None
+}
+
+/// The command whose word is the nearest to another, if one is near.
+pub fn nearest(alloc: Global, word: &str) -> Result<Option<&'static str>, NoMemory> {
+    let mut found = None;
+    let mut most = MOST_EDITS.saturating_add(1);
+    for command in COMMANDS {
+        if command.eq_ignore_ascii_case(word) {
+            return Ok(Some(command));
+        }
+        let edits = osa_distance(alloc, word, command)?;
+        if edits < most {
+            most = edits;
+            found = Some(command);
+        }
+    }
+    Ok(found)
+}

@@ -1,0 +1,154 @@
+//! Rows that others name, and so stay.
+
+ghost use Rattle.std.specs.Prelude.{IfOk, IsSome};
+ghost use Rattle.std.specs.FinMap as finite;
+ghost use Rattle.std.specs.List.{All};
+ghost use Rattle.plain_tables.specs.ResolvedLaws.{OfTable, AreTests, IsMeant};
+ghost use Rattle.plain_tables.specs.Spelling.{IsSpellable};
+ghost use Rattle.mm_catalog.specs.Seen.{database_of};
+ghost use Rattle.mm_session.specs.Passing.{ArePassing};
+
+use crate::found::{Search, tell};
+use crate::shown::Shown;
+use crate::tables::{Seen, referred, table_at};
+use mm_catalog::Catalog;
+use mm_catalog::laws::a_catalog_is_consistent;
+use mm_relation::laws::a_relation_is_kept;
+use mm_relation::{ColumnNumber, Relation, Relations, TupleRef};
+use no_memory::NoMemory;
+use plain_tables::{Command, Refusal, Resolved, TableNumber, Test, Value};
+use plan_chooser::{Policy, choose_select};
+use std::alloc::Global;
+use temp_list::select;
+
+// The rows of a table that pass the tests, in any order.
+fn rows_passing(
+    alloc: Global,
+    catalog: &Catalog,
+    table: TableNumber,
+    tests: &[Test],
+) -> Result<Vec<TupleRef>, NoMemory>
+    requires { OfTable table (database_of catalog.now) (λ t. AreTests (database_of catalog.now) t tests.now) }
+    ensures { IfOk result (λ rows. ArePassing catalog.now table.0 tests.now rows.items) }
+{
+    a_catalog_is_consistent(catalog);
+    let plan = choose_select(Policy::Auto, catalog.at(table), tests);
+    select(alloc, catalog, table, plan, tests)
+}
+
+// The first of these rows that others name.
+fn first_named(relation: &Relation, rows: &[TupleRef]) -> Option<TupleRef>
+    requires { All (λ r. IsSome (finite.get relation.now.rows r)) rows.now }
+{
+    for r in rows {
+        if relation.row(*r).referrers() > 0 {
+            return Some(*r);
+        }
+    }
+    None
+}
+
+// The key of a row that names this one in a column.
+fn naming_key(relation: &Relation, column: ColumnNumber, named: TupleRef) -> Option<&Value> {
+    a_relation_is_kept(relation);
+    for r in relation.walk() {
+        if relation.row(r).link(column) == Some(named) {
+            return relation.key_if_held(r);
+        }
+    }
+    None
+}
+
+// The row of one table that names this one of another, in words.
+fn why_named_by(
+    alloc: Global,
+    table: &Seen<'_>,
+    named: &str,
+    r: TupleRef,
+) -> Result<Option<String>, NoMemory> {
+    for (place, column) in table.columns.iter().enumerate() {
+        let refers = match referred(column) {
+            Some(other) => other.as_str() == named,
+            None => false,
+        };
+        if refers {
+            if let Some(key) = naming_key(table.relation, ColumnNumber(place), r) {
+                let (name, column, key) = (table.name, column.name.as_str(), Shown(key));
+                return Ok(Some(format!(in alloc;
+                    "column {column} of the row of {name} with the key {key}"
+                )?));
+            }
+        }
+    }
+    Ok(None)
+}
+
+// The row that names this one, in words.
+fn why_named(
+    alloc: Global,
+    catalog: &Catalog,
+    named: &str,
+    r: TupleRef,
+) -> Result<String, NoMemory> {
+    for number in 0..catalog.table_count() {
+        if let Some(table) = table_at(catalog, TableNumber(number)) {
+            if let Some(words) = why_named_by(alloc, &table, named, r)? {
+                return Ok(words);
+            }
+        }
+    }
+    Ok(format!(in alloc; "a row of another table")?)
+}
+
+// That this row of a table stays, since another names it.
+fn stays(alloc: Global, catalog: &Catalog, table: &Seen<'_>, r: TupleRef) -> Search {
+    let Some(key) = table.relation.key_if_held(r) else {
+        return Ok(None);
+    };
+    let why = why_named(alloc, catalog, table.name, r)?;
+    let (name, key) = (table.name, Shown(key));
+    tell(
+        Refusal::RowIsReferenced,
+        format!(in alloc; "the row of {name} with the key {key} is named in {why}"),
+    )
+}
+
+// The first row that passes the tests and that others name.
+fn passing_named(
+    alloc: Global,
+    catalog: &Catalog,
+    table: TableNumber,
+    tests: &[Test],
+) -> Result<Option<TupleRef>, NoMemory>
+    requires { OfTable table (database_of catalog.now) (λ t. AreTests (database_of catalog.now) t tests.now) }
+{
+    a_catalog_is_consistent(catalog);
+    let rows = rows_passing(alloc, catalog, table, tests)?;
+    Ok(first_named(catalog.at(table), &rows))
+}
+
+// Why rows are not taken out, of a delete that is resolved.
+fn named_rows(alloc: Global, catalog: &Catalog, resolved: Resolved) -> Search
+    requires { IsMeant catalog.now.limits (database_of catalog.now) resolved }
+{
+    let Resolved::Delete { table, tests } = resolved else {
+        return Ok(None);
+    };
+    let Some(r) = passing_named(alloc, catalog, table, tests.as_slice())? else {
+        return Ok(None);
+    };
+    match table_at(catalog, table) {
+        Some(seen) => stays(alloc, catalog, &seen, r),
+        None => Ok(None),
+    }
+}
+
+/// Why a delete takes no rows out, of which nothing is wrong but the rows.
+pub fn delete_rows(alloc: Global, catalog: &Catalog, command: Command) -> Search
+    requires { IsSpellable command }
+{
+    match catalog.resolve(command, &[]) {
+        Ok(resolved) => named_rows(alloc, catalog, resolved),
+        Err(_) => Ok(None),
+    }
+}
