@@ -1,10 +1,12 @@
-"""Reasons: what `--explain` tells on standard error, and that the answers stay as they are."""
+"""Reasons: what `--explain` tells on standard error, that the answers stay as they are, and what the library tells."""
 
+import ctypes
 import random
 import re
 import unittest
 
 import harness
+import library
 import model
 import sizes
 import streams
@@ -88,3 +90,64 @@ class Program(unittest.TestCase):
             come = len(end[1:])
             words = b"the line asks for 9 bytes, and %d have come" % come
             self.assertEqual(told, [(b"1", b"error 13 block cut short", b"13", words)])
+
+
+class Bytes(ctypes.Structure):
+    _fields_ = [("at", ctypes.POINTER(ctypes.c_char)), ("length", ctypes.c_size_t)]
+
+    def whole(self):
+        return self.at[: self.length]
+
+
+class Library(unittest.TestCase):
+    """The library tells a reason for each refusal, and of each number one can come by."""
+
+    @classmethod
+    def setUpClass(cls):
+        cls.mmdb = ctypes.CDLL(str(library.folder() / "libmmdb.so"))
+
+    def opened(self, limits=None):
+        handle = ctypes.c_void_p()
+        rows, block = (limits.rows, limits.block) if limits else (1 << 24, 1 << 24)
+        self.assertEqual(self.mmdb.mmdb_open(ctypes.byref(handle), 0, rows, block), 0)
+        self.addCleanup(self.mmdb.mmdb_close, ctypes.byref(handle))
+        return handle
+
+    def call(self, call, handle, line, block):
+        told = Bytes()
+        lengths = (ctypes.c_size_t(len(line)), ctypes.c_size_t(len(block)))
+        status = call(ctypes.byref(handle), line, lengths[0], block, lengths[1], ctypes.byref(told))
+        return status, told.whole() if status == 0 else b""
+
+    def reasons(self, stream, limits=None):
+        """The numbers of the refusals of a stream, each with its reason."""
+        handle = self.opened(limits)
+        for line, block in model.units_of(stream):
+            if not line or len(block) < model.block_length(line):
+                continue
+            status, answer = self.call(self.mmdb.mmdb_load, handle, line, block)
+            self.assertEqual(status, 0)
+            status, words = self.call(self.mmdb.mmdb_reason, handle, line, block)
+            self.assertEqual(status, 0)
+            self.assertEqual(words != b"", answer.startswith(b"error "), (line, answer, words))
+            told = Bytes()
+            self.assertEqual((self.mmdb.mmdb_answer(ctypes.byref(handle), ctypes.byref(told)), told.whole()), (0, answer))
+            if words:
+                yield int(answer[6:8]), words
+
+    def test_each_number_has_its_reasons(self):
+        numbers = {number for _, stream, _ in harness.rows() for number, _ in self.reasons(stream)}
+        for _, limits, stream, _ in harness.limited_rows():
+            numbers |= {number for number, _ in self.reasons(stream, limits)}
+        self.assertEqual(numbers | {13, 90}, set(model.TEXTS) | {13, 90})
+
+    def test_reasons_are_those_of_the_program(self):
+        told = [words.split(b": ", 1)[1] for words in HAND_TOLD.splitlines()]
+        self.assertEqual([words for _, words in self.reasons(FRONT + HAND)], told)
+
+    def test_statuses(self):
+        closed = ctypes.c_void_p()
+        self.assertEqual(self.call(self.mmdb.mmdb_reason, closed, b"foo", b""), (1, b""))
+        handle = self.opened()
+        self.assertEqual(self.call(self.mmdb.mmdb_reason, handle, b"", b""), (5, b""))
+        self.assertEqual(self.call(self.mmdb.mmdb_reason, handle, b"foo", b""), (0, b""))

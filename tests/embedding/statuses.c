@@ -69,6 +69,10 @@ static void a_closed_handle_is_told(mmdb *db)
     GIVES(feed(db, "tables\n"), MMDB_NOT_OPEN);
     GIVES(mmdb_answer(db, NULL), MMDB_NOT_OPEN);
     GIVES(mmdb_refusal(db), 0);
+    answer = another();
+    GIVES(mmdb_reason(db, TABLE, 5, NULL, 0, &answer), MMDB_NOT_OPEN);
+    CHECK(reads(answer, ""));
+    GIVES(mmdb_reason(db, NULL, 0, NULL, 1, NULL), MMDB_NOT_OPEN);
     mmdb_close(db);
 }
 
@@ -183,6 +187,36 @@ static void answers_and_refusals_are_those_of_the_last_call(mmdb *db)
     GIVES(mmdb_refusal(db), 20);
 }
 
+static void reason_gives_each_status(mmdb *db)
+{
+    mmdb_bytes answer, reason;
+    GIVES(command(db, "select nothing from t", &answer), MMDB_DONE);
+    GIVES(mmdb_reason(db, "select nothing from t", 21, NULL, 0, &reason), MMDB_DONE);
+    CHECK(reads(reason, "nothing is no column of t"));
+    GIVES(mmdb_reason(db, "select nothing from t\r", 22, "", 0, NULL), MMDB_DONE);
+    CHECK(reads(answer, "error 32 no such column\n"));
+    GIVES(mmdb_refusal(db), 32);
+    GIVES(mmdb_reason(db, "insert t (1, 'x')", 17, NULL, 0, &reason), MMDB_DONE);
+    CHECK(reads(reason, ""));
+    allocations_refuse(0, 1);
+    reason = another();
+    GIVES(mmdb_reason(db, "select nothing from t", 21, NULL, 0, &reason), MMDB_NO_MEMORY);
+    CHECK(reads(reason, ""));
+    CHECK(allocations_refused() == 1);
+    allocations_refuse(0, 0);
+    GIVES(mmdb_reason(db, "", 0, NULL, 0, &reason), MMDB_NO_LINE);
+    GIVES(mmdb_reason(db, NULL, 0, NULL, 0, &reason), MMDB_NO_LINE);
+    GIVES(mmdb_reason(db, "tables", 6, NULL, 1, &reason), MMDB_NO_LINE);
+    GIVES(mmdb_answer(db, &answer), MMDB_DONE);
+    CHECK(reads(answer, "error 32 no such column\n"));
+    GIVES(load(db, "load t 9", "id,s\n1,b\n", &answer), MMDB_DONE);
+    GIVES(mmdb_reason(db, "load t 9", 8, "id,s\n1,b\n", 9, &reason), MMDB_DONE);
+    CHECK(reads(reason, "record 1: t has a row with the key 1"));
+    GIVES(command(db, "tables", NULL), MMDB_DONE);
+    GIVES(mmdb_reason(db, "noise", 5, NULL, 0, &reason), MMDB_DONE);
+    CHECK(reads(reason, ""));
+}
+
 static void each_status_has_words_of_its_own(void)
 {
     for (uint32_t one = MMDB_DONE; one <= MMDB_ENDED + 1; one++)
@@ -204,6 +238,7 @@ int main(void)
     answers_and_refusals_are_those_of_the_last_call(&db);
     a_stream_ends_where_its_answers_find_no_room(&db);
     answers_and_refusals_are_those_of_the_last_call(&db);
+    reason_gives_each_status(&db);
     mmdb_close(&db);
     a_closed_handle_is_told(&db);
     each_status_has_words_of_its_own();

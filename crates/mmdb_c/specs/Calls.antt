@@ -13,7 +13,7 @@ pub record AreLimits (rows block : ℕ) : Type 0 where
 
 -- a database with no tables, under these limits
 abbrev pub new_database : ℕ → ℕ → Database
-new_database rows block = record { session = new_session (record { rows = rows; block = block }) []; answer = [] }
+new_database rows block = record { session = new_session (record { rows = rows; block = block }) []; answer = []; reason = [] }
 
 -- the request of a line and a block
 abbrev pub request : List ℕ → List ℕ → Request
@@ -40,3 +40,8 @@ pub record LosesStream (piece : List ℕ) (old new : Database) : Type 0 where
   pub breaks_off : BreaksOff old.session piece false new.answer
   pub over : IsTrue new.session.ended
   pub limits : new.session.limits ≡ old.session.limits
+
+-- The session and the answers are as they were.
+pub record IsAsBefore (old new : Database) : Type 0 where
+  pub session : new.session ≡ old.session
+  pub answer : new.answer ≡ old.answer

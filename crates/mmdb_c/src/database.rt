@@ -1,32 +1,35 @@
-//! A session, and the answers to the last call.
+//! A session, the answers to the last call, and the reason that was last asked for.
 
 ghost use Rattle.std.specs.Prelude.{◌≡◌, ◌≤◌, ◌↔◌, [], IsTrue, IsErrOf, IfOk, OnOk, OnErr};
 ghost use Rattle.plain_streams.specs.Division.{IsWhole};
 ghost use Rattle.mm_session.specs.Sessions.{new_session};
 
+use mm_reason::reason;
 use mm_session::{Answer, NotOneRequest, Session, SessionFault};
 use plain_tables::{Limits, NoMemory};
 use plan_chooser::Policy;
 use std::alloc::Global;
 
-/// A session, and the answers to the last call.
+/// A session, the answers to the last call, and the reason that was last asked for.
 #[derive(Drop)]
 pub struct Database {
     pub session: Session,
     pub answer: Answer,
+    pub reason: Answer,
 }
 
 impl Database {
-    ghost use Rattle.mmdb_c.specs.Calls.{request, AnswersRequest, TakesPiece, LosesStream};
+    ghost use Rattle.mmdb_c.specs.Calls.{request, AnswersRequest, TakesPiece, LosesStream, IsAsBefore};
 
-    /// A database with no tables, and an empty answer.
+    /// A database with no tables, an empty answer and an empty reason.
     pub fn new(alloc: Global, policy: Policy, limits: Limits) -> Result<Database, NoMemory>
         requires { limits.rows ≤ 16777216 }
-        ensures { IfOk result (λ d. (d.session ≡ new_session limits []) × (d.answer ≡ [])) }
+        ensures { IfOk result (λ d. (d.session ≡ new_session limits []) × (d.answer ≡ []) × (d.reason ≡ [])) }
     {
         Ok(Database {
             session: Session::with_limits(alloc, policy, limits)?,
             answer: Answer::new(alloc)?,
+            reason: Answer::new(alloc)?,
         })
     }
 
@@ -51,5 +54,17 @@ impl Database {
         }
         self.answer.clear();
         self.session.feed(piece, &mut self.answer)
+    }
+    /// Keeps the words that say why the request of a line and a block was refused by the refusal that the answers begin with.
+    /// There are none where they begin with none, or where that can't be told.
+    pub fn find_reason(&mut self, alloc: Global, line: &[u8], block: &[u8]) -> Result<(), NoMemory>
+        ensures { IsAsBefore self.old self.new }
+    {
+        self.reason.clear();
+        let number = self.answer.refusal();
+        match reason(alloc, self.session.catalog(), line, block, number)? {
+            Some(words) => self.reason.push(words.as_bytes()),
+            None => Ok(()),
+        }
     }
 }

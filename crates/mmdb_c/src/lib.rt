@@ -11,7 +11,7 @@ ghost use Rattle.std.specs.Prelude.{◌≡◌, ◌≢◌, ◌↔◌, ◌<◌, �
 ghost use Rattle.std.specs.Vec.{vec_ptr, vec_len};
 ghost use Rattle.plain_streams.specs.Division.{IsWhole};
 ghost use Rattle.mm_session.specs.Refused.{TellsRefusal};
-ghost use Rattle.mmdb_c.specs.Calls.{AreLimits, new_database, request, Becomes, AnswersRequest, TakesPiece, LosesStream};
+ghost use Rattle.mmdb_c.specs.Calls.{AreLimits, new_database, request, Becomes, AnswersRequest, TakesPiece, LosesStream, IsAsBefore};
 
 mod database;
 mod handle;
@@ -216,6 +216,41 @@ pub extern "C" fn mmdb_refusal(alloc: Global, handle: &mut Handle) -> u32
     let number = database.answer.refusal();
     handle.put(alloc, database);
     number
+}
+
+/// Tells why the request of a line and a block was refused by the refusal that the answers to the last call begin with, in
+/// words that lie there until the next call.
+#[unsafe(no_mangle)]
+pub extern "C" fn mmdb_reason(
+    alloc: Global,
+    handle: &mut Handle,
+    line: &[u8],
+    block: &[u8],
+    reason: &mut Bytes,
+) -> u32
+    ensures not_open { (result ≡ NOT_OPEN) ↔ IsNone handle.old.database }
+    ensures no_line { (result ≡ NO_LINE) ↔ (IsSome handle.old.database × (line.now ≡ [])) }
+    ensures asked { IsSome handle.old.database × (line.now ≢ []) → (result ≡ DONE) ⊎ (result ≡ NO_MEMORY) }
+    ensures told { result ≡ DONE → IsSomeAnd handle.new.database (λ d. reason.new.length ≡ length d.reason) }
+    ensures untold { result ≢ DONE → reason.new ≡ reason.old }
+    ensures closed { result ≡ NOT_OPEN → handle.new.database ≡ handle.old.database }
+    // The session and the answers are as they were.
+    ensures unchanged { result ≢ NOT_OPEN → Becomes handle.old.database handle.new.database IsAsBefore }
+{
+    let Some(mut database) = handle.take(alloc) else {
+        return NOT_OPEN;
+    };
+    if line.is_empty() {
+        handle.put(alloc, database);
+        return NO_LINE;
+    }
+    if database.find_reason(alloc, line, block).is_err() {
+        handle.put(alloc, database);
+        return NO_MEMORY;
+    }
+    tell(database.reason.as_vec(), reason);
+    handle.put(alloc, database);
+    DONE
 }
 
 /// Closes the handle, and frees its database where it was open.
