@@ -59,7 +59,7 @@ class Refused(DatabaseError):
         self.text = text
         #: The line as it was sent, with its parameters in their places; None where a database finds no memory to open.
         self.line = line
-        #: What the library tells beyond that. It tells nothing so far, and this is None.
+        #: The library's reason, in words. The package doesn't ask for it yet, and this is None.
         self.reason = reason
 
     def __str__(self) -> str:

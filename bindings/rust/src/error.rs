@@ -141,7 +141,7 @@ impl Error {
         }
     }
 
-    /// What the refusal tells beyond its text. The library tells nothing yet, so it is `None`.
+    /// The library's reason, in words. The crate doesn't ask for it yet, so it is `None`.
     pub fn reason(&self) -> Option<&str> {
         None
     }
