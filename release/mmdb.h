@@ -64,7 +64,8 @@ typedef enum mmdb_status {
     MMDB_LIMIT_OUT_OF_RANGE = 4, /* mmdb_open with rows that are not 1 to MMDB_MOST, or a block past MMDB_MOST */
     MMDB_NO_LINE = 5,            /* a line that is null or has no bytes; a block or a piece that is null and has some */
     MMDB_NOT_ONE_REQUEST = 6,    /* a line feed in a line; a line that asks for a block of another length than given */
-    MMDB_NO_MEMORY = 7,          /* mmdb_open: none was found. mmdb_feed: none for the answers; the stream is over */
+    MMDB_NO_MEMORY = 7,          /* mmdb_open, mmdb_reason: none was found. mmdb_feed: none for the answers; the stream
+                                    is over */
     MMDB_ENDED = 8               /* mmdb_feed of a stream that is over; mmdb_command and mmdb_load go on */
 } mmdb_status;
 
@@ -108,12 +109,23 @@ uint32_t mmdb_feed(mmdb *db, const void *piece, size_t length);
 
 /* The answers of the last call that was done, one behind the other: of the piece that was fed, or of the line. Of a
    piece whose answers found no room it is a front of them.
-   Gives MMDB_DONE, and bytes that are good until the next call but this one and mmdb_refusal; or MMDB_NOT_OPEN. */
+   Gives MMDB_DONE, and bytes that are good until the next call but this one, mmdb_refusal and mmdb_reason; or
+   MMDB_NOT_OPEN. */
 uint32_t mmdb_answer(mmdb *db, mmdb_bytes *answer);
 
 /* Gives no status, but the number of the refusal that the last answers begin with, as 41 of `error 41 key exists`; or
    0 where they begin with none, or there are none, or the handle is closed. */
 uint32_t mmdb_refusal(mmdb *db);
+
+/* Why a line was refused, with the block that it asks for, in one line of English: for people, who are told what stands
+   at which column, or which name, column, value or row it was. It is asked right behind the mmdb_command or mmdb_load
+   that was refused, while the tables are as they were, and changes neither them nor the answers. What the words are may
+   change from version to version; the number of the refusal doesn't.
+   Gives MMDB_DONE and the words, which are good until the next call on this handle: no bytes where the last answers
+   begin with no refusal, or it is none of this line. Or gives MMDB_NOT_OPEN, MMDB_NO_LINE, or MMDB_NO_MEMORY where none
+   was found for the words. */
+uint32_t mmdb_reason(mmdb *db, const void *line, size_t length, const void *block, size_t block_length,
+                     mmdb_bytes *reason);
 
 /* Closes a handle and gives back all that it holds; its answers are good no longer. It is MMDB_CLOSED then, and may be
    opened again. Of a closed handle and of null nothing is done. */
@@ -218,6 +230,18 @@ static inline uint32_t mmdb_checked_refusal(mmdb *db)
     return mmdb_checked_is_closed(db) ? 0 : mmdb_refusal(db);
 }
 
+static inline mmdb_status mmdb_checked_reason(mmdb *db, const void *line, size_t length, const void *block,
+                                              size_t block_length, mmdb_bytes *reason)
+{
+    mmdb_bytes unwanted;
+    mmdb_bytes *to = mmdb_checked_answer_at(reason, &unwanted);
+    if (mmdb_checked_is_closed(db))
+        return MMDB_NOT_OPEN;
+    if (line == NULL || (block == NULL && block_length != 0))
+        return MMDB_NO_LINE;
+    return (mmdb_status)mmdb_reason(db, line, length, mmdb_checked_bytes(block), block_length, to);
+}
+
 static inline void mmdb_checked_close(mmdb *db)
 {
     if (!mmdb_checked_is_closed(db))
@@ -230,6 +254,7 @@ static inline void mmdb_checked_close(mmdb *db)
 #define mmdb_feed mmdb_checked_feed
 #define mmdb_answer mmdb_checked_answer
 #define mmdb_refusal mmdb_checked_refusal
+#define mmdb_reason mmdb_checked_reason
 #define mmdb_close mmdb_checked_close
 
 #ifdef __cplusplus
