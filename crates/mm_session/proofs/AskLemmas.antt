@@ -9,7 +9,7 @@ use Rattle.plain_streams.specs.Requests.{Request, IsReadable, Asks, without_retu
 use Rattle.plain_streams.specs.Runs.{HasBlock}
 use Rattle.plain_streams.proofs.Asking.{asks_one}
 use Rattle.mm_session.specs.Judging.{IsJudged}
-use Rattle.mm_session.specs.declared.lines.Judged.TheVariants.{TooLong, NotUtf8, Silent, Text}
+use Rattle.mm_session.specs.declared.stream.lines.Judged.TheVariants.{TooLong, NotUtf8, Silent, Text}
 
 -- whether a line asks for a block, and for how long a one
 abbrev pub AsksAs : List ℕ → Option ℕ → Type 0

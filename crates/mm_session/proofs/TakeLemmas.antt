@@ -1,6 +1,6 @@
 -- Bytes that a responder takes one after another.
 use Rattle.std.proofs.Common.{◌≡◌, ℕ, List, ◌++◌, Option, Some, None, sym, ap, ◌∙◌, subst, append_assoc}
-use Rattle.mm_session.specs.declared.responder.Responder.{Responder}
+use Rattle.mm_session.specs.declared.stream.responder.Responder.{Responder}
 use Rattle.mm_session.specs.Kept.{Keeps}
 use Rattle.mm_session.specs.Responding.{Takes, GoesOn, Completes}
 

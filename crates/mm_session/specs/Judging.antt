@@ -5,8 +5,8 @@ use Rattle.plain_tables.specs.Databases.{Database}
 use Rattle.plain_tables.specs.declared.command.Limits.{Limits}
 use Rattle.plain_streams.specs.Requests.{Takes, IsReadable, without_return, is_silent}
 use Rattle.plain_streams.specs.Runs.{Answers}
-use Rattle.mm_session.specs.declared.lines.Judged.{Judged}
-use Rattle.mm_session.specs.declared.lines.Judged.TheVariants.{TooLong, NotUtf8, Silent, Text}
+use Rattle.mm_session.specs.declared.stream.lines.Judged.{Judged}
+use Rattle.mm_session.specs.declared.stream.lines.Judged.TheVariants.{TooLong, NotUtf8, Silent, Text}
 
 -- The line, without a carriage return at its end, is too long; or it isn't, and is not UTF-8; or it can be read, and is silent
 -- or that text.

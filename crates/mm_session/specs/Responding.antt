@@ -6,9 +6,9 @@ use Rattle.plain_streams.specs.Runs.{Answers}
 use Rattle.mm_catalog.specs.Seen.{database_of}
 use Rattle.mm_session.specs.Buffers.{kept_of}
 use Rattle.mm_session.specs.Kept.{Keeps, KeepsLine, KeepsRequest, nothing}
-use Rattle.mm_session.specs.declared.block.Block.{Block}
-use Rattle.mm_session.specs.declared.kept.Kept.{Kept}
-use Rattle.mm_session.specs.declared.responder.Responder.{Responder}
+use Rattle.mm_session.specs.declared.stream.pending_block.PendingBlock.{PendingBlock}
+use Rattle.mm_session.specs.declared.stream.kept.Kept.{Kept}
+use Rattle.mm_session.specs.declared.stream.responder.Responder.{Responder}
 
 -- That answers the request, from the tables before to those after.
 abbrev pub Responds : Responder → Responder → Request → Type 0
@@ -22,7 +22,7 @@ abbrev pub IsRest : Responder → List ℕ → Type 0
 IsRest r rest = Keeps r.executor.catalog.limits rest r.kept
 
 -- a rest that ends in a block of which that is kept
-abbrev pub IsRestWith : Responder → Block → List ℕ → Type 0
+abbrev pub IsRestWith : Responder → PendingBlock → List ℕ → Type 0
 IsRestWith r block rest = KeepsRequest r.executor.catalog.limits rest r.kept.line block
 
 -- the line that is kept, with its line feed; it asks for a block of this many bytes

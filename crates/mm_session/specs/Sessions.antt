@@ -2,7 +2,7 @@
 use Rattle.std.specs.Prelude.{◌≡◌, ℕ, List, ◌++◌, Bool, true, false, Option}
 use Rattle.std.specs.Io.KnownBytes.{Appends}
 use Rattle.mm_session.specs.Kept.{Keeps, nothing}
-use Rattle.mm_session.specs.declared.kept.Kept.{Kept}
+use Rattle.mm_session.specs.declared.stream.kept.Kept.{Kept}
 use Rattle.plain_tables.specs.Databases.{Database}
 use Rattle.plain_tables.specs.declared.command.Limits.{Limits}
 use Rattle.plain_streams.specs.Requests.{Request}

@@ -3,6 +3,8 @@
 ghost use Rattle.std.specs.Prelude.{◌≡◌, ◌++◌, ◌+◌, ◌-◌, ◌*◌, ◌≤◌, [], length, take, drop, IsOk, IfOk, OnOk};
 ghost use Rattle.std.specs.Fmt.{decimal};
 
+pub mod records;
+
 use itoa::Buffer;
 use mm_lang::Sink;
 use plain_tables::NoMemory;

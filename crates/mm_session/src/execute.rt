@@ -3,11 +3,12 @@
 mod blocks;
 mod listing;
 mod query;
+mod respond;
 mod search;
 mod select;
 
 use crate::answer::Answer;
-use crate::records::push_changed;
+use crate::answer::records::push_changed;
 use mm_catalog::Catalog;
 use plain_tables::{Assignment, Command, Refusal, Resolved, Sequence, TableNumber, Test};
 use plan_chooser::Policy;

@@ -2,9 +2,10 @@
 //!
 //! ```text
 //!  pieces of bytes ──▶ requests ──▶ command ──▶ effect on the tables ──▶ answer ──▶ bytes
-//!   whole_run           responder   respond     execute: search, query,   answer     writing
-//!   session             lines       parse of    select, listing, blocks   records
-//!                       kept, block mm_lang     mm_catalog                mm_csv
+//!   session             stream:      execute:    execute: search, query,   answer:    stream:
+//!   stream: whole_run   responder,   respond     select, listing, blocks   records    writing
+//!                       lines, kept, and parse   and mm_catalog            and mm_csv
+//!                       pending_block
 //! ```
 //!
 //! It doesn't care how a line spells its command, how a record is quoted, nor how tables are kept and what a command may do
@@ -20,19 +21,12 @@
 #![tactic(auto)]
 
 mod answer;
-mod block;
 mod execute;
 mod fault;
-mod kept;
-mod lines;
-mod records;
-mod respond;
-mod responder;
 mod session;
-mod whole_run;
-mod writing;
+mod stream;
 
 pub use answer::Answer;
 pub use fault::{NotOneRequest, RunFault, SessionFault};
 pub use session::Session;
-pub use whole_run::run;
+pub use stream::whole_run::run;

@@ -5,8 +5,8 @@ ghost use Rattle.std.specs.Io.KnownBytes.{Keeps};
 
 use crate::answer::Answer;
 use crate::fault::{NotOneRequest, SessionFault};
-use crate::responder::Responder;
-use crate::writing::write_whole;
+use crate::stream::responder::Responder;
+use crate::stream::writing::write_whole;
 use mm_catalog::Catalog;
 use plain_tables::{Limits, NoMemory};
 use plan_chooser::Policy;

@@ -10,7 +10,7 @@ ghost use Rattle.mm_session.specs.Listing.{command_lines, index_commands};
 
 use super::Executor;
 use crate::answer::Answer;
-use crate::records::push_changed;
+use crate::answer::records::push_changed;
 use mm_catalog::Catalog;
 use mm_catalog::laws::a_catalog_is_consistent;
 use mm_lang::{print_index, print_table};

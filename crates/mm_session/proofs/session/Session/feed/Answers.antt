@@ -1,6 +1,6 @@
 use Rattle.std.proofs.Common.{◌≡◌, ◌++◌, [], List, ℕ, Bool, ◌∙◌, ap, sym, subst, refl, false, append_assoc, append-nil}
 use Rattle.mm_session.specs.Sessions.{State, Feeds}
-use Rattle.mm_session.specs.declared.responder.Responder.{Responder}
+use Rattle.mm_session.specs.declared.stream.responder.Responder.{Responder}
 use Rattle.mm_catalog.specs.Seen.{database_of}
 use Rattle.mm_session.proofs.ResultLemmas.{on_ok, on_error}
 use Rattle.mm_session.proofs.RunLemmas.{feeds_nothing, Feeds-append, feeds_request, feeds_rest, breaks_off, breaks_off_later}

@@ -1,0 +1,92 @@
+//! The answer to one request: a line, and the block behind it.
+
+ghost use Rattle.std.specs.Prelude.{◌≡◌};
+ghost use Rattle.plain_tables.specs.AnswerText.{refusal_text};
+
+use crate::answer::Answer;
+use crate::answer::records::push_refusal;
+use crate::execute::Executor;
+use crate::stream::lines::Judged;
+use mm_lang::{Line, ParseRefusal, parse};
+use plain_tables::Refusal;
+
+const LINE_TOO_LONG: &[u8] = b"error 10 line too long\n";
+
+const NOT_UTF8: &[u8] = b"error 11 not UTF-8\n";
+
+// Makes the refusal the answer, which takes no memory.
+fn refuse(answer: &mut Answer, refusal: Refusal)
+    ensures { answer.new ≡ refusal_text refusal }
+{
+    answer.clear();
+    let _ = push_refusal(answer, refusal);
+}
+
+impl Executor {
+    ghost use Rattle.std.specs.Prelude.{◌≡◌, ℕ, List, OnOk, IfOk, IfErr, OnErr, ◌<◌};
+    ghost use Rattle.mm_csv.specs.BlockReading.{block_records};
+    ghost use Rattle.plain_streams.specs.Requests.{Asks};
+    ghost use Rattle.plain_streams.specs.Runs.{Answers, HasBlock};
+    ghost use Rattle.mm_catalog.specs.Seen.{database_of};
+    ghost use Rattle.mm_session.specs.Answered.{Obeys, Declines};
+    ghost use Rattle.mm_session.specs.Judging.{IsJudged, AnswersIn};
+
+    // Reads a line as a command, and does what it says with the block behind it.
+    fn obey(&mut self, line: &Line<'_>, block: &[u8], answer: &mut Answer) -> Result<(), Refusal>
+        ensures ok { OnOk result (Obeys (block_records block.now) self.old.catalog.limits (database_of self.old.catalog) line.now (database_of self.new.catalog) answer.old answer.new) }
+        ensures err { IfErr result (Declines (block_records block.now) self.old.catalog.limits (database_of self.old.catalog) line.now) }
+        ensures unchanged { OnErr result (database_of self.new.catalog ≡ database_of self.old.catalog) }
+        ensures limits { self.new.catalog.limits ≡ self.old.catalog.limits }
+    {
+        let command = match parse(self.alloc, line) {
+            Ok(command) => command,
+            Err(ParseRefusal::Syntax) => return Err(Refusal::NotACommand),
+            Err(ParseRefusal::NoMemory) => return Err(Refusal::NoMemory),
+        };
+        self.execute(command, block, answer)
+    }
+
+    /// Answers a line that has ended, and the block behind it. A silent line has the empty answer.
+    pub fn respond(&mut self, line: &Judged<'_>, block: &[u8], answer: &mut Answer)
+        ensures answers { (bytes : List ℕ) → IsJudged bytes line.now → HasBlock self.old.catalog.limits (record { line = bytes; block = block.now })
+            → Answers self.old.catalog.limits (database_of self.old.catalog) (record { line = bytes; block = block.now }) answer.new (database_of self.new.catalog) }
+        ensures limits { self.new.catalog.limits ≡ self.old.catalog.limits }
+    {
+        match line {
+            Judged::TooLong => answer.set(LINE_TOO_LONG),
+            Judged::NotUtf8 => answer.set(NOT_UTF8),
+            Judged::Silent => answer.clear(),
+            Judged::Text(text) => {
+                answer.clear();
+                if let Err(refusal) = self.obey(text, block, answer) {
+                    refuse(answer, refusal);
+                }
+            }
+        }
+    }
+
+    /// Answers a line that has ended, and the block that it asks for, where the bytes begin with that and it is within the
+    /// limit; and gives the bytes behind it. Else it does nothing, and gives the length of the block.
+    pub fn respond_in<'a>(
+        &mut self,
+        line: &Judged<'_>,
+        bytes: &'a [u8],
+        answer: &mut Answer,
+    ) -> Result<&'a [u8], u64>
+        ensures answered { IfOk result (λ others. AnswersIn self.old.catalog.limits (database_of self.old.catalog) line.now bytes.now others.now answer.new (database_of self.new.catalog)) }
+        ensures asks { IfErr result (λ n. (0 < n) × ((l : List ℕ) → IsJudged l line.now → Asks l n)) }
+        ensures unchanged { OnErr result (self.new ≡ self.old) }
+        ensures limits { self.new.catalog.limits ≡ self.old.catalog.limits }
+    {
+        let Some(length) = line.asked() else {
+            self.respond(line, &[], answer);
+            return Ok(bytes);
+        };
+        if length > self.block_limit().min(bytes.len() as u64) {
+            return Err(length);
+        }
+        let (block, others) = bytes.split_at(length as usize);
+        self.respond(line, block, answer);
+        Ok(others)
+    }
+}
