@@ -3,7 +3,7 @@ ghost use Rattle.std.specs.Prelude.{◌≡◌};
 
 use part_raw::TupleRef;
 use std::process::Abort;
-use ttree_node::{Editor, Links, Side};
+use ttree_node::{Editor, LinkedTree, Side};
 
 fn item(key: u32) -> TupleRef {
     TupleRef { number: key }
@@ -31,7 +31,7 @@ fn plant<R: Abort>(rt: &R, edit: &mut Editor<'_, 3>)
 
 #[test]
 fn a_walk_passes_a_node_with_no_items(rt: HostRuntime) {
-    let mut links: Links<3> = Links::new(rt.alloc());
+    let mut links: LinkedTree<3> = LinkedTree::new(rt.alloc());
     assert!(rt; links.reserve(3).is_ok());
     plant(&rt, &mut links.nodes_mut().edit());
     assert!(rt; links.walk().eq([item(10), item(30)]));

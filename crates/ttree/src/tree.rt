@@ -15,12 +15,12 @@ use no_memory::NoMemory;
 use part_raw::TupleRef;
 use std::alloc::Global;
 use std::marker::Model;
-use ttree_node::{Links, Look, Walk};
+use ttree_node::{LinkedTree, Look, Walk};
 
 /// References in order, in nodes of at most `MAX`. A node with two children holds at least `MIN`.
 #[derive(Drop)]
 pub struct TTree<const MIN: usize, const MAX: usize> {
-    pub(crate) links: Links<MAX>,
+    pub(crate) tree: LinkedTree<MAX>,
     // How many references it holds.
     pub(crate) len: usize,
     // How many nodes it has, the spare ones too.
@@ -35,9 +35,9 @@ impl<const MIN: usize, const MAX: usize> Model for TTree<MIN, MAX> {
 
     ghost coded = { tree_with_spares_code };
 
-    ghost view = { λ t. t.links };
+    ghost view = { λ t. t.tree };
 
-    ghost invariant = { λ t. IsSound MIN MAX t.links t.len t.nodes };
+    ghost invariant = { λ t. IsSound MIN MAX t.tree t.len t.nodes };
 }
 
 impl<const MIN: usize, const MAX: usize> TTree<MIN, MAX> {
@@ -59,7 +59,7 @@ impl<const MIN: usize, const MAX: usize> TTree<MIN, MAX> {
         ensures room { room_of MIN result ≡ 0 }
     {
         TTree {
-            links: Links::new(alloc),
+            tree: LinkedTree::new(alloc),
             len: 0,
             nodes: 0,
         }
@@ -115,14 +115,14 @@ impl<const MIN: usize, const MAX: usize> TTree<MIN, MAX> {
     pub fn walk(&self) -> Walk<'_, MAX>
         ensures { rest_of result ≡ items_of_tree self.now }
     {
-        self.links.walk()
+        self.tree.walk()
     }
 
     /// The root of the tree, to read its nodes.
     pub fn look(&self) -> Look<'_, MAX>
         ensures { position result ≡ at [] self.now.tree }
     {
-        self.links.look()
+        self.tree.look()
     }
 
     /// The references in order, from the first that does not stand below the probe's range.
@@ -156,7 +156,7 @@ impl<const MIN: usize, const MAX: usize> TTree<MIN, MAX> {
         ensures asks { 0 < length (items_of_tree self.now) → counted (P.asked probe.old) ≤ P.asked probe.new }
         ensures bound { fib (height self.now.tree + 2) ≤ 1 + length (items_of_tree self.now) }
     {
-        let mut look = self.links.look();
+        let mut look = self.tree.look();
         if !look.has_node() {
             return (look, Err(0));
         }
@@ -177,7 +177,7 @@ impl<const MIN: usize, const MAX: usize> TTree<MIN, MAX> {
         ensures few_nodes { MIN * size self.now.tree ≤ 2 * length (items_of_tree self.now) + MIN }
         ensures bound { fib (height self.now.tree + 2) ≤ 1 + length (items_of_tree self.now) }
     {
-        let root = self.links.look();
+        let root = self.tree.look();
         if !root.has_node() {
             return 0;
         }
@@ -197,13 +197,13 @@ impl<const MIN: usize, const MAX: usize> TTree<MIN, MAX> {
         ensures nodes { nodes_of self.new ≤ max (nodes_of self.old) (nodes_for MIN (length (items_of_tree self.old) + n)) }
         ensures err { OnErr result (self.new ≡ self.old) }
     {
-        let spares = self.links.spares();
+        let spares = self.tree.spares();
         let enough = 1 + (2 * (self.len + n)).div_ceil(MIN);
         let more = n
             .saturating_sub(spares)
             .min(enough.saturating_sub(self.nodes));
         if more > 0 {
-            self.links.reserve(spares + more)?;
+            self.tree.reserve(spares + more)?;
             self.nodes += more;
         }
         Ok(())
@@ -274,7 +274,7 @@ impl<const MIN: usize, const MAX: usize> TTree<MIN, MAX> {
         ensures most_asked { P.asked probe.new ≤ P.asked probe.old + (2 * height self.old.tree + binary_digits MAX) }
         ensures bound { fib (height self.old.tree + 2) ≤ 1 + length (items_of_tree self.old) }
     {
-        let found = insert_unless_found::<P, MIN, MAX>(self.links.nodes_mut(), probe, r);
+        let found = insert_unless_found::<P, MIN, MAX>(self.tree.nodes_mut(), probe, r);
         if found.is_none() {
             self.len += 1;
         }
@@ -298,7 +298,7 @@ impl<const MIN: usize, const MAX: usize> TTree<MIN, MAX> {
         ensures room { room_of MIN self.old ≤ room_of MIN self.new }
         ensures most_asked { probe.new.asked ≤ probe.old.asked + (2 * height self.old.tree + binary_digits MAX) }
     {
-        remove::<O, MIN, MAX>(self.links.nodes_mut(), probe);
+        remove::<O, MIN, MAX>(self.tree.nodes_mut(), probe);
         self.len -= 1;
     }
 
@@ -313,14 +313,14 @@ impl<const MIN: usize, const MAX: usize> TTree<MIN, MAX> {
     pub fn nodes(&self) -> usize
         ensures { result ≡ size self.now.tree }
     {
-        self.nodes - self.links.spares()
+        self.nodes - self.tree.spares()
     }
 
     /// How many nodes are spare.
     pub fn spares(&self) -> usize
         ensures { result ≡ self.now.spares }
     {
-        self.links.spares()
+        self.tree.spares()
     }
 
     /// Gives back the memory that was reserved and not used. Takes no memory.
@@ -329,7 +329,7 @@ impl<const MIN: usize, const MAX: usize> TTree<MIN, MAX> {
         ensures spares { self.new.spares ≡ 0 }
         ensures room { room_of MIN self.new ≡ 0 }
     {
-        self.nodes -= self.links.spares();
-        self.links.release_spares();
+        self.nodes -= self.tree.spares();
+        self.tree.release_spares();
     }
 }

@@ -8,7 +8,7 @@ use Rattle.ttree_node.specs.Held.{same_place, node_at, set_node}
 use Rattle.ttree_node.specs.Tree.{Tree, empty, node, Frame, went_left, went_right, Label, at, size, plug, relabel, relabel_zipper, is_node, has_left, has_right, down_left, down_right, up, with_leaf, without_leaf}
 use Rattle.ttree_node.specs.Linked.{Spot, spot, there, parent_of, side_of, head_of, node_for, Present, linked_down, rooted, located, Linked, Sound, IsPlaceIn, is_place_in}
 use Rattle.ttree_node.specs.Seen.{tree_of, position_at, on_side, child, hangs_on_node}
-use Rattle.ttree_node.specs.declared.nodes.Place.{Place}
+use Rattle.ttree_node.specs.declared.nodes.NodePlace.{NodePlace}
 use Rattle.ttree_node.specs.declared.node.Node.{Node}
 use Rattle.ttree_node.specs.declared.node.Side.{Side}
 use Rattle.ttree_node.specs.declared.node.Side.TheVariants.{Root, Left, Right}
@@ -38,7 +38,7 @@ kept_present p q w (e ∷ m) h = (elim (same_place q e.0) as (λ s. IsSome (node
 
 module _ {MAX : ℕ} where
   -- a place at which no tree hangs
-  pub record Open (p : Parts MAX) (place : Option Place) (side : Side) : Type 0 where
+  pub record Open (p : Parts MAX) (place : Option NodePlace) (side : Side) : Type 0 where
     pub above : List (Frame Spot)
     pub spares : List Ptr
     pub linked : Linked p (plug above empty) spares
@@ -46,7 +46,7 @@ module _ {MAX : ℕ} where
     pub side_is : side ≡ side_of above
     pub position : relabel_zipper label (at above empty) ≡ on_side side (position_at p place)
 
-  pub opened : (p : Parts MAX) → Sound p → (place : Option Place) → IsPlaceIn (located p) place → (side : Side) → is_node (position_at p place).here ≡ hangs_on_node side → is_node (child side (position_at p place).here) ≡ false → Open p place side
+  pub opened : (p : Parts MAX) → Sound p → (place : Option NodePlace) → IsPlaceIn (located p) place → (side : Side) → is_node (position_at p place).here ≡ hangs_on_node side → is_node (child side (position_at p place).here) ≡ false → Open p place side
   opened p s None h Root fits free =
       let none : s.0 ≡ empty = no_place s.0 ((λ i. is_place_in (sym (located_is p s.0 s.1 s.2) i) None) ∙ h) in
       record { above = []; spares = s.1; linked = subst (λ t. Linked p t s.1) none s.2; parent_is = refl; side_is = refl; position = refl }
@@ -74,10 +74,10 @@ module _ {MAX : ℕ} where
         position = (λ i. relabel_zipper label (at (went_right z.l (spot q.at z.x) ∷ z.above) (sym none i))) ∙ (λ i. down_right (sym z.position i));
       }
 
-  pub open_present : (p : Parts MAX) (place : Option Place) (side : Side) (o : Open p place side) → Present p.nodes.held place
+  pub open_present : (p : Parts MAX) (place : Option NodePlace) (side : Side) (o : Open p place side) → Present p.nodes.held place
   open_present p place side o = subst (λ q. Present p.nodes.held q) (sym o.parent_is) (top_present p.nodes.held None o.above (unplug p.nodes.held o.above empty o.linked.stands).0)
 
-  pub leaf_made : (p p' : Parts MAX) (place : Option Place) (side : Side) (o : Open p place side) (item : TupleRef) (q : Place) → 0 < p.spares → p.free ≡ Some q
+  pub leaf_made : (p p' : Parts MAX) (place : Option NodePlace) (side : Side) (o : Open p place side) (item : TupleRef) (q : NodePlace) → 0 < p.spares → p.free ≡ Some q
       → p'.nodes.held ≡ linked_down place side (Some q) (set_node q.at (node_for (record { items = item ∷ []; height = 1 }) place side None None) p.nodes.held)
       → p'.root ≡ rooted place (Some q) p.root → ((t : Tree Spot) (ps : List Ptr) → Linked p t (q.at ∷ ps) → p'.free ≡ head_of ps) → p'.spares + 1 ≡ p.spares
       → Now p' (Some q) (with_leaf item (on_side side (position_at p place)))
@@ -95,11 +95,11 @@ module _ {MAX : ℕ} where
         position = position_of p' o.above (leaf q.at x) f.rest done refl ∙ (λ i. with_leaf item (o.position i));
       }
 
-  pub set_present : (m : List (Ptr × Node MAX)) (q : Ptr) (w : Node MAX) (o : Option Place) → Present m o → Present (set_node q w m) o
+  pub set_present : (m : List (Ptr × Node MAX)) (q : Ptr) (w : Node MAX) (o : Option NodePlace) → Present m o → Present (set_node q w m) o
   set_present m q w None h = tt
   set_present m q w (Some p) h = kept_present p.at q w m h
 
-  pub parent_present : (p : Parts MAX) (place : Option Place) (n : Node MAX) → Visit p place n → Present p.nodes.held n.parent
+  pub parent_present : (p : Parts MAX) (place : Option NodePlace) (n : Node MAX) → Visit p place n → Present p.nodes.held n.parent
   parent_present p place n v =
       let z = v.standing in
       subst (λ o. Present p.nodes.held o) (sym (ap (λ (m : Node MAX). m.parent) v.node_is)) (top_present p.nodes.held (there v.at) z.above (unplug p.nodes.held z.above (node z.l (spot v.at z.x) z.r) z.linked.stands).0)
@@ -111,7 +111,7 @@ module _ {MAX : ℕ} where
   at_parent p' (went_right l x ∷ c) ps k = let t : Tree Spot = node l x empty in
       record { sound = (plug c t, ps, k); placed = (λ i. is_place_in (located_is p' (plug c t) ps k i) (there x.place)) ∙ placed_root c t refl; position = position_of p' c t ps k refl }
 
-  pub leaf_gone : (p p' : Parts MAX) (place : Option Place) (n : Node MAX) (v : Visit p place n) (q : Place) → place ≡ Some q
+  pub leaf_gone : (p p' : Parts MAX) (place : Option NodePlace) (n : Node MAX) (v : Visit p place n) (q : NodePlace) → place ≡ Some q
       → has_left (position_at p place).here ≡ false → has_right (position_at p place).here ≡ false
       → p'.nodes.held ≡ linked_down n.parent n.side None (set_node q.at (blank p.free) p.nodes.held) → p'.root ≡ rooted n.parent None p.root → p'.free ≡ Some q → p'.spares ≡ p.spares + 1
       → Now p' n.parent (without_leaf (position_at p place))

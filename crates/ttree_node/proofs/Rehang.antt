@@ -5,7 +5,7 @@ use denote.RawPtr.{Ptr}
 use Rattle.ttree_node.specs.Held.{node_at, update}
 use Rattle.ttree_node.specs.Tree.{Tree, empty, node}
 use Rattle.ttree_node.specs.Linked.{Spot, there, root_of, occurs, Stands, Present, with_parent, linked_up}
-use Rattle.ttree_node.specs.declared.nodes.Place.{Place}
+use Rattle.ttree_node.specs.declared.nodes.NodePlace.{NodePlace}
 use Rattle.ttree_node.specs.declared.node.Node.{Node}
 use Rattle.ttree_node.specs.declared.node.Side.{Side}
 use Rattle.ttree_node.specs.declared.node.Side.TheVariants.{Left, Right}
@@ -13,21 +13,21 @@ use Rattle.ttree_node.proofs.Maps.{update_same, update_other, update_length}
 use Rattle.ttree_node.proofs.Shape.{differs, still_stands}
 
 module _ {MAX : ℕ} where
-  pub stands_present : (m : List (Ptr × Node MAX)) (par : Option Place) (s : Side) (t : Tree Spot) → Stands m par s t → Present m (root_of t)
+  pub stands_present : (m : List (Ptr × Node MAX)) (par : Option NodePlace) (s : Side) (t : Tree Spot) → Stands m par s t → Present m (root_of t)
   stands_present m par s empty h = tt
   stands_present m par s (node l x r) h = subst (λ o. IsSome o) (sym h.0) refl
 
-  pub rehung : (m : List (Ptr × Node MAX)) (par par' : Option Place) (s s' : Side) (t : Tree Spot) → ((o : Ptr) → occurs o t ≤ 1) → Stands m par s t → Stands (linked_up (root_of t) par' s' m) par' s' t
+  pub rehung : (m : List (Ptr × Node MAX)) (par par' : Option NodePlace) (s s' : Side) (t : Tree Spot) → ((o : Ptr) → occurs o t ≤ 1) → Stands m par s t → Stands (linked_up (root_of t) par' s' m) par' s' t
   rehung m par par' s s' empty d h = tt
   rehung m par par' s s' (node l x r) d h =
       let f = with_parent par' s' in let n = update x.place f m in
       let far : (o : Ptr) → 0 < occurs o l + occurs o r → node_at o n ≡ node_at o m = λ o some. update_other x.place o f m (differs o x.place (omega (arith, some, d o))) in
       (update_same x.place f _ m h.0, still_stands m n (there x.place) Left l (λ o some. far o (omega (arith, some))) h.1, still_stands m n (there x.place) Right r (λ o some. far o (omega (arith, some))) h.2)
 
-  pub rehung_other : (m : List (Ptr × Node MAX)) (par' : Option Place) (s' : Side) (t : Tree Spot) (o : Ptr) → occurs o t ≡ 0 → node_at o (linked_up (root_of t) par' s' m) ≡ node_at o m
+  pub rehung_other : (m : List (Ptr × Node MAX)) (par' : Option NodePlace) (s' : Side) (t : Tree Spot) (o : Ptr) → occurs o t ≡ 0 → node_at o (linked_up (root_of t) par' s' m) ≡ node_at o m
   rehung_other m par' s' empty o e = refl
   rehung_other m par' s' (node l x r) o e = update_other x.place o (with_parent par' s') m (differs o x.place (omega (arith, e)))
 
-  pub rehung_length : (m : List (Ptr × Node MAX)) (par' : Option Place) (s' : Side) (t : Tree Spot) → length (linked_up (root_of t) par' s' m) ≡ length m
+  pub rehung_length : (m : List (Ptr × Node MAX)) (par' : Option NodePlace) (s' : Side) (t : Tree Spot) → length (linked_up (root_of t) par' s' m) ≡ length m
   rehung_length m par' s' empty = refl
   rehung_length m par' s' (node l x r) = update_length x.place (with_parent par' s') m

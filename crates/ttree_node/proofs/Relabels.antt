@@ -7,7 +7,7 @@ use Rattle.ttree_node.specs.Held.{set_node}
 use Rattle.ttree_node.specs.Tree.{Tree, node, Zipper, Label, at, plug, whole, relabel_zipper, with_items, with_height}
 use Rattle.ttree_node.specs.Linked.{spot, there, root_of, parent_of, side_of, node_for, located, Sound, IsPlaceIn, is_place_in}
 use Rattle.ttree_node.specs.Seen.{tree_of, position_at}
-use Rattle.ttree_node.specs.declared.nodes.Place.{Place}
+use Rattle.ttree_node.specs.declared.nodes.NodePlace.{NodePlace}
 use Rattle.ttree_node.specs.declared.node.Node.{Node}
 use Rattle.ttree_node.specs.declared.parts.Parts.{Parts}
 use Rattle.ttree_node.proofs.Changes.{relabelled}
@@ -17,15 +17,15 @@ use Rattle.ttree_node.proofs.Visit.{Visit}
 
 module _ {MAX : ℕ} where
   -- the parts are sound, and the place is where it is said to be
-  pub record Now (p : Parts MAX) (place : Option Place) (z : Zipper (Label TupleRef)) : Type 0 where
+  pub record Now (p : Parts MAX) (place : Option NodePlace) (z : Zipper (Label TupleRef)) : Type 0 where
     pub sound : Sound p
     pub placed : IsPlaceIn (located p) place
     pub position : position_at p place ≡ z
 
-  pub now_whole : (p : Parts MAX) (place : Option Place) (z : Zipper (Label TupleRef)) → Now p place z → tree_of p ≡ whole (position_at p place)
+  pub now_whole : (p : Parts MAX) (place : Option NodePlace) (z : Zipper (Label TupleRef)) → Now p place z → tree_of p ≡ whole (position_at p place)
   now_whole p place z k = sym (whole_is p k.sound place k.placed)
 
-  module _ (p p' : Parts MAX) (place : Option Place) (n : Node MAX) (v : Visit p place n) (root : p'.root ≡ p.root) (free : p'.free ≡ p.free) (spares : p'.spares ≡ p.spares) (q : Ptr) (is : place ≡ there q) where
+  module _ (p p' : Parts MAX) (place : Option NodePlace) (n : Node MAX) (v : Visit p place n) (root : p'.root ≡ p.root) (free : p'.free ≡ p.free) (spares : p'.spares ≡ p.spares) (q : Ptr) (is : place ≡ there q) where
     same : q ≡ v.at
     same = sym (some_place (sym v.place_is ∙ is))
 

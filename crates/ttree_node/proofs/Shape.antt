@@ -7,7 +7,7 @@ use Rattle.part_raw.specs.declared.tuple_ref.TupleRef.{TupleRef}
 use Rattle.ttree_node.specs.Held.{same_place, node_at}
 use Rattle.ttree_node.specs.Tree.{Tree, empty, node, Frame, went_left, went_right, Label, at, size, plug, relabel}
 use Rattle.ttree_node.specs.Linked.{Spot, spot, there, root_of, parent_of, side_of, one_if, occurs, occurs_above, occurs_in, Stands, Around, Chained, grown, read, climbed, read_above, seen_from, zipper_at, IsPlaceIn}
-use Rattle.ttree_node.specs.declared.nodes.Place.{Place}
+use Rattle.ttree_node.specs.declared.nodes.NodePlace.{NodePlace}
 use Rattle.ttree_node.specs.declared.node.Node.{Node}
 use Rattle.ttree_node.specs.declared.node.Side.{Side}
 use Rattle.ttree_node.specs.declared.node.Side.TheVariants.{Root, Left, Right}
@@ -79,7 +79,7 @@ module _ {MAX : ℕ} where
     plugged (went_right l x ∷ c) t a s = plugged c (node l x t) a.2 (a.0, a.1, s)
 
     -- ---- the tree is read back
-    pub read_stands : (k : ℕ) (par : Option Place) (s : Side) (t : Tree Spot) → Stands m par s t → size t ≤ k → read k m (root_of t) ≡ t
+    pub read_stands : (k : ℕ) (par : Option NodePlace) (s : Side) (t : Tree Spot) → Stands m par s t → size t ≤ k → read k m (root_of t) ≡ t
     unfolding read
     read_stands zero par s empty h le = refl
     read_stands (suc k) par s empty h le = refl
@@ -87,7 +87,7 @@ module _ {MAX : ℕ} where
     read_stands (suc k) par s (node l x r) h le =
         (λ i. grown (read k m) x.place (h.0 i)) ∙ (λ i. node (read_stands k (there x.place) Left l h.1 (omega (arith, le)) i) x (read_stands k (there x.place) Right r h.2 (omega (arith, le)) i))
 
-    pub read_around : (k : ℕ) (u : Option Place) (c : List (Frame Spot)) → Around m u c → size_above c ≤ k → size_above c ≤ length m → read_above k m (side_of c) (parent_of c) ≡ c
+    pub read_around : (k : ℕ) (u : Option NodePlace) (c : List (Frame Spot)) → Around m u c → size_above c ≤ k → size_above c ≤ length m → read_above k m (side_of c) (parent_of c) ≡ c
     unfolding read_above
     read_around zero u [] h le wide = refl
     read_around (suc k) u [] h le wide = refl
@@ -111,7 +111,7 @@ module _ {MAX : ℕ} where
       abbrev pub Agrees : (Ptr → ℕ) → Type 0
       Agrees count = (q : Ptr) → 0 < count q → node_at q m' ≡ node_at q m
 
-      pub still_stands : (par : Option Place) (s : Side) (t : Tree Spot) → Agrees (λ q. occurs q t) → Stands m par s t → Stands m' par s t
+      pub still_stands : (par : Option NodePlace) (s : Side) (t : Tree Spot) → Agrees (λ q. occurs q t) → Stands m par s t → Stands m' par s t
       still_stands par s empty g h = tt
       still_stands par s (node l x r) g h = (
         g x.place (omega (arith, one_same x.place)) ∙ h.0,
@@ -119,7 +119,7 @@ module _ {MAX : ℕ} where
         still_stands (there x.place) Right r (λ q k. g q (omega (arith, k))) h.2,
       )
 
-      pub still_around : (u : Option Place) (c : List (Frame Spot)) → Agrees (λ q. occurs_above q c) → Around m u c → Around m' u c
+      pub still_around : (u : Option NodePlace) (c : List (Frame Spot)) → Agrees (λ q. occurs_above q c) → Around m u c → Around m' u c
       still_around u [] g h = tt
       still_around u (went_left x r ∷ c) g h =
           (g x.place (omega (arith, one_same x.place)) ∙ h.0, still_stands (there x.place) Right r (λ q k. g q (omega (arith, k))) h.1, still_around (there x.place) c (λ q k. g q (omega (arith, k))) h.2)

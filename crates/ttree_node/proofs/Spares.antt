@@ -5,7 +5,7 @@ use denote.RawPtr.{Ptr}
 use Rattle.ttree_node.specs.Held.{same_place, node_at, without}
 use Rattle.ttree_node.specs.Tree.{Tree, empty, node}
 use Rattle.ttree_node.specs.Linked.{Spot, there, head_of, one_if, occurs, occurs_in, node_for, Stands, Chained, read, located, Linked, node_limit}
-use Rattle.ttree_node.specs.declared.nodes.Place.{Place}
+use Rattle.ttree_node.specs.declared.nodes.NodePlace.{NodePlace}
 use Rattle.ttree_node.specs.declared.node.Node.{Node}
 use Rattle.ttree_node.specs.declared.node.Side.{Side}
 use Rattle.ttree_node.specs.declared.node.Side.TheVariants.{Root, Left, Right}
@@ -15,15 +15,15 @@ use Rattle.ttree_node.proofs.Maps.{without_other, without_length}
 use Rattle.ttree_node.proofs.Shape.{differs, read_stands, still_stands, still_chained}
 use Rattle.ttree_node.specs.declared.parts.TheConstants.{MOST_ITEMS}
 
-pub some_place : {x : Place} {q : Ptr} → Some x ≡ there q → x.at ≡ q
-some_place {x} {q} e = let same : x ≡ record { at = q } = cc in ap (λ (y : Place). y.at) same
+pub some_place : {x : NodePlace} {q : Ptr} → Some x ≡ there q → x.at ≡ q
+some_place {x} {q} e = let same : x ≡ record { at = q } = cc in ap (λ (y : NodePlace). y.at) same
 
 module _ {MAX : ℕ} where
   pub some_node : {x y : Node MAX} → Some x ≡ Some y → x ≡ y
   some_node e = cc
 
   -- a spare node, which links the next
-  abbrev pub blank : Option Place → Node MAX
+  abbrev pub blank : Option NodePlace → Node MAX
   blank next = node_for (record { items = []; height = 0 }) None Root next None
 
   pub located_is : (p : Parts MAX) (t : Tree Spot) (ps : List Ptr) → Linked p t ps → located p ≡ t
@@ -37,7 +37,7 @@ module _ {MAX : ℕ} where
       | false ↦ λ is. refl
     ]) refl
 
-    pub not_standing : (par : Option Place) (s : Side) (t : Tree Spot) → Stands m par s t → occurs q t ≡ 0
+    pub not_standing : (par : Option NodePlace) (s : Side) (t : Tree Spot) → Stands m par s t → occurs q t ≡ 0
     not_standing par s empty h = refl
     not_standing par s (node l x r) h = omega (arith, here x.place _ h.0, not_standing (there x.place) Left l h.1, not_standing (there x.place) Right r h.2)
 

@@ -9,7 +9,7 @@ use Rattle.ttree_node.specs.Held.{node_at}
 use Rattle.ttree_node.specs.Tree.{Tree, empty, node, Frame, went_left, went_right, Zipper, Label, at, size, plug, whole, joined, relabel, relabel_frame, relabel_frames, relabel_zipper, is_node, left_of, right_of, has_left, has_right, is_root, down_left, down_right, up, items_of, stated}
 use Rattle.ttree_node.specs.Linked.{Spot, spot, there, root_of, parent_of, side_of, node_for, zipper_at, occurs, located, Linked, Sound, IsPlaceIn, is_place_in}
 use Rattle.ttree_node.specs.Seen.{tree_of, position_at}
-use Rattle.ttree_node.specs.declared.nodes.Place.{Place}
+use Rattle.ttree_node.specs.declared.nodes.NodePlace.{NodePlace}
 use Rattle.ttree_node.specs.declared.node.Node.{Node}
 use Rattle.ttree_node.specs.declared.parts.Parts.{Parts}
 use Rattle.ttree_node.proofs.Shape.{one_same, occurs_plug, unplug, zipper_is, CutTree, cut_tree}
@@ -100,19 +100,19 @@ module _ {MAX : ℕ} where
     in_tree c t e h = (λ i. is_place_in ((located_is p (plug s.above here) s.spares s.linked ∙ sym e) i) (root_of t)) ∙ placed_root c t h
 
     -- a step to the root of t, which stands below c
-    pub step_placed : (c : List (Frame Spot)) (t : Tree Spot) → plug c t ≡ plug s.above here → is_node t ≡ true → (to : Option Place) → to ≡ root_of t → IsPlaceIn (located p) to
+    pub step_placed : (c : List (Frame Spot)) (t : Tree Spot) → plug c t ≡ plug s.above here → is_node t ≡ true → (to : Option NodePlace) → to ≡ root_of t → IsPlaceIn (located p) to
     step_placed c t e h to same = (λ i. is_place_in (located p) (same i)) ∙ in_tree c t e h
 
-    pub step_moved : (c : List (Frame Spot)) (t : Tree Spot) → plug c t ≡ plug s.above here → is_node t ≡ true → (to : Option Place) → to ≡ root_of t → position_at p to ≡ relabel_zipper label (at c t)
+    pub step_moved : (c : List (Frame Spot)) (t : Tree Spot) → plug c t ≡ plug s.above here → is_node t ≡ true → (to : Option NodePlace) → to ≡ root_of t → position_at p to ≡ relabel_zipper label (at c t)
     step_moved c t e h to same = (λ i. position_at p (same i)) ∙ position_of p c t s.spares (subst (λ u. Linked p u s.spares) (sym e) s.linked) h
 
   -- the place and the steps above it are the whole tree
-  pub whole_is : (p : Parts MAX) → Sound p → (place : Option Place) → IsPlaceIn (located p) place → whole (position_at p place) ≡ tree_of p
+  pub whole_is : (p : Parts MAX) → Sound p → (place : Option NodePlace) → IsPlaceIn (located p) place → whole (position_at p place) ≡ tree_of p
   whole_is p s None h = no_tree (located p) h
   whole_is p s (Some q) h =
       let z = standing p s q.at h in let here : Tree Spot = node z.l (spot q.at z.x) z.r in
       (λ i. whole (z.position i)) ∙ sym (relabel_plug label z.above here) ∙ (λ i. relabel label (sym (located_is p (plug z.above here) z.spares z.linked) i))
 
-  pub node_seen : (p : Parts MAX) → Sound p → (place : Option Place) → IsPlaceIn (located p) place → is_some place ≡ is_node (position_at p place).here
+  pub node_seen : (p : Parts MAX) → Sound p → (place : Option NodePlace) → IsPlaceIn (located p) place → is_some place ≡ is_node (position_at p place).here
   node_seen p s None h = refl
   node_seen p s (Some q) h = let z = standing p s q.at h in λ i. is_node (sym z.position i).here

@@ -5,7 +5,7 @@ use Rattle.ttree_node.specs.Tree.{Tree, empty, node, Frame, went_left, went_righ
 use Rattle.ttree_node.specs.Linked.{Spot, side_of}
 use Rattle.ttree_node.specs.Seen.{position_at}
 use Rattle.ttree_node.specs.Order.{list_onward, last_side, nodes_after, nodes_behind, nodes_onward, nodes_from}
-use Rattle.ttree_node.specs.declared.nodes.Place.{Place}
+use Rattle.ttree_node.specs.declared.nodes.NodePlace.{NodePlace}
 use Rattle.ttree_node.specs.declared.node.Node.{Node}
 use Rattle.ttree_node.specs.declared.node.Side.TheVariants.{Root, Left, Right}
 use Rattle.ttree_node.specs.declared.parts.Parts.{Parts}
@@ -17,7 +17,7 @@ side_seen_at [] = refl
 side_seen_at (went_left x r ∷ c) = refl
 side_seen_at (went_right l x ∷ c) = refl
 
-pub side_seen : {MAX : ℕ} (p : Parts MAX) (place : Option Place) (n : Node MAX) → (v : Visit p place n) → n.side ≡ last_side (position_at p place).above
+pub side_seen : {MAX : ℕ} (p : Parts MAX) (place : Option NodePlace) (n : Node MAX) → (v : Visit p place n) → n.side ≡ last_side (position_at p place).above
 side_seen p place n v = (λ i. (v.node_is i).side) ∙ side_seen_at v.standing.above ∙ (λ i. last_side (sym v.position i).above)
 
 -- a step down to the left keeps the list of the subtree and what is behind it

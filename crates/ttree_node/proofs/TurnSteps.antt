@@ -7,7 +7,7 @@ use Rattle.ttree_node.specs.Held.{same_place, node_at, set_node, update}
 use Rattle.ttree_node.specs.Tree.{Tree, empty, node, Frame, Label, at, plug, relabel, relabel_zipper, is_node, has_left, has_right, with_tree, rotated_left, rotated_right}
 use Rattle.ttree_node.specs.Linked.{one_if, with_parent, Spot, spot, there, root_of, parent_of, side_of, node_for, label_of, Present, linked_down, linked_up, rooted, Linked, is_place_in}
 use Rattle.ttree_node.specs.Seen.{position_at}
-use Rattle.ttree_node.specs.declared.nodes.Place.{Place}
+use Rattle.ttree_node.specs.declared.nodes.NodePlace.{NodePlace}
 use Rattle.ttree_node.specs.declared.node.Node.{Node}
 use Rattle.ttree_node.specs.declared.node.Side.{Side}
 use Rattle.ttree_node.specs.declared.node.Side.TheVariants.{Left, Right}
@@ -29,12 +29,12 @@ kept_update p q f (e ∷ m) h = (elim (same_place q e.0) as (λ s. IsSome (node_
 ])
 
 module _ {MAX : ℕ} where
-  pub up_present : (m : List (Ptr × Node MAX)) (q par : Option Place) (s : Side) (o : Option Place) → Present m o → Present (linked_up q par s m) o
+  pub up_present : (m : List (Ptr × Node MAX)) (q par : Option NodePlace) (s : Side) (o : Option NodePlace) → Present m o → Present (linked_up q par s m) o
   up_present m None par s o h = h
   up_present m (Some q) par s None h = tt
   up_present m (Some q) par s (Some p) h = kept_update p.at q.at (with_parent par s) m h
 
-  pub record ToLeft (p : Parts MAX) (place : Option Place) (n : Node MAX) : Type 0 where
+  pub record ToLeft (p : Parts MAX) (place : Option NodePlace) (n : Node MAX) : Type 0 where
     pub c : List (Frame Spot)
     pub l : Tree Spot
     pub a : Ptr
@@ -49,7 +49,7 @@ module _ {MAX : ℕ} where
     pub node_is : n ≡ node_for x (parent_of c) (side_of c) (root_of l) (there b)
     pub position : position_at p place ≡ relabel_zipper label (at c (node l (spot a x) (node mid (spot b y) r)))
 
-  to_left : (p : Parts MAX) (place : Option Place) (n : Node MAX) (v : Visit p place n) (t : Tree Spot) → v.standing.r ≡ t → is_node (relabel label t) ≡ true → ToLeft p place n
+  to_left : (p : Parts MAX) (place : Option NodePlace) (n : Node MAX) (v : Visit p place n) (t : Tree Spot) → v.standing.r ≡ t → is_node (relabel label t) ≡ true → ToLeft p place n
   to_left p place n v empty e h = cc
   to_left p place n v (node mid s r) e h = let z = v.standing in
       record {
@@ -68,10 +68,10 @@ module _ {MAX : ℕ} where
         position = v.position ∙ (λ i. relabel_zipper label (at z.above (node z.l (spot v.at z.x) (e i))));
       }
 
-  pub turning_left : (p : Parts MAX) (place : Option Place) (n : Node MAX) (v : Visit p place n) → has_right (position_at p place).here ≡ true → ToLeft p place n
+  pub turning_left : (p : Parts MAX) (place : Option NodePlace) (n : Node MAX) (v : Visit p place n) → has_right (position_at p place).here ≡ true → ToLeft p place n
   turning_left p place n v h = to_left p place n v v.standing.r refl ((λ i. has_right (sym v.position i).here) ∙ h)
 
-  module _ (p : Parts MAX) (place : Option Place) (n : Node MAX) (k : ToLeft p place n) (lower : Place) (below : n.right ≡ Some lower) where
+  module _ (p : Parts MAX) (place : Option NodePlace) (n : Node MAX) (k : ToLeft p place n) (lower : NodePlace) (below : n.right ≡ Some lower) where
     lower_is_left : lower.at ≡ k.b
     lower_is_left = some_place (sym below ∙ ap (λ (m : Node MAX). m.right) k.node_is)
 
@@ -89,13 +89,13 @@ module _ {MAX : ℕ} where
       middle_present_left = let u = unplug p.nodes.held k.c (node k.l (spot k.a k.x) (node k.mid (spot k.b k.y) k.r)) k.linked.stands in
           subst (λ o. Present p.nodes.held o) (sym (ap (λ (w : Node MAX). w.left) child_is_left)) (stands_present p.nodes.held (there k.b) Left k.mid u.1.2.1)
 
-      pub child_kept_left : (upper : Place) → place ≡ Some upper → (w : Node MAX) → node_at lower.at (set_node upper.at w p.nodes.held) ≡ Some m
+      pub child_kept_left : (upper : NodePlace) → place ≡ Some upper → (w : Node MAX) → node_at lower.at (set_node upper.at w p.nodes.held) ≡ Some m
       child_kept_left upper is w =
           let upper_is : upper.at ≡ k.a = some_place (sym is ∙ k.place_is) in
           let apart : one_if k.b k.a ≡ 0 = omega (arith, k.linked.alone k.b, occurs_plug k.b k.c (node k.l (spot k.a k.x) (node k.mid (spot k.b k.y) k.r)), one_same k.b) in
           set_other upper.at lower.at w p.nodes.held (subst (λ (q : Ptr × Ptr). same_place q.0 q.1 ≡ false) (λ i. (sym lower_is_left i, sym upper_is i)) (differs k.b k.a apart)) ∙ got
 
-      pub now_left : (p' : Parts MAX) (upper : Place) → place ≡ Some upper
+      pub now_left : (p' : Parts MAX) (upper : NodePlace) → place ≡ Some upper
           → p'.nodes.held ≡ linked_down n.parent n.side n.right (linked_up m.left place Right (set_node lower.at (node_for (label_of m) n.parent n.side place m.right) (set_node upper.at (node_for (label_of n) n.right Left n.left m.left) p.nodes.held)))
           → p'.root ≡ rooted n.parent n.right p.root → p'.free ≡ p.free → p'.spares ≡ p.spares → Now p' n.right (with_tree rotated_left (position_at p place))
       now_left p' upper is held root free spares =
@@ -111,7 +111,7 @@ module _ {MAX : ℕ} where
             position = (λ i. position_at p' (to i)) ∙ position_of p' k.c t k.ps done refl ∙ (λ i. with_tree rotated_left (sym k.position i));
           }
 
-  pub record ToRight (p : Parts MAX) (place : Option Place) (n : Node MAX) : Type 0 where
+  pub record ToRight (p : Parts MAX) (place : Option NodePlace) (n : Node MAX) : Type 0 where
     pub c : List (Frame Spot)
     pub l : Tree Spot
     pub a : Ptr
@@ -126,7 +126,7 @@ module _ {MAX : ℕ} where
     pub node_is : n ≡ node_for x (parent_of c) (side_of c) (there b) (root_of l)
     pub position : position_at p place ≡ relabel_zipper label (at c (node (node r (spot b y) mid) (spot a x) l))
 
-  to_right : (p : Parts MAX) (place : Option Place) (n : Node MAX) (v : Visit p place n) (t : Tree Spot) → v.standing.l ≡ t → is_node (relabel label t) ≡ true → ToRight p place n
+  to_right : (p : Parts MAX) (place : Option NodePlace) (n : Node MAX) (v : Visit p place n) (t : Tree Spot) → v.standing.l ≡ t → is_node (relabel label t) ≡ true → ToRight p place n
   to_right p place n v empty e h = cc
   to_right p place n v (node r s mid) e h = let z = v.standing in
       record {
@@ -145,10 +145,10 @@ module _ {MAX : ℕ} where
         position = v.position ∙ (λ i. relabel_zipper label (at z.above (node (e i) (spot v.at z.x) z.r)));
       }
 
-  pub turning_right : (p : Parts MAX) (place : Option Place) (n : Node MAX) (v : Visit p place n) → has_left (position_at p place).here ≡ true → ToRight p place n
+  pub turning_right : (p : Parts MAX) (place : Option NodePlace) (n : Node MAX) (v : Visit p place n) → has_left (position_at p place).here ≡ true → ToRight p place n
   turning_right p place n v h = to_right p place n v v.standing.l refl ((λ i. has_left (sym v.position i).here) ∙ h)
 
-  module _ (p : Parts MAX) (place : Option Place) (n : Node MAX) (k : ToRight p place n) (lower : Place) (below : n.left ≡ Some lower) where
+  module _ (p : Parts MAX) (place : Option NodePlace) (n : Node MAX) (k : ToRight p place n) (lower : NodePlace) (below : n.left ≡ Some lower) where
     lower_is_right : lower.at ≡ k.b
     lower_is_right = some_place (sym below ∙ ap (λ (m : Node MAX). m.left) k.node_is)
 
@@ -166,13 +166,13 @@ module _ {MAX : ℕ} where
       middle_present_right = let u = unplug p.nodes.held k.c (node (node k.r (spot k.b k.y) k.mid) (spot k.a k.x) k.l) k.linked.stands in
           subst (λ o. Present p.nodes.held o) (sym (ap (λ (w : Node MAX). w.right) child_is_right)) (stands_present p.nodes.held (there k.b) Right k.mid u.1.1.2)
 
-      pub child_kept_right : (upper : Place) → place ≡ Some upper → (w : Node MAX) → node_at lower.at (set_node upper.at w p.nodes.held) ≡ Some m
+      pub child_kept_right : (upper : NodePlace) → place ≡ Some upper → (w : Node MAX) → node_at lower.at (set_node upper.at w p.nodes.held) ≡ Some m
       child_kept_right upper is w =
           let upper_is : upper.at ≡ k.a = some_place (sym is ∙ k.place_is) in
           let apart : one_if k.b k.a ≡ 0 = omega (arith, k.linked.alone k.b, occurs_plug k.b k.c (node (node k.r (spot k.b k.y) k.mid) (spot k.a k.x) k.l), one_same k.b) in
           set_other upper.at lower.at w p.nodes.held (subst (λ (q : Ptr × Ptr). same_place q.0 q.1 ≡ false) (λ i. (sym lower_is_right i, sym upper_is i)) (differs k.b k.a apart)) ∙ got
 
-      pub now_right : (p' : Parts MAX) (upper : Place) → place ≡ Some upper
+      pub now_right : (p' : Parts MAX) (upper : NodePlace) → place ≡ Some upper
           → p'.nodes.held ≡ linked_down n.parent n.side n.left (linked_up m.right place Left (set_node lower.at (node_for (label_of m) n.parent n.side m.left place) (set_node upper.at (node_for (label_of n) n.left Right m.right n.right) p.nodes.held)))
           → p'.root ≡ rooted n.parent n.left p.root → p'.free ≡ p.free → p'.spares ≡ p.spares → Now p' n.left (with_tree rotated_right (position_at p place))
       now_right p' upper is held root free spares =

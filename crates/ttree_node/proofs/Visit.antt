@@ -7,7 +7,7 @@ use Rattle.ttree_node.specs.Held.{node_at}
 use Rattle.ttree_node.specs.Tree.{Tree, empty, node, Frame, went_left, went_right, Zipper, Label, at, plug, joined, relabel, relabel_frame, relabel_frames, relabel_zipper, is_node, left_of, right_of, has_left, has_right, is_root, down_left, down_right, up, items_of, stated}
 use Rattle.ttree_node.specs.Linked.{Spot, spot, there, root_of, parent_of, side_of, node_for, located, Sound, IsPlaceIn, is_place_in}
 use Rattle.ttree_node.specs.Seen.{position_at}
-use Rattle.ttree_node.specs.declared.nodes.Place.{Place}
+use Rattle.ttree_node.specs.declared.nodes.NodePlace.{NodePlace}
 use Rattle.ttree_node.specs.declared.node.Node.{Node}
 use Rattle.ttree_node.specs.declared.parts.Parts.{Parts}
 use Rattle.ttree_node.proofs.Standing.{label, is_node_relabel, Standing, standing, step_placed, step_moved}
@@ -20,14 +20,14 @@ some_root empty = refl
 some_root (node l x r) = refl
 
 module _ {MAX : ℕ} where
-  pub record Visit (p : Parts MAX) (place : Option Place) (n : Node MAX) : Type 0 where
+  pub record Visit (p : Parts MAX) (place : Option NodePlace) (n : Node MAX) : Type 0 where
     pub at : Ptr
     pub standing : Standing p at
     pub place_is : place ≡ there at
     pub node_is : n ≡ node_for standing.x (parent_of standing.above) (side_of standing.above) (root_of standing.l) (root_of standing.r)
     pub position : position_at p place ≡ relabel_zipper label (Rattle.ttree_node.specs.Tree.at standing.above (node standing.l (spot at standing.x) standing.r))
 
-  module _ (p inside : Parts MAX) (view : inside ≡ p) (s : Sound inside) (place : Option Place) (found : Place) (is : place ≡ Some found) (placed : IsPlaceIn (located p) place) where
+  module _ (p inside : Parts MAX) (view : inside ≡ p) (s : Sound inside) (place : Option NodePlace) (found : NodePlace) (is : place ≡ Some found) (placed : IsPlaceIn (located p) place) where
     stands : Standing p found.at
     stands = standing p (subst Sound view s) found.at ((λ i. is_place_in (located p) (sym is i)) ∙ placed)
 
@@ -43,7 +43,7 @@ module _ {MAX : ℕ} where
       position = (λ i. position_at p (is i)) ∙ stands.position;
     }
 
-  module _ (p : Parts MAX) (place : Option Place) (n : Node MAX) (v : Visit p place n) where
+  module _ (p : Parts MAX) (place : Option NodePlace) (n : Node MAX) (v : Visit p place n) where
     abbrev s : Standing p v.at
     s = v.standing
 
@@ -85,7 +85,7 @@ module _ {MAX : ℕ} where
         ∙ (λ i. down_right (sym v.position i))
 
     -- a node above, as a place of its own
-    record Higher (to : Option Place) : Type 0 where
+    record Higher (to : Option NodePlace) : Type 0 where
       pub above : List (Frame Spot)
       pub tree : Tree Spot
       pub same : plug above tree ≡ plug s.above (node s.l (spot v.at s.x) s.r)
@@ -93,7 +93,7 @@ module _ {MAX : ℕ} where
       pub root : to ≡ root_of tree
       pub moved : relabel_zipper label (Rattle.ttree_node.specs.Tree.at above tree) ≡ up (relabel_zipper label (Rattle.ttree_node.specs.Tree.at s.above (node s.l (spot v.at s.x) s.r)))
 
-    higher : (c : List (Frame Spot)) → s.above ≡ c → is_root (relabel_frames label c) ≡ false → (to : Option Place) → to ≡ parent_of c → Higher to
+    higher : (c : List (Frame Spot)) → s.above ≡ c → is_root (relabel_frames label c) ≡ false → (to : Option NodePlace) → to ≡ parent_of c → Higher to
     higher [] e h to is = cc
     higher (went_left x r ∷ c) e h to is = record { above = c; tree = node (node s.l (spot v.at s.x) s.r) x r; same = λ i. plug (sym e i) (node s.l (spot v.at s.x) s.r); is = refl; root = is; moved = λ i. up (relabel_zipper label (Rattle.ttree_node.specs.Tree.at (sym e i) (node s.l (spot v.at s.x) s.r))) }
     higher (went_right l x ∷ c) e h to is = record { above = c; tree = node l x (node s.l (spot v.at s.x) s.r); same = λ i. plug (sym e i) (node s.l (spot v.at s.x) s.r); is = refl; root = is; moved = λ i. up (relabel_zipper label (Rattle.ttree_node.specs.Tree.at (sym e i) (node s.l (spot v.at s.x) s.r))) }

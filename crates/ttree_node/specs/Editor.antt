@@ -11,6 +11,6 @@ position e = position_at e.nodes.now e.at
 abbrev pub spares_at : {MAX : ℕ} → Editor MAX → ℕ
 spares_at e = spares_of e.nodes.now
 
--- the tree that the `Links` has, should the editor end here
+-- the tree that the `LinkedTree` has, should the editor end here
 abbrev pub tree_at : {MAX : ℕ} → Editor MAX → Tree (Label TupleRef)
 tree_at e = tree_of e.nodes.now

@@ -3,7 +3,7 @@ pub mod Held
 pub mod Laws
 pub mod Lends
 pub mod Linked
-pub mod LinksLends
+pub mod LinkedTreeLends
 pub mod Look
 pub mod Order
 pub mod Seen

@@ -4,7 +4,7 @@ use denote.RawPtr.{Ptr}
 use Rattle.part_raw.specs.declared.tuple_ref.TupleRef.{TupleRef}
 use Rattle.ttree_node.specs.Held.{same_place, node_at, update}
 use Rattle.ttree_node.specs.Tree.{Tree, empty, node, Frame, went_left, went_right, Zipper, Label, at, size, is_node}
-use Rattle.ttree_node.specs.declared.nodes.Place.{Place}
+use Rattle.ttree_node.specs.declared.nodes.NodePlace.{NodePlace}
 use Rattle.ttree_node.specs.declared.node.Node.{Node}
 use Rattle.ttree_node.specs.declared.node.Side.{Side}
 use Rattle.ttree_node.specs.declared.node.Side.TheVariants.{Root, Left, Right}
@@ -19,16 +19,16 @@ pub record Spot : Type 0 where
 abbrev pub spot : Ptr → Label TupleRef → Spot
 spot p x = record { place = p; label = x }
 
-abbrev pub there : Ptr → Option Place
+abbrev pub there : Ptr → Option NodePlace
 there p = Some (record { at = p })
 
 -- the place of a tree's root
-abbrev pub root_of : Tree Spot → Option Place
+abbrev pub root_of : Tree Spot → Option NodePlace
 root_of empty = None
 root_of (node l x r) = there x.place
 
 -- the place of the node above, and on which side of it one hangs
-abbrev pub parent_of : List (Frame Spot) → Option Place
+abbrev pub parent_of : List (Frame Spot) → Option NodePlace
 parent_of [] = None
 parent_of (went_left x r ∷ c) = there x.place
 parent_of (went_right l x ∷ c) = there x.place
@@ -38,12 +38,12 @@ side_of [] = Root
 side_of (went_left x r ∷ c) = Left
 side_of (went_right l x ∷ c) = Right
 
-abbrev pub head_of : List Ptr → Option Place
+abbrev pub head_of : List Ptr → Option NodePlace
 head_of [] = None
 head_of (p ∷ ps) = there p
 
 -- the root, where a child of the place is another: that child, if there is no place
-abbrev pub rooted : Option Place → Option Place → Option Place → Option Place
+abbrev pub rooted : Option NodePlace → Option NodePlace → Option NodePlace → Option NodePlace
 rooted None q old = q
 rooted (Some p) q old = old
 
@@ -71,43 +71,43 @@ module _ (q : Ptr) where
 
 module _ {MAX : ℕ} where
   -- the node with that label and these links
-  abbrev pub node_for : Label TupleRef → Option Place → Side → Option Place → Option Place → Node MAX
+  abbrev pub node_for : Label TupleRef → Option NodePlace → Side → Option NodePlace → Option NodePlace → Node MAX
   node_for x parent side l r = record { height = x.height; side = side; left = l; right = r; parent = parent; items = record { items = x.items } }
 
   -- the node with another child on that side
-  abbrev pub with_link : Side → Option Place → Node MAX → Node MAX
+  abbrev pub with_link : Side → Option NodePlace → Node MAX → Node MAX
   with_link Root q n = n
   with_link Left q n = record n { left = q }
   with_link Right q n = record n { right = q }
 
   -- the set where the node at the place, if there is one, has another child on that side
-  abbrev pub linked_down : Option Place → Side → Option Place → List (Ptr × Node MAX) → List (Ptr × Node MAX)
+  abbrev pub linked_down : Option NodePlace → Side → Option NodePlace → List (Ptr × Node MAX) → List (Ptr × Node MAX)
   linked_down None s q m = m
   linked_down (Some p) s q m = update p.at (with_link s q) m
 
   -- the node under another parent, on that side of it
-  abbrev pub with_parent : Option Place → Side → Node MAX → Node MAX
+  abbrev pub with_parent : Option NodePlace → Side → Node MAX → Node MAX
   with_parent q s n = record n { parent = q; side = s }
 
   -- the set where the node at the place, if there is one, hangs there
-  abbrev pub linked_up : Option Place → Option Place → Side → List (Ptr × Node MAX) → List (Ptr × Node MAX)
+  abbrev pub linked_up : Option NodePlace → Option NodePlace → Side → List (Ptr × Node MAX) → List (Ptr × Node MAX)
   linked_up None q s m = m
   linked_up (Some p) q s m = update p.at (with_parent q s) m
 
   module _ (m : List (Ptr × Node MAX)) where
     -- each node of the tree lies at its place, with true links
-    abbrev pub Stands : Option Place → Side → Tree Spot → Type 0
+    abbrev pub Stands : Option NodePlace → Side → Tree Spot → Type 0
     Stands parent side empty = Unit {0}
     Stands parent side (node l x r) = (node_at x.place m ≡ Some (node_for x.label parent side (root_of l) (root_of r))) × Stands (there x.place) Left l × Stands (there x.place) Right r
 
     -- and so does each node above a tree whose root lies at r
-    abbrev pub Around : Option Place → List (Frame Spot) → Type 0
+    abbrev pub Around : Option NodePlace → List (Frame Spot) → Type 0
     Around r [] = Unit {0}
     Around r (went_left x t ∷ c) = (node_at x.place m ≡ Some (node_for x.label (parent_of c) (side_of c) r (root_of t))) × Stands (there x.place) Right t × Around (there x.place) c
     Around r (went_right t x ∷ c) = (node_at x.place m ≡ Some (node_for x.label (parent_of c) (side_of c) (root_of t) r)) × Stands (there x.place) Left t × Around (there x.place) c
 
     -- a node lies at the place, if it is one
-    abbrev pub Present : Option Place → Type 0
+    abbrev pub Present : Option NodePlace → Type 0
     Present None = Unit {0}
     Present (Some p) = IsSome (node_at p.at m)
 
@@ -119,24 +119,24 @@ module _ {MAX : ℕ} where
   abbrev pub label_of : Node MAX → Label TupleRef
   label_of n = record { items = n.items.items; height = n.height }
 
-  abbrev pub grown : (Option Place → Tree Spot) → Ptr → Option (Node MAX) → Tree Spot
+  abbrev pub grown : (Option NodePlace → Tree Spot) → Ptr → Option (Node MAX) → Tree Spot
   grown below p None = empty
   grown below p (Some n) = node (below n.left) (spot p (label_of n)) (below n.right)
 
   -- the tree whose root lies at a place, read along at most so many links in a row
-  unfoldable pub read : ℕ → List (Ptr × Node MAX) → Option Place → Tree Spot
+  unfoldable pub read : ℕ → List (Ptr × Node MAX) → Option NodePlace → Tree Spot
   read zero m r = empty
   read (suc k) m None = empty
   read (suc k) m (Some p) = grown (read k m) p.at (node_at p.at m)
 
-  abbrev pub climbed : (Option Place → Tree Spot) → (Side → Option Place → List (Frame Spot)) → Side → Ptr → Option (Node MAX) → List (Frame Spot)
+  abbrev pub climbed : (Option NodePlace → Tree Spot) → (Side → Option NodePlace → List (Frame Spot)) → Side → Ptr → Option (Node MAX) → List (Frame Spot)
   climbed below up s p None = []
   climbed below up Root p (Some n) = []
   climbed below up Left p (Some n) = went_left (spot p (label_of n)) (below n.right) ∷ up n.side n.parent
   climbed below up Right p (Some n) = went_right (below n.left) (spot p (label_of n)) ∷ up n.side n.parent
 
   -- the steps above a node that hangs on that side of a parent
-  unfoldable pub read_above : ℕ → List (Ptr × Node MAX) → Side → Option Place → List (Frame Spot)
+  unfoldable pub read_above : ℕ → List (Ptr × Node MAX) → Side → Option NodePlace → List (Frame Spot)
   read_above zero m s r = []
   read_above (suc k) m s None = []
   read_above (suc k) m s (Some p) = climbed (read (length m) m) (read_above k m) s p.at (node_at p.at m)
@@ -146,7 +146,7 @@ module _ {MAX : ℕ} where
   seen_from m p (Some n) = at (read_above (length m) m n.side n.parent) (read (length m) m (there p))
 
   -- the place in the tree at which a node lies, or that of the missing root
-  abbrev pub zipper_at : List (Ptr × Node MAX) → Option Place → Zipper Spot
+  abbrev pub zipper_at : List (Ptr × Node MAX) → Option NodePlace → Zipper Spot
   zipper_at m None = at [] empty
   zipper_at m (Some p) = seen_from m p.at (node_at p.at m)
 
@@ -171,9 +171,9 @@ module _ {MAX : ℕ} where
   Sound p = (t : Tree Spot) × (ps : List Ptr) × Linked p t ps
 
 -- a node of the tree lies at the place, or there is neither a place nor a node
-abbrev pub is_place_in : Tree Spot → Option Place → Bool
+abbrev pub is_place_in : Tree Spot → Option NodePlace → Bool
 is_place_in t None = not (is_node t)
 is_place_in t (Some p) = nat_lt 0 (occurs p.at t)
 
-abbrev pub IsPlaceIn : Tree Spot → Option Place → Type 0
+abbrev pub IsPlaceIn : Tree Spot → Option NodePlace → Type 0
 IsPlaceIn t place = is_place_in t place ≡ true

@@ -7,7 +7,7 @@ use Rattle.ttree_node.specs.declared.node.Side.TheVariants.{Root, Left, Right}
 use Rattle.ttree_node.specs.declared.node.Way.{Way}
 use Rattle.ttree_node.specs.declared.node.Way.TheVariants.{Up, Down}
 use Rattle.ttree_node.specs.Linked.{located, zipper_at}
-use Rattle.ttree_node.specs.declared.nodes.Place.{Place}
+use Rattle.ttree_node.specs.declared.nodes.NodePlace.{NodePlace}
 use Rattle.ttree_node.specs.declared.parts.Parts.{Parts}
 use Rattle.ttree_node.specs.TreeWithSpares.{TreeWithSpares}
 
@@ -24,7 +24,7 @@ abbrev pub shown : {MAX : ℕ} → Parts MAX → TreeWithSpares
 shown p = record { tree = tree_of p; spares = spares_of p }
 
 -- the place in the tree at which a node lies
-abbrev pub position_at : {MAX : ℕ} → Parts MAX → Option Place → Zipper (Label TupleRef)
+abbrev pub position_at : {MAX : ℕ} → Parts MAX → Option NodePlace → Zipper (Label TupleRef)
 position_at p q = relabel_zipper (λ x. x.label) (zipper_at p.nodes.held q)
 
 -- where a child on that side of the place is, or the place itself for the root

@@ -1,4 +1,4 @@
--- What a `Links` is seen as: a tree and spare nodes, wherever they lie.
+-- What a `LinkedTree` is seen as: a tree and spare nodes, wherever they lie.
 use Rattle.std.specs.Prelude.{ℕ, refl}
 use Rattle.std.specs.Coded.{Coded, code_by, coded×, coded_ℕ}
 use Rattle.part_raw.specs.TupleRefs.{ref_code}

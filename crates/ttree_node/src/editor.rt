@@ -4,14 +4,14 @@ ghost use Rattle.ttree_node.specs.Linked.{located, IsPlaceIn};
 
 use crate::linked_nodes::LinkedNodes;
 use crate::node::{Side, Way};
-use crate::nodes::Place;
+use crate::nodes::NodePlace;
 use part_raw::TupleRef;
 
 /// A place in a tree that is edited: a node, or nothing where the tree is empty. No call takes memory.
 #[derive(Drop)]
 pub struct Editor<'a, const MAX: usize> {
     pub(crate) nodes: &'a mut LinkedNodes<MAX>,
-    pub(crate) at: Option<Place>,
+    pub(crate) at: Option<NodePlace>,
     ghost placed: { IsPlaceIn (located nodes.now) at },
 }
 

@@ -2,7 +2,7 @@
 ghost use Rattle.std.specs.Prelude.{◌≡◌, ◌<◌, ◌≤◌, true, length, insert, remove, slice_index_or};
 
 use crate::linked_nodes::LinkedNodes;
-use crate::nodes::Place;
+use crate::nodes::NodePlace;
 use part_raw::TupleRef;
 
 impl<const MAX: usize> LinkedNodes<MAX> {
@@ -10,7 +10,7 @@ impl<const MAX: usize> LinkedNodes<MAX> {
     ghost use Rattle.ttree_node.specs.Linked.{located, IsPlaceIn};
     ghost use Rattle.ttree_node.specs.Seen.{tree_of, position_at, spares_of};
 
-    pub(crate) fn put(&mut self, place: Option<Place>, index: usize, item: TupleRef)
+    pub(crate) fn put(&mut self, place: Option<NodePlace>, index: usize, item: TupleRef)
         requires placed { IsPlaceIn (located self.old) place }
         requires node { is_node (position_at self.old place).here ≡ true }
         requires index { index ≤ length (items_of (position_at self.old place).here) }
@@ -24,7 +24,7 @@ impl<const MAX: usize> LinkedNodes<MAX> {
         node.items.insert(index, item);
     }
 
-    pub(crate) fn cut(&mut self, place: Option<Place>, index: usize) -> TupleRef
+    pub(crate) fn cut(&mut self, place: Option<NodePlace>, index: usize) -> TupleRef
         requires placed { IsPlaceIn (located self.old) place }
         requires index { index < length (items_of (position_at self.old place).here) }
         ensures placed { IsPlaceIn (located self.new) place }
@@ -37,7 +37,7 @@ impl<const MAX: usize> LinkedNodes<MAX> {
         node.items.remove(index)
     }
 
-    pub(crate) fn reheight(&mut self, place: Option<Place>)
+    pub(crate) fn reheight(&mut self, place: Option<NodePlace>)
         requires placed { IsPlaceIn (located self.old) place }
         requires node { is_node (position_at self.old place).here ≡ true }
         ensures placed { IsPlaceIn (located self.new) place }

@@ -3,7 +3,7 @@ ghost use Rattle.std.specs.Prelude.{◌≡◌, ◌+◌, ◌<◌, true, false, []
 
 use crate::linked_nodes::LinkedNodes;
 use crate::node::Side;
-use crate::nodes::Place;
+use crate::nodes::NodePlace;
 use part_raw::TupleRef;
 
 impl<const MAX: usize> LinkedNodes<MAX> {
@@ -13,10 +13,10 @@ impl<const MAX: usize> LinkedNodes<MAX> {
 
     pub(crate) fn new_leaf(
         &mut self,
-        place: Option<Place>,
+        place: Option<NodePlace>,
         side: Side,
         item: TupleRef,
-    ) -> Option<Place>
+    ) -> Option<NodePlace>
         requires placed { IsPlaceIn (located self.old) place }
         requires fits { is_node (position_at self.old place).here ≡ hangs_on_node side }
         requires open { is_node (child side (position_at self.old place).here) ≡ false }
@@ -33,7 +33,7 @@ impl<const MAX: usize> LinkedNodes<MAX> {
     }
 
     // The place above, if the leaf was not the root.
-    pub(crate) fn drop_leaf(&mut self, place: Option<Place>) -> Option<Place>
+    pub(crate) fn drop_leaf(&mut self, place: Option<NodePlace>) -> Option<NodePlace>
         requires placed { IsPlaceIn (located self.old) place }
         requires leaf { is_leaf (position_at self.old place).here }
         ensures placed { IsPlaceIn (located self.new) result }

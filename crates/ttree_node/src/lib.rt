@@ -1,6 +1,6 @@
 //! The linked nodes of a T-tree.
 //!
-//! A [`Links`] owns the nodes of one tree, and spare ones for it to grow by. Each node holds up to `MAX` references, and links its children,
+//! A [`LinkedTree`] owns the nodes of one tree, and spare ones for it to grow by. Each node holds up to `MAX` references, and links its children,
 //! its parent or the next spare node:
 //!
 //! ```text
@@ -13,12 +13,12 @@
 //!     [20]     [80]
 //! ```
 //!
-//! Contracts see a `Links` as a tree of lists of references, with a stated height at each node, and the number of spare nodes; where the nodes
+//! Contracts see a `LinkedTree` as a tree of lists of references, with a stated height at each node, and the number of spare nodes; where the nodes
 //! lie is no part of its value. One stands at a place in the tree with a [`Look`], which reads, or with an [`Editor`], which also changes. A
 //! [`Walk`] gives all references in list order.
 //!
-//! An editor needs the places of the nodes. So it stands in the [`LinkedNodes`] that a `Links` lends out ([`Links::nodes_mut`]). A function that
-//! edits takes these, or an editor of them; when the loan ends, the `Links` has the tree that they are then.
+//! An editor needs the places of the nodes. So it stands in the [`LinkedNodes`] that a `LinkedTree` lends out ([`LinkedTree::nodes_mut`]). A function that
+//! edits takes these, or an editor of them; when the loan ends, the `LinkedTree` has the tree that they are then.
 //!
 //! This crate doesn't care in which order the references are, how full a node is, whether the stated heights are true or the tree is
 //! balanced: that is its user's to keep. It relies on this, and each call keeps it:
@@ -37,7 +37,7 @@ mod edits;
 mod ends;
 mod leaves;
 mod linked_nodes;
-mod links;
+mod linked_tree;
 mod look;
 mod merges;
 mod moves;
@@ -51,7 +51,7 @@ mod walk;
 
 pub use editor::Editor;
 pub use linked_nodes::LinkedNodes;
-pub use links::Links;
+pub use linked_tree::LinkedTree;
 pub use look::Look;
 pub use node::{Side, Way};
 pub use walk::Walk;

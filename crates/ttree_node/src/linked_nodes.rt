@@ -6,7 +6,7 @@ use no_memory::NoMemory;
 use std::alloc::Global;
 use std::marker::Model;
 
-/// The nodes of a tree, with left, right and parent links, and its spare nodes: what a `Links` hides. It is seen with the place of each node,
+/// The nodes of a tree, with left, right and parent links, and its spare nodes: what a `LinkedTree` hides. It is seen with the place of each node,
 /// since an `Editor` works out its place in the tree from the pointer that it keeps.
 pub struct LinkedNodes<const MAX: usize> {
     pub(crate) parts: Parts<MAX>,

@@ -3,14 +3,14 @@ ghost use Rattle.std.specs.Prelude.{◌≡◌, true, false};
 ghost use Rattle.ttree_node.specs.Linked.{located, IsPlaceIn};
 
 use crate::linked_nodes::LinkedNodes;
-use crate::nodes::Place;
+use crate::nodes::NodePlace;
 use part_raw::TupleRef;
 
-/// A place in the tree of a `Links`: a node, or nothing where the tree is empty.
+/// A place in the tree of a `LinkedTree`: a node, or nothing where the tree is empty.
 #[derive(Clone, Copy)]
 pub struct Look<'a, const MAX: usize> {
     pub(crate) nodes: &'a LinkedNodes<MAX>,
-    pub(crate) at: Option<Place>,
+    pub(crate) at: Option<NodePlace>,
     ghost placed: { IsPlaceIn (located nodes.now) at },
 }
 

@@ -3,7 +3,7 @@ ghost use Rattle.std.specs.Prelude.{◌≡◌, ◌+◌, ◌≤◌, ◌++◌, tru
 
 use crate::linked_nodes::LinkedNodes;
 use crate::node::Side;
-use crate::nodes::Place;
+use crate::nodes::NodePlace;
 use crate::parts::MOST_ITEMS;
 use arrayvec::ArrayVec;
 use part_raw::TupleRef;
@@ -28,7 +28,7 @@ impl<const MAX: usize> LinkedNodes<MAX> {
     ghost use Rattle.ttree_node.specs.Linked.{located, IsPlaceIn};
     ghost use Rattle.ttree_node.specs.Seen.{tree_of, position_at, spares_of, child, opposite, merged};
 
-    pub(crate) fn set_items(&mut self, place: Option<Place>, items: ArrayVec<TupleRef, MAX>)
+    pub(crate) fn set_items(&mut self, place: Option<NodePlace>, items: ArrayVec<TupleRef, MAX>)
         requires placed { IsPlaceIn (located self.old) place }
         requires node { is_node (position_at self.old place).here ≡ true }
         ensures placed { IsPlaceIn (located self.new) place }
@@ -41,7 +41,7 @@ impl<const MAX: usize> LinkedNodes<MAX> {
     }
 
     // The right child, a leaf, gives the node all its items and becomes a spare node.
-    pub(crate) fn merge_right(&mut self, place: Option<Place>) -> Option<Place>
+    pub(crate) fn merge_right(&mut self, place: Option<NodePlace>) -> Option<NodePlace>
         requires placed { IsPlaceIn (located self.old) place }
         requires leaf { is_leaf (right_of (position_at self.old place).here) }
         requires other { has_left (position_at self.old place).here ≡ false }
@@ -57,7 +57,7 @@ impl<const MAX: usize> LinkedNodes<MAX> {
     }
 
     // The left child, a leaf, gives the node all its items and becomes a spare node.
-    pub(crate) fn merge_left(&mut self, place: Option<Place>) -> Option<Place>
+    pub(crate) fn merge_left(&mut self, place: Option<NodePlace>) -> Option<NodePlace>
         requires placed { IsPlaceIn (located self.old) place }
         requires leaf { is_leaf (left_of (position_at self.old place).here) }
         requires other { has_right (position_at self.old place).here ≡ false }
@@ -72,7 +72,7 @@ impl<const MAX: usize> LinkedNodes<MAX> {
         self.drop_leaf(self.left_of(place))
     }
 
-    pub(crate) fn merge(&mut self, place: Option<Place>, side: Side) -> Option<Place>
+    pub(crate) fn merge(&mut self, place: Option<NodePlace>, side: Side) -> Option<NodePlace>
         requires placed { IsPlaceIn (located self.old) place }
         requires leaf { is_leaf (child side (position_at self.old place).here) }
         requires other { is_node (child (opposite side) (position_at self.old place).here) ≡ false }

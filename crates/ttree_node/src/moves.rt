@@ -2,7 +2,7 @@
 ghost use Rattle.std.specs.Prelude.{◌≡◌, ◌≤◌, true, false, length, []};
 
 use crate::linked_nodes::LinkedNodes;
-use crate::nodes::Place;
+use crate::nodes::NodePlace;
 use crate::parts::MOST_ITEMS;
 use part_raw::TupleRef;
 
@@ -12,17 +12,17 @@ impl<const MAX: usize> LinkedNodes<MAX> {
     ghost use Rattle.ttree_node.specs.Seen.{tree_of, position_at};
     ghost use Rattle.std.specs.Prelude.{Option};
     ghost use Rattle.std.specs.Option.{is_some};
-    ghost use Rattle.ttree_node.specs.declared.nodes.Place.{Place};
+    ghost use Rattle.ttree_node.specs.declared.nodes.NodePlace.{NodePlace};
 
-    pub(crate) fn root(&self) -> Option<Place>
+    pub(crate) fn root(&self) -> Option<NodePlace>
         ensures placed { IsPlaceIn (located self.now) result }
         ensures moved { position_at self.now result ≡ at [] (tree_of self.now) }
-        ensures whole { (place : Option Place) → IsPlaceIn (located self.now) place → whole (position_at self.now place) ≡ tree_of self.now }
+        ensures whole { (place : Option NodePlace) → IsPlaceIn (located self.now) place → whole (position_at self.now place) ≡ tree_of self.now }
     {
         self.parts.root
     }
 
-    pub(crate) fn is_node(&self, place: Option<Place>) -> bool
+    pub(crate) fn is_node(&self, place: Option<NodePlace>) -> bool
         requires { IsPlaceIn (located self.now) place }
         ensures node { result ≡ is_node (position_at self.now place).here }
         ensures some { result ≡ is_some place }
@@ -31,7 +31,7 @@ impl<const MAX: usize> LinkedNodes<MAX> {
         place.is_some()
     }
 
-    pub(crate) fn left_of(&self, place: Option<Place>) -> Option<Place>
+    pub(crate) fn left_of(&self, place: Option<NodePlace>) -> Option<NodePlace>
         requires placed { IsPlaceIn (located self.now) place }
         requires child { has_left (position_at self.now place).here ≡ true }
         ensures placed { IsPlaceIn (located self.now) result }
@@ -40,7 +40,7 @@ impl<const MAX: usize> LinkedNodes<MAX> {
         self.parts.nodes.get(place.unwrap()).left
     }
 
-    pub(crate) fn right_of(&self, place: Option<Place>) -> Option<Place>
+    pub(crate) fn right_of(&self, place: Option<NodePlace>) -> Option<NodePlace>
         requires placed { IsPlaceIn (located self.now) place }
         requires child { has_right (position_at self.now place).here ≡ true }
         ensures placed { IsPlaceIn (located self.now) result }
@@ -49,7 +49,7 @@ impl<const MAX: usize> LinkedNodes<MAX> {
         self.parts.nodes.get(place.unwrap()).right
     }
 
-    pub(crate) fn parent_of(&self, place: Option<Place>) -> Option<Place>
+    pub(crate) fn parent_of(&self, place: Option<NodePlace>) -> Option<NodePlace>
         requires placed { IsPlaceIn (located self.now) place }
         requires below { is_root (position_at self.now place).above ≡ false }
         ensures placed { IsPlaceIn (located self.now) result }
@@ -58,7 +58,7 @@ impl<const MAX: usize> LinkedNodes<MAX> {
         self.parts.nodes.get(place.unwrap()).parent
     }
 
-    pub(crate) fn is_root(&self, place: Option<Place>) -> bool
+    pub(crate) fn is_root(&self, place: Option<NodePlace>) -> bool
         requires { IsPlaceIn (located self.now) place }
         ensures { result ≡ is_root (position_at self.now place).above }
     {
@@ -68,7 +68,7 @@ impl<const MAX: usize> LinkedNodes<MAX> {
         }
     }
 
-    pub(crate) fn has_left(&self, place: Option<Place>) -> bool
+    pub(crate) fn has_left(&self, place: Option<NodePlace>) -> bool
         requires { IsPlaceIn (located self.now) place }
         ensures { result ≡ has_left (position_at self.now place).here }
     {
@@ -78,7 +78,7 @@ impl<const MAX: usize> LinkedNodes<MAX> {
         }
     }
 
-    pub(crate) fn has_right(&self, place: Option<Place>) -> bool
+    pub(crate) fn has_right(&self, place: Option<NodePlace>) -> bool
         requires { IsPlaceIn (located self.now) place }
         ensures { result ≡ has_right (position_at self.now place).here }
     {
@@ -88,7 +88,7 @@ impl<const MAX: usize> LinkedNodes<MAX> {
         }
     }
 
-    pub(crate) fn items(&self, place: Option<Place>) -> &[TupleRef]
+    pub(crate) fn items(&self, place: Option<NodePlace>) -> &[TupleRef]
         requires { IsPlaceIn (located self.now) place }
         ensures items { result.now ≡ items_of (position_at self.now place).here }
         ensures some { is_some place ≡ is_node (position_at self.now place).here }
@@ -101,7 +101,7 @@ impl<const MAX: usize> LinkedNodes<MAX> {
         }
     }
 
-    pub(crate) fn height_at(&self, place: Option<Place>) -> u32
+    pub(crate) fn height_at(&self, place: Option<NodePlace>) -> u32
         requires { IsPlaceIn (located self.now) place }
         ensures { result ≡ stated (position_at self.now place).here }
     {
@@ -111,7 +111,7 @@ impl<const MAX: usize> LinkedNodes<MAX> {
         }
     }
 
-    pub(crate) fn heights(&self, place: Option<Place>) -> (u32, u32)
+    pub(crate) fn heights(&self, place: Option<NodePlace>) -> (u32, u32)
         requires { IsPlaceIn (located self.now) place }
         ensures left { result.0 ≡ stated (left_of (position_at self.now place).here) }
         ensures right { result.1 ≡ stated (right_of (position_at self.now place).here) }

@@ -1,7 +1,7 @@
 //! One node: what it holds, and what it links.
 ghost use Rattle.std.specs.Prelude.{◌≡◌};
 
-use crate::nodes::Place;
+use crate::nodes::NodePlace;
 use arrayvec::ArrayVec;
 use part_raw::TupleRef;
 
@@ -30,8 +30,8 @@ pub enum Way {
 pub struct Node<const MAX: usize> {
     pub(crate) height: u32,
     pub(crate) side: Side,
-    pub(crate) left: Option<Place>,
-    pub(crate) right: Option<Place>,
-    pub(crate) parent: Option<Place>,
+    pub(crate) left: Option<NodePlace>,
+    pub(crate) right: Option<NodePlace>,
+    pub(crate) parent: Option<NodePlace>,
     pub(crate) items: ArrayVec<TupleRef, MAX>,
 }

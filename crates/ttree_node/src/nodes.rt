@@ -9,7 +9,7 @@ use std::marker::{Model, PhantomData};
 
 // Where a node lies. It owns nothing.
 #[derive(Clone, Copy)]
-pub struct Place {
+pub struct NodePlace {
     at: *mut u8,
 }
 
@@ -45,16 +45,16 @@ impl<T> Nodes<T> {
         let Nodes { mark: _ } = self;
     }
 
-    pub(crate) fn take_in(&mut self, block: RawBox<T, Global>) -> Place
+    pub(crate) fn take_in(&mut self, block: RawBox<T, Global>) -> NodePlace
         requires { 0 < size (lone T.row.mir) }
         ensures held { self.new.held ≡ (result.at, block.value) ∷ self.old.held }
         ensures fresh { node_at result.at self.old.held ≡ None }
     {
         let RawBox { at, alloc: _ } = block;
-        Place { at: at as *mut u8 }
+        NodePlace { at: at as *mut u8 }
     }
 
-    pub(crate) fn give_out(&mut self, place: Place, alloc: Global) -> RawBox<T, Global>
+    pub(crate) fn give_out(&mut self, place: NodePlace, alloc: Global) -> RawBox<T, Global>
         requires { IsSome (node_at place.at self.old.held) }
         ensures held { self.new.held ≡ without place.at self.old.held }
         ensures value { node_at place.at self.old.held ≡ Some result.value }
@@ -66,7 +66,7 @@ impl<T> Nodes<T> {
         }
     }
 
-    pub(crate) fn get(&self, place: Place) -> &T
+    pub(crate) fn get(&self, place: NodePlace) -> &T
         requires { IsSome (node_at place.at self.now.held) }
         ensures { node_at place.at self.now.held ≡ Some result.now }
     {
@@ -74,7 +74,7 @@ impl<T> Nodes<T> {
         unsafe { &*(place.at as *const T) }
     }
 
-    pub(crate) fn get_mut(&mut self, place: Place) -> &mut T
+    pub(crate) fn get_mut(&mut self, place: NodePlace) -> &mut T
         requires { IsSome (node_at place.at self.old.held) }
         ensures* writes_back { sem 𝓛 (lends_node T.row self.entry place.at result) }
         ensures value { node_at place.at self.old.held ≡ Some result.now }

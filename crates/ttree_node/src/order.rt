@@ -3,7 +3,7 @@ ghost use Rattle.std.specs.Prelude.{◌≡◌, ◌<◌, length, IfSome};
 
 use crate::linked_nodes::LinkedNodes;
 use crate::node::Side;
-use crate::nodes::Place;
+use crate::nodes::NodePlace;
 
 impl<const MAX: usize> LinkedNodes<MAX> {
     ghost use Rattle.ttree_node.specs.Tree.{list_after, list_behind, list_from, items_of};
@@ -12,7 +12,7 @@ impl<const MAX: usize> LinkedNodes<MAX> {
     ghost use Rattle.ttree_node.specs.Seen.{position_at};
 
     // On which side of its parent the node hangs.
-    fn side_at(&self, place: Option<Place>) -> Side
+    fn side_at(&self, place: Option<NodePlace>) -> Side
         requires { IsPlaceIn (located self.now) place }
         ensures { result ≡ last_side (position_at self.now place).above }
     {
@@ -23,7 +23,7 @@ impl<const MAX: usize> LinkedNodes<MAX> {
     }
 
     // The first node of the subtree.
-    pub(crate) fn first_below(&self, place: Option<Place>) -> Option<Place>
+    pub(crate) fn first_below(&self, place: Option<NodePlace>) -> Option<NodePlace>
         requires { IsPlaceIn (located self.now) place }
         ensures placed { IsPlaceIn (located self.now) result }
         ensures list { list_from 0 (position_at self.now result) ≡ list_onward (position_at self.now place) }
@@ -37,7 +37,7 @@ impl<const MAX: usize> LinkedNodes<MAX> {
     }
 
     // The first node behind the subtree.
-    fn first_above(&self, place: Option<Place>) -> Option<Place>
+    fn first_above(&self, place: Option<NodePlace>) -> Option<NodePlace>
         requires { IsPlaceIn (located self.now) place }
         ensures placed { IfSome result (λ found. IsPlaceIn (located self.now) (there found.at)) }
         ensures list { list_from 0 (position_at self.now result) ≡ list_after (position_at self.now place).above }
@@ -54,7 +54,7 @@ impl<const MAX: usize> LinkedNodes<MAX> {
     }
 
     // The node behind this one.
-    fn next_node(&self, place: Option<Place>) -> Option<Place>
+    fn next_node(&self, place: Option<NodePlace>) -> Option<NodePlace>
         requires { IsPlaceIn (located self.now) place }
         ensures placed { IfSome result (λ found. IsPlaceIn (located self.now) (there found.at)) }
         ensures list { list_from 0 (position_at self.now result) ≡ list_behind (position_at self.now place) }
@@ -68,7 +68,7 @@ impl<const MAX: usize> LinkedNodes<MAX> {
     }
 
     // The next node behind this one that has items.
-    pub(crate) fn next_with_items(&self, place: Option<Place>) -> Option<Place>
+    pub(crate) fn next_with_items(&self, place: Option<NodePlace>) -> Option<NodePlace>
         requires { IsPlaceIn (located self.now) place }
         ensures placed { IfSome result (λ found. IsPlaceIn (located self.now) (there found.at)) }
         ensures occupied { IfSome result (λ found. 0 < length (items_of (position_at self.now (there found.at)).here)) }

@@ -3,7 +3,7 @@ ghost use Rattle.std.specs.Prelude.{◌≡◌, ◌+◌, ◌-◌, ◌<◌, ◌≤
 ghost use denote.RawPtr.{Ptr};
 
 use crate::node::{Node, Side};
-use crate::nodes::{Nodes, Place};
+use crate::nodes::{NodePlace, Nodes};
 use arrayvec::ArrayVec;
 use no_memory::NoMemory;
 use part_raw::TupleRef;
@@ -17,8 +17,8 @@ pub(crate) const MOST_ITEMS: usize = 1 << 56;
 pub struct Parts<const MAX: usize> {
     pub(crate) nodes: Nodes<Node<MAX>>,
     pub(crate) alloc: Global,
-    pub(crate) root: Option<Place>,
-    pub(crate) free: Option<Place>,
+    pub(crate) root: Option<NodePlace>,
+    pub(crate) free: Option<NodePlace>,
     pub(crate) spares: usize,
 }
 
@@ -42,7 +42,12 @@ impl<const MAX: usize> Parts<MAX> {
     }
 
     // Takes the first spare node as a leaf with one item that links its parent. No node links it yet.
-    pub(crate) fn take_spare(&mut self, parent: Option<Place>, side: Side, item: TupleRef) -> Place
+    pub(crate) fn take_spare(
+        &mut self,
+        parent: Option<NodePlace>,
+        side: Side,
+        item: TupleRef,
+    ) -> NodePlace
         requires sound { Sound self.old }
         requires some { 0 < self.old.spares }
         requires room { 0 < MAX }
@@ -66,7 +71,7 @@ impl<const MAX: usize> Parts<MAX> {
     }
 
     // Makes the node there the first spare node. Nodes that link it are left as they are.
-    pub(crate) fn retire(&mut self, place: Place)
+    pub(crate) fn retire(&mut self, place: NodePlace)
         requires present { IsSome (node_at place.at self.old.nodes.held) }
         requires narrow { MAX ≤ MOST_ITEMS }
         requires few { self.old.spares < node_limit }
@@ -88,7 +93,12 @@ impl<const MAX: usize> Parts<MAX> {
     }
 
     // Makes `child` the child of `parent` on that side, or the root where there is no parent.
-    pub(crate) fn set_child(&mut self, parent: Option<Place>, side: Side, child: Option<Place>)
+    pub(crate) fn set_child(
+        &mut self,
+        parent: Option<NodePlace>,
+        side: Side,
+        child: Option<NodePlace>,
+    )
         requires { Present self.old.nodes.held parent }
         ensures held { self.new.nodes.held ≡ linked_down parent side child self.old.nodes.held }
         ensures root { self.new.root ≡ rooted parent child self.old.root }
@@ -110,11 +120,11 @@ impl<const MAX: usize> Parts<MAX> {
     // Sets all links of a node.
     pub(crate) fn set_links(
         &mut self,
-        place: Place,
-        parent: Option<Place>,
+        place: NodePlace,
+        parent: Option<NodePlace>,
         side: Side,
-        left: Option<Place>,
-        right: Option<Place>,
+        left: Option<NodePlace>,
+        right: Option<NodePlace>,
     )
         requires { IsSome (node_at place.at self.old.nodes.held) }
         ensures held { (v : Node MAX) → node_at place.at self.old.nodes.held ≡ Some v → self.new.nodes.held ≡ set_node place.at (node_for (label_of v) parent side left right) self.old.nodes.held }
@@ -128,7 +138,12 @@ impl<const MAX: usize> Parts<MAX> {
     }
 
     // Hangs `child`, if it is a node, on that side of `parent`. The parent's link is left as it is.
-    pub(crate) fn set_parent(&mut self, child: Option<Place>, parent: Option<Place>, side: Side)
+    pub(crate) fn set_parent(
+        &mut self,
+        child: Option<NodePlace>,
+        parent: Option<NodePlace>,
+        side: Side,
+    )
         requires { Present self.old.nodes.held child }
         ensures held { self.new.nodes.held ≡ linked_up child parent side self.old.nodes.held }
         ensures rest { (self.new.root ≡ self.old.root) × (self.new.free ≡ self.old.free) × (self.new.spares ≡ self.old.spares) }

@@ -3,14 +3,14 @@ ghost use Rattle.std.specs.Prelude.{◌≡◌, true};
 
 use crate::linked_nodes::LinkedNodes;
 use crate::node::Side;
-use crate::nodes::Place;
+use crate::nodes::NodePlace;
 
 impl<const MAX: usize> LinkedNodes<MAX> {
     ghost use Rattle.ttree_node.specs.Tree.{whole, has_left, has_right, with_tree, rotated_left, rotated_right};
     ghost use Rattle.ttree_node.specs.Linked.{located, IsPlaceIn};
     ghost use Rattle.ttree_node.specs.Seen.{tree_of, position_at, spares_of};
 
-    pub(crate) fn rotate_left(&mut self, place: Option<Place>) -> Option<Place>
+    pub(crate) fn rotate_left(&mut self, place: Option<NodePlace>) -> Option<NodePlace>
         requires placed { IsPlaceIn (located self.old) place }
         requires child { has_right (position_at self.old place).here ≡ true }
         ensures placed { IsPlaceIn (located self.new) result }
@@ -32,7 +32,7 @@ impl<const MAX: usize> LinkedNodes<MAX> {
         below
     }
 
-    pub(crate) fn rotate_right(&mut self, place: Option<Place>) -> Option<Place>
+    pub(crate) fn rotate_right(&mut self, place: Option<NodePlace>) -> Option<NodePlace>
         requires placed { IsPlaceIn (located self.old) place }
         requires child { has_left (position_at self.old place).here ≡ true }
         ensures placed { IsPlaceIn (located self.new) result }

@@ -4,7 +4,7 @@ ghost use Rattle.std.specs.Prelude.{◌≡◌, ◌+◌, ◌≤◌, true, length}
 use crate::linked_nodes::LinkedNodes;
 use crate::merges::joined;
 use crate::node::{Side, Way};
-use crate::nodes::Place;
+use crate::nodes::NodePlace;
 use arrayvec::ArrayVec;
 use part_raw::TupleRef;
 
@@ -15,10 +15,10 @@ impl<const MAX: usize> LinkedNodes<MAX> {
 
     fn deal_right(
         &mut self,
-        place: Option<Place>,
+        place: Option<NodePlace>,
         upper: ArrayVec<TupleRef, MAX>,
         lower: ArrayVec<TupleRef, MAX>,
-    ) -> Option<Place>
+    ) -> Option<NodePlace>
         requires placed { IsPlaceIn (located self.old) place }
         requires child { has_right (position_at self.old place).here ≡ true }
         ensures placed { IsPlaceIn (located self.new) result }
@@ -34,10 +34,10 @@ impl<const MAX: usize> LinkedNodes<MAX> {
 
     fn deal_left(
         &mut self,
-        place: Option<Place>,
+        place: Option<NodePlace>,
         upper: ArrayVec<TupleRef, MAX>,
         lower: ArrayVec<TupleRef, MAX>,
-    ) -> Option<Place>
+    ) -> Option<NodePlace>
         requires placed { IsPlaceIn (located self.old) place }
         requires child { has_left (position_at self.old place).here ≡ true }
         ensures placed { IsPlaceIn (located self.new) result }
@@ -51,7 +51,7 @@ impl<const MAX: usize> LinkedNodes<MAX> {
         self.parent_of(below)
     }
 
-    fn up_from_right(&mut self, place: Option<Place>, count: usize) -> Option<Place>
+    fn up_from_right(&mut self, place: Option<NodePlace>, count: usize) -> Option<NodePlace>
         requires placed { IsPlaceIn (located self.old) place }
         requires child { has_right (position_at self.old place).here ≡ true }
         requires items { count ≤ length (items_of (right_of (position_at self.old place).here)) }
@@ -68,7 +68,7 @@ impl<const MAX: usize> LinkedNodes<MAX> {
         self.deal_right(place, upper, lower)
     }
 
-    fn up_from_left(&mut self, place: Option<Place>, count: usize) -> Option<Place>
+    fn up_from_left(&mut self, place: Option<NodePlace>, count: usize) -> Option<NodePlace>
         requires placed { IsPlaceIn (located self.old) place }
         requires child { has_left (position_at self.old place).here ≡ true }
         requires items { count ≤ length (items_of (left_of (position_at self.old place).here)) }
@@ -86,7 +86,7 @@ impl<const MAX: usize> LinkedNodes<MAX> {
         self.deal_left(place, upper, lower)
     }
 
-    fn down_to_right(&mut self, place: Option<Place>, count: usize) -> Option<Place>
+    fn down_to_right(&mut self, place: Option<NodePlace>, count: usize) -> Option<NodePlace>
         requires placed { IsPlaceIn (located self.old) place }
         requires child { has_right (position_at self.old place).here ≡ true }
         requires items { count ≤ length (items_of (position_at self.old place).here) }
@@ -104,7 +104,7 @@ impl<const MAX: usize> LinkedNodes<MAX> {
         self.deal_right(place, upper, lower)
     }
 
-    fn down_to_left(&mut self, place: Option<Place>, count: usize) -> Option<Place>
+    fn down_to_left(&mut self, place: Option<NodePlace>, count: usize) -> Option<NodePlace>
         requires placed { IsPlaceIn (located self.old) place }
         requires child { has_left (position_at self.old place).here ≡ true }
         requires items { count ≤ length (items_of (position_at self.old place).here) }
@@ -123,11 +123,11 @@ impl<const MAX: usize> LinkedNodes<MAX> {
 
     pub(crate) fn slide(
         &mut self,
-        place: Option<Place>,
+        place: Option<NodePlace>,
         side: Side,
         way: Way,
         count: usize,
-    ) -> Option<Place>
+    ) -> Option<NodePlace>
         requires placed { IsPlaceIn (located self.old) place }
         requires child { is_node (child side (position_at self.old place).here) ≡ true }
         requires items { count ≤ length (items_of (giver way side (position_at self.old place).here)) }

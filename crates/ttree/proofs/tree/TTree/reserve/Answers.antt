@@ -12,13 +12,13 @@ use Rattle.ttree.proofs.tree.TTree.reserve.Goals as goal
 
 pub reserve-requires : goal.reserve-requires
 reserve-requires g c =
-    let t = c.self.inside.links.tree in
+    let t = c.self.inside.tree.tree in
     let few = few_nodes g.row.MAX t (items_in_each g.row.MIN g.row.MAX t c.self.invariant.fit) in
     (lit< tt, omega (arith, few, c.requires, c.self.invariant.short, c.min-more.ensures, c.saturating_sub.ensures, c.if-more-gt0.true))
 
 pub returns-in_ok-reserve-clause-reserved : goal.returns-in_ok-reserve-clause-reserved
 returns-in_ok-reserve-clause-reserved g c =
-    let p = c.self.inside.links in let q = c.reserve.new.self in
+    let p = c.self.inside.tree in let q = c.reserve.new.self in
     let more = c.min-more.result in
     let enough : 1 + c.div_ceil-enough.result ≡ nodes_for g.row.MIN (length (items_of_tree p) + c.args.n) =
     ap (λ k. 1 + k) c.div_ceil-enough.ensures ∙ ap (λ k. 1 + div_ceil (2 * (k + c.args.n)) g.row.MIN) c.self.invariant.counted ∙ sym (nodes_for_is g.row.MIN (length (items_of_tree p) + c.args.n)) in
@@ -59,7 +59,7 @@ returns-in_ok-reserve-clause-nodes g c =
 
 pub returns-else-more-gt0-clause-reserved : goal.returns-else-more-gt0-clause-reserved
 returns-else-more-gt0-clause-reserved g c =
-    let p = c.self.inside.links in let q = c.args.self.now in
+    let p = c.self.inside.tree in let q = c.args.self.now in
     let more = c.min-more.result in
     let enough : 1 + c.div_ceil-enough.result ≡ nodes_for g.row.MIN (length (items_of_tree p) + c.args.n) =
     ap (λ k. 1 + k) c.div_ceil-enough.ensures ∙ ap (λ k. 1 + div_ceil (2 * (k + c.args.n)) g.row.MIN) c.self.invariant.counted ∙ sym (nodes_for_is g.row.MIN (length (items_of_tree p) + c.args.n)) in

@@ -32,7 +32,7 @@ use Rattle.ttree_node.specs.Held.{node_at, held_lent}
 use Rattle.ttree_node.proofs.Cuts.{cut_at}
 use Rattle.ttree_node.proofs.Memory.{place_read, node_seen}
 use Rattle.ttree_node.specs.contracts.nodes.Nodes as nodes
-use Rattle.ttree_node.specs.contracts.nodes.Place as place
+use Rattle.ttree_node.specs.contracts.nodes.NodePlace as place
 use Rattle.ttree_node.specs.contracts.nodes.Nodes.get.{ended, clauses}
 use Rattle.ttree_node.specs.contracts.nodes.Nodes.get.Key.{name as #self}
 use Rattle.ttree_node.proofs.nodes.Nodes.get.Statement.{statement}

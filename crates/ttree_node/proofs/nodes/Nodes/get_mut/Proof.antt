@@ -38,7 +38,7 @@ use Rattle.ttree_node.specs.Lends.{with_node}
 use Rattle.ttree_node.proofs.Cuts.{Cut, cut_at}
 use Rattle.ttree_node.proofs.Memory.{place_read, One, node_cut, node_glue}
 use Rattle.ttree_node.specs.contracts.nodes.Nodes as nodes
-use Rattle.ttree_node.specs.contracts.nodes.Place as place
+use Rattle.ttree_node.specs.contracts.nodes.NodePlace as place
 use Rattle.ttree_node.specs.contracts.nodes.Nodes.get_mut.{ended, clauses}
 use Rattle.ttree_node.specs.contracts.nodes.Nodes.get_mut.Key.{name as #self}
 use Rattle.ttree_node.proofs.nodes.Nodes.get_mut.Statement.{statement}

@@ -37,7 +37,7 @@ use Rattle.raw_box.proofs.Values.{two, RawBox, raw_good, raw_in, heap}
 use Rattle.ttree_node.proofs.Cuts.{cut_at}
 use Rattle.ttree_node.proofs.Memory.{place_read, One, node_cut}
 use Rattle.ttree_node.specs.contracts.nodes.Nodes as nodes
-use Rattle.ttree_node.specs.contracts.nodes.Place as place
+use Rattle.ttree_node.specs.contracts.nodes.NodePlace as place
 use Rattle.ttree_node.specs.contracts.nodes.Nodes.give_out.{ended, clauses}
 use Rattle.ttree_node.specs.contracts.nodes.Nodes.give_out.Key.{name as #self}
 use Rattle.ttree_node.proofs.nodes.Nodes.give_out.Statement.{statement}

@@ -1,8 +1,8 @@
--- What a `Links` ends as, once a `&mut` to its nodes has ended.
+-- What a `LinkedTree` ends as, once a `&mut` to its nodes has ended.
 use Rattle.std.specs.Borrow.{Fml, RattleType, MutBor, Lends}
 use Rattle.ttree_node.specs.TreeWithSpares.{TreeWithSpares}
 use Rattle.ttree_node.specs.Seen.{shown}
-use Rattle.ttree_node.specs.contracts.links.Links.{the_row as links_row}
+use Rattle.ttree_node.specs.contracts.linked_tree.LinkedTree.{the_row as links_row}
 use Rattle.ttree_node.specs.contracts.linked_nodes.LinkedNodes.{the_row as nodes_row}
 
 -- the tree and the spare nodes that the nodes are last

@@ -10,13 +10,13 @@ use std::alloc::Global;
 use std::marker::Model;
 
 /// A tree of nodes that hold at most `MAX` items each, and spare nodes for it to grow by. It is seen as that tree and the number of the
-/// spare nodes: two `Links` with the same tree and as many spare nodes are one value, wherever their nodes lie.
+/// spare nodes: two `LinkedTree` with the same tree and as many spare nodes are one value, wherever their nodes lie.
 #[derive(Drop)]
-pub struct Links<const MAX: usize> {
+pub struct LinkedTree<const MAX: usize> {
     nodes: LinkedNodes<MAX>,
 }
 
-impl<const MAX: usize> Model for Links<MAX> {
+impl<const MAX: usize> Model for LinkedTree<MAX> {
     ghost use Rattle.ttree_node.specs.TreeWithSpares.{TreeWithSpares, tree_with_spares_code};
 
     ghost Value = { TreeWithSpares };
@@ -28,20 +28,20 @@ impl<const MAX: usize> Model for Links<MAX> {
     ghost view = { λ a. shown a.nodes };
 }
 
-impl<const MAX: usize> Links<MAX> {
+impl<const MAX: usize> LinkedTree<MAX> {
     ghost use Rattle.ttree_node.specs.Tree.{empty, at, list, size};
     ghost use Rattle.ttree_node.specs.Seen.{shown};
     ghost use Rattle.ttree_node.specs.Linked.{node_limit};
     ghost use Rattle.ttree_node.specs.Look.{position};
-    ghost use Rattle.ttree_node.specs.LinksLends.{LendsNodes};
+    ghost use Rattle.ttree_node.specs.LinkedTreeLends.{LendsNodes};
     ghost use Rattle.ttree_node.specs.Walk.{rest_of};
 
     /// An empty tree with no spare nodes. It takes no memory.
-    pub fn new(alloc: Global) -> Links<MAX>
+    pub fn new(alloc: Global) -> LinkedTree<MAX>
         ensures tree { result.tree ≡ empty }
         ensures spares { result.spares ≡ 0 }
     {
-        Links {
+        LinkedTree {
             nodes: LinkedNodes::new(alloc),
         }
     }
