@@ -25,6 +25,7 @@ use Rattle.plain_tables.specs.declared.numbers.Place.{Place}
 use Rattle.plain_tables.specs.declared.refusal.Refusal.{Refusal}
 use Rattle.plain_tables.specs.declared.refusal.Refusal.TheVariants.{NoSuchTable, NoSuchColumn, ColumnNamedTwice, TableNamedTwice, TooMany, WrongType}
 use Rattle.plain_tables.specs.declared.resolved.Joined.{Joined}
+use Rattle.plain_tables.specs.declared.resolved.Shown.{Shown}
 use Rattle.plain_tables.specs.declared.resolved.Source.{Source}
 use Rattle.plain_tables.specs.declared.resolved.Resolved.{Resolved}
 use Rattle.plain_tables.specs.declared.resolved.Resolved.TheVariants as resolved
@@ -196,8 +197,12 @@ module _ (tables : Database) (distinct : Bool) (its : Items) (name : List ℕ) (
       ∷ record { refuses = nat_lt 16 (length (named_items its)) || nat_lt 8 (length conditions) || nat_lt 3 (length joins); refusal = TooMany }
       ∷ []
 
+  -- the query that shows these columns
+  abbrev pub query : Shown → Source → List Joined → Resolved
+  query shown source others = resolved.Select (record { distinct = distinct; shown = shown; source = source; joins = others })
+
   abbrev selection : List JoinedColumn → Resolved
-  selection cs = resolved.Select distinct (shown_of cs its) (source_of tables cs conditions 0 name) (joins_of tables cs conditions (behind (name ∷ []) joins))
+  selection cs = query (shown_of cs its) (source_of tables cs conditions 0 name) (joins_of tables cs conditions (behind (name ∷ []) joins))
 
   module _ (there : misses_table ≡ false) where
     found_is : resolved_so ≡ meaning (checks (named_columns tables names)) (selection (named_columns tables names))
@@ -303,18 +308,18 @@ module _ (tables : Database) (distinct : Bool) (its : Items) (name : List ℕ) (
 
           selection_is : (scopes : List Scope) (source : Source) (sources : List Source) → AllZip (IsScopeOf tables) names scopes
               → sources ≡ map (source_on columns conditions) (enumerate_from 0 scopes) → source ≡ get_or sources 0 source
-              → selection columns ≡ resolved.Select distinct (shown_of columns its) source (map (λ s. joined_by s.0 s.1) (zip (remove sources 0) scope.sides.items))
+              → selection columns ≡ query (shown_of columns its) source (map (λ s. joined_by s.0 s.1) (zip (remove sources 0) scope.sides.items))
           selection_is [] source sources all made at = absurd all
           selection_is (s ∷ ss) source sources all made at =
               let first : source ≡ source_on columns conditions (0, s) = at ∙ ap (λ xs. get_or xs 0 source) made in
               let others : remove sources 0 ≡ map (source_on columns conditions) (enumerate_from 1 ss) = ap (λ xs. remove xs 0) made in
-              ap (λ x. resolved.Select distinct (shown_of columns its) x (joins_of tables columns conditions (behind (name ∷ []) joins))) (source_is 0 name s all.0 ∙ sym first)
-              ∙ ap (resolved.Select distinct (shown_of columns its) source)
+              ap (λ x. query (shown_of columns its) x (joins_of tables columns conditions (behind (name ∷ []) joins))) (source_is 0 name s all.0 ∙ sym first)
+              ∙ ap (query (shown_of columns its) source)
               (joins_are (name ∷ []) joins ss scope.sides.items all.1 h.sides ∙ ap (λ xs. map (λ s. joined_by s.0 s.1) (zip xs scope.sides.items)) (sym others))
 
           pub select_done : (source : Source) (sources : List Source) → sources ≡ map (source_on columns conditions) (enumerate_from 0 scope.scopes.items) → source ≡ get_or sources 0 source
               → verdict (select_rest tables scope (shown_of columns its) (length conditions) mistyped) ≡ Ok tt
-              → resolved_so ≡ Ok (resolved.Select distinct (shown_of columns its) source (map (λ s. joined_by s.0 s.1) (zip (remove sources 0) scope.sides.items)))
+              → resolved_so ≡ Ok (query (shown_of columns its) source (map (λ s. joined_by s.0 s.1) (zip (remove sources 0) scope.sides.items)))
           select_done source sources made at ok =
               let apart : once names ≡ names = once_all names (named_twice ∙ second_passes (repeats same_place (shown_places (shown_of columns its))) (nat_le (length scope.scopes.items) (length scope.sides.items)) _ _ _ ok) in
               let all = subst (λ ns. AllZip (IsScopeOf tables) ns scope.scopes.items) apart h.scopes in

@@ -2,7 +2,7 @@
 use Rattle.std.proofs.Common.{◌≡◌, ℕ, ◌+◌, ◌<◌, Bool, true, false, List, [], ◌∷◌, Option, None, Some, refl, sym, ap, ◌∙◌, subst, arith, length, map, get_or}
 use Rattle.std.proofs.lemmas.List.{length-map, length-append}
 use Rattle.std.proofs.lemmas.List.Concat.{flat_map-cons}
-use Rattle.std.proofs.lemmas.List.Elements.{All-nil, All-cons, All-head, All-tail, All-map, All-weaker, All-contains}
+use Rattle.std.proofs.lemmas.List.Elements.{All-map, All-weaker, All-contains}
 use Rattle.std.proofs.lemmas.Option.{slice_get_within, none-some}
 use Rattle.std.specs.Cmp.Lexicographic.{pointwise, pointwise_decides}
 use Rattle.std.specs.List.{All, Contains, flat_map, filter_map, cons_option, enumerate_from}
@@ -21,6 +21,7 @@ use Rattle.plain_tables.specs.ResolvedLaws.{IsMeant, IsShown}
 use Rattle.plain_tables.specs.Doing.{headings, shown_values, shown_rows, joined_tables}
 use Rattle.plain_tables.specs.declared.numbers.Place.{Place}
 use Rattle.plain_tables.specs.declared.resolved.Joined.{Joined}
+use Rattle.plain_tables.specs.declared.resolved.Query.{Query}
 use Rattle.plain_tables.specs.declared.resolved.Source.{Source}
 use Rattle.plain_tables.specs.declared.resolved.Shown.{Shown}
 use Rattle.plain_tables.specs.declared.resolved.Shown.TheVariants as shown
@@ -85,21 +86,21 @@ module _ (c : CatalogState) (ok : IsConsistent c) where
   joins_tables [] = refl
   joins_tables (join ∷ joins) = ap (cons_option (slice_get (database_of c) join.source.table.0)) (joins_tables joins)
 
-  module _ (distinct : Bool) (its : Shown) (source : Source) (joins : List Joined) (means : IsMeant c.limits (database_of c) (resolved.Select distinct its source joins))
-      (list : ListState) (has : HasMembers c (source.table.0 ∷ joined_numbers joins) (members_of (database_of c) source joins) list) where
+  module _ (query : Query) (means : IsMeant c.limits (database_of c) (resolved.Select query))
+      (list : ListState) (has : HasMembers c (query.source.table.0 ∷ joined_numbers query.joins) (members_of (database_of c) query.source query.joins) list) where
     abbrev tables : List Table
     tables = tables_at c list.sources
 
     abbrev members : List Member
-    members = members_of (database_of c) source joins
+    members = members_of (database_of c) query.source query.joins
 
-    are_tables : tables ≡ joined_tables (database_of c) source joins
-    are_tables = ap (tables_at c) has.tables ∙ ap (cons_option (slice_get (database_of c) source.table.0)) (joins_tables joins)
+    are_tables : tables ≡ joined_tables (database_of c) query.source query.joins
+    are_tables = ap (tables_at c) has.tables ∙ ap (cons_option (slice_get (database_of c) query.source.table.0)) (joins_tables query.joins)
 
-    is_shown : IsShown tables its
-    is_shown = subst (λ ts. IsShown ts its) (sym are_tables) means.1
+    is_shown : IsShown tables query.shown
+    is_shown = subst (λ ts. IsShown ts query.shown) (sym are_tables) means.1
 
-    module _ (places : List Place) (shows : places ≡ places_shown tables its) where
+    module _ (places : List Place) (shows : places ≡ places_shown tables query.shown) where
       abbrev described : ListState
       described = record list { columns = places }
 
@@ -108,26 +109,26 @@ module _ (c : CatalogState) (ok : IsConsistent c) where
         sources = has.over.sources;
         rows = has.over.rows;
         columns = subst (All (HasPlace c.relations list.sources)) (sym shows)
-            (All-weaker (meant.HasPlace tables) (HasPlace c.relations list.sources) (λ place there. place_there list.sources place has.over.sources there) (places_shown tables its) (shown_there tables its is_shown));
+            (All-weaker (meant.HasPlace tables) (HasPlace c.relations list.sources) (λ place there. place_there list.sources place has.over.sources there) (places_shown tables query.shown) (shown_there tables query.shown is_shown));
       }
 
       some_places : 0 < length places
       some_places =
           let first = means.0 in
-          let s = slice_get-inside c.relations source.table.0 (there_at c ok source.table.0 first.0 first.1) in
-          let same = width_same c ok source.table.0 first.0 first.1 s.0 s.1 in
-          let least = some_columns c ok source.table.0 s.0 s.1 in
-          let rest = filter_map (slice_get (database_of c)) (joined_numbers joins) in
+          let s = slice_get-inside c.relations query.source.table.0 (there_at c ok query.source.table.0 first.0 first.1) in
+          let same = width_same c ok query.source.table.0 first.0 first.1 s.0 s.1 in
+          let least = some_columns c ok query.source.table.0 s.0 s.1 in
+          let rest = filter_map (slice_get (database_of c)) (joined_numbers query.joins) in
           let begin : tables ≡ first.0 ∷ rest = ap (tables_at c) has.tables ∙ ap (λ o. cons_option o rest) first.1 in
-          subst (λ (ps : List Place). 0 < length ps) (sym (shows ∙ ap (λ ts. places_shown ts its) begin))
-          (some_shown first.0 rest its (omega (arith, same, least)) (subst (λ ts. IsShown ts its) begin is_shown))
+          subst (λ (ps : List Place). 0 < length ps) (sym (shows ∙ ap (λ ts. places_shown ts query.shown) begin))
+          (some_shown first.0 rest query.shown (omega (arith, same, least)) (subst (λ ts. IsShown ts query.shown) begin is_shown))
 
       -- the values that the list shows of a row are those that are shown of its member
       row_shown : (row : List TupleRef) → IsRowOver c.relations list.sources row → IsMember (database_of c) tables (member_of c list.sources row)
-          → list_values c described row ≡ shown_values its (member_of c list.sources row)
+          → list_values c described row ≡ shown_values query.shown (member_of c list.sources row)
       row_shown row over are =
           map_same (value_of c.relations list.sources row) (plain.value_of (member_of c list.sources row)) places (λ k d l. value_same c ok list.sources row (get_or places k d) over (described_over.columns k d l))
-          ∙ ap (map (plain.value_of (member_of c list.sources row))) shows ∙ values_shown (database_of c) tables its (member_of c list.sources row) are
+          ∙ ap (map (plain.value_of (member_of c list.sources row))) shows ∙ values_shown (database_of c) tables query.shown (member_of c list.sources row) are
 
       lead : map (member_of c list.sources) has.ordered ≡ members
       lead = ap (λ ns. map (member_of c ns) has.ordered) has.tables ∙ has.lead
@@ -137,20 +138,20 @@ module _ (c : CatalogState) (ok : IsConsistent c) where
           All-from_map (IsMember (database_of c) tables) (member_of c list.sources) has.ordered
           (subst (All (IsMember (database_of c) tables)) (sym lead)
           (subst (λ ts. All (IsMember (database_of c) ts) members) (sym are_tables)
-          (members_fit c.limits (database_of c) source joins ok.sound (means.0.0, means.0.1, means.0.2.1))))
+          (members_fit c.limits (database_of c) query.source query.joins ok.sound (means.0.0, means.0.1, means.0.2.1))))
 
-      ordered_shown : map (list_values c described) has.ordered ≡ map (shown_values its) members
+      ordered_shown : map (list_values c described) has.ordered ≡ map (shown_values query.shown) members
       ordered_shown =
-          map_same (list_values c described) (λ row. shown_values its (member_of c list.sources row)) has.ordered
+          map_same (list_values c described) (λ row. shown_values query.shown (member_of c list.sources row)) has.ordered
           (λ k d l. row_shown (get_or has.ordered k d) (subst (λ ns. IsRowOver c.relations ns (get_or has.ordered k d)) (sym has.tables) (has.each k d l)) (are_members k d l))
-          ∙ sym (map_map (shown_values its) (member_of c list.sources) has.ordered) ∙ ap (map (shown_values its)) lead
+          ∙ sym (map_map (shown_values query.shown) (member_of c list.sources) has.ordered) ∙ ap (map (shown_values query.shown)) lead
 
       module _ (new : ListState) (sources : new.sources ≡ list.sources) (columns : new.columns ≡ places) where
         values_kept : (rows : List (List TupleRef)) → map (list_values c new) rows ≡ map (list_values c described) rows
         values_kept rows =
             ap (λ ns. map (λ row. map (value_of c.relations ns row) new.columns) rows) sources ∙ ap (λ ps. map (λ row. map (value_of c.relations list.sources row) ps) rows) columns
 
-        sorted_shown : IsSameBag new.rows list.rows → IsSorted (keys_cmp c.relations list.sources) new.rows → map (list_values c new) new.rows ≡ map (shown_values its) members
+        sorted_shown : IsSameBag new.rows list.rows → IsSorted (keys_cmp c.relations list.sources) new.rows → map (list_values c new) new.rows ≡ map (shown_values query.shown) members
         sorted_shown bag sorted =
             values_kept new.rows
             ∙ ap (map (list_values c described))
@@ -158,9 +159,9 @@ module _ (c : CatalogState) (ok : IsConsistent c) where
             (IsSameBag-trans bag has.same) sorted (subst (λ ns. IsRising (keys_cmp c.relations ns) has.ordered) (sym has.tables) has.rising))
             ∙ ordered_shown
 
-        distinct_shown : IsOrderedOf c.relations true described new → map (list_values c new) new.rows ≡ distinct_rows (map (shown_values its) members)
+        distinct_shown : IsOrderedOf c.relations true described new → map (list_values c new) new.rows ≡ distinct_rows (map (shown_values query.shown) members)
         distinct_shown is =
-            let xs = map (shown_values its) members in
+            let xs = map (shown_values query.shown) members in
             rising_are_one (map (list_values c new) new.rows) (distinct_rows xs) is.rising (distinct_rise xs)
             (λ v. (
               λ there.
@@ -175,28 +176,28 @@ module _ (c : CatalogState) (ok : IsConsistent c) where
                   (subst (Contains (map (list_values c described) list.rows)) from.2 (Contains-map (list_values c described) list.rows from.0 old)),
             ))
 
-        pub names_shown : map (heading (tables_at c new.sources)) new.columns ≡ headings (joined_tables (database_of c) source joins) its
+        pub names_shown : map (heading (tables_at c new.sources)) new.columns ≡ headings (joined_tables (database_of c) query.source query.joins) query.shown
         names_shown =
             ap (λ ns. map (heading (tables_at c ns)) new.columns) sources ∙ ap (map (heading tables)) (columns ∙ shows)
-            ∙ headings_shown tables its is_shown ∙ ap (λ ts. headings ts its) are_tables
+            ∙ headings_shown tables query.shown is_shown ∙ ap (λ ts. headings ts query.shown) are_tables
 
       kept : (way : Bool) (new : ListState) → IsOrderedOf c.relations way described new → (new.sources ≡ list.sources) × (new.columns ≡ places)
       kept false new is = (ap (λ (l : ListState). l.sources) is.0, ap (λ (l : ListState). l.columns) is.0)
       kept true new is = (is.sources, is.columns)
 
-      rows_shown : (way : Bool) (new : ListState) → IsOrderedOf c.relations way described new → map (list_values c new) new.rows ≡ shown_rows way its members
+      rows_shown : (way : Bool) (new : ListState) → IsOrderedOf c.relations way described new → map (list_values c new) new.rows ≡ shown_rows way query.shown members
       rows_shown false new is = sorted_shown new (kept false new is).0 (kept false new is).1 is.1 is.2
       rows_shown true new is = distinct_shown new is.sources is.columns is
 
-      module _ (new : ListState) (is : IsOrderedOf c.relations distinct described new) where
+      module _ (new : ListState) (is : IsOrderedOf c.relations query.distinct described new) where
         pub can_show : CanShow c new
         can_show = record {
-          over = still_over c.relations distinct described new described_over is;
-          some = subst (λ (ps : List Place). 0 < length ps) (sym (kept distinct new is).1) some_places;
+          over = still_over c.relations query.distinct described new described_over is;
+          some = subst (λ (ps : List Place). 0 < length ps) (sym (kept query.distinct new is).1) some_places;
         }
 
-        pub headed : map (heading (tables_at c new.sources)) new.columns ≡ headings (joined_tables (database_of c) source joins) its
-        headed = names_shown new (kept distinct new is).0 (kept distinct new is).1
+        pub headed : map (heading (tables_at c new.sources)) new.columns ≡ headings (joined_tables (database_of c) query.source query.joins) query.shown
+        headed = names_shown new (kept query.distinct new is).0 (kept query.distinct new is).1
 
-        pub rowed : map (list_values c new) new.rows ≡ shown_rows distinct its members
-        rowed = rows_shown distinct new is
+        pub rowed : map (list_values c new) new.rows ≡ shown_rows query.distinct query.shown members
+        rowed = rows_shown query.distinct new is

@@ -8,7 +8,6 @@ pub mod Members
 pub mod OneRequest
 pub mod Passing
 pub mod Performed
-pub mod Query
 pub mod Refused
 pub mod Responding
 pub mod Sessions

@@ -12,8 +12,6 @@ use crate::answer::records::push_changed;
 use mm_catalog::Catalog;
 use plain_tables::{Assignment, Command, Refusal, Resolved, Sequence, TableNumber, Test};
 use plan_chooser::Policy;
-use query::Query;
-use search::rows_passing;
 use std::alloc::Global;
 
 // The answer `ok`, and the answer to one row put in.
@@ -72,7 +70,7 @@ impl Executor {
         ensures done { OnOk result (HasPerformed self.old.catalog self.new.catalog (done self.old.catalog.limits (database_of self.old.catalog) (resolved.Update table assignments tests.now)) answer.old answer.new) }
         ensures refused { IfErr result (IsRefusedFor self.old.catalog self.new.catalog (done self.old.catalog.limits (database_of self.old.catalog) (resolved.Update table assignments tests.now))) }
     {
-        let rows = rows_passing(self.alloc, &self.catalog, self.policy, table, tests)?;
+        let rows = self.rows_passing(table, tests)?;
         push_changed(answer, rows.len())?;
         self.catalog.update(table, &rows, assignments)
     }
@@ -88,7 +86,7 @@ impl Executor {
         ensures done { OnOk result (HasPerformed self.old.catalog self.new.catalog (done self.old.catalog.limits (database_of self.old.catalog) (resolved.Delete table tests.now)) answer.old answer.new) }
         ensures refused { IfErr result (IsRefusedFor self.old.catalog self.new.catalog (done self.old.catalog.limits (database_of self.old.catalog) (resolved.Delete table tests.now))) }
     {
-        let rows = rows_passing(self.alloc, &self.catalog, self.policy, table, tests)?;
+        let rows = self.rows_passing(table, tests)?;
         push_changed(answer, rows.len())?;
         self.catalog.delete(table, &rows)
     }
@@ -134,20 +132,7 @@ impl Executor {
                 tests,
             } => self.update(table, assignments, tests.as_slice(), answer)?,
             Resolved::Delete { table, tests } => self.delete(table, tests.as_slice(), answer)?,
-            Resolved::Select {
-                distinct,
-                shown,
-                source,
-                joins,
-            } => {
-                let query = Query {
-                    distinct,
-                    shown: &shown,
-                    source: &source,
-                    joins: joins.as_slice(),
-                };
-                self.select(&query, answer)?
-            }
+            Resolved::Select(query) => self.select(&query, answer)?,
             Resolved::Load { table, rows } => {
                 push_changed(answer, rows.len())?;
                 self.catalog.load_rows(table, rows)?;

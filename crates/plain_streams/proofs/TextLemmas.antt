@@ -252,7 +252,7 @@ done-utf8 limits tables (resolved.Delete n tests) sets all =
     (λ table there. checked_satisfies LeavesUtf8 tables (row_delete_checks tables table (passes_all tests)) _ (λ why. all)
     (λ passed. with-utf8 tables n table (without (passes_all tests) table) all there
     (All-filter (λ row. not (passes_all tests row)) (All IsTextUtf8) table.rows)))
-done-utf8 limits tables (resolved.Select distinct its source joins) sets all = all
+done-utf8 limits tables (resolved.Select query) sets all = all
 done-utf8 limits tables (resolved.Load n rows) sets all =
     load_satisfies LeavesUtf8 limits tables n rows (λ why. all)
     (λ new h. (loaded_satisfies (λ others d. All (All IsTextUtf8) others × AreTextsUtf8 d) limits n

@@ -445,13 +445,15 @@ done_plain limits tables (resolved.Delete n tests) other =
     (without (passes_all tests) t) _ (rw (referenced_plain tables t.name (picked (passes_all tests) t)) refl))
     in
     ap bare same ∙ bare_twice (done limits tables (resolved.Delete n tests))
-done_plain limits tables (resolved.Select distinct its source joins) other =
-    let same : (done limits (plain tables) (resolved.Select distinct its source joins)).outcome
-    ≡ (done limits tables (resolved.Select distinct its source joins)).outcome =
-    rw (joined_plain tables source joins, headings_plain (joined_tables tables source joins) its, members_plain tables source joins) refl
+done_plain limits tables (resolved.Select query) other =
+    let same : (done limits (plain tables) (resolved.Select query)).outcome ≡ (done limits tables (resolved.Select query)).outcome =
+    rw (
+      joined_plain tables query.source query.joins,
+      headings_plain (joined_tables tables query.source query.joins) query.shown,
+      members_plain tables query.source query.joins,
+    ) refl
     in
-    ap (λ o. left_with o (plain (plain tables))) same
-    ∙ bare_twice (done limits tables (resolved.Select distinct its source joins))
+    ap (λ o. left_with o (plain (plain tables))) same ∙ bare_twice (done limits tables (resolved.Select query))
 done_plain limits tables (resolved.Load n rows) other =
     ap bare (load_plain limits tables n rows) ∙ bare_twice (done limits tables (resolved.Load n rows))
 done_plain limits tables (resolved.Dump n) other =

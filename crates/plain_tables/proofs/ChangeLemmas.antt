@@ -96,7 +96,7 @@ rows_satisfy P limits tables (resolved.Delete n tests) m is old new =
     of_table_satisfies (λ e. P e.database) n tables _ (λ r. old)
     (λ table there. checked_satisfies (λ e. P e.database) tables (delete_checks tables table (passes_all tests)) _ (λ r. old)
     (λ passed. (rw same at new) table (without (passes_all tests) table) there refl))
-rows_satisfy P limits tables (resolved.Select distinct its source joins) m is old new = old
+rows_satisfy P limits tables (resolved.Select query) m is old new = old
 rows_satisfy P limits tables (resolved.Load n rows) m is old new =
     let same : m ≡ n = sym (same_Some n m is) in
     load_satisfies (λ e. P e.database) limits tables n rows (λ why. old)
@@ -160,7 +160,7 @@ refused_keeps limits tables (resolved.Insert n row) =
     (λ passed why same. absurd (not_changed _ why same)))
 refused_keeps limits tables (resolved.Update n assignments tests) = refused_update_keeps tables n assignments (passes_all tests)
 refused_keeps limits tables (resolved.Delete n tests) = refused_delete_keeps tables n (passes_all tests)
-refused_keeps limits tables (resolved.Select distinct its source joins) = λ why same. absurd (not_rows _ _ why same)
+refused_keeps limits tables (resolved.Select query) = λ why same. absurd (not_rows _ _ why same)
 refused_keeps limits tables (resolved.Load n rows) =
     load_satisfies (KeepsIfRefused tables) limits tables n rows (refusal_keeps tables)
     (λ new all why same. absurd (not_changed _ why same))

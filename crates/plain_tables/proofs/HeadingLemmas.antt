@@ -154,14 +154,15 @@ All-shown P false its members all = all
 All-shown P true its members all = All-distinct P (map (shown_values its) members) all
 
 pub shown_fit_headings : ShownFitHeadings
-shown_fit_headings limits tables distinct its source joins sound meant =
-    let among : List Table = joined_tables tables source joins in
-    let members : List Member = members_of tables source joins in
-    All-shown (λ row. length row ≡ length (headings among its)) distinct its members
+shown_fit_headings limits tables query sound meant =
+    let among : List Table = joined_tables tables query.source query.joins in
+    let members : List Member = members_of tables query.source query.joins in
+    let its : Shown = query.shown in
+    All-shown (λ row. length row ≡ length (headings among its)) query.distinct its members
     (All-map (λ row. length row ≡ length (headings among its)) (shown_values its) members
     (All-weaker (IsMember tables among) (λ member. length (shown_values its member) ≡ length (headings among its))
     (λ member are. shown_length tables among its member meant.1 are) members
-    (members_fit limits tables source joins sound (meant.0.0, meant.0.1, meant.0.2.1))))
+    (members_fit limits tables query.source query.joins sound (meant.0.0, meant.0.1, meant.0.2.1))))
 
 pub names_have_headings : NamesHaveHeadings
 names_have_headings among names h =

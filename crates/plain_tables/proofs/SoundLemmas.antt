@@ -428,7 +428,7 @@ done_keeps_sound limits tables (resolved.Insert n row) sound meant = insert_keep
 done_keeps_sound limits tables (resolved.Update n assignments tests) sound (table, there, (can, right)) =
     update_keeps_sound limits tables n assignments (passes_all tests) sound (table, there, can)
 done_keeps_sound limits tables (resolved.Delete n tests) sound meant = delete_keeps_sound limits tables n (passes_all tests) sound
-done_keeps_sound limits tables (resolved.Select distinct its source joins) sound meant = sound
+done_keeps_sound limits tables (resolved.Select query) sound meant = sound
 done_keeps_sound limits tables (resolved.Load n rows) sound meant = load_keeps limits tables n rows sound meant
 done_keeps_sound limits tables (resolved.Dump n) sound meant =
     of_table_satisfies (λ e. IsSound limits e.database) n tables _ (λ r. sound)

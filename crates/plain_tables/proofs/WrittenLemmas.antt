@@ -381,14 +381,14 @@ has_passed tables its name joins conditions passed =
 
 -- what the law says of a resolved select
 abbrev MeetsTheWritten : Database → List ℕ → List Join → List Cond → Resolved → Type 0
-MeetsTheWritten tables name joins conditions (resolved.Select distinct shown source joined) =
-    members_of tables source joined ≡ members_meeting (tables_named tables (select_names name joins)) joins conditions
+MeetsTheWritten tables name joins conditions (resolved.Select query) =
+    members_of tables query.source query.joins ≡ members_meeting (tables_named tables (select_names name joins)) joins conditions
 MeetsTheWritten tables name joins conditions r = Unit {0}
 
 pub selects_meet_the_written : SelectsMeetTheWritten
-selects_meet_the_written records tables distinct its name joins conditions shown source joined h =
+selects_meet_the_written records tables distinct its name joins conditions query h =
     checked_satisfies (MeetsTheWritten tables name joins conditions) (select_checks tables its name joins conditions)
-    (select_of tables distinct its name joins conditions) (resolved.Select distinct shown source joined) h
+    (select_of tables distinct its name joins conditions) (resolved.Select query) h
     (λ passed.
     let are = has_passed tables its name joins conditions passed in
     select_met tables (tables_named tables (once (select_names name joins))) name joins conditions are.named are.joined are.typed are.found

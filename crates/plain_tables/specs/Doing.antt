@@ -207,8 +207,11 @@ done limits tables (resolved.DropIndex n column k) =
 done limits tables (resolved.Insert n row) = insert limits tables n row
 done limits tables (resolved.Update n assignments tests) = update tables n assignments (passes_all tests)
 done limits tables (resolved.Delete n tests) = delete tables n (passes_all tests)
-done limits tables (resolved.Select distinct its source joins) =
-    record { database = tables; outcome = Rows (headings (joined_tables tables source joins) its) (shown_rows distinct its (members_of tables source joins)) }
+done limits tables (resolved.Select query) =
+    record {
+      database = tables;
+      outcome = Rows (headings (joined_tables tables query.source query.joins) query.shown) (shown_rows query.distinct query.shown (members_of tables query.source query.joins));
+    }
 done limits tables (resolved.Load n rows) = load limits tables n rows
 done limits tables (resolved.Dump n) = dump limits tables n
 done limits tables resolved.Tables = record { database = tables; outcome = Listed tables }

@@ -31,7 +31,7 @@ use Rattle.plain_tables.specs.declared.numbers.TableNumber.{TableNumber}
 use Rattle.plain_tables.specs.declared.resolved.Assignment.{Assignment}
 use Rattle.plain_tables.specs.declared.numbers.Place.{Place}
 use Rattle.plain_tables.specs.declared.resolved.Test.{Test}
-use Rattle.plain_tables.specs.declared.resolved.Source.{Source}
+use Rattle.plain_tables.specs.declared.resolved.Query.{Query}
 use Rattle.plain_tables.specs.declared.resolved.Joined.{Joined}
 use Rattle.plain_tables.specs.declared.resolved.Shown.{Shown}
 use Rattle.plain_tables.specs.declared.resolved.Shown.TheVariants as shown
@@ -149,9 +149,9 @@ IsMeant limits tables (resolved.Insert n row) = OfTable n tables (IsInsertable t
 IsMeant limits tables (resolved.Update n assignments tests) =
     OfTable n tables (λ table. AreAssignable tables assignments table × AreTests tables table tests)
 IsMeant limits tables (resolved.Delete n tests) = OfTable n tables (λ table. AreTests tables table tests)
-IsMeant limits tables (resolved.Select distinct its source joins) =
-    OfTable source.table tables (λ table. AreTests tables table source.tests × AreJoins tables (table ∷ []) joins)
-    × IsShown (joined_tables tables source joins) its
+IsMeant limits tables (resolved.Select query) =
+    OfTable query.source.table tables (λ table. AreTests tables table query.source.tests × AreJoins tables (table ∷ []) query.joins)
+    × IsShown (joined_tables tables query.source query.joins) query.shown
 IsMeant limits tables (resolved.Load n rows) = OfTable n tables (λ table. All (λ row. IsInsertable tables row table) rows)
 IsMeant limits tables (resolved.Dump n) = OfTable n tables (λ table. Unit {0})
 IsMeant limits tables resolved.Tables = Unit {0}
@@ -230,7 +230,7 @@ abbrev pub rows_table : Resolved → Option TableNumber
 rows_table (resolved.Insert n row) = Some n
 rows_table (resolved.Update n assignments tests) = Some n
 rows_table (resolved.Delete n tests) = Some n
-rows_table (resolved.Select distinct its source joins) = Some source.table
+rows_table (resolved.Select query) = Some query.source.table
 rows_table (resolved.Load n rows) = Some n
 rows_table (resolved.Dump n) = Some n
 rows_table r = None
@@ -334,11 +334,11 @@ LoadCanBeTakenBack =
 abbrev pub SelectsRows : Type 0
 SelectsRows =
     (limits : Limits) (tables : Database) (n : TableNumber) (table : Table) → slice_get tables n.0 ≡ Some table
-    → (done limits tables (resolved.Select false shown.All (record { table = n; tests = [] }) [])).outcome ≡ Rows (headings (table ∷ []) shown.All) table.rows
+    → (done limits tables (resolved.Select (record { distinct = false; shown = shown.All; source = record { table = n; tests = [] }; joins = [] }))).outcome ≡ Rows (headings (table ∷ []) shown.All) table.rows
 
 -- each row that is shown has as many values as there are headings
 abbrev pub ShownFitHeadings : Type 0
 ShownFitHeadings =
-    (limits : Limits) (tables : Database) (distinct : Bool) (its : Shown) (source : Source) (joins : List Joined)
-    → IsSound limits tables → IsMeant limits tables (resolved.Select distinct its source joins)
-    → All (λ row. length row ≡ length (headings (joined_tables tables source joins) its)) (shown_rows distinct its (members_of tables source joins))
+    (limits : Limits) (tables : Database) (query : Query) → IsSound limits tables → IsMeant limits tables (resolved.Select query)
+    → All (λ row. length row ≡ length (headings (joined_tables tables query.source query.joins) query.shown))
+    (shown_rows query.distinct query.shown (members_of tables query.source query.joins))

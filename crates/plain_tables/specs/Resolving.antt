@@ -220,8 +220,12 @@ joins_of tables columns conditions joins =
 abbrev pub select_of : Database → Bool → Items → List ℕ → List Join → List Cond → Resolved
 select_of tables distinct its name joins conditions =
     let columns = columns_of tables (select_names name joins) in
-    resolved.Select distinct (shown_of columns its) (source_of tables columns conditions 0 name)
-    (joins_of tables columns conditions (behind (name ∷ []) joins))
+    resolved.Select (record {
+      distinct = distinct;
+      shown = shown_of columns its;
+      source = source_of tables columns conditions 0 name;
+      joins = joins_of tables columns conditions (behind (name ∷ []) joins);
+    })
 
 -- ---- load
 

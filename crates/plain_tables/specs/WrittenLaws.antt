@@ -21,9 +21,7 @@ use Rattle.plain_tables.specs.declared.numbers.Place.{Place}
 use Rattle.plain_tables.specs.declared.numbers.TableNumber.{TableNumber}
 use Rattle.plain_tables.specs.declared.resolved.Assignment.{Assignment}
 use Rattle.plain_tables.specs.declared.resolved.Test.{Test}
-use Rattle.plain_tables.specs.declared.resolved.Source.{Source}
-use Rattle.plain_tables.specs.declared.resolved.Joined.{Joined}
-use Rattle.plain_tables.specs.declared.resolved.Shown.{Shown}
+use Rattle.plain_tables.specs.declared.resolved.Query.{Query}
 use Rattle.plain_tables.specs.declared.resolved.Resolved.{Resolved}
 use Rattle.plain_tables.specs.declared.resolved.Resolved.TheVariants as resolved
 
@@ -96,9 +94,8 @@ members_meeting among joins conditions =
 abbrev pub SelectsMeetTheWritten : Type 0
 SelectsMeetTheWritten =
     (records : List Record) (tables : Database) (distinct : Bool) (its : Items) (name : List ℕ) (joins : List Join) (conditions : List Cond)
-    (shown : Shown) (source : Source) (joined : List Joined)
-    → resolved_of records tables (command.Select distinct its name joins conditions) ≡ Ok (resolved.Select distinct shown source joined)
-    → members_of tables source joined ≡ members_meeting (tables_named tables (select_names name joins)) joins conditions
+    (query : Query) → resolved_of records tables (command.Select distinct its name joins conditions) ≡ Ok (resolved.Select query)
+    → members_of tables query.source query.joins ≡ members_meeting (tables_named tables (select_names name joins)) joins conditions
 
 -- ---- update and delete
 

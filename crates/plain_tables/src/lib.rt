@@ -38,7 +38,7 @@ pub use hash::hash_of;
 pub use no_memory::NoMemory;
 pub use numbers::{ColumnNumber, Place, TableNumber};
 pub use refusal::Refusal;
-pub use resolved::{Assignment, Joined, Resolved, Shown, Source, Test};
+pub use resolved::{Assignment, Joined, Query, Resolved, Shown, Source, Test};
 pub use schema::{BaseKind, ColKind, Column, IndexKind, Schema};
 pub use sequence::Sequence;
 pub use text::{LONGEST_TEXT, Text};

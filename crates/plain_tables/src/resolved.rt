@@ -42,14 +42,8 @@ pub enum Resolved {
         table: TableNumber,
         tests: Sequence<Test>,
     },
-    /// These columns of the rows of the first source, joined with those of others. If it is distinct, each list of values
-    /// once, and these rise.
-    Select {
-        distinct: bool,
-        shown: Shown,
-        source: Source,
-        joins: Sequence<Joined>,
-    },
+    /// What a query shows.
+    Select(Query),
     /// These rows more, all of them or none.
     Load {
         table: TableNumber,
@@ -76,6 +70,16 @@ pub struct Test {
     pub column: ColumnNumber,
     pub op: Op,
     pub value: Value,
+}
+
+/// These columns of the rows of the first source, joined with those of others. If it is distinct, each list of values once,
+/// and these rise.
+#[derive(Debug, Drop)]
+pub struct Query {
+    pub distinct: bool,
+    pub shown: Shown,
+    pub source: Source,
+    pub joins: Sequence<Joined>,
 }
 
 /// The rows of a table that pass tests.

@@ -9,8 +9,8 @@ ghost use Rattle.mm_catalog.specs.Seen.{database_of};
 use crate::bind::checks::{check_delete, check_update, repeats_setting};
 use crate::catalog::Catalog;
 use plain_tables::{
-    Command, Cond, IndexKind, Items, Join, Refusal, Resolved, Schema, Sequence, Setting, Text,
-    Value,
+    Command, Cond, IndexKind, Items, Join, Query, Refusal, Resolved, Schema, Sequence, Setting,
+    Text, Value,
 };
 use std::slice::from_ref;
 
@@ -174,12 +174,12 @@ impl Catalog {
         let mut sources = tested.items;
         let source = sources.remove(0);
         let joins = scope.joins(sources)?;
-        Ok(Resolved::Select {
+        Ok(Resolved::Select(Query {
             distinct,
             shown,
             source,
             joins,
-        })
+        }))
     }
 
     fn resolve_dump(&self, table: Text) -> Result<Resolved, Refusal>

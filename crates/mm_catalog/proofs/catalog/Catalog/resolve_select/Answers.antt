@@ -1,5 +1,5 @@
 use Rattle.std.proofs.Common.{rules, ◌≡◌, ◌∙◌, ◌∷◌, [], List, sym, ap, true, false, is_none, is_some, map, not, subst}
-use Rattle.std.specs.Prelude.{Ok, Err, length}
+use Rattle.std.specs.Prelude.{Result, Ok, Err, length}
 use Rattle.std.specs.List.{enumerate_from, list_any, remove, zip}
 use Rattle.plain_tables.specs.Databases.{table_named}
 use Rattle.plain_tables.specs.Effects.{misses, condition_names}
@@ -8,14 +8,15 @@ use Rattle.plain_tables.specs.declared.command.Join.{Join}
 use Rattle.plain_tables.specs.declared.resolved.Joined.{Joined}
 use Rattle.plain_tables.specs.declared.resolved.Shown.{Shown}
 use Rattle.plain_tables.specs.declared.resolved.Source.{Source}
-use Rattle.plain_tables.specs.declared.resolved.Resolved.TheVariants.{Select}
+use Rattle.plain_tables.specs.declared.resolved.Resolved.{Resolved}
+use Rattle.plain_tables.specs.declared.refusal.Refusal.{Refusal}
 use Rattle.mm_catalog.specs.Seen.{database_of}
 use Rattle.mm_catalog.specs.declared.bind.scope.Scope.{Scope}
 use Rattle.mm_catalog.specs.Resolve.{IsScopeOf, columns_of_all}
 use Rattle.mm_catalog.specs.ResolveChecks.{verdict}
 use Rattle.mm_catalog.specs.Select.{IsJoinedScopeOf, select_rest, source_on, joined_by}
 use Rattle.mm_catalog.proofs.ResolveScopes.{called_so}
-use Rattle.mm_catalog.proofs.ResolveSelect.{joined_missed, none_misses, sides_missed, items_missed, conditions_missed, select_refused, select_done}
+use Rattle.mm_catalog.proofs.ResolveSelect.{joined_missed, none_misses, sides_missed, items_missed, conditions_missed, query, select_refused, select_done}
 use Rattle.mm_catalog.proofs.catalog.Catalog.resolve_select.Goals as goal
 
 pub returns-then-misses_joined-clause-refused : goal.returns-then-misses_joined-clause-refused
@@ -134,8 +135,9 @@ returns-clause-meant c =
     ap (λ (shown : Shown). verdict (select_rest tables found shown (length c.args.conditions) tested.mistyped)) (sym c.in_ok-shown.ensures.shown)
     ∙ ap (λ n. verdict (select_rest tables found c.in_ok-shown.shown n tested.mistyped)) (sym c.len-count.ensures)
     ∙ sym c.check_select.ensures ∙ c.in_ok-check_select.was in
+    let resolves : Shown → List Joined → Result Resolved Refusal = λ shown js. Ok (query tables c.args.distinct c.args.items c.args.table c.args.joins c.args.conditions shown c.remove-source.result js) in
     let joined : List Source → List Joined = λ xs. map (λ s. joined_by s.0 s.1) (zip xs found.sides.items) in
     select_done tables c.args.distinct c.args.items c.args.table c.args.joins c.args.conditions there found scope c.in_ok-shown.ensures.named named tested.mistyped types
     c.remove-source.result tested.items made c.remove-source.ensures.value passed
-    ∙ ap (λ (shown : Shown). Ok (Select c.args.distinct shown c.remove-source.result (joined (remove tested.items 0)))) (sym c.in_ok-shown.ensures.shown)
-    ∙ ap (λ (js : List Joined). Ok (Select c.args.distinct c.in_ok-shown.shown c.remove-source.result js)) (sym (c.in_ok-joins.ensures ∙ ap joined c.remove-source.ensures.rest))
+    ∙ ap (λ (shown : Shown). resolves shown (joined (remove tested.items 0))) (sym c.in_ok-shown.ensures.shown)
+    ∙ ap (resolves c.in_ok-shown.shown) (sym (c.in_ok-joins.ensures ∙ ap joined c.remove-source.ensures.rest))

@@ -16,11 +16,6 @@ delete-requires c =
     subst (λ tests. IsMeant c.args.self.now.catalog.limits (database_of c.args.self.now.catalog) (resolved.Delete c.in-Delete.table tests)) (sym c.as_slice-in-Delete.ensures)
     (rw c.in-Delete.is at c.requires)
 
-pub select-requires : goal.select-requires
-select-requires c =
-    subst (λ joins. IsMeant c.args.self.now.catalog.limits (database_of c.args.self.now.catalog) (resolved.Select c.in-Select.distinct c.in-Select.shown c.in-Select.source joins)) (sym c.as_slice-in-Select.ensures)
-    (rw c.in-Select.is at c.requires)
-
 pub returns-in_ok-insert-in-Insert-clause-done : goal.returns-in_ok-insert-in-Insert-clause-done
 returns-in_ok-insert-in-Insert-clause-done c =
     rw c.in-Insert.is

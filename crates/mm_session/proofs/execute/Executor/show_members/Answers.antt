@@ -23,29 +23,29 @@ pub ordered-requires : goal.ordered-requires
 ordered-requires c =
     let catalog = c.args.self.now.catalog in
     let query = c.args.query.now in
-    let shows = c.in_ok-places.ensures ∙ ap (λ (ns : List ℕ). places_shown (tables_at catalog ns) query.shown.now) c.sources.ensures in
+    let shows = c.in_ok-places.ensures ∙ ap (λ (ns : List ℕ). places_shown (tables_at catalog ns) query.shown) c.sources.ensures in
     subst (IsOver catalog.relations) (sym c.describe.ensures)
-    (described_over catalog c.a_catalog_is_consistent.ensures query.distinct query.shown.now query.source.now query.joins.now c.requires.meant c.args.list c.requires.members c.in_ok-places.places.items shows)
+    (described_over catalog c.a_catalog_is_consistent.ensures query c.requires.meant c.args.list c.requires.members c.in_ok-places.places.items shows)
 
 pub show-requires : goal.show-requires
 show-requires c =
     let catalog = c.args.self.now.catalog in
     let query = c.args.query.now in
-    let shows = c.in_ok-places.ensures ∙ ap (λ (ns : List ℕ). places_shown (tables_at catalog ns) query.shown.now) c.sources.ensures in
+    let shows = c.in_ok-places.ensures ∙ ap (λ (ns : List ℕ). places_shown (tables_at catalog ns) query.shown) c.sources.ensures in
     let is = subst (λ (l : ListState). IsOrderedOf catalog.relations query.distinct l c.in_ok-list.list) c.describe.ensures c.in_ok-list.ensures in
-    can_show catalog c.a_catalog_is_consistent.ensures query.distinct query.shown.now query.source.now query.joins.now c.requires.meant c.args.list c.requires.members c.in_ok-places.places.items shows c.in_ok-list.list is
+    can_show catalog c.a_catalog_is_consistent.ensures query c.requires.meant c.args.list c.requires.members c.in_ok-places.places.items shows c.in_ok-list.list is
 
 pub returns : goal.returns
 returns c =
     let catalog = c.args.self.now.catalog in
     let query = c.args.query.now in
     let new = c.in_ok-list.list in
-    let shows = c.in_ok-places.ensures ∙ ap (λ (ns : List ℕ). places_shown (tables_at catalog ns) query.shown.now) c.sources.ensures in
+    let shows = c.in_ok-places.ensures ∙ ap (λ (ns : List ℕ). places_shown (tables_at catalog ns) query.shown) c.sources.ensures in
     let is = subst (λ (l : ListState). IsOrderedOf catalog.relations query.distinct l new) c.describe.ensures c.in_ok-list.ensures in
-    let names = headed catalog c.a_catalog_is_consistent.ensures query.distinct query.shown.now query.source.now query.joins.now c.requires.meant c.args.list c.requires.members c.in_ok-places.places.items shows new is in
-    let rows = rowed catalog c.a_catalog_is_consistent.ensures query.distinct query.shown.now query.source.now query.joins.now c.requires.meant c.args.list c.requires.members c.in_ok-places.places.items shows new is in
+    let names = headed catalog c.a_catalog_is_consistent.ensures query c.requires.meant c.args.list c.requires.members c.in_ok-places.places.items shows new is in
+    let rows = rowed catalog c.a_catalog_is_consistent.ensures query c.requires.meant c.args.list c.requires.members c.in_ok-places.places.items shows new is in
     on_ok_weaker c.show.result
     (λ shown.
     shown ∙ ap (λ (ns : List (List ℕ)). c.args.answer.now ++ answer_text (Rows ns (map (list_values catalog new) new.rows))) names
-    ∙ ap (λ (rs : List Row). c.args.answer.now ++ answer_text (Rows (headings (joined_tables (database_of catalog) query.source.now query.joins.now) query.shown.now) rs)) rows)
+    ∙ ap (λ (rs : List Row). c.args.answer.now ++ answer_text (Rows (headings (joined_tables (database_of catalog) query.source query.joins) query.shown) rs)) rows)
     c.show.ensures
