@@ -1,16 +1,17 @@
 -- The scopes of the tables that a select names, and the columns of its joins.
-use Rattle.std.proofs.Common.{◌≡◌, ℕ, ◌+◌, ◌<◌, Bool, true, false, cond, not, is_some, is_none, List, [], ◌∷◌, ◌++◌, Option, Some, None, refl, sym, ap, ◌∙◌, map, length, take, drop, get_or, inl, inr, append-nil, append_assoc, subst}
+use Rattle.std.proofs.Common.{◌≡◌, ℕ, ◌+◌, ◌<◌, Bool, true, false, cond, not, is_some, is_none, List, [], ◌∷◌, ◌++◌, Option, Some, None, refl, sym, ap, ◌∙◌, map, length, get_or, inl, inr, append-nil, append_assoc, subst}
 use Rattle.std.specs.Prelude.{◌||◌}
 use Rattle.std.specs.List.{AllZip, filter, filter_map, find, flat_map, list_any, cons_option, enumerate_from}
-use Rattle.std.specs.Option.{option_map, option_zip}
+use Rattle.std.specs.Option.{option_map, option_to_list, option_zip}
 use Rattle.std.specs.Str.{bytes_eq}
-use Rattle.std.proofs.lemmas.Bool.{cases_Bool, false≢true}
-use Rattle.std.proofs.lemmas.List.{map-append, take-append-drop, take_more}
-use Rattle.std.proofs.lemmas.List.Elements.{filter-append}
+use Rattle.std.proofs.lemmas.Bool.{cases_Bool}
+use Rattle.std.proofs.lemmas.List.{map-append}
+use Rattle.std.proofs.lemmas.List.Elements.{filter-append, filter_map-append}
 use Rattle.std.proofs.lemmas.List.Folds.{list_any-append, list_any_at}
 use Rattle.std.proofs.lemmas.Map.Views.{any-filter_same}
 use Rattle.std.proofs.lemmas.Slice.Eq.{bytes_eq-Decides}
 use Rattle.std.proofs.lemmas.Slice.Zip.{all_zipped_more}
+use Rattle.common_lemmas.proofs.Tests.{list_any-map}
 use Rattle.plain_tables.specs.Databases.{Database, is_named, table_named}
 use Rattle.plain_tables.specs.declared.numbers.Place.{Place}
 use Rattle.plain_tables.specs.Queries.{JoinedColumn, column_number, sides_meant, source_columns as plain_columns}
@@ -19,9 +20,8 @@ use Rattle.plain_tables.specs.declared.command.Join.{Join}
 use Rattle.plain_tables.specs.declared.schema.Column.{Column}
 use Rattle.mm_catalog.specs.declared.bind.scope.Scope.{Scope}
 use Rattle.mm_catalog.specs.declared.bind.joined_scope.JoinedScope.{JoinedScope}
-use Rattle.mm_catalog.specs.declared.bind.joined_scope.Sides.{Sides}
 use Rattle.mm_catalog.specs.Resolve.{IsScopeOf, place_in, columns_of, columns_of_all, source_columns, placed}
-use Rattle.mm_catalog.specs.Select.{placed_sides, sides_found, IsJoinedScopeOf}
+use Rattle.mm_catalog.specs.Select.{placed_sides, sides_found, AreJoined}
 
 pub zip_placed : (outer inner : Option JoinedColumn) → option_map placed_sides (option_zip outer inner) ≡ option_zip (option_map placed outer) (option_map placed inner)
 zip_placed None inner = refl
@@ -136,71 +136,92 @@ pub or_true : (b : Bool) → (b || true) ≡ true
 or_true true = refl
 or_true false = refl
 
+or_false : (b : Bool) → (b || false) ≡ b
+or_false true = refl
+or_false false = refl
+
+none_some : {X : Type 0} (o : Option X) → is_none o ≡ not (is_some o)
+none_some None = refl
+none_some (Some x) = refl
+
 module _ (tables : Database) (name : List ℕ) where
-  abbrev found : List Join → List (Option ((Place × Column) × (Place × Column)))
-  found joins = map (λ j. option_map placed_sides (join_columns tables j)) (behind (name ∷ []) joins)
+  abbrev lacks : List ℕ → Bool
+  lacks n = not (is_some (table_named n tables))
 
-  -- what the next join names
-  next_columns : (joins : List Join) (join : Join) (scope : JoinedScope) (own : Scope) → IsJoinedScopeOf tables name joins scope → IsScopeOf tables join.table own
-      → join_columns tables (select_names name joins, join) ≡ sides_meant (columns_of_all scope.scopes.items) (columns_of own) join
-  next_columns joins join scope own h k =
-      ap (λ before. sides_meant before (named_columns tables (join.table ∷ [])) join) (columns_are tables (select_names name joins) scope.scopes.items h.scopes)
-      ∙ ap (λ cs. sides_meant (columns_of_all scope.scopes.items) cs join) (own_columns_are tables join.table own k)
+  abbrev columns : List (List ℕ) × Join → Option (JoinedColumn × JoinedColumn)
+  columns join = join_columns tables join
 
-  pub joined_more : (joins : List Join) (join : Join) (before after : JoinedScope) (own : Scope) → IsJoinedScopeOf tables name joins before → IsScopeOf tables join.table own
-      → after.scopes.items ≡ cond (list_any (λ (s : Scope). bytes_eq s.name.now own.name.now) before.scopes.items) before.scopes.items (before.scopes.items ++ own ∷ [])
-      → map (λ (s : Sides). Some (sides_found s)) after.sides.items ≡ map (λ (s : Sides). Some (sides_found s)) before.sides.items
-      ++ option_map placed_sides (sides_meant (columns_of_all before.scopes.items) (columns_of own) join) ∷ []
-      → IsJoinedScopeOf tables name (joins ++ join ∷ []) after
-  joined_more joins join before after own h k scopes sides =
-      let names = select_names name joins in
-      let b = list_any (λ m. bytes_eq m join.table) (once names) in
-      let named : once (select_names name (joins ++ join ∷ [])) ≡ cond b (once names) (once names ++ join.table ∷ []) =
-      ap (λ ns. once (name ∷ ns)) (map-append (λ (j : Join). j.table) joins (join ∷ [])) ∙ once-push names join.table in
-      let are : after.scopes.items ≡ cond b before.scopes.items (before.scopes.items ++ own ∷ []) =
-      scopes ∙ ap (λ x. cond x before.scopes.items (before.scopes.items ++ own ∷ [])) (any_named tables join.table own (once names) before.scopes.items k h.scopes) in
-      let all = more_scopes tables b join.table own (once names) before.scopes.items k h.scopes in
-      let all_named = subst (λ ns. AllZip (IsScopeOf tables) ns (cond b before.scopes.items (before.scopes.items ++ own ∷ []))) (sym named) all in
-      record {
-        scopes = subst (λ (ss : List Scope). AllZip (IsScopeOf tables) (once (select_names name (joins ++ join ∷ []))) ss) (sym are) all_named;
-        sides =
-            sides
-            ∙ ap (λ xs. xs ++ option_map placed_sides (sides_meant (columns_of_all before.scopes.items) (columns_of own) join) ∷ []) h.sides
-            ∙ ap (λ o. found joins ++ option_map placed_sides o ∷ []) (sym (next_columns joins join before own h k))
-            ∙ sym (ap (map (λ j. option_map placed_sides (join_columns tables j))) (behind-append (name ∷ []) joins (join ∷ []))
-            ∙ map-append (λ j. option_map placed_sides (join_columns tables j)) (behind (name ∷ []) joins) ((names, join) ∷ []));
-      }
+  abbrev found : List (List ℕ) × Join → Option ((Place × Column) × (Place × Column))
+  found join = option_map placed_sides (columns join)
 
-  -- a join that names no columns is missed among all
-  missed_at : (b c : Bool) → (b || (true || c)) ≡ true
-  missed_at true c = refl
-  missed_at false c = refl
+  -- the scope of one table alone
+  pub first_joined : (scope : JoinedScope) (own : Scope) → IsScopeOf tables name own → scope.scopes.items ≡ own ∷ [] → scope.sides.items ≡ []
+      → AreJoined tables name [] false scope
+  first_joined scope own k scopes sides = record {
+    there = ap (λ o. not (is_some o) || false) k.found;
+    scopes = subst (AllZip (IsScopeOf tables) (name ∷ [])) (sym scopes) (k, tt);
+    misses = refl;
+    sides = ap (map sides_found) sides;
+  }
 
-  pub join_missed : (joins rest : List Join) (join : Join) (scope : JoinedScope) (own : Scope) → IsJoinedScopeOf tables name joins scope → IsScopeOf tables join.table own
-      → sides_meant (columns_of_all scope.scopes.items) (columns_of own) join ≡ None
-      → list_any is_none (map (join_columns tables) (behind (name ∷ []) (joins ++ join ∷ rest))) ≡ true
-  join_missed joins rest join scope own h k none =
-      let names = select_names name joins in
-      let here : is_none (join_columns tables (names, join)) ≡ true = ap is_none (next_columns joins join scope own h k ∙ none) in
-      let columns = join_columns tables in
-      ap (λ js. list_any is_none (map columns js)) (behind-append (name ∷ []) joins (join ∷ rest))
-      ∙ ap (list_any is_none) (map-append columns (behind (name ∷ []) joins) ((names, join) ∷ behind (names ++ join.table ∷ []) rest))
-      ∙ list_any-append is_none (map columns (behind (name ∷ []) joins)) (map columns ((names, join) ∷ behind (names ++ join.table ∷ []) rest))
-      ∙ ap (λ b. list_any is_none (map columns (behind (name ∷ []) joins)) || (b || list_any is_none (map columns (behind (names ++ join.table ∷ []) rest)))) here
-      ∙ missed_at (list_any is_none (map columns (behind (name ∷ []) joins))) (list_any is_none (map columns (behind (names ++ join.table ∷ []) rest)))
+  -- a joined table that isn't there is missed among all
+  pub table_lacks : (joins : List Join) (i : ℕ) (join : Join) → i < length joins → join ≡ get_or joins i join → table_named join.table tables ≡ None
+      → list_any lacks (select_names name joins) ≡ true
+  table_lacks joins i join within at none =
+      let here : lacks (get_or joins i join).table ≡ true = ap (λ (j : Join). lacks j.table) (sym at) ∙ ap (λ o. not (is_some o)) none in
+      ap (λ b. lacks name || b) (list_any-map lacks (λ (j : Join). j.table) joins ∙ list_any_at (λ (j : Join). lacks j.table) joins i join within here)
+      ∙ or_true (lacks name)
 
-  -- where no table is missed each join's is there
-  pub table_there : (joins : List Join) (i : ℕ) (d : Join) → i < length joins → list_any (λ j. not (is_some (table_named j.table tables))) joins ≡ false
-      → table_named (get_or joins i d).table tables ≡ None → ⊥
-  table_there joins i d within all none =
-      let missing : Join → Bool = λ j. not (is_some (table_named j.table tables)) in
-      false≢true (sym all ∙ list_any_at missing joins i d within (ap (λ o. not (is_some o)) none))
+  module _ (joins : List Join) (join : Join) where
+    abbrev names : List (List ℕ)
+    names = select_names name joins
 
-  pub split_at : (joins : List Join) (i : ℕ) (join : Join) → join ≡ get_or joins i join → i < length joins
-      → list_any is_none (map (join_columns tables) (behind (name ∷ []) (take i joins ++ join ∷ drop (i + 1) joins))) ≡ true
-      → list_any is_none (map (join_columns tables) (behind (name ∷ []) joins)) ≡ true
-  split_at joins i join at within h =
-      let rest : take i joins ++ join ∷ drop (i + 1) joins ≡ joins =
-      sym (append_assoc (take i joins) (join ∷ []) (drop (i + 1) joins)) ∙ ap (λ xs. xs ++ drop (i + 1) joins) (sym (take_more joins i join within ∙ ap (λ j. take i joins ++ j ∷ []) (sym at)))
-      ∙ take-append-drop (i + 1) joins in
-      subst (λ js. list_any is_none (map (join_columns tables) (behind (name ∷ []) js)) ≡ true) rest h
+    abbrev more : List Join
+    more = joins ++ join ∷ []
+
+    names_more : select_names name more ≡ names ++ join.table ∷ []
+    names_more = ap (λ ns. name ∷ ns) (map-append (λ (j : Join). j.table) joins (join ∷ []))
+
+    behind_more : behind (name ∷ []) more ≡ behind (name ∷ []) joins ++ (names, join) ∷ []
+    behind_more = behind-append (name ∷ []) joins (join ∷ [])
+
+    module _ (missed : Bool) (before : JoinedScope) (own : Scope) (h : AreJoined tables name joins missed before) (k : IsScopeOf tables join.table own) where
+      abbrev meant : Option (JoinedColumn × JoinedColumn)
+      meant = sides_meant (columns_of_all before.scopes.items) (columns_of own) join
+
+      -- what the next join names
+      columns_next : columns (names, join) ≡ meant
+      columns_next =
+          ap (λ cs. sides_meant cs (named_columns tables (join.table ∷ [])) join) (columns_are tables names before.scopes.items h.scopes)
+          ∙ ap (λ cs. sides_meant (columns_of_all before.scopes.items) cs join) (own_columns_are tables join.table own k)
+
+      -- the scope with one join more
+      pub joined_more : (after : JoinedScope) (named : Bool)
+          → after.scopes.items ≡ cond (list_any (λ (s : Scope). bytes_eq s.name.now own.name.now) before.scopes.items) before.scopes.items (before.scopes.items ++ own ∷ [])
+          → named ≡ is_some meant → map sides_found after.sides.items ≡ map sides_found before.sides.items ++ option_to_list (option_map placed_sides meant)
+          → AreJoined tables name more (missed || not named) after
+      joined_more after named scopes has sides =
+          let b = list_any (λ m. bytes_eq m join.table) (once names) in
+          let once_named : once (select_names name more) ≡ cond b (once names) (once names ++ join.table ∷ []) = ap once names_more ∙ once-push names join.table in
+          let are : after.scopes.items ≡ cond b before.scopes.items (before.scopes.items ++ own ∷ []) =
+          scopes ∙ ap (λ x. cond x before.scopes.items (before.scopes.items ++ own ∷ [])) (any_named tables join.table own (once names) before.scopes.items k h.scopes) in
+          record {
+            there = ap (list_any lacks) names_more ∙ list_any-append lacks names (join.table ∷ [])
+                ∙ ap (λ b. b || (lacks join.table || false)) h.there ∙ ap (λ o. not (is_some o) || false) k.found;
+            scopes = subst (λ ns. AllZip (IsScopeOf tables) ns after.scopes.items) (sym once_named)
+                (subst (AllZip (IsScopeOf tables) (cond b (once names) (once names ++ join.table ∷ []))) (sym are) (more_scopes tables b join.table own (once names) before.scopes.items k h.scopes));
+            misses = sym (
+                ap (λ js. list_any is_none (map columns js)) behind_more
+                ∙ ap (list_any is_none) (map-append columns (behind (name ∷ []) joins) ((names, join) ∷ []))
+                ∙ list_any-append is_none (map columns (behind (name ∷ []) joins)) (columns (names, join) ∷ [])
+                ∙ ap (λ c. c || (is_none (columns (names, join)) || false)) (sym h.misses)
+                ∙ ap (λ c. missed || c) (or_false (is_none (columns (names, join))) ∙ none_some (columns (names, join)) ∙ ap (λ o. not (is_some o)) columns_next ∙ ap not (sym has)));
+            sides = sides ∙ ap (λ xs. xs ++ option_to_list (option_map placed_sides meant)) h.sides
+                ∙ ap (λ o. filter_map found (behind (name ∷ []) joins) ++ option_to_list (option_map placed_sides o)) (sym columns_next)
+                ∙ ap (λ xs. filter_map found (behind (name ∷ []) joins) ++ xs) (listed (found (names, join)))
+                ∙ sym (ap (filter_map found) behind_more ∙ filter_map-append found (behind (name ∷ []) joins) ((names, join) ∷ []));
+          }
+        where
+          listed : {X : Type 0} (o : Option X) → option_to_list o ≡ cons_option o []
+          listed None = refl
+          listed (Some x) = refl

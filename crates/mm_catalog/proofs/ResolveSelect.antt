@@ -1,7 +1,7 @@
 -- What a select means once the names in it are found and its checks are made.
 use Rattle.std.proofs.Common.{◌≡◌, ℕ, suc, ◌+◌, ◌<◌, ◌≤◌, Bool, true, false, cond, not, is_some, is_none, List, [], ◌∷◌, ◌++◌, Option, Some, None, refl, sym, ap, subst, ◌∙◌, map, length, get_or, arith, inl, inr}
 use Rattle.std.specs.Prelude.{Result, Ok, Err, ◌||◌, nat_lt, nat_le, zip}
-use Rattle.std.specs.List.{AllZip, filter, list_any, enumerate_from, cons_option, remove}
+use Rattle.std.specs.List.{AllZip, filter, filter_map, list_any, enumerate_from, cons_option, remove}
 use Rattle.std.specs.Option.{option_map, option_map_or}
 use Rattle.std.specs.Str.{bytes_eq}
 use Rattle.std.proofs.lemmas.Bool.{cases_Bool, false≢true}
@@ -122,13 +122,16 @@ repeats_once name names = elim (cases_Bool (repeats bytes_eq (name ∷ names))) 
 
 -- ---- the joins
 
-list_any-none : {X : Type 0} (xs : List X) → list_any (λ x. is_none (Some x)) xs ≡ false
-list_any-none [] = refl
-list_any-none (x ∷ xs) = list_any-none xs
-
-is_none-map : {X Y : Type 0} (f : X → Y) (o : Option X) → is_none (option_map f o) ≡ is_none o
-is_none-map f None = refl
-is_none-map f (Some x) = refl
+-- where none gives nothing, what all give is what each gives
+all_given : {X Y Z : Type 0} (g : Y → Z) (f : X → Option Y) (xs : List X) → list_any is_none (map f xs) ≡ false
+    → map (λ z. Some z) (filter_map (λ x. option_map g (f x)) xs) ≡ map (λ x. option_map g (f x)) xs
+all_given g f [] none = refl
+all_given g f (x ∷ xs) none =
+    elim (f x) as (λ o. (is_none o || list_any is_none (map f xs)) ≡ false
+    → map (λ z. Some z) (cons_option (option_map g o) (filter_map (λ y. option_map g (f y)) xs)) ≡ option_map g o ∷ map (λ y. option_map g (f y)) xs) [
+      | None ↦ λ e. absurd (false≢true (sym e))
+      | Some y ↦ λ e. ap (λ rest. Some (g y) ∷ rest) (all_given g f xs e)
+    ] none
 
 option_map_or-map : {X Y : Type 0} (g : Y → Bool) (f : X → Y) (o : Option X) → option_map_or (λ x. g (f x)) o false ≡ option_map_or g (option_map f o) false
 option_map_or-map g f None = refl
@@ -136,13 +139,6 @@ option_map_or-map g f (Some x) = refl
 
 -- a test of the columns of joins, as they are meant and as they were found
 module _ {X S F : Type 0} (f : X → F) (found : S → F) (xs : List (Option X)) (sides : List S) (are : map (λ s. Some (found s)) sides ≡ map (option_map f) xs) where
-  none_missed : list_any is_none xs ≡ false
-  none_missed =
-      sym (list_any-map is_none (option_map f) xs ∙ list_any-same (λ o. is_none (option_map f o)) is_none xs (is_none-map f))
-      ∙ ap (list_any is_none) (sym are)
-      ∙ list_any-map is_none (λ s. Some (found s)) sides
-      ∙ list_any-none sides
-
   any_found : (g : F → Bool) → list_any (λ o. option_map_or (λ x. g (f x)) o false) xs ≡ list_any (λ s. g (found s)) sides
   any_found g =
       list_any-same (λ o. option_map_or (λ x. g (f x)) o false) (λ o. option_map_or g (option_map f o) false) xs (option_map_or-map g f)
@@ -174,18 +170,8 @@ module _ (tables : Database) (distinct : Bool) (its : Items) (name : List ℕ) (
   abbrev pub misses_table : Bool
   misses_table = list_any (λ n. not (is_some (table_named n tables))) names
 
-  -- whether the table of a join isn't there
-  abbrev pub misses_joined : Bool
-  misses_joined = list_any (λ (j : Join). not (is_some (table_named j.table tables))) joins
-
-  misses_is : is_some (table_named name tables) ≡ true → misses_table ≡ misses_joined
-  misses_is h = ap (λ b. not b || list_any (λ n. not (is_some (table_named n tables))) (map (λ (j : Join). j.table) joins)) h ∙ list_any-map (λ n. not (is_some (table_named n tables))) (λ (j : Join). j.table) joins
-
-  pub joined_missed : is_some (table_named name tables) ≡ true → misses_joined ≡ true → resolved_so ≡ Err NoSuchTable
-  joined_missed here h = let missed : misses_table ≡ true = misses_is here ∙ h in rw missed refl
-
-  pub none_misses : is_some (table_named name tables) ≡ true → misses_joined ≡ false → misses_table ≡ false
-  none_misses here h = misses_is here ∙ h
+  pub table_missed : misses_table ≡ true → resolved_so ≡ Err NoSuchTable
+  table_missed missed = rw missed refl
 
   -- the checks behind that of the tables
   abbrev checks : List JoinedColumn → List Check
@@ -215,112 +201,114 @@ module _ (tables : Database) (distinct : Bool) (its : Items) (name : List ℕ) (
         ap (λ b. misses cs (named_items its ++ condition_names conditions) || b) h ∙ or_true (misses cs (named_items its ++ condition_names conditions)) in
         found_is ∙ rw missed refl
 
-    module _ (scope : JoinedScope) (h : IsJoinedScopeOf tables name joins scope) where
-      abbrev columns : List JoinedColumn
-      columns = columns_of_all scope.scopes.items
+  module _ (scope : JoinedScope) (h : IsJoinedScopeOf tables name joins scope) where
+    abbrev columns : List JoinedColumn
+    columns = columns_of_all scope.scopes.items
 
-      select_is : resolved_so ≡ meaning (checks columns) (selection columns)
-      select_is = found_is ∙ ap (λ cs. meaning (checks cs) (selection cs)) (columns_are tables names scope.scopes.items h.scopes)
+    select_is : resolved_so ≡ meaning (checks columns) (selection columns)
+    select_is = found_is h.there ∙ ap (λ cs. meaning (checks cs) (selection cs)) (columns_are tables names scope.scopes.items h.scopes)
 
-      column_missed : misses columns (named_items its ++ condition_names conditions) ≡ true → resolved_so ≡ Err NoSuchColumn
-      column_missed missed = select_is ∙ rw missed refl
+    column_missed : misses columns (named_items its ++ condition_names conditions) ≡ true → (e : Refusal) → e ≡ NoSuchColumn → resolved_so ≡ Err e
+    column_missed missed e is = select_is ∙ rw (missed, is) refl
 
-      pub items_missed : misses columns (named_items its) ≡ true → resolved_so ≡ Err NoSuchColumn
-      items_missed missed = column_missed (first_missed columns (named_items its) (condition_names conditions) missed)
+    pub items_missed : misses columns (named_items its) ≡ true → (e : Refusal) → e ≡ NoSuchColumn → resolved_so ≡ Err e
+    items_missed missed = column_missed (first_missed columns (named_items its) (condition_names conditions) missed)
 
-      module _ (items_named : misses columns (named_items its) ≡ false) where
-        pub conditions_missed : misses columns (condition_names conditions) ≡ true → resolved_so ≡ Err NoSuchColumn
-        conditions_missed missed = column_missed (rest_missed columns (named_items its) (condition_names conditions) true items_named missed)
+    module _ (items_named : misses columns (named_items its) ≡ false) where
+      pub conditions_missed : misses columns (condition_names conditions) ≡ true → (e : Refusal) → e ≡ NoSuchColumn → resolved_so ≡ Err e
+      conditions_missed missed = column_missed (rest_missed columns (named_items its) (condition_names conditions) true items_named missed)
 
-        module _ (named : misses columns (condition_names conditions) ≡ false) (mistyped : Bool) (types : mistyped ≡ list_any (is_mistyped tables columns) conditions) where
-          found_sides : map (λ (s : Sides). Some (sides_found s)) scope.sides.items ≡ map (option_map placed_sides) sides
-          found_sides = h.sides ∙ map-map (option_map placed_sides) (join_columns tables) (behind (name ∷ []) joins)
+      module _ (named : misses columns (condition_names conditions) ≡ false) (mistyped : Bool) (types : mistyped ≡ list_any (is_mistyped tables columns) conditions) where
+        sides_are : map (λ (s : Sides). Some (sides_found s)) scope.sides.items ≡ map (λ j. option_map placed_sides (join_columns tables j)) (behind (name ∷ []) joins)
+        sides_are =
+            map-map (λ s. Some s) sides_found scope.sides.items ∙ ap (map (λ s. Some s)) h.sides
+            ∙ all_given placed_sides (join_columns tables) (behind (name ∷ []) joins) (sym h.misses)
 
-          none_missing : list_any is_none sides ≡ false
-          none_missing = none_missed placed_sides sides_found sides scope.sides.items found_sides
+        found_sides : map (λ (s : Sides). Some (sides_found s)) scope.sides.items ≡ map (option_map placed_sides) sides
+        found_sides = sides_are ∙ map-map (option_map placed_sides) (join_columns tables) (behind (name ∷ []) joins)
 
-          abbrev differ_found : (Place × Column) × (Place × Column) → Bool
-          differ_found s = not (same_type (type_of tables s.0.1.kind) (type_of tables s.1.1.kind))
+        abbrev differ_found : (Place × Column) × (Place × Column) → Bool
+        differ_found s = not (same_type (type_of tables s.0.1.kind) (type_of tables s.1.1.kind))
 
-          sides_differ_so : list_any (λ s. option_map_or (differ_in_type tables) s false) sides ≡ list_any (sides_differ tables) scope.sides.items
-          sides_differ_so = any_found placed_sides sides_found sides scope.sides.items found_sides differ_found
+        sides_differ_so : list_any (λ s. option_map_or (differ_in_type tables) s false) sides ≡ list_any (sides_differ tables) scope.sides.items
+        sides_differ_so = any_found placed_sides sides_found sides scope.sides.items found_sides differ_found
 
-          many_joins : length joins ≡ length scope.sides.items
-          many_joins =
-              sym (length-behind (name ∷ []) joins)
-              ∙ sym (length-map (behind (name ∷ []) joins) (λ j. option_map placed_sides (join_columns tables j)))
-              ∙ sym (ap length h.sides)
-              ∙ length-map scope.sides.items (λ (s : Sides). Some (sides_found s))
+        many_joins : length joins ≡ length scope.sides.items
+        many_joins =
+            sym (length-behind (name ∷ []) joins)
+            ∙ sym (length-map (behind (name ∷ []) joins) (λ j. option_map placed_sides (join_columns tables j)))
+            ∙ sym (ap length sides_are)
+            ∙ length-map scope.sides.items (λ (s : Sides). Some (sides_found s))
 
-          named_twice : repeats bytes_eq names ≡ nat_le (length scope.scopes.items) (length scope.sides.items)
-          named_twice =
-              repeats_once name (map (λ j. j.table) joins)
-              ∙ ap (λ n. nat_le n (length (map (λ (j : Join). j.table) joins))) (sym (AllZip-long (IsScopeOf tables) (once names) scope.scopes.items h.scopes))
-              ∙ ap (nat_le (length scope.scopes.items)) (length-map joins (λ (j : Join). j.table) ∙ many_joins)
+        named_twice : repeats bytes_eq names ≡ nat_le (length scope.scopes.items) (length scope.sides.items)
+        named_twice =
+            repeats_once name (map (λ j. j.table) joins)
+            ∙ ap (λ n. nat_le n (length (map (λ (j : Join). j.table) joins))) (sym (AllZip-long (IsScopeOf tables) (once names) scope.scopes.items h.scopes))
+            ∙ ap (nat_le (length scope.scopes.items)) (length-map joins (λ (j : Join). j.table) ∙ many_joins)
 
-          select_named : verdict (checks columns) ≡ verdict (select_rest tables scope (shown_of columns its) (length conditions) mistyped)
-          select_named =
-              rw (
-                rest_missed columns (named_items its) (condition_names conditions) false items_named named,
-                none_missing,
-                sym (shown_places-are columns its),
-                named_twice,
-                sym types,
-                sides_differ_so,
-                sym (length-shown columns its items_named),
-                many_joins,
-              ) refl
+        select_named : verdict (checks columns) ≡ verdict (select_rest tables scope (shown_of columns its) (length conditions) mistyped)
+        select_named =
+            rw (
+              rest_missed columns (named_items its) (condition_names conditions) false items_named named,
+              sym h.misses,
+              sym (shown_places-are columns its),
+              named_twice,
+              sym types,
+              sides_differ_so,
+              sym (length-shown columns its items_named),
+              many_joins,
+            ) refl
 
-          pub select_refused : (e : Refusal) → verdict (select_rest tables scope (shown_of columns its) (length conditions) mistyped) ≡ Err e → resolved_so ≡ Err e
-          select_refused e err = select_is ∙ meaning_err (checks columns) (selection columns) e (select_named ∙ err)
+        pub select_refused : (e : Refusal) → verdict (select_rest tables scope (shown_of columns its) (length conditions) mistyped) ≡ Err e → resolved_so ≡ Err e
+        select_refused e err = select_is ∙ meaning_err (checks columns) (selection columns) e (select_named ∙ err)
 
-          select_meant : verdict (select_rest tables scope (shown_of columns its) (length conditions) mistyped) ≡ Ok tt → resolved_so ≡ Ok (selection columns)
-          select_meant ok = select_is ∙ meaning_ok (checks columns) (selection columns) (select_named ∙ ok)
+        select_meant : verdict (select_rest tables scope (shown_of columns its) (length conditions) mistyped) ≡ Ok tt → resolved_so ≡ Ok (selection columns)
+        select_meant ok = select_is ∙ meaning_ok (checks columns) (selection columns) (select_named ∙ ok)
 
-          -- ---- what it means
+        -- ---- what it means
 
-          source_is : (n : ℕ) (own : List ℕ) (s : Scope) → IsScopeOf tables own s → source_of tables columns conditions n own ≡ source_on columns conditions (n, s)
-          source_is n own s k = ap (λ t. record { table = t; tests = (source_on columns conditions (n, s)).tests }) k.number
+        source_is : (n : ℕ) (own : List ℕ) (s : Scope) → IsScopeOf tables own s → source_of tables columns conditions n own ≡ source_on columns conditions (n, s)
+        source_is n own s k = ap (λ t. record { table = t; tests = (source_on columns conditions (n, s)).tests }) k.number
 
-          joins_are : (before : List (List ℕ)) (js : List Join) (scopes : List Scope) (ds : List Sides) → AllZip (IsScopeOf tables) (map (λ j. j.table) js) scopes
-              → map (λ (s : Sides). Some (sides_found s)) ds ≡ map (λ j. option_map placed_sides (join_columns tables j)) (behind before js)
-              → joins_of tables columns conditions (behind before js) ≡ map (λ s. joined_by s.0 s.1) (zip (map (source_on columns conditions) (enumerate_from (length before) scopes)) ds)
-          joins_are before [] [] ds all are = refl
-          joins_are before [] (s ∷ ss) ds all are = absurd all
-          joins_are before (j ∷ js) [] ds all are = absurd all
-          joins_are before (j ∷ js) (s ∷ ss) [] all are = cc
-          joins_are before (j ∷ js) (s ∷ ss) (d ∷ ds) all are =
-              let head : option_map placed_sides (join_columns tables (before, j)) ≡ Some (sides_found d) = cc in
-              let tail : map (λ (x : Sides). Some (sides_found x)) ds ≡ map (λ k. option_map placed_sides (join_columns tables k)) (behind (before ++ j.table ∷ []) js) = cc in
-              let meant = option_map_some placed_sides (join_columns tables (before, j)) (sides_found d) head in
-              let outer : meant.0.0.place ≡ d.outer.place = ap (λ p. p.0.0) meant.2 in
-              let inner : meant.0.1.place ≡ d.inner.place = ap (λ p. p.1.0) meant.2 in
-              let rest = joins_are (before ++ j.table ∷ []) js ss ds all.1 tail in
-              let more : length (before ++ j.table ∷ []) ≡ length before + 1 = length-append before (j.table ∷ []) in
-              let of : Option (JoinedColumn × JoinedColumn) → Option Joined =
-              option_map (λ x. record { source = source_of tables columns conditions (length before) j.table; outer = x.0.place; inner = x.1.place.column }) in
-              ap (λ o. cons_option (of o) (joins_of tables columns conditions (behind (before ++ j.table ∷ []) js))) meant.1
-              ∙ ap (λ source. record { source = source; outer = meant.0.0.place; inner = meant.0.1.place.column } ∷ joins_of tables columns conditions (behind (before ++ j.table ∷ []) js)) (source_is (length before) j.table s all.0)
-              ∙ ap (λ p. record { source = source_on columns conditions (length before, s); outer = p; inner = meant.0.1.place.column } ∷ joins_of tables columns conditions (behind (before ++ j.table ∷ []) js)) outer
-              ∙ ap (λ p. record { source = source_on columns conditions (length before, s); outer = d.outer.place; inner = p.column } ∷ joins_of tables columns conditions (behind (before ++ j.table ∷ []) js)) inner
-              ∙ ap (λ js'. joined_by (source_on columns conditions (length before, s)) d ∷ js')
-              (rest ∙ ap (λ n. map (λ s. joined_by s.0 s.1) (zip (map (source_on columns conditions) (enumerate_from n ss)) ds)) more)
+        joins_are : (before : List (List ℕ)) (js : List Join) (scopes : List Scope) (ds : List Sides) → AllZip (IsScopeOf tables) (map (λ j. j.table) js) scopes
+            → map (λ (s : Sides). Some (sides_found s)) ds ≡ map (λ j. option_map placed_sides (join_columns tables j)) (behind before js)
+            → joins_of tables columns conditions (behind before js) ≡ map (λ s. joined_by s.0 s.1) (zip (map (source_on columns conditions) (enumerate_from (length before) scopes)) ds)
+        joins_are before [] [] ds all are = refl
+        joins_are before [] (s ∷ ss) ds all are = absurd all
+        joins_are before (j ∷ js) [] ds all are = absurd all
+        joins_are before (j ∷ js) (s ∷ ss) [] all are = cc
+        joins_are before (j ∷ js) (s ∷ ss) (d ∷ ds) all are =
+            let head : option_map placed_sides (join_columns tables (before, j)) ≡ Some (sides_found d) = cc in
+            let tail : map (λ (x : Sides). Some (sides_found x)) ds ≡ map (λ k. option_map placed_sides (join_columns tables k)) (behind (before ++ j.table ∷ []) js) = cc in
+            let meant = option_map_some placed_sides (join_columns tables (before, j)) (sides_found d) head in
+            let outer : meant.0.0.place ≡ d.outer.place = ap (λ p. p.0.0) meant.2 in
+            let inner : meant.0.1.place ≡ d.inner.place = ap (λ p. p.1.0) meant.2 in
+            let rest = joins_are (before ++ j.table ∷ []) js ss ds all.1 tail in
+            let more : length (before ++ j.table ∷ []) ≡ length before + 1 = length-append before (j.table ∷ []) in
+            let of : Option (JoinedColumn × JoinedColumn) → Option Joined =
+            option_map (λ x. record { source = source_of tables columns conditions (length before) j.table; outer = x.0.place; inner = x.1.place.column }) in
+            ap (λ o. cons_option (of o) (joins_of tables columns conditions (behind (before ++ j.table ∷ []) js))) meant.1
+            ∙ ap (λ source. record { source = source; outer = meant.0.0.place; inner = meant.0.1.place.column } ∷ joins_of tables columns conditions (behind (before ++ j.table ∷ []) js)) (source_is (length before) j.table s all.0)
+            ∙ ap (λ p. record { source = source_on columns conditions (length before, s); outer = p; inner = meant.0.1.place.column } ∷ joins_of tables columns conditions (behind (before ++ j.table ∷ []) js)) outer
+            ∙ ap (λ p. record { source = source_on columns conditions (length before, s); outer = d.outer.place; inner = p.column } ∷ joins_of tables columns conditions (behind (before ++ j.table ∷ []) js)) inner
+            ∙ ap (λ js'. joined_by (source_on columns conditions (length before, s)) d ∷ js')
+            (rest ∙ ap (λ n. map (λ s. joined_by s.0 s.1) (zip (map (source_on columns conditions) (enumerate_from n ss)) ds)) more)
 
-          selection_is : (scopes : List Scope) (source : Source) (sources : List Source) → AllZip (IsScopeOf tables) names scopes
-              → sources ≡ map (source_on columns conditions) (enumerate_from 0 scopes) → source ≡ get_or sources 0 source
-              → selection columns ≡ query (shown_of columns its) source (map (λ s. joined_by s.0 s.1) (zip (remove sources 0) scope.sides.items))
-          selection_is [] source sources all made at = absurd all
-          selection_is (s ∷ ss) source sources all made at =
-              let first : source ≡ source_on columns conditions (0, s) = at ∙ ap (λ xs. get_or xs 0 source) made in
-              let others : remove sources 0 ≡ map (source_on columns conditions) (enumerate_from 1 ss) = ap (λ xs. remove xs 0) made in
-              ap (λ x. query (shown_of columns its) x (joins_of tables columns conditions (behind (name ∷ []) joins))) (source_is 0 name s all.0 ∙ sym first)
-              ∙ ap (query (shown_of columns its) source)
-              (joins_are (name ∷ []) joins ss scope.sides.items all.1 h.sides ∙ ap (λ xs. map (λ s. joined_by s.0 s.1) (zip xs scope.sides.items)) (sym others))
+        selection_is : (scopes : List Scope) (source : Source) (sources : List Source) → AllZip (IsScopeOf tables) names scopes
+            → sources ≡ map (source_on columns conditions) (enumerate_from 0 scopes) → source ≡ get_or sources 0 source
+            → selection columns ≡ query (shown_of columns its) source (map (λ s. joined_by s.0 s.1) (zip (remove sources 0) scope.sides.items))
+        selection_is [] source sources all made at = absurd all
+        selection_is (s ∷ ss) source sources all made at =
+            let first : source ≡ source_on columns conditions (0, s) = at ∙ ap (λ xs. get_or xs 0 source) made in
+            let others : remove sources 0 ≡ map (source_on columns conditions) (enumerate_from 1 ss) = ap (λ xs. remove xs 0) made in
+            ap (λ x. query (shown_of columns its) x (joins_of tables columns conditions (behind (name ∷ []) joins))) (source_is 0 name s all.0 ∙ sym first)
+            ∙ ap (query (shown_of columns its) source)
+            (joins_are (name ∷ []) joins ss scope.sides.items all.1 sides_are ∙ ap (λ xs. map (λ s. joined_by s.0 s.1) (zip xs scope.sides.items)) (sym others))
 
-          pub select_done : (source : Source) (sources : List Source) → sources ≡ map (source_on columns conditions) (enumerate_from 0 scope.scopes.items) → source ≡ get_or sources 0 source
-              → verdict (select_rest tables scope (shown_of columns its) (length conditions) mistyped) ≡ Ok tt
-              → resolved_so ≡ Ok (query (shown_of columns its) source (map (λ s. joined_by s.0 s.1) (zip (remove sources 0) scope.sides.items)))
-          select_done source sources made at ok =
-              let apart : once names ≡ names = once_all names (named_twice ∙ second_passes (repeats same_place (shown_places (shown_of columns its))) (nat_le (length scope.scopes.items) (length scope.sides.items)) _ _ _ ok) in
-              let all = subst (λ ns. AllZip (IsScopeOf tables) ns scope.scopes.items) apart h.scopes in
-              select_meant ok ∙ ap (λ r. Ok r) (selection_is scope.scopes.items source sources all made at)
+        pub select_done : (source : Source) (sources : List Source) → sources ≡ map (source_on columns conditions) (enumerate_from 0 scope.scopes.items) → source ≡ get_or sources 0 source
+            → verdict (select_rest tables scope (shown_of columns its) (length conditions) mistyped) ≡ Ok tt
+            → resolved_so ≡ Ok (query (shown_of columns its) source (map (λ s. joined_by s.0 s.1) (zip (remove sources 0) scope.sides.items)))
+        select_done source sources made at ok =
+            let apart : once names ≡ names = once_all names (named_twice ∙ second_passes (repeats same_place (shown_places (shown_of columns its))) (nat_le (length scope.scopes.items) (length scope.sides.items)) _ _ _ ok) in
+            let all = subst (λ ns. AllZip (IsScopeOf tables) ns scope.scopes.items) apart h.scopes in
+            select_meant ok ∙ ap (λ r. Ok r) (selection_is scope.scopes.items source sources all made at)

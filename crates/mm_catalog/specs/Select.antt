@@ -1,15 +1,18 @@
 -- A select by the numbers of its tables and columns.
-use Rattle.std.specs.Prelude.{◌≡◌, ℕ, List, [], ◌∷◌, ◌++◌, Some, Bool, not, ◌||◌, nat_lt, nat_le, length, map}
-use Rattle.std.specs.List.{AllZip, filter, list_any}
+use Rattle.std.specs.Prelude.{◌≡◌, ℕ, List, [], ◌∷◌, ◌++◌, Err, Bool, false, not, is_some, is_none, ◌||◌, nat_lt, nat_le, length, map}
+use Rattle.std.specs.List.{AllZip, filter, filter_map, list_any}
 use Rattle.std.specs.Option.{option_map}
-use Rattle.plain_tables.specs.Databases.{Database}
+use Rattle.plain_tables.specs.Databases.{Database, table_named}
 use Rattle.plain_tables.specs.Queries.{JoinedColumn, same_place}
 use Rattle.plain_tables.specs.References.{same_type, type_of}
 use Rattle.plain_tables.specs.Effects.{Check, repeats}
-use Rattle.plain_tables.specs.Resolving.{once, select_names, behind, join_columns, is_on_source, tests_of}
+use Rattle.plain_tables.specs.Resolving.{once, select_names, behind, join_columns, is_on_source, tests_of, resolved_of}
+use Rattle.plain_tables.specs.declared.command.Command.TheVariants as command
+use Rattle.plain_tables.specs.declared.command.Items.{Items}
 use Rattle.plain_tables.specs.declared.command.Join.{Join}
 use Rattle.plain_tables.specs.declared.condition.Cond.{Cond}
 use Rattle.plain_tables.specs.declared.numbers.Place.{Place}
+use Rattle.plain_tables.specs.declared.refusal.Refusal.{Refusal}
 use Rattle.plain_tables.specs.declared.refusal.Refusal.TheVariants.{ColumnNamedTwice, TableNamedTwice, TooMany, WrongType}
 use Rattle.plain_tables.specs.declared.resolved.Joined.{Joined}
 use Rattle.plain_tables.specs.declared.resolved.Shown.{Shown}
@@ -30,11 +33,22 @@ placed_sides sides = (placed sides.0, placed sides.1)
 abbrev pub sides_found : Sides → (Place × Column) × (Place × Column)
 sides_found sides = (as_found sides.outer, as_found sides.inner)
 
--- The scope of a select from the table of that name and those that are joined with it: the scopes of the tables, each once,
--- and the columns of each join.
-pub record IsJoinedScopeOf (tables : Database) (name : List ℕ) (joins : List Join) (scope : JoinedScope) : Type 0 where
+-- What a select names of the table of that name and those that are joined with it, which are all there: the scopes of the
+-- tables, each once, and the columns of each join that names two; and whether a join was missed, as it names no two.
+pub record AreJoined (tables : Database) (name : List ℕ) (joins : List Join) (missed : Bool) (scope : JoinedScope) : Type 0 where
+  pub there : list_any (λ n. not (is_some (table_named n tables))) (select_names name joins) ≡ false
   pub scopes : AllZip (IsScopeOf tables) (once (select_names name joins)) scope.scopes.items
-  pub sides : map (λ s. Some (sides_found s)) scope.sides.items ≡ map (λ j. option_map placed_sides (join_columns tables j)) (behind (name ∷ []) joins)
+  pub misses : missed ≡ list_any is_none (map (join_columns tables) (behind (name ∷ []) joins))
+  pub sides : map sides_found scope.sides.items ≡ filter_map (λ j. option_map placed_sides (join_columns tables j)) (behind (name ∷ []) joins)
+
+-- the scope of a select from these tables, none of whose joins was missed
+abbrev pub IsJoinedScopeOf : Database → List ℕ → List Join → JoinedScope → Type 0
+IsJoinedScopeOf tables name joins scope = AreJoined tables name joins false scope
+
+-- a select from these tables is refused so, whatever it shows and whatever its conditions are
+abbrev pub RefusesSelects : Database → List ℕ → List Join → Refusal → Type 0
+RefusesSelects tables name joins e =
+    (distinct : Bool) (its : Items) (conditions : List Cond) → resolved_of [] tables (command.Select distinct its name joins conditions) ≡ Err e
 
 -- ---- checks
 

@@ -1,7 +1,7 @@
 //! The names in a command on several tables.
-ghost use Rattle.std.specs.Prelude.{◌≡◌, ◌≢◌, ◌<◌, ◌++◌, ◌∷◌, [], None, Some, true, false, not, is_some, is_none, OnOk, IfSome, IfOk, IfErr, length, map, if◌then◌else◌};
+ghost use Rattle.std.specs.Prelude.{◌≡◌, ◌≢◌, ◌++◌, ◌∷◌, [], Some, is_some, OnOk, IfOk, IfErr, map, if◌then◌else◌};
 ghost use Rattle.std.specs.List.{list_any};
-ghost use Rattle.std.specs.Option.{option_map, option_zip};
+ghost use Rattle.std.specs.Option.{option_map, option_to_list, option_zip};
 ghost use Rattle.std.specs.Str.{bytes_eq};
 ghost use Rattle.plain_tables.specs.declared.refusal.Refusal.TheVariants as refusal;
 ghost use Rattle.plain_tables.specs.Queries.{column_meant, sides_meant, side_name};
@@ -11,7 +11,7 @@ use crate::bind::names::column;
 use crate::bind::scope::{Name, NamedColumn, Scope};
 use crate::catalog::Catalog;
 use no_memory::NoMemory;
-use plain_tables::{Join, JoinSide, Refusal};
+use plain_tables::{Join, JoinSide, Refusal, Text};
 use std::alloc::Global;
 use std::slice::from_ref;
 
@@ -30,34 +30,27 @@ pub struct JoinedScope<'a> {
 }
 
 impl Catalog {
-    ghost use Rattle.mm_catalog.specs.Resolve.{IsScopeOf};
-    ghost use Rattle.mm_catalog.specs.Select.{IsJoinedScopeOf};
-    ghost use Rattle.plain_tables.specs.Databases.{table_named};
-    ghost use Rattle.plain_tables.specs.Resolving.{behind, join_columns};
+    ghost use Rattle.mm_catalog.specs.Select.{IsJoinedScopeOf, RefusesSelects};
 
-    /// Whether a table that a select joins isn't there.
-    pub(crate) fn misses_joined(&self, joins: &[Join]) -> bool
-        ensures { result ≡ list_any (λ join. not (is_some (table_named join.table (database_of self.now)))) joins.now }
-    {
-        joins.iter().any(|join| !self.has_table(&join.table))
-    }
-
-    /// What can be named in a select from a table and those that are joined with it, and the columns of its joins.
+    /// What can be named in a select from the table of that name and those that are joined with it, and the columns of its
+    /// joins. A table that isn't there is told before a join that names no two columns.
     pub(crate) fn joined_scope<'a>(
         &'a self,
-        first: Scope<'a>,
+        table: &Text,
         joins: &[Join],
     ) -> Result<JoinedScope<'a>, Refusal>
-        requires first { IsScopeOf (database_of self.now) first.name.now first }
-        requires there { list_any (λ join. not (is_some (table_named join.table (database_of self.now)))) joins.now ≡ false }
-        ensures found { IfOk result (IsJoinedScopeOf (database_of self.now) first.entry.name.now joins.now) }
-        ensures refused { IfErr result (λ e. e ≢ refusal.NoMemory → e ≡ refusal.NoSuchColumn) }
-        ensures missed { IfErr result (λ e. e ≢ refusal.NoMemory → list_any is_none (map (join_columns (database_of self.now)) (behind (first.entry.name.now ∷ []) joins.now)) ≡ true) }
+        ensures found { IfOk result (IsJoinedScopeOf (database_of self.now) table.now joins.now) }
+        ensures refused { IfErr result (λ e. e ≢ refusal.NoMemory → RefusesSelects (database_of self.now) table.now joins.now e) }
     {
-        let mut joined = JoinedScope::of(self.allocator(), first)?;
+        let mut joined = JoinedScope::of(self.allocator(), self.scope(table)?)?;
+        let mut missed = false;
         for join in joins {
             let own = self.scope(&join.table)?;
-            joined.join(own, join)?;
+            let named = joined.join(own, join)?;
+            missed |= !named;
+        }
+        if missed {
+            return Err(Refusal::NoSuchColumn);
         }
         Ok(joined)
     }
@@ -109,20 +102,20 @@ impl<'a> JoinedScope<'a> {
             .any(|scope| scope.name.as_bytes() == name.as_bytes())
     }
 
-    // Joins the table of a scope.
-    fn join(&mut self, own: Scope<'a>, join: &Join) -> Result<(), Refusal>
+    // Joins the table of a scope. Whether the join names two columns.
+    fn join(&mut self, own: Scope<'a>, join: &Join) -> Result<bool, NoMemory>
         ensures scopes { OnOk result (self.new.scopes.items ≡ (if list_any (λ s. bytes_eq s.name.now own.entry.name.now) self.old.scopes.items then self.old.scopes.items else self.old.scopes.items ++ own.entry ∷ [])) }
-        ensures sides { OnOk result (map (λ s. Some (sides_found s)) self.new.sides.items ≡ map (λ s. Some (sides_found s)) self.old.sides.items ++ option_map placed_sides (sides_meant (columns_of_all self.old.scopes.items) (columns_of own.entry) join.now) ∷ []) }
-        ensures refused { IfErr result (λ e. e ≢ refusal.NoMemory → e ≡ refusal.NoSuchColumn) }
-        ensures missed { IfErr result (λ e. e ≢ refusal.NoMemory → sides_meant (columns_of_all self.old.scopes.items) (columns_of own.entry) join.now ≡ None) }
+        ensures named { IfOk result (λ named. named ≡ is_some (sides_meant (columns_of_all self.old.scopes.items) (columns_of own.entry) join.now)) }
+        ensures sides { OnOk result (map sides_found self.new.sides.items ≡ map sides_found self.old.sides.items ++ option_to_list (option_map placed_sides (sides_meant (columns_of_all self.old.scopes.items) (columns_of own.entry) join.now))) }
     {
-        let Some(sides) = self.sides(&own, join) else {
-            return Err(Refusal::NoSuchColumn);
-        };
-        self.sides.push(sides).map_err(NoMemory::from)?;
+        let sides = self.sides(&own, join);
         if !self.has(own.name) {
-            self.scopes.push(own).map_err(NoMemory::from)?;
+            self.scopes.push(own)?;
         }
-        Ok(())
+        let Some(sides) = sides else {
+            return Ok(false);
+        };
+        self.sides.push(sides)?;
+        Ok(true)
     }
 }

@@ -162,11 +162,7 @@ impl Catalog {
         ensures meant { IfOk result (λ r. resolved_of [] (database_of self.now) (command.Select distinct items table joins conditions) ≡ Ok r) }
         ensures refused { IfErr result (λ e. e ≢ refusal.NoMemory → resolved_of [] (database_of self.now) (command.Select distinct items table joins conditions) ≡ Err e) }
     {
-        let first = self.scope(&table)?;
-        if self.misses_joined(joins.as_slice()) {
-            return Err(Refusal::NoSuchTable);
-        }
-        let scope = self.joined_scope(first, joins.as_slice())?;
+        let scope = self.joined_scope(&table, joins.as_slice())?;
         let shown = scope.shown(items)?;
         let count = conditions.len();
         let tested = self.sources(&scope.scopes, conditions)?;
