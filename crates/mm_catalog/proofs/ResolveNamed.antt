@@ -1,6 +1,6 @@
 -- The columns that conditions, settings and items name, and what is asked of them.
 use Rattle.std.proofs.Common.{◌≡◌, ℕ, ◌<◌, ◌≤◌, Bool, true, false, List, [], ◌∷◌, ◌++◌, length, map, get_or, Option, Some, None, is_some, refl, sym, ap, ◌∙◌}
-use Rattle.std.specs.Prelude.{not, ◌||◌, ◌&&◌, ◌==◌}
+use Rattle.std.specs.Prelude.{not, ◌||◌, ◌==◌}
 use Rattle.std.specs.List.{list_any, filter_map, cons_option}
 use Rattle.std.specs.Option.{option_map, option_map_or}
 use Rattle.std.proofs.lemmas.List.{map-append}
@@ -8,12 +8,11 @@ use Rattle.std.proofs.lemmas.List.Elements.{filter_map-append}
 use Rattle.std.proofs.lemmas.List.Folds.{list_any-append, list_any_at}
 use Rattle.common_lemmas.proofs.Options.{is_some-option_map, option_map_some}
 use Rattle.common_lemmas.proofs.Tests.{list_any-map}
-use Rattle.plain_tables.specs.Values.{is_null}
 use Rattle.plain_tables.specs.Databases.{Database}
 use Rattle.plain_tables.specs.References.{is_typed}
 use Rattle.plain_tables.specs.Queries.{JoinedColumn, fits_one, place_meant, column_meant, places_meant, named_items}
 use Rattle.plain_tables.specs.Effects.{misses, condition_names, setting_name, is_long}
-use Rattle.plain_tables.specs.Resolving.{tests_of, assignments_of, shown_of, mistypes, is_mistyped, asks_order}
+use Rattle.plain_tables.specs.Resolving.{tests_of, assignments_of, shown_of, mistypes}
 use Rattle.plain_tables.specs.declared.value.Value.{Value}
 use Rattle.plain_tables.specs.declared.schema.Column.{Column}
 use Rattle.plain_tables.specs.declared.condition.Cond.{Cond}
@@ -25,8 +24,8 @@ use Rattle.plain_tables.specs.declared.numbers.Place.{Place}
 use Rattle.plain_tables.specs.declared.resolved.Assignment.{Assignment}
 use Rattle.mm_catalog.specs.declared.bind.scope.NamedColumn.{NamedColumn}
 use Rattle.mm_catalog.specs.Resolve.{as_found, assignment_at, placed, shown_places, test_at}
-use Rattle.mm_catalog.proofs.ResolveLists.{list_any-same, option_map-None, leaves_out, left_out, none_left_out, length-made, any_made}
-use Rattle.mm_catalog.proofs.ResolveColumns.{fits_one-is, place_found}
+use Rattle.mm_catalog.proofs.ResolveLists.{list_any-same, leaves_out, left_out, none_left_out, length-made, any_made}
+use Rattle.mm_catalog.proofs.ResolveColumns.{fits_one-is}
 
 -- ---- one name more
 
@@ -34,79 +33,41 @@ option_map_or-map : {X Y : Type 0} (g : Y → Bool) (f : X → Y) (o : Option X)
 option_map_or-map g f None = refl
 option_map_or-map g f (Some x) = refl
 
-module _ (columns : List JoinedColumn) (name : ColName) where
-  pub name_missed : option_map placed (column_meant columns name) ≡ None → fits_one columns name ≡ false
-  name_missed none =
-      sym (fits_one-is columns name)
-      ∙ ap is_some (ap (option_map (λ (j : JoinedColumn). j.place)) (option_map-None placed (column_meant columns name) none))
-
-  module _ (found : NamedColumn) (is : Some (as_found found) ≡ option_map placed (column_meant columns name)) where
-    pub place_is : place_meant columns name ≡ Some found.place
-    place_is = sym (place_found columns name (Some found) is)
-
-    name_fits : fits_one columns name ≡ true
-    name_fits = sym (fits_one-is columns name) ∙ ap is_some place_is
-
-    pub mistypes_found : (tables : Database) (v : Value) → mistypes tables columns name v ≡ not (is_typed tables v found.column.now.kind)
-    mistypes_found tables v =
-        option_map_or-map (λ (p : Place × Column). not (is_typed tables v p.1.kind)) placed (column_meant columns name)
-        ∙ ap (λ o. option_map_or (λ (p : Place × Column). not (is_typed tables v p.1.kind)) o false) (sym is)
+pub mistypes_found : (tables : Database) (columns : List JoinedColumn) (name : ColName) (v : Value) (found : NamedColumn)
+    → option_map as_found (Some found) ≡ option_map placed (column_meant columns name) → mistypes tables columns name v ≡ not (is_typed tables v found.column.now.kind)
+mistypes_found tables columns name v found is =
+    let wrong : Place × Column → Bool = λ p. not (is_typed tables v p.1.kind) in
+    option_map_or-map wrong placed (column_meant columns name) ∙ ap (λ o. option_map_or wrong o false) (sym is)
 
 module _ {X : Type 0} (columns : List JoinedColumn) (name : X → ColName) where
   -- a name that means no column is missed among all
-  pub missed_at : (xs : List X) (i : ℕ) (x : X) → i < length xs → x ≡ get_or xs i x → option_map placed (column_meant columns (name x)) ≡ None → misses columns (map name xs) ≡ true
+  pub missed_at : (xs : List X) (i : ℕ) (x : X) → i < length xs → x ≡ get_or xs i x → place_meant columns (name x) ≡ None → misses columns (map name xs) ≡ true
   missed_at xs i x within at none =
-      let here : not (fits_one columns (name (get_or xs i x))) ≡ true = ap (λ y. not (fits_one columns (name y))) (sym at) ∙ ap not (name_missed columns (name x) none) in
-      list_any-map (λ n. not (fits_one columns n)) name xs ∙ list_any_at (λ y. not (fits_one columns (name y))) xs i x within here
+      let fits : X → Bool = λ y. fits_one columns (name y) in
+      let here : not (fits (get_or xs i x)) ≡ true = ap (λ y. not (fits y)) (sym at) ∙ ap not (sym (fits_one-is columns (name x)) ∙ ap is_some none) in
+      list_any-map (λ n. not (fits_one columns n)) name xs ∙ list_any_at (λ y. not (fits y)) xs i x within here
 
-  module _ (given : List X) (x : X) (found : NamedColumn) (is : Some (as_found found) ≡ option_map placed (column_meant columns (name x))) where
+  module _ (given : List X) (x : X) (place : Place) (is : place_meant columns (name x) ≡ Some place) where
     pub named_more : misses columns (map name given) ≡ false → misses columns (map name (given ++ x ∷ [])) ≡ false
     named_more h =
         ap (misses columns) (map-append name given (x ∷ []))
         ∙ list_any-append (λ n. not (fits_one columns n)) (map name given) (name x ∷ [])
         ∙ ap (λ b. b || (not (fits_one columns (name x)) || false)) h
-        ∙ ap (λ b. not b || false) (name_fits columns (name x) found is)
+        ∙ ap (λ b. not b || false) (sym (fits_one-is columns (name x)) ∙ ap is_some is)
 
     pub made_more : {Y : Type 0} → (make : X → Place → Y) → filter_map (λ y. option_map (make y) (place_meant columns (name y))) (given ++ x ∷ [])
-        ≡ filter_map (λ y. option_map (make y) (place_meant columns (name y))) given ++ make x found.place ∷ []
+        ≡ filter_map (λ y. option_map (make y) (place_meant columns (name y))) given ++ make x place ∷ []
     made_more {Y = Y} make =
         let made : X → Option Y = λ y. option_map (make y) (place_meant columns (name y)) in
-        filter_map-append made given (x ∷ [])
-        ∙ ap (λ o. filter_map made given ++ cons_option (option_map (make x) o) []) (place_is columns (name x) found is)
+        filter_map-append made given (x ∷ []) ∙ ap (λ o. filter_map made given ++ cons_option (option_map (make x) o) []) is
 
 -- one element more passes or not
-pub any_more : {X : Type 0} (p : X → Bool) (xs : List X) (x : X) (b : Bool) → p x ≡ b → list_any p (xs ++ x ∷ []) ≡ (list_any p xs || b)
-any_more p xs x b h = list_any-append p xs (x ∷ []) ∙ ap (λ c. list_any p xs || (c || false)) h ∙ ap (λ c. list_any p xs || c) (or_none b)
+pub any_more : {X : Type 0} (p : X → Bool) (xs : List X) (x : X) (b : Bool) → b ≡ p x → list_any p (xs ++ x ∷ []) ≡ (list_any p xs || b)
+any_more p xs x b h = list_any-append p xs (x ∷ []) ∙ ap (λ c. list_any p xs || (c || false)) (sym h) ∙ ap (λ c. list_any p xs || c) (or_none b)
   where
     or_none : (c : Bool) → (c || false) ≡ c
     or_none true = refl
     or_none false = refl
-
-module _ (tables : Database) (columns : List JoinedColumn) (given : List Cond) (c : Cond) (found : NamedColumn)
-    (is : Some (as_found found) ≡ option_map placed (column_meant columns c.column)) where
-  pub tests_more : tests_of columns (given ++ c ∷ []) ≡ tests_of columns given ++ test_at c found.place ∷ []
-  tests_more = made_more columns (λ (d : Cond). d.column) given c found is test_at
-
-  pub conditions_more : misses columns (condition_names given) ≡ false → misses columns (condition_names (given ++ c ∷ [])) ≡ false
-  conditions_more h = named_more columns (λ (d : Cond). d.column) given c found is h
-
-  pub mistyped_more : (b : Bool) → (not (is_typed tables c.value found.column.now.kind) || (is_null c.value && asks_order c.op)) ≡ b
-      → list_any (is_mistyped tables columns) (given ++ c ∷ []) ≡ (list_any (is_mistyped tables columns) given || b)
-  mistyped_more b h =
-      any_more (is_mistyped tables columns) given c b (ap (λ x. x || (is_null c.value && asks_order c.op)) (mistypes_found columns c.column found is tables c.value) ∙ h)
-
-module _ (tables : Database) (columns : List JoinedColumn) (given : List Setting) (s : Setting) (found : NamedColumn)
-    (is : Some (as_found found) ≡ option_map placed (column_meant columns (setting_name s))) where
-  pub assignments_more : assignments_of columns (given ++ s ∷ []) ≡ assignments_of columns given ++ assignment_at s found.place ∷ []
-  assignments_more = made_more columns setting_name given s found is assignment_at
-
-  pub settings_more : misses columns (map setting_name given) ≡ false → misses columns (map setting_name (given ++ s ∷ [])) ≡ false
-  settings_more h = named_more columns setting_name given s found is h
-
-  pub mistypes_more : (b : Bool) → not (is_typed tables s.value found.column.now.kind) ≡ b
-      → list_any (λ t. mistypes tables columns (setting_name t) t.value) (given ++ s ∷ []) ≡ (list_any (λ t. mistypes tables columns (setting_name t) t.value) given || b)
-  mistypes_more b h =
-      any_more (λ (t : Setting). mistypes tables columns (setting_name t) t.value) given s b (mistypes_found columns (setting_name s) found is tables s.value ∙ h)
 
 -- ---- what all names mean
 

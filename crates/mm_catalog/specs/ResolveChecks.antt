@@ -1,16 +1,13 @@
 -- The checks of a command whose names are resolved.
-use Rattle.std.specs.Prelude.{List, [], ◌∷◌, Bool, not, ◌||◌, ◌&&◌, ◌==◌, nat_lt, length, Result, Ok, Err, if◌then◌else◌}
+use Rattle.std.specs.Prelude.{List, [], ◌∷◌, Bool, not, ◌||◌, ◌==◌, nat_lt, length, Result, Ok, Err, if◌then◌else◌}
 use Rattle.std.specs.List.{list_any}
-use Rattle.plain_tables.specs.Values.{is_null}
 use Rattle.plain_tables.specs.Databases.{Database}
 use Rattle.plain_tables.specs.Tables.{Row}
-use Rattle.plain_tables.specs.References.{is_typed}
-use Rattle.plain_tables.specs.Resolving.{asks_order, has_mistyped}
+use Rattle.plain_tables.specs.Resolving.{has_mistyped}
 use Rattle.plain_tables.specs.Effects.{Check, is_long}
 use Rattle.plain_tables.specs.declared.refusal.Refusal.{Refusal}
 use Rattle.plain_tables.specs.declared.refusal.Refusal.TheVariants.{ColumnNamedTwice, TooMany, WrongType, KeyCannotBeSet, TextTooLong, WrongNumberOfValues}
 use Rattle.plain_tables.specs.declared.schema.Column.{Column}
-use Rattle.plain_tables.specs.declared.condition.Cond.{Cond}
 use Rattle.plain_tables.specs.declared.resolved.Assignment.{Assignment}
 use Rattle.plain_tables.specs.declared.resolved.Test.{Test}
 use Rattle.mm_catalog.specs.declared.bind.placed.Placed.{Placed}
@@ -19,10 +16,6 @@ use Rattle.mm_catalog.specs.declared.bind.placed.Placed.{Placed}
 abbrev pub verdict : List Check → Result (Unit {0}) Refusal
 verdict [] = Ok tt
 verdict (check ∷ checks) = if check.refuses then Err check.refusal else verdict checks
-
--- whether a condition on a column has a value that is none for it, or asks how a null is ordered
-abbrev pub is_mistyped_on : Database → Cond → Column → Bool
-is_mistyped_on tables c column = not (is_typed tables c.value column.kind) || (is_null c.value && asks_order c.op)
 
 -- the checks of a row for a table of these columns
 abbrev pub row_checks : Database → List Column → Row → List Check

@@ -1,22 +1,31 @@
 //! The conditions and settings of a command by the places of the columns that they name. Each name is sought once.
-ghost use Rattle.std.specs.Prelude.{◌≡◌, ◌≢◌, ◌<◌, false, true, map, IfOk, IfErr, length};
+ghost use Rattle.std.specs.Prelude.{◌≡◌, ◌≢◌, ◌<◌, false, true, map, None, Some, IfOk, IfErr, length};
 ghost use Rattle.std.specs.List.{list_any};
 ghost use Rattle.plain_tables.specs.declared.refusal.Refusal.TheVariants as refusal;
 ghost use Rattle.plain_tables.specs.Resolving.{tests_of, assignments_of, mistypes, is_mistyped};
 ghost use Rattle.plain_tables.specs.Effects.{misses, condition_names, setting_name};
-ghost use Rattle.mm_catalog.specs.Resolve.{columns_of_all, test_at, assignment_at};
+ghost use Rattle.plain_tables.specs.Queries.{place_meant};
+ghost use Rattle.mm_catalog.specs.Resolve.{columns_of_all, written, test_at, assignment_at};
 ghost use Rattle.mm_catalog.specs.Seen.{database_of};
 
 use crate::bind::names::column;
 use crate::bind::scope::{Name, Scope};
+use crate::bind::types::orders_null;
 use crate::catalog::Catalog;
 use no_memory::NoMemory;
-use plain_tables::{Assignment, Cond, Place, Refusal, Sequence, Setting, Test};
+use plain_tables::{Assignment, Cond, Place, Refusal, Sequence, Setting, Test, Value};
 
 /// What conditions or settings are by the places of their columns, and whether a value in them is none for its column.
 #[derive(Drop)]
 pub struct Placed<T> {
     pub items: Sequence<T>,
+    pub mistyped: bool,
+}
+
+/// Where a column stands that was named, and whether the value for it is none for it.
+#[derive(Clone, Copy)]
+pub struct PlacedValue {
+    pub place: Place,
     pub mistyped: bool,
 }
 
@@ -43,6 +52,48 @@ fn assignment(setting: Setting, place: Place) -> Assignment
 }
 
 impl Catalog {
+    // Where the column stands that a name means, and whether a value is none for it.
+    fn place_value(
+        &self,
+        scopes: &[Scope<'_>],
+        name: Name<'_>,
+        value: &Value,
+    ) -> Result<PlacedValue, Refusal>
+        ensures place { IfOk result (λ at. place_meant (columns_of_all scopes.now) (written name.entry) ≡ Some at.place) }
+        ensures within { IfOk result (λ at. at.place.source < length scopes.now) }
+        ensures types { IfOk result (λ at. at.mistyped ≡ mistypes (database_of self.now) (columns_of_all scopes.now) (written name.entry) value.now) }
+        ensures refused { IfErr result (λ e. e ≡ refusal.NoSuchColumn) }
+        ensures missed { IfErr result (λ _. place_meant (columns_of_all scopes.now) (written name.entry) ≡ None) }
+    {
+        let Some(named) = column(scopes, name) else {
+            return Err(Refusal::NoSuchColumn);
+        };
+        Ok(PlacedValue {
+            place: named.place,
+            mistyped: self.mistypes(value, named.column),
+        })
+    }
+
+    /// Where the column of a condition stands, and whether the condition has a value that is none for it, or asks how a null
+    /// is ordered.
+    pub(crate) fn place_condition(
+        &self,
+        scopes: &[Scope<'_>],
+        condition: &Cond,
+    ) -> Result<PlacedValue, Refusal>
+        ensures place { IfOk result (λ at. place_meant (columns_of_all scopes.now) condition.now.column ≡ Some at.place) }
+        ensures within { IfOk result (λ at. at.place.source < length scopes.now) }
+        ensures types { IfOk result (λ at. at.mistyped ≡ is_mistyped (database_of self.now) (columns_of_all scopes.now) condition.now) }
+        ensures refused { IfErr result (λ e. e ≡ refusal.NoSuchColumn) }
+        ensures missed { IfErr result (λ _. place_meant (columns_of_all scopes.now) condition.now.column ≡ None) }
+    {
+        let at = self.place_value(scopes, Name::of(&condition.column), &condition.value)?;
+        Ok(PlacedValue {
+            place: at.place,
+            mistyped: at.mistyped || orders_null(condition),
+        })
+    }
+
     /// The conditions on the tables of these scopes as tests, in their order.
     pub(crate) fn tests(
         &self,
@@ -61,13 +112,10 @@ impl Catalog {
         )?;
         let mut mistyped = false;
         for condition in conditions {
-            let Some(named) = column(scopes, Name::of(&condition.column)) else {
-                return Err(Refusal::NoSuchColumn);
-            };
-            let wrong = self.is_mistyped(&condition, named.column);
-            mistyped = mistyped || wrong;
+            let at = self.place_condition(scopes, &condition)?;
+            mistyped |= at.mistyped;
             tests
-                .push(test(condition, named.place))
+                .push(test(condition, at.place))
                 .map_err(NoMemory::from)?;
         }
         Ok(Placed {
@@ -94,13 +142,10 @@ impl Catalog {
         )?;
         let mut mistyped = false;
         for setting in settings {
-            let Some(named) = column(scopes, Name::bare(&setting.column)) else {
-                return Err(Refusal::NoSuchColumn);
-            };
-            let wrong = self.mistypes(&setting.value, named.column);
-            mistyped = mistyped || wrong;
+            let at = self.place_value(scopes, Name::bare(&setting.column), &setting.value)?;
+            mistyped |= at.mistyped;
             assignments
-                .push(assignment(setting, named.place))
+                .push(assignment(setting, at.place))
                 .map_err(NoMemory::from)?;
         }
         Ok(Placed {

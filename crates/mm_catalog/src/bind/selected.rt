@@ -64,13 +64,10 @@ impl Catalog {
         let mut sources = untested_sources(self.allocator(), scopes)?;
         let mut mistyped = false;
         for condition in conditions.into_vec() {
-            let Some(named) = column(scopes, Name::of(&condition.column)) else {
-                return Err(Refusal::NoSuchColumn);
-            };
-            let source = named.place.source;
-            let wrong = self.is_mistyped(&condition, named.column);
-            mistyped = mistyped || wrong;
-            add_test(sources.as_mut_slice(), source, test(condition, named.place))?;
+            let at = self.place_condition(scopes, &condition)?;
+            mistyped |= at.mistyped;
+            let source = at.place.source;
+            add_test(sources.as_mut_slice(), source, test(condition, at.place))?;
         }
         Ok(Placed {
             items: Sequence::from_vec(sources),

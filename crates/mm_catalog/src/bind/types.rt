@@ -1,5 +1,5 @@
 //! The types of columns and values.
-ghost use Rattle.std.specs.Prelude.{◌≡◌, not};
+ghost use Rattle.std.specs.Prelude.{◌≡◌, ◌&&◌, not};
 ghost use Rattle.std.specs.List.{list_any};
 ghost use Rattle.std.specs.Option.{option_and_then};
 ghost use Rattle.plain_tables.specs.Databases.{table_named};
@@ -7,7 +7,6 @@ ghost use Rattle.plain_tables.specs.Values as values;
 ghost use Rattle.plain_tables.specs.Resolving as resolving;
 ghost use Rattle.plain_tables.specs.References as plain;
 ghost use Rattle.mm_catalog.specs.Seen.{database_of};
-ghost use Rattle.mm_catalog.specs.ResolveChecks.{is_mistyped_on};
 ghost use Rattle.mm_catalog.specs.Select.{sides_differ};
 
 use crate::bind::joined_scope::Sides;
@@ -65,6 +64,13 @@ fn asks_order(op: Op) -> bool
         Op::Eq | Op::Ne => false,
         Op::Lt | Op::Le | Op::Gt | Op::Ge => true,
     }
+}
+
+/// Whether a condition asks how a null is ordered.
+pub fn orders_null(condition: &Cond) -> bool
+    ensures { result ≡ (values.is_null condition.now.value && resolving.asks_order condition.now.op) }
+{
+    is_null(&condition.value) && asks_order(condition.op)
 }
 
 impl Catalog {
@@ -126,14 +132,6 @@ impl Catalog {
         ensures { result ≡ not (plain.is_typed (database_of self.now) value.now column.now.kind) }
     {
         !self.is_typed(value, &column.kind)
-    }
-
-    /// Whether a condition on a column has a value that is none for it, or asks how a null is ordered.
-    pub(crate) fn is_mistyped(&self, condition: &Cond, column: &Column) -> bool
-        ensures { result ≡ is_mistyped_on (database_of self.now) condition.now column.now }
-    {
-        self.mistypes(&condition.value, column)
-            || (is_null(&condition.value) && asks_order(condition.op))
     }
 
     // Whether the two columns of a join are of different types.

@@ -1,24 +1,23 @@
-use Rattle.std.proofs.Common.{◌≡◌, ◌∙◌, Some, None, length, refl, set, sym, ap, arith, List, drop, slice_get, zero-add}
-use Rattle.std.specs.Prelude.{◌||◌}
+use Rattle.std.proofs.Common.{rules, ◌≡◌, ◌∙◌, length, refl, set, sym, ap, arith, List, drop, slice_get, zero-add}
+use Rattle.std.specs.Prelude.{Err, ◌||◌}
 use Rattle.std.specs.List.{enumerate_from}
-use Rattle.std.specs.Option.{option_map}
 use Rattle.std.proofs.lemmas.List.{length-map}
 use Rattle.std.proofs.lemmas.List.FromFn.{length-enumerate_from}
 use Rattle.std.proofs.lemmas.Iterator.Adapters.{YieldsList-from_vec}
 use Rattle.std.proofs.lemmas.Iterator.Consumers.{YieldsList-turn}
 use Rattle.common_lemmas.proofs.Places.{slice_get-inside}
 use Rattle.plain_tables.specs.Effects.{misses, condition_names}
-use Rattle.plain_tables.specs.Queries.{column_meant}
+use Rattle.plain_tables.specs.Resolving.{is_mistyped}
+use Rattle.plain_tables.specs.declared.condition.ColName.{ColName}
 use Rattle.plain_tables.specs.declared.condition.Cond.{Cond}
 use Rattle.plain_tables.specs.declared.resolved.Source.{Source}
-use Rattle.mm_catalog.specs.Resolve.{columns_of_all, placed, as_found, test_at}
+use Rattle.mm_catalog.specs.Resolve.{columns_of_all, test_at}
 use Rattle.mm_catalog.specs.Seen.{database_of}
 use Rattle.mm_catalog.specs.Select.{source_on, with_test}
 use Rattle.mm_catalog.proofs.Lists.{whole}
-use Rattle.mm_catalog.proofs.ResolveNamed.{missed_at, place_is, conditions_more, mistyped_more}
+use Rattle.mm_catalog.proofs.ResolveNamed.{missed_at, named_more, any_more}
 use Rattle.mm_catalog.proofs.ResolveSources.{sources_more, untested_are}
 use Rattle.mm_catalog.proofs.catalog.Catalog.sources.Goals as goal
-use Rattle.mm_catalog.proofs.catalog.Catalog.sources.Goals.{then-mistyped, else-mistyped}
 
 pub loop-condition-init : goal.loop-condition-init
 loop-condition-init c = record {
@@ -29,17 +28,16 @@ loop-condition-init c = record {
   named = refl;
 }
 
-pub returns-in_default-clause-missed : goal.returns-in_default-clause-missed
-returns-in_default-clause-missed c =
+pub returns-in_err-at-clause-missed : goal.returns-in_err-at-clause-missed
+returns-in_err-at-clause-missed c =
+    let is : c.from_residual-in_err-at.result ≡ Err c.in_err-at.field-0.0 = search rules in
     let columns = columns_of_all c.args.scopes.now in
     let gives = c.into_iter-condition-iterator.ensures.into_iter_gives in
     let conditions = c.into_vec-condition-items.result in
     let turn = YieldsList-turn (YieldsList-from_vec conditions.items gives.0 (omega (arith, gives.1, conditions.ok.0))) c.loop-condition.yielded c.loop-condition.condition-iterator c.loop-condition.yielded_by c.next.result c.next.new.self c.in-Some.condition c.in-Some.is c.next.ensures.steps in
-    let none : option_map placed (column_meant columns c.in-Some.condition.column) ≡ None =
-    ap (λ name. option_map placed (column_meant columns name)) (sym c.of.ensures) ∙ sym c.column.ensures.meant ∙ ap (option_map as_found) c.in_default.is in
-    λ other.
+    rw is (λ other.
     ap (λ (cs : List Cond). misses columns (condition_names cs)) (sym c.into_vec-condition-items.ensures)
-    ∙ missed_at columns (λ (d : Cond). d.column) conditions.items (length c.loop-condition.yielded) c.in-Some.condition turn.0 turn.1 none
+    ∙ missed_at columns (λ (d : Cond). d.column) conditions.items (length c.loop-condition.yielded) c.in-Some.condition turn.0 turn.1 c.in_err-at.ensures.missed)
 
 pub add_test-requires : goal.add_test-requires
 add_test-requires c =
@@ -48,28 +46,21 @@ add_test-requires c =
     ap length (c.as_mut_slice.ensures.value ∙ c.loop-condition.invariant.sources)
     ∙ length-map (enumerate_from 0 scopes) (source_on (columns_of_all scopes) c.loop-condition.yielded)
     ∙ length-enumerate_from 0 scopes in
-    omega (arith, c.in-Some-column.ensures.within, many)
+    omega (arith, c.in_ok-at.ensures.within, many)
 
 pub loop-condition-preserved : goal.loop-condition-preserved
 loop-condition-preserved c =
-    let tables = database_of c.args.self.now in
     let scopes = c.args.scopes.now in
     let columns = columns_of_all scopes in
     let given = c.loop-condition.yielded in
     let condition : Cond = c.in-Some.condition in
-    let found = c.in-Some-column.named in
-    let place = found.place in
+    let at = c.in_ok-at.at in
+    let place = at.place in
     let before = c.loop-condition.sources in
-    let is : Some (as_found found) ≡ option_map placed (column_meant columns condition.column) =
-    ap (option_map as_found) (sym c.in-Some-column.is) ∙ c.column.ensures.meant ∙ ap (λ name. option_map placed (column_meant columns name)) c.of.ensures in
-    let wrong = c.is_mistyped-wrong.result in
-    let either : c.if-mistyped.mistyped ≡ (c.loop-condition.mistyped || wrong) = elim c.if-mistyped.branch [
-      | then-mistyped w ↦ w.mistyped-is ∙ w.if-mistyped.true ∙ sym (ap (λ m. m || wrong) w.if-mistyped.true)
-      | else-mistyped w ↦ w.mistyped-is ∙ sym (ap (λ m. m || wrong) w.if-mistyped.false)
-    ] in
+    let column : Cond → ColName = λ d. d.column in
     let many : length before.items ≡ length scopes =
     ap length c.loop-condition.invariant.sources ∙ length-map (enumerate_from 0 scopes) (source_on columns given) ∙ length-enumerate_from 0 scopes in
-    let there = slice_get-inside before.items place.source (omega (arith, c.in-Some-column.ensures.within, many)) in
+    let there = slice_get-inside before.items place.source (omega (arith, c.in_ok-at.ensures.within, many)) in
     let set_so : c.add_test.new.sources ≡ set before.items place.source (with_test there.0 (test_at condition place)) =
     c.in_ok-add_test.ensures there.0 (ap (λ (ss : List Source). slice_get ss place.source) c.as_mut_slice.ensures.value ∙ there.1)
     ∙ ap (λ (ss : List Source). set ss place.source (with_test there.0 c.test.result)) c.as_mut_slice.ensures.value
@@ -82,8 +73,10 @@ loop-condition-preserved c =
       sources =
           all ∙ set_so
           ∙ ap (λ (ss : List Source). set ss place.source (with_test there.0 (test_at condition place))) c.loop-condition.invariant.sources
-          ∙ sym (sources_more columns given condition place (place_is columns condition.column found is) 0 place.source scopes there.0 (sym (zero-add place.source))
+          ∙ sym (sources_more columns given condition place c.in_ok-at.ensures.place 0 place.source scopes there.0 (sym (zero-add place.source))
           (ap (λ (ss : List Source). slice_get ss place.source) (sym c.loop-condition.invariant.sources) ∙ there.1));
-      types = either ∙ ap (λ m. m || wrong) c.loop-condition.invariant.types ∙ sym (mistyped_more tables columns given condition found is wrong (sym c.is_mistyped-wrong.ensures));
-      named = conditions_more tables columns given condition found is c.loop-condition.invariant.named;
+      types =
+          ap (λ m. m || at.mistyped) c.loop-condition.invariant.types
+          ∙ sym (any_more (is_mistyped (database_of c.args.self.now) columns) given condition at.mistyped c.in_ok-at.ensures.types);
+      named = named_more columns column given condition place c.in_ok-at.ensures.place c.loop-condition.invariant.named;
     }
