@@ -11,6 +11,7 @@ pub mod Keeping
 pub mod Referred
 pub mod Dropping
 pub mod Listing
+pub mod Listings
 pub mod Declared
 pub mod Same
 pub mod Searches

@@ -17,7 +17,7 @@ use crate::view::RowView;
 use lin_hash::Chain;
 use mm_index::Probe;
 use no_memory::NoMemory;
-use part_raw::{Partitions, TupleRef};
+use part_raw::{MAX_TUPLES, Partitions, TupleRef};
 use plain_tables::{ColumnNumber, IndexKind, MOST_ROWS, Schema, Sequence, Value};
 use std::alloc::Global;
 use std::marker::Model;
@@ -86,6 +86,22 @@ impl Relation {
         } else {
             None
         }
+    }
+
+    /// Whether a row is under this reference, which may be any.
+    pub fn holds(&self, r: TupleRef) -> bool
+        ensures { result ≡ finite.contains_key self.now.rows r }
+    {
+        self.rows.holds(r)
+    }
+
+    /// The number of slots for rows, free or not. The number of each row's reference is below it. Rows whose numbers are
+    /// neighbours lie side by side, so who needs no order reads them in that of these numbers.
+    pub fn slots(&self) -> u64
+        ensures most { result ≤ MAX_TUPLES }
+        ensures within { (r : TupleRef) → IsSome (finite.get self.now.rows r) → r.number < result }
+    {
+        self.rows.slots()
     }
 
     /// A row, lent without a copy.

@@ -100,6 +100,15 @@ impl<T> Partitions<T> {
         self.blocks.len() as u64 * SLOTS as u64 - self.free
     }
 
+    /// The number of slots, free or not. The number of each reference under which a tuple is held is below it.
+    pub fn slots(&self) -> u64
+        ensures value { result ≡ map.len self.now.tuples + self.now.free }
+        ensures most { result ≤ MAX_TUPLES }
+        ensures within { (r : TupleRef) → IsHeld self.now r → r.number < result }
+    {
+        self.blocks.len() as u64 * SLOTS as u64
+    }
+
     /// Makes sure of one free slot: a store with none gets a partition of `SLOTS` more.
     pub fn reserve(&mut self) -> Result<(), NoMemory>
         requires { self.old.free ≡ 0 → map.len self.old.tuples < MAX_TUPLES }

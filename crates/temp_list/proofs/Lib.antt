@@ -2,6 +2,8 @@ pub mod ReadingLemmas
 pub mod ListLemmas
 pub mod RangeLemmas
 pub mod SearchLemmas
+pub mod KeyLemmas
+pub mod SlotLemmas
 pub mod SortLemmas
 pub mod SelectLemmas
 pub mod OneOrder

@@ -80,7 +80,7 @@ with_hash-map {A} f hash (x ∷ xs) =
     ]
 
 -- what equals a value is that value
-equal_one : (v w : Value) → stands op.Eq v w ≡ true → v ≡ w
+pub equal_one : (v w : Value) → stands op.Eq v w ≡ true → v ≡ w
 equal_one v w e = (value_cmp-exact v w).0 (is_eq-Equal (value_cmp v w) (range_stands op.Eq (λ f. cc) v w ∙ e))
 
 -- ---- the indexes of a relation
@@ -102,7 +102,7 @@ hash_found keys rows refs column (h ∷ hashes) has serve =
       | inr f ↦ rw f (hash_found keys rows refs column hashes (rw f at has) (λ k d l. serve (suc k) d (omega (arith, l))))
     ]
 
-some_read : (o : Option Value) → IsSome o → o ≡ Some (or_null o)
+pub some_read : (o : Option Value) → IsSome o → o ≡ Some (or_null o)
 some_read Option.None h = cc
 some_read (Some v) h = refl
 

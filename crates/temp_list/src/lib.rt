@@ -25,5 +25,5 @@ mod sorting;
 mod standing;
 
 pub use list::TempList;
-pub use selecting::select;
+pub use selecting::{RowOrder, select};
 pub use standing::stands;

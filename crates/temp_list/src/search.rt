@@ -1,9 +1,9 @@
 //! The rows of one relation that a test asks for.
-ghost use Rattle.std.specs.Prelude.{◌≡◌, ◌<◌, IsTrue, IsSome, IfOk, OnOk, OnErr, All, filter, length};
+ghost use Rattle.std.specs.Prelude.{◌≡◌, ◌<◌, IsTrue, IsSome, IfOk, IfSome, OnOk, OnErr, All, filter, length};
 ghost use Rattle.std.specs.FinMap as finite;
 ghost use Rattle.mm_relation.specs.State.{IsCurrent, linked_keys};
 ghost use Rattle.mm_relation.specs.Changes.{HasTree, HasHash};
-ghost use Rattle.mm_index.specs.Bag.{AppendsBag};
+ghost use Rattle.mm_index.specs.Bag.{AppendsBag, IsSameBag};
 ghost use Rattle.plan_chooser.specs.Plans.{is_range};
 ghost use Rattle.plain_tables.specs.declared.condition.Op.TheVariants as operator;
 ghost use Rattle.temp_list.specs.Reading.{standing, between, HasColumns, value_in, row_passes as row_passes_so, passing as passing_so};
@@ -14,7 +14,7 @@ use crate::standing::stands;
 use mm_relation::laws::a_relation_is_kept;
 use mm_relation::{Relation, Relations};
 use no_memory::NoMemory;
-use part_raw::TupleRef;
+use part_raw::{MAX_TUPLES, TupleRef};
 use plain_tables::{ColumnNumber, Op, Test, Value, hash_of};
 use std::alloc::Global;
 
@@ -77,6 +77,44 @@ pub fn passing<R: Relations>(
     Ok(rows)
 }
 
+// The reference with this number.
+fn numbered(number: u64) -> TupleRef
+    requires { number < MAX_TUPLES }
+    ensures { result.number ≡ number }
+{
+    TupleRef {
+        number: number as u32,
+    }
+}
+
+/// The rows that pass the tests, in the order in which they lie in memory, which is by far the fastest for a table that is large.
+/// None where they are more than `most`.
+pub fn passing_in_slots<R: Relations>(
+    alloc: Global,
+    tables: &R,
+    relation: &Relation,
+    tests: &[Test],
+    most: u64,
+) -> Result<Option<Vec<TupleRef>>, NoMemory>
+    requires current { IsCurrent (linked_keys relation.now.targets (R.tables tables.now)) relation.now }
+    requires columns { HasColumns relation.now tests.now }
+    ensures { IfOk result (λ found. IfSome found (λ rows. IsSameBag rows.items (passing_so (R.tables tables.now) relation.now tests.now))) }
+{
+    a_relation_is_kept(relation);
+    let mut rows = Vec::new(alloc);
+    for number in 0..relation.slots() {
+        let r = numbered(number);
+        if !relation.holds(r) || !passes_all(tables, relation, r, tests) {
+            continue;
+        }
+        if rows.len() as u64 >= most {
+            return Ok(None);
+        }
+        rows.push(r)?;
+    }
+    Ok(Some(rows))
+}
+
 /// Keeps those of the rows that pass the tests, in their order.
 pub fn keep_passing<R: Relations>(
     tables: &R,
@@ -100,6 +138,23 @@ pub fn keep_passing<R: Relations>(
     rows.truncate(kept);
 }
 
+/// Appends the row that has this key, where there is one. At an error nothing is appended.
+pub fn row_by_key<R: Relations>(
+    tables: &R,
+    relation: &Relation,
+    key: &Value,
+    out: &mut Vec<TupleRef>,
+) -> Result<(), NoMemory>
+    ensures ok { OnOk result (AppendsBag out.old.items out.new.items (standing (R.tables tables.now) relation.now 0 operator.Eq key.now)) }
+    ensures err { OnErr result (out.new.items ≡ out.old.items) }
+{
+    a_relation_is_kept(relation);
+    if let Some(r) = relation.find_key(key) {
+        out.push(r)?;
+    }
+    Ok(())
+}
+
 /// Appends the rows whose value in a column with a tree stands so to this value, each once. At an error nothing is appended.
 pub fn rows_by_tree<R: Relations>(
     tables: &R,
@@ -117,6 +172,9 @@ pub fn rows_by_tree<R: Relations>(
     ensures err { OnErr result (out.new.items ≡ out.old.items) }
 {
     a_relation_is_kept(relation);
+    if let (0, Op::Eq) = (column.0, op) {
+        return row_by_key(tables, relation, value, out);
+    }
     let mut probe = RangeProbe {
         tables,
         relation,

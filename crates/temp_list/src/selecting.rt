@@ -5,14 +5,35 @@ ghost use Rattle.plan_chooser.specs.declared.plans.SelectPlan.TheVariants as pla
 ghost use Rattle.temp_list.specs.Reading.{AreSound, OfRelation, HasColumns};
 ghost use Rattle.temp_list.specs.Selecting.{AreSelected};
 
-use crate::search::{keep_passing, passing, rows_between, rows_by_hash};
-use mm_relation::Relations;
+use crate::search::{
+    keep_passing, passing, passing_in_slots, rows_between, rows_by_hash, rows_by_tree,
+};
 use mm_relation::laws::a_relation_is_kept;
+use mm_relation::{Relation, Relations};
 use no_memory::NoMemory;
 use part_raw::TupleRef;
-use plain_tables::{TableNumber, Test};
+use plain_tables::{Op, TableNumber, Test};
 use plan_chooser::SelectPlan;
 use std::alloc::Global;
+
+/// What the order of the rows is worth that a look at each row finds.
+#[derive(Clone, Copy, Debug, PartialEq, Eq)]
+pub enum RowOrder {
+    /// They are wanted in the order of their keys.
+    ByKeys,
+    /// Any order is as good.
+    Any,
+}
+
+// How many rows a look at each in the order of the slots may find, so that to put these into the order wanted costs less than to
+// walk the tree of the key. With no test all are found, so the tree is walked at once.
+fn most_in_slots(relation: &Relation, tests: &[Test], order: RowOrder) -> u64 {
+    match order {
+        RowOrder::Any => relation.len(),
+        RowOrder::ByKeys if tests.is_empty() => 0,
+        RowOrder::ByKeys => relation.len() / 16,
+    }
+}
 
 // By a look at each row.
 fn select_by_scan<R: Relations>(
@@ -20,13 +41,19 @@ fn select_by_scan<R: Relations>(
     tables: &R,
     table: TableNumber,
     tests: &[Test],
+    order: RowOrder,
 ) -> Result<Vec<TupleRef>, NoMemory>
     requires sound { AreSound (R.tables tables.now) }
     requires there { table.0 < length (R.tables tables.now) }
     requires columns { OfRelation (R.tables tables.now) table.0 (λ s. HasColumns s tests.now) }
     ensures { IfOk result (λ rows. OfRelation (R.tables tables.now) table.0 (λ s. AreSelected (R.tables tables.now) s tests.now rows.items)) }
 {
-    passing(alloc, tables, tables.at(table), tests)
+    let relation = tables.at(table);
+    let most = most_in_slots(relation, tests, order);
+    match passing_in_slots(alloc, tables, relation, tests, most)? {
+        Some(rows) => Ok(rows),
+        None => passing(alloc, tables, relation, tests),
+    }
 }
 
 // By the hash on the column of a test.
@@ -52,8 +79,38 @@ fn select_by_hash<R: Relations>(
     Ok(found)
 }
 
+// By the tree on the column of a test: the rows that pass this test.
+fn select_by_one_test<R: Relations>(
+    alloc: Global,
+    tables: &R,
+    table: TableNumber,
+    tests: &[Test],
+    n: usize,
+) -> Result<Vec<TupleRef>, NoMemory>
+    requires sound { AreSound (R.tables tables.now) }
+    requires there { table.0 < length (R.tables tables.now) }
+    requires columns { OfRelation (R.tables tables.now) table.0 (λ s. HasColumns s tests.now) }
+    requires fits { OfRelation (R.tables tables.now) table.0 (λ s. Fits s tests.now (plans.Tree n)) }
+    ensures { IfOk result (λ rows. OfRelation (R.tables tables.now) table.0 (λ s. AreSelected (R.tables tables.now) s tests.now rows.items)) }
+{
+    let relation = tables.at(table);
+    a_relation_is_kept(relation);
+    let test = &tests[n];
+    let mut found = Vec::new(alloc);
+    rows_by_tree(
+        tables,
+        relation,
+        test.column,
+        test.op,
+        &test.value,
+        &mut found,
+    )?;
+    keep_passing(tables, relation, tests, &mut found);
+    Ok(found)
+}
+
 // By the tree on the column of a test: the rows between all bounds on that column.
-fn select_by_tree<R: Relations>(
+fn select_between<R: Relations>(
     alloc: Global,
     tables: &R,
     table: TableNumber,
@@ -75,13 +132,38 @@ fn select_by_tree<R: Relations>(
     Ok(found)
 }
 
-/// The rows of a table that pass the tests, each once, in any order, found by a plan that fits.
+// By the tree on the column of a test. One that asks for one value is served by one search; others by the bounds of all tests on
+// the column.
+fn select_by_tree<R: Relations>(
+    alloc: Global,
+    tables: &R,
+    table: TableNumber,
+    tests: &[Test],
+    n: usize,
+) -> Result<Vec<TupleRef>, NoMemory>
+    requires sound { AreSound (R.tables tables.now) }
+    requires there { table.0 < length (R.tables tables.now) }
+    requires columns { OfRelation (R.tables tables.now) table.0 (λ s. HasColumns s tests.now) }
+    requires fits { OfRelation (R.tables tables.now) table.0 (λ s. Fits s tests.now (plans.Tree n)) }
+    ensures { IfOk result (λ rows. OfRelation (R.tables tables.now) table.0 (λ s. AreSelected (R.tables tables.now) s tests.now rows.items)) }
+{
+    match tests.get(n) {
+        Some(test) if matches!(test.op, Op::Eq) => {
+            select_by_one_test(alloc, tables, table, tests, n)
+        }
+        _ => select_between(alloc, tables, table, tests, n),
+    }
+}
+
+/// The rows of a table that pass the tests, each once, in any order, found by a plan that fits. The order that is wanted of them
+/// decides how a scan goes, and nothing else.
 pub fn select<R: Relations>(
     alloc: Global,
     tables: &R,
     table: TableNumber,
     plan: SelectPlan,
     tests: &[Test],
+    order: RowOrder,
 ) -> Result<Vec<TupleRef>, NoMemory>
     requires sound { AreSound (R.tables tables.now) }
     requires there { table.0 < length (R.tables tables.now) }
@@ -90,7 +172,7 @@ pub fn select<R: Relations>(
     ensures { IfOk result (λ rows. OfRelation (R.tables tables.now) table.0 (λ s. AreSelected (R.tables tables.now) s tests.now rows.items)) }
 {
     match plan {
-        SelectPlan::Scan => select_by_scan(alloc, tables, table, tests),
+        SelectPlan::Scan => select_by_scan(alloc, tables, table, tests, order),
         SelectPlan::Hash(n) => select_by_hash(alloc, tables, table, tests, n),
         SelectPlan::Tree(n) => select_by_tree(alloc, tables, table, tests, n),
     }

@@ -1,0 +1,9 @@
+use Rattle.std.proofs.Common.{◌≡◌, ◌&&◌, filter, is_some}
+use Rattle.std.specs.FinMap as finite
+use Rattle.temp_list.specs.Reading.{row_passes}
+use Rattle.temp_list.proofs.SlotLemmas.{refs_below}
+use Rattle.temp_list.proofs.search.passing_in_slots.Given as goal
+
+-- those of the slots so far
+abbrev pub invariant-loop-number : goal.invariant-loop-number
+invariant-loop-number g l = l.rows.items ≡ filter (λ r. is_some (finite.get l.relation.rows r) && row_passes (g.R.Relations.tables l.tables) l.relation l.tests r) (refs_below l.number)
