@@ -19,7 +19,7 @@ use no_memory::NoMemory;
 use plain_tables::{Command, Refusal, Resolved, TableNumber, Test, Value};
 use plan_chooser::{Policy, choose_select};
 use std::alloc::Global;
-use temp_list::{RowOrder, select};
+use temp_list::{RowOrder, find_rows};
 
 // The rows of a table that pass the tests, in any order.
 fn rows_passing(
@@ -33,7 +33,7 @@ fn rows_passing(
 {
     a_catalog_is_consistent(catalog);
     let plan = choose_select(Policy::Auto, catalog.at(table), tests);
-    select(alloc, catalog, table, plan, tests, RowOrder::Any)
+    find_rows(alloc, catalog, table, plan, tests, RowOrder::Any)
 }
 
 // The first of these rows that others name.

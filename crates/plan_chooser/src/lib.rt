@@ -14,6 +14,6 @@ mod policy;
 mod selects;
 
 pub use joins::{choose_join, choose_next_join};
-pub use plans::{JoinPlan, NextJoinPlan, SelectPlan, Side};
+pub use plans::{JoinInput, JoinPlan, NextJoinPlan, SelectPlan};
 pub use policy::{POLICY_NAMES, Policy};
 pub use selects::choose_select;

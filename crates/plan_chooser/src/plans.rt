@@ -47,7 +47,7 @@ pub enum NextJoinPlan {
 /// One side of a join: a table, by its number and its rows; the column of it whose values are compared; and what its rows have
 /// to pass.
 #[derive(Clone, Copy)]
-pub struct Side<'a> {
+pub struct JoinInput<'a> {
     pub table: TableNumber,
     pub relation: &'a Relation,
     pub column: ColumnNumber,

@@ -9,7 +9,7 @@ use plain_tables::{ColumnNumber, IndexKind, IndexKind as Kind, Op, TableNumber, 
 use plan_chooser::JoinPlan::{HashJoin, Nested, Precomputed, TreeJoin, TreeMerge};
 use plan_chooser::SelectPlan::{Hash, Scan, Tree};
 use plan_chooser::{
-    JoinPlan, NextJoinPlan, NextJoinPlan as Next, Policy, SelectPlan, Side, choose_join,
+    JoinInput, JoinPlan, NextJoinPlan, NextJoinPlan as Next, Policy, SelectPlan, choose_join,
     choose_next_join, choose_select,
 };
 use std::alloc::Global;
@@ -244,12 +244,17 @@ fn relation(alloc: Global, end: &End, other: TableNumber) -> Result<Relation, Fa
 }
 
 // A side with its relation at hand.
-fn side<'a>(rt: &impl Abort, table: TableNumber, relation: &'a Relation, column: usize) -> Side<'a>
+fn side<'a>(
+    rt: &impl Abort,
+    table: TableNumber,
+    relation: &'a Relation,
+    column: usize,
+) -> JoinInput<'a>
     ensures { result.column.0 < length result.relation.now.targets }
 {
     a_relation_is_kept(relation);
     assert!(rt; column < relation.schema().columns.len());
-    Side {
+    JoinInput {
         table,
         relation,
         column: ColumnNumber(column),

@@ -9,7 +9,7 @@ use Rattle.mm_catalog.specs.State.{CatalogState}
 use Rattle.mm_catalog.specs.Consistent.{IsConsistent}
 use Rattle.mm_catalog.proofs.Declared.{among_at}
 use Rattle.temp_list.specs.Reading.{AreSound, HasColumns}
-use Rattle.plan_chooser.specs.declared.plans.Side.{Side}
+use Rattle.plan_chooser.specs.declared.plans.JoinInput.{JoinInput}
 use Rattle.join_ops.specs.Joins.{IsThere, HasSideTree}
 use Rattle.query_tests.specs.Linked.{AreJoinable}
 
@@ -18,7 +18,7 @@ module _ (c : CatalogState) (ok : IsConsistent c) where
   sound = record { each = λ k d l. let among = ok.each k d l in (among.kept, among.current) }
 
   -- a key can be joined with a column that refers to it and has a tree
-  pub joinable : (key reference : Side) → IsThere c.relations key → IsThere c.relations reference → key.column.0 ≡ 0 → 0 < reference.column.0 → HasSideTree reference
+  pub joinable : (key reference : JoinInput) → IsThere c.relations key → IsThere c.relations reference → key.column.0 ≡ 0 → 0 < reference.column.0 → HasSideTree reference
       → slice_get reference.relation.now.targets reference.column.0 ≡ Some (Some key.table.0) → AreJoinable c.relations key reference
   joinable key reference first second at_key behind tree target = record {
     sound = sound;

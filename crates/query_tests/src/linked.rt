@@ -8,14 +8,14 @@ use mm_catalog::Catalog;
 use mm_catalog::laws::a_catalog_is_consistent;
 use mm_relation::{Relation, Relations};
 use plain_tables::{ColumnNumber, TableNumber};
-use plan_chooser::Side;
+use plan_chooser::JoinInput;
 use std::process::Abort;
 
 /// The key of a table, and a column of another that refers to it.
 #[derive(Clone, Copy)]
 pub struct Link<'a> {
-    pub key: Side<'a>,
-    pub reference: Side<'a>,
+    pub key: JoinInput<'a>,
+    pub reference: JoinInput<'a>,
 }
 
 // A column of a table as a side of a join, without tests.
@@ -24,7 +24,7 @@ fn side<'a>(
     catalog: &'a Catalog,
     table: TableNumber,
     column: ColumnNumber,
-) -> Side<'a>
+) -> JoinInput<'a>
     ensures table { result.table ≡ table }
     ensures column { result.column ≡ column }
     ensures there { IsThere catalog.now.relations result }
@@ -33,7 +33,7 @@ fn side<'a>(
     a_catalog_is_consistent(catalog);
     let relation = catalog.at(table);
     assert!(rt; column.0 < relation.schema().columns.len());
-    Side {
+    JoinInput {
         table,
         relation,
         column,

@@ -36,7 +36,7 @@ fn most_in_slots(relation: &Relation, tests: &[Test], order: RowOrder) -> u64 {
 }
 
 // By a look at each row.
-fn select_by_scan<R: Relations>(
+fn find_by_scan<R: Relations>(
     alloc: Global,
     tables: &R,
     table: TableNumber,
@@ -57,7 +57,7 @@ fn select_by_scan<R: Relations>(
 }
 
 // By the hash on the column of a test.
-fn select_by_hash<R: Relations>(
+fn find_by_hash<R: Relations>(
     alloc: Global,
     tables: &R,
     table: TableNumber,
@@ -80,7 +80,7 @@ fn select_by_hash<R: Relations>(
 }
 
 // By the tree on the column of a test: the rows that pass this test.
-fn select_by_one_test<R: Relations>(
+fn find_by_one_test<R: Relations>(
     alloc: Global,
     tables: &R,
     table: TableNumber,
@@ -110,7 +110,7 @@ fn select_by_one_test<R: Relations>(
 }
 
 // By the tree on the column of a test: the rows between all bounds on that column.
-fn select_between<R: Relations>(
+fn find_between<R: Relations>(
     alloc: Global,
     tables: &R,
     table: TableNumber,
@@ -134,7 +134,7 @@ fn select_between<R: Relations>(
 
 // By the tree on the column of a test. One that asks for one value is served by one search; others by the bounds of all tests on
 // the column.
-fn select_by_tree<R: Relations>(
+fn find_by_tree<R: Relations>(
     alloc: Global,
     tables: &R,
     table: TableNumber,
@@ -149,15 +149,15 @@ fn select_by_tree<R: Relations>(
 {
     match tests.get(n) {
         Some(test) if matches!(test.op, Op::Eq) => {
-            select_by_one_test(alloc, tables, table, tests, n)
+            find_by_one_test(alloc, tables, table, tests, n)
         }
-        _ => select_between(alloc, tables, table, tests, n),
+        _ => find_between(alloc, tables, table, tests, n),
     }
 }
 
 /// The rows of a table that pass the tests, each once, in any order, found by a plan that fits. The order that is wanted of them
 /// decides how a scan goes, and nothing else.
-pub fn select<R: Relations>(
+pub fn find_rows<R: Relations>(
     alloc: Global,
     tables: &R,
     table: TableNumber,
@@ -172,8 +172,8 @@ pub fn select<R: Relations>(
     ensures { IfOk result (λ rows. OfRelation (R.tables tables.now) table.0 (λ s. AreSelected (R.tables tables.now) s tests.now rows.items)) }
 {
     match plan {
-        SelectPlan::Scan => select_by_scan(alloc, tables, table, tests, order),
-        SelectPlan::Hash(n) => select_by_hash(alloc, tables, table, tests, n),
-        SelectPlan::Tree(n) => select_by_tree(alloc, tables, table, tests, n),
+        SelectPlan::Scan => find_by_scan(alloc, tables, table, tests, order),
+        SelectPlan::Hash(n) => find_by_hash(alloc, tables, table, tests, n),
+        SelectPlan::Tree(n) => find_by_tree(alloc, tables, table, tests, n),
     }
 }

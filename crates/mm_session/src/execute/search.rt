@@ -11,7 +11,7 @@ use mm_relation::{Relations, TupleRef};
 use no_memory::NoMemory;
 use plain_tables::{TableNumber, Test};
 use plan_chooser::choose_select;
-use temp_list::{RowOrder, select};
+use temp_list::{RowOrder, find_rows};
 
 impl Executor {
     /// The rows of a table that pass the tests, in any order.
@@ -25,6 +25,6 @@ impl Executor {
     {
         a_catalog_is_consistent(&self.catalog);
         let plan = choose_select(self.policy, self.catalog.at(table), tests);
-        select(self.alloc, &self.catalog, table, plan, tests, RowOrder::Any)
+        find_rows(self.alloc, &self.catalog, table, plan, tests, RowOrder::Any)
     }
 }

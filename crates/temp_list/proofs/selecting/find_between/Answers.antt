@@ -1,7 +1,7 @@
 use Rattle.temp_list.specs.Reading.{value_in, is_between}
 use Rattle.temp_list.proofs.ReadingLemmas.{sound_at}
 use Rattle.temp_list.proofs.SelectLemmas.{found_held, all_appended, passes_between, selected, selected_there}
-use Rattle.temp_list.proofs.selecting.select_between.Goals as goal
+use Rattle.temp_list.proofs.selecting.find_between.Goals as goal
 
 pub keep_passing-requires-clause-held : goal.keep_passing-requires-clause-held
 keep_passing-requires-clause-held g c =

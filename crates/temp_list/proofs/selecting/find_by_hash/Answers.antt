@@ -3,7 +3,7 @@ use Rattle.plain_tables.specs.Queries.{stands}
 use Rattle.temp_list.specs.Reading.{value_in}
 use Rattle.temp_list.proofs.ReadingLemmas.{sound_at}
 use Rattle.temp_list.proofs.SelectLemmas.{found_held, all_appended, passes_equality, selected, selected_there}
-use Rattle.temp_list.proofs.selecting.select_by_hash.Goals as goal
+use Rattle.temp_list.proofs.selecting.find_by_hash.Goals as goal
 
 pub keep_passing-requires-clause-held : goal.keep_passing-requires-clause-held
 keep_passing-requires-clause-held g c =

@@ -7,7 +7,7 @@ use Rattle.temp_list.specs.Reading.{row_passes, passing}
 use Rattle.temp_list.specs.Selecting.{AreSelected}
 use Rattle.temp_list.proofs.ReadingLemmas.{sound_at}
 use Rattle.temp_list.proofs.SelectLemmas.{found_held, passing_held, selected_there}
-use Rattle.temp_list.proofs.selecting.select_by_scan.Goals as goal
+use Rattle.temp_list.proofs.selecting.find_by_scan.Goals as goal
 
 pub returns-in-Some : goal.returns-in-Some
 returns-in-Some g c =
