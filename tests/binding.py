@@ -37,5 +37,7 @@ class WithDatabase(unittest.TestCase):
         with self.assertRaises(mmdb.Refused) as raised:
             call(*given, **named)
         why = raised.exception
-        self.assertEqual((why.number, why.text.split(" (")[0], why.reason), (number, model.TEXTS[number], None))
+        self.assertEqual((why.number, why.text.split(" (")[0]), (number, model.TEXTS[number]))
+        self.assertEqual(str(why), f"error {number} {why.text}: {why.reason}")
+        self.assertEqual(repr(why), f"{type(why).__name__}{(number, why.text, why.line, why.reason)!r}")
         return why

@@ -9,6 +9,7 @@ import unittest
 
 import binding
 import embedding
+import hand
 import harness
 import model
 import sizes
@@ -52,7 +53,7 @@ class Programs(unittest.TestCase):
         self.assertEqual((ended.err, ended.out, ended.status), ("", printed, 0))
 
     def test_the_programs_of_each_page(self):
-        for page, count in (("README.md", 1), ("docs/python.md", 2)):
+        for page, count in (("README.md", 1), ("docs/python.md", 3)):
             found = embedding.programs(page, "python")
             self.assertEqual(len(found), count)
             for program, printed in found:
@@ -65,7 +66,7 @@ class Programs(unittest.TestCase):
                 self.check([str(example)], example.with_suffix(".txt").read_text())
 
     def test_an_answer_that_finds_no_memory(self):
-        self.check(["-c", LITTLE_MEMORY], "NoMemory True error 90 no memory 50000\n")
+        self.check(["-c", LITTLE_MEMORY], "NoMemory True error 90 no memory: no memory was found for it, and all tables are as before 50000\n")
 
     def test_a_database_that_is_never_closed(self):
         self.check(["-c", "import mmdb\ndb = mmdb.Database()\nprint(db.execute('tables'))"], "\n")
@@ -134,9 +135,8 @@ class Calls(binding.WithDatabase):
         ):
             with self.subTest(line=line):
                 self.assertEqual(self.refused(number, call, *given).line, line)
-        with self.assertRaisesRegex(mmdb.Refused, "^error 41 key exists \\(record 2\\)$"):
-            self.db.load("t", [(2,), (1,)])
-        with self.assertRaisesRegex(mmdb.Refused, "^error 62 bad record 2$"):
+        self.assertEqual(self.refused(41, self.db.load, "t", [(2,), (1,)]).text, "key exists (record 2)")
+        with self.assertRaisesRegex(mmdb.Refused, "^error 62 bad record 2: record 2: the field of id is x, "):
             self.db.load_csv("t", b"id\n2\nx\n")
         self.assertEqual(self.db.dump("t"), [[1]])
 
@@ -223,6 +223,7 @@ class Calls(binding.WithDatabase):
             lambda: self.db.load_dicts("t", [{"id": 1}]),
             lambda: self.db.answer(b""),
             lambda: self.db.answer("load t 0", b""),
+            lambda: self.db.reason("tables"),
             lambda: self.db.load("t", [(1,)]),
             lambda: self.db.load_csv("t", "id\n"),
             lambda: self.db.dump("t"),
@@ -253,6 +254,72 @@ class Calls(binding.WithDatabase):
             thread.join()
         self.assertEqual(sorted(int(row[0][0]) for row in rows), list(range(1_200)))
         self.assertEqual(self.db.dump("t"), [[number, str(number)] for number in range(1_200)])
+
+
+class Reasons(binding.WithDatabase):
+    """Each refusal has the library's reason."""
+
+    def setUp(self):
+        super().setUp()
+        for line in hand.FRONT.decode().splitlines():
+            self.db.execute(line)
+
+    def test_lines_that_a_new_user_might_type(self):
+        for line, told in zip(hand.LINES, hand.TOLD, strict=True):
+            with self.subTest(line=line):
+                self.assertEqual(str(self.refused(int(told[6:8]), self.db.execute, line)), told)
+
+    def test_each_call(self):
+        there, nowhere = "dept has a row with the key 10", "emp is no table"
+        self.db.execute("drop table emp")
+        rows = [(30, "hats"), (10, "bags")]
+        for number, reason, call, *given in (
+            (41, there, self.db.execute, "insert dept (?, ?)", *rows[1]),
+            (41, there, self.db.change, "insert dept (:id, :name)", {"id": 10, "name": "bags"}),
+            (41, there, self.db.executemany, "insert dept (?, ?)", rows),
+            (41, f"record 2: {there}", self.db.load, "dept", rows),
+            (41, f"record 1: {there}", self.db.load_dicts, "dept", [{"name": "bags", "id": 10}]),
+            (41, f"record 1: {there}", self.db.load_csv, "dept", "id,name\n10,bags\n"),
+            (30, nowhere, self.db.select, "select * from emp"),
+            (30, nowhere, self.db.load, "emp", []),
+            (30, nowhere, self.db.load_dicts, "emp", []),
+            (30, nowhere, self.db.dump, "emp"),
+        ):
+            self.db.execute("delete dept where id = 30")
+            with self.subTest(call=call.__name__, number=number):
+                self.assertEqual(self.refused(number, call, *given).reason, reason)
+
+    def test_of_an_answer(self):
+        self.assertEqual(self.db.answer("insert dept (10, 'a')"), b"error 41 key exists\n")
+        self.assertEqual(self.db.reason("insert dept (10, 'a')"), "dept has a row with the key 10")
+        self.assertEqual(self.db.answer(b"load dept 7", b"name,id"), b"error 61 bad header\n")
+        self.assertEqual(self.db.reason(b"load dept 7", b"name,id"), "field 1 of the header is name, and column 1 is id")
+        for line in ("tables", "# a comment", ""):
+            self.db.answer(line)
+            self.assertIsNone(self.db.reason(line))
+
+    def test_of_the_tables_as_they_were(self):
+        """Another thread that changes them doesn't come between a refusal and its reason."""
+        is_over = threading.Event()
+
+        def change():
+            while not is_over.is_set():
+                self.db.change("delete dept where id = 30")
+                self.db.answer("insert dept (30, 'hats')")
+
+        other = threading.Thread(target=change)
+        other.start()
+        try:
+            for _ in range(200):
+                self.db.answer("delete dept where id = 30")
+                try:
+                    while self.db.change("insert dept (30, 'bags')"):
+                        pass
+                except mmdb.Refused as why:
+                    self.assertEqual(why.reason, "dept has a row with the key 30")
+        finally:
+            is_over.set()
+            other.join()
 
 
 class Parameters(binding.WithDatabase):

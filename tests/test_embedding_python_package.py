@@ -1,7 +1,6 @@
 """The binding for Python: the package that pip builds and installs without a network, and its types."""
 
 import functools
-import importlib.util
 import os
 import pathlib
 import shutil
@@ -35,13 +34,24 @@ def ran(*words, cwd, **variables):
     return subprocess.run(words, cwd=cwd, env=how, capture_output=True, text=True, timeout=harness.SECONDS, check=False)
 
 
-@functools.cache
-def builder():
-    """A Python that can build wheels: this one or the system's. None where neither can."""
+def python_that_does(program):
+    """This Python or the system's, where one does a program. None where neither does."""
     for python in (sys.executable, "/usr/bin/python3"):
-        if os.path.exists(python) and ran(python, "-c", ASKS, cwd="/").returncode == 0:
+        if os.path.exists(python) and ran(python, "-c", program, cwd="/").returncode == 0:
             return python
     return None
+
+
+@functools.cache
+def builder():
+    """A Python that can build wheels, if there is one."""
+    return python_that_does(ASKS)
+
+
+@functools.cache
+def checker():
+    """A Python that has mypy, if there is one."""
+    return python_that_does("import mypy")
 
 
 @unittest.skipUnless(builder(), "no Python here has pip, setuptools from 61 on, and what makes wheels")
@@ -107,12 +117,12 @@ class Builds(unittest.TestCase):
         self.assertEqual(list(self.sources.glob("mmdb-*")), [])
 
 
-@unittest.skipUnless(importlib.util.find_spec("mypy"), "mypy is not there")
+@unittest.skipUnless(checker(), "no Python here has mypy")
 class Types(unittest.TestCase):
     """The annotations, and those who use them."""
 
     def test_mypy_finds_nothing(self):
-        words = [sys.executable, "-m", "mypy", "--strict", "--cache-dir=/dev/null"]
-        checked = [binding.FOLDER / "mmdb", harness.ROOT / "examples" / "python"]
+        words = [checker(), "-m", "mypy", "--strict", "--cache-dir=/dev/null"]
+        checked = [binding.FOLDER / "mmdb", harness.ROOT / "examples" / "python", harness.ROOT / "shell" / "mmdb_shell"]
         ended = ran(*words, *checked, cwd=binding.FOLDER, MYPYPATH=str(binding.FOLDER))
         self.assertEqual((ended.returncode, ended.stderr), (0, ""), ended.stdout)

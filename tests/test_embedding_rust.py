@@ -84,7 +84,8 @@ class Cargo(unittest.TestCase):
         pieces = PIECE.findall((harness.ROOT / "docs" / "rust.md").read_text())[1:]
         self.assertEqual(len(pieces), 7)
         program = f"#![allow(unused)]\nfn main() -> Result<(), mmdb::Error> {{\n{''.join(pieces)}Ok(())\n}}\n"
-        self.check_program("pieces", program, "1 Ann Some(10)\n2 O'Hara None\n")
+        refused = "error 42 no referenced row: dept has no row with the key 99, which column dept names"
+        self.check_program("pieces", program, f"1 Ann Some(10)\n2 O'Hara None\n{refused}\n")
 
     def test_the_package(self):
         """It is made without a warning, and has the licences."""

@@ -5,6 +5,7 @@ import random
 import re
 import unittest
 
+import hand
 import harness
 import library
 import model
@@ -14,14 +15,6 @@ import test_model
 
 STREAMS = sizes.size(100, 5_000)
 TOLD = re.compile(rb"mmdb: line (\d+): (error (\d\d) [^:\n]*): ([^\n]+)\n")
-FRONT = b"""table dept (id int, name text)
-table emp (id int, name text, dept ref dept null)
-insert dept (10, 'toys')
-insert dept (20, 'shoes')
-insert emp (1, 'Ann', 20)
-"""
-HAND = (harness.TESTS / "hand.txt").read_bytes()
-HAND_TOLD = (harness.TESTS / "hand.told").read_bytes()
 
 
 def numbered_units(stream):
@@ -56,11 +49,11 @@ class Program(unittest.TestCase):
             self.check(harness.run_in_pieces(pieces, ["--explain"]), stream, answers)
 
     def test_lines_that_a_new_user_might_type(self):
-        ended = harness.run_whole(FRONT + HAND, ["--explain"])
-        self.assertEqual(ended.out, harness.run_whole(FRONT + HAND).out)
-        first = FRONT.count(b"\n") + 1
-        told = b"".join(b"mmdb: line %d: %s\n" % line for line in enumerate(HAND_TOLD.splitlines(), first))
-        self.assertEqual(ended.err.splitlines(), told.splitlines())
+        ended = harness.run_whole(hand.STREAM, ["--explain"])
+        self.assertEqual(ended.out, harness.run_whole(hand.STREAM).out)
+        first = hand.FRONT.count(b"\n") + 1
+        told = [f"mmdb: line {number}: {line}" for number, line in enumerate(hand.TOLD, first)]
+        self.assertEqual(ended.err.decode().splitlines(), told)
 
     def test_the_rows(self):
         for name, stream, answers in harness.rows():
@@ -77,7 +70,7 @@ class Program(unittest.TestCase):
                 self.check(harness.run_in_pieces(pieces, ["--explain"]), stream, answers)
 
     def test_nothing_is_told_without_the_option(self):
-        self.assertEqual(harness.run_whole(FRONT + HAND).err, b"")
+        self.assertEqual(harness.run_whole(hand.STREAM).err, b"")
 
     def test_lines_of_a_block_are_counted(self):
         stream = b"table t (id int)\nload t 9\nid\n1\n2\n1\nfoo\nload t 3\nid\nbar"
@@ -142,8 +135,8 @@ class Library(unittest.TestCase):
         self.assertEqual(numbers | {13, 90}, set(model.TEXTS) | {13, 90})
 
     def test_reasons_are_those_of_the_program(self):
-        told = [words.split(b": ", 1)[1] for words in HAND_TOLD.splitlines()]
-        self.assertEqual([words for _, words in self.reasons(FRONT + HAND)], told)
+        told = [line.split(": ", 1)[1] for line in hand.TOLD]
+        self.assertEqual([words.decode() for _, words in self.reasons(hand.STREAM)], told)
 
     def test_statuses(self):
         closed = ctypes.c_void_p()

@@ -5,7 +5,7 @@ from __future__ import annotations
 import threading
 from typing import Any, Iterable, Mapping, Optional, Sequence, Tuple, Union
 
-from .errors import WrongType, WrongUse, WrongValue, refusal
+from .errors import WrongType, WrongUse, WrongValue
 from .library import Handle
 from .lines import bound, check_kind, check_line, has_place
 from .reading import Reader
@@ -82,8 +82,9 @@ class Database:
             check_line(line)
         if parameters or named or "?" in line or (":" in line and has_place(line)):
             line = bound(line, parameters, named)
+        sent = encoded(line)
         with self._lock:
-            answer = self._asked(encoded(line))
+            answer = self._accepted(sent)
             if answer.startswith(b"rows "):
                 return self._reader.selected(answer.decode())
         return _outcome(line, answer)
@@ -120,7 +121,7 @@ class Database:
         check_kind("executemany", line, *_CHANGES)
         lines = [_made(line, row, number) for number, row in enumerate(rows, 1)]
         with self._lock:
-            return sum(_count(made, self._asked(made)) for made in lines)
+            return sum(_count(self._accepted(made)) for made in lines)
 
     def load(self, table: str, rows: Iterable[Iterable[Value]]) -> int:
         """Puts these rows into a table, all of them or none, and gives how many they are.
@@ -160,12 +161,9 @@ class Database:
 
         Raises `Refused` as the language says.
         """
-        line = f"dump {table}"
+        line = encoded(f"dump {table}")
         with self._lock:
-            answer = self._asked(encoded(line))
-            if answer.startswith(b"error "):
-                raise refusal(answer, line)
-            return self._reader.dumped(answer.decode())
+            return self._reader.dumped(self._accepted(line).decode())
 
     def answer(self, line: Union[str, bytes], block: Optional[bytes] = None) -> bytes:
         """The bytes that the library answers to a line, refusals too. They are empty for comments and blank lines.
@@ -174,11 +172,20 @@ class Database:
         of another length than the one given.
         """
         with self._lock:
-            return self._asked(as_bytes(line), None if block is None else as_bytes(block))
+            return self._answered(as_bytes(line), None if block is None else as_bytes(block))
+
+    def reason(self, line: Union[str, bytes], block: Optional[bytes] = None) -> Optional[str]:
+        """Why `answer` was a refusal of this line with its block, in a line of words for people.
+
+        It is asked right behind that call, with nothing between, while the tables are as they were. It is None where
+        that was no refusal, and where no memory is found for the words.
+        """
+        with self._lock:
+            return self._handle.reason(as_bytes(line), b"" if block is None else as_bytes(block))
 
     # The calls below want the lock held.
 
-    def _asked(self, line: bytes, block: Optional[bytes] = None) -> bytes:
+    def _answered(self, line: bytes, block: Optional[bytes] = None) -> bytes:
         """What is answered. After a declaration, and a call that was interrupted, the columns are known no longer."""
         try:
             answer = self._handle.command(line) if block is None else self._handle.load(line, block)
@@ -190,16 +197,20 @@ class Database:
             self._reader.forget()
             raise
 
+    def _accepted(self, line: bytes, block: Optional[bytes] = None) -> bytes:
+        """The same, where it is no refusal. Raises the refusal that it is."""
+        answer = self._answered(line, block)
+        if answer.startswith(b"error "):
+            raise self._handle.refusal(answer, line, block or b"")
+        return answer
+
     def _loaded(self, table: str, block: bytes) -> int:
         """Loads a block. Of a table that isn't there it is empty, and the library tells what is wrong."""
-        line = encoded(f"load {table} {len(block)}")
-        return _count(line, self._asked(line, block))
+        return _count(self._accepted(encoded(f"load {table} {len(block)}"), block))
 
 
 def _outcome(line: str, answer: bytes) -> Any:
     """What a command gives that selects nothing."""
-    if answer.startswith(b"error "):
-        raise refusal(answer, line)
     if answer == b"ok\n" or not answer:
         return None
     if line.lstrip(" \t").startswith("tables"):
@@ -207,10 +218,8 @@ def _outcome(line: str, answer: bytes) -> Any:
     return int(answer[3:]) if answer.startswith(b"ok ") else answer.decode()
 
 
-def _count(line: bytes, answer: bytes) -> int:
+def _count(answer: bytes) -> int:
     """How many rows an insert, an update, a delete or a load was about."""
-    if not answer.startswith(b"ok "):
-        raise refusal(answer, line.decode())
     return int(answer[3:])
 
 

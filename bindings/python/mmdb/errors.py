@@ -59,11 +59,14 @@ class Refused(DatabaseError):
         self.text = text
         #: The line as it was sent, with its parameters in their places; None where a database finds no memory to open.
         self.line = line
-        #: The library's reason, in words. The package doesn't ask for it yet, and this is None.
+        #: Why, in a line of words for people; None where no memory is found for them.
         self.reason = reason
 
     def __str__(self) -> str:
-        return f"error {self.number} {self.text}"
+        return f"error {self.number} {self.text}" + (f": {self.reason}" if self.reason else "")
+
+    def __repr__(self) -> str:
+        return f"{type(self).__name__}({self.number}, {self.text!r}, {self.line!r}, {self.reason!r})"
 
 
 class DataRefused(Refused, DataError):
@@ -107,7 +110,7 @@ _CLASSES: Dict[int, Type[Refused]] = {
 }
 
 
-def refusal(answer: bytes, line: str) -> Refused:
-    """The refusal that an answer is, to this line."""
+def refusal_of(answer: bytes, line: bytes, reason: Optional[str]) -> Refused:
+    """The refusal that an answer is, to this line and for this reason."""
     number, text = answer[6:-1].decode().split(" ", 1)
-    return _CLASSES.get(int(number), Refused)(int(number), text, line)
+    return _CLASSES.get(int(number), Refused)(int(number), text, line.decode(), reason)

@@ -5,9 +5,9 @@ from __future__ import annotations
 import ctypes
 import ctypes.util
 import os
-from typing import Any
+from typing import Any, Optional
 
-from .errors import NoMemory, WrongUse
+from .errors import NoMemory, Refused, WrongUse, refusal_of
 
 _NAME = "libmmdb.so"
 
@@ -60,6 +60,7 @@ _LIBRARY = _loaded()
 _OPEN = _call(_LIBRARY, "mmdb_open", _NUMBER, _ADDRESS, _NUMBER, _NUMBER, _NUMBER)
 _COMMAND = _call(_LIBRARY, "mmdb_command", _NUMBER, _ADDRESS, _ADDRESS, _SIZE, _ADDRESS)
 _LOAD = _call(_LIBRARY, "mmdb_load", _NUMBER, _ADDRESS, _ADDRESS, _SIZE, _ADDRESS, _SIZE, _ADDRESS)
+_REASON = _call(_LIBRARY, "mmdb_reason", _NUMBER, _ADDRESS, _ADDRESS, _SIZE, _ADDRESS, _SIZE, _ADDRESS)
 _CLOSE = _call(_LIBRARY, "mmdb_close", None, _ADDRESS)
 
 
@@ -106,6 +107,21 @@ class Handle:
             return self._answered(status)
         answer: bytes = self._characters[: self._told.length]
         return answer
+
+    def reason(self, line: bytes, block: bytes) -> Optional[str]:
+        """Why the line that was just answered was refused, with its block. None where it wasn't, or for want of memory.
+
+        It is asked right behind the answer, while the tables are as they were.
+        """
+        status = _REASON(self._at, line, len(line), block, len(block), self._told_at)
+        if status == _NO_MEMORY:
+            return None
+        words: bytes = self._answered(status) if status else self._characters[: self._told.length]
+        return words.decode() or None
+
+    def refusal(self, answer: bytes, line: bytes, block: bytes = b"") -> Refused:
+        """The refusal that the answer is which was just given to a line with its block."""
+        return refusal_of(answer, line, self.reason(line, block))
 
     def _answered(self, status: int) -> bytes:
         """The answer to a call that wasn't done, or why it wasn't."""

@@ -4,7 +4,7 @@ from __future__ import annotations
 
 from typing import Dict, List, Optional
 
-from .errors import WrongValue, refusal
+from .errors import WrongValue
 from .library import Handle
 from .rows import Rows, Shape
 from .values import Column, columns_of
@@ -25,9 +25,10 @@ class Reader:
 
     def _asked(self, line: str) -> str:
         """The answer to a line that declares nothing."""
-        answer = self._handle.command(line.encode())
+        sent = line.encode()
+        answer = self._handle.command(sent)
         if answer.startswith(b"error "):
-            raise refusal(answer, line)
+            raise self._handle.refusal(answer, sent)
         return answer.decode()
 
     def _tables(self) -> Dict[str, List[Column]]:

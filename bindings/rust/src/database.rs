@@ -143,10 +143,14 @@ impl Database {
     ///
     /// Each row has a value for each column, in their order. A text may have line feeds here.
     pub fn load<V: Values>(&mut self, table: &str, rows: impl IntoIterator<Item = V>) -> Result<usize> {
-        let columns = self.known.columns(table, &mut self.session)?;
-        let columns = columns.ok_or_else(|| no_such_table(format!("load {table}")))?;
-        let block = block_of(columns, rows)?;
-        self.load_csv(table, block)
+        match self.known.columns(table, &mut self.session)? {
+            Some(columns) => {
+                let block = block_of(columns, rows)?;
+                self.load_csv(table, block)
+            }
+            // The library tells what is wrong.
+            None => self.load_csv(table, ""),
+        }
     }
 
     /// Puts the rows of a CSV into a table, all of them or none, and gives how many they are.
@@ -154,21 +158,23 @@ impl Database {
     /// The first record has the names of all columns, in their order.
     pub fn load_csv(&mut self, table: &str, block: impl AsRef<[u8]>) -> Result<usize> {
         let block = block.as_ref();
-        let answer = self.session.load(&format!("load {table} {}", block.len()), block)?;
+        let answer = self.session.send(&format!("load {table} {}", block.len()), block)?;
         Ok(count_of(answer).unwrap_or(0))
     }
 
     /// All rows of a table by rising keys, with the bare names of its columns.
     pub fn dump(&mut self, table: &str) -> Result<Rows> {
         let line = format!("dump {table}");
-        let columns = self.known.columns(table, &mut self.session)?;
-        let columns = columns.ok_or_else(|| no_such_table(line.clone()))?.to_vec();
+        let columns = match self.known.columns(table, &mut self.session)? {
+            Some(columns) => columns.to_vec(),
+            None => return Err(self.why_not(line)),
+        };
         let names = columns.iter().map(|column| column.name.clone()).collect();
         let shape = Shape {
             names: Arc::new(names),
             columns,
         };
-        let answer = self.session.ask(&line, ())?;
+        let answer = self.session.send(&line, &[])?;
         let mut rows = shape.rows(header_and_records(answer).1);
         for place in shape.texts_or_null() {
             self.put_nulls(table, &shape, &mut rows, place)?;
@@ -178,20 +184,46 @@ impl Database {
 
     /// The bytes that the library answers to a line, refusals too. They are none for comments and blank lines.
     pub fn answer(&mut self, line: &[u8]) -> Result<&[u8]> {
-        let answer = self.session.handle().command(line)?;
-        self.known.heed(answer);
-        Ok(answer)
+        self.session.handle().command(line)?;
+        Ok(self.heeded())
     }
 
     /// The bytes that the library answers to the line of a load and its block, refusals too.
     pub fn answer_to_load(&mut self, line: &[u8], block: &[u8]) -> Result<&[u8]> {
-        let answer = self.session.handle().load(line, block)?;
-        self.known.heed(answer);
-        Ok(answer)
+        self.session.handle().load(line, block)?;
+        Ok(self.heeded())
+    }
+
+    /// Why [`answer`](Database::answer) or [`answer_to_load`](Database::answer_to_load) gave a refusal of this line with
+    /// its block, in a line of words for people.
+    ///
+    /// It is asked right behind that call. There is none where that was no refusal, and none where no memory is found
+    /// for the words.
+    pub fn reason(&mut self, line: &[u8], block: &[u8]) -> Option<String> {
+        self.session.handle().reason(line, block)
     }
 }
 
 impl Database {
+    /// The answer just given. By a declaration in it, what is known is forgotten.
+    fn heeded(&mut self) -> &[u8] {
+        let answer = self.session.handle().answer();
+        self.known.heed(answer);
+        answer
+    }
+
+    /// Why a line isn't done that names no table: as the library says. It takes a name between blanks too, which the
+    /// crate doesn't.
+    fn why_not(&mut self, line: String) -> Error {
+        let refused = self.session.send(&line, &[]).err();
+        refused.unwrap_or_else(|| Error::Refused {
+            number: 30,
+            text: "no such table".to_string(),
+            line,
+            reason: None,
+        })
+    }
+
     /// The rows that a function reads from the records of a select. It declares nothing, so what is known stays so.
     fn select<P: Params>(&mut self, line: &str, params: P, read: impl FnOnce(&Shape, &str) -> Rows) -> Result<Rows> {
         if first_word(line) != "select" {
@@ -248,13 +280,5 @@ impl Database {
 impl fmt::Debug for Database {
     fn fmt(&self, to: &mut fmt::Formatter<'_>) -> fmt::Result {
         to.debug_struct("Database").finish_non_exhaustive()
-    }
-}
-
-fn no_such_table(line: String) -> Error {
-    Error::Refused {
-        number: 30,
-        text: "no such table".to_string(),
-        line,
     }
 }

@@ -20,6 +20,9 @@ pub enum Error {
         text: String,
         /// The line that was refused, with its parameters. It is empty where a database wasn't opened.
         line: String,
+        /// Why, in a line of words for people, which may change from version to version. There is none where no memory
+        /// is found for them.
+        reason: Option<String>,
     },
     /// The limits of a database to open are none.
     OutOfRange,
@@ -141,27 +144,24 @@ impl Error {
         }
     }
 
-    /// The library's reason, in words. The crate doesn't ask for it yet, so it is `None`.
+    /// Why it was refused, where it was, in a line of words for people, as `t has a row with the key 1`.
     pub fn reason(&self) -> Option<&str> {
-        None
-    }
-
-    /// The refusal that an answer to a line is, where it is one.
-    pub(crate) fn refusal_of(line: &str, answer: &[u8]) -> Option<Error> {
-        let told = std::str::from_utf8(answer.strip_prefix(b"error ")?).ok()?;
-        let (number, text) = told.trim_end_matches('\n').split_once(' ')?;
-        Some(Error::Refused {
-            number: number.parse().ok()?,
-            text: text.to_string(),
-            line: line.to_string(),
-        })
+        match self {
+            Error::Refused { reason, .. } => reason.as_deref(),
+            _ => None,
+        }
     }
 }
 
 impl fmt::Display for Error {
     fn fmt(&self, to: &mut fmt::Formatter<'_>) -> fmt::Result {
         match self {
-            Error::Refused { number, text, .. } => write!(to, "error {number} {text}"),
+            Error::Refused {
+                number, text, reason, ..
+            } => match reason {
+                Some(reason) => write!(to, "error {number} {text}: {reason}"),
+                None => write!(to, "error {number} {text}"),
+            },
             Error::OutOfRange => write!(
                 to,
                 "the limits of a database lie from 1 row to 16777216, and as many bytes"

@@ -15,7 +15,7 @@
 //! }
 //!
 //! let refused = db.execute("insert book (1, 'again')", []).expect_err("the key is there");
-//! assert_eq!((refused.number(), refused.text()), (Some(41), Some("key exists")));
+//! assert_eq!((refused.number(), refused.reason()), (Some(41), Some("book has a row with the key 1")));
 //! # Ok(())
 //! # }
 //! ```

@@ -22,12 +22,14 @@ impl Session {
     /// The answer to a line with parameters, where it is no refusal. It is lent until the next call.
     pub(crate) fn ask<P: Params>(&mut self, line: &str, params: P) -> Result<&str> {
         bind(line, params, &mut self.line)?;
-        accepted(&self.line, self.handle.command(self.line.as_bytes())?)
+        self.handle.command(self.line.as_bytes())?;
+        accepted(&mut self.handle, &self.line, &[])
     }
 
-    /// The answer to the line of a load and its block, where it is no refusal.
-    pub(crate) fn load(&mut self, line: &str, block: &[u8]) -> Result<&str> {
-        accepted(line, self.handle.load(line.as_bytes(), block)?)
+    /// The answer to a line with its block, where it is no refusal. It has no places for parameters.
+    pub(crate) fn send(&mut self, line: &str, block: &[u8]) -> Result<&str> {
+        self.handle.load(line.as_bytes(), block)?;
+        accepted(&mut self.handle, line, block)
     }
 
     pub(crate) fn handle(&mut self) -> &mut Handle {
@@ -35,9 +37,22 @@ impl Session {
     }
 }
 
-fn accepted<'a>(line: &str, answer: &'a [u8]) -> Result<&'a str> {
-    match Error::refusal_of(line, answer) {
-        Some(refusal) => Err(refusal),
-        None => Ok(std::str::from_utf8(answer).expect("an answer is UTF-8")),
+/// The answer just given to a line with its block, where it is no refusal.
+fn accepted<'a>(handle: &'a mut Handle, line: &str, block: &[u8]) -> Result<&'a str> {
+    if let Some((number, text)) = refusal_in(handle.answer()) {
+        return Err(Error::Refused {
+            number,
+            text,
+            line: line.to_string(),
+            reason: handle.reason(line.as_bytes(), block),
+        });
     }
+    Ok(std::str::from_utf8(handle.answer()).expect("an answer is UTF-8"))
+}
+
+/// The number of the refusal that an answer is, and its text, where it is one.
+fn refusal_in(answer: &[u8]) -> Option<(u32, String)> {
+    let told = std::str::from_utf8(answer.strip_prefix(b"error ")?).ok()?;
+    let (number, text) = told.trim_end_matches('\n').split_once(' ')?;
+    Some((number.parse().ok()?, text.to_string()))
 }

@@ -168,7 +168,9 @@ fn refusals() {
     assert_eq!(number(db.command("dump u", [])), Some(30));
     assert_eq!(number(db.load("u", [(1, "a")])), Some(30));
     assert_eq!(number(db.dump("u")), Some(30));
-    assert_eq!(number(db.dump("t\n")), Some(30));
+    assert_eq!(number(db.dump("t u")), Some(20));
+    assert_eq!(number(db.dump(" t")), Some(30));
+    assert_eq!(db.dump("t\n"), Err(Error::NotOneRequest));
     assert_eq!(number(db.load_csv("u", "id\n")), Some(30));
     assert_eq!(number(db.load_csv("t", "")), Some(61));
     assert!(db.dump("t").unwrap().is_empty());
@@ -180,8 +182,8 @@ fn a_refusal_tells_what_was_sent() {
     let refused = db.execute("insert t (?, ?)", (1, "it's")).unwrap_err();
     assert_eq!((refused.number(), refused.text()), (Some(41), Some("key exists")));
     assert_eq!(refused.line(), Some("insert t (1, 'it''s')"));
-    assert_eq!(refused.reason(), None);
-    assert_eq!(refused.to_string(), "error 41 key exists");
+    assert_eq!(refused.reason(), Some("t has a row with the key 1"));
+    assert_eq!(refused.to_string(), "error 41 key exists: t has a row with the key 1");
     assert!(refused.source().is_none());
     let twice = db.load("t", [(3, "a"), (3, "b")]).unwrap_err();
     assert_eq!(
@@ -198,6 +200,47 @@ fn a_refusal_tells_what_was_sent() {
         (other.number(), other.text(), other.line(), other.reason()),
         (None, None, None, None)
     );
+}
+
+#[test]
+fn a_refusal_tells_why() {
+    let mut db = with_rows();
+    let reason = |refused: Error| refused.reason().expect("a reason").to_string();
+    for (refused, why) in [
+        (db.execute("insert t (1, ?)", ["x"]).err(), "t has a row with the key 1"),
+        (
+            db.command("selct * from t", []).err(),
+            "column 1: selct is no command: is select meant?",
+        ),
+        (db.query("select u from t", []).err(), "u is no column of t"),
+        (
+            db.query_row("select s from t where id = ?", ["1"], |_| Ok(())).err(),
+            "column id of t has integers, and '1' is a text",
+        ),
+        (
+            db.load("t", [(3, "a"), (2, "b")]).err(),
+            "record 2: t has a row with the key 2",
+        ),
+        (
+            db.load_csv("t", "id,s\nx,a").err(),
+            "record 1: the field of id is x, and that is no integer of 64 bits",
+        ),
+        (db.load("u", [(1, "a")]).err(), "u is no table"),
+        (db.dump("u").err(), "u is no table"),
+    ] {
+        assert_eq!(refused.map(reason).as_deref(), Some(why));
+    }
+    assert_eq!(db.answer(b"drop table u"), Ok(&b"error 30 no such table\n"[..]));
+    assert_eq!(db.reason(b"drop table u", b"").as_deref(), Some("u is no table"));
+    let (line, block) = (b"load t 4", b"s,id");
+    assert_eq!(db.answer_to_load(line, block), Ok(&b"error 61 bad header\n"[..]));
+    assert_eq!(
+        db.reason(line, block).as_deref(),
+        Some("field 1 of the header is s, and column 1 is id")
+    );
+    assert_eq!(db.answer(b""), Ok(&b""[..]));
+    assert_eq!(db.reason(b"", b""), None);
+    assert_eq!(db.command("tables", []).map(|_| db.reason(b"tables", b"")), Ok(None));
 }
 
 #[test]
