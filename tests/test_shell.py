@@ -16,8 +16,10 @@ import sys
 import tempfile
 import time
 import unittest
+import unittest.mock
 
 import embedding
+import hand
 import harness
 import library
 import model
@@ -84,10 +86,10 @@ class Piped(WithFolder):
     def test_statements_and_what_is_refused(self):
         lines = [*COMPANY, "insert emp (1, 'Bo', 10)", "select name, dept from emp", "tables;", "Tables", "select ?", "# a; comment"]
         refused = [
-            "line 7: error 41 key exists",
-            "line 9: error 20 not a command: no `;` is needed at the end of a line; leave it out",
-            "line 10: error 20 not a command: words are in small letters, as tables",
-            "line 11: error 20 not a command",
+            "line 7: error 41 key exists: emp has a row with the key 1",
+            "line 9: error 20 not a command: column 7: wanted the end of the line, found ;: a line needs no sign at its end",
+            "line 10: error 20 not a command: column 1: Tables is no command, and tables is: words are case-sensitive",
+            "line 11: error 20 not a command: column 8: wanted distinct, * or a column's name, found ?",
         ]
         self.check(lines, ["emp.name,emp.dept", "Ann,10", '"",'], refused)
         self.check(COMPANY, [])
@@ -95,16 +97,34 @@ class Piped(WithFolder):
 
     def test_blocks(self):
         lines = ["table t (id int)", "load t 9", "id", "1", "2", "1", "load t 5", "id", "7", "load t 99", "tables"]
-        self.check(lines, [], ["line 6: error 41 key exists (record 3)", "line 11: error 13 block cut short"])
+        refused = [
+            "line 6: error 41 key exists (record 3): record 3: record 1 has the key 1 too",
+            "line 11: error 13 block cut short: the line asks for 99 bytes, and 7 have come",
+        ]
+        self.check(lines, [], refused)
         self.check(["table t (id int)", "load t 5", "id", "7", "dump t"], ["load t 5", "id", "7"])
-        self.check(["load t 5", "id", "7", "tables"], [], ["line 3: error 12 block too long"], said=["--block", "4"])
+        refused = ["line 3: error 12 block too long: the line asks for 5 bytes, and a block has at most 4"]
+        self.check(["load t 5", "id", "7", "tables"], [], refused, said=["--block", "4"])
 
     def test_bytes_that_are_no_line(self):
-        refused = ["line 1: error 10 line too long", "line 2: error 11 not UTF-8", "line 4: error 20 not a command"]
+        refused = [
+            "line 1: error 10 line too long: a line has at most 8192 bytes",
+            "line 2: error 11 not UTF-8: at byte 1 no character begins",
+            "line 4: error 20 not a command: column 1: wanted table, drop, index, insert, update, delete, select, load, dump "
+            "or tables, found \ufffd",
+        ]
         self.check(b"# " + b"x" * 99_999 + b"\n\xff\ntables\r\n\0", [], refused)
 
+    def test_lines_that_a_new_user_might_type(self):
+        first = hand.FRONT.count(b"\n") + 1
+        told = [f"line {number}: {line}" for number, line in enumerate(hand.TOLD, first)]
+        self.check(hand.STREAM, [], told)
+        lines = [*hand.FRONT.decode().splitlines(), ".explain off", *hand.LINES]
+        told = [f"line {number}: {line.split(':')[0]}" for number, line in enumerate(hand.TOLD, first + 1)]
+        self.check(lines, [], told)
+
     def test_each_command_of_the_shell(self):
-        dump, csv, script = self.room / "all", self.room / "emp.csv", self.file("s", ".mode json\nselect id from dept\nnothing\n")
+        dump, csv, script = self.room / "all", self.room / "emp.csv", self.file("s", ".mode json\nselect id from dept\n.explain off\nnothing\n")
         (self.room / "more.csv").write_text("id,name,dept\n3,Cy,10\n")
         lines = [
             *COMPANY,
@@ -130,7 +150,7 @@ class Piped(WithFolder):
         ]
         ran = self.ran(lines)
         out = ran.stdout.decode()
-        self.assertEqual(ran.stderr.decode(), f"mmdb-shell: {script}, line 3: error 20 not a command\n")
+        self.assertEqual(ran.stderr.decode(), f"mmdb-shell: {script}, line 4: error 20 not a command\n")
         expected = [".timer on|off", "  tells after each line how long it took", "dept", "emp", COMPANY[1], COMPANY[2]]
         expected += ['[{"dept.id": 10}]', "table,column,kind,declared", "dept,id,tree,with the table"]
         expected += ["emp,id,tree,with the table", "emp,dept,tree,by index", "tree", "| emp.id | emp.name | emp.dept |"]
@@ -146,7 +166,7 @@ class Piped(WithFolder):
         self.assertEqual(self.ran([], "--version").stdout.decode(), f"mmdb-shell {harness.VERSION}\n")
         self.assertIn("--policy", self.ran([], "--help").stdout.decode())
         self.check([".policy", ".mode"], ["merge", "json"], said=["--policy", "merge", "--mode", "json"])
-        self.check(["table t (id int)", "insert t (1)", "insert t (2)"], [], ["line 3: error 43 table full"], said=["--rows", "1"])
+        self.check(["table t (id int)", "insert t (1)", "insert t (2)"], [], ["line 3: error 43 table full: t has 1 rows, and there can be no more"], said=["--rows", "1"])
         for said in (["--policy", "fast"], ["--rows", "0"], ["--block", "x"], ["file"]):
             with self.subTest(said), contextlib.redirect_stderr(io.StringIO()) as err, self.assertRaises(SystemExit) as ended:
                 starting.main(said)
@@ -259,7 +279,7 @@ class AtATerminal(WithFolder):
         box = "┌────────┬──────────┬──────────┐\n│ emp.id │ emp.name │ emp.dept │\n├────────┼──────────┼──────────┤\n"
         box += "│      1 │ Ann      │       10 │\n│      2 │ ''       │          │\n└────────┴──────────┴──────────┘\n2 rows\n"
         self.assertEqual(shell.ask("select * from emp"), box)
-        self.assertEqual(shell.ask("insert dept (10, '')"), "error 41 key exists: a row with that key is there already\n")
+        self.assertEqual(shell.ask("insert dept (10, '')"), "error 41 key exists: dept has a row with the key 10\n")
         shell.type("load dept 9\nid,n")
         shell.wait_for(" ...> id,n")
         shell.interrupt()
@@ -272,6 +292,23 @@ class AtATerminal(WithFolder):
         for asked in re.search(r"^```\n(.*?)^```$", PAGE, re.MULTILINE | re.DOTALL)[1].split("mmdb> ")[1:]:
             line, answer = asked.split("\n", 1)
             self.assertEqual(shell.ask(line), answer)
+        shell.type(".quit\n")
+        self.assertEqual(shell.end(), 0)
+
+    def test_a_caret_under_the_place(self):
+        shell = self.typed()
+        for line in COMPANY:
+            shell.ask(line)
+        wanted = "error 20 not a command: column 10: wanted from, found frm\n"
+        self.assertEqual(shell.ask("select * frm emp"), f"  select * frm emp\n           ^\n{wanted}")
+        wanted = "error 20 not a command: column 30: 12abc is no number, and a name begins with a letter\n"
+        self.assertEqual(shell.ask("select * from emp where id = 12abc"), f"  select * from emp where id = 12abc\n{' ' * 31}^\n{wanted}")
+        self.assertEqual(shell.ask("drop table staff"), "error 30 no such table: staff is no table\n")
+        path = self.file("script", "# a script\n insert emp (3 'Cy', 10)\n")
+        told = f"   insert emp (3 'Cy', 10)\n                 ^\n{path}, line 2: error 20 not a command: column 16: wanted a comma or ), found 'Cy'\n"
+        self.assertEqual(shell.ask(f".read {path}"), f"{told}{path} is read: 1 lines done, 1 refused\n")
+        self.assertEqual(shell.ask(".explain off"), "")
+        self.assertEqual(shell.ask("select * frm emp"), "error 20 not a command\n")
         shell.type(".quit\n")
         self.assertEqual(shell.end(), 0)
 
@@ -388,8 +425,8 @@ class Refusals(WithShell):
             (".load t", "it is written .load TABLE FILE"),
             (".quit now", "it is written .quit"),
             (".read 'a", "a quote mark is left open, or a backslash ends the line"),
-            (".schema u", "error 30 no such table"),
-            (".load u x", "error 30 no such table"),
+            (".schema u", "error 30 no such table: u is no table"),
+            (".load u x", "error 30 no such table: u is no table"),
             (f".load t {self.room}/no", f"there is no {self.room}/no"),
             (f".load t {self.room}", f"{self.room} is a folder"),
             (f".save t {self.room}", f"{self.room} is a folder"),
@@ -399,7 +436,8 @@ class Refusals(WithShell):
             (f".restore {self.room}/no", "the database has tables, and only an empty one is restored into"),
             (".policy fast", "a policy is one of auto, scan, hash, tree, merge"),
             (".mode fast", "a mode is one of box, csv, json, markdown"),
-            (".timer fast", "a timer is on or off"),
+            (".timer fast", "it is on or off, not fast"),
+            (".explain why", "it is on or off, not why"),
             (".help fast", "there is no help for fast; .help lists what there is"),
             (".read ''", "'' is no name of a file"),
             ("help", "error 20 not a command: what is for the shell has a dot in front; .help lists it"),
@@ -435,23 +473,28 @@ class Loads(WithShell):
             ("int", [f"{at}" for at in range(100)], []),
             ("text", [f"k{at:03}" for at in range(0, 200, 2)], ["''", "'k013'", "'k0990'", "'z'"]),
         ):
-            for last, why in (
-                (keys[3], "error 41 key exists (record 101)"),
-                ("x,7", "error 62 bad record 101"),
+            key = keys[3] if kind == "int" else f"'{keys[3]}'"
+            for last, why, reason in (
+                (keys[3], "error 41 key exists (record 101)", f"t or an earlier record has the key {key}"),
+                (f"{keys[-1]}z\n{keys[-1]}z", "error 41 key exists (record 102)", f"record 101 has the key '{keys[-1]}z' too"),
+                ("x,7", "error 62 bad record 101", "a row of t has a field for each column: 1, not 2"),
             ):
+                if kind == "int" and "z" in last:
+                    continue
                 with self.subTest(kind=kind, last=last):
                     shell = self.shell()
                     self.do(shell, f"table t (id {kind})", *(f"insert t ({key})" for key in old))
                     before = shell.db.execute("select * from t")
                     path = self.file("t.csv", "\n".join(["id", *keys, last]) + "\n")
-                    self.do(shell, f".load t {path}", refused=f"{why}; no row of {path} went in")
+                    reason = f"record {re.search('[0-9]{3}', why)[0]}: {reason}"
+                    self.do(shell, f".load t {path}", refused=f"{why}; no row of {path} went in: {reason}")
                     self.assertEqual(shell.db.execute("select * from t"), before)
 
     def test_other_refusals(self):
         shell = self.shell()
         self.do(shell, "table t (id int, s text)")
         path = self.file("t.csv", "id,t\n1,a\n")
-        self.do(shell, f".load t {path}", refused=f"error 61 bad header; its first record has to be id,s; no row of {path} went in")
+        self.do(shell, f".load t {path}", refused=f"error 61 bad header; its first record has to be id,s; no row of {path} went in: field 2 of the header is t, and column 2 is s")
         path = self.file("t.csv", "id,s\n" + "1,a\n" * 1 + '2,"' + "x" * 70 + "\n")
         why = "behind record 1 no record ends within a block of 64 bytes; is a quote mark left open? (no row of the file went in)"
         self.do(shell, f".load t {path}", refused=why)
@@ -498,6 +541,9 @@ class Loads(WithShell):
                 is_select = line.startswith("select")
                 self.selects += is_select
                 return b"error 90 no memory\n" if is_select and self.selects == 2 else shell.db.answer(line, block)
+
+            def reason(self, _line, _block):
+                return None
 
         load = moving.Load(Poor(), schema.table_of(shell.db, "t"), shell.interrupts)
         with self.assertRaises(mmdb.Refused):
@@ -592,7 +638,7 @@ class Dumps(WithShell):
             (whole[: whole.index(b"load e")], "is a part of a dump"),
             (whole + b"tables\n", "goes on behind the end of the dump"),
             (whole.replace(b"index u k hash", b"drop table u ", 1), "line 3 is no line of a dump"),
-            (whole.replace(b"load e ", b"load f ", 1), "error 30 no such table"),
+            (whole.replace(b"load e ", b"load f ", 1), "error 30 no such table: f is no table"),
         ):
             with self.subTest(why=why):
                 again = self.shell(block=1 << 15)
@@ -701,6 +747,19 @@ class Tables(unittest.TestCase):
         drawn = "".join(boxes._tabulate_box()(self.CELLS))
         self.assertIn("|    4 | 日本|x |\n", drawn)
         self.assertEqual(drawn.count("\n"), 7)
+
+    def test_a_caret(self):
+        with unittest.mock.patch.dict(os.environ, {"COLUMNS": "42"}):
+            for line, column, pointed in (
+                ("selct", 1, "  selct\n  ^\n"),
+                ("tables;", 7, "  tables;\n        ^\n"),
+                ("select", 7, "  select\n        ^\n"),
+                ("\tinsert 日本 x", 12, "  ␉insert 日本 x\n               ^\n"),
+                (f"{'a' * 30}bc{'d' * 30}", 32, f"  {'a' * 9}bc{'d' * 9}\n{' ' * 12}^\n"),
+                (f"{'日' * 30}b", 31, f"  {'日' * 10}b\n{' ' * 22}^\n"),
+            ):
+                with self.subTest(line):
+                    self.assertEqual(showing.pointed_at(line, column), pointed)
 
     def test_a_terminal_without_such_marks(self):
         cells = boxes.Cells(["a"], [["1"]], [True])

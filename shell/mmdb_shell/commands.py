@@ -117,7 +117,7 @@ def _load(shell: Shell, name: str, path: str) -> None:
             count = moving.Load(shell.db, table, shell.interrupts).run(file, shell.settings.block)
     except mmdb.Refused as why:
         wanted = f"; its first record has to be {table.header.decode().strip()}" if why.number == 61 else ""
-        raise Trouble(f"{why}{wanted}; no row of {path} went in") from why
+        raise Trouble(f"{moving.numbered(why)}{wanted}; no row of {path} went in", why.reason) from why
     shell.note(f"{count} rows of {path} are in {name}")
 
 
@@ -192,9 +192,18 @@ def _mode(shell: Shell, name: str = "") -> None:
 
 @_dotted(".timer on|off", "tells after each line how long it took")
 def _timer(shell: Shell, word: str) -> None:
+    shell.has_timer = _is_on(word)
+
+
+@_dotted(".explain on|off", "tells why a line is refused")
+def _explain(shell: Shell, word: str) -> None:
+    shell.explains = _is_on(word)
+
+
+def _is_on(word: str) -> bool:
     if word not in ("on", "off"):
-        raise Trouble("a timer is on or off")
-    shell.has_timer = word == "on"
+        raise Trouble(f"it is on or off, not {word}")
+    return word == "on"
 
 
 @_dotted(".quit", "leaves; Ctrl-D does so too")

@@ -8,7 +8,7 @@ from typing import BinaryIO, Iterator, NamedTuple, Optional
 import mmdb
 
 from .cutting import blocks
-from .moving import all_keys, answer, can_stand_in_a_line, keys_in, records, spelled
+from .moving import all_keys, answer, can_stand_in_a_line, keys_in, numbered, records, spelled
 from .reading import Source, Stream, block_length
 from .schema import Table, tables_of
 from .trouble import Trouble, Unreadable
@@ -103,11 +103,14 @@ def _whole(source: Source, line: bytes, limit: int) -> Request:
     count = block_length(line)
     try:
         return Request(line, None if count is None else source.block(count, limit))
-    except (mmdb.Refused, Unreadable) as why:
+    except mmdb.Refused as why:
+        raise Trouble(f"{source.name}, line {source.number}: {numbered(why)}", why.reason) from why
+    except Unreadable as why:
         raise Trouble(f"{source.name}, line {source.number}: {why}") from why
 
 
 def _do(db: mmdb.Database, request: Request, place: str) -> None:
-    told = db.answer(*request)
-    if told.startswith(b"error "):
-        raise Trouble(f"{place}{told[:-1].decode()}")
+    try:
+        answer(db, *request)
+    except mmdb.Refused as why:
+        raise Trouble(f"{place}{numbered(why)}", why.reason) from why

@@ -20,7 +20,11 @@ PIECE = 1 << 20
 _LEAST_RANGE, _MOST_RANGES = 4096, 256
 
 _TEXT_KEY = re.compile(rb'(?:"((?:[^"]|"")*)"|([^"\n]*))\n')
-_PLACE = re.compile(r"\d+(?=\)?\Z)")
+_DIGITS = re.compile(r"\d+")
+# Where the words of a refusal tell of a record, and its reason of one or two. What else it quotes stands behind that.
+_OF_A_RECORD = re.compile(r"\d+\)?\Z")
+_OF_RECORDS = re.compile(r"\Arecord \d+: (?:record \d+ )?")
+_KEY_IN_TABLE = re.compile(r"\A(record \d+): (\w+) has a row with the key ")
 
 
 def spelled(key: Key) -> str:
@@ -38,8 +42,13 @@ def answer(db: mmdb.Database, line: Union[str, bytes], block: Optional[bytes] = 
     told = db.answer(line, block)
     if told.startswith(b"error "):
         number, text = told[len(b"error ") : -1].decode().split(" ", 1)
-        raise mmdb.Refused(int(number), text)
+        raise mmdb.Refused(int(number), text, None, db.reason(line, block))
     return told
+
+
+def numbered(why: mmdb.Refused) -> str:
+    """What is answered of a refusal, without its reason."""
+    return f"error {why.number} {why.text}"
 
 
 def keys_in(selected: bytes, kind: str) -> Iterator[Key]:
@@ -109,11 +118,9 @@ class Load:
         try:
             self.count += self._db.load_csv(self._table.name, block.content)
         except mmdb.Refused as why:
-            place = _PLACE.search(why.text)
-            if place is None or not self.count:
+            if not self.count:
                 raise
-            text = why.text[: place.start()] + str(self.count + int(place[0])) + why.text[place.end() :]
-            raise mmdb.Refused(why.number, text) from why
+            raise _in_file(why, self.count) from why
 
     def _keys_before(self) -> bytes:
         """The keys before a load of several blocks, by which its rows can be taken back."""
@@ -134,7 +141,7 @@ class Load:
             try:
                 answer(self._db, f"delete {name}" + between(key.name, (">", below), ("<", above)))
             except (MemoryError, mmdb.Refused) as why:
-                told = str(why) or "no memory"
+                told = numbered(why) if isinstance(why, mmdb.Refused) else "no memory"
                 raise Trouble(f"rows of the file stay in {name}, since to take them back is refused: {told}") from why
 
     def _keys_now(self) -> Optional[Iterator[Key]]:
@@ -143,6 +150,18 @@ class Load:
             return keys_in(answer(self._db, all_keys(self._table)), self._table.key.kind)
         except (MemoryError, mmdb.Refused):
             return None
+
+
+def _in_file(why: mmdb.Refused, before: int) -> mmdb.Refused:
+    """A refusal of a block, told of the file in which so many records stand before it."""
+
+    def in_file(found: "re.Match[str]") -> str:
+        return _DIGITS.sub(lambda number: str(before + int(number[0])), found[0])
+
+    reason = why.reason
+    if reason:
+        reason = _OF_RECORDS.sub(in_file, _KEY_IN_TABLE.sub(r"\1: \2 or an earlier record has the key ", reason))
+    return mmdb.Refused(why.number, _OF_A_RECORD.sub(in_file, why.text), why.line, reason)
 
 
 def _gaps(old: Iterator[Key], now: Optional[Iterator[Key]]) -> Iterator[Tuple[Optional[Key], Optional[Key]]]:

@@ -50,11 +50,13 @@ class Source:
         if count <= limit:
             block = self.take(count)
             if len(block) < count:
-                raise mmdb.Refused(13, "block cut short")
+                come = f"the line asks for {count} bytes, and {len(block)} have come"
+                raise mmdb.Refused(13, "block cut short", None, come)
             return block
+        most = f"the line asks for {count} bytes, and a block has at most {limit}"
         while count and self.take(min(count, _PIECE)):
             count -= min(count, _PIECE)
-        raise mmdb.Refused(12, "block too long")
+        raise mmdb.Refused(12, "block too long", None, most)
 
 
 class Stream(Source):

@@ -59,7 +59,7 @@ def table_of(db: mmdb.Database, name: str) -> Table:
     """The table of that name. Raises the refusal 30 where there is none."""
     table = tables_of(db).get(name)
     if table is None:
-        raise mmdb.Refused(30, "no such table")
+        raise mmdb.Refused(30, "no such table", None, f"{name} is no table")
     return table
 
 

@@ -3,6 +3,7 @@
 from __future__ import annotations
 
 import os
+import re
 import time
 from typing import List, NamedTuple, Optional, TextIO, Union
 
@@ -12,14 +13,17 @@ from . import commands
 from .boxes import Box
 from .files import full_name
 from .interrupts import Interrupts
-from .moving import answer
+from .moving import answer, numbered
 from .reading import Source, block_length
-from .showing import Names, Rows, count, modes
+from .showing import Names, Rows, count, modes, pointed_at, visible
 from .trouble import NAME, Trouble, Unreadable, Unwritable
-from .words import COMMANDS, REFUSALS
 
 # How deep files may read files.
 _DEEPEST = 16
+# Words that are no commands of the language, and may be meant for the shell.
+_FOR_THE_SHELL = [[word] for word in b"help quit exit schema read mode".split()]
+# How a reason begins that tells of a place in the line.
+_COLUMN = re.compile(r"column (\d+): ")
 
 
 class Settings(NamedTuple):
@@ -43,6 +47,7 @@ class Shell:
         self.modes = modes(box)
         self.mode = "box" if is_at_terminal else "csv"
         self.has_timer = False
+        self.explains = True
         #: How many requests were done and how many were refused.
         self.done = self.refused = 0
         self._out = out
@@ -150,11 +155,10 @@ class Shell:
         place = ""
         if not source.is_typed and not isinstance(why, Unreadable):
             place = f"{source.name}, line {source.number}: " if source.name else f"line {source.number}: "
-        hint = ""
-        if isinstance(why, mmdb.Refused):
-            hint = _hint(line, why) or (REFUSALS.get(why.number, "") if source.is_typed else "")
-        what = str(why) or "no memory was found for it"
-        self.tell(f"{place}{what}" + (f": {hint}" if hint else ""))
+        what = numbered(why) if isinstance(why, mmdb.Refused) else str(why) or "no memory was found for it"
+        reason = _reason_of(line, why) if self.explains else ""
+        pointed = _pointed(line, why) if reason and self._is_at_terminal else ""
+        self.tell(f"{pointed}{place}{what}" + (f": {visible(reason)}" if reason else ""))
 
     def note(self, text: str) -> None:
         """Says at a terminal what a command of the shell has done."""
@@ -193,16 +197,18 @@ class Shell:
         old.close()
 
 
-def _hint(line: bytes, why: mmdb.Refused) -> str:
-    """What a line that spells no command may want."""
-    if why.number != 20:
-        return ""
-    text = line.decode("utf-8", "replace").strip(" \t\r")
-    first = text.split(" ", 1)[0]
-    if text.endswith(";"):
-        return "no `;` is needed at the end of a line; leave it out"
-    if first.lower() in COMMANDS and first not in COMMANDS:
-        return f"words are in small letters, as {first.lower()}"
-    if first in ("help", "quit", "exit", "schema", "read", "mode"):
+def _reason_of(line: bytes, why: Exception) -> str:
+    """Why a line isn't done, beyond what is told of that anyhow."""
+    if _is_no_command(why) and line.split()[:1] in _FOR_THE_SHELL:
         return "what is for the shell has a dot in front; .help lists it"
-    return ""
+    return why.reason or "" if isinstance(why, (mmdb.Refused, Trouble)) else ""
+
+
+def _pointed(line: bytes, why: Exception) -> str:
+    """The line with a caret under the place that the reason tells of, where it tells of one."""
+    column = _COLUMN.match(_reason_of(line, why)) if _is_no_command(why) else None
+    return pointed_at(line.decode(), int(column[1])) if column else ""
+
+
+def _is_no_command(why: Exception) -> bool:
+    return isinstance(why, mmdb.Refused) and why.number == 20

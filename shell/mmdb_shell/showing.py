@@ -8,6 +8,7 @@ from __future__ import annotations
 
 import json
 import re
+import shutil
 from typing import Callable, Dict, Iterator, List, Sequence
 
 import mmdb
@@ -42,7 +43,7 @@ def cell(value: mmdb.Value) -> str:
         return ""
     if isinstance(value, int):
         return str(value)
-    shown = _CONTROLS.sub(_picture, value)
+    shown = visible(value)
     return f"'{shown}'" if _IS_ODD(value) or not width(shown) else shown
 
 
@@ -94,6 +95,21 @@ def _escaped(mark: "re.Match[str]") -> str:
 def modes(box: Callable[[Cells], Iterator[str]]) -> Dict[str, Mode]:
     """The modes by name, with a way to draw a box."""
     return {"box": lambda names, rows: box(cells_of(names, rows)), "csv": csv, "json": as_json, "markdown": markdown}
+
+
+def pointed_at(line: str, column: int) -> str:
+    """A line with a caret under one of its columns, or as much of it around the caret as the terminal is wide."""
+    room = max(shutil.get_terminal_size().columns - 2, 8)
+    front, behind = visible(line[: column - 1]), visible(line[column - 1 :])
+    if width(front) + width(behind) > room:
+        # (a character takes two places at most)
+        front, behind = front[-(room // 4) :], behind[: room // 4]
+    return f"  {front}{behind}\n  {' ' * width(front)}^\n"
+
+
+def visible(text: str) -> str:
+    """A text in which nothing moves a terminal's place."""
+    return _CONTROLS.sub(_picture, text)
 
 
 def count(rows: Rows) -> str:

@@ -4,7 +4,7 @@ from __future__ import annotations
 
 import sys
 from contextlib import contextmanager
-from typing import Iterator
+from typing import Iterator, Optional
 
 #: What the shell calls itself where it speaks beside the answers.
 NAME = "mmdb-shell"
@@ -15,6 +15,11 @@ DONE, REFUSED, UNWRITABLE, NO_MEMORY, NO_LIBRARY, INTERRUPTED = 0, 1, 3, 4, 70, 
 
 class Trouble(Exception):
     """A sentence for the user: what was asked isn't done, and all is as it was."""
+
+    def __init__(self, text: str, reason: Optional[str] = None) -> None:
+        super().__init__(text)
+        #: The reason of the refusal that it is about, where it is about one.
+        self.reason = reason
 
 
 class Unreadable(Trouble):
