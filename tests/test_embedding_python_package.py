@@ -15,14 +15,8 @@ import harness
 import library
 
 BROUGHT = {"libmmdb.so", "LICENSE-APACHE", "LICENSE-MIT", "THIRD-PARTY"}
-ASKS = """
-import setuptools, pip
-assert int(setuptools.__version__.split(".")[0]) >= 61
-try:
-    import setuptools.command.bdist_wheel
-except ImportError:
-    import wheel.bdist_wheel
-"""
+# (the package wants pip 20.0, and these tests one that installs into another Python)
+ASKS = "import pip; assert tuple(map(int, pip.__version__.split('.')[:2])) >= (22, 3)"
 # (pip reads these; nothing is to be sought in a network, and nothing kept)
 QUIETLY = {"PIP_NO_INDEX": "1", "PIP_NO_CACHE_DIR": "1", "PIP_DISABLE_PIP_VERSION_CHECK": "1", "PIP_ROOT_USER_ACTION": "ignore"}
 
@@ -44,7 +38,7 @@ def python_that_does(program):
 
 @functools.cache
 def builder():
-    """A Python that can build wheels, if there is one."""
+    """A Python that has pip, if there is one."""
     return python_that_does(ASKS)
 
 
@@ -54,7 +48,7 @@ def checker():
     return python_that_does("import mypy")
 
 
-@unittest.skipUnless(builder(), "no Python here has pip, setuptools from 61 on, and what makes wheels")
+@unittest.skipUnless(builder(), "no Python here has pip from 22.3 on")
 class Builds(unittest.TestCase):
     """Builds in a copy of what a build reads, whose release is the library that is tested."""
 
@@ -64,7 +58,7 @@ class Builds(unittest.TestCase):
         self.room = pathlib.Path(room.name)
         self.top = self.room / "copy"
         self.sources = self.top / "bindings" / "python"
-        no_builds = shutil.ignore_patterns("build", "*.egg-info", "__pycache__", *BROUGHT)
+        no_builds = shutil.ignore_patterns("__pycache__", *BROUGHT)
         shutil.copytree(binding.FOLDER, self.sources, ignore=no_builds)
         (self.top / "release").mkdir()
         for name in ("LICENSE-MIT", "LICENSE-APACHE", "release/THIRD-PARTY"):
@@ -73,11 +67,12 @@ class Builds(unittest.TestCase):
 
     def install(self, what):
         """How pip's installation of a folder or an sdist ended, into a folder of its own."""
-        words = ("install", "--no-build-isolation", "--no-deps", "--target", self.room / "installed", what)
-        return ran(builder(), "-m", "pip", *words, cwd=self.room)
+        return ran(builder(), "-m", "pip", "install", "--target", self.room / "installed", what, cwd=self.room)
 
     def sdist(self):
-        return ran(builder(), "setup.py", "--quiet", "sdist", "--dist-dir", self.room / "sdist", cwd=self.sources)
+        (self.room / "sdist").mkdir()
+        program = f"import building; print(building.build_sdist({str(self.room / 'sdist')!r}))"
+        return ran(sys.executable, "-c", program, cwd=self.sources)
 
     def check_installed(self):
         """The package is whole, and finds its library by itself."""
@@ -103,6 +98,7 @@ class Builds(unittest.TestCase):
         self.assertEqual(ended.returncode, 0, ended.stdout + ended.stderr)
         (self.top / "release" / "libmmdb.so").unlink()
         (packed,) = (self.room / "sdist").iterdir()
+        self.assertEqual(f"{packed.name}\n", ended.stdout)
         ended = self.install(packed)
         self.assertEqual(ended.returncode, 0, ended.stdout + ended.stderr)
         self.check_installed()
@@ -113,8 +109,33 @@ class Builds(unittest.TestCase):
         for ended in (self.install(self.sources), self.sdist()):
             self.assertNotEqual(ended.returncode, 0)
             self.assertRegex(ended.stdout + ended.stderr, f"mmdb: {missing} is missing, without which there is no package")
-        self.assertFalse((self.room / "installed").exists() or (self.room / "sdist").exists())
-        self.assertEqual(list(self.sources.glob("mmdb-*")), [])
+        self.assertFalse((self.room / "installed").exists())
+        self.assertEqual(list((self.room / "sdist").iterdir()), [])
+
+    def test_the_same_sources_give_the_same_wheel(self):
+        for name in ("one", "other"):
+            (self.room / name).mkdir()
+            program = f"import building; building.build_wheel({str(self.room / name)!r})"
+            ended = ran(sys.executable, "-c", program, cwd=self.sources)
+            self.assertEqual((ended.returncode, ended.stderr), (0, ""))
+        ((one,), (other,)) = [list((self.room / name).iterdir()) for name in ("one", "other")]
+        self.assertEqual((one.name, one.read_bytes()), (other.name, other.read_bytes()))
+
+    def test_in_an_environment(self):
+        """By pip into a virtual environment, whole and editable, and out again."""
+        python = self.room / "env" / "bin" / "python"
+        ended = ran(sys.executable, "-m", "venv", "--without-pip", self.room / "env", cwd=self.room)
+        self.assertEqual(ended.returncode, 0, ended.stderr)
+        pip = (builder(), "-m", "pip", "--python", python)
+        for words, package in (((), self.room / "env"), (("--editable",), self.sources)):
+            ended = ran(*pip, "install", *words, self.sources, cwd=self.room)
+            self.assertEqual(ended.returncode, 0, ended.stdout + ended.stderr)
+            told = ran(python, "-c", "import mmdb; print(mmdb.__file__, mmdb.Database().execute('tables'))", cwd=self.room)
+            self.assertEqual(told.stderr, "")
+            self.assertTrue(told.stdout.startswith(f"{package}/"), told.stdout)
+            ended = ran(*pip, "uninstall", "--yes", "mmdb", cwd=self.room)
+            self.assertEqual(ended.returncode, 0, ended.stdout + ended.stderr)
+            self.assertNotEqual(ran(python, "-c", "import mmdb", cwd=self.room).returncode, 0)
 
 
 @unittest.skipUnless(checker(), "no Python here has mypy")

@@ -275,6 +275,7 @@ class Package(Installs):
         subprocess.run(["md5sum", "--check", "--quiet", "DEBIAN/md5sums"], cwd=raw, check=True)
         fields = dict(line.split(": ", 1) for line in (raw / "DEBIAN" / "control").read_text().splitlines() if line[0] != " ")
         self.assertEqual((fields["Package"], fields["Version"]), ("mmdb", f"{harness.VERSION}-1"))
+        self.assertEqual((raw / "DEBIAN" / "prerm").stat().st_mode & 0o777, 0o755)
         self.assertEqual((raw / "usr" / "bin" / "mmdb").read_bytes(), harness.PROGRAM.read_bytes())
 
     @unittest.skipUnless(shutil.which("lintian"), "lintian is not there")

@@ -10,7 +10,6 @@ PLACES = (
     ("include/mmdb.h", r'^#define MMDB_VERSION "(.*)"$'),
     ("crates/mmdb/src/words.rt", r'\.version\("(.*)"\)'),
     ("bindings/python/mmdb/__init__.py", r'^__version__ = "(.*)"$'),
-    ("bindings/python/pyproject.toml", r'^version = "(.*)"$'),
     ("bindings/rust/Cargo.toml", r'^version = "(.*)"$'),
     ("bindings/rust/Cargo.lock", r'^name = "mmdb"\nversion = "(.*)"$'),
     ("examples/rust/Cargo.lock", r'^name = "mmdb"\nversion = "(.*)"$'),
