@@ -36,14 +36,29 @@ static int fails(const char *what, uint32_t status)
     return 0;
 }
 
-/* Shows a line and its answer. A refusal is an answer too; here only one that is expected is none of a failure. */
-static int shows(mmdb *db, const char *line, mmdb_bytes answer, uint32_t expected)
+/* Tells why the line was refused that was just answered, with its block. Gives 0 where no memory is found for that. */
+static int explains(mmdb *db, FILE *to, const char *line, const char *block, size_t length)
 {
+    mmdb_bytes reason;
+    mmdb_status status = mmdb_reason(db, line, strlen(line), block, length, &reason);
+    if (status != MMDB_DONE || reason.length == 0)
+        return fails(line, MMDB_NO_MEMORY);
+    fprintf(to, "(%.*s)\n", (int)reason.length, (const char *)reason.at);
+    return 1;
+}
+
+/* Shows a line and its answer, and why it was refused. A refusal is an answer too; here only one that is expected is
+   none of a failure. */
+static int shows(mmdb *db, const char *line, const char *block, size_t length, mmdb_bytes answer, uint32_t expected)
+{
+    uint32_t refusal = mmdb_refusal(db);
     printf("> %s\n", line);
     fwrite(answer.at, 1, answer.length, stdout);
-    if (mmdb_refusal(db) == expected)
-        return 1;
-    fprintf(stderr, "routes: %s: %.*s", line, (int)answer.length, (const char *)answer.at);
+    if (refusal == expected)
+        return refusal == 0 || explains(db, stdout, line, block, length);
+    fprintf(stderr, "routes: %s: refused by %" PRIu32 "\n", line, refusal);
+    if (refusal != 0)
+        explains(db, stderr, line, block, length);
     return 0;
 }
 
@@ -74,7 +89,7 @@ static int asks(mmdb *db, uint32_t expected, mmdb_bytes *answer, const char *for
     vsnprintf(line, sizeof line, format, values);
     va_end(values);
     status = mmdb_command(db, line, strlen(line), answer);
-    return status == MMDB_DONE ? shows(db, line, *answer, expected) : fails(line, status);
+    return status == MMDB_DONE ? shows(db, line, NULL, 0, *answer, expected) : fails(line, status);
 }
 
 static int declares(mmdb *db)
@@ -109,7 +124,7 @@ static int loads_routes(mmdb *db)
     }
     snprintf(line, sizeof line, "load route %zu", length);
     status = mmdb_load(db, line, strlen(line), block, length, &answer);
-    return status == MMDB_DONE ? shows(db, line, answer, 0) : fails(line, status);
+    return status == MMDB_DONE ? shows(db, line, block, length, answer, 0) : fails(line, status);
 }
 
 /* The record behind the one that begins there. No text of these tables has a line feed, so each record is a line. */
