@@ -1,5 +1,6 @@
 """The binding for Python: its page's programs, its examples, its calls and values, and random streams through it."""
 
+import pathlib
 import random
 import shutil
 import subprocess
@@ -11,6 +12,7 @@ import binding
 import embedding
 import hand
 import harness
+import library
 import model
 import sizes
 import streams
@@ -78,6 +80,21 @@ class Programs(unittest.TestCase):
             subprocess.run(["cc", "-shared", "-x", "c", "/dev/null", "-o", f"{folder}/libmmdb.so"], check=True)
             ended = binding.run_python("-c", "import mmdb", MMDB_LIBRARY=folder)
             self.assertRegex(ended.err, "ImportError: mmdb: .*libmmdb.so is another library")
+
+    def test_a_library_that_is_damaged(self):
+        """To load a part of one would end the process by a signal."""
+        whole = (library.folder() / "libmmdb.so").read_bytes()
+        with tempfile.TemporaryDirectory() as folder:
+            broken = pathlib.Path(folder) / "libmmdb.so"
+            for content in (b"", b"junk", b"junk" * 100, *(whole[:size] for size in (63, 64, 4096, len(whole) // 2, len(whole) - 1))):
+                broken.write_bytes(content)
+                with self.subTest(size=len(content)):
+                    ended = binding.run_python("-c", "import mmdb", MMDB_LIBRARY=folder)
+                    self.assertRegex(ended.err, "ImportError: mmdb: .*libmmdb.so is damaged: it is no library, or a part of one\n$")
+                    self.assertEqual(ended.status, 1)
+            broken.write_bytes(whole[:4] + b"\1" + whole[5:])
+            ended = binding.run_python("-c", "import mmdb", MMDB_LIBRARY=folder)
+            self.assertRegex(ended.err, "ImportError: mmdb: .*libmmdb.so can't be loaded: .*")
 
     def test_a_library_beside_the_package(self):
         with tempfile.TemporaryDirectory() as folder:

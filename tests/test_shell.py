@@ -176,6 +176,11 @@ class Piped(WithFolder):
         ran = self.ran([], env=self.environment(MMDB_LIBRARY=str(self.room)))
         self.assertEqual((ran.returncode, ran.stdout), (70, b""))
         self.assertRegex(ran.stderr.decode(), r"\Ammdb-shell: the library of mmdb can't be loaded: .*MMDB_LIBRARY.*\n\Z")
+        self.file("libmmdb.so", (library.folder() / "libmmdb.so").read_bytes()[:200_000])
+        ran = self.ran([], env=self.environment(MMDB_LIBRARY=str(self.room)))
+        why = f"{self.room}/libmmdb.so is damaged: it is no library, or a part of one"
+        self.assertEqual((ran.returncode, ran.stdout), (70, b""))
+        self.assertEqual(ran.stderr.decode(), f"mmdb-shell: the library of mmdb can't be loaded: {why}\n")
 
     def test_streams_that_are_closed(self):
         for closed, status, err in (
@@ -368,6 +373,17 @@ class AtATerminal(WithFolder):
         shell.ask("tables")
         shell.type("\x04")
         shell.wait_for("the history isn't kept: ")
+        self.assertEqual(shell.end(), 0)
+
+    def test_a_history_that_is_a_folder(self):
+        folder = self.room / "state" / "mmdb" / "history"
+        folder.mkdir(parents=True)
+        shell = Typed(self.environment())
+        shell.wait_for(f"the history of earlier runs isn't there: {folder} is a folder\n")
+        shell.wait_for("mmdb> ")
+        self.assertEqual(shell.ask("tables"), "ok 0\n")
+        shell.type("\x04")
+        shell.wait_for(f"the history isn't kept: {folder} is a folder\n")
         self.assertEqual(shell.end(), 0)
 
     def test_a_terminal_that_goes_away(self):

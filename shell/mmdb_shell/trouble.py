@@ -2,6 +2,8 @@
 
 from __future__ import annotations
 
+import errno
+import os
 import sys
 from contextlib import contextmanager
 from typing import Iterator, Optional
@@ -47,7 +49,8 @@ def sentence(path: str, why: OSError) -> str:
     """Why a file can't be had."""
     if isinstance(why, FileNotFoundError):
         return f"there is no {path}"
-    if isinstance(why, IsADirectoryError):
+    # (readline calls a folder an invalid argument)
+    if isinstance(why, IsADirectoryError) or os.path.isdir(path) and why.errno == errno.EINVAL:
         return f"{path} is a folder"
     if isinstance(why, PermissionError):
         return f"there is no right to {path}"

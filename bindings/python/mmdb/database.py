@@ -84,7 +84,9 @@ class Database:
             line = bound(line, parameters, named)
         sent = encoded(line)
         with self._lock:
-            answer = self._accepted(sent)
+            answer = self._answered(sent)
+            if answer.startswith(b"error "):
+                raise self._handle.refusal(answer, sent)
             if answer.startswith(b"rows "):
                 return self._reader.selected(answer.decode())
         return _outcome(line, answer)
@@ -121,7 +123,7 @@ class Database:
         check_kind("executemany", line, *_CHANGES)
         lines = [_made(line, row, number) for number, row in enumerate(rows, 1)]
         with self._lock:
-            return sum(_count(self._accepted(made)) for made in lines)
+            return sum(map(self._counted, lines))
 
     def load(self, table: str, rows: Iterable[Iterable[Value]]) -> int:
         """Puts these rows into a table, all of them or none, and gives how many they are.
@@ -163,7 +165,10 @@ class Database:
         """
         line = encoded(f"dump {table}")
         with self._lock:
-            return self._reader.dumped(self._accepted(line).decode())
+            answer = self._answered(line)
+            if answer.startswith(b"error "):
+                raise self._handle.refusal(answer, line)
+            return self._reader.dumped(answer.decode())
 
     def answer(self, line: Union[str, bytes], block: Optional[bytes] = None) -> bytes:
         """The bytes that the library answers to a line, refusals too. They are empty for comments and blank lines.
@@ -197,16 +202,16 @@ class Database:
             self._reader.forget()
             raise
 
-    def _accepted(self, line: bytes, block: Optional[bytes] = None) -> bytes:
-        """The same, where it is no refusal. Raises the refusal that it is."""
+    def _counted(self, line: bytes, block: Optional[bytes] = None) -> int:
+        """How many rows an insert, an update, a delete or a load was about. Raises the refusal of it."""
         answer = self._answered(line, block)
         if answer.startswith(b"error "):
             raise self._handle.refusal(answer, line, block or b"")
-        return answer
+        return int(answer[3:])
 
     def _loaded(self, table: str, block: bytes) -> int:
         """Loads a block. Of a table that isn't there it is empty, and the library tells what is wrong."""
-        return _count(self._accepted(encoded(f"load {table} {len(block)}"), block))
+        return self._counted(encoded(f"load {table} {len(block)}"), block)
 
 
 def _outcome(line: str, answer: bytes) -> Any:
@@ -216,11 +221,6 @@ def _outcome(line: str, answer: bytes) -> Any:
     if line.lstrip(" \t").startswith("tables"):
         return answer[: answer.rindex(b"ok ")].decode()
     return int(answer[3:]) if answer.startswith(b"ok ") else answer.decode()
-
-
-def _count(answer: bytes) -> int:
-    """How many rows an insert, an update, a delete or a load was about."""
-    return int(answer[3:])
 
 
 def _made(line: str, row: Any, number: int) -> bytes:

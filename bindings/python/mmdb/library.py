@@ -5,6 +5,7 @@ from __future__ import annotations
 import ctypes
 import ctypes.util
 import os
+import struct
 from typing import Any, Optional
 
 from .errors import NoMemory, Refused, WrongUse, refusal_of
@@ -34,11 +35,30 @@ def _path() -> str:
     return ctypes.util.find_library("mmdb") or _NAME
 
 
+def _is_whole(path: str) -> bool:
+    """Whether a file is a library with all that its front tells of, up to the table of its sections at its end. To load
+    a part of one would end the process."""
+    with open(path, "rb") as file:
+        front = file.read(64)
+        size = file.seek(0, os.SEEK_END)
+    if len(front) < 64 or not front.startswith(b"\x7fELF"):
+        return False
+    (table,) = struct.unpack_from("<Q", front, 40)
+    length, count = struct.unpack_from("<HH", front, 58)
+    return bool(table + length * count <= size)
+
+
 def _loaded() -> ctypes.CDLL:
     """The library."""
+    path = _path()
+    is_there = os.path.isfile(path)
     try:
-        return ctypes.CDLL(_path())
+        if is_there and not _is_whole(path):
+            raise ImportError(f"mmdb: {path} is damaged: it is no library, or a part of one")
+        return ctypes.CDLL(path)
     except OSError as why:
+        if is_there:
+            raise ImportError(f"mmdb: {path} can't be loaded: {why}") from why
         raise ImportError(
             f"mmdb: {why}; the shared library {_NAME} is missing: it stands in the folder that the variable "
             f"MMDB_LIBRARY names, in {os.path.dirname(os.path.abspath(__file__))}, or where the system keeps libraries"
