@@ -22,7 +22,7 @@ _LEAST_RANGE, _MOST_RANGES = 4096, 256
 _TEXT_KEY = re.compile(rb'(?:"((?:[^"]|"")*)"|([^"\n]*))\n')
 _DIGITS = re.compile(r"\d+")
 # Where the words of a refusal tell of a record, and its reason of one or two. What else it quotes stands behind that.
-_OF_A_RECORD = re.compile(r"\d+\)?\Z")
+_OF_A_RECORD = re.compile(r"record \d+\)?\Z")
 _OF_RECORDS = re.compile(r"\Arecord \d+: (?:record \d+ )?")
 _KEY_IN_TABLE = re.compile(r"\A(record \d+): (\w+) has a row with the key ")
 
