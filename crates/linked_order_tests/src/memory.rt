@@ -8,6 +8,7 @@ use lin_hash::LinHash;
 use mm_index::{ExactIndex, OrderedIndex, PlainBag, SortedVec};
 use no_memory::NoMemory;
 use part_raw::{MAX_TUPLES, Partitions, TupleRef};
+use std::alloc::Global;
 use std::test::Fail;
 use ttree::TTree;
 
@@ -18,12 +19,18 @@ const SECOND: u64 = 5;
 
 const BOOKS: u64 = 1_000;
 
-fn put_author(authors: &mut Partitions<Author>, key: u64) -> Result<TupleRef, NoMemory> {
-    if authors.len() >= MAX_TUPLES {
+fn put_author(
+    alloc: Global,
+    authors: &mut Partitions<Author>,
+    key: u64,
+) -> Result<TupleRef, NoMemory> {
+    if authors.len() >= MAX_TUPLES || authors.width() != 1 {
         return Err(NoMemory);
     }
+    let mut cells = Vec::new(alloc);
+    cells.push(Author { key })?;
     authors.reserve()?;
-    Ok(authors.put(Author { key }))
+    Ok(authors.put(&mut cells))
 }
 
 // A book with each key below 1,000, in a scattered order.
@@ -68,9 +75,9 @@ fn empty<I: OrderedIndex, E: ExactIndex>(
 {
     for key in 0..BOOKS {
         match shelf.find((by, key)) {
-            Some(r) => shelf.remove(r),
-            None => return Err(Refused::NoBook),
-        };
+            Some(r) if shelf.remove(r) => {}
+            _ => return Err(Refused::NoBook),
+        }
     }
     shelf.release_spares();
     Ok(())
@@ -108,10 +115,10 @@ fn hold<I: OrderedIndex + Drop, E: ExactIndex + Drop>(
 ) -> Result<(), Fail>
     requires { I.items tree ≡ [] }
 {
-    let mut authors = Partitions::new(rt.alloc());
-    let first = put_author(&mut authors, FIRST)?;
-    let second = put_author(&mut authors, SECOND)?;
-    let mut shelf = Shelf::new(rt.alloc(), &authors, tree, hash);
+    let mut authors = Partitions::new(rt.alloc(), 1)?;
+    let first = put_author(rt.alloc(), &mut authors, FIRST)?;
+    let second = put_author(rt.alloc(), &mut authors, SECOND)?;
+    let mut shelf = Shelf::new(rt.alloc(), &authors, tree, hash)?;
     println!(rt; "held: nothing")?;
     fill_and_empty(rt, &mut shelf, first, second)?;
     drop(shelf);

@@ -25,8 +25,8 @@ pub fn rank(authors: &Partitions<Author>, books: &Partitions<Book>, r: TupleRef)
     requires { IsSome (rank_at authors.now.tuples books.now.tuples r) }
     ensures { rank_at authors.now.tuples books.now.tuples r ≡ Some result }
 {
-    let book = books.get(r);
-    (authors.get(book.by).key, book.key)
+    let book = &books.get(r)[0];
+    (authors.get(book.by)[0].key, book.key)
 }
 
 /// Books by their ranks. It is sound while no two ranks are one.

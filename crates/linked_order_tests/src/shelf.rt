@@ -1,8 +1,9 @@
 //! A store of books under an ordered and an exact index, each seen by the clauses of its trait alone.
-ghost use Rattle.std.specs.Prelude.{◌≡◌, ◌≢◌, ◌<◌, ◌≤◌, [], Some, None, IsSome, IfSome, IfNone, OnOk, length};
+ghost use Rattle.std.specs.Prelude.{◌≡◌, ◌≢◌, ◌<◌, ◌≤◌, [], ◌∷◌, Some, None, IsSome, IfSome, IfNone, IfOk, OnOk, OnErr, length};
 ghost use Rattle.std.specs.FinMap as map;
 ghost use Rattle.part_raw.specs.declared.tuple_ref.TupleRef.{TupleRef};
 ghost use Rattle.linked_order_tests.specs.Kept.{IsKept, IsKeptBut};
+ghost use Rattle.part_raw.specs.Store.{tuple};
 ghost use Rattle.linked_order_tests.specs.Ranks.{rank_at};
 
 use crate::order::{Author, Book, RankOrder, RankProbe, rank};
@@ -28,7 +29,9 @@ impl From<NoMemory> for Refused {
 
 #[derive(Drop)]
 pub struct Shelf<'a, I, E> {
+    pub alloc: Global,
     pub authors: &'a Partitions<Author>,
+    // A book is the one cell of its tuple.
     pub books: Partitions<Book>,
     // The books by their ranks.
     pub tree: I,
@@ -38,16 +41,41 @@ pub struct Shelf<'a, I, E> {
 
 impl<'a, I: OrderedIndex, E: ExactIndex> Shelf<'a, I, E> {
     /// A shelf with no books, over two indexes that hold nothing.
-    pub fn new(alloc: Global, authors: &'a Partitions<Author>, tree: I, hash: E) -> Shelf<'a, I, E>
+    pub fn new(
+        alloc: Global,
+        authors: &'a Partitions<Author>,
+        tree: I,
+        hash: E,
+    ) -> Result<Shelf<'a, I, E>, NoMemory>
+    where
+        I: Drop,
+        E: Drop,
         requires { I.items tree ≡ [] }
-        ensures { IsKept result.authors.now.tuples result.books.tuples (I.items result.tree) (E.entries result.hash) }
+        ensures { IfOk result (λ shelf. IsKept shelf.authors.now.tuples shelf.books.tuples (I.items shelf.tree) (E.entries shelf.hash)) }
     {
-        Shelf {
+        let books = Partitions::new(alloc, 1)?;
+        Ok(Shelf {
+            alloc,
             authors,
-            books: Partitions::new(alloc),
+            books,
             tree,
             hash,
+        })
+    }
+
+    // Puts a book into the store, and into no index.
+    fn put(&mut self, book: Book) -> Result<TupleRef, NoMemory>
+        requires { 0 < self.old.books.free }
+        ensures put { IfOk result (λ r. (map.get self.old.books.tuples r ≡ None) × (self.new.books.tuples ≡ map.insert self.old.books.tuples r (tuple (book ∷ []) 0))) }
+        ensures err { OnErr result (self.new ≡ self.old) }
+        ensures rest { self.new ≡ record self.old { books = self.new.books } }
+    {
+        if self.books.width() != 1 {
+            return Err(NoMemory);
         }
+        let mut cells = Vec::new(self.alloc);
+        cells.push(book)?;
+        Ok(self.books.put(&mut cells))
     }
 
     /// The book with this rank.
@@ -96,8 +124,11 @@ impl<'a, I: OrderedIndex, E: ExactIndex> Shelf<'a, I, E> {
         if !self.authors.holds(book.by) {
             return Err(Refused::NoAuthor);
         }
-        let sought = (self.authors.get(book.by).key, book.key);
-        let r = self.books.put(book);
+        let Some(author) = self.authors.get(book.by).first() else {
+            return Err(Refused::NoAuthor);
+        };
+        let sought = (author.key, book.key);
+        let r = self.put(book)?;
         let mut probe = RankProbe {
             authors: self.authors,
             books: &self.books,
@@ -105,7 +136,7 @@ impl<'a, I: OrderedIndex, E: ExactIndex> Shelf<'a, I, E> {
             asked: 0,
         };
         if let Some(other) = self.tree.insert_unless_found(&mut probe, r) {
-            self.books.take(r);
+            self.books.remove(r);
             return Err(Refused::RankTaken(other));
         }
         self.hash.insert(sought.0, r);
@@ -124,13 +155,19 @@ impl<'a, I: OrderedIndex, E: ExactIndex> Shelf<'a, I, E> {
         if !self.authors.holds(to) {
             return Err(Refused::NoAuthor);
         }
-        let key = self.books.get(r).key;
-        let sought = (self.authors.get(to).key, key);
+        let Some(Book { by: _, key }) = self.books.get(r).first() else {
+            return Err(Refused::NoBook);
+        };
+        let Some(author) = self.authors.get(to).first() else {
+            return Err(Refused::NoAuthor);
+        };
+        let key = *key;
+        let sought = (author.key, key);
         if let Some(other) = self.find(sought) {
             return Err(Refused::RankTaken(other));
         }
         self.unlist(r);
-        *self.books.get_mut(r) = Book { by: to, key };
+        drop(self.books.replace(r, 0, Book { by: to, key }));
         let order = RankOrder {
             authors: self.authors,
             books: &self.books,
@@ -161,16 +198,17 @@ impl<'a, I: OrderedIndex, E: ExactIndex> Shelf<'a, I, E> {
         self.hash.remove(key, r);
     }
 
-    /// Takes a book out.
-    pub fn remove(&mut self, r: TupleRef) -> Option<Book>
+    /// Takes a book out. It tells whether it was there.
+    pub fn remove(&mut self, r: TupleRef) -> bool
         requires { IsKept self.old.authors.now.tuples self.old.books.tuples (I.items self.old.tree) (E.entries self.old.hash) }
         ensures { IsKept self.new.authors.now.tuples self.new.books.tuples (I.items self.new.tree) (E.entries self.new.hash) }
     {
         if !self.books.holds(r) {
-            return None;
+            return false;
         }
         self.unlist(r);
-        Some(self.books.take(r))
+        self.books.remove(r);
+        true
     }
 
     /// Gives back the memory of both indexes that is not in use.

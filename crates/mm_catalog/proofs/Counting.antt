@@ -12,7 +12,7 @@ use Rattle.std.proofs.lemmas.List.Sums.{sum_by-append}
 use Rattle.part_raw.proofs.Tuples.{get-insert_same}
 use Rattle.part_raw.specs.declared.tuple_ref.TupleRef.{TupleRef}
 use Rattle.mm_index.specs.Order.{insert_placed}
-use Rattle.mm_relation.specs.declared.row.Row.{Row}
+use Rattle.mm_relation.specs.Rows.{Row}
 use Rattle.mm_relation.specs.Changes.{IsInserted}
 use Rattle.mm_relation.specs.State.{tree_list, RelationState, IsKept, HasKey}
 use Rattle.mm_relation.proofs.KeyOrder.{same_elsewhere}

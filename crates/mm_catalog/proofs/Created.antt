@@ -24,7 +24,7 @@ use Rattle.plain_tables.specs.References.{referred, IsSound}
 use Rattle.plain_tables.specs.declared.schema.Column.{Column}
 use Rattle.plain_tables.specs.declared.schema.Schema.{Schema}
 use Rattle.plain_tables.specs.declared.resolved.Resolved.TheVariants as resolved
-use Rattle.mm_relation.specs.declared.row.Row.{Row}
+use Rattle.mm_relation.specs.Rows.{Row}
 use Rattle.mm_relation.specs.State.{RelationState, IsKept, IsCurrent, linked_keys}
 use Rattle.mm_catalog.specs.State.{CatalogState}
 use Rattle.mm_catalog.specs.Seen.{database_of, table_of, rows_of, plain_index}

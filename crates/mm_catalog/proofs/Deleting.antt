@@ -27,7 +27,7 @@ use Rattle.plain_tables.specs.declared.value.Value.{Value}
 use Rattle.plain_tables.proofs.RowLemmas.{key_cmp_total}
 use Rattle.plain_tables.proofs.SoundLemmas.{delete_keeps_sound}
 use Rattle.plain_tables.proofs.ValueLemmas.{value_cmp-exact}
-use Rattle.mm_relation.specs.declared.row.Row.{Row}
+use Rattle.mm_relation.specs.Rows.{Row}
 use Rattle.mm_relation.specs.Reading.{Keys, key_at}
 use Rattle.mm_relation.specs.State.{tree_list, RelationState, IsKept, IsCurrent, linked_keys}
 use Rattle.mm_catalog.specs.State.{CatalogState}

@@ -25,7 +25,7 @@ use Rattle.plain_tables.specs.declared.refusal.Refusal.TheVariants.{NoMemory}
 use Rattle.plain_tables.specs.declared.resolved.Resolved.TheVariants as resolved
 use Rattle.plain_tables.specs.declared.value.Value.{Value}
 use Rattle.plain_tables.proofs.SoundLemmas.{done_keeps_sound}
-use Rattle.mm_relation.specs.declared.row.Row.{Row}
+use Rattle.mm_relation.specs.Rows.{Row}
 use Rattle.mm_relation.specs.declared.row.Cell.{Cell}
 use Rattle.mm_relation.specs.Changes.{new_row}
 use Rattle.mm_relation.specs.State.{tree_list, RelationState, HasKey, linked_keys}

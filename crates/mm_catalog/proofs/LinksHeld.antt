@@ -14,7 +14,7 @@ use Rattle.part_raw.specs.TupleRefs.{ref_cmp}
 use Rattle.part_raw.specs.declared.tuple_ref.TupleRef.{TupleRef}
 use Rattle.mm_relation.specs.declared.row.Cell.TheVariants.{Held, Link}
 use Rattle.mm_relation.specs.declared.row.Cell.{Cell}
-use Rattle.mm_relation.specs.declared.row.Row.{Row}
+use Rattle.mm_relation.specs.Rows.{Row}
 use Rattle.mm_relation.specs.Reading.{Keys, cell_value, key_at, link_in, link_of, row_value}
 use Rattle.mm_relation.specs.State.{tree_list, RelationState, IsKept, linked_keys}
 use Rattle.mm_catalog.specs.State.{CatalogState}

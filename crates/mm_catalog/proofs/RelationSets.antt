@@ -23,7 +23,7 @@ use Rattle.mm_relation.specs.Order.{column_cmp, column_cmp_total}
 use Rattle.mm_relation.specs.Reading.{Keys, cell_value, key_at, row_value, value_at}
 use Rattle.mm_relation.specs.Settings.{with_cells}
 use Rattle.mm_relation.specs.State.{tree_list, RelationState, IsCurrent, IsKept, no_keys}
-use Rattle.mm_relation.specs.declared.row.Row.{Row}
+use Rattle.mm_relation.specs.Rows.{Row}
 use Rattle.mm_catalog.specs.Assigned.{CellSet, links_at, row_links_at, set_links}
 use Rattle.mm_catalog.specs.Cells.{IsLinkOrNull}
 use Rattle.mm_catalog.specs.Linked.{HasLinksOrNulls, Linked, relation_links, row_links, target_at}

@@ -14,7 +14,7 @@ use Rattle.part_raw.specs.Store.{Tuples}
 use Rattle.part_raw.proofs.Lookup.{same_or_other}
 use Rattle.part_raw.proofs.Tuples.{get-remove_same, get-remove_other, held_tuple}
 use Rattle.mm_index.proofs.Placed.{remove_by_member}
-use Rattle.mm_relation.specs.declared.row.Row.{Row}
+use Rattle.mm_relation.specs.Rows.{Row}
 use Rattle.mm_relation.specs.Changes.{IsRemoved}
 use Rattle.mm_relation.specs.Order.{column_cmp, column_cmp_strict}
 use Rattle.mm_relation.specs.Reading.{key_at, row_value, value_at}

@@ -15,7 +15,7 @@ use Rattle.plain_tables.specs.declared.resolved.Assignment.{Assignment}
 use Rattle.plain_tables.specs.declared.value.Value.{Value}
 use Rattle.mm_relation.specs.declared.row.Cell.{Cell}
 use Rattle.mm_relation.specs.declared.row.Cell.TheVariants.{Held}
-use Rattle.mm_relation.specs.declared.row.Row.{Row}
+use Rattle.mm_relation.specs.Rows.{Row}
 use Rattle.mm_relation.specs.Reading.{Keys, cell_value, link_of, row_value}
 use Rattle.mm_relation.specs.Settings.{with_cells}
 use Rattle.mm_catalog.specs.Assigned.{CellSet, row_links_at, set_link, set_links}

@@ -10,7 +10,7 @@ use Rattle.std.proofs.lemmas.List.Elements.{filter_map-append}
 use Rattle.std.proofs.lemmas.List.Sums.{count_by-le-length}
 use Rattle.common_lemmas.proofs.Maps.{length-filter_map_within}
 use Rattle.part_raw.specs.declared.tuple_ref.TupleRef.{TupleRef}
-use Rattle.mm_relation.specs.declared.row.Row.{Row}
+use Rattle.mm_relation.specs.Rows.{Row}
 use Rattle.mm_relation.specs.State.{RelationState}
 use Rattle.mm_catalog.specs.declared.references.link.Link.{Link}
 use Rattle.mm_catalog.specs.Linked.{Linked, is_link_to, link_at}

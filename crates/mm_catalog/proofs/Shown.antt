@@ -16,7 +16,7 @@ use Rattle.plain_tables.specs.Tables.{key_cmp, with_row}
 use Rattle.plain_tables.specs.Values.{value_cmp}
 use Rattle.plain_tables.specs.declared.value.Value.{Value}
 use Rattle.plain_tables.proofs.RowLemmas.{key_cmp_total}
-use Rattle.mm_relation.specs.declared.row.Row.{Row}
+use Rattle.mm_relation.specs.Rows.{Row}
 use Rattle.mm_relation.specs.Changes.{IsInserted}
 use Rattle.mm_relation.specs.Reading.{Keys}
 use Rattle.mm_relation.specs.State.{tree_list, RelationState, IsKept, HasKey}

@@ -22,7 +22,7 @@ use Rattle.mm_index.proofs.Distinct.{IsSameBag-from_members}
 use Rattle.mm_index.proofs.Listed.{IsRising-agree}
 use Rattle.plain_tables.specs.declared.schema.Schema.{Schema}
 use Rattle.plain_tables.specs.declared.value.Value.{Value}
-use Rattle.mm_relation.specs.declared.row.Row.{Row}
+use Rattle.mm_relation.specs.Rows.{Row}
 use Rattle.mm_relation.specs.Order.{column_cmp, column_cmp_total}
 use Rattle.mm_relation.specs.Reading.{Keys}
 use Rattle.mm_relation.specs.State.{tree_list, RelationState, IsKept, no_keys}

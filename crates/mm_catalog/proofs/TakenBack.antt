@@ -12,7 +12,7 @@ use Rattle.std.proofs.lemmas.Option.{same_Some, slice_get_within, get_or_from_sl
 use Rattle.part_raw.specs.TupleRefs.{ref_cmp}
 use Rattle.part_raw.specs.declared.tuple_ref.TupleRef.{TupleRef}
 use Rattle.part_raw.proofs.Tuples.{same_ref_self, same_ref_true, same_tuples}
-use Rattle.mm_relation.specs.declared.row.Row.{Row}
+use Rattle.mm_relation.specs.Rows.{Row}
 use Rattle.mm_relation.specs.Changes.{KeepsSchema}
 use Rattle.mm_relation.specs.Reading.{key_at}
 use Rattle.mm_relation.specs.State.{tree_list, RelationState, IsKeyed, linked_keys}

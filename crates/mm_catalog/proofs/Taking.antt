@@ -10,7 +10,7 @@ use Rattle.part_raw.proofs.Tuples.{get-insert_same}
 use Rattle.plain_tables.specs.declared.refusal.Refusal.{Refusal}
 use Rattle.plain_tables.specs.declared.refusal.Refusal.TheVariants.{KeyExists}
 use Rattle.plain_tables.specs.declared.value.Value.{Value}
-use Rattle.mm_relation.specs.declared.row.Row.{Row}
+use Rattle.mm_relation.specs.Rows.{Row}
 use Rattle.mm_relation.specs.Changes.{IsInserted}
 use Rattle.mm_relation.specs.Reading.{key_at}
 use Rattle.mm_relation.specs.State.{RelationState, HasKey}

@@ -10,7 +10,7 @@ use Rattle.common_lemmas.proofs.Filters.{filter_all}
 use Rattle.part_raw.proofs.Tuples.{held_tuple}
 use Rattle.part_raw.specs.declared.tuple_ref.TupleRef.{TupleRef}
 use Rattle.mm_index.specs.Range.{from_range}
-use Rattle.mm_relation.specs.declared.row.Row.{Row}
+use Rattle.mm_relation.specs.Rows.{Row}
 use Rattle.mm_relation.specs.State.{tree_list, RelationState, IsKept}
 use Rattle.mm_catalog.specs.Linked.{Linked, row_links, relation_links}
 use Rattle.mm_catalog.specs.Counted as counted

@@ -25,7 +25,7 @@ use Rattle.mm_relation.specs.Reading.{cell_value, key_at, link_of}
 use Rattle.mm_relation.specs.State.{tree_list, RelationState, IsCurrent, IsKept, linked_keys}
 use Rattle.mm_relation.specs.declared.row.Cell.{Cell}
 use Rattle.mm_relation.specs.declared.row.Cell.TheVariants.{Held, Link as Named}
-use Rattle.mm_relation.specs.declared.row.Row.{Row}
+use Rattle.mm_relation.specs.Rows.{Row}
 use Rattle.mm_catalog.specs.declared.references.link.Link.{Link}
 use Rattle.mm_catalog.specs.Assigned.{AreSetBy, AreToColumns, CellSet, IsUpdated, links_at, row_links_at, set_link, set_links}
 use Rattle.mm_catalog.specs.Cells.{read_in, target_in}

@@ -9,7 +9,7 @@ use Rattle.plain_tables.specs.declared.refusal.Refusal.{Refusal}
 use Rattle.plain_tables.specs.declared.refusal.Refusal.TheVariants.{NoReferencedRow, NoMemory}
 use Rattle.plain_tables.specs.declared.resolved.Assignment.{Assignment}
 use Rattle.mm_relation.specs.declared.row.Cell.{Cell}
-use Rattle.mm_relation.specs.declared.row.Row.{Row}
+use Rattle.mm_relation.specs.Rows.{Row}
 use Rattle.mm_relation.specs.Changes.{IsChanged}
 use Rattle.mm_relation.specs.Reading.{link_of}
 use Rattle.mm_relation.specs.State.{RelationState, IsKept}

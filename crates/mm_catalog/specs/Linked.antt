@@ -11,7 +11,7 @@ use Rattle.plain_tables.specs.References.{referred}
 use Rattle.plain_tables.specs.declared.schema.Column.{Column}
 use Rattle.plain_tables.specs.declared.value.Value.{Value}
 use Rattle.plain_tables.specs.declared.value.Value.TheVariants.{Null}
-use Rattle.mm_relation.specs.declared.row.Row.{Row}
+use Rattle.mm_relation.specs.Rows.{Row}
 use Rattle.mm_relation.specs.declared.row.Cell.TheVariants.{Held}
 use Rattle.mm_relation.specs.Reading.{link_in}
 use Rattle.mm_relation.specs.State.{tree_list, RelationState}

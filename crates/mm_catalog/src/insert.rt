@@ -66,6 +66,7 @@ fn take_in(
     cells: Sequence<Cell>,
 ) -> Result<TupleRef, Refusal>
     requires kept { All IsKept before.old }
+    requires width { length cells + 1 ≡ length relation.old.targets }
     requires readable { IsReadable (linked_keys relation.old.targets before.old) (length relation.old.targets) (new_row key cells) }
     requires current { IsCurrent (linked_keys relation.old.targets before.old) relation.old }
     requires few { finite.len relation.old.rows < 16777216 }

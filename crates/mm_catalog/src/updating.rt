@@ -3,7 +3,7 @@ ghost use Rattle.std.specs.Prelude.{◌≡◌, ◌≢◌, ◌*◌, ◌<◌, ◌�
 ghost use Rattle.std.specs.List.{AllPairs};
 ghost use Rattle.std.specs.Option.{option_map};
 ghost use Rattle.std.specs.FinMap as finite;
-ghost use Rattle.mm_relation.specs.declared.row.Row.{Row};
+ghost use Rattle.mm_relation.specs.Rows.{Row};
 ghost use Rattle.mm_relation.specs.State.{RelationState, IsKept};
 ghost use Rattle.mm_catalog.specs.Linked.{target_at};
 ghost use Rattle.mm_catalog.specs.Counted.{linked_of, naming, none, IsHeldIn, HaveRoom, AreCountedBy};

@@ -10,7 +10,7 @@ use Rattle.part_raw.specs.Store.{Tuples}
 use Rattle.part_raw.proofs.Tuples.{get-insert_same, get-remove_other}
 use Rattle.mm_index.specs.Bag.{IsSameBag}
 use Rattle.mm_index.proofs.Bags.{IsSameBag-sym}
-use Rattle.mm_relation.specs.declared.row.Row.{Row}
+use Rattle.mm_relation.specs.Rows.{Row}
 use Rattle.mm_relation.specs.Reading.{Keys, value_at, row_value}
 use Rattle.mm_relation.specs.Order.{KeysDiffer}
 use Rattle.mm_relation.specs.State.{IsKeyed}

@@ -18,7 +18,8 @@ use Rattle.mm_index.proofs.Bags.{IsSameBag-trans, IsSameBag-from_same}
 use Rattle.mm_index.proofs.Listed.{IsRising-agree, All-insert_by, Contains-insert_by_itself, Contains-insert_by, length-insert_by, IsSameBag-insert_by, IsSameBag-remove_by, Contains-remove_by, Contains-from_remove_by, length-remove_by}
 use Rattle.mm_index.proofs.Placed.{IsRising-insert_by, IsRising-remove_by, insert_placed_by}
 use Rattle.plain_tables.specs.Values.{value_cmp}
-use Rattle.mm_relation.specs.declared.row.Row.{Row}
+use Rattle.plain_tables.specs.declared.value.Value.{Value}
+use Rattle.mm_relation.specs.Rows.{Row}
 use Rattle.mm_relation.specs.Reading.{value_at, key_at, row_value}
 use Rattle.mm_relation.specs.Order.{KeysDiffer, column_cmp, column_cmp_strict, held_from_value, option_exact}
 use Rattle.mm_relation.specs.State.{IsKeyed, HasKey, no_keys}
@@ -203,9 +204,9 @@ pub from_none : {A X : Type 0} (o : Option A) → is_some o ≡ false → IfNone
 from_none None none h = h
 from_none (Some a) none h = absurd (cc)
 
--- the row that was put is the one that is got
-pub got : (rows now : Tuples Row) (r : TupleRef) (t u : Row) → now ≡ insert rows r t → get now r ≡ Some u → u ≡ t
-got rows now r t u put found = some_alike u t (sym found ∙ ap (λ m. get m r) put ∙ get-insert_same rows r t)
+-- the key of the row that was put is the one that is read
+pub got_key : (rows now : Tuples Row) (r : TupleRef) (t : Row) (key : Value) → now ≡ insert rows r t → key_at now r ≡ Some key → key ≡ t.key
+got_key rows now r t key put found = some_alike key t.key (sym found ∙ ap (λ m. key_at m r) put ∙ ap (option_and_then (λ x. Some x.key)) (get-insert_same rows r t))
 
 -- to take out what was put in changes nothing
 pub taken_again : (rows : Tuples Row) (r : TupleRef) (t : Row) → get rows r ≡ None → remove (insert rows r t) r ≡ rows

@@ -1,6 +1,7 @@
+pub mod Stored
 pub mod Loops
 pub mod Placing
-pub mod Rows
+pub mod NoSuchKey
 pub mod Serving
 pub mod KeyOrder
 pub mod Changing

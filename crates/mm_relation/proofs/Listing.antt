@@ -12,7 +12,7 @@ use Rattle.part_raw.specs.declared.tuple_ref.TupleRef.{TupleRef}
 use Rattle.part_raw.specs.Store.{Tuples}
 use Rattle.mm_index.proofs.Bags.{IsSameBag-sym, IsSameBag-from_same, IsSameBag-push}
 use Rattle.mm_index.proofs.Placed.{cmp_itself}
-use Rattle.mm_relation.specs.declared.row.Row.{Row}
+use Rattle.mm_relation.specs.Rows.{Row}
 use Rattle.mm_relation.specs.declared.index.Index.{Index}
 use Rattle.mm_relation.specs.declared.index.Index.TheVariants.{Tree, Hash}
 use Rattle.mm_relation.specs.declared.index.IndexOn.{IndexOn}

@@ -15,7 +15,7 @@ use Rattle.mm_index.specs.Range.{NeverFalls}
 use Rattle.mm_index.proofs.Listed.{NeverFalls-from_rising}
 use Rattle.plain_tables.specs.declared.value.Value.{Value}
 use Rattle.plain_tables.specs.Values.{value_cmp, value_cmp_total}
-use Rattle.mm_relation.specs.declared.row.Row.{Row}
+use Rattle.mm_relation.specs.Rows.{Row}
 use Rattle.mm_relation.specs.Reading.{Keys, value_at, key_at}
 use Rattle.mm_relation.specs.Order.{column_cmp, option_exact}
 

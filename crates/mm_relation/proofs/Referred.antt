@@ -7,7 +7,7 @@ use Rattle.part_raw.specs.Store.{Tuples}
 use Rattle.part_raw.proofs.Tuples.{get-insert_same, get-insert_other, len-insert_held, held_tuple}
 use Rattle.part_raw.proofs.Lookup.{same_or_other}
 use Rattle.plain_tables.specs.declared.schema.Schema.{Schema}
-use Rattle.mm_relation.specs.declared.row.Row.{Row}
+use Rattle.mm_relation.specs.Rows.{Row}
 use Rattle.mm_relation.specs.declared.numbers.DeclaredIndex.{DeclaredIndex}
 use Rattle.mm_relation.specs.Reading.{Keys, value_at, row_value}
 use Rattle.mm_relation.specs.State.{RowTree, tree_list, IsKept, IsCurrent, IsReadable}

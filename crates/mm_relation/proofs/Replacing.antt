@@ -9,7 +9,7 @@ use Rattle.part_raw.proofs.Tuples.{get-insert_same, get-insert_other, get-remove
 use Rattle.part_raw.proofs.Lookup.{same_or_other}
 use Rattle.mm_index.specs.Order.{remove_by}
 use Rattle.plain_tables.specs.declared.numbers.ColumnNumber.{ColumnNumber}
-use Rattle.mm_relation.specs.declared.row.Row.{Row}
+use Rattle.mm_relation.specs.Rows.{Row}
 use Rattle.mm_relation.specs.declared.row.Cell.{Cell}
 use Rattle.mm_relation.specs.declared.index.Index.{Index}
 use Rattle.mm_relation.specs.declared.index.Index.TheVariants.{Tree, Hash}

@@ -8,7 +8,7 @@ use Rattle.part_raw.specs.Store.{Tuples}
 use Rattle.mm_index.proofs.Bags.{length-same_bag}
 use Rattle.ttree.specs.Held.{height}
 use Rattle.ttree.specs.Shape.{binary_digits}
-use Rattle.mm_relation.specs.declared.row.Row.{Row}
+use Rattle.mm_relation.specs.Rows.{Row}
 use Rattle.mm_relation.specs.Reading.{Keys}
 use Rattle.mm_relation.specs.Searching.{most_compared}
 use Rattle.mm_relation.specs.State.{RelationState, RowTree, tree_list, TreeServes, IsKept, IsCurrent, HasColumn, tree_of}

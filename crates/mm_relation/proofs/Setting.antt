@@ -21,7 +21,7 @@ use Rattle.part_raw.proofs.Refs.{ref_cmp_total}
 use Rattle.part_raw.proofs.Tuples.{same_ref_self, same_ref_true, get-insert_same, get-insert_other}
 use Rattle.part_raw.proofs.Lookup.{same_or_other}
 use Rattle.plain_tables.specs.declared.numbers.ColumnNumber.{ColumnNumber}
-use Rattle.mm_relation.specs.declared.row.Row.{Row}
+use Rattle.mm_relation.specs.Rows.{Row}
 use Rattle.mm_relation.specs.declared.row.Cell.{Cell}
 use Rattle.mm_relation.specs.Reading.{Keys, cell_value, row_value, value_at}
 use Rattle.mm_relation.specs.Settings.{with_cells, CellsSet, CanSet}

@@ -6,7 +6,7 @@ use Rattle.part_raw.specs.declared.tuple_ref.TupleRef.{TupleRef}
 use Rattle.part_raw.specs.Store.{Tuples}
 use Rattle.std.proofs.Common.{sym, subst}
 use Rattle.std.specs.Option.{option_and_then}
-use Rattle.mm_relation.specs.declared.row.Row.{Row}
+use Rattle.mm_relation.specs.Rows.{Row}
 use Rattle.mm_relation.specs.Reading.{Keys, AgreeOnLinks, row_value, value_at, hash_of_value}
 use Rattle.mm_relation.specs.Order.{value_at-agree, orders_alike}
 use Rattle.mm_relation.specs.State.{RelationState, tree_list, IsCurrent, HashServes}

@@ -11,7 +11,7 @@ use Rattle.mm_index.specs.Bag.{IsSameBag}
 use Rattle.mm_index.specs.Order.{IsRising, insert_by, remove_by}
 use Rattle.plain_tables.specs.declared.schema.IndexKind.{IndexKind}
 use Rattle.plain_tables.specs.declared.numbers.ColumnNumber.{ColumnNumber}
-use Rattle.mm_relation.specs.declared.row.Row.{Row}
+use Rattle.mm_relation.specs.Rows.{Row}
 use Rattle.mm_relation.specs.declared.row.Cell.{Cell}
 use Rattle.mm_relation.specs.declared.numbers.DeclaredIndex.{DeclaredIndex}
 use Rattle.mm_relation.specs.declared.index.Index.{Index}

@@ -8,7 +8,7 @@ use Rattle.plain_tables.specs.declared.value.Value.{Value}
 use Rattle.plain_tables.specs.Hashes.{hash_of}
 use Rattle.mm_relation.specs.declared.row.Cell.{Cell}
 use Rattle.mm_relation.specs.declared.row.Cell.TheVariants.{Held, Link}
-use Rattle.mm_relation.specs.declared.row.Row.{Row}
+use Rattle.mm_relation.specs.Rows.{Row}
 
 -- from reference column and reference to the key of the row that it names, where it is held
 abbrev pub Keys : Type 0

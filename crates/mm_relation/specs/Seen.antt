@@ -2,7 +2,7 @@
 use Rattle.std.specs.Prelude.{ℕ, List, Option, map}
 use Rattle.part_raw.specs.Store.{Tuples}
 use Rattle.plain_tables.specs.declared.schema.Schema.{Schema}
-use Rattle.mm_relation.specs.declared.row.Row.{Row}
+use Rattle.mm_relation.specs.Rows.{Row}
 use Rattle.mm_relation.specs.declared.numbers.DeclaredIndex.{DeclaredIndex}
 use Rattle.mm_relation.specs.State.{RelationState, RowTree}
 use Rattle.mm_relation.specs.Indexes.{Indexes, seen, trees_of, hashes_of}

@@ -14,7 +14,7 @@ use Rattle.plain_tables.specs.declared.value.Value.{Value}
 use Rattle.plain_tables.specs.declared.schema.Schema.{Schema}
 use Rattle.plain_tables.specs.declared.schema.IndexKind.{IndexKind}
 use Rattle.plain_tables.specs.declared.schema.IndexKind.TheVariants.{Tree, Hash}
-use Rattle.mm_relation.specs.declared.row.Row.{Row}
+use Rattle.mm_relation.specs.Rows.{Row}
 use Rattle.mm_relation.specs.declared.numbers.DeclaredIndex.{DeclaredIndex}
 use Rattle.mm_relation.specs.Reading.{Keys, key_at, row_value, hash_at}
 use Rattle.mm_relation.specs.Order.{KeysDiffer, column_cmp}

@@ -12,17 +12,17 @@ use crate::index::IndexOn;
 use crate::indexes::is_same;
 use crate::linked_keys::LinkedKeys;
 use crate::numbers::DeclaredIndex;
-use crate::row::Row;
+use crate::rows::Rows;
 use crate::tree::Tree;
 use no_memory::NoMemory;
-use part_raw::{Partitions, TupleRef};
+use part_raw::TupleRef;
 use plain_tables::Sequence;
 use std::alloc::Global;
 
 // An index as it is declared, which has each of the rows.
 fn index_over<R: LinkedKeys>(
     alloc: Global,
-    rows: &Partitions<Row>,
+    rows: &Rows,
     by_key: &Tree,
     others: &R,
     index: DeclaredIndex,
@@ -44,7 +44,7 @@ fn index_over<R: LinkedKeys>(
 // Puts one more behind the others, which serves the rows.
 pub fn add_index<R: LinkedKeys>(
     indexes: &mut Sequence<IndexOn>,
-    rows: &Partitions<Row>,
+    rows: &Rows,
     by_key: &Tree,
     others: &R,
     index: DeclaredIndex,

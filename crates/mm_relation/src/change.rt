@@ -1,10 +1,10 @@
 //! Cells set in rows, under all indexes of a relation.
-ghost use Rattle.std.specs.Prelude.{◌≡◌, ◌≢◌, ◌∷◌, ◌++◌, ℕ, ◌≤◌, ◌<◌, ◌+◌, ◌-◌, slice_set, [], List, Some, IsSome, IfOk, OnOk, OnErr, All, length, map};
+ghost use Rattle.std.specs.Prelude.{◌≡◌, ◌≢◌, ◌∷◌, ◌++◌, ℕ, ◌≤◌, ◌<◌, ◌+◌, [], List, Some, IsSome, IfOk, OnOk, OnErr, All, length, map};
 ghost use Rattle.std.specs.List.{AllPairs};
 ghost use Rattle.std.specs.FinMap as finite;
 ghost use Rattle.part_raw.specs.declared.tuple_ref.TupleRef.{TupleRef};
 ghost use Rattle.mm_relation.specs.declared.row.Cell.{Cell};
-ghost use Rattle.mm_relation.specs.declared.row.Row.{Row};
+ghost use Rattle.mm_relation.specs.Rows.{Row};
 ghost use Rattle.mm_relation.specs.State.{IsKeyed};
 ghost use Rattle.mm_relation.specs.Settings.{with_cells, piled, pile, IsPiled, CanSet, CellsSet};
 ghost use Rattle.mm_relation.specs.Indexes.{declaration_of, HaveRoom, Serve, CanRead};
@@ -12,9 +12,10 @@ ghost use Rattle.mm_relation.specs.Indexes.{declaration_of, HaveRoom, Serve, Can
 use crate::index::IndexOn;
 use crate::indexes::{insert_set, remove_set};
 use crate::linked_keys::LinkedKeys;
-use crate::row::{Cell, Row};
+use crate::row::Cell;
+use crate::rows::Rows;
 use no_memory::NoMemory;
-use part_raw::{Partitions, TupleRef};
+use part_raw::TupleRef;
 use plain_tables::{ColumnNumber, Sequence, Text, Value};
 use std::alloc::Global;
 
@@ -79,32 +80,26 @@ fn top_of(copies: &mut Vec<Cell>) -> Cell
     }
 }
 
-// Sets the cell in one column.
-fn write_cell(row: &mut Row, column: ColumnNumber, cell: Cell)
-    requires { (0 < column.0) × (column.0 ≤ length row.old.cells) }
-    ensures { row.new ≡ record row.old { cells = slice_set row.old.cells (column.0 - 1) cell } }
-{
-    row.cells.as_mut_slice()[column.0 - 1] = cell;
-}
-
 // Sets cells in a row, each to the copy on top of the pile.
-fn write_cells(row: &mut Row, sets: &[(ColumnNumber, Cell)], copies: &mut Vec<Cell>)
-    requires columns { All (λ s. (0 < s.0.0) × (s.0.0 ≤ length row.old.cells)) sets.now }
+fn write_cells(rows: &mut Rows, r: TupleRef, sets: &[(ColumnNumber, Cell)], copies: &mut Vec<Cell>)
+    requires held { IsSome (finite.get rows.old.tuples r) }
+    requires columns { (t : Row) → finite.get rows.old.tuples r ≡ Some t → All (λ s. (0 < s.0.0) × (s.0.0 ≤ length t.cells)) sets.now }
     requires ready { IsPiled sets.now copies.old.items }
-    ensures row { row.new ≡ with_cells sets.now row.old }
+    ensures row { (t : Row) → finite.get rows.old.tuples r ≡ Some t → rows.new.tuples ≡ finite.insert rows.old.tuples r (with_cells sets.now t) }
+    ensures width { rows.new.width ≡ rows.old.width }
     ensures left { (under : List Cell) → copies.old.items ≡ piled sets.now under → copies.new.items ≡ under }
 {
     let Some(((column, _), rest)) = sets.split_first() else {
         return;
     };
     let cell = top_of(copies);
-    write_cell(row, *column, cell);
-    write_cells(row, rest, copies);
+    rows.set_cell(r, *column, cell);
+    write_cells(rows, r, rest, copies);
 }
 
 // Sets cells in one row, which keeps its key and its reference. It takes no memory.
 fn change_row<R: LinkedKeys>(
-    rows: &mut Partitions<Row>,
+    rows: &mut Rows,
     indexes: &mut Sequence<IndexOn>,
     links: &R,
     r: TupleRef,
@@ -123,16 +118,17 @@ fn change_row<R: LinkedKeys>(
         → IsKeyed rows.new.tuples list × Serve (R.keys links.now) rows.new.tuples list indexes.new }
     ensures declared { map declaration_of indexes.new ≡ map declaration_of indexes.old }
     ensures room { (n : ℕ) → HaveRoom (n + 1) indexes.old → HaveRoom n indexes.new }
+    ensures width { rows.new.width ≡ rows.old.width }
     ensures left { (under : List Cell) → copies.old.items ≡ piled sets.now under → copies.new.items ≡ under }
 {
     remove_set(indexes, rows, links, r, sets);
-    write_cells(rows.get_mut(r), sets, copies);
+    write_cells(rows, r, sets, copies);
     insert_set(indexes, rows, links, r, sets);
 }
 
 // Sets cells in each of these rows, with the copies that were made for them. It takes no memory.
 pub fn change_each<R: LinkedKeys>(
-    rows: &mut Partitions<Row>,
+    rows: &mut Rows,
     indexes: &mut Sequence<IndexOn>,
     links: &R,
     rs: &[TupleRef],
@@ -148,6 +144,7 @@ pub fn change_each<R: LinkedKeys>(
     requires read { CanRead (R.keys links.now) rows.old.tuples indexes.old }
     requires served { (list : List TupleRef) × IsKeyed rows.old.tuples list × Serve (R.keys links.now) rows.old.tuples list indexes.old }
     ensures rows { CellsSet rows.old.tuples rows.new.tuples rs.now sets.now }
+    ensures width { rows.new.width ≡ rows.old.width }
     ensures served { (list : List TupleRef) → IsKeyed rows.old.tuples list → Serve (R.keys links.now) rows.old.tuples list indexes.old
         → IsKeyed rows.new.tuples list × Serve (R.keys links.now) rows.new.tuples list indexes.new }
     ensures declared { map declaration_of indexes.new ≡ map declaration_of indexes.old }

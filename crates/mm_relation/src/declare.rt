@@ -8,9 +8,9 @@ use crate::indexes::is_same;
 use crate::numbers::DeclaredIndex;
 use crate::relation::Relation;
 use crate::relations::{Links, Relations};
+use crate::rows::Rows;
 use crate::tree::Tree;
 use no_memory::NoMemory;
-use part_raw::Partitions;
 use plain_tables::{ColumnNumber, IndexKind, Schema, Sequence, TableNumber};
 use std::alloc::Global;
 
@@ -43,11 +43,12 @@ impl Relation {
     {
         let mut targets = Vec::new(alloc);
         targets.resize(schema.columns.len(), None)?;
+        let rows = Rows::new(alloc, schema.columns.len())?;
         Ok(Relation {
             schema,
             targets,
             declared: Vec::new(alloc),
-            rows: Partitions::new(alloc),
+            rows,
             by_key: Tree::new(alloc),
             indexes: Sequence::new(alloc),
         })

@@ -8,13 +8,13 @@ ghost use Rattle.mm_relation.specs.Indexes.{declaration_of, tree_in, entries_in,
 use crate::linked_keys::LinkedKeys;
 use crate::numbers::DeclaredIndex;
 use crate::order::{ColumnOrder, value_in};
-use crate::row::Row;
+use crate::rows::Rows;
 use crate::spares::{shed_hash, shed_tree};
 use crate::tree::Tree;
 use lin_hash::LinHash;
 use mm_index::{ExactIndex, OrderProbe};
 use no_memory::NoMemory;
-use part_raw::{Partitions, TupleRef};
+use part_raw::TupleRef;
 use plain_tables::{ColumnNumber, IndexKind, hash_of};
 use std::alloc::Global;
 
@@ -33,12 +33,7 @@ pub struct IndexOn {
 }
 
 // The hash of a row's value in a column.
-fn hash_in<R: LinkedKeys>(
-    rows: &Partitions<Row>,
-    others: &R,
-    column: ColumnNumber,
-    r: TupleRef,
-) -> u64
+fn hash_in<R: LinkedKeys>(rows: &Rows, others: &R, column: ColumnNumber, r: TupleRef) -> u64
     requires { IsSome (value_at (R.keys others.now) column.0 rows.now.tuples r) }
     ensures { result ≡ hash_at (R.keys others.now) column.0 rows.now.tuples r }
 {
@@ -90,7 +85,7 @@ impl IndexOn {
     }
 
     // Puts a row's reference in. It takes no memory.
-    pub fn insert<R: LinkedKeys>(&mut self, rows: &Partitions<Row>, others: &R, r: TupleRef)
+    pub fn insert<R: LinkedKeys>(&mut self, rows: &Rows, others: &R, r: TupleRef)
         requires keys_differ { KeysDiffer rows.now.tuples }
         requires awaits { Awaits (R.keys others.now) rows.now.tuples r self.old }
         ensures { Gains (R.keys others.now) rows.now.tuples r self.old self.new }
@@ -110,7 +105,7 @@ impl IndexOn {
     }
 
     // Takes a row's reference out. It takes no memory.
-    pub fn remove<R: LinkedKeys>(&mut self, rows: &Partitions<Row>, others: &R, r: TupleRef)
+    pub fn remove<R: LinkedKeys>(&mut self, rows: &Rows, others: &R, r: TupleRef)
         requires keys_differ { KeysDiffer rows.now.tuples }
         requires has { Has (R.keys others.now) rows.now.tuples r self.old }
         ensures { Loses (R.keys others.now) rows.now.tuples r self.old self.new }

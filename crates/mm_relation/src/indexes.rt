@@ -13,12 +13,13 @@ ghost use Rattle.mm_relation.specs.Indexes.{seen, declaration_of, room_in, wante
 use crate::index::{Index, IndexOn};
 use crate::linked_keys::LinkedKeys;
 use crate::numbers::DeclaredIndex;
-use crate::row::{Cell, Row};
+use crate::row::Cell;
+use crate::rows::Rows;
 use crate::tree::Tree;
 use lin_hash::Chain;
 use mm_index::ExactIndex;
 use no_memory::NoMemory;
-use part_raw::{Partitions, TupleRef};
+use part_raw::TupleRef;
 use plain_tables::{ColumnNumber, Sequence};
 
 // How many references more an index has to be sure of, where so many are taken out and put in again one by one: a hash
@@ -54,12 +55,7 @@ fn shed_each(indexes: &mut [IndexOn])
     }
 }
 
-fn insert_each<R: LinkedKeys>(
-    indexes: &mut [IndexOn],
-    rows: &Partitions<Row>,
-    others: &R,
-    r: TupleRef,
-)
+fn insert_each<R: LinkedKeys>(indexes: &mut [IndexOn], rows: &Rows, others: &R, r: TupleRef)
     requires keys_differ { KeysDiffer rows.now.tuples }
     requires awaits { All (Awaits (R.keys others.now) rows.now.tuples r) indexes.old }
     ensures { (k : ℕ) (d : IndexOn) → k < length indexes.old → Gains (R.keys others.now) rows.now.tuples r (slice_index_or indexes.old k d) (slice_index_or indexes.new k d) }
@@ -69,12 +65,7 @@ fn insert_each<R: LinkedKeys>(
     }
 }
 
-fn remove_each<R: LinkedKeys>(
-    indexes: &mut [IndexOn],
-    rows: &Partitions<Row>,
-    others: &R,
-    r: TupleRef,
-)
+fn remove_each<R: LinkedKeys>(indexes: &mut [IndexOn], rows: &Rows, others: &R, r: TupleRef)
     requires keys_differ { KeysDiffer rows.now.tuples }
     requires has { All (Has (R.keys others.now) rows.now.tuples r) indexes.old }
     ensures { (k : ℕ) (d : IndexOn) → k < length indexes.old → Loses (R.keys others.now) rows.now.tuples r (slice_index_or indexes.old k d) (slice_index_or indexes.new k d) }
@@ -93,7 +84,7 @@ fn is_set(sets: &[(ColumnNumber, Cell)], column: ColumnNumber) -> bool
 
 fn insert_if_set<R: LinkedKeys>(
     on: &mut IndexOn,
-    rows: &Partitions<Row>,
+    rows: &Rows,
     others: &R,
     r: TupleRef,
     sets: &[(ColumnNumber, Cell)],
@@ -109,7 +100,7 @@ fn insert_if_set<R: LinkedKeys>(
 
 fn remove_if_set<R: LinkedKeys>(
     on: &mut IndexOn,
-    rows: &Partitions<Row>,
+    rows: &Rows,
     others: &R,
     r: TupleRef,
     sets: &[(ColumnNumber, Cell)],
@@ -125,7 +116,7 @@ fn remove_if_set<R: LinkedKeys>(
 
 fn insert_each_set<R: LinkedKeys>(
     indexes: &mut [IndexOn],
-    rows: &Partitions<Row>,
+    rows: &Rows,
     others: &R,
     r: TupleRef,
     sets: &[(ColumnNumber, Cell)],
@@ -141,7 +132,7 @@ fn insert_each_set<R: LinkedKeys>(
 
 fn remove_each_set<R: LinkedKeys>(
     indexes: &mut [IndexOn],
-    rows: &Partitions<Row>,
+    rows: &Rows,
     others: &R,
     r: TupleRef,
     sets: &[(ColumnNumber, Cell)],
@@ -174,12 +165,7 @@ pub fn shed_spares(indexes: &mut Sequence<IndexOn>)
 }
 
 // Puts a row's reference into each. It takes no memory.
-pub fn insert<R: LinkedKeys>(
-    indexes: &mut Sequence<IndexOn>,
-    rows: &Partitions<Row>,
-    others: &R,
-    r: TupleRef,
-)
+pub fn insert<R: LinkedKeys>(indexes: &mut Sequence<IndexOn>, rows: &Rows, others: &R, r: TupleRef)
     requires keys_differ { KeysDiffer rows.now.tuples }
     requires awaits { Await (R.keys others.now) rows.now.tuples r indexes.old }
     ensures { Gain (R.keys others.now) rows.now.tuples r indexes.old indexes.new }
@@ -188,12 +174,7 @@ pub fn insert<R: LinkedKeys>(
 }
 
 // Takes a row's reference out of each. It takes no memory.
-pub fn remove<R: LinkedKeys>(
-    indexes: &mut Sequence<IndexOn>,
-    rows: &Partitions<Row>,
-    others: &R,
-    r: TupleRef,
-)
+pub fn remove<R: LinkedKeys>(indexes: &mut Sequence<IndexOn>, rows: &Rows, others: &R, r: TupleRef)
     requires keys_differ { KeysDiffer rows.now.tuples }
     requires has { Have (R.keys others.now) rows.now.tuples r indexes.old }
     ensures { Lose (R.keys others.now) rows.now.tuples r indexes.old indexes.new }
@@ -204,7 +185,7 @@ pub fn remove<R: LinkedKeys>(
 // Puts a row's reference into each whose column is set. It takes no memory.
 pub fn insert_set<R: LinkedKeys>(
     indexes: &mut Sequence<IndexOn>,
-    rows: &Partitions<Row>,
+    rows: &Rows,
     others: &R,
     r: TupleRef,
     sets: &[(ColumnNumber, Cell)],
@@ -219,7 +200,7 @@ pub fn insert_set<R: LinkedKeys>(
 // Takes a row's reference out of each whose column is set. It takes no memory.
 pub fn remove_set<R: LinkedKeys>(
     indexes: &mut Sequence<IndexOn>,
-    rows: &Partitions<Row>,
+    rows: &Rows,
     others: &R,
     r: TupleRef,
     sets: &[(ColumnNumber, Cell)],

@@ -1,55 +1,63 @@
 //! The rows in their store, under the tree of their keys.
 ghost use Rattle.ttree.specs.Held.{items_of_tree};
 ghost use Rattle.ttree.specs.Room.{room_of};
-ghost use Rattle.std.specs.Prelude.{◌≡◌, ◌<◌, ◌∷◌, None, Some, IsSome, IfSome, IfNone};
+ghost use Rattle.std.specs.Prelude.{◌≡◌, ◌<◌, ◌∷◌, [], None, Some, IsSome, IfSome, IfNone, length};
 ghost use Rattle.std.specs.FinMap as finite;
 ghost use Rattle.part_raw.specs.declared.tuple_ref.TupleRef.{TupleRef};
 ghost use Rattle.mm_index.specs.Bag.{IsSameBag};
+ghost use Rattle.mm_relation.specs.Rows.{StartsWithKey, row_of};
 ghost use Rattle.mm_relation.specs.State.{IsKeyed, HasKey};
 
 use crate::order::KeyOrder;
 use crate::probe::KeyProbe;
-use crate::row::Row;
+use crate::row::Cell;
+use crate::rows::Rows;
 use crate::tree::Tree;
 use mm_index::OrderProbe;
-use part_raw::{Partitions, TupleRef};
+use part_raw::TupleRef;
 
-// Takes a row in unless its key is there, by one search. There is room for it.
-pub fn put_row(rows: &mut Partitions<Row>, by_key: &mut Tree, row: Row) -> Option<TupleRef>
+// Takes the row of these cells in unless its key is there, by one search. There is room for it. The cells are gone either
+// way, and the vector keeps its memory.
+pub fn put_row(rows: &mut Rows, by_key: &mut Tree, row: &mut Vec<Cell>) -> Option<TupleRef>
     requires free { 0 < rows.old.free }
+    requires width { length row.old.items ≡ rows.old.width }
+    requires starts { StartsWithKey row.old.items }
     requires key_room { 0 < (room_of 30 by_key.old) }
     requires few { finite.len rows.old.tuples < 16777216 }
     requires keyed { IsKeyed rows.old.tuples (items_of_tree by_key.old) }
     ensures keyed { IsKeyed rows.new.tuples (items_of_tree by_key.new) }
     ensures fresh { IfSome result (λ r. finite.get rows.old.tuples r ≡ None) }
-    ensures put { IfSome result (λ r. rows.new.tuples ≡ finite.insert rows.old.tuples r row) }
+    ensures put { IfSome result (λ r. rows.new.tuples ≡ finite.insert rows.old.tuples r (row_of row.old.items 0)) }
     ensures listed { IfSome result (λ r. IsSameBag (items_of_tree by_key.new) (r ∷ (items_of_tree by_key.old))) }
-    ensures no_key { IfSome result (λ _. HasKey rows.old.tuples row.key → ⊥) }
-    ensures has_key { IfNone result (HasKey rows.old.tuples row.key) }
+    ensures no_key { IfSome result (λ _. HasKey rows.old.tuples (row_of row.old.items 0).key → ⊥) }
+    ensures has_key { IfNone result (HasKey rows.old.tuples (row_of row.old.items 0).key) }
     ensures kept { IfNone result (rows.new.tuples ≡ rows.old.tuples) }
     ensures kept_tree { IfNone result (by_key.new ≡ by_key.old) }
+    ensures width { rows.new.width ≡ rows.old.width }
+    ensures moved { row.new.items ≡ [] }
 {
     let r = rows.put(row);
     let mut probe = KeyProbe {
         rows,
-        sought: &rows.get(r).key,
+        sought: rows.key(r),
         asked: 0,
     };
     if by_key.insert_unless_found(&mut probe, r).is_some() {
-        rows.take(r);
+        rows.remove(r);
         return None;
     }
     Some(r)
 }
 
 // Takes a row out. It takes no memory.
-pub fn take_row(rows: &mut Partitions<Row>, by_key: &mut Tree, r: TupleRef)
+pub fn take_row(rows: &mut Rows, by_key: &mut Tree, r: TupleRef)
     requires held { IsSome (finite.get rows.old.tuples r) }
     requires keyed { IsKeyed rows.old.tuples (items_of_tree by_key.old) }
     ensures keyed { IsKeyed rows.new.tuples (items_of_tree by_key.new) }
     ensures taken { rows.new.tuples ≡ finite.remove rows.old.tuples r }
     ensures unlisted { IsSameBag (items_of_tree by_key.old) (r ∷ (items_of_tree by_key.new)) }
+    ensures width { rows.new.width ≡ rows.old.width }
 {
     by_key.remove(&mut OrderProbe::new(&KeyOrder { rows }, r));
-    rows.take(r);
+    rows.remove(r);
 }

@@ -4,15 +4,16 @@ ghost use Rattle.mm_relation.specs.Reading.{value_at, key_at};
 ghost use Rattle.mm_relation.specs.Order.{KeysDiffer, column_cmp};
 
 use crate::linked_keys::LinkedKeys;
-use crate::row::{Cell, Row};
+use crate::row::Cell;
+use crate::rows::Rows;
 use mm_index::TupleOrder;
-use part_raw::{Partitions, TupleRef};
+use part_raw::TupleRef;
 use plain_tables::{ColumnNumber, Value};
 use std::cmp::Ordering;
 
 // The value in a column, read through a link where there is one.
 pub fn value_in<'a, R: LinkedKeys>(
-    rows: &'a Partitions<Row>,
+    rows: &'a Rows,
     others: &'a R,
     column: ColumnNumber,
     r: TupleRef,
@@ -20,11 +21,7 @@ pub fn value_in<'a, R: LinkedKeys>(
     requires { IsSome (value_at (R.keys others.now) column.0 rows.now.tuples r) }
     ensures { value_at (R.keys others.now) column.0 rows.now.tuples r ≡ Some result.now }
 {
-    let row = rows.get(r);
-    if column.0 == 0 {
-        return &row.key;
-    }
-    match &row.cells.as_slice()[column.0 - 1] {
+    match &rows.cells(r)[column.0] {
         Cell::Held(value) => value,
         Cell::Link { to } => others.key_of(column, *to),
     }
@@ -33,7 +30,7 @@ pub fn value_in<'a, R: LinkedKeys>(
 /// Rows by a column's value, then by their keys.
 #[derive(Drop)]
 pub struct ColumnOrder<'a, R> {
-    pub rows: &'a Partitions<Row>,
+    pub rows: &'a Rows,
     pub others: &'a R,
     pub column: ColumnNumber,
 }
@@ -57,7 +54,7 @@ impl<'a, R: LinkedKeys> TupleOrder for ColumnOrder<'a, R> {
             b,
         ));
         match first {
-            Ordering::Equal => self.rows.get(a).key.cmp(&self.rows.get(b).key),
+            Ordering::Equal => self.rows.key(a).cmp(self.rows.key(b)),
             _ => first,
         }
     }
@@ -66,7 +63,7 @@ impl<'a, R: LinkedKeys> TupleOrder for ColumnOrder<'a, R> {
 /// Rows by their keys. It reads no link.
 #[derive(Drop)]
 pub struct KeyOrder<'a> {
-    pub rows: &'a Partitions<Row>,
+    pub rows: &'a Rows,
 }
 
 impl<'a> TupleOrder for KeyOrder<'a> {
@@ -83,6 +80,6 @@ impl<'a> TupleOrder for KeyOrder<'a> {
 
     #[tactic(auto, using(crate::proofs::Same::then_same))]
     fn cmp(&self, a: TupleRef, b: TupleRef) -> Ordering {
-        self.rows.get(a).key.cmp(&self.rows.get(b).key)
+        self.rows.key(a).cmp(self.rows.key(b))
     }
 }

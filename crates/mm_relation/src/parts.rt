@@ -4,6 +4,7 @@ ghost use Rattle.ttree.specs.Room.{room_of, nodes_of, nodes_for};
 ghost use Rattle.std.specs.Prelude.{◌≡◌, ℕ, ◌+◌, ◌≤◌, ◌<◌, max, length, slice_index_or, None, Some, IsSome, IfSome, IfNone, OnOk, All, map};
 ghost use Rattle.std.specs.FinMap as finite;
 ghost use Rattle.mm_relation.specs.declared.index.IndexOn.{IndexOn};
+ghost use Rattle.mm_relation.specs.Rows.{StartsWithKey, row_of};
 ghost use Rattle.mm_relation.specs.State.{IsKeyed, HasKey};
 ghost use Rattle.mm_relation.specs.Indexes.{seen, spares_in, HasFewSpares, declaration_of, HaveRoom, Serve, CanRead, CanReadRow};
 
@@ -11,21 +12,23 @@ use crate::index::IndexOn;
 use crate::indexes::{insert, remove, reserve, shed_spares};
 use crate::keyed::{put_row, take_row};
 use crate::linked_keys::LinkedKeys;
-use crate::row::Row;
+use crate::row::Cell;
+use crate::rows::Rows;
 use crate::spares::shed_tree;
 use crate::tree::Tree;
 use no_memory::NoMemory;
-use part_raw::{Partitions, TupleRef};
+use part_raw::TupleRef;
 use plain_tables::Sequence;
 
 // Makes sure of room for one row more. What the parts hold stays.
 pub fn make_room(
-    rows: &mut Partitions<Row>,
+    rows: &mut Rows,
     by_key: &mut Tree,
     indexes: &mut Sequence<IndexOn>,
 ) -> Result<(), NoMemory>
     requires few { finite.len rows.old.tuples < 16777216 }
     ensures rows { rows.new.tuples ≡ rows.old.tuples }
+    ensures width { rows.new.width ≡ rows.old.width }
     ensures by_key { by_key.new.tree ≡ by_key.old.tree }
     ensures same { map seen indexes.new ≡ map seen indexes.old }
     ensures free { OnOk result (0 < rows.new.free) }
@@ -43,32 +46,35 @@ pub fn make_room(
     reserve(indexes, 1)
 }
 
-// Takes a row in unless its key is there. There is room for it.
+// Takes the row of these cells in unless its key is there. There is room for it. The cells are gone either way.
 pub fn place<R: LinkedKeys>(
-    rows: &mut Partitions<Row>,
+    rows: &mut Rows,
     by_key: &mut Tree,
     indexes: &mut Sequence<IndexOn>,
     links: &R,
-    row: Row,
+    row: &mut Vec<Cell>,
 ) -> Option<TupleRef>
     requires free { 0 < rows.old.free }
+    requires width { length row.old.items ≡ rows.old.width }
+    requires starts { StartsWithKey row.old.items }
     requires key_room { 0 < (room_of 30 by_key.old) }
     requires room { HaveRoom 1 indexes.old }
     requires few { finite.len rows.old.tuples < 16777216 }
     requires keyed { IsKeyed rows.old.tuples (items_of_tree by_key.old) }
     requires read { CanRead (R.keys links.now) rows.old.tuples indexes.old }
-    requires row_read { CanReadRow (R.keys links.now) row indexes.old }
+    requires row_read { CanReadRow (R.keys links.now) (row_of row.old.items 0) indexes.old }
     requires serve { Serve (R.keys links.now) rows.old.tuples (items_of_tree by_key.old) indexes.old }
     ensures keyed { IsKeyed rows.new.tuples (items_of_tree by_key.new) }
     ensures serve { Serve (R.keys links.now) rows.new.tuples (items_of_tree by_key.new) indexes.new }
     ensures declared { map declaration_of indexes.new ≡ map declaration_of indexes.old }
     ensures fresh { IfSome result (λ r. finite.get rows.old.tuples r ≡ None) }
-    ensures put { IfSome result (λ r. rows.new.tuples ≡ finite.insert rows.old.tuples r row) }
-    ensures no_key { IfSome result (λ _. HasKey rows.old.tuples row.key → ⊥) }
-    ensures has_key { IfNone result (HasKey rows.old.tuples row.key) }
+    ensures put { IfSome result (λ r. rows.new.tuples ≡ finite.insert rows.old.tuples r (row_of row.old.items 0)) }
+    ensures no_key { IfSome result (λ _. HasKey rows.old.tuples (row_of row.old.items 0).key → ⊥) }
+    ensures has_key { IfNone result (HasKey rows.old.tuples (row_of row.old.items 0).key) }
     ensures kept { IfNone result (rows.new.tuples ≡ rows.old.tuples) }
     ensures kept_tree { IfNone result (by_key.new ≡ by_key.old) }
     ensures kept_indexes { IfNone result (indexes.new ≡ indexes.old) }
+    ensures width { rows.new.width ≡ rows.old.width }
 {
     let r = put_row(rows, by_key, row)?;
     insert(indexes, rows, links, r);
@@ -77,7 +83,7 @@ pub fn place<R: LinkedKeys>(
 
 // Takes a row out. It takes no memory, and gives back what is spare of an index where that is more than what is in use.
 pub fn displace<R: LinkedKeys>(
-    rows: &mut Partitions<Row>,
+    rows: &mut Rows,
     by_key: &mut Tree,
     indexes: &mut Sequence<IndexOn>,
     links: &R,
@@ -88,6 +94,7 @@ pub fn displace<R: LinkedKeys>(
     requires read { CanRead (R.keys links.now) rows.old.tuples indexes.old }
     requires serve { Serve (R.keys links.now) rows.old.tuples (items_of_tree by_key.old) indexes.old }
     ensures taken { rows.new.tuples ≡ finite.remove rows.old.tuples r }
+    ensures width { rows.new.width ≡ rows.old.width }
     ensures keyed { IsKeyed rows.new.tuples (items_of_tree by_key.new) }
     ensures serve { Serve (R.keys links.now) rows.new.tuples (items_of_tree by_key.new) indexes.new }
     ensures declared { map declaration_of indexes.new ≡ map declaration_of indexes.old }

@@ -5,16 +5,16 @@ ghost use Rattle.plain_tables.specs.Values.{value_cmp};
 ghost use Rattle.mm_relation.specs.Reading.{value_at};
 ghost use Rattle.mm_relation.specs.State.{no_keys};
 
-use crate::row::Row;
+use crate::rows::Rows;
 use mm_index::Probe;
-use part_raw::{Partitions, TupleRef};
+use part_raw::TupleRef;
 use plain_tables::Value;
 use std::cmp::Ordering;
 
 /// The row with this key. It reads no link, and counts the rows whose keys it compared (`asked`).
 #[derive(Drop)]
 pub struct KeyProbe<'a> {
-    pub(crate) rows: &'a Partitions<Row>,
+    pub(crate) rows: &'a Rows,
     pub(crate) sought: &'a Value,
     pub(crate) asked: u64,
 }
@@ -28,7 +28,7 @@ impl<'a> Probe for KeyProbe<'a> {
 
     fn place(&mut self, r: TupleRef) -> Ordering {
         self.asked = self.asked.saturating_add(1);
-        self.rows.get(r).key.cmp(self.sought)
+        self.rows.key(r).cmp(self.sought)
     }
 
     fn asked(&self) -> u64 {

@@ -1,5 +1,6 @@
 //! The rows of one table.
-ghost use Rattle.std.specs.Prelude.{◌≡◌, ◌≢◌, ◌+◌, ◌++◌, ◌-◌, ◌^◌, Contains, ◌<◌, ◌≤◌, All, Some, IsSome, IfSome, IfNone, IfOk, OnOk, OnErr, length};
+ghost use Rattle.std.specs.Prelude.{◌≡◌, ◌≢◌, ◌+◌, ◌∷◌, ◌++◌, ◌-◌, ◌^◌, Contains, ◌<◌, ◌≤◌, All, Some, IsSome, IfSome, IfNone, IfOk, OnOk, OnErr, length};
+ghost use Rattle.mm_relation.specs.declared.row.Cell.TheVariants.{Held};
 
 use crate::change::{change_each, copies_for};
 use crate::index::IndexOn;
@@ -8,20 +9,30 @@ use crate::laws::a_relation_is_kept;
 use crate::numbers::DeclaredIndex;
 use crate::parts::{displace, make_room, place};
 use crate::probe::KeyProbe;
-use crate::referring::{lower, raise};
+use crate::referring::{count_down, count_up};
 use crate::refusal::RowRefusal;
 use crate::relations::{Links, Relations};
-use crate::row::{Cell, Row};
+use crate::row::Cell;
+use crate::rows::Rows;
 use crate::tree::{Tree, Walk};
 use crate::view::RowView;
 use lin_hash::Chain;
 use mm_index::Probe;
 use no_memory::NoMemory;
-use part_raw::{MAX_TUPLES, Partitions, TupleRef};
+use part_raw::{MAX_TUPLES, TupleRef};
 use plain_tables::{ColumnNumber, IndexKind, MOST_ROWS, Schema, Sequence, Value};
 use std::alloc::Global;
 use std::marker::Model;
 use ttree::{TreeShape, table_tree_shape};
+
+// The cells of a row, its key's the first.
+fn row_of(key: Value, cells: Sequence<Cell>) -> Result<Vec<Cell>, NoMemory>
+    ensures { IfOk result (λ row. row.items ≡ Held key ∷ cells) }
+{
+    let mut row = cells.into_vec();
+    row.insert(0, Cell::Held(key))?;
+    Ok(row)
+}
 
 /// The rows of one table in a store of their own, under the tree of their keys and every declared index.
 #[derive(Drop)]
@@ -29,7 +40,7 @@ pub struct Relation {
     pub(crate) schema: Schema,
     pub(crate) targets: Vec<Option<usize>>,
     pub(crate) declared: Vec<DeclaredIndex>,
-    pub(crate) rows: Partitions<Row>,
+    pub(crate) rows: Rows,
     pub(crate) by_key: Tree,
     pub(crate) indexes: Sequence<IndexOn>,
 }
@@ -39,21 +50,25 @@ impl Model for Relation {
     ghost use Rattle.mm_relation.specs.Seen.{state};
     ghost use Rattle.plain_tables.specs.contracts.schema.Schema.{the_row as schema_row};
     ghost use Rattle.mm_relation.specs.contracts.numbers.DeclaredIndex.{the_row as index_row};
-    ghost use Rattle.mm_relation.specs.contracts.row.Row.{the_row as row_row};
+    ghost use Rattle.std.specs.Prelude.{◌≡◌, length};
+    ghost use Rattle.plain_tables.specs.contracts.value.Value.{the_row as value_row};
+    ghost use Rattle.mm_relation.specs.contracts.row.Cell.{the_row as cell_row};
+    ghost use Rattle.mm_relation.specs.Rows.{row_code};
 
     ghost Value = { RelationState };
 
-    ghost coded = { state_code schema_row.coded index_row.coded row_row.coded };
+    ghost coded = { state_code schema_row.coded index_row.coded (row_code value_row.coded cell_row.coded) };
 
     ghost view = { λ r. state r.schema r.targets.items r.declared.items r.rows.tuples r.by_key.tree r.indexes };
 
-    ghost invariant = { λ r. IsKept (state r.schema r.targets.items r.declared.items r.rows.tuples r.by_key.tree r.indexes) };
+    // The store has a cell in a row for each column.
+    ghost invariant = { λ r. IsKept (state r.schema r.targets.items r.declared.items r.rows.tuples r.by_key.tree r.indexes) × (r.rows.width ≡ length r.schema.columns) };
 }
 
 impl Relation {
     ghost use Rattle.std.specs.FinMap as finite;
     ghost use Rattle.std.specs.List.{AllPairs};
-    ghost use Rattle.mm_relation.specs.declared.row.Row.{Row};
+    ghost use Rattle.mm_relation.specs.Rows.{Row};
     ghost use Rattle.std.specs.Option.{option_cmp};
     ghost use Rattle.plain_tables.specs.Values.{value_cmp};
     ghost use Rattle.mm_relation.specs.Reading.{Keys, key_at, value_at, cell_value};
@@ -73,7 +88,7 @@ impl Relation {
         requires { IsSome (finite.get self.now.rows r) }
         ensures { key_at self.now.rows r ≡ Some result.now }
     {
-        &self.rows.get(r).key
+        self.rows.key(r)
     }
 
     /// The key of a row, where the reference leads to one.
@@ -111,7 +126,8 @@ impl Relation {
         ensures targets { result.targets ≡ self.now.targets }
     {
         RowView {
-            row: self.rows.get(r),
+            cells: self.rows.cells(r),
+            referrers: self.rows.referrers(r),
             targets: self.targets.as_slice(),
         }
     }
@@ -280,6 +296,7 @@ impl Relation {
         key: Value,
         cells: Sequence<Cell>,
     ) -> Result<TupleRef, RowRefusal>
+        requires width { length cells + 1 ≡ length self.old.targets }
         requires readable { IsReadable (linked_keys self.old.targets (R.tables others.now)) (length self.old.targets) (new_row key cells) }
         requires current { IsCurrent (linked_keys self.old.targets (R.tables others.now)) self.old }
         ensures inserted { IfOk result (λ r. IsInserted self.old self.new r (new_row key cells)) }
@@ -295,14 +312,12 @@ impl Relation {
                 RowRefusal::Full
             });
         }
+        let Ok(mut row) = row_of(key, cells) else {
+            return Err(RowRefusal::NoMemory);
+        };
         if make_room(&mut self.rows, &mut self.by_key, &mut self.indexes).is_err() {
             return Err(RowRefusal::NoMemory);
         }
-        let row = Row {
-            key,
-            cells,
-            referrers: 0,
-        };
         let links = Links {
             targets: self.targets.as_slice(),
             others,
@@ -312,7 +327,7 @@ impl Relation {
             &mut self.by_key,
             &mut self.indexes,
             &links,
-            row,
+            &mut row,
         )
         .ok_or(RowRefusal::KeyExists)
     }
@@ -344,7 +359,7 @@ impl Relation {
         ensures added { Refers self.old self.new r (λ count. count + n) }
         ensures current { (keys : Keys) → IsCurrent keys self.old → IsCurrent keys self.new }
     {
-        raise(&mut self.rows, r, n);
+        count_up(&mut self.rows, r, n);
     }
 
     /// So many links fewer name a row. It takes no memory.
@@ -354,7 +369,7 @@ impl Relation {
         ensures taken { Refers self.old self.new r (λ count. count - n) }
         ensures current { (keys : Keys) → IsCurrent keys self.old → IsCurrent keys self.new }
     {
-        lower(&mut self.rows, r, n);
+        count_down(&mut self.rows, r, n);
     }
 
     /// Sets cells in each of these rows. All are changed, or, where no memory is found, none.

@@ -1,5 +1,5 @@
 //! The relations that links lead into.
-ghost use Rattle.std.specs.Prelude.{◌≡◌, ◌<◌, List, Some, length, slice_get};
+ghost use Rattle.std.specs.Prelude.{◌≡◌, ◌<◌, List, Some, IsSome, length, slice_get};
 ghost use Rattle.mm_relation.specs.State.{RelationState, linked_keys};
 
 use crate::linked_keys::LinkedKeys;
@@ -18,6 +18,22 @@ pub trait Relations {
         ensures { slice_get (tables self.now) table.0 ≡ Some result.now };
 }
 
+// The key of the row that a link in this column names.
+pub fn linked_key<'a, R: Relations>(
+    targets: &[Option<usize>],
+    others: &'a R,
+    column: ColumnNumber,
+    to: TupleRef,
+) -> &'a Value
+    requires { IsSome (linked_keys targets.now (R.tables others.now) column.0 to) }
+    ensures { linked_keys targets.now (R.tables others.now) column.0 to ≡ Some result.now }
+{
+    match targets[column.0] {
+        Some(table) => others.at(TableNumber(table)).key(to),
+        None => unreachable!(),
+    }
+}
+
 /// Where the links of one table lead: each reference column into one of the others.
 #[derive(Drop)]
 pub struct Links<'a, R> {
@@ -29,9 +45,6 @@ impl<'a, R: Relations> LinkedKeys for Links<'a, R> {
     ghost keys = { λ l. linked_keys l.targets.now (R.tables l.others.now) };
 
     fn key_of(&self, column: ColumnNumber, to: TupleRef) -> &Value {
-        match self.targets[column.0] {
-            Some(table) => self.others.at(TableNumber(table)).key(to),
-            None => unreachable!(),
-        }
+        linked_key(self.targets, self.others, column, to)
     }
 }

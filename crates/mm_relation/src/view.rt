@@ -3,25 +3,29 @@ ghost use Rattle.std.specs.Prelude.{◌≡◌, Some, IsSome};
 ghost use Rattle.mm_relation.specs.Reading.{row_value, link_in};
 ghost use Rattle.mm_relation.specs.State.{linked_keys};
 
-use crate::relations::Relations;
-use crate::row::{Cell, Row};
+use crate::relations::{Relations, linked_key};
+use crate::row::Cell;
 use part_raw::TupleRef;
-use plain_tables::{ColumnNumber, TableNumber, Value};
+use plain_tables::{ColumnNumber, Value};
 use std::marker::Model;
 
-/// A row that is lent, with the tables that its links lead into. It is a pair of references: nothing is copied.
+/// A row that is lent, with the tables that its links lead into. It is references alone: nothing is copied.
 #[derive(Drop)]
 pub struct RowView<'a> {
-    pub(crate) row: &'a Row,
+    pub(crate) cells: &'a [Cell],
+    pub(crate) referrers: &'a u64,
     pub(crate) targets: &'a [Option<usize>],
 }
 
 impl<'a> Model for RowView<'a> {
+    ghost use Rattle.mm_relation.specs.Rows.{row_of, StartsWithKey};
     ghost use Rattle.mm_relation.specs.State.{LentRow};
 
     ghost Value = { LentRow };
 
-    ghost view = { λ v. record { row = v.row.now; targets = v.targets.now } };
+    ghost view = { λ v. record { row = row_of v.cells.now v.referrers.now; targets = v.targets.now } };
+
+    ghost invariant = { λ v. StartsWithKey v.cells.now };
 }
 
 impl<'a> RowView<'a> {
@@ -30,15 +34,10 @@ impl<'a> RowView<'a> {
         requires { IsSome (row_value (linked_keys self.now.targets (R.tables others.now)) column.0 self.now.row) }
         ensures { row_value (linked_keys self.now.targets (R.tables others.now)) column.0 self.now.row ≡ Some result.now }
     {
-        if column.0 == 0 {
-            return &self.row.key;
-        }
-        match &self.row.cells.as_slice()[column.0 - 1] {
+        let cells = self.cells;
+        match &cells[column.0] {
             Cell::Held(value) => value,
-            Cell::Link { to } => match self.targets[column.0] {
-                Some(table) => others.at(TableNumber(table)).key(*to),
-                None => unreachable!(),
-            },
+            Cell::Link { to } => linked_key(self.targets, others, column, *to),
         }
     }
 
@@ -46,8 +45,7 @@ impl<'a> RowView<'a> {
     pub fn link(&self, column: ColumnNumber) -> Option<TupleRef>
         ensures { result ≡ link_in column.0 self.now.row }
     {
-        let place = column.0.checked_sub(1)?;
-        match self.row.cells.as_slice().get(place)? {
+        match self.cells.get(column.0)? {
             Cell::Held(_) => None,
             Cell::Link { to } => Some(*to),
         }
@@ -57,6 +55,6 @@ impl<'a> RowView<'a> {
     pub fn referrers(&self) -> u64
         ensures { result ≡ self.now.row.referrers }
     {
-        self.row.referrers
+        *self.referrers
     }
 }

@@ -6,7 +6,12 @@ pub mod Deeds
 pub mod Lending
 pub mod SlotSteps
 pub mod Lookup
+pub mod Rows
+pub mod Counts
+pub mod Shelves
 pub mod Slots
 pub mod Bitmaps
 pub mod Sound
 pub mod Parts
+pub mod Tables
+pub mod Mapped

@@ -1,5 +1,5 @@
 -- The order of references is total, and tells any two apart; a reference is told by its partition and its slot.
-use Rattle.std.proofs.Common.{◌≡◌, ap, ℕ, ◌+◌, ◌*◌, ◌/◌, ◌%◌, ◌<◌, arith}
+use Rattle.std.proofs.Common.{◌≡◌, ap, ◌∙◌, ℕ, ◌+◌, ◌*◌, ◌/◌, ◌%◌, ◌<◌, arith}
 use Rattle.std.proofs.lemmas.Cmp.{on_total, nat_cmp_total}
 use Rattle.std.proofs.lemmas.Map.Lookups.{exact_unsigned}
 use Rattle.std.specs.Cmp.{IsTotalOrder}
@@ -28,3 +28,6 @@ part_of-to part slot within = omega arith
 
 pub slot_of-to : (part slot : ℕ) → slot < 256 → slot_of (ref_to part slot) ≡ slot
 slot_of-to part slot within = omega arith
+
+pub ref_to-names : (r : TupleRef) (part slot : ℕ) → part ≡ part_of r → slot ≡ slot_of r → ref_to part slot ≡ r
+ref_to-names r part slot names names_slot = ap (λ n. ref_to n slot) names ∙ ap (ref_to (part_of r)) names_slot ∙ ref_to-itself r

@@ -4,18 +4,20 @@
 --     of_room, to_room         room for an array is a row of empty slots
 --     slots_had, slots_made    what a `Slots` owns is taken apart and made
 --     opened, closed           the same behind a `&mut`
---     seen                     what a `&` to a `Slots` reaches
+--     seen, run_seen           what a `&` to a `Slots` reaches
 use mathlib.Core.Path.{◌≡◌, refl, sym, ap, subst, ◌∙◌}
-use Prim.Native.Nat.{ℕ, zero, suc, ◌+◌, ◌*◌, ◌<◌, ◌^◌}
-use native.Mathlib.Nat.{not-suc-le-zero, le_of_suc-le-suc}
-use mathlib.Core.List.{List, [], ◌∷◌, ◌++◌}
-use lib.ListN.{length, get_or, set, replicate}
+use Prim.Native.Nat.{ℕ, zero, suc, ◌+◌, ◌*◌, ◌<◌, ◌≤◌, ◌^◌}
+use native.Mathlib.Omega.{arith}
+use native.Mathlib.Nat.{not-suc-le-zero, le_of_suc-le-suc, zero-mul, suc-mul}
+use mathlib.Core.List.{List, [], ◌∷◌, ◌++◌, map}
+use lib.ListN.{length, get_or, set, replicate, take, take-append-drop}
+use lib.ListN.{drop as drop_l}
 use seplogic.Ra.Ura.{Ura}
 use base.Fraction.{full_share}
 use base.Stored.{Gv}
 use mir.Syntax.{ty_array}
 use mir.Val.{Val, vptr, vstruct, of_list}
-use base.Logic.{SProp, ent, sep, emp, ex, guard, never, via, id⊢}
+use base.Logic.{SProp, ent, sep, emp, ex, guard, never, via, snd∗, mono_r, id⊢}
 use contract.Monad.{fact, fact_i}
 use base.Fml.{Lft, GName, Share, Fml, ftrue, fsep, fat, froom, fhide, flft, fobs, fauth, fbor, fobor}
 use types.Logic.{Logic, sem}
@@ -27,12 +29,13 @@ use denote.Memory.{cell_at, mem, part_at, hidden_shr}
 use denote.Opens.{unhide}
 use denote.RattleType.{RattleType, Valss}
 use denote.RawPtr.{Ptr, RawPtr, block_ptr, in_a_block}
+use denote.Slice.{elements_shared}
 use denote.Steps.{opens, closes, nothing, peeks}
 use denote.Struct.Lending.{lent_out}
 use denote.Struct.Owning.{shape}
 use denote.Struct.Struct.{Struct, within}
 use borrow.Table.OneValue.{part_in, part_out}
-use Rattle.std.specs.Prelude.{Option, None}
+use Rattle.std.specs.Prelude.{Option, Some, None}
 use Rattle.std.specs.Mem.{type_size}
 use Rattle.core.proofs.mem.Param.{El, R, el_x, elτ, Good, lawful}
 use Rattle.std_alloc.proofs.RcSteps.{word}
@@ -162,16 +165,23 @@ module _ (E : El) {M : Type 1} {𝓤 : Ura M} (𝓛 : Logic 𝓤) (κ : Lft) whe
       use1 𝓛 (‵ (hidden_shr (Pointer E) κ (d.ptr, tt) b o) ⊛ ‵ (fhide (S.the_lent (R E) d d.ptr κ))) (lent_out 𝓛 (S.struct (R E)) (S.the_codes (el_x E) (R E).coded) (S.the_heap (R E)) (S.the_lent (R E)) κ d b o) $ split ! $
       unhide ! $ fsplit ! $ fsplit ! $ keep ! (0 ∷ 3 ∷ []) $ done !
 
-  reaches : (b o : ℕ) (slots : List (Slot E)) (i : ℕ) → i < length slots → ent 𝓤 (sem 𝓛 (slots_lend (R E) b o slots κ)) (sem 𝓛 (slot_lends (R E) b (place (sz E) o i) (get_or slots i None) κ))
-  reaches b o [] i l = absurd (not-suc-le-zero l)
-  reaches b o (held ∷ rest) zero l = qed 𝓛 (‵ (slots_lend (R E) b o (held ∷ rest) κ) ∷ []) ∵ fsplit ! $ keep ! (0 ∷ []) $ done !
-  reaches b o (held ∷ rest) (suc i) l = qed 𝓛 (‵ (slots_lend (R E) b o (held ∷ rest) κ) ∷ []) ∵ fsplit ! $ move ! (1 ∷ []) $ keep ! (0 ∷ []) $ by ! (reaches b (o + sz E) rest i (le_of_suc-le-suc l))
+  from_on : (b : ℕ) (slots : List (Slot E)) (i o at : ℕ) → i ≤ length slots → at ≡ i * sz E + o → ent 𝓤 (sem 𝓛 (slots_lend (R E) b o slots κ)) (sem 𝓛 (slots_lend (R E) b at (drop_l i slots) κ))
+  from_on b slots zero o at le e =
+      let same : o ≡ at = omega (arith, zero-mul (sz E)) in
+      subst (λ k. ent 𝓤 (sem 𝓛 (slots_lend (R E) b o slots κ)) (sem 𝓛 (slots_lend (R E) b k slots κ))) same (id⊢ 𝓤 _)
+  from_on b [] (suc i) o at le e = absurd (omega arith)
+  from_on b (held ∷ rest) (suc i) o at le e =
+      via 𝓤 (sem 𝓛 (slots_lend (R E) b (o + sz E) rest κ)) (snd∗ 𝓤 (sem 𝓛 (slot_lends (R E) b o held κ)) (sem 𝓛 (slots_lend (R E) b (o + sz E) rest κ)))
+      (from_on b rest i (o + sz E) at (omega arith) (omega (arith, suc-mul i (sz E))))
 
-  pub slot_seen : (b o : ℕ) (slots : List (Slot E)) (i : ℕ) (held : Slot E) → i < length slots → get_or slots i None ≡ held
-      → ent 𝓤 (sem 𝓛 (slots_lend (R E) b o slots κ)) (sem 𝓛 (slot_lends (R E) b (i * sz E + o) held κ))
-  slot_seen b o slots i held l is = qed 𝓛 (‵ (slots_lend (R E) b o slots κ) ∷ []) ∵
-      use1 𝓛 (‵ (slot_lends (R E) b (place (sz E) o i) (get_or slots i None) κ)) (reaches b o slots i l) $
-      rewrite ! 0 (λ (at : ℕ × Slot E). ‵ (slot_lends (R E) b at.0 at.1 κ)) (λ j. (place_is (sz E) o i j, is j)) refl $ done !
+  up_to : (b : ℕ) (xs : List (el_x E)) (rest : List (Slot E)) (o : ℕ) → ent 𝓤 (sem 𝓛 (slots_lend (R E) b o (map Some xs ++ rest) κ)) (sem 𝓛 (elements_shared (R E) xs b o κ))
+  up_to b [] rest o = qed 𝓛 (‵ (slots_lend (R E) b o rest κ) ∷ []) ∵ keep ! [] $ done !
+  up_to b (x ∷ xs) rest o = mono_r 𝓤 (sem 𝓛 (slot_lends (R E) b o (Some x) κ)) (up_to b xs rest (o + sz E))
+
+  pub run_seen : (b o : ℕ) (slots : List (Slot E)) (i n : ℕ) (xs : List (el_x E)) → i ≤ length slots → take n (drop_l i slots) ≡ map Some xs
+      → ent 𝓤 (sem 𝓛 (slots_lend (R E) b o slots κ)) (sem 𝓛 (elements_shared (R E) xs b (i * sz E + o) κ))
+  run_seen b o slots i n xs le e = qed 𝓛 (‵ (slots_lend (R E) b o slots κ) ∷ []) ∵ use1 𝓛 (‵ (slots_lend (R E) b (i * sz E + o) (drop_l i slots) κ)) (from_on b slots i o (i * sz E + o) le refl) $
+      rewrite ! 0 (λ (l : List (Slot E)). ‵ (slots_lend (R E) b (i * sz E + o) l κ)) (sym (take-append-drop n (drop_l i slots)) ∙ ap (λ l. l ++ drop_l n (drop_l i slots)) e) refl $ by ! (up_to b xs (drop_l n (drop_l i slots)) (i * sz E + o))
 
 -- ---- an `ensures` of two facts
 

@@ -1,9 +1,8 @@
 -- The slots of a partition: how many are free, and that the bitmap tells which hold a tuple.
 use Rattle.std.proofs.Common.{◌≡◌, ℕ, zero, suc, ◌+◌, ◌<◌, ◌≤◌, Bool, true, false, cond, List, [], ◌∷◌, length, get_or, set, Option, Some, None, is_some, IsSome, refl, sym, ap, ◌∙◌, inl, inr, arith}
 use Rattle.std.proofs.lemmas.Bool.{cases_eq, cases_lt, true≢false}
-use Rattle.std.proofs.lemmas.List.{get_or-set_same, get_or-set_other, get_or_past, length-set, length-replicate}
+use Rattle.std.proofs.lemmas.List.{get_or-set_same, get_or-set_other, get_or_past, length-set}
 use Rattle.std.proofs.lemmas.List.Sums.{sum_by-cons, sum_by-set}
-use Rattle.std.proofs.Math.ListN.{replicate}
 use Rattle.std.specs.Option.{is_none}
 use Rattle.part_raw.specs.Layout.{is_set, ChangesBit, IsPartition, IsVacant, vacancies}
 
@@ -109,26 +108,15 @@ module _ {T : Type 0} where
   pub free_of_bit : (words : List ℕ) (slots : List (Option T)) (slot : ℕ) → IsPartition words slots → slot < 256 → is_set words slot ≡ false → get_or slots slot None ≡ None
   free_of_bit words slots slot is in_range clear = none_of _ (sym (is.bits slot in_range) ∙ clear)
 
-  -- so many empty slots
-  pub IsVacant-replicate : (slots : List (Option T)) (n : ℕ) → slots ≡ replicate n None → n ≡ 256 → IsVacant slots
-  IsVacant-replicate slots n is count =
-      record {
-        count = ap length is ∙ length-replicate n None ∙ count;
-        empty = λ slot. ap (λ xs. get_or xs slot None) is ∙ empty_at n slot;
-      }
-    where
-      empty_at : (n slot : ℕ) → ◌≡◌ {A = Option T} (get_or (replicate n None) slot None) None
-      empty_at zero slot = refl
-      empty_at (suc n) zero = refl
-      empty_at (suc n) (suc slot) = empty_at n slot
-
-  -- slots that are all empty are so many empty ones
-  pub replicate_of_vacant : (slots : List (Option T)) → IsVacant slots → slots ≡ replicate 256 None
-  replicate_of_vacant slots is = empties slots is.empty ∙ ap (λ (n : ℕ). replicate n None) is.count
-    where
-      empties : (slots : List (Option T)) → ((slot : ℕ) → get_or slots slot None ≡ None) → slots ≡ replicate (length slots) None
-      empties [] empty = refl
-      empties (o ∷ rest) empty = λ i. empty 0 i ∷ empties rest (λ slot. empty (suc slot)) i
+  -- in a partition with no bit set each slot is free
+  pub vacant_of_bits : (words : List ℕ) (slots : List (Option T)) → IsPartition words slots → ((slot : ℕ) → slot < 256 → is_set words slot ≡ false) → IsVacant slots
+  vacant_of_bits words slots is clear = record {
+    count = is.count;
+    empty = λ slot. elim (cases_lt slot 256) [
+      | inl within ↦ free_of_bit words slots slot is within (clear slot within)
+      | inr past ↦ get_or_past slots slot None (omega (arith, past, is.count))
+    ];
+  }
 
   -- free slots and a clear bitmap make a partition
   pub IsPartition-vacant : (words : List ℕ) (slots : List (Option T)) → ((slot : ℕ) → slot < 256 → is_set words slot ≡ false) → IsVacant slots → IsPartition words slots

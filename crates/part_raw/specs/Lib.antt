@@ -1,9 +1,9 @@
 pub mod TupleRefs
 pub mod Store
+pub mod Mapped
+pub mod Rows
 pub mod Layout
-pub mod Lends
+pub mod Counted
 pub mod Raw
 pub mod Block
-pub mod RawLends
 pub mod Open
-pub mod StoreLends

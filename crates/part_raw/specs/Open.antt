@@ -2,7 +2,11 @@
 -- slot. No public clause cites this module.
 use Rattle.std.specs.Prelude.{◌≡◌, ℕ, zero, suc, ◌+◌, ◌*◌, ◌^◌, ◌<◌, ◌≤◌, Bool, true, List, [], map, length, Option, Some, None, count_by, sum_by, slice_index_or, nat_lt}
 use Rattle.std.specs.FinMap.{len}
-use Rattle.part_raw.specs.declared.TheConstants.{SLOTS}
+use Rattle.part_raw.specs.declared.TheConstants.{SLOTS, MAX_WIDTH}
+use Rattle.part_raw.specs.Rows.{IsLaid}
+use Rattle.part_raw.specs.Store.{Tuple}
+use Rattle.part_raw.specs.Counted.{tuples_in}
+use Rattle.part_raw.specs.declared.shelf.Shelf.{Shelf}
 use Rattle.part_raw.specs.Layout.{IsPartition, vacancies, tuples_of}
 use Rattle.part_raw.specs.declared.store.Occupancy.{Occupancy}
 
@@ -48,3 +52,15 @@ module _ {T : Type 0} where
     pub all_open : open_count ≡ count_by has_vacancy blocks
     pub linked : IsOpenList (open_at blocks) (next_at occupancies) open_count first_open
     pub numbered : length blocks ≤ 2 ^ 24
+
+module _ {T : Type 0} where
+  -- what each slot of each shelf holds
+  abbrev pub tables : ℕ → List (Shelf T) → List (List (Option (Tuple T)))
+  tables width shelves = map (tuples_in width) shelves
+
+  -- the shelves' places are the slots of a store whose tuples have this width
+  pub record IsTable (width : ℕ) (shelves : List (Shelf T)) (occupancies : List Occupancy) (free : ℕ) (first_open : Option ℕ) : Type 0 where
+    pub wide : 0 < width
+    pub fits : width ≤ MAX_WIDTH
+    pub laid : (part : ℕ) (shelf : Shelf T) → part < length shelves → shelf ≡ slice_index_or shelves part shelf → IsLaid width shelf.block
+    pub store : IsStore (tables width shelves) occupancies free first_open

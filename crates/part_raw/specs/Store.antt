@@ -1,7 +1,7 @@
 -- What a contract sees of a `Partitions`: a finite map from references to tuples, and a count of free slots. The laws
 -- of the map are in `proofs.Tuples`.
-use Rattle.std.specs.Prelude.{ℕ, Option, IsSome, refl, if◌then◌else◌, nat_lt}
-use Rattle.std.specs.Coded.{Coded, code_by, coded×, coded_ℕ}
+use Rattle.std.specs.Prelude.{ℕ, List, Option, IsSome, refl, if◌then◌else◌, nat_lt}
+use Rattle.std.specs.Coded.{Coded, code_by, coded×, coded_list, coded_ℕ}
 use Rattle.std.specs.FinMap as map
 use Rattle.part_raw.specs.declared.TheConstants.{SLOTS}
 use Rattle.part_raw.specs.TupleRefs.{ref_cmp, ref_code}
@@ -11,32 +11,46 @@ use Rattle.part_raw.specs.declared.tuple_ref.TupleRef.{TupleRef}
 abbrev pub Tuples : Type 0 → Type 0
 Tuples T = map.FinMap ref_cmp T
 
--- the tuples, and how many more can be put with no memory
+-- a tuple: its cells, and a count that goes with it
+pub record Tuple (T : Type 0) : Type 0 where
+  pub cells : List T
+  pub count : ℕ
+
+-- a tuple is stored as the pair of its fields
+abbrev pub tuple_code : {T : Type 0} → Coded T → Coded (Tuple T)
+tuple_code {T} code = code_by (List T × ℕ) (coded× (coded_list code) coded_ℕ) (λ t. (t.cells, t.count)) (λ p. record { cells = p.0; count = p.1 }) (λ _. refl)
+
+-- how many cells a tuple has, the tuples, and how many more can be put with no memory
 pub record Store (T : Type 0) : Type 0 where
-  pub tuples : Tuples T
+  pub width : ℕ
+  pub tuples : Tuples (Tuple T)
   pub free : ℕ
 
--- a store is stored as the pair of its fields
+-- a store is stored as its fields, one behind the other
 abbrev pub store_code : {T : Type 0} → Coded T → Coded (Store T)
 store_code {T} code =
-    code_by (Tuples T × ℕ) (coded× (map.code ref_code code) coded_ℕ) (λ s. (s.tuples, s.free)) (λ p. record { tuples = p.0; free = p.1 }) (λ _. refl)
+    code_by (ℕ × (Tuples (Tuple T) × ℕ)) (coded× coded_ℕ (coded× (map.code ref_code (tuple_code code)) coded_ℕ)) (λ s. (s.width, (s.tuples, s.free))) (λ p. record { width = p.0; tuples = p.1.0; free = p.1.1 }) (λ _. refl)
 
 -- how many slots are free once room is made: where there was none, a partition is new
 abbrev pub free_reserved : ℕ → ℕ
 free_reserved free = if nat_lt 0 free then free else SLOTS
 
 module _ {T : Type 0} where
-  abbrev pub store : Tuples T → ℕ → Store T
-  store tuples free = record { tuples = tuples; free = free }
+  abbrev pub store : ℕ → Tuples (Tuple T) → ℕ → Store T
+  store width tuples free = record { width = width; tuples = tuples; free = free }
 
   -- the tuple under a reference
-  abbrev pub tuple_at : Store T → TupleRef → Option T
+  abbrev pub tuple_at : Store T → TupleRef → Option (Tuple T)
   tuple_at s r = map.get s.tuples r
 
   -- the store holds a tuple under this reference
   abbrev pub IsHeld : Store T → TupleRef → Type 0
   IsHeld s r = IsSome (tuple_at s r)
 
+  -- a tuple of these cells and this count
+  abbrev pub tuple : List T → ℕ → Tuple T
+  tuple cells n = record { cells = cells; count = n }
+
   -- the store with this as the tuple under the reference
-  abbrev pub with_tuple : Store T → TupleRef → T → Store T
-  with_tuple s r tuple = record s { tuples = map.insert s.tuples r tuple }
+  abbrev pub with_tuple : Store T → TupleRef → Tuple T → Store T
+  with_tuple s r t = record s { tuples = map.insert s.tuples r t }

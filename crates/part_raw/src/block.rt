@@ -1,16 +1,14 @@
-//! The block of a partition: its slots, each empty or holding a tuple, and the right to give their memory back.
-ghost use Rattle.std.specs.Prelude.{◌≡◌, ◌<◌, None, Some, length, slice_index_or, slice_set, IfOk, IsSome};
-ghost use Rattle.std.specs.Borrow.{sem};
-ghost use Rattle.part_raw.specs.Layout.{IsVacant};
+//! The block of a partition: its places, each empty or holding a value, and the right to give their memory back.
+ghost use Rattle.std.specs.Prelude.{◌≡◌, ◌<◌, None, Some, length, map, replicate, slice_index_or, slice_set, IfOk, IsSome};
+ghost use Rattle.part_raw.specs.Rows.{IsRun, window};
 
-use crate::SLOTS;
 use crate::raw::{Deed, Slots, allocate, deallocate};
 use std::alloc::{AllocError, Global};
 use std::marker::Model;
 use std_alloc::room::may_hold;
 
-// The slots of a partition, seen as a list of what each holds. It takes the 8 bytes of the block's address. Neither it
-// nor a tuple in it can be let go: `free` takes the block once every slot is empty, and nothing else does.
+// The places of a partition, seen as a list of what each holds. It takes the 8 bytes of the block's address. Neither it
+// nor a value in it can be let go: `free` takes the block once every place is empty, and nothing else does.
 pub struct Block<T> {
     slots: Slots<T>,
     deed: Deed<T, Global>,
@@ -29,57 +27,48 @@ impl<T> Model for Block<T> {
 }
 
 impl<T> Block<T> {
-    ghost use Rattle.part_raw.specs.Lends.{LendsSlot};
-
-    // A block with every slot empty. Nothing is written to a slot.
-    pub(crate) fn new(alloc: Global) -> Result<Block<T>, AllocError>
-        ensures { IfOk result IsVacant }
+    // A block with so many places, each empty. Nothing is written to a place.
+    pub(crate) fn new(alloc: Global, places: usize) -> Result<Block<T>, AllocError>
+        ensures { IfOk result (λ block. block ≡ replicate places None) }
     {
-        if !may_hold::<T>(SLOTS as usize) {
+        if !may_hold::<T>(places) {
             return Err(AllocError);
         }
-        let (slots, deed) = allocate(&alloc, SLOTS as usize)?;
+        let (slots, deed) = allocate(&alloc, places)?;
         Ok(Block { slots, deed, alloc })
     }
 
     // Gives the memory back.
-    pub(crate) fn free(self)
-        requires { IsVacant self }
+    pub(crate) fn free(self, places: usize)
+        requires { self ≡ replicate places None }
     {
         let Block { slots, deed, alloc } = self;
-        deallocate(&alloc, slots, SLOTS as usize, deed);
+        deallocate(&alloc, slots, places, deed);
     }
 
-    pub(crate) fn get(&self, slot: u32) -> &T
-        requires { IsSome (slice_index_or self.now slot None) }
-        ensures { slice_index_or self.now slot None ≡ Some result.now }
+    // The values of `count` places from `from` on.
+    pub(crate) fn run(&self, from: usize, count: usize) -> &[T]
+        requires { IsRun self.now from count }
+        ensures { window from count self.now ≡ map Some result.now }
     {
-        self.slots.get(slot as usize)
+        self.slots.run(from, count)
     }
 
-    pub(crate) fn get_mut(&mut self, slot: u32) -> &mut T
-        requires { IsSome (slice_index_or self.old slot None) }
-        ensures* writes_back { sem 𝓛 (LendsSlot T.row self.entry slot result) }
-        ensures value { slice_index_or self.old slot None ≡ Some result.now }
+    // Puts a value into an empty place.
+    pub(crate) fn write(&mut self, place: usize, value: T)
+        requires within { place < length self.old }
+        requires empty { slice_index_or self.old place None ≡ None }
+        ensures { self.new ≡ slice_set self.old place (Some value) }
     {
-        self.slots.get_mut(slot as usize)
+        self.slots.write(place, value);
     }
 
-    // Puts a tuple into an empty slot.
-    pub(crate) fn write(&mut self, slot: u32, tuple: T)
-        requires within { slot < length self.old }
-        requires empty { slice_index_or self.old slot None ≡ None }
-        ensures { self.new ≡ slice_set self.old slot (Some tuple) }
+    // Takes the value out of a place, which is empty from then on.
+    pub(crate) fn read(&mut self, place: usize) -> T
+        requires { IsSome (slice_index_or self.old place None) }
+        ensures value { slice_index_or self.old place None ≡ Some result }
+        ensures places { self.new ≡ slice_set self.old place None }
     {
-        self.slots.write(slot as usize, tuple);
-    }
-
-    // Takes the tuple out of a slot, which is empty from then on.
-    pub(crate) fn read(&mut self, slot: u32) -> T
-        requires { IsSome (slice_index_or self.old slot None) }
-        ensures value { slice_index_or self.old slot None ≡ Some result }
-        ensures slots { self.new ≡ slice_set self.old slot None }
-    {
-        self.slots.read(slot as usize)
+        self.slots.read(place)
     }
 }

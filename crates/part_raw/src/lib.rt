@@ -1,18 +1,19 @@
-//! A store of tuples that do not move, each named by a reference: a partition and a slot in it.
+//! A store of tuples that do not move, each named by a reference: a partition and a slot in it. A tuple is a run of
+//! cells, as many as the store was made for, with a count beside them.
 //!
-//! A store is a finite map from references to tuples, with a number of free slots. It does not care what a tuple is,
-//! which part of it is a key, or in what order tuples are looked for: it gives out a reference for a tuple, and the
-//! tuple for the reference.
+//! A store is a finite map from references to tuples, with a number of free slots. It does not care what a cell is,
+//! which cell is a key, or in what order tuples are looked for: it gives out a reference for a tuple, and the tuple
+//! for the reference.
 //!
 //! ```text
-//! Partitions<T>
-//!   blocks       ──▶ ┌ Block ┐ ┌ Block ┐ ..          8 bytes each, all that `get` reads
-//!                    └───┼───┘ └───┼───┘
-//!                        │         └──▶ ..
-//!                        └──▶ ┌──────┬──────┬─ .. ─┬──────┐
-//!                             │ slot │ slot │      │ slot │   one block of memory, 256 slots, each as long as a T
-//!                             │  0   │  1   │      │ 255  │
-//!                             └──────┴──────┴─ .. ─┴──────┘
+//! Partitions<T>, for tuples of three cells
+//!   shelves      ──▶ ┌ Shelf ─────────┐ ┌ Shelf ┐ ..  16 bytes each, all that `get` reads
+//!                    │ block   counts ┼─┼───────┼──▶ 256 numbers, one for each slot
+//!                    └───┼────────────┘ └───┼───┘
+//!                        └──▶ ┌──────┬──────┬──────┬──────┬──────┬──────┬─ .. ─┐
+//!                             │ cell │ cell │ cell │ cell │ cell │ cell │      │  one block of memory, 256 slots,
+//!                             └──────┴──────┴──────┴──────┴──────┴──────┴─ .. ─┘  each as long as three cells
+//!                              slot 0               slot 1
 //!   occupancies  ──▶ ┌ Occupancy ──────┐ ┌ Occupancy ──────┐ ..
 //!                    │ held: 256 bits  │ │                 │   which slots of the block hold a tuple
 //!                    │ next_open ──────┼─┼─▶ ..            │   the next partition with a free slot
@@ -22,12 +23,12 @@
 //! ```
 //!
 //! What always holds:
-//! - A slot holds a tuple exactly where its bit is set, and only such a slot is read. Making a partition writes nothing
-//!   to its slots.
+//! - Where the bit of a slot is set, each of its places holds a cell, and else none does. Only places that hold one are
+//!   read. Making a partition writes nothing to its places.
 //! - The list from `first_open` on has each partition with a free slot once, and no other.
-//! - Each slot of each block is free or holds a tuple, so `len` is told by the number of blocks and `free`.
-//! - A block can't be let go, nor can a tuple in it: it is given back to the allocator at most once, and only with all its
-//!   slots empty.
+//! - Each slot is free or holds a tuple, so `len` is told by the number of partitions and `free`.
+//! - A block can't be let go, nor can a cell in it: it is given back to the allocator once, and only with all its places
+//!   empty.
 //!
 //! All that reads or writes through a pointer stands in `raw`: a few functions of a line or two.
 #![tactic(auto)]
@@ -36,6 +37,8 @@ mod bitmap;
 mod block;
 mod partition;
 mod raw;
+mod row;
+mod shelf;
 mod store;
 mod tuple_ref;
 
@@ -50,3 +53,6 @@ pub const MAX_PARTITIONS: u32 = 1 << 24;
 
 /// How many tuples references can name. A store with no free slot that holds as many can't grow.
 pub const MAX_TUPLES: u64 = 1 << 32;
+
+/// The most cells of a tuple.
+pub const MAX_WIDTH: usize = 65_536;

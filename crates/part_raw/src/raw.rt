@@ -2,16 +2,17 @@
 //! each function is a line or two, with a proof that follows its machine steps. To the rest of the crate the memory is
 //! a list that has, for each slot, a tuple or nothing: no call reads an empty slot, writes over a tuple, or gives back
 //! a block that holds one or is another's.
-ghost use Rattle.std.specs.Prelude.{◌≡◌, ℕ, ◌<◌, List, Option, None, Some, length, replicate, slice_index_or, slice_set, IfOk, IsSome};
-ghost use Rattle.std.specs.Borrow.{sem};
+ghost use Rattle.std.specs.Prelude.{◌≡◌, ℕ, ◌<◌, List, Option, None, Some, length, replicate, map, slice_index_or, slice_set, IfOk, IsSome};
 ghost use Rattle.std.specs.Vec.Ownership.{FitsInBlock};
 ghost use base.Fml.{ftrue};
 ghost use denote.RawPtr.{Ptr};
 ghost use Rattle.part_raw.specs.Raw.{block_owns, block_lends, deed_owns};
+ghost use Rattle.part_raw.specs.Rows.{IsRun, window};
 
 use std::alloc::{AllocError, Allocator};
 use std::marker::{Model, PhantomData};
 use std::mem::{align_of, size_of};
+use std::slice;
 
 // The slots of one block. An empty slot has room for a tuple, and nothing is known of its bytes.
 pub struct Slots<T> {
@@ -75,8 +76,6 @@ pub(crate) fn deallocate<T, A: Allocator>(
 }
 
 impl<T> Slots<T> {
-    ghost use Rattle.part_raw.specs.RawLends.{LendsHeld};
-
     // Writes a tuple into an empty slot.
     pub(crate) fn write(&mut self, slot: usize, tuple: T)
         requires within { slot < length self.old.held }
@@ -97,18 +96,11 @@ impl<T> Slots<T> {
         unsafe { self.ptr.add(slot).read() }
     }
 
-    pub(crate) fn get(&self, slot: usize) -> &T
-        requires { IsSome (slice_index_or self.now.held slot None) }
-        ensures { slice_index_or self.now.held slot None ≡ Some result.now }
+    // The values of `count` places from `from` on.
+    pub(crate) fn run(&self, from: usize, count: usize) -> &[T]
+        requires { IsRun self.now.held from count }
+        ensures { window from count self.now.held ≡ map Some result.now }
     {
-        unsafe { &*self.ptr.add(slot) }
-    }
-
-    pub(crate) fn get_mut(&mut self, slot: usize) -> &mut T
-        requires { IsSome (slice_index_or self.old.held slot None) }
-        ensures* writes_back { sem 𝓛 (LendsHeld T.row self.entry slot result) }
-        ensures tuple { slice_index_or self.old.held slot None ≡ Some result.now }
-    {
-        unsafe { &mut *self.ptr.add(slot) }
+        unsafe { slice::from_raw_parts(self.ptr.add(from), count) }
     }
 }

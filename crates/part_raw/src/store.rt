@@ -1,14 +1,14 @@
 //! All partitions of a store, and the list of those with a free slot. A look-up reads the blocks alone; a put and a take
 //! keep the bitmaps, the count of free slots and the list in step with them.
-ghost use Rattle.std.specs.Prelude.{◌≡◌, ◌+◌, ◌<◌, ◌≤◌, None, Some, IsOk, OnErr, OnOk};
-ghost use Rattle.std.specs.Borrow.{sem};
+ghost use Rattle.std.specs.Prelude.{◌≡◌, ◌↔◌, ◌+◌, ◌<◌, ◌≤◌, [], None, Some, IfSome, IfOk, IsOk, OnErr, OnOk, length, slice_index_or, slice_set};
 ghost use Rattle.std.specs.FinMap as map;
-ghost use Rattle.part_raw.specs.Store.{store, tuple_at, IsHeld, free_reserved};
+ghost use Rattle.std.specs.Vec.{vec_capacity};
+ghost use Rattle.part_raw.specs.Store.{store, tuple, tuple_at, with_tuple, IsHeld, free_reserved};
 
 use crate::bitmap::Bitmap;
-use crate::block::Block;
-use crate::partition::{discard, fill, vacate};
-use crate::{MAX_TUPLES, SLOTS, TupleRef};
+use crate::partition::{discard, empty, exchange, fill, new_shelf, vacate};
+use crate::shelf::Shelf;
+use crate::{MAX_TUPLES, MAX_WIDTH, SLOTS, TupleRef};
 use no_memory::NoMemory;
 use std::alloc::Global;
 use std::marker::Model;
@@ -26,8 +26,10 @@ struct Occupancy {
 /// A store grows by partitions of `SLOTS` slots, and keeps them until it is dropped.
 pub struct Partitions<T> {
     alloc: Global,
-    // A look-up of a tuple reads this alone, so the blocks stand apart from what only `put`, `take` and `holds` read.
-    blocks: Vec<Block<T>>,
+    // How many cells a tuple has.
+    width: usize,
+    // A look-up of a tuple reads this alone, so the shelves stand apart from what only `put`, `take` and `holds` read.
+    shelves: Vec<Shelf<T>>,
     occupancies: Vec<Occupancy>,
     free: u64,
     first_open: Option<u32>,
@@ -41,11 +43,11 @@ impl<T> Model for Partitions<T> {
     ghost coded = { store_code T.code };
 
     ghost use Rattle.part_raw.specs.Layout.{tuples_of};
-    ghost use Rattle.part_raw.specs.Open.{IsStore};
+    ghost use Rattle.part_raw.specs.Open.{tables, IsTable};
 
-    ghost view = { λ s. store (tuples_of s.blocks.items) s.free };
+    ghost view = { λ s. store s.width (tuples_of (tables s.width s.shelves.items)) s.free };
 
-    ghost invariant = { λ s. IsStore s.blocks.items s.occupancies.items s.free s.first_open };
+    ghost invariant = { λ s. IsTable s.width s.shelves.items s.occupancies.items s.free s.first_open };
 }
 
 /// Each tuple that is held is dropped, and each block is freed.
@@ -53,35 +55,48 @@ impl<T: Drop> Drop for Partitions<T> {
     fn drop(self) {
         let Partitions {
             alloc: _,
-            mut blocks,
+            width,
+            mut shelves,
             mut occupancies,
             free: _,
             first_open: _,
         } = self;
-        while let Some(block) = blocks.pop() {
+        while let Some(shelf) = shelves.pop() {
             match occupancies.pop() {
-                Some(occupancy) => discard(occupancy.held, block),
+                Some(occupancy) => discard(occupancy.held, shelf, width),
                 None => unreachable!(),
             }
         }
-        blocks.destroy_empty();
+        shelves.destroy_empty();
     }
 }
 
 impl<T> Partitions<T> {
-    ghost use Rattle.part_raw.specs.StoreLends.{LendsTuple};
-
-    /// An empty store. It takes no memory.
-    pub fn new(alloc: Global) -> Partitions<T>
-        ensures { result ≡ store map.empty 0 }
+    /// An empty store of tuples of so many cells. It takes no memory. Refused is a tuple of no cell, and one of more cells
+    /// than a store can address.
+    pub fn new(alloc: Global, width: usize) -> Result<Partitions<T>, NoMemory>
+        ensures made { IfOk result (λ made. made ≡ store width map.empty 0) }
+        ensures told { IsOk result ↔ ((0 < width) × (width ≤ MAX_WIDTH)) }
     {
-        Partitions {
+        if width == 0 || width > MAX_WIDTH {
+            return Err(NoMemory);
+        }
+        Ok(Partitions {
             alloc,
-            blocks: Vec::new(alloc),
+            width,
+            shelves: Vec::new(alloc),
             occupancies: Vec::new(alloc),
             free: 0,
             first_open: None,
-        }
+        })
+    }
+
+    /// How many cells a tuple has.
+    pub fn width(&self) -> usize
+        ensures value { result ≡ self.now.width }
+        ensures within { (0 < result) × (result ≤ MAX_WIDTH) }
+    {
+        self.width
     }
 
     /// The number of free slots: so many calls of `put` need no `reserve` before them.
@@ -97,7 +112,7 @@ impl<T> Partitions<T> {
         ensures value { result ≡ map.len self.now.tuples }
         ensures within { map.len self.now.tuples + self.now.free ≤ MAX_TUPLES }
     {
-        self.blocks.len() as u64 * SLOTS as u64 - self.free
+        self.shelves.len() as u64 * SLOTS as u64 - self.free
     }
 
     /// The number of slots, free or not. The number of each reference under which a tuple is held is below it.
@@ -106,24 +121,24 @@ impl<T> Partitions<T> {
         ensures most { result ≤ MAX_TUPLES }
         ensures within { (r : TupleRef) → IsHeld self.now r → r.number < result }
     {
-        self.blocks.len() as u64 * SLOTS as u64
+        self.shelves.len() as u64 * SLOTS as u64
     }
 
     /// Makes sure of one free slot: a store with none gets a partition of `SLOTS` more.
     pub fn reserve(&mut self) -> Result<(), NoMemory>
         requires { self.old.free ≡ 0 → map.len self.old.tuples < MAX_TUPLES }
-        ensures ok { OnOk result (self.new ≡ store self.old.tuples (free_reserved self.old.free)) }
+        ensures ok { OnOk result (self.new ≡ record self.old { free = free_reserved self.old.free }) }
         ensures err { OnErr result (self.new ≡ self.old) }
         ensures had_room { 0 < self.old.free → IsOk result }
     {
         if self.free > 0 {
             return Ok(());
         }
-        self.blocks.reserve(1)?;
+        self.shelves.reserve(1)?;
         self.occupancies.reserve(1)?;
-        let block = Block::new(self.alloc)?;
-        let part = self.blocks.len() as u32;
-        self.blocks.push_reserved(block);
+        let shelf = new_shelf(self.alloc, self.width)?;
+        let part = self.shelves.len() as u32;
+        self.shelves.push_reserved(shelf);
         self.occupancies.push_reserved(Occupancy {
             held: Bitmap::new(),
             next_open: self.first_open,
@@ -133,12 +148,16 @@ impl<T> Partitions<T> {
         Ok(())
     }
 
-    /// Puts the tuple into a free slot. It takes no memory.
-    pub fn put(&mut self, tuple: T) -> TupleRef
-        requires { 0 < self.old.free }
+    /// Moves the cells into a free slot. It takes no memory, and the vector keeps its own.
+    pub fn put(&mut self, cells: &mut Vec<T>) -> TupleRef
+        requires room { 0 < self.old.free }
+        requires width { length cells.old.items ≡ self.old.width }
         ensures fresh { tuple_at self.old result ≡ None }
-        ensures tuples { self.new.tuples ≡ map.insert self.old.tuples result tuple }
+        ensures tuples { self.new.tuples ≡ map.insert self.old.tuples result (tuple cells.old.items 0) }
         ensures free { self.new.free + 1 ≡ self.old.free }
+        ensures width { self.new.width ≡ self.old.width }
+        ensures moved { cells.new.items ≡ [] }
+        ensures capacity { vec_capacity cells.new ≡ vec_capacity cells.old }
     {
         let part = match self.first_open {
             Some(part) => part,
@@ -146,8 +165,8 @@ impl<T> Partitions<T> {
         };
         self.free -= 1;
         let occupancy = &mut self.occupancies[part as usize];
-        let block = &mut self.blocks[part as usize];
-        let slot = fill(&mut occupancy.held, block, tuple);
+        let shelf = &mut self.shelves[part as usize];
+        let slot = fill(&mut occupancy.held, shelf, cells);
         let r = TupleRef::to(part, slot);
         if occupancy.held.is_full() {
             self.first_open = occupancy.next_open;
@@ -163,40 +182,102 @@ impl<T> Partitions<T> {
         part < self.occupancies.len() && self.occupancies[part].held.has(r.slot())
     }
 
-    /// The tuple under this reference.
-    pub fn get(&self, r: TupleRef) -> &T
+    /// The cells of the tuple under this reference.
+    pub fn get(&self, r: TupleRef) -> &[T]
         requires { IsHeld self.now r }
-        ensures { tuple_at self.now r ≡ Some result.now }
+        ensures tuple { IfSome (tuple_at self.now r) (λ t. t.cells ≡ result.now) }
+        ensures width { length result.now ≡ self.now.width }
     {
-        self.blocks[r.part() as usize].get(r.slot())
+        let part = r.part();
+        let slot = r.slot();
+        self.shelves[part as usize]
+            .block
+            .run(slot as usize * self.width, self.width)
     }
 
-    /// The tuple under this reference, to write to.
-    pub fn get_mut(&mut self, r: TupleRef) -> &mut T
-        requires { IsHeld self.old r }
-        ensures* writes_back { sem 𝓛 (LendsTuple T.row self.entry r result) }
-        ensures value { tuple_at self.old r ≡ Some result.now }
+    /// The count of the tuple under this reference. It is read where it is asked for.
+    pub fn count(&self, r: TupleRef) -> &u64
+        requires { IsHeld self.now r }
+        ensures { IfSome (tuple_at self.now r) (λ t. t.count ≡ result.now) }
     {
-        self.blocks[r.part() as usize].get_mut(r.slot())
+        let part = r.part();
+        let slot = r.slot();
+        &self.shelves[part as usize].counts[slot as usize]
     }
 
-    /// Takes the tuple out. Its slot is free from then on. It takes no memory.
-    pub fn take(&mut self, r: TupleRef) -> T
+    /// Sets the count of the tuple under this reference.
+    pub fn set_count(&mut self, r: TupleRef, n: u64)
         requires { IsHeld self.old r }
-        ensures value { tuple_at self.old r ≡ Some result }
+        ensures { IfSome (tuple_at self.old r) (λ t. self.new ≡ with_tuple self.old r (tuple t.cells n)) }
+    {
+        let part = r.part();
+        let slot = r.slot();
+        self.shelves[part as usize].counts[slot as usize] = n;
+    }
+
+    /// Puts a value in the place of a cell, and gives the one that was there.
+    pub fn replace(&mut self, r: TupleRef, column: usize, value: T) -> T
+        requires held { IsHeld self.old r }
+        requires column { column < self.old.width }
+        ensures value { IfSome (tuple_at self.old r) (λ t. result ≡ slice_index_or t.cells column result) }
+        ensures tuples { IfSome (tuple_at self.old r) (λ t. self.new ≡ with_tuple self.old r (tuple (slice_set t.cells column value) t.count)) }
+    {
+        let part = r.part();
+        let slot = r.slot();
+        exchange(
+            &mut self.shelves[part as usize],
+            slot,
+            self.width,
+            column,
+            value,
+        )
+    }
+
+    /// Moves the cells of the tuple into a vector that has room for them, and gives its count. The slot is free from
+    /// then on.
+    pub fn take(&mut self, r: TupleRef, cells: &mut Vec<T>) -> u64
+        requires held { IsHeld self.old r }
+        requires empty { cells.old.items ≡ [] }
+        requires room { self.old.width ≤ vec_capacity cells.old }
+        ensures tuple { tuple_at self.old r ≡ Some (tuple cells.new.items result) }
         ensures tuples { self.new.tuples ≡ map.remove self.old.tuples r }
         ensures free { self.new.free ≡ self.old.free + 1 }
+        ensures width { self.new.width ≡ self.old.width }
+        ensures capacity { vec_capacity cells.new ≡ vec_capacity cells.old }
     {
         self.free += 1;
         let part = r.part();
+        let slot = r.slot();
         let occupancy = &mut self.occupancies[part as usize];
-        let block = &mut self.blocks[part as usize];
+        let shelf = &mut self.shelves[part as usize];
         let was_full = occupancy.held.is_full();
-        let tuple = vacate(&mut occupancy.held, block, r.slot());
+        let count = vacate(&mut occupancy.held, shelf, slot, self.width, cells);
         if was_full {
             occupancy.next_open = self.first_open;
             self.first_open = Some(part);
         }
-        tuple
+        count
+    }
+
+    /// Drops the tuple. Its slot is free from then on. It takes no memory.
+    pub fn remove(&mut self, r: TupleRef)
+    where
+        T: Drop,
+        requires { IsHeld self.old r }
+        ensures tuples { self.new.tuples ≡ map.remove self.old.tuples r }
+        ensures free { self.new.free ≡ self.old.free + 1 }
+        ensures width { self.new.width ≡ self.old.width }
+    {
+        self.free += 1;
+        let part = r.part();
+        let slot = r.slot();
+        let occupancy = &mut self.occupancies[part as usize];
+        let shelf = &mut self.shelves[part as usize];
+        let was_full = occupancy.held.is_full();
+        empty(&mut occupancy.held, shelf, slot, self.width);
+        if was_full {
+            occupancy.next_open = self.first_open;
+            self.first_open = Some(part);
+        }
     }
 }

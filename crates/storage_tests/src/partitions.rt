@@ -1,11 +1,11 @@
-//! A store on worked rows: how many slots are free, and how often a tuple is dropped.
+//! A store on worked tuples: how many slots are free, what is given back, and how often a cell is dropped.
 
-use part_raw::{MAX_TUPLES, Partitions, TupleRef};
+use part_raw::{MAX_TUPLES, MAX_WIDTH, Partitions, TupleRef};
 use std::alloc::Global;
 use std::cell::Cell;
 use std::process::Abort;
 
-/// A tuple with a number, which counts its drops.
+/// A cell with a number, which counts its drops.
 struct Counted<'a> {
     number: u64,
     drops: &'a Cell<u64>,
@@ -18,6 +18,13 @@ impl Drop for Counted<'_> {
     }
 }
 
+fn store_of<'a>(rt: &impl Abort, alloc: Global, width: usize) -> Partitions<Counted<'a>> {
+    match Partitions::new(alloc, width) {
+        Ok(store) => store,
+        Err(_) => panic!(rt; "no store of {width} cells"),
+    }
+}
+
 fn counts_are(rt: &impl Abort, store: &Partitions<Counted<'_>>, len: u64, free: u64) {
     assert!(rt; store.len() == len && store.free() == free);
 }
@@ -25,6 +32,23 @@ fn counts_are(rt: &impl Abort, store: &Partitions<Counted<'_>>, len: u64, free: 
 fn reserve(rt: &impl Abort, store: &mut Partitions<Counted<'_>>) {
     assert!(rt; store.len() < MAX_TUPLES);
     assert!(rt; store.reserve().is_ok());
+}
+
+/// Moves a tuple into the store, each of whose cells has this number. The buffer is empty before and after.
+fn put<'a>(
+    rt: &impl Abort,
+    store: &mut Partitions<Counted<'a>>,
+    cells: &mut Vec<Counted<'a>>,
+    drops: &'a Cell<u64>,
+    number: u64,
+) -> TupleRef {
+    for _ in 0..store.width() {
+        assert!(rt; cells.push(Counted { number, drops }).is_ok());
+    }
+    assert!(rt; store.free() > 0 && cells.len() == store.width());
+    let r = store.put(cells);
+    assert!(rt; cells.is_empty());
+    r
 }
 
 /// Puts tuples with the numbers below `count` in, and gives their references.
@@ -36,48 +60,114 @@ fn fill<'a>(
     count: u64,
 ) -> Vec<TupleRef> {
     let mut refs = Vec::new(alloc);
+    let mut cells = Vec::new(alloc);
     for number in 0..count {
         reserve(rt, store);
-        assert!(rt; store.free() > 0);
-        let r = store.put(Counted { number, drops });
+        let r = put(rt, store, &mut cells, drops, number);
         assert!(rt; refs.push(r).is_ok());
     }
     refs
 }
 
-/// Takes the tuple of each third reference out and drops it. They have the numbers 0, 3, 6 and so on.
-fn drop_thirds(rt: &impl Abort, store: &mut Partitions<Counted<'_>>, refs: &[TupleRef]) {
-    let mut number = 0u64;
+/// Whether a tuple is held there that has these numbers in its cells.
+fn has(store: &Partitions<Counted<'_>>, r: TupleRef, numbers: &[u64]) -> bool {
+    if !store.holds(r) {
+        return false;
+    }
+    let cells = store.get(r);
+    cells.len() == numbers.len() && cells.iter().zip(numbers).all(|(c, n)| c.number == *n)
+}
+
+/// Removes the tuple of each third reference. They have the numbers 0, 3, 6 and so on.
+fn remove_thirds(rt: &impl Abort, store: &mut Partitions<Counted<'_>>, refs: &[TupleRef]) {
     for r in refs.iter().step_by(3) {
         assert!(rt; store.holds(*r));
-        let tuple = store.take(*r);
-        assert!(rt; tuple.number == number && !store.holds(*r));
-        number = number.wrapping_add(3);
+        store.remove(*r);
+        assert!(rt; !store.holds(*r));
     }
 }
 
 #[test]
 fn a_partition_has_256_slots(rt: HostRuntime) {
     let drops = Cell::new(0);
-    let mut store = Partitions::new(rt.alloc());
+    let mut store = store_of(&rt, rt.alloc(), 1);
     counts_are(&rt, &store, 0, 0);
     reserve(&rt, &mut store);
     counts_are(&rt, &store, 0, 256);
     let refs = fill(&rt, rt.alloc(), &mut store, &drops, 256);
     counts_are(&rt, &store, 256, 0);
-    drop_thirds(&rt, &mut store, refs.as_slice());
+    remove_thirds(&rt, &mut store, refs.as_slice());
     counts_are(&rt, &store, 170, 86);
 }
 
 #[test]
-fn each_tuple_is_dropped_once(rt: HostRuntime) {
+fn what_is_taken_is_what_was_put(rt: HostRuntime) {
     let drops = Cell::new(0);
-    let mut store = Partitions::new(rt.alloc());
+    let mut store = store_of(&rt, rt.alloc(), 3);
+    let refs = fill(&rt, rt.alloc(), &mut store, &drops, 256);
+    let mut cells = Vec::new(rt.alloc());
+    assert!(&rt; cells.reserve(3).is_ok());
+    let r = *refs.as_slice().get(200).expect(&rt, "a reference");
+    assert!(&rt; has(&store, r, &[200, 200, 200]));
+    assert!(&rt; store.holds(r) && store.width() == 3 && cells.is_empty());
+    let count = store.take(r, &mut cells);
+    assert!(&rt; count == 0 && cells.len() == 3);
+    assert!(&rt; cells.iter().all(|cell| cell.number == 200));
+    assert!(&rt; !store.holds(r) && drops.get() == 0);
+    counts_are(&rt, &store, 255, 1);
+}
+
+#[test]
+fn a_cell_is_replaced_in_its_place(rt: HostRuntime) {
+    let drops = Cell::new(0);
+    let mut store = store_of(&rt, rt.alloc(), 3);
+    let refs = fill(&rt, rt.alloc(), &mut store, &drops, 2);
+    let r = *refs.as_slice().get(1).expect(&rt, "a reference");
+    assert!(&rt; store.holds(r) && store.width() == 3);
+    let value = Counted {
+        number: 7,
+        drops: &drops,
+    };
+    let old = store.replace(r, 2, value);
+    assert!(&rt; old.number == 1 && drops.get() == 0);
+    assert!(&rt; has(&store, r, &[1, 1, 7]));
+}
+
+#[test]
+fn a_count_stands_beside_the_cells(rt: HostRuntime) {
+    let drops = Cell::new(0);
+    let mut store = store_of(&rt, rt.alloc(), 3);
+    let refs = fill(&rt, rt.alloc(), &mut store, &drops, 2);
+    let r = *refs.as_slice().get(1).expect(&rt, "a reference");
+    assert!(&rt; store.holds(r));
+    assert!(&rt; *store.count(r) == 0);
+    store.set_count(r, 5);
+    assert!(&rt; has(&store, r, &[1, 1, 1]));
+    assert!(&rt; store.holds(r));
+    assert!(&rt; *store.count(r) == 5);
+}
+
+#[test]
+fn each_cell_is_dropped_once(rt: HostRuntime) {
+    let drops = Cell::new(0);
+    let mut store = store_of(&rt, rt.alloc(), 3);
     let refs = fill(&rt, rt.alloc(), &mut store, &drops, 600);
     counts_are(&rt, &store, 600, 168);
-    drop_thirds(&rt, &mut store, refs.as_slice());
+    remove_thirds(&rt, &mut store, refs.as_slice());
     counts_are(&rt, &store, 400, 368);
-    assert!(rt; drops.get() == 200);
+    assert!(&rt; drops.get() == 600);
     drop(store);
-    assert!(rt; drops.get() == 600);
+    assert!(&rt; drops.get() == 1_800);
+}
+
+#[test]
+fn a_tuple_that_cannot_be_addressed_is_refused(rt: HostRuntime) {
+    let widest = Partitions::<u64>::new(rt.alloc(), MAX_WIDTH);
+    assert!(&rt; widest.is_ok());
+    let none = Partitions::<u64>::new(rt.alloc(), 0);
+    assert!(&rt; none.is_err());
+    let wider = Partitions::<u64>::new(rt.alloc(), MAX_WIDTH + 1);
+    assert!(&rt; wider.is_err());
+    let most = Partitions::<u64>::new(rt.alloc(), usize::MAX);
+    assert!(&rt; most.is_err());
 }

@@ -16,7 +16,7 @@ use Rattle.plain_tables.specs.Queries.{stands}
 use Rattle.plain_tables.proofs.ValueLemmas.{value_cmp-exact}
 use Rattle.mm_index.specs.Order.{IsRising}
 use Rattle.mm_index.proofs.Placed.{cmp_itself}
-use Rattle.mm_relation.specs.declared.row.Row.{Row}
+use Rattle.mm_relation.specs.Rows.{Row}
 use Rattle.mm_relation.specs.Reading.{value_at, key_at}
 use Rattle.mm_relation.specs.Order.{column_cmp, column_cmp_strict, held_from_value}
 use Rattle.mm_relation.specs.State.{tree_list, RelationState, IsKept, no_keys}

@@ -28,7 +28,7 @@ use Rattle.plain_tables.specs.Hashes.{hash_of}
 use Rattle.plain_tables.specs.Queries.{stands}
 use Rattle.plain_tables.proofs.ValueLemmas.{value_cmp-exact}
 use Rattle.plan_chooser.specs.Plans.{is_range}
-use Rattle.mm_relation.specs.declared.row.Row.{Row}
+use Rattle.mm_relation.specs.Rows.{Row}
 use Rattle.mm_relation.specs.Reading.{Keys, value_at, key_at, hash_of_value, hash_at, row_value}
 use Rattle.mm_relation.specs.Order.{column_cmp}
 use Rattle.mm_relation.specs.Changes.{HasTree, HasHash, tree_on, list_of, entries_of}

@@ -15,7 +15,7 @@ use Rattle.plain_tables.specs.declared.resolved.Test.{Test}
 use Rattle.mm_index.specs.Bag.{IsSameBag}
 use Rattle.mm_index.specs.Listing.{IsListing}
 use Rattle.mm_index.proofs.Listings.{IsSameBag-listings}
-use Rattle.mm_relation.specs.declared.row.Row.{Row}
+use Rattle.mm_relation.specs.Rows.{Row}
 use Rattle.mm_relation.specs.State.{tree_list, RelationState, IsKept}
 use Rattle.mm_relation.proofs.Listings.{keyed_listing}
 use Rattle.temp_list.specs.Reading.{row_passes, passing}

@@ -1,7 +1,7 @@
 //! The numbers of referrers, as links come and go. No call takes memory.
 ghost use Rattle.std.specs.Prelude.{◌≡◌, ◌*◌, ◌<◌, ◌∷◌, [], All, Some, IsSome, length, map};
 ghost use Rattle.std.specs.FinMap as finite;
-ghost use Rattle.mm_relation.specs.declared.row.Row.{Row};
+ghost use Rattle.mm_relation.specs.Rows.{Row};
 ghost use Rattle.mm_relation.specs.State.{IsKept};
 ghost use Rattle.mm_catalog.specs.Linked.{row_links};
 ghost use Rattle.mm_catalog.specs.Counted.{linked_of, naming, none, IsHeldIn, HaveRoom, HaveAtLeast, AreCountedBy};

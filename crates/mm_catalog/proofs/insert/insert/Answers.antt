@@ -57,6 +57,16 @@ take_in-requires-clause-readable c =
     subst (λ values. AreCellsOf c.split_at_mut-before.result.0.now s.targets values c.in_ok-cells.cells) c.into_vec.ensures c.in_ok-cells.ensures.cells in
     cells_readable c.split_at_mut-before.result.0.now s.targets key rest c.in_ok-cells.cells are wide
 
+pub take_in-requires-clause-width : goal.take_in-requires-clause-width
+take_in-requires-clause-width c =
+    let n = c.args.table.0 in
+    let d = c.index-rest-0.result in
+    let s : RelationState = get_or c.split_at_mut-before.result.1.now 0 d in
+    let at : slice_get c.args.relations.now n ≡ Some s = split_here c.args.relations.now c.split_at_mut-before.result.1.now n d c.requires.there c.split_at_mut-before.ensures.back in
+    let rest = c.remove-key.new.self in
+    let split : c.args.values ≡ c.remove-key.result ∷ rest = split_first c.args.values c.remove-key.result rest c.requires.some c.remove-key.ensures.value c.remove-key.ensures.rest in
+    omega (arith, c.requires.width s at, ap length split, c.in_ok-cells.ensures.cells.count, ap length c.into_vec.ensures)
+
 pub take_in-requires-clause-current : goal.take_in-requires-clause-current
 take_in-requires-clause-current c =
     let n = c.args.table.0 in

@@ -44,6 +44,7 @@ loop-r-init g c =
       served = λ list keyed serves. (keyed, serves);
       declared = refl;
       room = subst (λ n. HaveRoom n c.args.indexes.now) all c.requires.room;
+      width = refl;
       copies = c.requires.ready ∙ ap (λ n. pile n c.args.sets.now) all;
     }
 
@@ -54,6 +55,7 @@ loop-r-preserved g c = record {
   served = λ list keyed serves. let now = c.loop-r.invariant.served list keyed serves in c.change_row.ensures.served list now.0 now.1;
   declared = c.change_row.ensures.declared ∙ c.loop-r.invariant.declared;
   room = room_next (length c.args.rs.now) c.loop-r.r-index c.loop-r.indexes c.change_row.new.indexes (omega arith) c.change_row.ensures.room c.loop-r.invariant.room;
+  width = c.change_row.ensures.width ∙ c.loop-r.invariant.width;
   copies = c.change_row.ensures.left _ (c.loop-r.invariant.copies ∙ pile_split (length c.args.rs.now) c.loop-r.r-index c.args.sets.now (omega arith));
 }
 

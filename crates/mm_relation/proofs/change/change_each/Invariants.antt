@@ -11,5 +11,6 @@ invariant-loop-r g l = record {
   served : (list : List TupleRef) → IsKeyed l.fn.rows.tuples list → Serve (g.R.LinkedKeys.keys l.links) l.fn.rows.tuples list l.fn.indexes → IsKeyed l.rows.tuples list × Serve (g.R.LinkedKeys.keys l.links) l.rows.tuples list l.indexes;
   declared : map declaration_of l.indexes ≡ map declaration_of l.fn.indexes;
   room : HaveRoom (length l.rs - l.r-index) l.indexes;
+  width : l.rows.width ≡ l.fn.rows.width;
   copies : l.copies.items ≡ pile (length l.rs - l.r-index) l.sets;
 }

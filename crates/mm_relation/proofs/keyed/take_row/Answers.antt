@@ -11,7 +11,7 @@ remove-requires c =
 
 pub returns-clause-keyed : goal.returns-clause-keyed
 returns-clause-keyed c =
-    rw c.take.ensures.tuples
+    rw c.remove-2.ensures.rows
     (keyed_without c.args.rows.now.tuples (items_of_tree c.args.by_key.now) c.args.r c.requires.keyed c.requires.held (items_of_tree c.remove.new.self) (rw (c.new.ensures.order, c.new.ensures.sought) at c.remove.ensures.items))
 
 pub returns-clause-unlisted : goal.returns-clause-unlisted

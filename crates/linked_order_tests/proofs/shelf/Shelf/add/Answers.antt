@@ -1,34 +1,50 @@
-use Rattle.std.proofs.Common.{is_some, ap}
+use Rattle.std.proofs.Common.{◌≡◌, ◌∷◌, [], is_some, ap, refl, sym, ◌∙◌}
+use Rattle.part_raw.specs.Store.{tuple}
 use Rattle.part_raw.proofs.Tuples.{get-insert_same}
-use Rattle.linked_order_tests.proofs.Keeping.{rank_of, new_ranked, new_in_order, kept_new, taken_again}
+use Rattle.linked_order_tests.proofs.Keeping.{first_of, rank_of, new_ranked, new_in_order, kept_new, taken_again}
 use Rattle.linked_order_tests.proofs.shelf.Shelf.add.Goals as goal
 
 pub insert_unless_found-requires-clause-placed : goal.insert_unless_found-requires-clause-placed
 insert_unless_found-requires-clause-placed g c =
     let self = c.reserve.new.self in
-    rw c.put-r.ensures.tuples
-    (new_ranked self.authors.now.tuples self.books.tuples c.put-r.result c.args.book (c.get.result.now.key, c.args.book.key) (rank_of self.authors.now.tuples c.args.book c.get.result.now c.get.ensures)
-    (g.I.OrderedIndex.items self.tree) (g.E.ExactIndex.entries self.hash) c.reserve.ensures.kept c.put-r.ensures.fresh)
+    let author = first_of self.authors.now.tuples c.args.book.by c.get.result.now c.in-Some.author.now (sym c.holds.ensures ∙ c.if-not-holds.false) c.get.ensures.tuple (rw c.in-Some.is at c.first.ensures.value) in
+    let row = tuple (c.args.book ∷ []) 0 in
+    let ranked = rank_of self.authors.now.tuples row c.args.book author.0 c.in-Some.author.now refl author.1 author.2 in
+    rw (c.put.ensures.rest, c.in_ok-r.ensures.put.1)
+    (new_ranked self.authors.now.tuples self.books.tuples c.in_ok-r.r row (c.in-Some.author.now.key, c.args.book.key) ranked
+    (g.I.OrderedIndex.items self.tree) (g.E.ExactIndex.entries self.hash) c.reserve.ensures.kept c.in_ok-r.ensures.put.0)
 
 pub insert_unless_found-requires-clause-in_order : goal.insert_unless_found-requires-clause-in_order
 insert_unless_found-requires-clause-in_order g c =
     let self = c.reserve.new.self in
-    rw c.put-r.ensures.tuples
-    (new_in_order self.authors.now.tuples self.books.tuples c.put-r.result c.args.book (c.get.result.now.key, c.args.book.key) (rank_of self.authors.now.tuples c.args.book c.get.result.now c.get.ensures)
-    (g.I.OrderedIndex.items self.tree) (g.E.ExactIndex.entries self.hash) c.reserve.ensures.kept c.put-r.ensures.fresh)
+    let author = first_of self.authors.now.tuples c.args.book.by c.get.result.now c.in-Some.author.now (sym c.holds.ensures ∙ c.if-not-holds.false) c.get.ensures.tuple (rw c.in-Some.is at c.first.ensures.value) in
+    let row = tuple (c.args.book ∷ []) 0 in
+    let ranked = rank_of self.authors.now.tuples row c.args.book author.0 c.in-Some.author.now refl author.1 author.2 in
+    rw (c.put.ensures.rest, c.in_ok-r.ensures.put.1)
+    (new_in_order self.authors.now.tuples self.books.tuples c.in_ok-r.r row (c.in-Some.author.now.key, c.args.book.key) ranked
+    (g.I.OrderedIndex.items self.tree) (g.E.ExactIndex.entries self.hash) c.reserve.ensures.kept c.in_ok-r.ensures.put.0)
 
-pub take-requires : goal.take-requires
-take-requires g c = rw c.put-r.ensures.tuples (ap is_some (get-insert_same c.reserve.new.self.books.tuples c.put-r.result c.args.book))
+pub remove-requires : goal.remove-requires
+remove-requires g c = rw c.in_ok-r.ensures.put.1 (ap is_some (get-insert_same c.reserve.new.self.books.tuples c.in_ok-r.r (tuple (c.args.book ∷ []) 0)))
 
-pub returns-in-Some : goal.returns-in-Some
-returns-in-Some g c =
-    rw (c.take.ensures.tuples, c.put-r.ensures.tuples, taken_again c.reserve.new.self.authors.now.tuples c.reserve.new.self.books.tuples c.put-r.result c.args.book c.put-r.ensures.fresh, c.in-Some.ensures.kept)
+pub returns-in-Some-insert_unless_found : goal.returns-in-Some-insert_unless_found
+returns-in-Some-insert_unless_found g c =
+    rw (
+      c.in-Some-insert_unless_found.ensures.kept,
+      c.put.ensures.rest,
+      c.remove.ensures.tuples,
+      c.in_ok-r.ensures.put.1,
+      taken_again c.reserve.new.self.authors.now.tuples c.reserve.new.self.books.tuples c.in_ok-r.r (tuple (c.args.book ∷ []) 0) c.in_ok-r.ensures.put.0,
+    )
     c.reserve.ensures.kept
 
 pub returns : goal.returns
 returns g c =
     let self = c.reserve.new.self in
-    rw (c.in_default.ensures.inserted, c.put-r.ensures.tuples)
-    (kept_new self.authors.now.tuples self.books.tuples c.put-r.result c.args.book (c.get.result.now.key, c.args.book.key) (rank_of self.authors.now.tuples c.args.book c.get.result.now c.get.ensures)
-    (g.I.OrderedIndex.items self.tree) (g.E.ExactIndex.entries self.hash) c.reserve.ensures.kept c.put-r.ensures.fresh
-    (g.E.ExactIndex.entries c.insert.new.self) (rw c.put-r.ensures.tuples at c.in_default.ensures.none) c.insert.ensures.entries)
+    let author = first_of self.authors.now.tuples c.args.book.by c.get.result.now c.in-Some.author.now (sym c.holds.ensures ∙ c.if-not-holds.false) c.get.ensures.tuple (rw c.in-Some.is at c.first.ensures.value) in
+    let row = tuple (c.args.book ∷ []) 0 in
+    let ranked = rank_of self.authors.now.tuples row c.args.book author.0 c.in-Some.author.now refl author.1 author.2 in
+    rw (c.in_default-insert_unless_found.ensures.inserted, c.put.ensures.rest, c.in_ok-r.ensures.put.1)
+    (kept_new self.authors.now.tuples self.books.tuples c.in_ok-r.r row (c.in-Some.author.now.key, c.args.book.key) ranked
+    (g.I.OrderedIndex.items self.tree) (g.E.ExactIndex.entries self.hash) c.reserve.ensures.kept c.in_ok-r.ensures.put.0
+    (g.E.ExactIndex.entries c.insert.new.self) (rw (c.put.ensures.rest, c.in_ok-r.ensures.put.1) at c.in_default-insert_unless_found.ensures.none) (rw c.put.ensures.rest at c.insert.ensures.entries))

@@ -3,7 +3,7 @@ use Rattle.std.specs.List.{slice_get}
 use Rattle.std.specs.FinMap as finite
 use Rattle.std.proofs.lemmas.Option.{same_Some, slice_get-get_or, slice_get_within}
 use Rattle.mm_relation.specs.State.{RelationState}
-use Rattle.mm_relation.specs.declared.row.Row.{Row}
+use Rattle.mm_relation.specs.Rows.{Row}
 use Rattle.mm_catalog.proofs.Counted.{counted_as, counted_one, naming_itself}
 use Rattle.mm_catalog.proofs.references.counting.count_down.Goals as goal
 

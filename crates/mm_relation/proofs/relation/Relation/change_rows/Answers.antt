@@ -1,4 +1,4 @@
-use Rattle.std.proofs.Common.{◌≡◌, ◌≤◌, IsSome, refl, sym, arith, subst, length}
+use Rattle.std.proofs.Common.{◌≡◌, ◌≤◌, ◌∙◌, IsSome, refl, sym, arith, subst, length}
 use Rattle.std.proofs.lemmas.List.Elements.{All-contains}
 use Rattle.std.specs.FinMap.{get, len}
 use Rattle.mm_relation.specs.State.{tree_list, IsKeyed, IsKept, IsCurrent, linked_keys}
@@ -13,16 +13,16 @@ reserve-requires g c =
     let held = rw (← c.self.view_is) at c.requires.held in
     let among : length c.args.rs.now ≤ length (tree_list c.self.inside.by_key.tree) =
     no_more c.args.rs.now (tree_list c.self.inside.by_key.tree) c.requires.once
-    (λ r h. c.self.invariant.keyed.lists.listed r (All-contains (λ q. IsSome (get c.self.inside.rows.tuples q)) c.args.rs.now r held h)) in
-    let count : length (tree_list c.self.inside.by_key.tree) ≡ len c.self.inside.rows.tuples = c.self.invariant.keyed.lists.count in
-    omega (arith, among, count, c.self.invariant.few)
+    (λ r h. c.self.invariant.0.keyed.lists.listed r (All-contains (λ q. IsSome (get c.self.inside.rows.tuples q)) c.args.rs.now r held h)) in
+    let count : length (tree_list c.self.inside.by_key.tree) ≡ len c.self.inside.rows.tuples = c.self.invariant.0.keyed.lists.count in
+    omega (arith, among, count, c.self.invariant.0.few)
 
 pub change_each-requires-clause-read : goal.change_each-requires-clause-read
 change_each-requires-clause-read g c =
     let keys = linked_keys c.self.inside.targets.items (g.R.Relations.tables c.args.others.now) in
     let same = same_state c.self.inside.schema c.self.inside.targets.items c.self.inside.declared.items c.self.inside.rows.tuples c.self.inside.rows.tuples c.self.inside.by_key.tree c.self.inside.by_key.tree c.self.inside.indexes c.reserve.new.indexes
     refl refl c.reserve.ensures.same in
-    let kept = subst IsKept (sym same) c.self.invariant in
+    let kept = subst IsKept (sym same) c.self.invariant.0 in
     let current = subst (IsCurrent keys) (sym same) (rw (← c.self.view_is) at c.requires.current) in
     rw c.as_slice.ensures.value (can_read c.self.inside.schema c.self.inside.targets.items c.self.inside.declared.items c.self.inside.rows.tuples c.self.inside.by_key.tree c.reserve.new.indexes kept keys current)
 
@@ -31,35 +31,37 @@ change_each-requires-clause-served g c =
     let keys = linked_keys c.self.inside.targets.items (g.R.Relations.tables c.args.others.now) in
     let same = same_state c.self.inside.schema c.self.inside.targets.items c.self.inside.declared.items c.self.inside.rows.tuples c.self.inside.rows.tuples c.self.inside.by_key.tree c.self.inside.by_key.tree c.self.inside.indexes c.reserve.new.indexes
     refl refl c.reserve.ensures.same in
-    let kept = subst IsKept (sym same) c.self.invariant in
+    let kept = subst IsKept (sym same) c.self.invariant.0 in
     let current = subst (IsCurrent keys) (sym same) (rw (← c.self.view_is) at c.requires.current) in
     rw c.as_slice.ensures.value
-    (tree_list c.self.inside.by_key.tree, c.self.invariant.keyed, served c.self.inside.schema c.self.inside.targets.items c.self.inside.declared.items c.self.inside.rows.tuples c.self.inside.by_key.tree c.reserve.new.indexes kept keys current)
+    (tree_list c.self.inside.by_key.tree, c.self.invariant.0.keyed, served c.self.inside.schema c.self.inside.targets.items c.self.inside.declared.items c.self.inside.rows.tuples c.self.inside.by_key.tree c.reserve.new.indexes kept keys current)
 
 pub invariant_of-self-2 : goal.invariant_of-self-2
 invariant_of-self-2 g c =
     let keys = linked_keys c.self.inside.targets.items (g.R.Relations.tables c.args.others.now) in
     let same = same_state c.self.inside.schema c.self.inside.targets.items c.self.inside.declared.items c.self.inside.rows.tuples c.self.inside.rows.tuples c.self.inside.by_key.tree c.self.inside.by_key.tree c.self.inside.indexes c.reserve.new.indexes
     refl refl c.reserve.ensures.same in
-    let kept = subst IsKept (sym same) c.self.invariant in
+    let kept = subst IsKept (sym same) c.self.invariant.0 in
     let current = subst (IsCurrent keys) (sym same) (rw (← c.self.view_is) at c.requires.current) in
     let after : IsKeyed c.change_each.new.rows.tuples (tree_list c.self.inside.by_key.tree) × Serve keys c.change_each.new.rows.tuples (tree_list c.self.inside.by_key.tree) c.change_each.new.indexes =
-    (rw c.as_slice.ensures.value at c.change_each.ensures.served) (tree_list c.self.inside.by_key.tree) c.self.invariant.keyed
-    (served c.self.inside.schema c.self.inside.targets.items c.self.inside.declared.items c.self.inside.rows.tuples c.self.inside.by_key.tree c.reserve.new.indexes kept keys current) in
-    kept_on c.self.inside.schema c.self.inside.targets.items c.self.inside.declared.items c.self.inside.rows.tuples c.self.inside.by_key.tree c.reserve.new.indexes kept
-    c.change_each.new.rows.tuples c.self.inside.by_key.tree c.change_each.new.indexes after.0
-    (as_few c.self.inside.rows.tuples c.change_each.new.rows.tuples (tree_list c.self.inside.by_key.tree) c.self.invariant.keyed after.0 c.self.invariant.few)
-    c.change_each.ensures.declared
+    (rw c.as_slice.ensures.value at c.change_each.ensures.served) (tree_list c.self.inside.by_key.tree) c.self.invariant.0.keyed
+    (served c.self.inside.schema c.self.inside.targets.items c.self.inside.declared.items c.self.inside.rows.tuples c.self.inside.by_key.tree c.reserve.new.indexes kept keys current) in (
+      kept_on c.self.inside.schema c.self.inside.targets.items c.self.inside.declared.items c.self.inside.rows.tuples c.self.inside.by_key.tree c.reserve.new.indexes kept
+          c.change_each.new.rows.tuples c.self.inside.by_key.tree c.change_each.new.indexes after.0
+          (as_few c.self.inside.rows.tuples c.change_each.new.rows.tuples (tree_list c.self.inside.by_key.tree) c.self.invariant.0.keyed after.0 c.self.invariant.0.few)
+          c.change_each.ensures.declared,
+      c.change_each.ensures.width ∙ c.self.invariant.1,
+    )
 
 pub returns-clause-current : goal.returns-clause-current
 returns-clause-current g c =
     let keys = linked_keys c.self.inside.targets.items (g.R.Relations.tables c.args.others.now) in
     let same = same_state c.self.inside.schema c.self.inside.targets.items c.self.inside.declared.items c.self.inside.rows.tuples c.self.inside.rows.tuples c.self.inside.by_key.tree c.self.inside.by_key.tree c.self.inside.indexes c.reserve.new.indexes
     refl refl c.reserve.ensures.same in
-    let kept = subst IsKept (sym same) c.self.invariant in
+    let kept = subst IsKept (sym same) c.self.invariant.0 in
     let current = subst (IsCurrent keys) (sym same) (rw (← c.self.view_is) at c.requires.current) in
     let after : IsKeyed c.change_each.new.rows.tuples (tree_list c.self.inside.by_key.tree) × Serve keys c.change_each.new.rows.tuples (tree_list c.self.inside.by_key.tree) c.change_each.new.indexes =
-    (rw c.as_slice.ensures.value at c.change_each.ensures.served) (tree_list c.self.inside.by_key.tree) c.self.invariant.keyed
+    (rw c.as_slice.ensures.value at c.change_each.ensures.served) (tree_list c.self.inside.by_key.tree) c.self.invariant.0.keyed
     (served c.self.inside.schema c.self.inside.targets.items c.self.inside.declared.items c.self.inside.rows.tuples c.self.inside.by_key.tree c.reserve.new.indexes kept keys current) in
     let can = can_set keys (length c.self.inside.targets.items) c.self.inside.rows.tuples c.args.sets.now current.readable
     (rw (← c.self.view_is) at c.requires.columns) c.requires.not_the_key (rw (← c.self.view_is) at c.requires.readable) in

@@ -2,7 +2,7 @@ use Rattle.std.proofs.Common.{Some}
 use Rattle.mm_relation.specs.Reading.{key_at}
 use Rattle.mm_relation.specs.State.{tree_list}
 use Rattle.mm_relation.proofs.Placing.{value_found}
-use Rattle.mm_relation.proofs.Rows.{no_row_with_key}
+use Rattle.mm_relation.proofs.NoSuchKey.{no_row_with_key}
 use Rattle.mm_relation.proofs.relation.Relation.find_key.Goals as goal
 
 pub returns-clause-found : goal.returns-clause-found

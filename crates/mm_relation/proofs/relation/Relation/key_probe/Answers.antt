@@ -7,9 +7,9 @@ use Rattle.mm_relation.proofs.relation.Relation.key_probe.Goals as goal
 pub returns-clause-placed : goal.returns-clause-placed
 returns-clause-placed c =
     rw (← c.self.view_is)
-    (λ k d l. key_readable c.self.inside.rows.tuples (get_or (tree_list c.self.inside.by_key.tree) k d) (c.self.invariant.keyed.lists.held k d l))
+    (λ k d l. key_readable c.self.inside.rows.tuples (get_or (tree_list c.self.inside.by_key.tree) k d) (c.self.invariant.0.keyed.lists.held k d l))
 
 pub returns-clause-in_order : goal.returns-clause-in_order
 returns-clause-in_order c =
     rw (← c.self.view_is)
-    (NeverFalls-value no_keys 0 c.self.inside.rows.tuples (Some c.args.key.now) (tree_list c.self.inside.by_key.tree) c.self.invariant.keyed.rising)
+    (NeverFalls-value no_keys 0 c.self.inside.rows.tuples (Some c.args.key.now) (tree_list c.self.inside.by_key.tree) c.self.invariant.0.keyed.rising)

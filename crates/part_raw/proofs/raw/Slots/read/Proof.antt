@@ -39,8 +39,8 @@ use Rattle.core.proofs.mem.Facts.{says_three}
 use Rattle.core.proofs.mem.Param.{El, R, args, el_x, elτ, Good}
 use Rattle.core.proofs.ptr.Rows.{times_below, one_below}
 use Rattle.std_alloc.proofs.VecSteps.Shapes.{after}
-use Rattle.common_lemmas.proofs.Options.{is_some-Some}
 use Rattle.part_raw.specs.Raw.{slot_owns, slots_own}
+use Rattle.common_lemmas.proofs.Options.{is_some-Some}
 use Rattle.part_raw.proofs.Slots.{held_within}
 use Rattle.part_raw.proofs.SlotSteps.{Sr, slots_d, sz, besides, slot_out, slot_in, tuple_out, opened, closed}
 use Rattle.part_raw.specs.contracts.raw.Slots.read as F

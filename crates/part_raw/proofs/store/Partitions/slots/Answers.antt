@@ -1,8 +1,9 @@
-use Rattle.std.proofs.Common.{arith}
-use Rattle.part_raw.proofs.Parts.{small_blocks, held_part}
+use Rattle.std.proofs.Common.{arith, refl}
+use Rattle.part_raw.specs.TupleRefs.{part_of}
+use Rattle.part_raw.proofs.Tables.{table_within}
 use Rattle.part_raw.proofs.store.Partitions.slots.Goals as goal
 
 pub returns-clause-within : goal.returns-clause-within
 returns-clause-within g c r held =
-    let part = held_part c.self.inside.blocks.items r (small_blocks _ _ c.self.invariant.mapped) (rw (← c.self.view_is) at held) in
-    omega (arith, part, c.len.ensures, c.self.inside.blocks.ok)
+    let part = table_within c.self.inside.width c.self.inside.shelves.items r (part_of r) refl (rw (← c.self.view_is) at held) in
+    omega (arith, part, c.len.ensures, c.self.inside.shelves.ok)

@@ -1,101 +1,119 @@
-use Rattle.std.proofs.Common.{arith, subst, IsSome, is_some, ap, refl, sym, ◌∙◌}
+use Rattle.std.proofs.Common.{arith, subst, IsSome, is_some, ap, None, refl, sym, ◌∙◌}
 use Rattle.std.proofs.lemmas.Bool.{true≢false}
-use Rattle.part_raw.proofs.Slots.{held_within, no_vacancy_of_bits, bits_of_no_vacancy}
-use Rattle.part_raw.proofs.Parts.{small_blocks, held_part, found_at, tuples-taken}
-use Rattle.part_raw.proofs.Bitmaps.{bits_at}
-use Rattle.part_raw.proofs.Sound.{IsStore-take_full, IsStore-take_open}
-use Rattle.part_raw.specs.TupleRefs.{part_of, slot_of}
+use Rattle.common_lemmas.proofs.Options.{is_some-Some}
+use Rattle.part_raw.proofs.Rows.{slot_within}
+use Rattle.part_raw.proofs.Shelves.{held_cells}
+use Rattle.part_raw.proofs.Tables.{length-tables, table_within, found_row, laid_at, bits_of_table, take_full, take_open, rows-taken}
 use Rattle.part_raw.proofs.store.Partitions.take.Goals as goal
 
 pub index_mut-occupancy-requires : goal.index_mut-occupancy-requires
 index_mut-occupancy-requires g c =
-    omega (arith, held_part c.self.inside.blocks.items c.args.r (small_blocks _ _ c.self.invariant.mapped) (rw (← c.self.view_is) at c.requires), c.self.invariant.mapped.as_many, c.part-part.ensures.value, c.self.inside.occupancies.ok)
+    omega (
+      arith,
+      table_within c.self.inside.width c.self.inside.shelves.items c.args.r c.part-part.result c.part-part.ensures.value (rw (← c.self.view_is) at c.requires.held),
+      length-tables c.self.inside.width c.self.inside.shelves.items,
+      c.self.invariant.store.mapped.as_many,
+      c.self.inside.occupancies.ok,
+    )
 
-pub index_mut-block-requires : goal.index_mut-block-requires
-index_mut-block-requires g c = omega (arith, held_part c.self.inside.blocks.items c.args.r (small_blocks _ _ c.self.invariant.mapped) (rw (← c.self.view_is) at c.requires), c.part-part.ensures.value, c.self.inside.blocks.ok)
+pub index_mut-shelf-requires : goal.index_mut-shelf-requires
+index_mut-shelf-requires g c = omega (arith, table_within c.self.inside.width c.self.inside.shelves.items c.args.r c.part-part.result c.part-part.ensures.value (rw (← c.self.view_is) at c.requires.held), c.self.inside.shelves.ok)
 
-pub vacate-tuple-requires-clause-bits : goal.vacate-tuple-requires-clause-bits
-vacate-tuple-requires-clause-bits g c =
-    let held = rw (← c.self.view_is) at c.requires in
-    bits_at _ _ _ _ _ c.self.invariant.mapped (held_part c.self.inside.blocks.items c.args.r (small_blocks _ _ c.self.invariant.mapped) held) (rw c.part-part.ensures.value at c.index_mut-block.ensures.value) (rw c.part-part.ensures.value at c.index_mut-occupancy.ensures.value)
+pub vacate-count-requires-clause-laid : goal.vacate-count-requires-clause-laid
+vacate-count-requires-clause-laid g c =
+    let held = rw (← c.self.view_is) at c.requires.held in
+    laid_at _ _ _ _ _ c.self.invariant c.part-part.result c.index_mut-shelf.result.now (table_within _ _ c.args.r c.part-part.result c.part-part.ensures.value held) c.index_mut-shelf.ensures.value
 
-pub vacate-tuple-requires-clause-held : goal.vacate-tuple-requires-clause-held
-vacate-tuple-requires-clause-held g c =
-    let held = rw (← c.self.view_is) at c.requires in
-    rw c.slot.ensures.value
-    (subst IsSome (found_at c.self.inside.blocks.items c.index_mut-block.result.now c.args.r (small_blocks _ _ c.self.invariant.mapped) (held_part c.self.inside.blocks.items c.args.r (small_blocks _ _ c.self.invariant.mapped) held) (rw c.part-part.ensures.value at c.index_mut-block.ensures.value)) held)
+pub vacate-count-requires-clause-bits : goal.vacate-count-requires-clause-bits
+vacate-count-requires-clause-bits g c =
+    let held = rw (← c.self.view_is) at c.requires.held in
+    bits_of_table _ _ _ _ _ c.self.invariant c.part-part.result c.index_mut-shelf.result.now c.index_mut-occupancy.result.now (table_within _ _ c.args.r c.part-part.result c.part-part.ensures.value held) c.index_mut-shelf.ensures.value c.index_mut-occupancy.ensures.value
+
+pub vacate-count-requires-clause-held : goal.vacate-count-requires-clause-held
+vacate-count-requires-clause-held g c =
+    let held = rw (← c.self.view_is) at c.requires.held in
+    subst IsSome (found_row c.self.inside.width c.self.inside.shelves.items c.args.r c.part-part.result c.slot-slot.result c.index_mut-shelf.result.now c.part-part.ensures.value c.slot-slot.ensures.value held c.index_mut-shelf.ensures.value) held
 
 pub invariant_of-self : goal.invariant_of-self
 invariant_of-self g c =
-    let within = held_part c.self.inside.blocks.items c.args.r (small_blocks _ _ c.self.invariant.mapped) (rw (← c.self.view_is) at c.requires) in
-    let bits = bits_at _ _ _ _ _ c.self.invariant.mapped within (rw c.part-part.ensures.value at c.index_mut-block.ensures.value) (rw c.part-part.ensures.value at c.index_mut-occupancy.ensures.value) in
-    rw c.part-part.ensures.value
-    (IsStore-take_full c.self.inside.blocks.items c.self.inside.occupancies.items c.index_mut-block.result.now _ c.index_mut-occupancy.result.now _
-    c.self.inside.free (part_of c.args.r) (slot_of c.args.r) c.self.inside.first_open c.vacate-tuple.result c.self.invariant
+    let held = rw (← c.self.view_is) at c.requires.held in
+    let within = table_within _ _ c.args.r c.part-part.result c.part-part.ensures.value held in
+    let found = found_row c.self.inside.width c.self.inside.shelves.items c.args.r c.part-part.result c.slot-slot.result c.index_mut-shelf.result.now c.part-part.ensures.value c.slot-slot.ensures.value held c.index_mut-shelf.ensures.value in
+    let row = is_some-Some _ held in
+    take_full c.self.inside.width c.self.inside.shelves.items c.self.inside.occupancies.items c.index_mut-shelf.result.now _ c.index_mut-occupancy.result.now _ c.part-part.result c.slot-slot.result
+    c.self.inside.free c.self.inside.first_open row.0 c.self.invariant
     (record {
-      writes = record {
-        small = small_blocks _ _ c.self.invariant.mapped;
-        within = within;
-        read = (rw c.part-part.ensures.value at c.index_mut-block.ensures.value);
-        in_slots = held_within c.index_mut-block.result.now (slot_of c.args.r) (ap is_some (rw c.slot.ensures.value at c.vacate-tuple.ensures.value));
-        is = (rw c.slot.ensures.value at c.vacate-tuple.ensures.slots);
-      };
-      read = (rw c.part-part.ensures.value at c.index_mut-occupancy.ensures.value);
-      bits = c.vacate-tuple.ensures.bits;
-    }) (rw c.slot.ensures.value at c.vacate-tuple.ensures.value) (no_vacancy_of_bits _ _ bits (c.is_full-was_full.ensures.0 c.if-was_full.true)) refl)
+      within = within;
+      read = c.index_mut-shelf.ensures.value;
+      read_bits = c.index_mut-occupancy.ensures.value;
+      laid = c.vacate-count.ensures.laid;
+      bits = c.vacate-count.ensures.bits;
+      in_range = slot_within c.self.inside.width c.slot-slot.result c.index_mut-shelf.result.now.block (held_cells c.self.inside.width c.index_mut-shelf.result.now.block c.index_mut-shelf.result.now.counts.value c.slot-slot.result (sym (ap is_some found) ∙ held));
+      slots = c.vacate-count.ensures.slots;
+    })
+    (bits_of_table _ _ _ _ _ c.self.invariant c.part-part.result c.index_mut-shelf.result.now c.index_mut-occupancy.result.now within c.index_mut-shelf.ensures.value c.index_mut-occupancy.ensures.value)
+    (sym found ∙ row.1) (c.is_full-was_full.ensures.0 c.if-was_full.true) refl
 
 pub invariant_of-self-else-was_full : goal.invariant_of-self-else-was_full
 invariant_of-self-else-was_full g c =
-    let within = held_part c.self.inside.blocks.items c.args.r (small_blocks _ _ c.self.invariant.mapped) (rw (← c.self.view_is) at c.requires) in
-    let bits = bits_at _ _ _ _ _ c.self.invariant.mapped within (rw c.part-part.ensures.value at c.index_mut-block.ensures.value) (rw c.part-part.ensures.value at c.index_mut-occupancy.ensures.value) in
-    rw c.part-part.ensures.value
-    (IsStore-take_open c.self.inside.blocks.items c.self.inside.occupancies.items c.index_mut-block.result.now _ c.index_mut-occupancy.result.now _
-    c.self.inside.free (part_of c.args.r) (slot_of c.args.r) c.self.inside.first_open c.vacate-tuple.result c.self.invariant
+    let held = rw (← c.self.view_is) at c.requires.held in
+    let within = table_within _ _ c.args.r c.part-part.result c.part-part.ensures.value held in
+    let found = found_row c.self.inside.width c.self.inside.shelves.items c.args.r c.part-part.result c.slot-slot.result c.index_mut-shelf.result.now c.part-part.ensures.value c.slot-slot.ensures.value held c.index_mut-shelf.ensures.value in
+    let row = is_some-Some _ held in
+    take_open c.self.inside.width c.self.inside.shelves.items c.self.inside.occupancies.items c.index_mut-shelf.result.now _ c.index_mut-occupancy.result.now _ c.part-part.result c.slot-slot.result
+    c.self.inside.free c.self.inside.first_open row.0 c.self.invariant
     (record {
-      writes = record {
-        small = small_blocks _ _ c.self.invariant.mapped;
-        within = within;
-        read = (rw c.part-part.ensures.value at c.index_mut-block.ensures.value);
-        in_slots = held_within c.index_mut-block.result.now (slot_of c.args.r) (ap is_some (rw c.slot.ensures.value at c.vacate-tuple.ensures.value));
-        is = (rw c.slot.ensures.value at c.vacate-tuple.ensures.slots);
-      };
-      read = (rw c.part-part.ensures.value at c.index_mut-occupancy.ensures.value);
-      bits = c.vacate-tuple.ensures.bits;
-    }) (rw c.slot.ensures.value at c.vacate-tuple.ensures.value)
-    (λ none. true≢false (sym (c.is_full-was_full.ensures.1 (bits_of_no_vacancy _ _ bits none)) ∙ c.if-was_full.false)) refl)
-
-pub returns-then-was_full-clause-value : goal.returns-then-was_full-clause-value
-returns-then-was_full-clause-value g c =
-    let held = rw (← c.self.view_is) at c.requires in
-    let found = found_at c.self.inside.blocks.items c.index_mut-block.result.now c.args.r (small_blocks _ _ c.self.invariant.mapped) (held_part c.self.inside.blocks.items c.args.r (small_blocks _ _ c.self.invariant.mapped) held) (rw c.part-part.ensures.value at c.index_mut-block.ensures.value) in
-    rw (← c.self.view_is) (found ∙ (rw c.slot.ensures.value at c.vacate-tuple.ensures.value))
-
-pub returns-else-was_full-clause-value : goal.returns-else-was_full-clause-value
-returns-else-was_full-clause-value g c =
-    let held = rw (← c.self.view_is) at c.requires in
-    let found = found_at c.self.inside.blocks.items c.index_mut-block.result.now c.args.r (small_blocks _ _ c.self.invariant.mapped) (held_part c.self.inside.blocks.items c.args.r (small_blocks _ _ c.self.invariant.mapped) held) (rw c.part-part.ensures.value at c.index_mut-block.ensures.value) in
-    rw (← c.self.view_is) (found ∙ (rw c.slot.ensures.value at c.vacate-tuple.ensures.value))
+      within = within;
+      read = c.index_mut-shelf.ensures.value;
+      read_bits = c.index_mut-occupancy.ensures.value;
+      laid = c.vacate-count.ensures.laid;
+      bits = c.vacate-count.ensures.bits;
+      in_range = slot_within c.self.inside.width c.slot-slot.result c.index_mut-shelf.result.now.block (held_cells c.self.inside.width c.index_mut-shelf.result.now.block c.index_mut-shelf.result.now.counts.value c.slot-slot.result (sym (ap is_some found) ∙ held));
+      slots = c.vacate-count.ensures.slots;
+    })
+    (bits_of_table _ _ _ _ _ c.self.invariant c.part-part.result c.index_mut-shelf.result.now c.index_mut-occupancy.result.now within c.index_mut-shelf.ensures.value c.index_mut-occupancy.ensures.value)
+    (sym found ∙ row.1) (λ full. true≢false (sym (c.is_full-was_full.ensures.1 full) ∙ c.if-was_full.false)) refl
 
 pub returns-then-was_full-clause-tuples : goal.returns-then-was_full-clause-tuples
 returns-then-was_full-clause-tuples g c =
-    let held = rw (← c.self.view_is) at c.requires in
-    rw (← c.self.view_is, c.part-part.ensures.value)
-    (tuples-taken c.self.inside.blocks.items c.index_mut-block.result.now _ c.args.r (record {
-      small = small_blocks _ _ c.self.invariant.mapped;
-      within = held_part c.self.inside.blocks.items c.args.r (small_blocks _ _ c.self.invariant.mapped) held;
-      read = (rw c.part-part.ensures.value at c.index_mut-block.ensures.value);
-      in_slots = held_within c.index_mut-block.result.now (slot_of c.args.r) (ap is_some (rw c.slot.ensures.value at c.vacate-tuple.ensures.value));
-      is = (rw c.slot.ensures.value at c.vacate-tuple.ensures.slots);
+    let held = rw (← c.self.view_is) at c.requires.held in
+    let found = found_row c.self.inside.width c.self.inside.shelves.items c.args.r c.part-part.result c.slot-slot.result c.index_mut-shelf.result.now c.part-part.ensures.value c.slot-slot.ensures.value held c.index_mut-shelf.ensures.value in
+    rw (← c.self.view_is)
+    (rows-taken c.self.inside.width c.self.inside.shelves.items c.self.inside.occupancies.items c.index_mut-shelf.result.now _ c.index_mut-occupancy.result.now (record { held = c.vacate-count.new.held; next_open = None }) c.part-part.result c.slot-slot.result c.args.r c.part-part.ensures.value c.slot-slot.ensures.value
+    (record {
+      within = table_within _ _ c.args.r c.part-part.result c.part-part.ensures.value held;
+      read = c.index_mut-shelf.ensures.value;
+      read_bits = c.index_mut-occupancy.ensures.value;
+      laid = c.vacate-count.ensures.laid;
+      bits = c.vacate-count.ensures.bits;
+      in_range = slot_within c.self.inside.width c.slot-slot.result c.index_mut-shelf.result.now.block (held_cells c.self.inside.width c.index_mut-shelf.result.now.block c.index_mut-shelf.result.now.counts.value c.slot-slot.result (sym (ap is_some found) ∙ held));
+      slots = c.vacate-count.ensures.slots;
     }))
+
+pub returns-then-was_full-clause-tuple : goal.returns-then-was_full-clause-tuple
+returns-then-was_full-clause-tuple g c =
+    let held = rw (← c.self.view_is) at c.requires.held in
+    let found = found_row c.self.inside.width c.self.inside.shelves.items c.args.r c.part-part.result c.slot-slot.result c.index_mut-shelf.result.now c.part-part.ensures.value c.slot-slot.ensures.value held c.index_mut-shelf.ensures.value in
+    rw (← c.self.view_is) (found ∙ c.vacate-count.ensures.tuple)
 
 pub returns-else-was_full-clause-tuples : goal.returns-else-was_full-clause-tuples
 returns-else-was_full-clause-tuples g c =
-    let held = rw (← c.self.view_is) at c.requires in
-    rw (← c.self.view_is, c.part-part.ensures.value)
-    (tuples-taken c.self.inside.blocks.items c.index_mut-block.result.now _ c.args.r (record {
-      small = small_blocks _ _ c.self.invariant.mapped;
-      within = held_part c.self.inside.blocks.items c.args.r (small_blocks _ _ c.self.invariant.mapped) held;
-      read = (rw c.part-part.ensures.value at c.index_mut-block.ensures.value);
-      in_slots = held_within c.index_mut-block.result.now (slot_of c.args.r) (ap is_some (rw c.slot.ensures.value at c.vacate-tuple.ensures.value));
-      is = (rw c.slot.ensures.value at c.vacate-tuple.ensures.slots);
+    let held = rw (← c.self.view_is) at c.requires.held in
+    let found = found_row c.self.inside.width c.self.inside.shelves.items c.args.r c.part-part.result c.slot-slot.result c.index_mut-shelf.result.now c.part-part.ensures.value c.slot-slot.ensures.value held c.index_mut-shelf.ensures.value in
+    rw (← c.self.view_is)
+    (rows-taken c.self.inside.width c.self.inside.shelves.items c.self.inside.occupancies.items c.index_mut-shelf.result.now _ c.index_mut-occupancy.result.now (record { held = c.vacate-count.new.held; next_open = None }) c.part-part.result c.slot-slot.result c.args.r c.part-part.ensures.value c.slot-slot.ensures.value
+    (record {
+      within = table_within _ _ c.args.r c.part-part.result c.part-part.ensures.value held;
+      read = c.index_mut-shelf.ensures.value;
+      read_bits = c.index_mut-occupancy.ensures.value;
+      laid = c.vacate-count.ensures.laid;
+      bits = c.vacate-count.ensures.bits;
+      in_range = slot_within c.self.inside.width c.slot-slot.result c.index_mut-shelf.result.now.block (held_cells c.self.inside.width c.index_mut-shelf.result.now.block c.index_mut-shelf.result.now.counts.value c.slot-slot.result (sym (ap is_some found) ∙ held));
+      slots = c.vacate-count.ensures.slots;
     }))
+
+pub returns-else-was_full-clause-tuple : goal.returns-else-was_full-clause-tuple
+returns-else-was_full-clause-tuple g c =
+    let held = rw (← c.self.view_is) at c.requires.held in
+    let found = found_row c.self.inside.width c.self.inside.shelves.items c.args.r c.part-part.result c.slot-slot.result c.index_mut-shelf.result.now c.part-part.ensures.value c.slot-slot.ensures.value held c.index_mut-shelf.ensures.value in
+    rw (← c.self.view_is) (found ∙ c.vacate-count.ensures.tuple)

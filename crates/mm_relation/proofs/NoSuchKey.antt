@@ -1,4 +1,4 @@
--- The rows of a relation, beside the lists that have them.
+-- A key that no row of a relation has, beside the list that has them all.
 use Rattle.std.proofs.Common.{◌≢◌, List, Option, Some, None, IsSome, is_some, ap, ◌∙◌, IfNone}
 use Rattle.std.specs.List.{All}
 use Rattle.std.specs.Option.{option_cmp}
@@ -9,7 +9,7 @@ use Rattle.part_raw.specs.declared.tuple_ref.TupleRef.{TupleRef}
 use Rattle.part_raw.specs.Store.{Tuples}
 use Rattle.plain_tables.specs.declared.value.Value.{Value}
 use Rattle.plain_tables.specs.Values.{value_cmp}
-use Rattle.mm_relation.specs.declared.row.Row.{Row}
+use Rattle.mm_relation.specs.Rows.{Row}
 use Rattle.mm_relation.specs.Reading.{value_at, key_at}
 use Rattle.mm_relation.specs.Order.{held_from_value}
 use Rattle.mm_relation.specs.State.{ListsRows, no_keys}

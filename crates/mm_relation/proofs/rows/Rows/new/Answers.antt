@@ -1,0 +1,11 @@
+use Rattle.std.proofs.Common.{ap}
+use Rattle.part_raw.proofs.Mapped.{mapped-empty}
+use Rattle.mm_relation.specs.Rows.{row_in, row_store}
+use Rattle.mm_relation.proofs.Stored.{whole_none}
+use Rattle.mm_relation.proofs.rows.Rows.new.Goals as goal
+
+pub invariant_of-result : goal.invariant_of-result
+invariant_of-result c = rw c.in_ok-store.ensures.made (whole_none c.args.width)
+
+pub returns : goal.returns
+returns c = rw c.in_ok-store.ensures.made (ap (λ tuples. row_store c.args.width tuples 0) (mapped-empty row_in))

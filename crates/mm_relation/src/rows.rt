@@ -1,0 +1,152 @@
+//! The rows of a relation in their store. A row's cells stand side by side, the key's the first, and the number of links
+//! that name the row stands beside them.
+ghost use Rattle.std.specs.Prelude.{◌≡◌, ◌+◌, ◌-◌, ◌<◌, ◌≤◌, [], Some, None, IsSome, IfOk, OnOk, length, slice_set};
+ghost use Rattle.std.specs.FinMap as finite;
+ghost use Rattle.mm_relation.specs.Changes.{with_referrers};
+ghost use Rattle.mm_relation.specs.Reading.{key_at};
+ghost use Rattle.mm_relation.specs.Rows.{Row, StartsWithKey, row_of, row_store};
+
+use crate::row::Cell;
+use no_memory::NoMemory;
+use part_raw::{MAX_TUPLES, Partitions, TupleRef};
+use plain_tables::{ColumnNumber, Value};
+use std::alloc::Global;
+use std::marker::Model;
+
+// A store of rows, each under a reference that is its own while it is held.
+#[derive(Drop)]
+pub struct Rows {
+    store: Partitions<Cell>,
+}
+
+impl Model for Rows {
+    ghost use Rattle.plain_tables.specs.contracts.value.Value.{the_row as value_row};
+    ghost use Rattle.mm_relation.specs.contracts.row.Cell.{the_row as cell_row};
+    ghost use Rattle.mm_relation.specs.Rows.{RowStore, row_code, row_store_code, rows_of, AreRows};
+
+    ghost Value = { RowStore };
+
+    ghost coded = { row_store_code (row_code value_row.coded cell_row.coded) };
+
+    ghost view = { λ r. rows_of r.store };
+
+    ghost invariant = { λ r. AreRows r.store };
+}
+
+impl Rows {
+    // No row, in a store for rows of so many columns. It takes no memory.
+    pub fn new(alloc: Global, width: usize) -> Result<Rows, NoMemory>
+        ensures { IfOk result (λ rows. rows ≡ row_store width finite.empty 0) }
+    {
+        let store = Partitions::new(alloc, width)?;
+        Ok(Rows { store })
+    }
+
+    // How many rows more there is room for.
+    pub fn free(&self) -> u64
+        ensures { result ≡ self.now.free }
+    {
+        self.store.free()
+    }
+
+    // How many rows there are.
+    pub fn len(&self) -> u64
+        ensures { result ≡ finite.len self.now.tuples }
+    {
+        self.store.len()
+    }
+
+    // Makes sure of room for one row more.
+    pub fn reserve(&mut self) -> Result<(), NoMemory>
+        requires { finite.len self.old.tuples < 16777216 }
+        ensures width { self.new.width ≡ self.old.width }
+        ensures tuples { self.new.tuples ≡ self.old.tuples }
+        ensures free { OnOk result (0 < self.new.free) }
+    {
+        self.store.reserve()
+    }
+
+    // Moves the cells of a row in, with no links that name it. It takes no memory, and the vector keeps its own.
+    pub fn put(&mut self, row: &mut Vec<Cell>) -> TupleRef
+        requires free { 0 < self.old.free }
+        requires width { length row.old.items ≡ self.old.width }
+        requires keyed { StartsWithKey row.old.items }
+        ensures fresh { finite.get self.old.tuples result ≡ None }
+        ensures tuples { self.new.tuples ≡ finite.insert self.old.tuples result (row_of row.old.items 0) }
+        ensures width { self.new.width ≡ self.old.width }
+        ensures moved { row.new.items ≡ [] }
+    {
+        self.store.put(row)
+    }
+
+    // Whether a row is held under this reference, which may be any.
+    pub fn holds(&self, r: TupleRef) -> bool
+        ensures { result ≡ finite.contains_key self.now.tuples r }
+    {
+        self.store.holds(r)
+    }
+
+    // The number of slots, free or not. The number of each row's reference is below it.
+    pub fn slots(&self) -> u64
+        ensures most { result ≤ MAX_TUPLES }
+        ensures within { (r : TupleRef) → IsSome (finite.get self.now.tuples r) → r.number < result }
+    {
+        self.store.slots()
+    }
+
+    // The cells of a row, its key's the first.
+    pub fn cells(&self, r: TupleRef) -> &[Cell]
+        requires { IsSome (finite.get self.now.tuples r) }
+        ensures row { (t : Row) → finite.get self.now.tuples r ≡ Some t → row_of result.now t.referrers ≡ t }
+        ensures keyed { StartsWithKey result.now }
+    {
+        self.store.get(r)
+    }
+
+    // The key of a row.
+    pub fn key(&self, r: TupleRef) -> &Value
+        requires { IsSome (finite.get self.now.tuples r) }
+        ensures { key_at self.now.tuples r ≡ Some result.now }
+    {
+        match &self.cells(r)[0] {
+            Cell::Held(key) => key,
+            Cell::Link { to: _ } => unreachable!(),
+        }
+    }
+
+    // How many links name a row. It is read where it is asked for.
+    pub fn referrers(&self, r: TupleRef) -> &u64
+        requires { IsSome (finite.get self.now.tuples r) }
+        ensures { (t : Row) → finite.get self.now.tuples r ≡ Some t → result.now ≡ t.referrers }
+    {
+        self.store.count(r)
+    }
+
+    // Sets how many links name a row.
+    pub fn set_referrers(&mut self, r: TupleRef, n: u64)
+        requires { IsSome (finite.get self.old.tuples r) }
+        ensures width { self.new.width ≡ self.old.width }
+        ensures row { (t : Row) → finite.get self.old.tuples r ≡ Some t → self.new.tuples ≡ finite.insert self.old.tuples r (with_referrers n t) }
+    {
+        self.store.set_count(r, n);
+    }
+
+    // Sets the cell of a row in one column.
+    pub fn set_cell(&mut self, r: TupleRef, column: ColumnNumber, cell: Cell)
+        requires held { IsSome (finite.get self.old.tuples r) }
+        requires column { (t : Row) → finite.get self.old.tuples r ≡ Some t → (0 < column.0) × (column.0 ≤ length t.cells) }
+        ensures width { self.new.width ≡ self.old.width }
+        ensures row { (t : Row) → finite.get self.old.tuples r ≡ Some t → self.new.tuples ≡ finite.insert self.old.tuples r (record t { cells = slice_set t.cells (column.0 - 1) cell }) }
+    {
+        drop(self.store.replace(r, column.0, cell));
+    }
+
+    // Drops a row. It takes no memory.
+    pub fn remove(&mut self, r: TupleRef)
+        requires { IsSome (finite.get self.old.tuples r) }
+        ensures width { self.new.width ≡ self.old.width }
+        ensures rows { self.new.tuples ≡ finite.remove self.old.tuples r }
+    {
+        self.store.remove(r);
+    }
+}

@@ -1,0 +1,8 @@
+-- The tuples of a store, each seen as something else.
+use Rattle.std.specs.Prelude.{map}
+use Rattle.std.specs.FinMap.{entries, from_sorted}
+use Rattle.part_raw.specs.Store.{Tuples}
+
+-- the same references, each with what f makes of its tuple
+unfoldable pub mapped : {T U : Type 0} → (T → U) → Tuples T → Tuples U
+mapped f tuples = from_sorted (map (λ e. (e.0, f e.1)) (entries tuples))
