@@ -1,5 +1,5 @@
 -- Chains, where a node changes that they do not visit, where a node comes in front, and where one leaves.
-use Rattle.std.proofs.Common.{◌≡◌, ◌≢◌, ℕ, ◌+◌, ◌-◌, ◌^◌, ◌<◌, ◌≤◌, Bool, true, ◌==◌, List, [], ◌∷◌, ◌++◌, length, set, None, Some, refl, sym, ap, ◌∙◌, arith, inl, inr, subst}
+use Rattle.std.proofs.Common.{◌≡◌, ◌≢◌, ℕ, ◌+◌, ◌-◌, ◌^◌, ◌<◌, ◌≤◌, ◌==◌, List, [], ◌∷◌, ◌++◌, length, set, None, Some, refl, sym, ap, ◌∙◌, arith, inl, inr, subst}
 use Rattle.std.proofs.lemmas.Bool.{ne_eqb, eq-eqb}
 use Rattle.std.proofs.lemmas.Bool.Decides.{eqb_tells}
 use Rattle.std.proofs.lemmas.List.{length-set, length-append, get_or-set_same, get_or-set_other, get_or_append_left}
@@ -33,25 +33,24 @@ times_at-first e es =
 
 module _ (nodes : List Node) (p : ℕ) (n : Node) where
   -- a node elsewhere changes
-  pub Stands-set : (u : Bool) (e : Placed) → place_of e ≢ p → Stands nodes u e → Stands (set nodes p n) u e
-  Stands-set u e apart h =
+  pub Stands-set : (e : Placed) → place_of e ≢ p → Stands nodes e → Stands (set nodes p n) e
+  Stands-set e apart h =
       let same : node_at (set nodes p n) (place_of e) ≡ node_at nodes (place_of e) = get_or-set_other nodes p (place_of e) n _ apart in
       record {
         inside = rw (length-set nodes p n) h.inside;
         is = rw same h.is;
-        used = rw same h.used;
       }
 
-  pub IsChain-set : (u : Bool) (l : Link) (es : List Placed) → times_at p es ≡ 0 → IsChain nodes u l es → IsChain (set nodes p n) u l es
-  IsChain-set u l [] away h = h
-  IsChain-set u l (e ∷ es) away h =
+  pub IsChain-set : (l : Link) (es : List Placed) → times_at p es ≡ 0 → IsChain nodes l es → IsChain (set nodes p n) l es
+  IsChain-set l [] away h = h
+  IsChain-set l (e ∷ es) away h =
       let apart = apart-first p e es away in
       let same : node_at (set nodes p n) (place_of e) ≡ node_at nodes (place_of e) = get_or-set_other nodes p (place_of e) n _ apart in
-      (h.0, Stands-set u e apart h.1, subst (λ (m : Node). IsChain (set nodes p n) u m.next es) (sym same) (IsChain-set u (next_at nodes (place_of e)) es (apart-rest p e es away) h.2))
+      (h.0, Stands-set e apart h.1, subst (λ (m : Node). IsChain (set nodes p n) m.next es) (sym same) (IsChain-set (next_at nodes (place_of e)) es (apart-rest p e es away) h.2))
 
 -- only the link of a node changes
-pub Stands-relinked : (nodes : List Node) (p : ℕ) (l : Link) (u : Bool) (e : Placed) → Stands nodes u e → Stands (set nodes p (leading_to (node_at nodes p) l)) u e
-Stands-relinked nodes p l u e h =
+pub Stands-relinked : (nodes : List Node) (p : ℕ) (l : Link) (e : Placed) → Stands nodes e → Stands (set nodes p (leading_to (node_at nodes p) l)) e
+Stands-relinked nodes p l e h =
     elim (eqb_tells (place_of e) p) [
       | inl same ↦
           let at : place_of e ≡ p = same.1 in
@@ -61,15 +60,14 @@ Stands-relinked nodes p l u e h =
           record {
             inside = rw (length-set nodes p (leading_to (node_at nodes p) l)) h.inside;
             is = rw now (rw was at h.is);
-            used = rw now (rw was at h.used);
           }
-      | inr other ↦ Stands-set nodes p (leading_to (node_at nodes p) l) u e other.1 h
+      | inr other ↦ Stands-set nodes p (leading_to (node_at nodes p) l) e other.1 h
     ]
 
 -- more nodes at the end
-pub IsChain-grown : (nodes ns : List Node) (u : Bool) (l : Link) (es : List Placed) → IsChain nodes u l es → IsChain (nodes ++ ns) u l es
-IsChain-grown nodes ns u l [] h = h
-IsChain-grown nodes ns u l (e ∷ es) h =
+pub IsChain-grown : (nodes ns : List Node) (l : Link) (es : List Placed) → IsChain nodes l es → IsChain (nodes ++ ns) l es
+IsChain-grown nodes ns l [] h = h
+IsChain-grown nodes ns l (e ∷ es) h =
     let inside : place_of e < length nodes = h.1.inside in
     let same : node_at (nodes ++ ns) (place_of e) ≡ node_at nodes (place_of e) = get_or_append_left nodes ns _ (place_of e) inside in
     let longer = length-append nodes ns in (
@@ -77,32 +75,36 @@ IsChain-grown nodes ns u l (e ∷ es) h =
       record {
         inside = omega (arith, longer);
         is = rw same h.1.is;
-        used = rw same h.1.used;
       },
-      subst (λ (m : Node). IsChain (nodes ++ ns) u m.next es) (sym same) (IsChain-grown nodes ns u (next_at nodes (place_of e)) es h.2),
+      subst (λ (m : Node). IsChain (nodes ++ ns) m.next es) (sym same) (IsChain-grown nodes ns (next_at nodes (place_of e)) es h.2),
     )
 
--- a node that is in use hangs on no chain of those that are not, and the other way round
-pub times_at-other : (nodes : List Node) (u : Bool) (p : ℕ) → (node_at nodes p).in_use ≢ u → (l : Link) (es : List Placed) → IsChain nodes u l es → times_at p es ≡ 0
-times_at-other nodes u p ne l [] h = refl
-times_at-other nodes u p ne l (e ∷ es) h =
-    let rest = times_at-other nodes u p ne (next_at nodes (place_of e)) es h.2 in
-    let all = count_by-cons (λ d. place_of d == p) e es in
-    elim (eqb_tells (place_of e) p) [
-      | inl same ↦ absurd (ne (ap (λ q. (node_at nodes q).in_use) (sym same.1) ∙ h.1.used))
-      | inr other ↦ let none : one_if (place_of e == p) ≡ 0 = rw other.0 refl in omega (arith, all, rest, none)
-    ]
+-- a node less at the end, which the chain does not visit
+pub IsChain-front : (nodes : List Node) (n : Node) (l : Link) (es : List Placed) → times_at (length nodes) es ≡ 0 → IsChain (nodes ++ n ∷ []) l es → IsChain nodes l es
+IsChain-front nodes n l [] away h = h
+IsChain-front nodes n l (e ∷ es) away h =
+    let apart = apart-first (length nodes) e es away in
+    let longer = length-append nodes (n ∷ []) in
+    let inside : place_of e < length nodes = (let i = h.1.inside in omega (arith, i, longer, apart)) in
+    let same : node_at (nodes ++ n ∷ []) (place_of e) ≡ node_at nodes (place_of e) = get_or_append_left nodes (n ∷ []) _ (place_of e) inside in (
+      h.0,
+      record {
+        inside = inside;
+        is = rw same at h.1.is;
+      },
+      IsChain-front nodes n (next_at nodes (place_of e)) es (apart-rest (length nodes) e es away) (subst (λ (m : Node). IsChain (nodes ++ n ∷ []) m.next es) same h.2),
+    )
 
 -- from a link on there is one chain at most
-pub IsChain-unique : (nodes : List Node) (u : Bool) (l : Link) (es ds : List Placed) → IsChain nodes u l es → IsChain nodes u l ds → es ≡ ds
-IsChain-unique nodes u l [] [] h k = refl
-IsChain-unique nodes u l [] (d ∷ ds) h k = absurd (let e : None ≡ Some (place_of d) = sym h ∙ k.0 in cc)
-IsChain-unique nodes u l (e ∷ es) [] h k = absurd (let f : None ≡ Some (place_of e) = sym k ∙ h.0 in cc)
-IsChain-unique nodes u l (e ∷ es) (d ∷ ds) h k =
+pub IsChain-unique : (nodes : List Node) (l : Link) (es ds : List Placed) → IsChain nodes l es → IsChain nodes l ds → es ≡ ds
+IsChain-unique nodes l [] [] h k = refl
+IsChain-unique nodes l [] (d ∷ ds) h k = absurd (let e : None ≡ Some (place_of d) = sym h ∙ k.0 in cc)
+IsChain-unique nodes l (e ∷ es) [] h k = absurd (let f : None ≡ Some (place_of e) = sym k ∙ h.0 in cc)
+IsChain-unique nodes l (e ∷ es) (d ∷ ds) h k =
     let both : Some (place_of e) ≡ Some (place_of d) = sym h.0 ∙ k.0 in
     let place : place_of e ≡ place_of d = cc in
     let same : e ≡ d = sym h.1.is ∙ ap (placed_at nodes) place ∙ k.1.is in
-    let rest = IsChain-unique nodes u (next_at nodes (place_of e)) es ds h.2 (rw (← place) at k.2) in
+    let rest = IsChain-unique nodes (next_at nodes (place_of e)) es ds h.2 (rw (← place) at k.2) in
     ap (λ c. c ∷ es) same ∙ ap (λ c. d ∷ c) rest
 
 -- the last of a list stands in it
@@ -118,14 +120,14 @@ times_at-last q (e ∷ f ∷ es) last =
     omega (arith, all, rest)
 
 -- the node behind the last of `before` is taken out: that one leads to the node after it
-pub IsChain-unlinked : (nodes : List Node) (l : Link) (before : List Placed) (q : ℕ) (x : Placed) (after : List Placed) → last_place before ≡ Some q → times_at q after ≡ 0 → times_at q before ≤ 1 → IsChain nodes true l (before ++ x ∷ after) → IsChain (set nodes q (leading_to (node_at nodes q) (next_at nodes (place_of x)))) true l (before ++ after)
+pub IsChain-unlinked : (nodes : List Node) (l : Link) (before : List Placed) (q : ℕ) (x : Placed) (after : List Placed) → last_place before ≡ Some q → times_at q after ≡ 0 → times_at q before ≤ 1 → IsChain nodes l (before ++ x ∷ after) → IsChain (set nodes q (leading_to (node_at nodes q) (next_at nodes (place_of x)))) l (before ++ after)
 IsChain-unlinked nodes l [] q x after last away once h = absurd (cc)
 IsChain-unlinked nodes l (e ∷ []) q x after last away once h =
     let at : place_of e ≡ q = cc in
     let inside : q < length nodes = (let i = h.1.inside in omega arith) in
     let n : Node = leading_to (node_at nodes q) (next_at nodes (place_of x)) in
     let now : next_at (set nodes q n) (place_of e) ≡ next_at nodes (place_of x) = rw at (ap (λ m. m.next) (get_or-set_same nodes q n _ inside)) in
-    (h.0, Stands-relinked nodes q (next_at nodes (place_of x)) true e h.1, subst (λ (k : Link). IsChain (set nodes q n) true k after) (sym now) (IsChain-set nodes q n true (next_at nodes (place_of x)) after away h.2.2))
+    (h.0, Stands-relinked nodes q (next_at nodes (place_of x)) e h.1, subst (λ (k : Link). IsChain (set nodes q n) k after) (sym now) (IsChain-set nodes q n (next_at nodes (place_of x)) after away h.2.2))
 IsChain-unlinked nodes l (e ∷ f ∷ before) q x after last away once h =
     let all = count_by-cons (λ d. place_of d == q) e (f ∷ before) in
     let n : Node = leading_to (node_at nodes q) (next_at nodes (place_of x)) in
@@ -133,4 +135,4 @@ IsChain-unlinked nodes l (e ∷ f ∷ before) q x after last away once h =
     let apart : place_of e ≢ q = λ same.
     (let one : one_if (place_of e == q) ≡ 1 = rw (eq-eqb (place_of e) q same) refl in absurd (omega (arith, all, once, last_one, one))) in
     let now : node_at (set nodes q n) (place_of e) ≡ node_at nodes (place_of e) = get_or-set_other nodes q (place_of e) n _ apart in
-    (h.0, Stands-set nodes q n true e apart h.1, subst (λ (m : Node). IsChain (set nodes q n) true m.next ((f ∷ before) ++ after)) (sym now) (IsChain-unlinked nodes (next_at nodes (place_of e)) (f ∷ before) q x after last away (omega (arith, all, once)) h.2))
+    (h.0, Stands-set nodes q n e apart h.1, subst (λ (m : Node). IsChain (set nodes q n) m.next ((f ∷ before) ++ after)) (sym now) (IsChain-unlinked nodes (next_at nodes (place_of e)) (f ∷ before) q x after last away (omega (arith, all, once)) h.2))

@@ -1,11 +1,11 @@
 -- What hangs on the buckets where a node leaves its chain, and where a bucket is split, is folded or is looked through.
-use Rattle.std.proofs.Common.{◌≡◌, ◌≢◌, ℕ, ◌+◌, ◌*◌, ◌%◌, ◌^◌, ◌<◌, ◌≤◌, true, false, cond, ◌==◌, List, [], ◌∷◌, ◌++◌, length, get_or, set, map, None, refl, sym, ap, ◌∙◌, arith, inl, inr}
+use Rattle.std.proofs.Common.{◌≡◌, ◌≢◌, ℕ, zero, suc, ◌+◌, ◌*◌, ◌%◌, ◌^◌, ◌<◌, ◌≤◌, true, false, cond, ◌==◌, List, [], ◌∷◌, ◌++◌, length, get_or, set, map, None, refl, sym, ap, ◌∙◌, arith, inl, inr, subst}
 use Rattle.std.specs.List.{count_by, sum_by, filter, Contains}
-use Rattle.std.proofs.lemmas.Bool.{cases_lt}
+use Rattle.std.proofs.lemmas.Bool.{cases_lt, eq-eqb, eqb-true}
 use Rattle.std.proofs.lemmas.List.{length-set, get_or-set_same, get_or-set_other, set-set}
 use Rattle.std.proofs.lemmas.List.Elements.{All-nil}
 use Rattle.std.proofs.lemmas.List.Sums.{get_or-le-sum_by, count_by-le-length}
-use Rattle.common_lemmas.proofs.Counts.{count_by-true}
+use Rattle.common_lemmas.proofs.Counts.{count_by-true, count_by-member, member-from_count_by}
 use Rattle.part_raw.specs.declared.tuple_ref.TupleRef.{TupleRef}
 use Rattle.mm_index.specs.Bag.{IsSameBag, with_hash}
 use Rattle.mm_index.proofs.Bags.{IsSameBag-trans, IsSameBag-sym, IsSameBag-from_same, IsSameBag-middle, IsSameBag-with_hash, Contains-with_hash, Contains-from_with_hash}
@@ -13,11 +13,11 @@ use Rattle.mm_index.proofs.Refs.{Contains-same_refs}
 use Rattle.lin_hash.specs.Address.{bucket_by, bucket_of, IsAddressed}
 use Rattle.lin_hash.specs.declared.node.Link.{Link}
 use Rattle.lin_hash.specs.declared.node.Node.{Node}
-use Rattle.lin_hash.specs.Nodes.{leads_to, head_at, entries_of}
-use Rattle.lin_hash.specs.Chains.{Placed, place_of, entry_in, used_in, IsChain, AreChains, AreHung, HoldsEntry}
+use Rattle.lin_hash.specs.Nodes.{leads_to, head_at, node_at, next_at, entries_of}
+use Rattle.lin_hash.specs.Chains.{Placed, place_of, placed_at, entry_in, all_placed, Stands, IsChain, AreChains, AreHung, HoldsEntry, Visits}
 use Rattle.lin_hash.proofs.Moves.{count_by-append, count_by-cons, IsSameBag-map}
 use Rattle.lin_hash.proofs.Joined.{joined, count_by-joined, count_by-set, count_by-pushed, joined-taken}
-use Rattle.lin_hash.proofs.Placed.{times_at, times_at-once, entries-placed, length-placed}
+use Rattle.lin_hash.proofs.Placed.{times_at, times_at-once, entries-placed, length-placed, placed-there}
 use Rattle.lin_hash.proofs.Hung.{AreChains-change, AreChains-push}
 use Rattle.lin_hash.proofs.Buckets.{IsPlaced-set}
 use Rattle.lin_hash.proofs.Levels.{bucket_of-inside, mark-inside, with_hash-bucket, IsAddressed-taken, IsAddressed-split, IsAddressed-split_up}
@@ -42,10 +42,16 @@ times_at-others p chains b i inside within apart most here =
     let less : times_at p (get_or (set chains b []) i []) ≡ 0 = omega (arith, gone, one, all, most, here) in
     rw same at less
 
+-- each node of a chain stands there
+chain-stands : (nodes : List Node) (l : Link) (es : List Placed) → IsChain nodes l es → (k : ℕ) (d : Placed) → k < length es → Stands nodes (get_or es k d)
+chain-stands nodes l [] h k d i = absurd (omega arith)
+chain-stands nodes l (e ∷ es) h zero d i = h.1
+chain-stands nodes l (e ∷ es) h (suc k) d i = chain-stands nodes (next_at nodes (place_of e)) es h.2 k d (omega arith)
+
 module _ (level mark : ℕ) (nodes : List Node) (heads : List Link) (h : AreHung level mark nodes heads []) where
   -- a place stands once in all chains
   pub times_at-most : (p : ℕ) → times_at p (joined h.chains) ≤ 1
-  times_at-most p = let held = h.held.count (λ d. place_of d == p) in let most = times_at-once (λ b. b) 0 nodes p in omega (arith, held, most)
+  times_at-most p = let held = h.held.count (λ d. place_of d == p) in let most = times_at-once 0 nodes p in omega (arith, held, most)
 
   -- no chain is longer than there are nodes
   pub hung-short : (b : ℕ) → b < length h.chains → length (get_or h.chains b []) ≤ length nodes
@@ -54,14 +60,14 @@ module _ (level mark : ℕ) (nodes : List Node) (heads : List Link) (h : AreHung
       get_or-le-sum_by (count_by (λ e. true)) h.chains b [] inside in
       let all = count_by-joined (λ e. true) h.chains in
       let held = h.held.count (λ e. true) in
-      let most = count_by-le-length (λ e. true) (used_in nodes) in
+      let most = count_by-le-length (λ e. true) (all_placed nodes) in
       let some = length-placed 0 nodes in
       let each = count_by-true (get_or h.chains b []) in
       omega (arith, one, all, held, most, some, each)
 
   -- the bucket of a hash
   module _ (hash b : ℕ) (at : b ≡ bucket_of level mark hash) where
-    pub hung-chain : IsChain nodes true (head_at heads b) (get_or h.chains b [])
+    pub hung-chain : IsChain nodes (head_at heads b) (get_or h.chains b [])
     hung-chain = h.linked.each b (bucket_of-inside level mark h.chains h.addressed hash b at)
 
     pub hung-chain_short : length (get_or h.chains b []) ≤ length nodes
@@ -73,7 +79,7 @@ module _ (level mark : ℕ) (nodes : List Node) (heads : List Link) (h : AreHung
         let found = with_hash-bucket level mark h.chains h.addressed hash b at in
         let here : with_hash hash (map entry_in (get_or h.chains b [])) ≡ with_hash hash (map entry_in (joined h.chains)) =
         with_hash-entries hash (get_or h.chains b []) ∙ ap (map (λ y. y.0)) found ∙ sym (with_hash-entries hash (joined h.chains)) in
-        let held : IsSameBag (map entry_in (joined h.chains)) (map entry_in (used_in nodes)) = IsSameBag-map entry_in h.held in
+        let held : IsSameBag (map entry_in (joined h.chains)) (map entry_in (all_placed nodes)) = IsSameBag-map entry_in h.held in
         IsSameBag-trans (IsSameBag-from_same _ _ here)
         (IsSameBag-trans (IsSameBag-with_hash hash held) (IsSameBag-from_same _ _ (ap (with_hash hash) (entries-placed 0 nodes))))
 
@@ -83,8 +89,24 @@ module _ (level mark : ℕ) (nodes : List Node) (heads : List Link) (h : AreHung
         let found = Contains-same_refs (with_hash hash (entries_of nodes)) (with_hash hash (map entry_in (get_or h.chains b []))) r (IsSameBag-sym IsSameBag-hung) under in
         (get_or h.chains b [], hung-chain, hung-short b (bucket_of-inside level mark h.chains h.addressed hash b at), Contains-from_with_hash hash (map entry_in (get_or h.chains b [])) r found)
 
+  -- the chain of its bucket visits each node
+  pub Visits-hung : (p : ℕ) → p < length nodes → (b : ℕ) → b ≡ bucket_of level mark (node_at nodes p).hash → Visits nodes (head_at heads b) p
+  Visits-hung p inside b at =
+      let hash : ℕ = (node_at nodes p).hash in
+      let there : Contains (all_placed nodes) (placed_at nodes p) = (p, (let len = length-placed 0 nodes in omega (arith, len, inside)), placed-there 0 nodes p (placed_at nodes p) p (omega arith) inside) in
+      let under = Contains-with_hash hash (all_placed nodes) ((node_at nodes p).reference, p) there in
+      let one = count_by-member (λ y. y.1 == p) (with_hash hash (all_placed nodes)) ((node_at nodes p).reference, p) under (eq-eqb p p refl) in
+      let bag = (IsSameBag-with_hash hash h.held).count (λ y. y.1 == p) in
+      let bucket = ap (count_by (λ y. y.1 == p)) (with_hash-bucket level mark h.chains h.addressed hash b at) in
+      let found = member-from_count_by (λ y. y.1 == p) (with_hash hash (get_or h.chains b [])) (omega (arith, one, bag, bucket)) in
+      let held = Contains-from_with_hash hash (get_or h.chains b []) found.0 found.1 in
+      let chain = hung-chain hash b at in
+      let stands : Stands nodes (hash, found.0) = subst (Stands nodes) held.2 (chain-stands nodes (head_at heads b) (get_or h.chains b []) chain held.0 (hash, found.0) held.1) in
+      let same : (hash, found.0) ≡ placed_at nodes p = sym stands.is ∙ ap (placed_at nodes) (eqb-true found.0.1 p found.2) in
+      (get_or h.chains b [], chain, hung-chain_short hash b at, subst (Contains (get_or h.chains b [])) same held)
+
   -- a node leaves its chain
-  pub AreHung-without : (b : ℕ) (x : Placed) (before after : List Placed) (q_nodes : List Node) (l : Link) → b < length h.chains → b ≡ bucket_of level mark x.0 → get_or h.chains b [] ≡ before ++ x ∷ after → used_in q_nodes ≡ used_in nodes → ((i : ℕ) → i < length h.chains → i ≢ b → IsChain q_nodes true (head_at heads i) (get_or h.chains i [])) → IsChain q_nodes true l (before ++ after) → AreHung level mark q_nodes (set heads b l) (x ∷ [])
+  pub AreHung-without : (b : ℕ) (x : Placed) (before after : List Placed) (q_nodes : List Node) (l : Link) → b < length h.chains → b ≡ bucket_of level mark x.0 → get_or h.chains b [] ≡ before ++ x ∷ after → all_placed q_nodes ≡ all_placed nodes → ((i : ℕ) → i < length h.chains → i ≢ b → IsChain q_nodes (head_at heads i) (get_or h.chains i [])) → IsChain q_nodes l (before ++ after) → AreHung level mark q_nodes (set heads b l) (x ∷ [])
   AreHung-without b x before after q_nodes l inside at is same others new =
       let bag : IsSameBag (get_or h.chains b []) (x ∷ (before ++ after)) = rw is (IsSameBag-middle before after x) in
       record {
@@ -95,7 +117,7 @@ module _ (level mark : ℕ) (nodes : List Node) (heads : List Link) (h : AreHung
               count = λ test.
                   let taken = (joined-taken h.chains b inside x (before ++ after) bag).count test in
                   let held = h.held.count test in
-                  let kept : count_by test (used_in q_nodes) ≡ count_by test (used_in nodes) = ap (count_by test) same in
+                  let kept : count_by test (all_placed q_nodes) ≡ count_by test (all_placed nodes) = ap (count_by test) same in
                   omega (arith, taken, held, kept, count_by-append test (x ∷ []) (joined (set h.chains b (before ++ after))), count_by-cons test x [], count_by-cons test x (joined (set h.chains b (before ++ after))));
             };
         addressed = IsAddressed-taken level mark h.chains h.addressed x b (before ++ after) at bag;
@@ -114,7 +136,7 @@ module _ (level mark : ℕ) (nodes : List Node) (heads : List Link) (h : AreHung
   pub split-inside : mark < length heads
   split-inside = let m = mark-inside level mark h.chains h.addressed in let number = h.linked.number in omega (arith, m, number)
 
-  pub split-chain : IsChain nodes true (head_at heads mark) (get_or h.chains mark [])
+  pub split-chain : IsChain nodes (head_at heads mark) (get_or h.chains mark [])
   split-chain = h.linked.each mark (mark-inside level mark h.chains h.addressed)
 
   module _ (l k : Link) (l_none : leads_to l ≡ None) (k_none : leads_to k ≡ None) where
@@ -123,7 +145,7 @@ module _ (level mark : ℕ) (nodes : List Node) (heads : List Link) (h : AreHung
         AreChains-push nodes (set heads mark l) (set h.chains mark []) k k_none
         (AreChains-change nodes nodes heads h.chains mark l [] (mark-inside level mark h.chains h.addressed) h.linked (λ i inside apart. h.linked.each i inside) l_none)
 
-    split-held : IsSameBag (get_or h.chains mark [] ++ joined (set h.chains mark [] ++ [] ∷ [])) (used_in nodes)
+    split-held : IsSameBag (get_or h.chains mark [] ++ joined (set h.chains mark [] ++ [] ∷ [])) (all_placed nodes)
     split-held = record {
       count = λ test.
           let held = h.held.count test in

@@ -1,5 +1,5 @@
 -- Walks along a chain, of as many nodes at most as there are.
-use Rattle.std.proofs.Common.{◌≡◌, ◌≢◌, ℕ, zero, suc, ◌<◌, ◌≤◌, List, [], ◌∷◌, length, map, None, Some, MatchOption, true, refl, ap, ◌∙◌, sym, arith}
+use Rattle.std.proofs.Common.{◌≡◌, ◌≢◌, ℕ, zero, suc, ◌<◌, ◌≤◌, List, [], ◌∷◌, length, map, None, Some, MatchOption, refl, ap, ◌∙◌, sym, arith}
 use Rattle.std.proofs.lemmas.Bool.{eq-eqb, ne_eqb}
 use Rattle.mm_index.specs.Bag.{with_hash}
 use Rattle.part_raw.specs.declared.tuple_ref.TupleRef.{TupleRef}
@@ -10,14 +10,14 @@ use Rattle.lin_hash.specs.Chains.{Placed, place_of, entry_in, IsChain}
 use Rattle.lin_hash.specs.Walks.{EndsWithin}
 
 -- where there are no more nodes on a chain than that
-pub EndsWithin-from_chain : (n : ℕ) (nodes : List Node) (l : Link) (es : List Placed) → IsChain nodes true l es → length es ≤ n → EndsWithin n nodes l
+pub EndsWithin-from_chain : (n : ℕ) (nodes : List Node) (l : Link) (es : List Placed) → IsChain nodes l es → length es ≤ n → EndsWithin n nodes l
 EndsWithin-from_chain zero nodes l [] h short = rw h tt
 EndsWithin-from_chain zero nodes l (e ∷ es) h short = absurd (omega arith)
 EndsWithin-from_chain (suc n) nodes l [] h short = rw h tt
 EndsWithin-from_chain (suc n) nodes l (e ∷ es) h short =
     rw h.0 (h.1.inside, EndsWithin-from_chain n nodes (next_at nodes (place_of e)) es h.2 (omega arith))
 
-pub entries_from-chain : (n : ℕ) (nodes : List Node) (l : Link) (es : List Placed) → IsChain nodes true l es → length es ≤ n → entries_from n nodes l ≡ map entry_in es
+pub entries_from-chain : (n : ℕ) (nodes : List Node) (l : Link) (es : List Placed) → IsChain nodes l es → length es ≤ n → entries_from n nodes l ≡ map entry_in es
 entries_from-chain zero nodes l [] h short = refl
 entries_from-chain zero nodes l (e ∷ es) h short = absurd (omega arith)
 entries_from-chain (suc n) nodes l [] h short = ap (list_at (λ p. entry_of (node_at nodes p) ∷ entries_from n nodes (next_at nodes p))) h

@@ -1,5 +1,5 @@
 -- Chains of nodes, and which nodes hang on them.
-use Rattle.std.specs.Prelude.{◌≡◌, ◌+◌, ◌<◌, ◌≤◌, ℕ, Bool, true, false, List, [], ◌∷◌, ◌++◌, Option, Some, None, if◌then◌else◌, length, map, slice_index_or, Contains, not, flat_map}
+use Rattle.std.specs.Prelude.{◌≡◌, ◌+◌, ◌<◌, ◌≤◌, ℕ, List, [], ◌∷◌, ◌++◌, Option, Some, None, length, map, slice_index_or, Contains, flat_map}
 use Rattle.part_raw.specs.declared.tuple_ref.TupleRef.{TupleRef}
 use Rattle.mm_index.specs.Bag.{IsSameBag}
 use Rattle.lin_hash.specs.declared.node.Link.{Link}
@@ -22,47 +22,36 @@ entry_in e = (e.0, e.1.0)
 abbrev pub placed_at : List Node → ℕ → Placed
 placed_at nodes place = ((node_at nodes place).hash, ((node_at nodes place).reference, place))
 
--- the node at that place is there, has that hash and reference, and is in use or is not
-pub record Stands (nodes : List Node) (in_use : Bool) (e : Placed) : Type 0 where
+-- the node at that place is there, and has that hash and reference
+pub record Stands (nodes : List Node) (e : Placed) : Type 0 where
   pub inside : place_of e < length nodes
   pub is : placed_at nodes (place_of e) ≡ e
-  pub used : (node_at nodes (place_of e)).in_use ≡ in_use
 
 -- from the link on these nodes hang behind one another
-abbrev pub IsChain : List Node → Bool → Link → List Placed → Type 0
-IsChain nodes in_use l [] = leads_to l ≡ None
-IsChain nodes in_use l (e ∷ es) =
-    (leads_to l ≡ Some (place_of e)) × Stands nodes in_use e × IsChain nodes in_use (next_at nodes (place_of e)) es
+abbrev pub IsChain : List Node → Link → List Placed → Type 0
+IsChain nodes l [] = leads_to l ≡ None
+IsChain nodes l (e ∷ es) =
+    (leads_to l ≡ Some (place_of e)) × Stands nodes e × IsChain nodes (next_at nodes (place_of e)) es
 
--- the nodes that are in use (or by `not` those that are not), from the first on, which stands at that place
-abbrev pub placed_from : (Bool → Bool) → ℕ → List Node → List Placed
-placed_from chosen place [] = []
-placed_from chosen place (n ∷ nodes) =
-    if chosen n.in_use then (n.hash, (n.reference, place)) ∷ placed_from chosen (place + 1) nodes else placed_from chosen (place + 1) nodes
+-- the nodes from the first on, which stands at that place
+abbrev pub placed_from : ℕ → List Node → List Placed
+placed_from place [] = []
+placed_from place (n ∷ nodes) = (n.hash, (n.reference, place)) ∷ placed_from (place + 1) nodes
 
-abbrev pub used_in : List Node → List Placed
-used_in nodes = placed_from (λ b. b) 0 nodes
-
-abbrev pub unused_in : List Node → List Placed
-unused_in nodes = placed_from not 0 nodes
+abbrev pub all_placed : List Node → List Placed
+all_placed nodes = placed_from 0 nodes
 
 -- each head leads to the chain of its bucket
 pub record AreChains (nodes : List Node) (heads : List Link) (chains : List (List Placed)) : Type 0 where
   pub number : length heads ≡ length chains
-  pub each : (i : ℕ) → i < length chains → IsChain nodes true (head_at heads i) (slice_index_or chains i [])
+  pub each : (i : ℕ) → i < length chains → IsChain nodes (head_at heads i) (slice_index_or chains i [])
 
--- the nodes in use hang on the chains of the buckets of their hashes, each once, but for those that are loose
+-- the nodes hang on the chains of the buckets of their hashes, each once, but for those that are loose
 pub record AreHung (level mark : ℕ) (nodes : List Node) (heads : List Link) (loose : List Placed) : Type 0 where
   pub chains : List (List Placed)
   pub linked : AreChains nodes heads chains
-  pub held : IsSameBag (loose ++ flat_map (λ c. c) chains) (used_in nodes)
+  pub held : IsSameBag (loose ++ flat_map (λ c. c) chains) (all_placed nodes)
   pub addressed : IsAddressed level mark chains
-
--- the nodes that are not in use hang on one chain, each once
-pub record AreSpare (nodes : List Node) (spare : Link) : Type 0 where
-  pub spares : List Placed
-  pub linked : IsChain nodes false spare spares
-  pub held : IsSameBag spares (unused_in nodes)
 
 -- the place of the last of them
 abbrev pub last_place : List Placed → Option ℕ
@@ -72,9 +61,17 @@ last_place (e ∷ f ∷ es) = last_place (f ∷ es)
 
 -- the chain from a link on holds that entry
 abbrev pub HoldsEntry : List Node → Link → ℕ → TupleRef → Type 0
-HoldsEntry nodes first hash r = (es : List Placed) × IsChain nodes true first es × (length es ≤ length nodes) × Contains (map entry_in es) (hash, r)
+HoldsEntry nodes first hash r = (es : List Placed) × IsChain nodes first es × (length es ≤ length nodes) × Contains (map entry_in es) (hash, r)
+
+-- the chain from a link on visits the node at that place
+abbrev pub Visits : List Node → Link → ℕ → Type 0
+Visits nodes first place = (es : List Placed) × IsChain nodes first es × (length es ≤ length nodes) × Contains es (placed_at nodes place)
+
+-- in the chain from a link on that node stands behind the one at another place, or in front
+abbrev pub IsBehind : List Node → Link → Placed → Option ℕ → Type 0
+IsBehind nodes first e behind =
+    (before : List Placed) × (after : List Placed) × IsChain nodes first (before ++ e ∷ after) × (behind ≡ last_place before)
 
 -- in the chain from a link on a node with that entry stands at that place, behind that one
 abbrev pub StandsAt : List Node → Link → ℕ → TupleRef → Position → Type 0
-StandsAt nodes first hash r at =
-    (before : List Placed) × (after : List Placed) × IsChain nodes true first (before ++ (hash, (r, at.place)) ∷ after) × (at.behind ≡ last_place before)
+StandsAt nodes first hash r at = IsBehind nodes first (hash, (r, at.place)) at.behind

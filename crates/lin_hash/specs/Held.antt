@@ -1,6 +1,12 @@
 -- What the index and its table are seen as.
 use Rattle.std.specs.Prelude.{◌≡◌, ◌*◌, ◌≤◌, ◌⊎◌, ℕ, List, [], Option, Some, None}
 use Rattle.part_raw.specs.declared.tuple_ref.TupleRef.{TupleRef}
+use Rattle.lin_hash.specs.declared.node.Node.{Node}
+
+-- nodes in the order of their places, and for how many there is memory
+pub record HeldNodes : Type 0 where
+  pub items : List Node
+  pub memory : ℕ
 
 -- pairs of a hash and a reference, how many more there is room for, how many buckets there are, and for how many nodes
 -- and for how many heads of buckets there is memory

@@ -1,5 +1,5 @@
 -- Links and nodes, as they are read.
-use Rattle.std.specs.Prelude.{◌==◌, ℕ, zero, suc, [], ◌∷◌, false, List, Option, Some, None, if◌then◌else◌, slice_index_or, slice_set, map, filter}
+use Rattle.std.specs.Prelude.{◌==◌, ℕ, zero, suc, [], ◌∷◌, List, Option, Some, None, if◌then◌else◌, slice_index_or, slice_set, map}
 use Rattle.part_raw.specs.declared.tuple_ref.TupleRef.{TupleRef}
 use Rattle.lin_hash.specs.declared.node.Link.{Link}
 use Rattle.lin_hash.specs.declared.node.Node.{Node}
@@ -19,7 +19,7 @@ head_at heads bucket = slice_index_or heads bucket (record { place = 0 })
 
 abbrev pub node_at : List Node → ℕ → Node
 node_at nodes place =
-    slice_index_or nodes place (record { hash = 0; reference = record { number = 0 }; next = record { place = 0 }; in_use = false })
+    slice_index_or nodes place (record { hash = 0; reference = record { number = 0 }; next = record { place = 0 } })
 
 abbrev pub next_at : List Node → ℕ → Link
 next_at nodes place = (node_at nodes place).next
@@ -28,17 +28,13 @@ next_at nodes place = (node_at nodes place).next
 abbrev pub leading_to : Node → Link → Node
 leading_to n l = record n { next = l }
 
--- the same node, where it is not in use any more
-abbrev pub freed_to : Node → Link → Node
-freed_to n l = record n { next = l; in_use = false }
-
 -- a node's own entry
 abbrev pub entry_of : Node → ℕ × TupleRef
 entry_of n = (n.hash, n.reference)
 
--- the entries of the nodes in use, in the order of their places
+-- the entries of the nodes, in the order of their places
 abbrev pub entries_of : List Node → List (ℕ × TupleRef)
-entries_of nodes = map entry_of (filter (λ n. n.in_use) nodes)
+entries_of nodes = map entry_of nodes
 
 -- what leads to a node leads to another place: the node before it, or the head of its bucket
 abbrev pub relinked_behind : List Node → Option ℕ → Link → List Node

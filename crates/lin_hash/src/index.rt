@@ -180,7 +180,7 @@ impl ExactIndex for LinHash {
         self.len
     }
 
-    /// Frees the spare nodes and the spare heads. The nodes in use move together for it.
+    /// Gives back the memory of nodes and of heads that no entry needs.
     fn release_spares(&mut self)
         ensures entries { self.new.entries ≡ self.old.entries }
         ensures room { self.new.room ≡ 0 }

@@ -10,14 +10,16 @@
 //! What always holds:
 //! - each entry stands in the bucket of its hash, by the level and the mark (`table`);
 //! - there are at least four buckets, and at most twice as many entries as buckets (`index`);
-//! - each node in use stands in one bucket once, and each other on the spare chain (`chains`).
+//! - each node stands in one bucket once (`chains`), and the nodes fill the places from the first on (`nodes`).
 #![tactic(auto)]
 
 mod address;
 mod chain;
 mod chains;
+mod growing;
 mod index;
 mod node;
+mod nodes;
 mod table;
 
 pub use chain::Chain;

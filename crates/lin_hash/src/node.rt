@@ -1,7 +1,7 @@
-//! Nodes, which stand in one vector and are linked by their places there.
+//! Nodes, which are linked by their places.
 //!
 //! A node has an entry and a link to the next node of its chain, or none. A link takes 32 bits, of which one value is kept
-//! for no place, so a table has 2^32 - 1 nodes at most. A node that is not in use has an entry that says nothing.
+//! for no place, so a table has 2^32 - 1 nodes at most.
 ghost use Rattle.std.specs.Prelude.{◌≡◌, ◌<◌, ◌-◌, ◌^◌};
 ghost use Rattle.lin_hash.specs.Nodes.{leads_to, no_link, link_to};
 
@@ -50,5 +50,4 @@ pub struct Node {
     pub hash: u64,
     pub reference: TupleRef,
     pub next: Link,
-    pub in_use: bool,
 }

@@ -1,9 +1,8 @@
 //! The buckets, each entry in that of its hash, and the split and the fold that add and remove one.
 //!
-//! All nodes stand in one vector, and the heads of the buckets in another: the head of a bucket links to the first node of
-//! its chain. A node that was removed is kept on the spare chain, and the next insert takes it from there; while that chain
-//! is empty, an insert puts its node at the end of the vector. Who counts the entries is not the table's matter: it is
-//! told.
+//! The head of a bucket links to the first node of its chain. The heads stand in one vector, and the nodes fill the places
+//! from the first on: where an entry is taken out, that of the last node comes to its place. Who counts the entries is not
+//! the table's matter: it is told.
 ghost use Rattle.std.specs.Prelude.{◌≡◌, ◌+◌, ◌-◌, ◌*◌, ◌^◌, ◌<◌, ◌≤◌, ◌⊎◌, [], ◌∷◌, ◌++◌, length, vec_len, vec_capacity, IfOk, OnOk, Contains};
 ghost use Rattle.mm_index.specs.Bag.{IsSameBag, with_hash};
 ghost use Rattle.lin_hash.specs.Held.{StaysOrDoubles};
@@ -11,8 +10,10 @@ ghost use Rattle.lin_hash.specs.Rest.{chain_rest};
 
 use crate::address::{Address, FIRST_BUCKETS};
 use crate::chain::Chain;
-use crate::chains::{find, free, link, link_all, link_from, store, unlink};
-use crate::node::{Link, MOST_NODES, Node};
+use crate::chains::{Position, before, find, link, link_from, unlink};
+use crate::growing::reserve_by_doubling;
+use crate::node::{Link, Node};
+use crate::nodes::Nodes;
 use no_memory::NoMemory;
 use part_raw::TupleRef;
 use std::alloc::Global;
@@ -25,20 +26,16 @@ const MOST_ENTRIES_A_BUCKET: usize = 2;
 // More buckets to an entry than these, and a remove folds one.
 const MOST_BUCKETS_AN_ENTRY: usize = 2;
 
-// The first memory of the heads or of the nodes is for so many at least.
-const FIRST_CAPACITY: usize = 4;
-
 /// At least four buckets, and the nodes of their chains.
 #[derive(Drop)]
 pub struct Table {
     address: Address,
     heads: Vec<Link>,
-    nodes: Vec<Node>,
-    spare: Link,
+    nodes: Nodes,
 }
 
 impl Model for Table {
-    ghost use Rattle.std.specs.Prelude.{◌-◌, ◌^◌, min, vec_len, vec_capacity};
+    ghost use Rattle.std.specs.Prelude.{vec_len, vec_capacity};
     ghost use Rattle.lin_hash.specs.Held.{HeldTable};
     ghost use Rattle.lin_hash.specs.Nodes.{entries_of};
 
@@ -46,7 +43,7 @@ impl Model for Table {
 
     ghost view = { λ t. record {
       entries = entries_of t.nodes.items;
-      nodes = min (vec_capacity t.nodes) (2 ^ 32 - 1);
+      nodes = t.nodes.memory;
       heads = vec_capacity t.heads;
       buckets = vec_len t.heads;
     } };
@@ -71,8 +68,7 @@ impl Table {
         Ok(Table {
             address: Address { level: 0, mark: 0 },
             heads,
-            nodes: Vec::new(alloc),
-            spare: Link::none(),
+            nodes: Nodes::new(alloc),
         })
     }
 
@@ -89,7 +85,7 @@ impl Table {
     pub fn nodes(&self) -> usize
         ensures { result ≡ self.now.nodes }
     {
-        self.nodes.capacity().min(MOST_NODES)
+        self.nodes.memory()
     }
 
     // Makes sure of a node for each of so many entries, and of a head for every two. There are no more nodes than
@@ -110,15 +106,12 @@ impl Table {
         ensures enough_heads { entries ≤ 2 * self.old.heads → self.new.heads ≡ self.old.heads }
         ensures enough_nodes { entries ≤ self.old.nodes → self.new.nodes ≡ self.old.nodes }
     {
-        if entries > MOST_NODES {
-            return Err(NoMemory);
-        }
+        self.nodes.reserve(entries)?;
         let heads = entries.div_ceil(MOST_ENTRIES_A_BUCKET);
-        reserve_by_doubling(&mut self.heads, heads)?;
-        reserve_by_doubling(&mut self.nodes, entries)
+        reserve_by_doubling(&mut self.heads, heads)
     }
 
-    // Gives back the nodes that are not in use, and the spare heads.
+    // Gives back the memory of nodes and of heads that is not used.
     pub fn release_spares(&mut self)
         ensures entries { self.new.entries ≡ self.old.entries }
         ensures heads { self.new.buckets ≤ self.new.heads }
@@ -127,24 +120,8 @@ impl Table {
         ensures fewer_nodes { self.new.nodes ≤ self.old.nodes }
         ensures buckets { self.new.buckets ≡ self.old.buckets }
     {
-        if self.spare.place().is_some() {
-            self.close_up();
-        }
-        self.nodes.shrink_to_fit();
+        self.nodes.release_spares();
         self.heads.shrink_to_fit();
-    }
-
-    // Moves the nodes in use together, and links them anew.
-    fn close_up(&mut self)
-        ensures entries { self.new.entries ≡ self.old.entries }
-        ensures nodes { self.new.nodes ≡ self.old.nodes }
-        ensures heads { self.new.heads ≡ self.old.heads }
-        ensures buckets { self.new.buckets ≡ self.old.buckets }
-    {
-        self.nodes.retain(|node| node.in_use);
-        self.spare = Link::none();
-        self.heads.fill(Link::none());
-        link_all(&mut self.nodes, &mut self.heads, self.address);
     }
 
     // Puts an entry in, and splits a bucket where there are then more entries than twice the buckets: `len` of
@@ -191,7 +168,7 @@ impl Table {
         ensures { IsSameBag (chain_rest result) (with_hash hash self.now.entries) }
     {
         let bucket = self.address.bucket(hash);
-        Chain::new(hash, &self.nodes, self.heads[bucket])
+        Chain::new(hash, self.nodes.as_slice(), self.heads[bucket])
     }
 
     // Puts an entry into the bucket of its hash.
@@ -202,13 +179,12 @@ impl Table {
         ensures heads { self.new.heads ≡ self.old.heads }
         ensures buckets { self.new.buckets ≡ self.old.buckets }
     {
-        let node = Node {
+        let place = self.nodes.len();
+        self.nodes.push(Node {
             hash,
             reference: r,
             next: Link::none(),
-            in_use: true,
-        };
-        let place = store(&mut self.nodes, &mut self.spare, node);
+        });
         link(&mut self.nodes, &mut self.heads, self.address, place);
     }
 
@@ -220,10 +196,56 @@ impl Table {
         ensures heads { self.new.heads ≡ self.old.heads }
         ensures buckets { self.new.buckets ≡ self.old.buckets }
     {
+        let last = self.pop();
+        if last != (hash, r) {
+            self.replace(hash, r, last);
+        }
+    }
+
+    // Takes the last node off, and gives its entry.
+    fn pop(&mut self) -> (u64, TupleRef)
+        requires { 0 < length self.old.entries }
+        ensures entries { self.old.entries ≡ self.new.entries ++ result ∷ [] }
+        ensures nodes { self.new.nodes ≡ self.old.nodes }
+        ensures heads { self.new.heads ≡ self.old.heads }
+        ensures buckets { self.new.buckets ≡ self.old.buckets }
+    {
+        let place = self.nodes.len() - 1;
+        let node = self.nodes.get(place);
+        let bucket = self.address.bucket(node.hash);
+        let behind = before(&self.nodes, self.heads[bucket], place);
+        unlink(
+            &mut self.nodes,
+            &mut self.heads,
+            bucket,
+            Position { behind, place },
+        );
+        self.nodes.pop();
+        (node.hash, node.reference)
+    }
+
+    // Puts an entry where another one is, which goes.
+    fn replace(&mut self, hash: u64, r: TupleRef, by: (u64, TupleRef))
+        requires { Contains self.old.entries (hash, r) }
+        ensures entries { IsSameBag ((hash, r) ∷ self.new.entries) (by ∷ self.old.entries) }
+        ensures nodes { self.new.nodes ≡ self.old.nodes }
+        ensures heads { self.new.heads ≡ self.old.heads }
+        ensures buckets { self.new.buckets ≡ self.old.buckets }
+    {
         let bucket = self.address.bucket(hash);
         let at = find(&self.nodes, self.heads[bucket], hash, r);
         unlink(&mut self.nodes, &mut self.heads, bucket, at);
-        free(&mut self.nodes, &mut self.spare, at.place);
+        let (hash, reference) = by;
+        let next = Link::none();
+        self.nodes.put(
+            at.place,
+            Node {
+                hash,
+                reference,
+                next,
+            },
+        );
+        link(&mut self.nodes, &mut self.heads, self.address, at.place);
     }
 
     // Shares the bucket at the mark out between itself and a new last bucket.
@@ -254,21 +276,4 @@ impl Table {
             link_from(&mut self.nodes, &mut self.heads, self.address, last);
         }
     }
-}
-
-// Makes sure of memory for so many elements. Where it has to grow, it comes to twice as much at least: so all growths
-// together move no more elements than there is memory for in the end.
-fn reserve_by_doubling<T>(elements: &mut Vec<T>, wanted: usize) -> Result<(), NoMemory>
-    ensures items { elements.new.items ≡ elements.old.items }
-    ensures len { vec_len elements.new ≡ vec_len elements.old }
-    ensures ok { OnOk result (wanted ≤ vec_capacity elements.new) }
-    ensures grown { StaysOrDoubles (vec_capacity elements.old) (vec_capacity elements.new) }
-    ensures enough { wanted ≤ vec_capacity elements.old → vec_capacity elements.new ≡ vec_capacity elements.old }
-{
-    let capacity = elements.capacity();
-    if wanted > capacity {
-        let doubled = wanted.max(2 * capacity).max(FIRST_CAPACITY);
-        elements.reserve_exact(doubled - elements.len())?;
-    }
-    Ok(())
 }

@@ -13,7 +13,7 @@ use mm_index::ExactIndex;
 // A tree keeps so few spare nodes, however few are in use.
 const FEW_NODES: usize = 64;
 
-// A hash keeps memory for so few nodes, of 24 bytes each, however few entries it has.
+// A hash keeps memory for so few nodes, of 16 bytes each, however few entries it has.
 const FEW_HASH_NODES: usize = 4_096;
 
 // And for so many an entry: its vectors double as they grow, so twice what is used is as it should be.

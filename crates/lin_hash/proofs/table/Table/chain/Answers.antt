@@ -26,7 +26,7 @@ new-requires c =
     let chain = hung-chain t.address.level t.address.mark t.nodes.items t.heads.items h c.args.hash b c.bucket-bucket.ensures in
     let short = hung-chain_short t.address.level t.address.mark t.nodes.items t.heads.items h c.args.hash b c.bucket-bucket.ensures in
     let ends = EndsWithin-from_chain (length t.nodes.items) t.nodes.items (head_at t.heads.items b) (get_or h.chains b []) chain short in
-    subst (λ (ns : List Node). EndsWithin (length ns) ns c.index.result.now) (sym c.deref.ensures.value)
+    subst (λ (ns : List Node). EndsWithin (length ns) ns c.index.result.now) (sym c.as_slice.ensures)
     (subst (λ (l : Link). EndsWithin (length t.nodes.items) t.nodes.items l) (sym head) ends)
 
 pub returns : goal.returns
@@ -41,4 +41,4 @@ returns c =
     let walk : entries_from (length t.nodes.items) t.nodes.items (head_at t.heads.items b) ≡ map entry_in (get_or h.chains b []) =
     entries_from-chain (length t.nodes.items) t.nodes.items (head_at t.heads.items b) (get_or h.chains b []) chain short in
     let all = IsSameBag-hung t.address.level t.address.mark t.nodes.items t.heads.items h c.args.hash b c.bucket-bucket.ensures in
-    rw (c.new.ensures, c.deref.ensures.value, head, walk, ← ap (λ t. t.entries) c.self.view_is) all
+    rw (c.new.ensures, c.as_slice.ensures, head, walk, ← ap (λ t. t.entries) c.self.view_is) all

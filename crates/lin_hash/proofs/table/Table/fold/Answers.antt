@@ -7,5 +7,5 @@ link_from-requires-clause-loose c =
     let h = c.self.invariant.hung in
     let a = c.lowered-self-inside.result in
     let split = IsSplit-lowered t.address.level t.address.mark a.level a.mark h.chains h.addressed c.lowered-self-inside.ensures.back c.lowered-self-inside.ensures.halved in
-    rw (c.deref_mut.ensures.value, c.deref_mut-in-Some.ensures.value)
+    rw c.deref_mut.ensures.value
     (AreHung-fold t.address.level t.address.mark a.level a.mark t.nodes.items t.heads.items c.pop.new.self.items c.in-Some.last h c.in-Some.ensures.items split)

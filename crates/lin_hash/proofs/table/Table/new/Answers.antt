@@ -1,6 +1,6 @@
 use Rattle.std.proofs.Common.{◌≡◌, ◌∙◌, ap, replicate, arith}
 use Rattle.lin_hash.specs.Nodes.{no_link}
-use Rattle.lin_hash.proofs.Taken.{AreHung-new, AreSpare-new}
+use Rattle.lin_hash.proofs.Taken.{AreHung-new}
 use Rattle.lin_hash.proofs.table.Table.new.Goals as goal
 
 pub invariant_of-result : goal.invariant_of-result
@@ -9,6 +9,5 @@ invariant_of-result c =
     let heads : c.loop.heads.items ≡ replicate 4 no_link = c.loop.invariant ∙ ap (λ n. replicate n no_link) four in
     record {
       hung = rw (heads, c.new.ensures.items) AreHung-new;
-      spare = rw (c.none-2.ensures, c.new.ensures.items) AreSpare-new;
       few = rw c.new.ensures.items (omega arith);
     }

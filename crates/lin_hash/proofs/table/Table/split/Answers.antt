@@ -16,4 +16,4 @@ link_from-requires-clause-loose c =
     let last : leads_to c.none-2.result ≡ None = ap leads_to c.none-2.ensures in
     let buckets = ap (λ v. v.buckets) c.self.view_is in
     let few : length t.heads.items < 2 ^ 32 = omega (arith, buckets, c.requires.few, t.heads.ok.0) in
-    (get_or h.chains t.address.mark [], (rw (c.deref_mut.ensures.value, first) (split-chain t.address.level t.address.mark t.nodes.items t.heads.items h)), (rw (c.deref_mut.ensures.value, c.deref_mut-2.ensures.value, c.push_reserved.ensures.items) (AreHung-raised t.address.level t.address.mark t.nodes.items t.heads.items h c.replace-first.new.dest c.none-2.result none last a.level a.mark c.raised-self-inside.ensures.next c.raised-self-inside.ensures.doubled few)))
+    (get_or h.chains t.address.mark [], (rw first (split-chain t.address.level t.address.mark t.nodes.items t.heads.items h)), (rw (c.deref_mut.ensures.value, c.push_reserved.ensures.items) (AreHung-raised t.address.level t.address.mark t.nodes.items t.heads.items h c.replace-first.new.dest c.none-2.result none last a.level a.mark c.raised-self-inside.ensures.next c.raised-self-inside.ensures.doubled few)))
