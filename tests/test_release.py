@@ -12,7 +12,7 @@ import unittest
 import harness
 
 # What ./run may use on a machine without the toolchain.
-PLAIN = ("bash", "cat", "dirname", "env", "sha256sum")
+PLAIN = ("bash", "cat", "dirname", "env", "readlink", "sha256sum")
 TOOLCHAIN = (harness.ROOT / "release" / "toolchain").read_text()
 # What the program tells of its version.
 TOLD = f"mmdb {harness.VERSION}\n".encode()
@@ -83,6 +83,15 @@ class Runs(Copies):
         ran = self.command("run", stream=stream)
         self.assertEqual((ran.returncode, ran.stdout, ran.stderr), (0, answers, b""))
 
+    def test_it_follows_links(self):
+        links = self.top.parent / "links"
+        links.mkdir()
+        (links / "first").symlink_to(self.top / "run")
+        (links / "second").symlink_to("first")
+        for link in ("first", "second"):
+            ran = subprocess.run([links / link, "--version"], capture_output=True, timeout=harness.SECONDS, check=False, env={"PATH": str(self.tools)})
+            self.assertEqual((ran.returncode, ran.stdout, ran.stderr), (0, TOLD, b""))
+
     def test_with_other_sources_and_no_toolchain_nothing_runs(self):
         self.change("crates/mm_lang/src/lib.rt")
         self.check_refused()
@@ -102,6 +111,9 @@ class Runs(Copies):
         first = self.command("run", "--version", PATH=path)
         self.assertEqual((first.returncode, first.stdout), (0, TOLD))
         crates = self.said_by("scripts/digest", "--crates").split()
+        first_line, second_line = first.stderr.splitlines()[:2]
+        self.assertTrue(first_line.endswith(b"is of these sources as they stand"), first_line)
+        self.assertTrue(second_line.startswith(b"mmdb: so it is built, once, which takes some minutes: its %d crates" % len(crates)), second_line)
         for crate in crates:
             self.assertIn(b": %s proved" % crate, first.stderr)
         self.assertIn(b"mmdb: %d of %d: mmdb proved and built in 0:0" % (len(crates), len(crates)), first.stderr)
