@@ -3,7 +3,7 @@ use Rattle.std.proofs.Common.{◌≡◌, ◌≢◌, ℕ, ◌+◌, ◌-◌, ◌^�
 use Rattle.std.proofs.lemmas.Bool.{ne_eqb, eq-eqb}
 use Rattle.std.proofs.lemmas.Bool.Decides.{eqb_tells}
 use Rattle.std.proofs.lemmas.List.{length-set, length-append, get_or-set_same, get_or-set_other, get_or_append_left}
-use Rattle.lin_hash.specs.declared.node.Link.{Link}
+use Rattle.lin_hash.specs.declared.node.NodeLink.{NodeLink}
 use Rattle.lin_hash.specs.declared.node.Node.{Node}
 use Rattle.lin_hash.specs.Nodes.{leads_to, link_to, node_at, next_at, leading_to}
 use Rattle.lin_hash.specs.Chains.{Placed, place_of, placed_at, Stands, IsChain, last_place}
@@ -41,7 +41,7 @@ module _ (nodes : List Node) (p : ℕ) (n : Node) where
         is = rw same h.is;
       }
 
-  pub IsChain-set : (l : Link) (es : List Placed) → times_at p es ≡ 0 → IsChain nodes l es → IsChain (set nodes p n) l es
+  pub IsChain-set : (l : NodeLink) (es : List Placed) → times_at p es ≡ 0 → IsChain nodes l es → IsChain (set nodes p n) l es
   IsChain-set l [] away h = h
   IsChain-set l (e ∷ es) away h =
       let apart = apart-first p e es away in
@@ -49,7 +49,7 @@ module _ (nodes : List Node) (p : ℕ) (n : Node) where
       (h.0, Stands-set e apart h.1, subst (λ (m : Node). IsChain (set nodes p n) m.next es) (sym same) (IsChain-set (next_at nodes (place_of e)) es (apart-rest p e es away) h.2))
 
 -- only the link of a node changes
-pub Stands-relinked : (nodes : List Node) (p : ℕ) (l : Link) (e : Placed) → Stands nodes e → Stands (set nodes p (leading_to (node_at nodes p) l)) e
+pub Stands-relinked : (nodes : List Node) (p : ℕ) (l : NodeLink) (e : Placed) → Stands nodes e → Stands (set nodes p (leading_to (node_at nodes p) l)) e
 Stands-relinked nodes p l e h =
     elim (eqb_tells (place_of e) p) [
       | inl same ↦
@@ -65,7 +65,7 @@ Stands-relinked nodes p l e h =
     ]
 
 -- more nodes at the end
-pub IsChain-grown : (nodes ns : List Node) (l : Link) (es : List Placed) → IsChain nodes l es → IsChain (nodes ++ ns) l es
+pub IsChain-grown : (nodes ns : List Node) (l : NodeLink) (es : List Placed) → IsChain nodes l es → IsChain (nodes ++ ns) l es
 IsChain-grown nodes ns l [] h = h
 IsChain-grown nodes ns l (e ∷ es) h =
     let inside : place_of e < length nodes = h.1.inside in
@@ -80,7 +80,7 @@ IsChain-grown nodes ns l (e ∷ es) h =
     )
 
 -- a node less at the end, which the chain does not visit
-pub IsChain-front : (nodes : List Node) (n : Node) (l : Link) (es : List Placed) → times_at (length nodes) es ≡ 0 → IsChain (nodes ++ n ∷ []) l es → IsChain nodes l es
+pub IsChain-front : (nodes : List Node) (n : Node) (l : NodeLink) (es : List Placed) → times_at (length nodes) es ≡ 0 → IsChain (nodes ++ n ∷ []) l es → IsChain nodes l es
 IsChain-front nodes n l [] away h = h
 IsChain-front nodes n l (e ∷ es) away h =
     let apart = apart-first (length nodes) e es away in
@@ -96,7 +96,7 @@ IsChain-front nodes n l (e ∷ es) away h =
     )
 
 -- from a link on there is one chain at most
-pub IsChain-unique : (nodes : List Node) (l : Link) (es ds : List Placed) → IsChain nodes l es → IsChain nodes l ds → es ≡ ds
+pub IsChain-unique : (nodes : List Node) (l : NodeLink) (es ds : List Placed) → IsChain nodes l es → IsChain nodes l ds → es ≡ ds
 IsChain-unique nodes l [] [] h k = refl
 IsChain-unique nodes l [] (d ∷ ds) h k = absurd (let e : None ≡ Some (place_of d) = sym h ∙ k.0 in cc)
 IsChain-unique nodes l (e ∷ es) [] h k = absurd (let f : None ≡ Some (place_of e) = sym k ∙ h.0 in cc)
@@ -120,14 +120,14 @@ times_at-last q (e ∷ f ∷ es) last =
     omega (arith, all, rest)
 
 -- the node behind the last of `before` is taken out: that one leads to the node after it
-pub IsChain-unlinked : (nodes : List Node) (l : Link) (before : List Placed) (q : ℕ) (x : Placed) (after : List Placed) → last_place before ≡ Some q → times_at q after ≡ 0 → times_at q before ≤ 1 → IsChain nodes l (before ++ x ∷ after) → IsChain (set nodes q (leading_to (node_at nodes q) (next_at nodes (place_of x)))) l (before ++ after)
+pub IsChain-unlinked : (nodes : List Node) (l : NodeLink) (before : List Placed) (q : ℕ) (x : Placed) (after : List Placed) → last_place before ≡ Some q → times_at q after ≡ 0 → times_at q before ≤ 1 → IsChain nodes l (before ++ x ∷ after) → IsChain (set nodes q (leading_to (node_at nodes q) (next_at nodes (place_of x)))) l (before ++ after)
 IsChain-unlinked nodes l [] q x after last away once h = absurd (cc)
 IsChain-unlinked nodes l (e ∷ []) q x after last away once h =
     let at : place_of e ≡ q = cc in
     let inside : q < length nodes = (let i = h.1.inside in omega arith) in
     let n : Node = leading_to (node_at nodes q) (next_at nodes (place_of x)) in
     let now : next_at (set nodes q n) (place_of e) ≡ next_at nodes (place_of x) = rw at (ap (λ m. m.next) (get_or-set_same nodes q n _ inside)) in
-    (h.0, Stands-relinked nodes q (next_at nodes (place_of x)) e h.1, subst (λ (k : Link). IsChain (set nodes q n) k after) (sym now) (IsChain-set nodes q n (next_at nodes (place_of x)) after away h.2.2))
+    (h.0, Stands-relinked nodes q (next_at nodes (place_of x)) e h.1, subst (λ (k : NodeLink). IsChain (set nodes q n) k after) (sym now) (IsChain-set nodes q n (next_at nodes (place_of x)) after away h.2.2))
 IsChain-unlinked nodes l (e ∷ f ∷ before) q x after last away once h =
     let all = count_by-cons (λ d. place_of d == q) e (f ∷ before) in
     let n : Node = leading_to (node_at nodes q) (next_at nodes (place_of x)) in

@@ -8,7 +8,7 @@ use Rattle.std.proofs.Math.Seq.{get_or-append_seam}
 use Rattle.mm_index.specs.Bag.{IsSameBag}
 use Rattle.mm_index.proofs.Bags.{IsSameBag-push}
 use Rattle.lin_hash.specs.Address.{bucket_of}
-use Rattle.lin_hash.specs.declared.node.Link.{Link}
+use Rattle.lin_hash.specs.declared.node.NodeLink.{NodeLink}
 use Rattle.lin_hash.specs.declared.node.Node.{Node}
 use Rattle.lin_hash.specs.Nodes.{leads_to, link_to, head_at, node_at, next_at, leading_to}
 use Rattle.lin_hash.specs.Chains.{Placed, place_of, placed_at, all_placed, Stands, IsChain, AreChains, AreHung}
@@ -26,14 +26,14 @@ times_at-chain p chains i inside none =
     omega (arith, one, all, none)
 
 -- the chains where a node changes that hangs on none of them
-pub AreChains-set : (nodes : List Node) (heads : List Link) (chains : List (List Placed)) (p : ℕ) (n : Node) → times_at p (joined chains) ≡ 0 → AreChains nodes heads chains → AreChains (set nodes p n) heads chains
+pub AreChains-set : (nodes : List Node) (heads : List NodeLink) (chains : List (List Placed)) (p : ℕ) (n : Node) → times_at p (joined chains) ≡ 0 → AreChains nodes heads chains → AreChains (set nodes p n) heads chains
 AreChains-set nodes heads chains p n none h = record {
   number = h.number;
   each = λ i inside. IsChain-set nodes p n (head_at heads i) (get_or chains i []) (times_at-chain p chains i inside none) (h.each i inside);
 }
 
 -- where one chain changes
-pub AreChains-change : (nodes now : List Node) (heads : List Link) (chains : List (List Placed)) (b : ℕ) (l : Link) (es : List Placed) → b < length chains → AreChains nodes heads chains → ((i : ℕ) → i < length chains → i ≢ b → IsChain now (head_at heads i) (get_or chains i [])) → IsChain now l es → AreChains now (set heads b l) (set chains b es)
+pub AreChains-change : (nodes now : List Node) (heads : List NodeLink) (chains : List (List Placed)) (b : ℕ) (l : NodeLink) (es : List Placed) → b < length chains → AreChains nodes heads chains → ((i : ℕ) → i < length chains → i ≢ b → IsChain now (head_at heads i) (get_or chains i [])) → IsChain now l es → AreChains now (set heads b l) (set chains b es)
 AreChains-change nodes now heads chains b l es inside h others new =
     let number = h.number in
     record {
@@ -52,7 +52,7 @@ AreChains-change nodes now heads chains b l es inside h others new =
     }
 
 -- a bucket more at the end
-pub AreChains-push : (nodes : List Node) (heads : List Link) (chains : List (List Placed)) (l : Link) → leads_to l ≡ None → AreChains nodes heads chains → AreChains nodes (heads ++ l ∷ []) (chains ++ [] ∷ [])
+pub AreChains-push : (nodes : List Node) (heads : List NodeLink) (chains : List (List Placed)) (l : NodeLink) → leads_to l ≡ None → AreChains nodes heads chains → AreChains nodes (heads ++ l ∷ []) (chains ++ [] ∷ [])
 AreChains-push nodes heads chains l none h =
     let number = h.number in
     let more_heads = length-append heads (l ∷ []) in
@@ -75,7 +75,7 @@ AreChains-push nodes heads chains l none h =
     }
 
 -- and one less
-pub AreChains-front : (nodes : List Node) (heads : List Link) (l : Link) (chains : List (List Placed)) (last : List Placed) → AreChains nodes (heads ++ l ∷ []) (chains ++ last ∷ []) → AreChains nodes heads chains
+pub AreChains-front : (nodes : List Node) (heads : List NodeLink) (l : NodeLink) (chains : List (List Placed)) (last : List Placed) → AreChains nodes (heads ++ l ∷ []) (chains ++ last ∷ []) → AreChains nodes heads chains
 AreChains-front nodes heads l chains last h =
     let number = h.number in
     let more_heads = length-append heads (l ∷ []) in
@@ -89,7 +89,7 @@ AreChains-front nodes heads l chains last h =
           rw (head, chain) at (h.each i (omega (arith, more_chains)));
     }
 
-module _ (level mark : ℕ) (nodes : List Node) (heads : List Link) (e : Placed) (loose : List Placed) (h : AreHung level mark nodes heads (e ∷ loose)) where
+module _ (level mark : ℕ) (nodes : List Node) (heads : List NodeLink) (e : Placed) (loose : List Placed) (h : AreHung level mark nodes heads (e ∷ loose)) where
   -- a loose node hangs nowhere, and is loose once
   once : times_at (place_of e) loose + times_at (place_of e) (joined h.chains) ≡ 0
   once =
@@ -117,7 +117,7 @@ module _ (level mark : ℕ) (nodes : List Node) (heads : List Link) (e : Placed)
       let there : p < length nodes = stands.inside in
       let now : next_at (set nodes p n) p ≡ head_at heads b = ap (λ m. m.next) (get_or-set_same nodes p n _ there) in
       let front : IsChain (set nodes p n) (link_to p) (e ∷ get_or h.chains b []) =
-      (leads_to-link p few, Stands-relinked nodes p (head_at heads b) e stands, subst (λ (k : Link). IsChain (set nodes p n) k (get_or h.chains b [])) (sym now) (IsChain-set nodes p n (head_at heads b) (get_or h.chains b []) away behind)) in
+      (leads_to-link p few, Stands-relinked nodes p (head_at heads b) e stands, subst (λ (k : NodeLink). IsChain (set nodes p n) k (get_or h.chains b [])) (sym now) (IsChain-set nodes p n (head_at heads b) (get_or h.chains b []) away behind)) in
       record {
         chains = set h.chains b (e ∷ get_or h.chains b []);
         linked =
@@ -135,24 +135,24 @@ module _ (level mark : ℕ) (nodes : List Node) (heads : List Link) (e : Placed)
       }
 
 -- the same, as the code says it
-pub AreHung-link : (level mark : ℕ) (nodes : List Node) (heads : List Link) (e : Placed) (loose : List Placed) (h : AreHung level mark nodes heads (e ∷ loose)) → Stands nodes e → length nodes < 2 ^ 32 → (now : List Node) (now_heads : List Link) → now ≡ set nodes (place_of e) (leading_to (node_at nodes (place_of e)) (head_at heads (bucket_of level mark (node_at nodes (place_of e)).hash))) → now_heads ≡ set heads (bucket_of level mark (node_at nodes (place_of e)).hash) (link_to (place_of e)) → AreHung level mark now now_heads loose
+pub AreHung-link : (level mark : ℕ) (nodes : List Node) (heads : List NodeLink) (e : Placed) (loose : List Placed) (h : AreHung level mark nodes heads (e ∷ loose)) → Stands nodes e → length nodes < 2 ^ 32 → (now : List Node) (now_heads : List NodeLink) → now ≡ set nodes (place_of e) (leading_to (node_at nodes (place_of e)) (head_at heads (bucket_of level mark (node_at nodes (place_of e)).hash))) → now_heads ≡ set heads (bucket_of level mark (node_at nodes (place_of e)).hash) (link_to (place_of e)) → AreHung level mark now now_heads loose
 AreHung-link level mark nodes heads e loose h stands few now now_heads f g =
     let inside = stands.inside in
     rw (f, g) (AreHung-linked level mark nodes heads e loose h (bucket_of level mark (node_at nodes (place_of e)).hash) (ap (λ (d : Placed). bucket_of level mark d.0) stands.is) stands (omega (arith, inside, few)))
 
 -- the bucket of a hash is there
-pub AreHung-inside : (level mark : ℕ) (nodes : List Node) (heads : List Link) (loose : List Placed) (h : AreHung level mark nodes heads loose) (hash b : ℕ) → b ≡ bucket_of level mark hash → b < length heads
+pub AreHung-inside : (level mark : ℕ) (nodes : List Node) (heads : List NodeLink) (loose : List Placed) (h : AreHung level mark nodes heads loose) (hash b : ℕ) → b ≡ bucket_of level mark hash → b < length heads
 AreHung-inside level mark nodes heads loose h hash b at =
     let inside = bucket_of-inside level mark h.chains h.addressed hash b at in
     let number = h.linked.number in
     omega (arith, inside, number)
 
 -- and is what its index gives
-pub AreHung-head : (level mark : ℕ) (nodes : List Node) (heads : List Link) (loose : List Placed) (h : AreHung level mark nodes heads loose) (hash b : ℕ) → b ≡ bucket_of level mark hash → (l : Link) → l ≡ get_or heads b l → l ≡ head_at heads b
+pub AreHung-head : (level mark : ℕ) (nodes : List Node) (heads : List NodeLink) (loose : List Placed) (h : AreHung level mark nodes heads loose) (hash b : ℕ) → b ≡ bucket_of level mark hash → (l : NodeLink) → l ≡ get_or heads b l → l ≡ head_at heads b
 AreHung-head level mark nodes heads loose h hash b at l is = is ∙ get_or_default heads b _ _ (AreHung-inside level mark nodes heads loose h hash b at)
 
 -- a chain that leads somewhere begins there
-pub IsChain-first : (nodes : List Node) (l : Link) (p : ℕ) (es : List Placed) → leads_to l ≡ Some p → IsChain nodes l es → (rest : List Placed) × (es ≡ placed_at nodes p ∷ rest) × Stands nodes (placed_at nodes p) × IsChain nodes (next_at nodes p) rest
+pub IsChain-first : (nodes : List Node) (l : NodeLink) (p : ℕ) (es : List Placed) → leads_to l ≡ Some p → IsChain nodes l es → (rest : List Placed) × (es ≡ placed_at nodes p ∷ rest) × Stands nodes (placed_at nodes p) × IsChain nodes (next_at nodes p) rest
 IsChain-first nodes l p [] is h = absurd (let e : None ≡ Some p = sym h ∙ is in cc)
 IsChain-first nodes l p (e ∷ rest) is h =
     let both : Some (place_of e) ≡ Some p = sym h.0 ∙ is in
@@ -180,7 +180,7 @@ module _ (nodes : List Node) (p : ℕ) (n : Node) (inside : p < length nodes) wh
         is = rw there refl;
       }
 
-  pub AreHung-put : (level mark : ℕ) (heads : List Link) → AreHung level mark nodes heads (placed_at nodes p ∷ []) → AreHung level mark (set nodes p n) heads (placed n p ∷ [])
+  pub AreHung-put : (level mark : ℕ) (heads : List NodeLink) → AreHung level mark nodes heads (placed_at nodes p ∷ []) → AreHung level mark (set nodes p n) heads (placed n p ∷ [])
   AreHung-put level mark heads h = record {
     chains = h.chains;
     linked = AreChains-set nodes heads h.chains p n (chains-without level mark nodes heads (placed_at nodes p) [] h) h.linked;
@@ -216,7 +216,7 @@ module _ (nodes : List Node) (n : Node) where
         is = rw last-there refl;
       }
 
-  pub AreHung-grown : (level mark : ℕ) (heads : List Link) → AreHung level mark nodes heads [] → AreHung level mark (nodes ++ n ∷ []) heads (last_entry ∷ [])
+  pub AreHung-grown : (level mark : ℕ) (heads : List NodeLink) → AreHung level mark nodes heads [] → AreHung level mark (nodes ++ n ∷ []) heads (last_entry ∷ [])
   AreHung-grown level mark heads h = record {
     chains = h.chains;
     linked =
@@ -234,7 +234,7 @@ module _ (nodes : List Node) (n : Node) where
     addressed = h.addressed;
   }
 
-  pub AreHung-popped : (level mark : ℕ) (heads : List Link) → AreHung level mark (nodes ++ n ∷ []) heads (last_entry ∷ []) → AreHung level mark nodes heads []
+  pub AreHung-popped : (level mark : ℕ) (heads : List NodeLink) → AreHung level mark (nodes ++ n ∷ []) heads (last_entry ∷ []) → AreHung level mark nodes heads []
   AreHung-popped level mark heads h =
       let none = chains-without level mark (nodes ++ n ∷ []) heads last_entry [] h in
       record {

@@ -1,4 +1,5 @@
 pub mod Addresses
+pub mod InBlocks
 pub mod Buckets
 pub mod Hung
 pub mod Joined

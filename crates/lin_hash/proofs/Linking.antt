@@ -4,7 +4,7 @@ use Rattle.std.specs.List.{Contains}
 use Rattle.std.proofs.lemmas.List.{length-set, length-map}
 use Rattle.std.proofs.lemmas.List.Sums.{count_by-le-length}
 use Rattle.lin_hash.specs.Address.{bucket_of}
-use Rattle.lin_hash.specs.declared.node.Link.{Link}
+use Rattle.lin_hash.specs.declared.node.NodeLink.{NodeLink}
 use Rattle.lin_hash.specs.declared.node.Node.{Node}
 use Rattle.lin_hash.specs.Nodes.{leads_to, link_to, head_at, node_at, next_at, leading_to, entries_from}
 use Rattle.lin_hash.specs.Chains.{Placed, place_of, entry_in, placed_at, all_placed, Stands, IsChain, AreHung, last_place}
@@ -17,7 +17,7 @@ use Rattle.common_lemmas.proofs.Counts.{count_by-true}
 use Rattle.lin_hash.proofs.Walks.{entries_from-chain}
 
 -- no more nodes are loose than there are
-loose-short : (level mark : ℕ) (nodes : List Node) (heads : List Link) (loose : List Placed) → AreHung level mark nodes heads loose → length loose ≤ length nodes
+loose-short : (level mark : ℕ) (nodes : List Node) (heads : List NodeLink) (loose : List Placed) → AreHung level mark nodes heads loose → length loose ≤ length nodes
 loose-short level mark nodes heads loose h =
     let held = h.held.count (λ e. true) in
     let parts = count_by-append (λ e. true) loose (joined h.chains) in
@@ -26,12 +26,12 @@ loose-short level mark nodes heads loose h =
     let some = length-placed 0 nodes in
     omega (arith, held, parts, own, most, some)
 
-module _ (level mark : ℕ) (nodes : List Node) (heads : List Link) (l : Link) (loose : List Placed) (chain : IsChain nodes l loose) (h : AreHung level mark nodes heads loose) (p : ℕ) (is : leads_to l ≡ Some p) where
+module _ (level mark : ℕ) (nodes : List Node) (heads : List NodeLink) (l : NodeLink) (loose : List Placed) (chain : IsChain nodes l loose) (h : AreHung level mark nodes heads loose) (p : ℕ) (is : leads_to l ≡ Some p) where
   -- the first loose node
   pub Stands-loose : Stands nodes (placed_at nodes p)
   Stands-loose = (IsChain-first nodes l p loose is chain).2
 
-  module _ (few : length nodes < 2 ^ 32) (now : List Node) (now_heads : List Link) (f : now ≡ set nodes p (leading_to (node_at nodes p) (head_at heads (bucket_of level mark (node_at nodes p).hash)))) (g : now_heads ≡ set heads (bucket_of level mark (node_at nodes p).hash) (link_to p)) where
+  module _ (few : length nodes < 2 ^ 32) (now : List Node) (now_heads : List NodeLink) (f : now ≡ set nodes p (leading_to (node_at nodes p) (head_at heads (bucket_of level mark (node_at nodes p).hash)))) (g : now_heads ≡ set heads (bucket_of level mark (node_at nodes p).hash) (link_to p)) where
     -- is linked, and those behind it are left
     pub AreHung-step : (rest : List Placed) × IsChain now (next_at nodes p) rest × AreHung level mark now now_heads rest
     AreHung-step =

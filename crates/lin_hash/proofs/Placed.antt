@@ -2,7 +2,7 @@
 use Rattle.std.proofs.Common.{◌≡◌, ℕ, zero, suc, ◌+◌, ◌<◌, ◌≤◌, Bool, cond, ◌==◌, List, [], ◌∷◌, ◌++◌, length, get_or, set, map, refl, sym, ap, ◌∙◌, arith, inl, inr}
 use Rattle.std.specs.List.{count_by}
 use Rattle.std.proofs.lemmas.Bool.Decides.{eqb_tells}
-use Rattle.lin_hash.specs.declared.node.Link.{Link}
+use Rattle.lin_hash.specs.declared.node.NodeLink.{NodeLink}
 use Rattle.lin_hash.specs.declared.node.Node.{Node}
 use Rattle.lin_hash.specs.Nodes.{node_at, leading_to, entry_of, entries_of}
 use Rattle.lin_hash.specs.Chains.{Placed, place_of, entry_in, placed_from}
@@ -38,7 +38,7 @@ count_by-placed_set test k (x ∷ ns) (suc i) n j e h =
     omega (arith, new, old, rest)
 
 -- only a link changes
-pub placed-relinked : (k : ℕ) (ns : List Node) (i : ℕ) (l : Link) → placed_from k (set ns i (leading_to (node_at ns i) l)) ≡ placed_from k ns
+pub placed-relinked : (k : ℕ) (ns : List Node) (i : ℕ) (l : NodeLink) → placed_from k (set ns i (leading_to (node_at ns i) l)) ≡ placed_from k ns
 placed-relinked k [] i l = refl
 placed-relinked k (x ∷ ns) zero l = refl
 placed-relinked k (x ∷ ns) (suc i) l = ap (λ r. placed x k ∷ r) (placed-relinked (k + 1) ns i l)
@@ -48,7 +48,7 @@ pub entries-placed : (k : ℕ) (ns : List Node) → map entry_in (placed_from k 
 entries-placed k [] = refl
 entries-placed k (x ∷ ns) = ap (λ r. entry_of x ∷ r) (entries-placed (k + 1) ns)
 
-pub entries-relinked : (ns : List Node) (i : ℕ) (l : Link) → entries_of (set ns i (leading_to (node_at ns i) l)) ≡ entries_of ns
+pub entries-relinked : (ns : List Node) (i : ℕ) (l : NodeLink) → entries_of (set ns i (leading_to (node_at ns i) l)) ≡ entries_of ns
 entries-relinked ns i l =
     sym (entries-placed 0 (set ns i (leading_to (node_at ns i) l))) ∙ ap (map entry_in) (placed-relinked 0 ns i l) ∙ entries-placed 0 ns
 

@@ -11,7 +11,7 @@ use Rattle.mm_index.specs.Bag.{IsSameBag, with_hash}
 use Rattle.mm_index.proofs.Bags.{IsSameBag-trans, IsSameBag-sym, IsSameBag-from_same, IsSameBag-middle, IsSameBag-with_hash, Contains-with_hash, Contains-from_with_hash}
 use Rattle.mm_index.proofs.Refs.{Contains-same_refs}
 use Rattle.lin_hash.specs.Address.{bucket_by, bucket_of, IsAddressed}
-use Rattle.lin_hash.specs.declared.node.Link.{Link}
+use Rattle.lin_hash.specs.declared.node.NodeLink.{NodeLink}
 use Rattle.lin_hash.specs.declared.node.Node.{Node}
 use Rattle.lin_hash.specs.Nodes.{leads_to, head_at, node_at, next_at, entries_of}
 use Rattle.lin_hash.specs.Chains.{Placed, place_of, placed_at, entry_in, all_placed, Stands, IsChain, AreChains, AreHung, HoldsEntry, Visits}
@@ -43,12 +43,12 @@ times_at-others p chains b i inside within apart most here =
     rw same at less
 
 -- each node of a chain stands there
-chain-stands : (nodes : List Node) (l : Link) (es : List Placed) → IsChain nodes l es → (k : ℕ) (d : Placed) → k < length es → Stands nodes (get_or es k d)
+chain-stands : (nodes : List Node) (l : NodeLink) (es : List Placed) → IsChain nodes l es → (k : ℕ) (d : Placed) → k < length es → Stands nodes (get_or es k d)
 chain-stands nodes l [] h k d i = absurd (omega arith)
 chain-stands nodes l (e ∷ es) h zero d i = h.1
 chain-stands nodes l (e ∷ es) h (suc k) d i = chain-stands nodes (next_at nodes (place_of e)) es h.2 k d (omega arith)
 
-module _ (level mark : ℕ) (nodes : List Node) (heads : List Link) (h : AreHung level mark nodes heads []) where
+module _ (level mark : ℕ) (nodes : List Node) (heads : List NodeLink) (h : AreHung level mark nodes heads []) where
   -- a place stands once in all chains
   pub times_at-most : (p : ℕ) → times_at p (joined h.chains) ≤ 1
   times_at-most p = let held = h.held.count (λ d. place_of d == p) in let most = times_at-once 0 nodes p in omega (arith, held, most)
@@ -106,7 +106,7 @@ module _ (level mark : ℕ) (nodes : List Node) (heads : List Link) (h : AreHung
       (get_or h.chains b [], chain, hung-chain_short hash b at, subst (Contains (get_or h.chains b [])) same held)
 
   -- a node leaves its chain
-  pub AreHung-without : (b : ℕ) (x : Placed) (before after : List Placed) (q_nodes : List Node) (l : Link) → b < length h.chains → b ≡ bucket_of level mark x.0 → get_or h.chains b [] ≡ before ++ x ∷ after → all_placed q_nodes ≡ all_placed nodes → ((i : ℕ) → i < length h.chains → i ≢ b → IsChain q_nodes (head_at heads i) (get_or h.chains i [])) → IsChain q_nodes l (before ++ after) → AreHung level mark q_nodes (set heads b l) (x ∷ [])
+  pub AreHung-without : (b : ℕ) (x : Placed) (before after : List Placed) (q_nodes : List Node) (l : NodeLink) → b < length h.chains → b ≡ bucket_of level mark x.0 → get_or h.chains b [] ≡ before ++ x ∷ after → all_placed q_nodes ≡ all_placed nodes → ((i : ℕ) → i < length h.chains → i ≢ b → IsChain q_nodes (head_at heads i) (get_or h.chains i [])) → IsChain q_nodes l (before ++ after) → AreHung level mark q_nodes (set heads b l) (x ∷ [])
   AreHung-without b x before after q_nodes l inside at is same others new =
       let bag : IsSameBag (get_or h.chains b []) (x ∷ (before ++ after)) = rw is (IsSameBag-middle before after x) in
       record {
@@ -124,7 +124,7 @@ module _ (level mark : ℕ) (nodes : List Node) (heads : List Link) (h : AreHung
       }
 
 -- a bucket that was emptied, and its nodes are loose
-module _ (level mark : ℕ) (nodes : List Node) (heads : List Link) (h : AreHung level mark nodes heads []) where
+module _ (level mark : ℕ) (nodes : List Node) (heads : List NodeLink) (h : AreHung level mark nodes heads []) where
   emptied : IsAddressed level mark (set h.chains mark [])
   emptied = record {
     low = h.addressed.low;
@@ -139,7 +139,7 @@ module _ (level mark : ℕ) (nodes : List Node) (heads : List Link) (h : AreHung
   pub split-chain : IsChain nodes (head_at heads mark) (get_or h.chains mark [])
   split-chain = h.linked.each mark (mark-inside level mark h.chains h.addressed)
 
-  module _ (l k : Link) (l_none : leads_to l ≡ None) (k_none : leads_to k ≡ None) where
+  module _ (l k : NodeLink) (l_none : leads_to l ≡ None) (k_none : leads_to k ≡ None) where
     split-linked : AreChains nodes (set heads mark l ++ k ∷ []) (set h.chains mark [] ++ [] ∷ [])
     split-linked =
         AreChains-push nodes (set heads mark l) (set h.chains mark []) k k_none

@@ -9,7 +9,7 @@ use Rattle.std.proofs.lemmas.List.Elements.{All-nil}
 use Rattle.mm_index.specs.Bag.{IsSameBag}
 use Rattle.mm_index.proofs.Bags.{IsSameBag-trans, IsSameBag-from_same}
 use Rattle.lin_hash.specs.Address.{bucket_by, bucket_of, IsPlaced, IsAddressed}
-use Rattle.lin_hash.specs.declared.node.Link.{Link}
+use Rattle.lin_hash.specs.declared.node.NodeLink.{NodeLink}
 use Rattle.lin_hash.specs.declared.node.Node.{Node}
 use Rattle.lin_hash.specs.Nodes.{leads_to, no_link, link_to, head_at, node_at, next_at, leading_to, entry_of, entries_of, relinked_behind, relinked_head}
 use Rattle.lin_hash.specs.Chains.{Placed, place_of, placed_at, entry_in, all_placed, Stands, IsChain, AreChains, AreHung, last_place}
@@ -23,11 +23,11 @@ use Rattle.lin_hash.proofs.Buckets.{IsPlaced-push, IsPlaced-front}
 use Rattle.lin_hash.proofs.Levels.{bucket_of-inside, IsSplit, IsSplit-back, IsSplit-down, IsAddressed-fold, IsAddressed-new}
 
 -- each node of a chain stands there
-pub IsChain-stands : (nodes : List Node) (l : Link) (before : List Placed) (x : Placed) (after : List Placed) → IsChain nodes l (before ++ x ∷ after) → Stands nodes x
+pub IsChain-stands : (nodes : List Node) (l : NodeLink) (before : List Placed) (x : Placed) (after : List Placed) → IsChain nodes l (before ++ x ∷ after) → Stands nodes x
 IsChain-stands nodes l [] x after h = h.1
 IsChain-stands nodes l (e ∷ before) x after h = IsChain-stands nodes (next_at nodes (place_of e)) before x after h.2
 
-pub IsChain-last : (nodes : List Node) (l : Link) (before rest : List Placed) (q : ℕ) → last_place before ≡ Some q → IsChain nodes l (before ++ rest) → q < length nodes
+pub IsChain-last : (nodes : List Node) (l : NodeLink) (before rest : List Placed) (q : ℕ) → last_place before ≡ Some q → IsChain nodes l (before ++ rest) → q < length nodes
 IsChain-last nodes l [] rest q last h = absurd (cc)
 IsChain-last nodes l (e ∷ []) rest q last h =
     let at : place_of e ≡ q = cc in
@@ -38,7 +38,7 @@ last_place-some : (e : Placed) (es : List Placed) → (q : ℕ) × (last_place (
 last_place-some e [] = (place_of e, refl)
 last_place-some e (f ∷ es) = last_place-some f es
 
-module _ (level mark : ℕ) (nodes : List Node) (heads : List Link) (h : AreHung level mark nodes heads []) (x : Placed) (b : ℕ) (at : b ≡ bucket_of level mark x.0) where
+module _ (level mark : ℕ) (nodes : List Node) (heads : List NodeLink) (h : AreHung level mark nodes heads []) (x : Placed) (b : ℕ) (at : b ≡ bucket_of level mark x.0) where
   AreHung-behind : (before after : List Placed) (q : ℕ) → last_place before ≡ Some q → IsChain nodes (head_at heads b) (before ++ x ∷ after) → AreHung level mark (set nodes q (leading_to (node_at nodes q) (next_at nodes (place_of x)))) heads (x ∷ [])
   AreHung-behind before after q last chain =
       let inside : b < length h.chains = bucket_of-inside level mark h.chains h.addressed x.0 b at in
@@ -53,7 +53,7 @@ module _ (level mark : ℕ) (nodes : List Node) (heads : List Link) (h : AreHung
       let hung = AreHung-without level mark nodes heads h b x before after (set nodes q n) (head_at heads b) inside at is (placed-relinked 0 nodes q (next_at nodes (place_of x)))
       (λ i within apart. IsChain-set nodes q n (head_at heads i) (get_or h.chains i []) (times_at-others q h.chains b i inside within apart most (omega (arith, here, one))) (h.linked.each i within))
       (IsChain-unlinked nodes (head_at heads b) before q x after last (omega (arith, here, one, behind, bucket, all, most)) (omega (arith, here, bucket, all, most)) chain) in
-      subst (λ (hs : List Link). AreHung level mark (set nodes q n) hs (x ∷ [])) (set-get_or heads b (record { place = 0 })) hung
+      subst (λ (hs : List NodeLink). AreHung level mark (set nodes q n) hs (x ∷ [])) (set-get_or heads b (record { place = 0 })) hung
 
   AreHung-front : (after : List Placed) → IsChain nodes (head_at heads b) (x ∷ after) → AreHung level mark nodes (set heads b (next_at nodes (place_of x))) (x ∷ [])
   AreHung-front after chain =
@@ -86,11 +86,11 @@ module _ (level mark : ℕ) (nodes : List Node) (heads : List Link) (h : AreHung
           | Some q ↦ λ e. (IsChain-last nodes (head_at heads b) before (x ∷ after) q (sym e) chain)
         ] is
 
-pub length-taken : (nodes : List Node) (behind : Option ℕ) (l : Link) → length (relinked_behind nodes behind l) ≡ length nodes
+pub length-taken : (nodes : List Node) (behind : Option ℕ) (l : NodeLink) → length (relinked_behind nodes behind l) ≡ length nodes
 length-taken nodes None l = refl
 length-taken nodes (Some q) l = length-set nodes q (leading_to (node_at nodes q) l)
 
-pub length-taken_head : (heads : List Link) (b : ℕ) (behind : Option ℕ) (l : Link) → length (relinked_head heads b behind l) ≡ length heads
+pub length-taken_head : (heads : List NodeLink) (b : ℕ) (behind : Option ℕ) (l : NodeLink) → length (relinked_head heads b behind l) ≡ length heads
 length-taken_head heads b None l = length-set heads b l
 length-taken_head heads b (Some q) l = refl
 
@@ -100,7 +100,7 @@ last_of xs d some =
     let back : length xs - 1 + 1 ≡ length xs = omega arith in
     sym (take_all (length xs - 1 + 1) xs (omega arith)) ∙ take_more xs (length xs - 1) d (omega arith)
 
-pub AreHung-fold : (level mark below under : ℕ) (nodes : List Node) (heads hs : List Link) (l : Link) (h : AreHung level mark nodes heads []) → heads ≡ hs ++ l ∷ [] → IsSplit below under h.chains → (loose : List Placed) × IsChain nodes l loose × AreHung below under nodes hs loose
+pub AreHung-fold : (level mark below under : ℕ) (nodes : List Node) (heads hs : List NodeLink) (l : NodeLink) (h : AreHung level mark nodes heads []) → heads ≡ hs ++ l ∷ [] → IsSplit below under h.chains → (loose : List Placed) × IsChain nodes l loose × AreHung below under nodes hs loose
 AreHung-fold level mark below under nodes heads hs l h is split =
     let n : ℕ = length h.chains - 1 in
     let cs : List (List Placed) = take n h.chains in
@@ -149,7 +149,7 @@ joined-replicate : (n : ℕ) → joined {A = Placed} (replicate n []) ≡ []
 joined-replicate zero = refl
 joined-replicate (suc n) = joined-replicate n
 
-pub AreHung-emptied : (level mark : ℕ) (chains : List (List Placed)) (nodes : List Node) (l : Link) (n : ℕ) → IsAddressed level mark chains → n ≡ length chains → leads_to l ≡ None → AreHung level mark nodes (replicate n l) (all_placed nodes)
+pub AreHung-emptied : (level mark : ℕ) (chains : List (List Placed)) (nodes : List Node) (l : NodeLink) (n : ℕ) → IsAddressed level mark chains → n ≡ length chains → leads_to l ≡ None → AreHung level mark nodes (replicate n l) (all_placed nodes)
 AreHung-emptied level mark chains nodes l n h number none = record {
   chains = replicate n [];
   linked =
@@ -202,7 +202,7 @@ IsSplit-lowered level mark below under chains h back halved =
     ]
 
 -- the entries that are left
-pub entries-taken : (nodes : List Node) (behind : Option ℕ) (l : Link) → entries_of (relinked_behind nodes behind l) ≡ entries_of nodes
+pub entries-taken : (nodes : List Node) (behind : Option ℕ) (l : NodeLink) → entries_of (relinked_behind nodes behind l) ≡ entries_of nodes
 entries-taken nodes None l = refl
 entries-taken nodes (Some q) l = entries-relinked nodes q l
 
@@ -214,7 +214,7 @@ IsSameBag-replaced nodes p n inside =
     IsSameBag-trans (IsSameBag-from_same _ _ (sym before)) (IsSameBag-trans (IsSameBag-map entry_in (IsSameBag-put nodes p n inside)) (IsSameBag-from_same _ _ after))
 
 -- a node comes to the end, and in front of the chain of its hash
-module _ (level mark : ℕ) (nodes : List Node) (heads : List Link) (n : Node) (h : AreHung level mark nodes heads []) (few : length nodes + 1 < 2 ^ 32) (grown : List Node) (is : grown ≡ nodes ++ n ∷ []) (place : ℕ) (at : place ≡ length nodes) (now : List Node) (now_heads : List Link) (f : now ≡ set grown place (leading_to (node_at grown place) (head_at heads (bucket_of level mark (node_at grown place).hash)))) where
+module _ (level mark : ℕ) (nodes : List Node) (heads : List NodeLink) (n : Node) (h : AreHung level mark nodes heads []) (few : length nodes + 1 < 2 ^ 32) (grown : List Node) (is : grown ≡ nodes ++ n ∷ []) (place : ℕ) (at : place ≡ length nodes) (now : List Node) (now_heads : List NodeLink) (f : now ≡ set grown place (leading_to (node_at grown place) (head_at heads (bucket_of level mark (node_at grown place).hash)))) where
   pub AreHung-added : now_heads ≡ set heads (bucket_of level mark (node_at grown place).hash) (link_to place) → AreHung level mark now now_heads []
   AreHung-added g =
       let longer = length-append nodes (n ∷ []) in
@@ -226,7 +226,7 @@ module _ (level mark : ℕ) (nodes : List Node) (heads : List Link) (n : Node) (
       IsSameBag-trans (IsSameBag-from_same _ _ same) (IsSameBag-entries nodes (nodes ++ n ∷ []) (last_entry nodes n) (IsSameBag-grown nodes n))
 
 -- a node that left its chain, and goes or makes room for another one
-module _ (level mark : ℕ) (nodes : List Node) (heads : List Link) (x : Placed) (hung : AreHung level mark nodes heads (x ∷ [])) (stands : Stands nodes x) where
+module _ (level mark : ℕ) (nodes : List Node) (heads : List NodeLink) (x : Placed) (hung : AreHung level mark nodes heads (x ∷ [])) (stands : Stands nodes x) where
   module _ (front : List Node) (n : Node) (is : nodes ≡ front ++ n ∷ []) (at : place_of x ≡ length front) where
     same_last : last_entry front n ≡ x
     same_last =
@@ -243,7 +243,7 @@ module _ (level mark : ℕ) (nodes : List Node) (heads : List Link) (x : Placed)
     entries-last = ap entries_of is ∙ map-append entry_of front (n ∷ []) ∙ ap (λ e. entries_of front ++ entry_in e ∷ []) same_last
 
   -- another one comes to its place, and in front of the chain of its hash
-  module _ (few : length nodes < 2 ^ 32) (n : Node) (put : List Node) (is : put ≡ set nodes (place_of x) n) (now : List Node) (now_heads : List Link) (f : now ≡ set put (place_of x) (leading_to (node_at put (place_of x)) (head_at heads (bucket_of level mark (node_at put (place_of x)).hash)))) where
+  module _ (few : length nodes < 2 ^ 32) (n : Node) (put : List Node) (is : put ≡ set nodes (place_of x) n) (now : List Node) (now_heads : List NodeLink) (f : now ≡ set put (place_of x) (leading_to (node_at put (place_of x)) (head_at heads (bucket_of level mark (node_at put (place_of x)).hash)))) where
     pub AreHung-replaced : now_heads ≡ set heads (bucket_of level mark (node_at put (place_of x)).hash) (link_to (place_of x)) → AreHung level mark now now_heads []
     AreHung-replaced g =
         let p : ℕ = place_of x in

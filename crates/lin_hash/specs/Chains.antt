@@ -2,7 +2,7 @@
 use Rattle.std.specs.Prelude.{◌≡◌, ◌+◌, ◌<◌, ◌≤◌, ℕ, List, [], ◌∷◌, ◌++◌, Option, Some, None, length, map, slice_index_or, Contains, flat_map}
 use Rattle.part_raw.specs.declared.tuple_ref.TupleRef.{TupleRef}
 use Rattle.mm_index.specs.Bag.{IsSameBag}
-use Rattle.lin_hash.specs.declared.node.Link.{Link}
+use Rattle.lin_hash.specs.declared.node.NodeLink.{NodeLink}
 use Rattle.lin_hash.specs.declared.node.Node.{Node}
 use Rattle.lin_hash.specs.declared.chains.Position.{Position}
 use Rattle.lin_hash.specs.Address.{IsAddressed}
@@ -28,7 +28,7 @@ pub record Stands (nodes : List Node) (e : Placed) : Type 0 where
   pub is : placed_at nodes (place_of e) ≡ e
 
 -- from the link on these nodes hang behind one another
-abbrev pub IsChain : List Node → Link → List Placed → Type 0
+abbrev pub IsChain : List Node → NodeLink → List Placed → Type 0
 IsChain nodes l [] = leads_to l ≡ None
 IsChain nodes l (e ∷ es) =
     (leads_to l ≡ Some (place_of e)) × Stands nodes e × IsChain nodes (next_at nodes (place_of e)) es
@@ -42,12 +42,12 @@ abbrev pub all_placed : List Node → List Placed
 all_placed nodes = placed_from 0 nodes
 
 -- each head leads to the chain of its bucket
-pub record AreChains (nodes : List Node) (heads : List Link) (chains : List (List Placed)) : Type 0 where
+pub record AreChains (nodes : List Node) (heads : List NodeLink) (chains : List (List Placed)) : Type 0 where
   pub number : length heads ≡ length chains
   pub each : (i : ℕ) → i < length chains → IsChain nodes (head_at heads i) (slice_index_or chains i [])
 
 -- the nodes hang on the chains of the buckets of their hashes, each once, but for those that are loose
-pub record AreHung (level mark : ℕ) (nodes : List Node) (heads : List Link) (loose : List Placed) : Type 0 where
+pub record AreHung (level mark : ℕ) (nodes : List Node) (heads : List NodeLink) (loose : List Placed) : Type 0 where
   pub chains : List (List Placed)
   pub linked : AreChains nodes heads chains
   pub held : IsSameBag (loose ++ flat_map (λ c. c) chains) (all_placed nodes)
@@ -60,18 +60,18 @@ last_place (e ∷ []) = Some (place_of e)
 last_place (e ∷ f ∷ es) = last_place (f ∷ es)
 
 -- the chain from a link on holds that entry
-abbrev pub HoldsEntry : List Node → Link → ℕ → TupleRef → Type 0
+abbrev pub HoldsEntry : List Node → NodeLink → ℕ → TupleRef → Type 0
 HoldsEntry nodes first hash r = (es : List Placed) × IsChain nodes first es × (length es ≤ length nodes) × Contains (map entry_in es) (hash, r)
 
 -- the chain from a link on visits the node at that place
-abbrev pub Visits : List Node → Link → ℕ → Type 0
+abbrev pub Visits : List Node → NodeLink → ℕ → Type 0
 Visits nodes first place = (es : List Placed) × IsChain nodes first es × (length es ≤ length nodes) × Contains es (placed_at nodes place)
 
 -- in the chain from a link on that node stands behind the one at another place, or in front
-abbrev pub IsBehind : List Node → Link → Placed → Option ℕ → Type 0
+abbrev pub IsBehind : List Node → NodeLink → Placed → Option ℕ → Type 0
 IsBehind nodes first e behind =
     (before : List Placed) × (after : List Placed) × IsChain nodes first (before ++ e ∷ after) × (behind ≡ last_place before)
 
 -- in the chain from a link on a node with that entry stands at that place, behind that one
-abbrev pub StandsAt : List Node → Link → ℕ → TupleRef → Position → Type 0
+abbrev pub StandsAt : List Node → NodeLink → ℕ → TupleRef → Position → Type 0
 StandsAt nodes first hash r at = IsBehind nodes first (hash, (r, at.place)) at.behind

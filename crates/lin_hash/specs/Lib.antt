@@ -1,6 +1,8 @@
 pub mod Address
+pub mod Blocks
 pub mod Chains
 pub mod Counted
+pub mod Filled
 pub mod Held
 pub mod Nodes
 pub mod Rest

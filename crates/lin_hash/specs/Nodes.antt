@@ -1,31 +1,31 @@
 -- Links and nodes, as they are read.
 use Rattle.std.specs.Prelude.{◌==◌, ℕ, zero, suc, [], ◌∷◌, List, Option, Some, None, if◌then◌else◌, slice_index_or, slice_set, map}
 use Rattle.part_raw.specs.declared.tuple_ref.TupleRef.{TupleRef}
-use Rattle.lin_hash.specs.declared.node.Link.{Link}
+use Rattle.lin_hash.specs.declared.node.NodeLink.{NodeLink}
 use Rattle.lin_hash.specs.declared.node.Node.{Node}
 
 -- the place that a link leads to, if there is one
-abbrev pub leads_to : Link → Option ℕ
+abbrev pub leads_to : NodeLink → Option ℕ
 leads_to l = if l.place == 4294967295 then None else Some l.place
 
-abbrev pub no_link : Link
+abbrev pub no_link : NodeLink
 no_link = record { place = 4294967295 }
 
-abbrev pub link_to : ℕ → Link
+abbrev pub link_to : ℕ → NodeLink
 link_to place = record { place = place }
 
-abbrev pub head_at : List Link → ℕ → Link
+abbrev pub head_at : List NodeLink → ℕ → NodeLink
 head_at heads bucket = slice_index_or heads bucket (record { place = 0 })
 
 abbrev pub node_at : List Node → ℕ → Node
 node_at nodes place =
     slice_index_or nodes place (record { hash = 0; reference = record { number = 0 }; next = record { place = 0 } })
 
-abbrev pub next_at : List Node → ℕ → Link
+abbrev pub next_at : List Node → ℕ → NodeLink
 next_at nodes place = (node_at nodes place).next
 
 -- the same node with another link
-abbrev pub leading_to : Node → Link → Node
+abbrev pub leading_to : Node → NodeLink → Node
 leading_to n l = record n { next = l }
 
 -- a node's own entry
@@ -37,11 +37,11 @@ abbrev pub entries_of : List Node → List (ℕ × TupleRef)
 entries_of nodes = map entry_of nodes
 
 -- what leads to a node leads to another place: the node before it, or the head of its bucket
-abbrev pub relinked_behind : List Node → Option ℕ → Link → List Node
+abbrev pub relinked_behind : List Node → Option ℕ → NodeLink → List Node
 relinked_behind nodes None l = nodes
 relinked_behind nodes (Some place) l = slice_set nodes place (leading_to (node_at nodes place) l)
 
-abbrev pub relinked_head : List Link → ℕ → Option ℕ → Link → List Link
+abbrev pub relinked_head : List NodeLink → ℕ → Option ℕ → NodeLink → List NodeLink
 relinked_head heads bucket None l = slice_set heads bucket l
 relinked_head heads bucket (Some place) l = heads
 
@@ -51,6 +51,6 @@ list_at f None = []
 list_at f (Some place) = f place
 
 -- the entries of so many nodes at most, from a link on
-abbrev pub entries_from : ℕ → List Node → Link → List (ℕ × TupleRef)
+abbrev pub entries_from : ℕ → List Node → NodeLink → List (ℕ × TupleRef)
 entries_from zero nodes l = []
 entries_from (suc n) nodes l = list_at (λ place. entry_of (node_at nodes place) ∷ entries_from n nodes (next_at nodes place)) (leads_to l)

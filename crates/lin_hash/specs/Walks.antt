@@ -2,16 +2,16 @@
 use Rattle.std.specs.Prelude.{ℕ, zero, suc, ◌<◌, List, length, MatchOption}
 use Rattle.std.specs.Option.{MatchOption-prop}
 use Rattle.std.specs.Coded.{×_prop, Unit-prop, le_prop}
-use Rattle.lin_hash.specs.declared.node.Link.{Link}
+use Rattle.lin_hash.specs.declared.node.NodeLink.{NodeLink}
 use Rattle.lin_hash.specs.declared.node.Node.{Node}
 use Rattle.lin_hash.specs.Nodes.{leads_to, next_at}
 
 -- from the link on there are at most so many nodes
-abbrev pub EndsWithin : ℕ → List Node → Link → Type 0
+abbrev pub EndsWithin : ℕ → List Node → NodeLink → Type 0
 EndsWithin zero nodes l = MatchOption (leads_to l) (Unit {0}) (λ _. ⊥)
 EndsWithin (suc n) nodes l = MatchOption (leads_to l) (Unit {0}) (λ place. (place < length nodes) × EndsWithin n nodes (next_at nodes place))
 
-pub EndsWithin-prop : (n : ℕ) (nodes : List Node) (l : Link) → IsProp (EndsWithin n nodes l)
+pub EndsWithin-prop : (n : ℕ) (nodes : List Node) (l : NodeLink) → IsProp (EndsWithin n nodes l)
 EndsWithin-prop zero nodes l = MatchOption-prop (leads_to l) (Unit {0}) (λ _. ⊥) Unit-prop (λ _ h. absurd h)
 EndsWithin-prop (suc n) nodes l =
     MatchOption-prop (leads_to l) (Unit {0}) (λ place. (place < length nodes) × EndsWithin n nodes (next_at nodes place)) Unit-prop

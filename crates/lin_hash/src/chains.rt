@@ -8,7 +8,7 @@ ghost use Rattle.lin_hash.specs.Nodes.{link_to, node_at, head_at, leading_to, ne
 ghost use Rattle.lin_hash.specs.Chains.{Placed, placed_at, AreHung, IsChain, HoldsEntry, Visits, IsBehind, StandsAt};
 
 use crate::address::Address;
-use crate::node::Link;
+use crate::node::NodeLink;
 use crate::nodes::Nodes;
 use part_raw::TupleRef;
 
@@ -20,7 +20,7 @@ pub struct Position {
 }
 
 // Puts the node at a place in front of the chain of its hash.
-pub fn link(nodes: &mut Nodes, heads: &mut [Link], address: Address, place: usize)
+pub fn link(nodes: &mut Nodes, heads: &mut [NodeLink], address: Address, place: usize)
     requires low { address.level ≤ 30 }
     requires place { place < length nodes.old.items }
     requires few { length nodes.old.items < 2 ^ 32 }
@@ -30,14 +30,15 @@ pub fn link(nodes: &mut Nodes, heads: &mut [Link], address: Address, place: usiz
     ensures heads { let bucket = bucket_of address.level address.mark (node_at nodes.old.items place).hash in
         heads.new ≡ slice_set heads.old bucket (link_to place) }
     ensures memory { nodes.new.memory ≡ nodes.old.memory }
+    ensures listed { nodes.new.listed ≡ nodes.old.listed }
 {
     let bucket = address.bucket(nodes.get(place).hash);
     nodes.lead(place, heads[bucket]);
-    heads[bucket] = Link::to(place);
+    heads[bucket] = NodeLink::to(place);
 }
 
 // Puts the nodes from a link on, which hang on no bucket, in front of the chains of their hashes.
-pub fn link_from(nodes: &mut Nodes, heads: &mut [Link], address: Address, first: Link)
+pub fn link_from(nodes: &mut Nodes, heads: &mut [NodeLink], address: Address, first: NodeLink)
     requires loose { (loose : List Placed) × IsChain nodes.old.items first loose × AreHung address.level address.mark nodes.old.items heads.old loose }
     requires few { length nodes.old.items < 2 ^ 32 }
     ensures hung { AreHung address.level address.mark nodes.new.items heads.new [] }
@@ -45,6 +46,7 @@ pub fn link_from(nodes: &mut Nodes, heads: &mut [Link], address: Address, first:
     ensures nodes_len { length nodes.new.items ≡ length nodes.old.items }
     ensures heads_len { length heads.new ≡ length heads.old }
     ensures memory { nodes.new.memory ≡ nodes.old.memory }
+    ensures listed { nodes.new.listed ≡ nodes.old.listed }
 {
     let mut rest = first;
     while let Some(place) = rest.place() {
@@ -54,7 +56,7 @@ pub fn link_from(nodes: &mut Nodes, heads: &mut [Link], address: Address, first:
 }
 
 // Where a node with that entry stands in the chain from a link on.
-pub fn find(nodes: &Nodes, first: Link, hash: u64, r: TupleRef) -> Position
+pub fn find(nodes: &Nodes, first: NodeLink, hash: u64, r: TupleRef) -> Position
     requires { HoldsEntry nodes.now.items first hash r }
     ensures { StandsAt nodes.now.items first hash r result }
 {
@@ -72,7 +74,7 @@ pub fn find(nodes: &Nodes, first: Link, hash: u64, r: TupleRef) -> Position
 }
 
 // Behind which node of the chain from a link on that one stands, or behind none.
-pub fn before(nodes: &Nodes, first: Link, sought: usize) -> Option<usize>
+pub fn before(nodes: &Nodes, first: NodeLink, sought: usize) -> Option<usize>
     requires { Visits nodes.now.items first sought }
     ensures { IsBehind nodes.now.items first (placed_at nodes.now.items sought) result }
 {
@@ -89,13 +91,14 @@ pub fn before(nodes: &Nodes, first: Link, sought: usize) -> Option<usize>
 }
 
 // Takes a node out of the chain of a bucket: what led to it leads to the next one.
-pub fn unlink(nodes: &mut Nodes, heads: &mut [Link], bucket: usize, at: Position)
+pub fn unlink(nodes: &mut Nodes, heads: &mut [NodeLink], bucket: usize, at: Position)
     requires place { at.place < length nodes.old.items }
     requires behind { IfSome at.behind (λ place. place < length nodes.old.items) }
     requires bucket { bucket < length heads.old }
     ensures nodes { nodes.new.items ≡ relinked_behind nodes.old.items at.behind (next_at nodes.old.items at.place) }
     ensures heads { heads.new ≡ relinked_head heads.old bucket at.behind (next_at nodes.old.items at.place) }
     ensures memory { nodes.new.memory ≡ nodes.old.memory }
+    ensures listed { nodes.new.listed ≡ nodes.old.listed }
 {
     let next = nodes.get(at.place).next;
     match at.behind {

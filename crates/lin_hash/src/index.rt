@@ -4,14 +4,14 @@
 //! memory there: the room is the lesser of the nodes that were made sure of beyond those in use, and of the entries that
 //! come to two a head, less those held. Where an entry stands is the table's matter. A new index has no table, and takes
 //! one with its first `reserve`.
-ghost use Rattle.std.specs.Prelude.{◌≡◌, ◌+◌, ◌*◌, ◌^◌, ◌-◌, ◌<◌, ◌≤◌, ◌⊎◌, [], ◌∷◌, length, Contains, OnOk};
+ghost use Rattle.std.specs.Prelude.{◌≡◌, ◌+◌, ◌*◌, ◌^◌, ◌-◌, ◌<◌, ◌≤◌, [], ◌∷◌, length, max, Contains, OnOk};
 ghost use Rattle.mm_index.specs.Bag.{IsSameBag, with_hash};
-ghost use Rattle.lin_hash.specs.Held.{StaysOrDoubles, table_entries, table_nodes, table_heads, table_buckets};
+ghost use Rattle.lin_hash.specs.Held.{StaysOrDoubles, table_entries, table_nodes, table_heads, table_listed, table_buckets};
 ghost use Rattle.lin_hash.specs.Rest.{chain_rest};
 
 use crate::address::FIRST_BUCKETS;
 use crate::chain::Chain;
-use crate::node::Link;
+use crate::node::NodeLink;
 use crate::table::Table;
 use mm_index::ExactIndex;
 use no_memory::NoMemory;
@@ -31,7 +31,7 @@ pub struct LinHash {
 
 impl Model for LinHash {
     ghost use Rattle.std.specs.Prelude.{◌-◌, ◌*◌, length, min};
-    ghost use Rattle.lin_hash.specs.Held.{HeldBuckets, table_entries, table_nodes, table_heads, table_buckets};
+    ghost use Rattle.lin_hash.specs.Held.{HeldBuckets, table_entries, table_nodes, table_heads, table_listed, table_buckets};
 
     ghost Value = { HeldBuckets };
 
@@ -41,6 +41,7 @@ impl Model for LinHash {
       buckets = table_buckets h.table;
       nodes = table_nodes h.table;
       heads = table_heads h.table;
+      listed = table_listed h.table;
     } };
 
     ghost use Rattle.lin_hash.specs.Counted.{IsCounted};
@@ -55,6 +56,7 @@ impl LinHash {
         ensures buckets { result.buckets ≡ 4 }
         ensures nodes { result.nodes ≡ 0 }
         ensures heads { result.heads ≡ 0 }
+        ensures listed { result.listed ≡ 0 }
     {
         LinHash {
             alloc,
@@ -92,7 +94,7 @@ impl LinHash {
     {
         match &self.table {
             Some(table) => table.chain(hash),
-            None => Chain::new(hash, &[], Link::none()),
+            None => Chain::new(hash, &[], NodeLink::none()),
         }
     }
 }
@@ -112,13 +114,16 @@ impl ExactIndex for LinHash {
         ensures room { self.old.room ≤ self.new.room }
         ensures buckets { self.new.buckets ≡ self.old.buckets }
 
-        // The first four buckets have their heads. From then on memory for heads and for nodes stays as it is where it
-        // suffices, and else comes to twice as much at least, or to that for all nodes that links can name.
+        // The first four buckets have their heads. From then on memory stays as it is where it suffices. Else that of
+        // nodes comes to less than a block more than is needed, and that for heads, and for blocks in their list, to
+        // twice as much at least.
         ensures first { OnOk result (4 ≤ self.new.heads) }
         ensures grown_heads { StaysOrDoubles self.old.heads self.new.heads }
-        ensures grown_nodes { StaysOrDoubles self.old.nodes self.new.nodes ⊎ (self.new.nodes ≡ 2 ^ 32 - 1) }
+        ensures grown_nodes { self.new.nodes ≤ max self.old.nodes (length self.old.entries + n + 255) }
+        ensures grown_list { StaysOrDoubles self.old.listed self.new.listed }
         ensures enough_heads { 4 ≤ self.old.heads → length self.old.entries + n ≤ 2 * self.old.heads → self.new.heads ≡ self.old.heads }
         ensures enough_nodes { length self.old.entries + n ≤ self.old.nodes → self.new.nodes ≡ self.old.nodes }
+        ensures enough_list { length self.old.entries + n ≤ self.old.nodes → self.new.listed ≡ self.old.listed }
     {
         reserve_memory(&mut self.table, self.alloc, self.len + n)?;
         self.spares = self.spares.max(n);
@@ -133,6 +138,7 @@ impl ExactIndex for LinHash {
         ensures room { self.old.room ≤ self.new.room + 1 }
         ensures nodes { self.new.nodes ≡ self.old.nodes }
         ensures heads { self.new.heads ≡ self.old.heads }
+        ensures listed { self.new.listed ≡ self.old.listed }
 
         // The buckets grow by one exactly where there are then more entries than twice the buckets.
         ensures split { 2 * self.old.buckets < length self.new.entries → self.new.buckets ≡ self.old.buckets + 1 }
@@ -151,6 +157,7 @@ impl ExactIndex for LinHash {
         ensures room { self.old.room + 1 ≤ self.new.room }
         ensures nodes { self.new.nodes ≡ self.old.nodes }
         ensures heads { self.new.heads ≡ self.old.heads }
+        ensures listed { self.new.listed ≡ self.old.listed }
 
         // The buckets shrink by one exactly where there are more than four, and then fewer entries than half
         // of them.
@@ -185,7 +192,9 @@ impl ExactIndex for LinHash {
         ensures entries { self.new.entries ≡ self.old.entries }
         ensures room { self.new.room ≡ 0 }
         ensures nodes { self.new.nodes ≤ self.old.nodes }
+        ensures few_nodes { self.new.nodes ≤ length self.new.entries + 255 }
         ensures heads { self.new.heads ≤ self.old.heads }
+        ensures listed { self.new.listed ≤ self.old.listed }
         ensures buckets { self.new.buckets ≡ self.old.buckets }
     {
         self.spares = 0;
@@ -206,9 +215,11 @@ fn reserve_memory(table: &mut Option<Table>, alloc: Global, entries: usize) -> R
     ensures more_heads { table_heads table.old ≤ table_heads table.new }
     ensures buckets { table_buckets table.new ≡ table_buckets table.old }
     ensures grown_heads { StaysOrDoubles (table_heads table.old) (table_heads table.new) }
-    ensures grown_nodes { StaysOrDoubles (table_nodes table.old) (table_nodes table.new) ⊎ (table_nodes table.new ≡ 2 ^ 32 - 1) }
+    ensures grown_nodes { table_nodes table.new ≤ max (table_nodes table.old) (entries + 255) }
+    ensures grown_list { StaysOrDoubles (table_listed table.old) (table_listed table.new) }
     ensures enough_heads { 4 ≤ table_heads table.old → entries ≤ 2 * table_heads table.old → table_heads table.new ≡ table_heads table.old }
     ensures enough_nodes { entries ≤ table_nodes table.old → table_nodes table.new ≡ table_nodes table.old }
+    ensures enough_list { entries ≤ table_nodes table.old → table_listed table.new ≡ table_listed table.old }
 {
     match table {
         Some(table) => table.reserve(entries),
@@ -230,6 +241,7 @@ fn insert_entry(table: &mut Option<Table>, hash: u64, r: TupleRef, len: usize)
     ensures entries { IsSameBag (table_entries table.new) ((hash, r) ∷ table_entries table.old) }
     ensures nodes { table_nodes table.new ≡ table_nodes table.old }
     ensures heads { table_heads table.new ≡ table_heads table.old }
+    ensures listed { table_listed table.new ≡ table_listed table.old }
     ensures split { 2 * table_buckets table.old < len → table_buckets table.new ≡ table_buckets table.old + 1 }
     ensures unsplit { len ≤ 2 * table_buckets table.old → table_buckets table.new ≡ table_buckets table.old }
 {
@@ -247,6 +259,7 @@ fn remove_entry(table: &mut Option<Table>, hash: u64, r: TupleRef, len: usize)
     ensures entries { IsSameBag (table_entries table.old) ((hash, r) ∷ table_entries table.new) }
     ensures nodes { table_nodes table.new ≡ table_nodes table.old }
     ensures heads { table_heads table.new ≡ table_heads table.old }
+    ensures listed { table_listed table.new ≡ table_listed table.old }
     ensures folded { 2 * len < table_buckets table.old → 4 < table_buckets table.old → table_buckets table.new + 1 ≡ table_buckets table.old }
     ensures unfolded { table_buckets table.old ≤ 2 * len → table_buckets table.new ≡ table_buckets table.old }
     ensures first { table_buckets table.old ≤ 4 → table_buckets table.new ≡ table_buckets table.old }

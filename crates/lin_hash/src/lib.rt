@@ -10,10 +10,12 @@
 //! What always holds:
 //! - each entry stands in the bucket of its hash, by the level and the mark (`table`);
 //! - there are at least four buckets, and at most twice as many entries as buckets (`index`);
-//! - each node stands in one bucket once (`chains`), and the nodes fill the places from the first on (`nodes`).
+//! - each node stands in one bucket once (`chains`), and the nodes fill the places of their blocks from the first on (`nodes`, `blocks`).
 #![tactic(auto)]
 
 mod address;
+mod block;
+mod blocks;
 mod chain;
 mod chains;
 mod growing;

@@ -12,22 +12,22 @@ pub const MOST_NODES: usize = 0xffff_ffff;
 
 /// The place of a node, or none.
 #[derive(Clone, Copy, Drop)]
-pub struct Link {
+pub struct NodeLink {
     place: u32,
 }
 
-impl Link {
-    pub fn none() -> Link
+impl NodeLink {
+    pub fn none() -> NodeLink
         ensures { result ≡ no_link }
     {
-        Link { place: u32::MAX }
+        NodeLink { place: u32::MAX }
     }
 
-    pub fn to(place: usize) -> Link
+    pub fn to(place: usize) -> NodeLink
         requires { place < 2 ^ 32 - 1 }
         ensures { result ≡ link_to place }
     {
-        Link {
+        NodeLink {
             place: place as u32,
         }
     }
@@ -49,5 +49,5 @@ impl Link {
 pub struct Node {
     pub hash: u64,
     pub reference: TupleRef,
-    pub next: Link,
+    pub next: NodeLink,
 }

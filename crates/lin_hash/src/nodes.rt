@@ -1,10 +1,16 @@
 //! The nodes of a table, which fill the places from the first on: there is no place between them that has none.
-ghost use Rattle.std.specs.Prelude.{◌≡◌, ◌+◌, ◌-◌, ◌^◌, ◌<◌, ◌≤◌, ◌⊎◌, [], ◌∷◌, ◌++◌, length, slice_set, OnOk};
+//!
+//! They stand in blocks of one size, so no node moves when there come to be more, and there is never memory for a block
+//! more than was asked for. What grows by doubling is the list of the blocks.
+ghost use Rattle.std.specs.Prelude.{◌≡◌, ◌+◌, ◌-◌, ◌^◌, ◌<◌, ◌≤◌, [], ◌∷◌, ◌++◌, length, max, slice_set, take, OnOk};
 ghost use Rattle.lin_hash.specs.Held.{StaysOrDoubles};
+ghost use Rattle.lin_hash.specs.Blocks.{nodes_in};
 ghost use Rattle.lin_hash.specs.Nodes.{node_at, leading_to};
 
+use crate::block::{Block, NODES_A_BLOCK};
+use crate::blocks::{add_blocks, node_in};
 use crate::growing::reserve_by_doubling;
-use crate::node::{Link, MOST_NODES, Node};
+use crate::node::{MOST_NODES, Node, NodeLink};
 use no_memory::NoMemory;
 use std::alloc::Global;
 use std::marker::Model;
@@ -12,21 +18,27 @@ use std::marker::Model;
 /// Nodes by their places.
 #[derive(Drop)]
 pub struct Nodes {
-    nodes: Vec<Node>,
+    blocks: Vec<Block>,
+    len: usize,
 }
 
 impl Model for Nodes {
-    ghost use Rattle.std.specs.Prelude.{◌^◌, ◌-◌, ◌<◌, length, min, vec_capacity};
+    ghost use Rattle.std.specs.Prelude.{◌^◌, ◌-◌, ◌*◌, min, take, vec_len, vec_capacity};
     ghost use Rattle.lin_hash.specs.Held.{HeldNodes};
 
     ghost Value = { HeldNodes };
 
+    ghost use Rattle.lin_hash.specs.Blocks.{nodes_in};
+
     ghost view = { λ n. record {
-      items = n.nodes.items;
-      memory = min (vec_capacity n.nodes) (2 ^ 32 - 1);
+      items = take n.len (nodes_in n.blocks.items);
+      memory = min (256 * vec_len n.blocks) (2 ^ 32 - 1);
+      listed = vec_capacity n.blocks;
     } };
 
-    ghost invariant = { λ n. length n.nodes.items < 2 ^ 32 };
+    ghost use Rattle.lin_hash.specs.Filled.{IsFilled};
+
+    ghost invariant = { λ n. IsFilled n };
 }
 
 impl Nodes {
@@ -34,9 +46,11 @@ impl Nodes {
     pub fn new(alloc: Global) -> Nodes
         ensures items { result.items ≡ [] }
         ensures memory { result.memory ≡ 0 }
+        ensures listed { result.listed ≡ 0 }
     {
         Nodes {
-            nodes: Vec::new(alloc),
+            blocks: Vec::new(alloc),
+            len: 0,
         }
     }
 
@@ -45,14 +59,14 @@ impl Nodes {
         ensures value { result ≡ length self.now.items }
         ensures few { result < 2 ^ 32 }
     {
-        self.nodes.len()
+        self.len
     }
 
     // For how many there is memory.
     pub fn memory(&self) -> usize
         ensures { result ≡ self.now.memory }
     {
-        self.nodes.capacity().min(MOST_NODES)
+        (NODES_A_BLOCK * self.blocks.len()).min(MOST_NODES)
     }
 
     // The node at a place.
@@ -60,14 +74,14 @@ impl Nodes {
         requires { place < length self.now.items }
         ensures { result ≡ node_at self.now.items place }
     {
-        self.nodes[place]
+        node_in(self.blocks.as_slice(), place)
     }
 
-    // All of them.
-    pub fn as_slice(&self) -> &[Node]
-        ensures { result.now ≡ self.now.items }
+    // The blocks in which they stand.
+    pub fn as_blocks(&self) -> &[Block]
+        ensures { take (length self.now.items) (nodes_in result.now) ≡ self.now.items }
     {
-        self.nodes.as_slice()
+        self.blocks.as_slice()
     }
 
     // Another node comes to a place.
@@ -75,17 +89,19 @@ impl Nodes {
         requires { place < length self.old.items }
         ensures items { self.new.items ≡ slice_set self.old.items place node }
         ensures memory { self.new.memory ≡ self.old.memory }
+        ensures listed { self.new.listed ≡ self.old.listed }
     {
-        self.nodes[place] = node;
+        self.blocks[place / NODES_A_BLOCK].put(place % NODES_A_BLOCK, node);
     }
 
     // The node at a place leads elsewhere.
-    pub fn lead(&mut self, place: usize, next: Link)
+    pub fn lead(&mut self, place: usize, next: NodeLink)
         requires { place < length self.old.items }
         ensures items { self.new.items ≡ slice_set self.old.items place (leading_to (node_at self.old.items place) next) }
         ensures memory { self.new.memory ≡ self.old.memory }
+        ensures listed { self.new.listed ≡ self.old.listed }
     {
-        self.nodes[place].next = next;
+        self.blocks[place / NODES_A_BLOCK].lead(place % NODES_A_BLOCK, next);
     }
 
     // A node comes to the end.
@@ -94,8 +110,11 @@ impl Nodes {
         ensures items { self.new.items ≡ self.old.items ++ node ∷ [] }
         ensures few { length self.new.items < 2 ^ 32 }
         ensures memory { self.new.memory ≡ self.old.memory }
+        ensures listed { self.new.listed ≡ self.old.listed }
     {
-        self.nodes.push_reserved(node);
+        let place = self.len;
+        self.blocks[place / NODES_A_BLOCK].put(place % NODES_A_BLOCK, node);
+        self.len += 1;
     }
 
     // The last node goes.
@@ -103,8 +122,9 @@ impl Nodes {
         requires { 0 < length self.old.items }
         ensures items { self.old.items ≡ self.new.items ++ node_at self.old.items (length self.old.items - 1) ∷ [] }
         ensures memory { self.new.memory ≡ self.old.memory }
+        ensures listed { self.new.listed ≡ self.old.listed }
     {
-        let _last = self.nodes.pop();
+        self.len -= 1;
     }
 
     // Makes sure of memory for so many. There are no more than links can name. After an error what was gained is
@@ -114,21 +134,28 @@ impl Nodes {
         ensures few { OnOk result (wanted < 2 ^ 32) }
         ensures ok { OnOk result (wanted ≤ self.new.memory) }
         ensures more { self.old.memory ≤ self.new.memory }
-        ensures grown { StaysOrDoubles self.old.memory self.new.memory ⊎ (self.new.memory ≡ 2 ^ 32 - 1) }
+        ensures grown { self.new.memory ≤ max self.old.memory (wanted + 255) }
         ensures enough { wanted ≤ self.old.memory → self.new.memory ≡ self.old.memory }
+        ensures listed { StaysOrDoubles self.old.listed self.new.listed }
+        ensures enough_list { wanted ≤ self.old.memory → self.new.listed ≡ self.old.listed }
     {
         if wanted > MOST_NODES {
             return Err(NoMemory);
         }
-        reserve_by_doubling(&mut self.nodes, wanted)
+        let blocks = wanted.div_ceil(NODES_A_BLOCK);
+        reserve_by_doubling(&mut self.blocks, blocks)?;
+        add_blocks(&mut self.blocks, blocks)
     }
 
-    // Gives the memory back in which no node stands.
+    // Gives the blocks back in which no node stands.
     pub fn release_spares(&mut self)
         ensures items { self.new.items ≡ self.old.items }
         ensures memory { self.new.memory ≤ self.old.memory }
         ensures enough { length self.old.items ≤ self.new.memory }
+        ensures few { self.new.memory ≤ length self.old.items + 255 }
+        ensures listed { self.new.listed ≤ self.old.listed }
     {
-        self.nodes.shrink_to_fit();
+        self.blocks.truncate(self.len.div_ceil(NODES_A_BLOCK));
+        self.blocks.shrink_to_fit();
     }
 }

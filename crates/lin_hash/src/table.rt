@@ -3,7 +3,7 @@
 //! The head of a bucket links to the first node of its chain. The heads stand in one vector, and the nodes fill the places
 //! from the first on: where an entry is taken out, that of the last node comes to its place. Who counts the entries is not
 //! the table's matter: it is told.
-ghost use Rattle.std.specs.Prelude.{◌≡◌, ◌+◌, ◌-◌, ◌*◌, ◌^◌, ◌<◌, ◌≤◌, ◌⊎◌, [], ◌∷◌, ◌++◌, length, vec_len, vec_capacity, IfOk, OnOk, Contains};
+ghost use Rattle.std.specs.Prelude.{◌≡◌, ◌+◌, ◌-◌, ◌*◌, ◌^◌, ◌<◌, ◌≤◌, [], ◌∷◌, ◌++◌, length, max, vec_len, vec_capacity, IfOk, OnOk, Contains};
 ghost use Rattle.mm_index.specs.Bag.{IsSameBag, with_hash};
 ghost use Rattle.lin_hash.specs.Held.{StaysOrDoubles};
 ghost use Rattle.lin_hash.specs.Rest.{chain_rest};
@@ -12,7 +12,7 @@ use crate::address::{Address, FIRST_BUCKETS};
 use crate::chain::Chain;
 use crate::chains::{Position, before, find, link, link_from, unlink};
 use crate::growing::reserve_by_doubling;
-use crate::node::{Link, Node};
+use crate::node::{Node, NodeLink};
 use crate::nodes::Nodes;
 use no_memory::NoMemory;
 use part_raw::TupleRef;
@@ -30,7 +30,7 @@ const MOST_BUCKETS_AN_ENTRY: usize = 2;
 #[derive(Drop)]
 pub struct Table {
     address: Address,
-    heads: Vec<Link>,
+    heads: Vec<NodeLink>,
     nodes: Nodes,
 }
 
@@ -45,6 +45,7 @@ impl Model for Table {
       entries = entries_of t.nodes.items;
       nodes = t.nodes.memory;
       heads = vec_capacity t.heads;
+      listed = t.nodes.listed;
       buckets = vec_len t.heads;
     } };
 
@@ -59,11 +60,12 @@ impl Table {
         ensures entries { IfOk result (λ table. table.entries ≡ []) }
         ensures buckets { IfOk result (λ table. table.buckets ≡ 4) }
         ensures nodes { IfOk result (λ table. table.nodes ≡ 0) }
+        ensures listed { IfOk result (λ table. table.listed ≡ 0) }
     {
         let mut heads = Vec::new(alloc);
         heads.reserve(FIRST_BUCKETS)?;
         for _ in 0..FIRST_BUCKETS {
-            heads.push(Link::none())?;
+            heads.push(NodeLink::none())?;
         }
         Ok(Table {
             address: Address { level: 0, mark: 0 },
@@ -100,11 +102,14 @@ impl Table {
         ensures more_heads { self.old.heads ≤ self.new.heads }
         ensures buckets { self.new.buckets ≡ self.old.buckets }
 
-        // Memory that suffices stays as it is. Else it comes to twice as much at least.
+        // Memory that suffices stays as it is. Else that of nodes comes to less than a block more than is needed,
+        // and that for heads, and for blocks in their list, to twice as much at least.
         ensures grown_heads { StaysOrDoubles self.old.heads self.new.heads }
-        ensures grown_nodes { StaysOrDoubles self.old.nodes self.new.nodes ⊎ (self.new.nodes ≡ 2 ^ 32 - 1) }
+        ensures grown_nodes { self.new.nodes ≤ max self.old.nodes (entries + 255) }
+        ensures grown_list { StaysOrDoubles self.old.listed self.new.listed }
         ensures enough_heads { entries ≤ 2 * self.old.heads → self.new.heads ≡ self.old.heads }
         ensures enough_nodes { entries ≤ self.old.nodes → self.new.nodes ≡ self.old.nodes }
+        ensures enough_list { entries ≤ self.old.nodes → self.new.listed ≡ self.old.listed }
     {
         self.nodes.reserve(entries)?;
         let heads = entries.div_ceil(MOST_ENTRIES_A_BUCKET);
@@ -118,6 +123,8 @@ impl Table {
         ensures nodes { length self.new.entries ≤ self.new.nodes }
         ensures fewer_heads { self.new.heads ≤ self.old.heads }
         ensures fewer_nodes { self.new.nodes ≤ self.old.nodes }
+        ensures few_nodes { self.new.nodes ≤ length self.new.entries + 255 }
+        ensures fewer_listed { self.new.listed ≤ self.old.listed }
         ensures buckets { self.new.buckets ≡ self.old.buckets }
     {
         self.nodes.release_spares();
@@ -134,6 +141,7 @@ impl Table {
         ensures entries { IsSameBag self.new.entries ((hash, r) ∷ self.old.entries) }
         ensures nodes { self.new.nodes ≡ self.old.nodes }
         ensures heads { self.new.heads ≡ self.old.heads }
+        ensures listed { self.new.listed ≡ self.old.listed }
         ensures split { 2 * self.old.buckets < len → self.new.buckets ≡ self.old.buckets + 1 }
         ensures unsplit { len ≤ 2 * self.old.buckets → self.new.buckets ≡ self.old.buckets }
     {
@@ -152,6 +160,7 @@ impl Table {
         ensures entries { IsSameBag self.old.entries ((hash, r) ∷ self.new.entries) }
         ensures nodes { self.new.nodes ≡ self.old.nodes }
         ensures heads { self.new.heads ≡ self.old.heads }
+        ensures listed { self.new.listed ≡ self.old.listed }
         ensures folded { 2 * len < self.old.buckets → 4 < self.old.buckets → self.new.buckets + 1 ≡ self.old.buckets }
         ensures unfolded { self.old.buckets ≤ 2 * len → self.new.buckets ≡ self.old.buckets }
         ensures first { self.old.buckets ≤ 4 → self.new.buckets ≡ self.old.buckets }
@@ -168,7 +177,7 @@ impl Table {
         ensures { IsSameBag (chain_rest result) (with_hash hash self.now.entries) }
     {
         let bucket = self.address.bucket(hash);
-        Chain::new(hash, self.nodes.as_slice(), self.heads[bucket])
+        Chain::new(hash, self.nodes.as_blocks(), self.heads[bucket])
     }
 
     // Puts an entry into the bucket of its hash.
@@ -177,13 +186,14 @@ impl Table {
         ensures entries { IsSameBag self.new.entries ((hash, r) ∷ self.old.entries) }
         ensures nodes { self.new.nodes ≡ self.old.nodes }
         ensures heads { self.new.heads ≡ self.old.heads }
+        ensures listed { self.new.listed ≡ self.old.listed }
         ensures buckets { self.new.buckets ≡ self.old.buckets }
     {
         let place = self.nodes.len();
         self.nodes.push(Node {
             hash,
             reference: r,
-            next: Link::none(),
+            next: NodeLink::none(),
         });
         link(&mut self.nodes, &mut self.heads, self.address, place);
     }
@@ -194,6 +204,7 @@ impl Table {
         ensures entries { IsSameBag self.old.entries ((hash, r) ∷ self.new.entries) }
         ensures nodes { self.new.nodes ≡ self.old.nodes }
         ensures heads { self.new.heads ≡ self.old.heads }
+        ensures listed { self.new.listed ≡ self.old.listed }
         ensures buckets { self.new.buckets ≡ self.old.buckets }
     {
         let last = self.pop();
@@ -208,6 +219,7 @@ impl Table {
         ensures entries { self.old.entries ≡ self.new.entries ++ result ∷ [] }
         ensures nodes { self.new.nodes ≡ self.old.nodes }
         ensures heads { self.new.heads ≡ self.old.heads }
+        ensures listed { self.new.listed ≡ self.old.listed }
         ensures buckets { self.new.buckets ≡ self.old.buckets }
     {
         let place = self.nodes.len() - 1;
@@ -230,13 +242,14 @@ impl Table {
         ensures entries { IsSameBag ((hash, r) ∷ self.new.entries) (by ∷ self.old.entries) }
         ensures nodes { self.new.nodes ≡ self.old.nodes }
         ensures heads { self.new.heads ≡ self.old.heads }
+        ensures listed { self.new.listed ≡ self.old.listed }
         ensures buckets { self.new.buckets ≡ self.old.buckets }
     {
         let bucket = self.address.bucket(hash);
         let at = find(&self.nodes, self.heads[bucket], hash, r);
         unlink(&mut self.nodes, &mut self.heads, bucket, at);
         let (hash, reference) = by;
-        let next = Link::none();
+        let next = NodeLink::none();
         self.nodes.put(
             at.place,
             Node {
@@ -255,10 +268,11 @@ impl Table {
         ensures entries { self.new.entries ≡ self.old.entries }
         ensures nodes { self.new.nodes ≡ self.old.nodes }
         ensures heads { self.new.heads ≡ self.old.heads }
+        ensures listed { self.new.listed ≡ self.old.listed }
         ensures buckets { self.new.buckets ≡ self.old.buckets + 1 }
     {
-        let first = mem::replace(&mut self.heads[self.address.mark], Link::none());
-        self.heads.push_reserved(Link::none());
+        let first = mem::replace(&mut self.heads[self.address.mark], NodeLink::none());
+        self.heads.push_reserved(NodeLink::none());
         self.address = self.address.raised();
         link_from(&mut self.nodes, &mut self.heads, self.address, first);
     }
@@ -269,6 +283,7 @@ impl Table {
         ensures entries { self.new.entries ≡ self.old.entries }
         ensures nodes { self.new.nodes ≡ self.old.nodes }
         ensures heads { self.new.heads ≡ self.old.heads }
+        ensures listed { self.new.listed ≡ self.old.listed }
         ensures buckets { self.new.buckets + 1 ≡ self.old.buckets }
     {
         self.address = self.address.lowered();

@@ -1,14 +1,12 @@
 -- What a relation keeps as it is made, and as indexes of it are declared and dropped.
-use Rattle.ttree.specs.Held.{empty as leafless}
-use Rattle.std.proofs.Common.{Bool, true, false, cond, not, Result, Ok, Err, OnOk, OnErr, ◌&&◌, ◌||◌, ◌==◌, ◌≡◌, ◌<◌, ℕ, List, [], ◌∷◌, ◌++◌, Option, IsSome, is_some, refl, sym, ap, ◌∙◌, arith, subst, length, map, filter}
+use Rattle.std.proofs.Common.{Bool, true, false, cond, not, Result, Ok, Err, OnOk, OnErr, ◌&&◌, ◌||◌, ◌==◌, ◌≡◌, ◌<◌, ℕ, List, [], ◌∷◌, ◌++◌, Option, IsSome, is_some, refl, sym, ap, ◌∙◌, arith, length, map, filter}
 use Rattle.std.proofs.lemmas.Bool.{and_parts}
 use Rattle.std.proofs.lemmas.List.{map-append, append-nil}
 use Rattle.std.proofs.lemmas.List.Elements.{filter-append, All-push}
 use Rattle.std.specs.FinMap.{get, len, empty, len-empty}
 use Rattle.std.specs.List.{list_any}
-use Rattle.std.specs.Option.{option_and_then}
 use Rattle.common_lemmas.proofs.Tests.{and_true, and_false, list_any-map}
-use Rattle.part_raw.proofs.Tuples.{held_at_first, held_tuple}
+use Rattle.part_raw.proofs.Tuples.{held_at_first}
 use Rattle.part_raw.specs.TupleRefs.{ref_cmp}
 use Rattle.part_raw.specs.declared.tuple_ref.TupleRef.{TupleRef}
 use Rattle.part_raw.specs.Store.{Tuples}
@@ -19,20 +17,15 @@ use Rattle.mm_relation.specs.Rows.{Row}
 use Rattle.plain_tables.specs.declared.numbers.ColumnNumber.{ColumnNumber}
 use Rattle.mm_relation.specs.declared.numbers.DeclaredIndex.{DeclaredIndex}
 use Rattle.mm_relation.specs.declared.index.IndexOn.{IndexOn}
-use Rattle.mm_relation.specs.Reading.{Keys, value_at, row_value}
+use Rattle.mm_relation.specs.Reading.{Keys}
 use Rattle.mm_relation.specs.State.{RowTree, tree_list, IsKept, IsCurrent, TreeServes, HashServes, columns_with_tree, columns_with_hash, is_tree}
 use Rattle.mm_relation.specs.Indexes.{Indexes, SeenIndex, seen, tree_in, entries_in, declaration_of, trees_of, hashes_of, Serve, Serves}
 use Rattle.mm_relation.specs.Declaring.{declaration, IsAdded, IsDeclaredOf, without_first, is_index, without_of}
 use Rattle.mm_relation.specs.Changes.{has_declared_on}
 use Rattle.mm_relation.specs.Seen.{state}
 use Rattle.mm_relation.proofs.Dropping.{without_first-map, All-without_first, filter-without_first, filter-without_other}
-use Rattle.mm_relation.proofs.Keeping.{tree_columns, hash_columns, trees_served, hashes_served}
-
--- the columns of declarations of which one more is the last
-columns_pushed : (test : DeclaredIndex → Bool) (declared : List DeclaredIndex) (index : DeclaredIndex) → map (λ d. d.column.0) (filter test (declared ++ index ∷ [])) ≡ map (λ d. d.column.0) (filter test declared) ++ map (λ d. d.column.0) (filter test (index ∷ []))
-columns_pushed test declared index =
-    ap (map (λ (d : DeclaredIndex). d.column.0)) (filter-append test declared (index ∷ []))
-    ∙ map-append (λ (d : DeclaredIndex). d.column.0) (filter test declared) (filter test (index ∷ []))
+use Rattle.mm_relation.proofs.Keeping.{not_tree, tree_columns, hash_columns, trees_served, hashes_served}
+use Rattle.ttree.specs.Held.{empty as leafless}
 
 -- what the indexes of a kind show, of which one more is the last
 pushed_of : {B : Type 0} (f : SeenIndex → B) (p : SeenIndex → Bool) (all new : Indexes) (on : IndexOn) → new ≡ all ++ on ∷ [] → map f (filter p (map seen new)) ≡ map f (filter p (map seen all)) ++ map f (filter p (seen on ∷ []))
@@ -49,37 +42,9 @@ not_hash : (b : Bool) → b ≡ true → not b ≡ false
 not_hash true e = refl
 not_hash false e = absurd (cc)
 
-not_tree : (b : Bool) → not b ≡ true → b ≡ false
-not_tree true e = absurd (cc)
-not_tree false e = refl
-
 module _ (schema : Schema) (targets : List (Option ℕ)) (declared : List DeclaredIndex) (rows : Tuples Row) (tree : RowTree) (all : Indexes) (kept : IsKept (state schema targets declared rows tree all)) where
   pub current_with : (keys : Keys) (others : List DeclaredIndex) (new : Indexes) → IsCurrent keys (state schema targets declared rows tree all) → Serve keys rows (tree_list tree) new → IsCurrent keys (state schema targets others rows tree new)
   current_with keys others new current serves = record { readable = current.readable; trees = trees_served keys rows (tree_list tree) (map seen new) serves; hashes = hashes_served keys rows (tree_list tree) (map seen new) serves }
-
-  -- each row has a value in a column
-  pub read_column : (keys : Keys) → IsCurrent keys (state schema targets declared rows tree all) → (c : ℕ) → c < length targets → (q : TupleRef) → IsSome (get rows q) → IsSome (value_at keys c rows q)
-  read_column keys current c inside q held =
-      let found = held_tuple rows q held in
-      subst (λ o. IsSome (option_and_then (row_value keys c) o)) (sym found.1) (current.readable q found.0 found.1 c inside)
-
-  -- an index more
-  added_columns : (test : DeclaredIndex → Bool) (index : DeclaredIndex) (new : Indexes) → IsAdded index all new → map (λ d. d.column.0) (filter test (map declaration_of all)) ≡ map (λ d. d.column.0) (filter test declared) → map (λ d. d.column.0) (filter test (map declaration_of new)) ≡ map (λ d. d.column.0) (filter test (declared ++ index ∷ []))
-  added_columns test index new (on, same, e) before =
-      ap (λ (ds : List DeclaredIndex). map (λ (d : DeclaredIndex). d.column.0) (filter test ds)) (ap (map declaration_of) e ∙ map-append declaration_of all (on ∷ []) ∙ (λ i. map declaration_of all ++ same i ∷ []))
-      ∙ columns_pushed test (map declaration_of all) index
-      ∙ ap (λ cs. cs ++ map (λ (d : DeclaredIndex). d.column.0) (filter test (index ∷ []))) before
-      ∙ sym (columns_pushed test declared index)
-
-  pub kept_added : (kind : IndexKind) (column : ColumnNumber) → column.0 < length targets → (new : Indexes) → IsAdded (declaration column kind) all new → IsKept (state schema targets (declared ++ declaration column kind ∷ []) rows tree new)
-  kept_added kind column inside new added = record {
-    keyed = kept.keyed;
-    few = kept.few;
-    width = kept.width;
-    trees = tree_columns new ∙ added_columns (λ d. is_tree d.kind) (declaration column kind) new added (sym (tree_columns all) ∙ kept.trees);
-    hashes = hash_columns new ∙ added_columns (λ d. not (is_tree d.kind)) (declaration column kind) new added (sym (hash_columns all) ∙ kept.hashes);
-    within = All-push (λ d. d.column.0 < length targets) declared (declaration column kind) kept.within inside;
-  }
 
   pub declared_added : (kind : IndexKind) (column : ColumnNumber) (new : Indexes) → IsAdded (declaration column kind) all new → IsDeclaredOf kind column (state schema targets declared rows tree all) (state schema targets (declared ++ declaration column kind ∷ []) rows tree new)
   declared_added Tree column new (on, same, e) =
@@ -213,17 +178,6 @@ current_new schema targets declared rows tree all no_row no_all keys = rw (no_ro
   trees = λ k d l. absurd (omega (arith, l));
   hashes = λ k d l. absurd (omega (arith, l));
 })
-
--- where a column's links lead is told
-pub kept_told : (schema : Schema) (targets told : List (Option ℕ)) (declared : List DeclaredIndex) (rows : Tuples Row) (tree : RowTree) (all : Indexes) → length told ≡ length targets → IsKept (state schema targets declared rows tree all) → IsKept (state schema told declared rows tree all)
-kept_told schema targets told declared rows tree all same kept = record {
-  keyed = kept.keyed;
-  few = kept.few;
-  width = same ∙ kept.width;
-  trees = kept.trees;
-  hashes = kept.hashes;
-  within = λ k d l. omega (arith, same, kept.within k d l);
-}
 
 -- one index more that serves the rows, where there was memory for it
 pub serve_added : {E : Type 0} (keys : Keys) (rows : Tuples Row) (list : List TupleRef) (all new : Indexes) (on : IndexOn) (o : Result (Unit {0}) E) → OnOk o (new ≡ all ++ on ∷ []) → OnErr o (new ≡ all) → Serves keys rows list (seen on) → Serve keys rows list all → Serve keys rows list new

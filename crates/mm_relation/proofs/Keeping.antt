@@ -49,7 +49,7 @@ kept_of P Q f p (x ∷ xs) each h =
       | false ↦ λ e. rest
     ] refl
 
-not_tree : (b : Bool) → not b ≡ true → b ≡ false
+pub not_tree : (b : Bool) → not b ≡ true → b ≡ false
 not_tree true e = absurd (cc)
 not_tree false e = refl
 

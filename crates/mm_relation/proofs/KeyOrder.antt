@@ -98,9 +98,6 @@ module _ (rows : Tuples Row) (list : List TupleRef) (r : TupleRef) (t : Row) (ke
           ];
     }
 
-    covers : TupleRef → Type 0
-    covers = λ q. IsSome (value_at no_keys 0 (insert rows r t) q)
-
     strict : IsStrictOver (λ q. IsSome (value_at no_keys 0 (insert rows r t) q)) (column_cmp no_keys 0 (insert rows r t))
     strict = column_cmp_strict no_keys 0 (insert rows r t) differ
 

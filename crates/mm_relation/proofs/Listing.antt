@@ -10,7 +10,7 @@ use Rattle.std.specs.declared.cmp.Ordering.TheVariants.{Less, Equal}
 use Rattle.common_lemmas.proofs.Elements.{Contains-cons_cases}
 use Rattle.part_raw.specs.declared.tuple_ref.TupleRef.{TupleRef}
 use Rattle.part_raw.specs.Store.{Tuples}
-use Rattle.mm_index.proofs.Bags.{IsSameBag-sym, IsSameBag-from_same, IsSameBag-push}
+use Rattle.mm_index.proofs.Bags.{IsSameBag-sym, IsSameBag-push}
 use Rattle.mm_index.proofs.Placed.{cmp_itself}
 use Rattle.mm_relation.specs.Rows.{Row}
 use Rattle.mm_relation.specs.declared.index.Index.{Index}
@@ -18,20 +18,15 @@ use Rattle.mm_relation.specs.declared.index.Index.TheVariants.{Tree, Hash}
 use Rattle.mm_relation.specs.declared.index.IndexOn.{IndexOn}
 use Rattle.mm_relation.specs.Reading.{Keys, value_at}
 use Rattle.mm_relation.specs.Order.{column_cmp, column_cmp_strict}
-use Rattle.mm_relation.specs.State.{tree_list, is_tree, IsKeyed, no_keys}
-use Rattle.mm_relation.specs.Indexes.{SeenIndex, seen, room_in, Serves, Awaits, Gains, GainsAs}
+use Rattle.mm_relation.specs.State.{IsKeyed, no_keys}
+use Rattle.mm_relation.specs.Indexes.{seen, room_in, Serves, Awaits, Gains, GainsAs}
 use Rattle.mm_relation.proofs.KeyOrder.{key_readable}
-use Rattle.mm_relation.proofs.Serving.{gains_serves, serves_bag, awaits_one, to_where}
+use Rattle.mm_relation.proofs.Serving.{gains_serves, serves_bag, awaits_one}
 
 differ : (o : Ordering) → o ≡ Less → o ≡ Equal → ⊥
 differ o less equal = let e : Less ≡ Equal = sym less ∙ equal in absurd (cc)
 
 module _ (keys : Keys) (rows : Tuples Row) (list : List TupleRef) (keyed : IsKeyed rows list) where
-  -- no row is served at first
-  pub serves_none : (s : SeenIndex) → tree_list s.tree ≡ [] → s.entries ≡ [] → Serves keys rows [] s
-  serves_none s no_list no_entries =
-      to_where (is_tree s.declaration.kind) (record { bag = IsSameBag-from_same (tree_list s.tree) [] no_list; rising = rw no_list (λ i j d l m. absurd (omega (arith, m))) }) (IsSameBag-from_same s.entries [] no_entries)
-
   module _ (came rest : List TupleRef) (r : TupleRef) (split : list ≡ came ++ r ∷ rest) where
     in_list : (q : TupleRef) → Contains (came ++ r ∷ rest) q → Contains list q
     in_list q h = subst (λ xs. Contains xs q) (sym split) h

@@ -1,6 +1,5 @@
 -- Places of one value along a list that rises by a column.
-use Rattle.std.proofs.Common.{◌≡◌, ◌≢◌, ◌≤◌, ℕ, List, Option, Some, None, refl, sym, ap, ◌∙◌, arith, IfSome, IfNone, inl, inr}
-use Rattle.std.specs.List.{All}
+use Rattle.std.proofs.Common.{◌≡◌, ◌≤◌, ℕ, List, Option, Some, None, refl, sym, ap, ◌∙◌, arith, IfSome, inl, inr}
 use Rattle.std.specs.Option.{option_cmp}
 use Rattle.std.specs.Ordering.{ordering_index, ordering_reverse}
 use Rattle.std.specs.declared.cmp.Ordering.{Ordering}
@@ -20,9 +19,6 @@ use Rattle.mm_relation.specs.Reading.{Keys, value_at, key_at}
 use Rattle.mm_relation.specs.Order.{column_cmp, option_exact}
 
 module _ {A : Type 0} (cmp : A → A → Ordering) (total : IsTotalOrder cmp) where
-  equal_back : (x y : A) → cmp x y ≡ Equal → cmp y x ≡ Equal
-  equal_back x y e = total.antisymm y x ∙ ap ordering_reverse e
-
   greater_back : (x y : A) → cmp x y ≡ Less → cmp y x ≡ Greater
   greater_back x y e = total.antisymm y x ∙ ap ordering_reverse e
 
@@ -61,7 +57,3 @@ option_cmp-self x = self (option_cmp value_cmp x x) ((let total : IsTotalOrder (
 pub value_found : (F : TupleRef → Option Value) (o : Option TupleRef) (sought : Option Value) → IfSome o (λ r. option_cmp value_cmp (F r) sought ≡ Equal) → IfSome o (λ r. F r ≡ sought)
 value_found F (Some r) sought h = option_exact (F r) sought h
 value_found F None sought h = tt
-
-pub value_none : (F : TupleRef → Option Value) (o : Option TupleRef) (sought : Option Value) (xs : List TupleRef) → IfNone o (All (λ r. option_cmp value_cmp (F r) sought ≢ Equal) xs) → IfNone o (All (λ r. F r ≢ sought) xs)
-value_none F (Some r) sought xs h = tt
-value_none F None sought xs h = λ k d l e. h k d l (ap (λ v. option_cmp value_cmp v sought) e ∙ option_cmp-self sought)

@@ -96,10 +96,6 @@ pub from_where : {A B C : Type 0} (b : Bool) → (A → C) → (B → C) → Whe
 from_where true f g h = f h
 from_where false f g h = g h
 
-pub to_where : {A B : Type 0} (b : Bool) → A → B → Where b A B
-to_where true x y = x
-to_where false x y = y
-
 -- room for one
 one_wanted : (index : Index) → wanted 1 index ≤ room_in index → 1 ≤ room_in index
 one_wanted (Tree t) room = room

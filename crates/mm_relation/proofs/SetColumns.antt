@@ -23,7 +23,7 @@ use Rattle.mm_relation.specs.Indexes.{Indexes, Gain, Lose, Serve, Serves, HaveRo
 use Rattle.mm_relation.proofs.Loops.{same_mapped}
 use Rattle.mm_relation.proofs.Replacing.{await_now, served_now}
 use Rattle.mm_relation.proofs.Serving.{agrees_in, from_mapped, from_where, column_at, gains_declared, loses_declared}
-use Rattle.mm_relation.proofs.Setting.{with_cells-key}
+use Rattle.mm_relation.proofs.Setting.{not_first, with_cells-key}
 
 -- a cell beside the one that is set
 slice_get-beside : {A : Type 0} (xs : List A) (i j : ℕ) (x : A) → j ≢ i → slice_get (slice_set xs i x) j ≡ slice_get xs j
@@ -33,17 +33,13 @@ slice_get-beside (y ∷ ys) zero (suc j) x other = refl
 slice_get-beside (y ∷ ys) (suc i) zero x other = refl
 slice_get-beside (y ∷ ys) (suc i) (suc j) x other = slice_get-beside ys i j x (λ e. other (ap (λ n. suc n) e))
 
-later : (c : ℕ) → (c == 0) ≡ false → 0 < c
-later zero e = cc
-later (suc c) e = omega arith
-
 module _ (keys : Keys) (c : ℕ) where
   beside_one : (t : Row) (s : ColumnNumber × Cell) → 0 < s.0.0 → (s.0.0 == c) ≡ false → row_value keys c (record t { cells = slice_set t.cells (s.0.0 - 1) s.1 }) ≡ row_value keys c t
   beside_one t s not_key other =
       elim (c == 0) as (λ b. (c == 0) ≡ b → cond b (Some t.key) (option_and_then (cell_value keys c) (slice_get (slice_set t.cells (s.0.0 - 1) s.1) (c - 1))) ≡ cond b (Some t.key) (option_and_then (cell_value keys c) (slice_get t.cells (c - 1)))) [
         | true ↦ λ e. refl
         | false ↦ λ e.
-            let here : 0 < c = later c e in
+            let here : 0 < c = not_first c e in
             let apart : c ≢ s.0.0 = (λ f. let same : (s.0.0 == c) ≡ true = eq-eqb s.0.0 c (sym f) in cc) in
             let places : c - 1 ≢ s.0.0 - 1 = (λ f. apart (omega arith)) in
             ap (option_and_then (cell_value keys c)) (slice_get-beside t.cells (s.0.0 - 1) (c - 1) s.1 places)

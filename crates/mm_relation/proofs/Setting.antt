@@ -49,7 +49,7 @@ no_more xs ys once inside =
     decides a b = (same_ref_true a b, λ e. subst (λ x. eq_by_cmp ref_cmp a x ≡ true) e (same_ref_self a))
 
 -- a list has a reference, or hasn't
-among_or_not : (xs : List TupleRef) (r : TupleRef) → Contains xs r ⊎ (Contains xs r → ⊥)
+pub among_or_not : (xs : List TupleRef) (r : TupleRef) → Contains xs r ⊎ (Contains xs r → ⊥)
 among_or_not [] r = inr (λ h. absurd (omega (arith, h.1)))
 among_or_not (x ∷ xs) r = elim (same_or_other r x) [
   | inl same ↦ inl (0, omega arith, sym same)
@@ -74,7 +74,7 @@ pub with_cells-key : (sets : List (ColumnNumber × Cell)) (t : Row) → (with_ce
 with_cells-key [] t = refl
 with_cells-key (s ∷ rest) t = with_cells-key rest (record t { cells = slice_set t.cells (s.0.0 - 1) s.1 })
 
-not_first : (c : ℕ) → (c == 0) ≡ false → 0 < c
+pub not_first : (c : ℕ) → (c == 0) ≡ false → 0 < c
 not_first zero g = cc
 not_first (suc c) g = omega arith
 

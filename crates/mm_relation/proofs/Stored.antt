@@ -18,7 +18,7 @@ use Rattle.mm_relation.specs.declared.row.Cell.{Cell}
 use Rattle.mm_relation.specs.declared.row.Cell.TheVariants.{Held}
 use Rattle.mm_relation.specs.Rows.{Row, row_of, row_in, key_in, StartsWithKey}
 use Rattle.mm_relation.specs.Changes.{with_referrers}
-use Rattle.mm_relation.specs.Reading.{Keys, cell_value, row_value, value_at, key_at, link_of, link_in}
+use Rattle.mm_relation.specs.Reading.{Keys, cell_value, row_value, value_at, key_at}
 use Rattle.mm_relation.specs.Order.{held_from_value}
 
 -- a list of cells for each column, of which the first holds the key
@@ -143,14 +143,6 @@ value_of_cells keys (suc column) n cells starts =
     ap (λ b. if b then Some t.key else option_and_then (cell_value keys (suc column)) (slice_get t.cells (suc column - 1))) (eqb-suc-zero column)
     ∙ ap (λ k. option_and_then (cell_value keys (suc column)) (slice_get t.cells k)) (before_suc column)
     ∙ subst (λ (all : List Cell). option_and_then (cell_value keys (suc column)) (slice_get (row_of all n).cells column) ≡ option_and_then (cell_value keys (suc column)) (slice_get all (suc column))) (sym starts.2) refl
-
-pub link_of_cells : (column n : ℕ) (cells : List Cell) → StartsWithKey cells → link_in column (row_of cells n) ≡ option_and_then link_of (slice_get cells column)
-link_of_cells zero n cells starts = subst (λ (all : List Cell). link_in 0 (row_of all n) ≡ option_and_then link_of (slice_get all 0)) (sym starts.2) refl
-link_of_cells (suc column) n cells starts =
-    let t = row_of cells n in
-    ap (λ b. if b then None else option_and_then link_of (slice_get t.cells (suc column - 1))) (eqb-suc-zero column)
-    ∙ ap (λ k. option_and_then link_of (slice_get t.cells k)) (before_suc column)
-    ∙ subst (λ (all : List Cell). option_and_then link_of (slice_get (row_of all n).cells column) ≡ option_and_then link_of (slice_get all (suc column))) (sym starts.2) refl
 
 -- a column that can be read is one of the cells, and that cell tells its value
 module _ (keys : Keys) (column n : ℕ) (cells : List Cell) (starts : StartsWithKey cells) (readable : IsSome (row_value keys column (row_of cells n))) where

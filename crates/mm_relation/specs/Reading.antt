@@ -39,10 +39,6 @@ HoldsLink tuples column to = (r : TupleRef) × (t : Row) × (0 < column) × (map
 abbrev pub AgreeOnLinks : Tuples Row → Keys → Keys → Type 0
 AgreeOnLinks tuples keys others = (column : ℕ) (to : TupleRef) → HoldsLink tuples column to → others column to ≡ keys column to
 
--- the keys of one other table's rows, whatever the column
-abbrev pub keys_in : Tuples Row → Keys
-keys_in tuples = λ _ to. key_at tuples to
-
 -- the hash of what a row has in a column, 0 where there is nothing to read
 abbrev pub hash_of_value : Option Value → ℕ
 hash_of_value None = 0

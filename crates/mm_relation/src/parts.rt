@@ -14,7 +14,7 @@ use crate::keyed::{put_row, take_row};
 use crate::linked_keys::LinkedKeys;
 use crate::row::Cell;
 use crate::rows::Rows;
-use crate::spares::shed_tree;
+use crate::spares::{shed_rows, shed_tree};
 use crate::tree::Tree;
 use no_memory::NoMemory;
 use part_raw::TupleRef;
@@ -81,7 +81,8 @@ pub fn place<R: LinkedKeys>(
     Some(r)
 }
 
-// Takes a row out. It takes no memory, and gives back what is spare of an index where that is more than what is in use.
+// Takes a row out. It takes no memory, and gives back what is spare of the rows' store and of an index where that is more
+// than a share of what is in use.
 pub fn displace<R: LinkedKeys>(
     rows: &mut Rows,
     by_key: &mut Tree,
@@ -106,4 +107,5 @@ pub fn displace<R: LinkedKeys>(
     take_row(rows, by_key, r);
     shed_tree(by_key);
     shed_spares(indexes);
+    shed_rows(rows);
 }

@@ -66,6 +66,14 @@ impl Rows {
         self.store.reserve()
     }
 
+    // Gives the partitions behind the last row back. No row moves. It takes no memory.
+    pub fn release_spares(&mut self)
+        ensures tuples { self.new.tuples ≡ self.old.tuples }
+        ensures width { self.new.width ≡ self.old.width }
+    {
+        self.store.release_spares();
+    }
+
     // Moves the cells of a row in, with no links that name it. It takes no memory, and the vector keeps its own.
     pub fn put(&mut self, row: &mut Vec<Cell>) -> TupleRef
         requires free { 0 < self.old.free }

@@ -1,14 +1,21 @@
-//! What is spare of an index, given back once it is more than what is in use: so a relation that has shrunk doesn't keep
-//! what it grew to.
+//! What is spare of the rows' store and of an index, given back once it is more than a share of what is in use: so a
+//! relation that has shrunk doesn't keep what it grew to.
 //!
 //! A removal makes one node spare at most. So there are as many removals between two times as the second gives back nodes,
 //! but for those that were reserved for a change of rows, and a removal costs no more for it in the long run.
 ghost use Rattle.std.specs.Prelude.{◌≡◌, ◌≤◌, max};
 ghost use Rattle.ttree.specs.Held.{size};
 
+use crate::rows::Rows;
 use crate::tree::Tree;
 use lin_hash::LinHash;
 use mm_index::ExactIndex;
+
+// A store keeps so few free slots, those of four partitions, however few rows there are.
+const FEW_SLOTS: u64 = 1_024;
+
+// And one for so many rows.
+const ROWS_A_FREE_SLOT: u64 = 4;
 
 // A tree keeps so few spare nodes, however few are in use.
 const FEW_NODES: usize = 64;
@@ -16,8 +23,20 @@ const FEW_NODES: usize = 64;
 // A hash keeps memory for so few nodes, of 16 bytes each, however few entries it has.
 const FEW_HASH_NODES: usize = 4_096;
 
-// And for so many an entry: its vectors double as they grow, so twice what is used is as it should be.
+// And for so many an entry: so memory isn't given back and taken again as entries go and come.
 const MOST_NODES_AN_ENTRY: usize = 4;
+
+// Gives the partitions behind the last row back where more slots are free than a quarter as many as there are rows, and
+// more than a few. Each of them had to be filled before, so a removal costs no more for it in the long run.
+pub fn shed_rows(rows: &mut Rows)
+    ensures tuples { rows.new.tuples ≡ rows.old.tuples }
+    ensures width { rows.new.width ≡ rows.old.width }
+    ensures kept { rows.old.free ≤ 1024 → rows.new ≡ rows.old }
+{
+    if rows.free() > FEW_SLOTS.max(rows.len() / ROWS_A_FREE_SLOT) {
+        rows.release_spares();
+    }
+}
 
 // Gives the spare nodes of a tree back where they are more than those in use, and more than a few.
 pub fn shed_tree(tree: &mut Tree)

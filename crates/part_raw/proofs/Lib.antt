@@ -15,3 +15,5 @@ pub mod Sound
 pub mod Parts
 pub mod Tables
 pub mod Mapped
+pub mod Relinked
+pub mod Spared

@@ -1,13 +1,13 @@
 -- How a store keeps its partitions: their blocks, which slots hold a tuple, and the list of the partitions with a free
 -- slot. No public clause cites this module.
-use Rattle.std.specs.Prelude.{◌≡◌, ℕ, zero, suc, ◌+◌, ◌*◌, ◌^◌, ◌<◌, ◌≤◌, Bool, true, List, [], map, length, Option, Some, None, count_by, sum_by, slice_index_or, nat_lt}
+use Rattle.std.specs.Prelude.{◌≡◌, ℕ, zero, suc, ◌+◌, ◌*◌, ◌^◌, ◌<◌, ◌≤◌, ◌↔◌, Bool, true, false, cond, List, [], map, length, Option, Some, None, count_by, sum_by, slice_index_or, nat_lt}
 use Rattle.std.specs.FinMap.{len}
 use Rattle.part_raw.specs.declared.TheConstants.{SLOTS, MAX_WIDTH}
 use Rattle.part_raw.specs.Rows.{IsLaid}
 use Rattle.part_raw.specs.Store.{Tuple}
 use Rattle.part_raw.specs.Counted.{tuples_in}
 use Rattle.part_raw.specs.declared.shelf.Shelf.{Shelf}
-use Rattle.part_raw.specs.Layout.{IsPartition, vacancies, tuples_of}
+use Rattle.part_raw.specs.Layout.{is_set, IsPartition, vacancies, tuples_of}
 use Rattle.part_raw.specs.declared.store.Occupancy.{Occupancy}
 
 -- from the first on, so many partitions are open and name the next, and the last names none
@@ -17,6 +17,11 @@ IsOpenList is_open next zero (Some part) = ⊥
 IsOpenList is_open next (suc count) None = ⊥
 IsOpenList is_open next (suc count) (Some part) = (is_open part ≡ true) × IsOpenList is_open next count (next part)
 
+-- how many of the first n are open
+abbrev pub below : (ℕ → Bool) → ℕ → ℕ
+below is_open zero = 0
+below is_open (suc n) = below is_open n + cond (is_open n) 1 0
+
 -- the words of a partition's bitmap
 abbrev pub words_at : List Occupancy → ℕ → List ℕ
 words_at occupancies part = slice_index_or (map (λ o. o.held.words) occupancies) part []
@@ -24,6 +29,10 @@ words_at occupancies part = slice_index_or (map (λ o. o.held.words) occupancies
 -- the partition that it names as the next in the list
 abbrev pub next_at : List Occupancy → ℕ → Option ℕ
 next_at occupancies part = slice_index_or (map (λ o. o.next_open) occupancies) part None
+
+-- a partition is open unless each of its bits is set
+abbrev pub Tells : (ℕ → Bool) → List Occupancy → Type 0
+Tells is_open occupancies = (part : ℕ) → part < length occupancies → (is_open part ≡ false) ↔ ((slot : ℕ) → slot < SLOTS → is_set (words_at occupancies part) slot ≡ true)
 
 module _ {T : Type 0} where
   -- whether a slot is free
@@ -57,6 +66,11 @@ module _ {T : Type 0} where
   -- what each slot of each shelf holds
   abbrev pub tables : ℕ → List (Shelf T) → List (List (Option (Tuple T)))
   tables width shelves = map (tuples_in width) shelves
+
+  -- each shelf is laid for this width, and has its bitmap
+  pub record AreKept (width : ℕ) (shelves : List (Shelf T)) (occupancies : List Occupancy) : Type 0 where
+    pub laid : (part : ℕ) (shelf : Shelf T) → part < length shelves → shelf ≡ slice_index_or shelves part shelf → IsLaid width shelf.block
+    pub mapped : HaveBitmaps (tables width shelves) occupancies
 
   -- the shelves' places are the slots of a store whose tuples have this width
   pub record IsTable (width : ℕ) (shelves : List (Shelf T)) (occupancies : List Occupancy) (free : ℕ) (first_open : Option ℕ) : Type 0 where

@@ -1,6 +1,6 @@
 -- What a contract sees of a `Partitions`: a finite map from references to tuples, and a count of free slots. The laws
 -- of the map are in `proofs.Tuples`.
-use Rattle.std.specs.Prelude.{ℕ, List, Option, IsSome, refl, if◌then◌else◌, nat_lt}
+use Rattle.std.specs.Prelude.{ℕ, ◌+◌, ◌<◌, ◌≤◌, List, Option, IsSome, refl, if◌then◌else◌, nat_lt}
 use Rattle.std.specs.Coded.{Coded, code_by, coded×, coded_list, coded_ℕ}
 use Rattle.std.specs.FinMap as map
 use Rattle.part_raw.specs.declared.TheConstants.{SLOTS}
@@ -54,3 +54,7 @@ module _ {T : Type 0} where
   -- the store with this as the tuple under the reference
   abbrev pub with_tuple : Store T → TupleRef → Tuple T → Store T
   with_tuple s r t = record s { tuples = map.insert s.tuples r t }
+
+  -- so many slots there are that the last partition holds a tuple
+  abbrev pub EndsHeld : Store T → Type 0
+  EndsHeld s = 0 < map.len s.tuples + s.free → (r : TupleRef) × IsHeld s r × (map.len s.tuples + s.free ≤ r.number + SLOTS)

@@ -27,6 +27,7 @@
 //!   read. Making a partition writes nothing to its places.
 //! - The list from `first_open` on has each partition with a free slot once, and no other.
 //! - Each slot is free or holds a tuple, so `len` is told by the number of partitions and `free`.
+//! - After `release_spares` the last partition holds a tuple, where there is a partition.
 //! - A block can't be let go, nor can a cell in it: it is given back to the allocator once, and only with all its places
 //!   empty.
 //!

@@ -119,6 +119,14 @@ pub(crate) fn discard<T: Drop>(mut held: Bitmap, mut shelf: Shelf<T>, width: usi
     while let Some(slot) = held.first_set() {
         empty(&mut held, &mut shelf, slot, width);
     }
+    give_back(shelf, width);
+}
+
+// Gives the memory of a partition back that holds no tuple.
+pub(crate) fn give_back<T>(shelf: Shelf<T>, width: usize)
+    requires wide { (0 < width) × (width ≤ MAX_WIDTH) }
+    requires empty { shelf.block ≡ replicate (SLOTS * width) None }
+{
     let Shelf { block, counts: _ } = shelf;
     block.free(SLOTS as usize * width);
 }

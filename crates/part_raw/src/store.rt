@@ -1,12 +1,14 @@
 //! All partitions of a store, and the list of those with a free slot. A look-up reads the blocks alone; a put and a take
 //! keep the bitmaps, the count of free slots and the list in step with them.
-ghost use Rattle.std.specs.Prelude.{◌≡◌, ◌↔◌, ◌+◌, ◌<◌, ◌≤◌, [], None, Some, IfSome, IfOk, IsOk, OnErr, OnOk, length, slice_index_or, slice_set};
-ghost use Rattle.std.specs.FinMap as map;
+ghost use Rattle.std.specs.Prelude.{◌≡◌, ◌↔◌, ℕ, Bool, ◌+◌, ◌-◌, ◌*◌, ◌<◌, ◌≤◌, [], true, false, None, Some, IfSome, IfOk, IsOk, OnErr, OnOk, length, map, sum_by, slice_index_or, slice_set};
+ghost use Rattle.std.specs.FinMap as finite;
 ghost use Rattle.std.specs.Vec.{vec_capacity};
-ghost use Rattle.part_raw.specs.Store.{store, tuple, tuple_at, with_tuple, IsHeld, free_reserved};
+ghost use Rattle.part_raw.specs.Store.{store, tuple, tuple_at, with_tuple, IsHeld, EndsHeld, free_reserved};
+ghost use Rattle.part_raw.specs.Layout.{is_set, tuples_of, vacancies};
+ghost use Rattle.part_raw.specs.Open.{AreKept, IsOpenList, Tells, below, next_at, tables, words_at};
 
 use crate::bitmap::Bitmap;
-use crate::partition::{discard, empty, exchange, fill, new_shelf, vacate};
+use crate::partition::{discard, empty, exchange, fill, give_back, new_shelf, vacate};
 use crate::shelf::Shelf;
 use crate::{MAX_TUPLES, MAX_WIDTH, SLOTS, TupleRef};
 use no_memory::NoMemory;
@@ -23,7 +25,7 @@ struct Occupancy {
 
 /// Tuples that do not move, each under a reference that is its own while it is held.
 ///
-/// A store grows by partitions of `SLOTS` slots, and keeps them until it is dropped.
+/// A store grows by partitions of `SLOTS` slots. `release_spares` gives back those at the end that hold no tuple.
 pub struct Partitions<T> {
     alloc: Global,
     // How many cells a tuple has.
@@ -75,7 +77,7 @@ impl<T> Partitions<T> {
     /// An empty store of tuples of so many cells. It takes no memory. Refused is a tuple of no cell, and one of more cells
     /// than a store can address.
     pub fn new(alloc: Global, width: usize) -> Result<Partitions<T>, NoMemory>
-        ensures made { IfOk result (λ made. made ≡ store width map.empty 0) }
+        ensures made { IfOk result (λ made. made ≡ store width finite.empty 0) }
         ensures told { IsOk result ↔ ((0 < width) × (width ≤ MAX_WIDTH)) }
     {
         if width == 0 || width > MAX_WIDTH {
@@ -102,22 +104,22 @@ impl<T> Partitions<T> {
     /// The number of free slots: so many calls of `put` need no `reserve` before them.
     pub fn free(&self) -> u64
         ensures value { result ≡ self.now.free }
-        ensures within { map.len self.now.tuples + self.now.free ≤ MAX_TUPLES }
+        ensures within { finite.len self.now.tuples + self.now.free ≤ MAX_TUPLES }
     {
         self.free
     }
 
     /// The number of tuples that are held.
     pub fn len(&self) -> u64
-        ensures value { result ≡ map.len self.now.tuples }
-        ensures within { map.len self.now.tuples + self.now.free ≤ MAX_TUPLES }
+        ensures value { result ≡ finite.len self.now.tuples }
+        ensures within { finite.len self.now.tuples + self.now.free ≤ MAX_TUPLES }
     {
         self.shelves.len() as u64 * SLOTS as u64 - self.free
     }
 
     /// The number of slots, free or not. The number of each reference under which a tuple is held is below it.
     pub fn slots(&self) -> u64
-        ensures value { result ≡ map.len self.now.tuples + self.now.free }
+        ensures value { result ≡ finite.len self.now.tuples + self.now.free }
         ensures most { result ≤ MAX_TUPLES }
         ensures within { (r : TupleRef) → IsHeld self.now r → r.number < result }
     {
@@ -126,7 +128,7 @@ impl<T> Partitions<T> {
 
     /// Makes sure of one free slot: a store with none gets a partition of `SLOTS` more.
     pub fn reserve(&mut self) -> Result<(), NoMemory>
-        requires { self.old.free ≡ 0 → map.len self.old.tuples < MAX_TUPLES }
+        requires { self.old.free ≡ 0 → finite.len self.old.tuples < MAX_TUPLES }
         ensures ok { OnOk result (self.new ≡ record self.old { free = free_reserved self.old.free }) }
         ensures err { OnErr result (self.new ≡ self.old) }
         ensures had_room { 0 < self.old.free → IsOk result }
@@ -153,7 +155,7 @@ impl<T> Partitions<T> {
         requires room { 0 < self.old.free }
         requires width { length cells.old.items ≡ self.old.width }
         ensures fresh { tuple_at self.old result ≡ None }
-        ensures tuples { self.new.tuples ≡ map.insert self.old.tuples result (tuple cells.old.items 0) }
+        ensures tuples { self.new.tuples ≡ finite.insert self.old.tuples result (tuple cells.old.items 0) }
         ensures free { self.new.free + 1 ≡ self.old.free }
         ensures width { self.new.width ≡ self.old.width }
         ensures moved { cells.new.items ≡ [] }
@@ -176,7 +178,7 @@ impl<T> Partitions<T> {
 
     /// Whether a tuple is held under this reference, which may be any.
     pub fn holds(&self, r: TupleRef) -> bool
-        ensures { result ≡ map.contains_key self.now.tuples r }
+        ensures { result ≡ finite.contains_key self.now.tuples r }
     {
         let part = r.part() as usize;
         part < self.occupancies.len() && self.occupancies[part].held.has(r.slot())
@@ -240,7 +242,7 @@ impl<T> Partitions<T> {
         requires empty { cells.old.items ≡ [] }
         requires room { self.old.width ≤ vec_capacity cells.old }
         ensures tuple { tuple_at self.old r ≡ Some (tuple cells.new.items result) }
-        ensures tuples { self.new.tuples ≡ map.remove self.old.tuples r }
+        ensures tuples { self.new.tuples ≡ finite.remove self.old.tuples r }
         ensures free { self.new.free ≡ self.old.free + 1 }
         ensures width { self.new.width ≡ self.old.width }
         ensures capacity { vec_capacity cells.new ≡ vec_capacity cells.old }
@@ -264,7 +266,7 @@ impl<T> Partitions<T> {
     where
         T: Drop,
         requires { IsHeld self.old r }
-        ensures tuples { self.new.tuples ≡ map.remove self.old.tuples r }
+        ensures tuples { self.new.tuples ≡ finite.remove self.old.tuples r }
         ensures free { self.new.free ≡ self.old.free + 1 }
         ensures width { self.new.width ≡ self.old.width }
     {
@@ -280,4 +282,70 @@ impl<T> Partitions<T> {
             self.first_open = Some(part);
         }
     }
+
+    /// Gives the memory of each partition back that lies behind the last tuple. No tuple moves. It takes no memory. Where the
+    /// last partition holds a tuple, it costs no more than a look at that one.
+    pub fn release_spares(&mut self)
+        ensures tuples { self.new.tuples ≡ self.old.tuples }
+        ensures width { self.new.width ≡ self.old.width }
+        ensures free { self.new.free ≤ self.old.free }
+        ensures last { EndsHeld self.new }
+    {
+        if !ends_spare(&self.occupancies) {
+            return;
+        }
+        let len = self.len();
+        pop_spares(&mut self.shelves, &mut self.occupancies, self.width);
+        self.first_open = relink(&mut self.occupancies);
+        self.free = self.shelves.len() as u64 * SLOTS as u64 - len;
+    }
+}
+
+// Whether there is a partition, and the last holds no tuple.
+fn ends_spare(occupancies: &Vec<Occupancy>) -> bool
+    ensures some { result ≡ true → 0 < length occupancies.now.items }
+    ensures spare { result ≡ true → (slot : ℕ) → slot < SLOTS → is_set (words_at occupancies.now.items (length occupancies.now.items - 1)) slot ≡ false }
+    ensures held { result ≡ false → 0 < length occupancies.now.items → (slot : ℕ) × (slot < SLOTS) × (is_set (words_at occupancies.now.items (length occupancies.now.items - 1)) slot ≡ true) }
+{
+    let n = occupancies.len();
+    n > 0 && occupancies[n - 1].held.first_set().is_none()
+}
+
+// Gives each partition back that lies behind the last tuple.
+fn pop_spares<T>(shelves: &mut Vec<Shelf<T>>, occupancies: &mut Vec<Occupancy>, width: usize)
+    requires wide { (0 < width) × (width ≤ MAX_WIDTH) }
+    requires kept { AreKept width shelves.old.items occupancies.old.items }
+    ensures kept { AreKept width shelves.new.items occupancies.new.items }
+    ensures tuples { tuples_of (tables width shelves.new.items) ≡ tuples_of (tables width shelves.old.items) }
+    ensures fewer { length shelves.new.items ≤ length shelves.old.items }
+    ensures freed { sum_by vacancies (tables width shelves.new.items) + SLOTS * length shelves.old.items ≡ sum_by vacancies (tables width shelves.old.items) + SLOTS * length shelves.new.items }
+    ensures last { 0 < length occupancies.new.items → (slot : ℕ) × (slot < SLOTS) × (is_set (words_at occupancies.new.items (length occupancies.new.items - 1)) slot ≡ true) }
+{
+    while ends_spare(occupancies) {
+        match (shelves.pop(), occupancies.pop()) {
+            (Some(shelf), Some(_)) => give_back(shelf, width),
+            _ => unreachable!(),
+        }
+    }
+    shelves.shrink_to_fit();
+    occupancies.shrink_to_fit();
+}
+
+// Links the partitions that have a free slot, the lowest first, and names the first.
+fn relink(occupancies: &mut Vec<Occupancy>) -> Option<u32>
+    requires { length occupancies.old.items < 4294967296 }
+    ensures held { map (λ o. o.held.words) occupancies.new.items ≡ map (λ o. o.held.words) occupancies.old.items }
+    ensures linked { (is_open : ℕ → Bool) → Tells is_open occupancies.old.items → IsOpenList is_open (next_at occupancies.new.items) (below is_open (length occupancies.old.items)) result }
+{
+    let mut first_open = None;
+    let mut part = occupancies.len();
+    while part > 0 {
+        part -= 1;
+        let occupancy = &mut occupancies[part];
+        if !occupancy.held.is_full() {
+            occupancy.next_open = first_open;
+            first_open = Some(part as u32);
+        }
+    }
+    first_open
 }

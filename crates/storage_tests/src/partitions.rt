@@ -160,6 +160,51 @@ fn each_cell_is_dropped_once(rt: HostRuntime) {
     assert!(&rt; drops.get() == 1_800);
 }
 
+/// Removes each tuple of these.
+fn remove_all(rt: &impl Abort, store: &mut Partitions<Counted<'_>>, refs: &[TupleRef]) {
+    for r in refs {
+        assert!(rt; store.holds(*r));
+        store.remove(*r);
+    }
+}
+
+#[test]
+fn a_release_gives_back_the_partitions_behind_the_last_tuple(rt: HostRuntime) {
+    let drops = Cell::new(0);
+    let mut store = store_of(&rt, rt.alloc(), 3);
+    let refs = fill(&rt, rt.alloc(), &mut store, &drops, 768);
+    let refs = refs.as_slice();
+    counts_are(&rt, &store, 768, 0);
+    remove_all(&rt, &mut store, refs.get(512..768).expect(&rt, "a third"));
+    counts_are(&rt, &store, 512, 256);
+    store.release_spares();
+    counts_are(&rt, &store, 512, 0);
+    assert!(&rt;
+        has(
+            &store,
+            *refs.get(511).expect(&rt, "a reference"),
+            &[511, 511, 511]
+        )
+    );
+    remove_all(&rt, &mut store, refs.get(0..256).expect(&rt, "a third"));
+    store.release_spares();
+    counts_are(&rt, &store, 256, 256);
+    let again = fill(&rt, rt.alloc(), &mut store, &drops, 256);
+    counts_are(&rt, &store, 512, 0);
+    assert!(&rt;
+        has(
+            &store,
+            *refs.get(300).expect(&rt, "a reference"),
+            &[300, 300, 300]
+        )
+    );
+    remove_all(&rt, &mut store, refs.get(256..512).expect(&rt, "a third"));
+    remove_all(&rt, &mut store, again.as_slice());
+    store.release_spares();
+    counts_are(&rt, &store, 0, 0);
+    assert!(&rt; store.slots() == 0);
+}
+
 #[test]
 fn a_tuple_that_cannot_be_addressed_is_refused(rt: HostRuntime) {
     let widest = Partitions::<u64>::new(rt.alloc(), MAX_WIDTH);

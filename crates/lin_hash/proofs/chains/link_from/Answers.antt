@@ -50,6 +50,7 @@ loop-place-preserved c =
       nodes_len = ap length f ∙ length-set l.nodes.items c.in-Some.place _ ∙ nodes_len;
       heads_len = ap length g ∙ length-set l.heads _ _ ∙ l.invariant.heads_len;
       memory = c.link.ensures.memory ∙ l.invariant.memory;
+      listed = c.link.ensures.listed ∙ l.invariant.listed;
     }
 
 pub returns-clause-hung : goal.returns-clause-hung

@@ -10,6 +10,7 @@ invariant-loop-place l = record {
   nodes_len : length l.nodes.items ≡ length l.fn.nodes.items;
   heads_len : length l.heads ≡ length l.fn.heads;
   memory : l.nodes.memory ≡ l.fn.nodes.memory;
+  listed : l.nodes.listed ≡ l.fn.nodes.listed;
 }
 
 abbrev pub decreases-loop-place : goal.decreases-loop-place

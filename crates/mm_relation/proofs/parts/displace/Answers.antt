@@ -10,7 +10,7 @@ remove-requires-clause-has g c =
 
 pub returns-clause-serve : goal.returns-clause-serve
 returns-clause-serve g c =
-    rw (c.take_row.ensures.taken, c.shed_tree.ensures.tree, c.shed_spares.ensures.same)
+    rw (c.shed_rows.ensures.tuples, c.take_row.ensures.taken, c.shed_tree.ensures.tree, c.shed_spares.ensures.same)
     (served_without (g.R.LinkedKeys.keys c.args.links.now) c.args.rows.now.tuples (items_of_tree c.args.by_key.now) c.args.indexes.now c.requires.keyed c.requires.read c.requires.serve c.args.r c.requires.held
     (items_of_tree c.take_row.new.by_key) c.remove.new.indexes c.take_row.ensures.unlisted (rw c.take_row.ensures.taken at c.take_row.ensures.keyed) c.remove.ensures)
 

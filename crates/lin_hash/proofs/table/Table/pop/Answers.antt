@@ -1,6 +1,6 @@
 use Rattle.std.proofs.Common.{◌≡◌, ◌<◌, ◌-◌, ◌∙◌, ◌∷◌, ◌++◌, ℕ, [], Option, length, ap, sym, subst, arith}
 use Rattle.std.proofs.lemmas.List.{with_items_is, length-map, length-append}
-use Rattle.lin_hash.specs.declared.node.Link.{Link}
+use Rattle.lin_hash.specs.declared.node.NodeLink.{NodeLink}
 use Rattle.lin_hash.specs.Address.{bucket_of}
 use Rattle.lin_hash.specs.Nodes.{head_at, node_at, next_at, entry_of, entries_of, relinked_head}
 use Rattle.lin_hash.specs.Chains.{placed_at, IsBehind, Visits}
@@ -28,14 +28,14 @@ before-behind-requires c =
     let t = c.self.inside in
     let d = (goal.at.before-behind-requires c).After-index in
     let p : ℕ = c.len-place.result - 1 in
-    subst (λ (k : Link). Visits t.nodes.items k p) (sym (AreHung-head t.address.level t.address.mark t.nodes.items t.heads.items [] c.self.invariant.hung c.get-node.result.hash c.bucket-bucket.result c.bucket-bucket.ensures c.index.result.now c.index.ensures))
+    subst (λ (k : NodeLink). Visits t.nodes.items k p) (sym (AreHung-head t.address.level t.address.mark t.nodes.items t.heads.items [] c.self.invariant.hung c.get-node.result.hash c.bucket-bucket.result c.bucket-bucket.ensures c.index.result.now c.index.ensures))
     (Visits-hung t.address.level t.address.mark t.nodes.items t.heads.items c.self.invariant.hung p (place_inside d) c.bucket-bucket.result (c.bucket-bucket.ensures ∙ ap (λ n. bucket_of t.address.level t.address.mark n.hash) c.get-node.ensures))
 
 stands_behind : (c : After-before-behind) → IsBehind c.self.inside.nodes.items (head_at c.self.inside.heads.items c.bucket-bucket.result) (placed_at c.self.inside.nodes.items (c.len-place.result - 1)) c.before-behind.result
 stands_behind c =
     let t = c.self.inside in
     let nodes = t.nodes.items in
-    subst (λ (k : Link). IsBehind nodes k (placed_at nodes (c.len-place.result - 1)) c.before-behind.result) (AreHung-head t.address.level t.address.mark t.nodes.items t.heads.items [] c.self.invariant.hung c.get-node.result.hash c.bucket-bucket.result c.bucket-bucket.ensures c.index.result.now c.index.ensures) c.before-behind.ensures
+    subst (λ (k : NodeLink). IsBehind nodes k (placed_at nodes (c.len-place.result - 1)) c.before-behind.result) (AreHung-head t.address.level t.address.mark t.nodes.items t.heads.items [] c.self.invariant.hung c.get-node.result.hash c.bucket-bucket.result c.bucket-bucket.ensures c.index.result.now c.index.ensures) c.before-behind.ensures
 
 pub unlink-requires-clause-behind : goal.unlink-requires-clause-behind
 unlink-requires-clause-behind c =
@@ -60,7 +60,7 @@ invariant_of-self c =
     let s = stands_behind d in
     let at = c.bucket-bucket.ensures ∙ ap (λ n. bucket_of t.address.level t.address.mark n.hash) c.get-node.ensures in
     let behind : Option ℕ = c.before-behind.result in
-    let next : Link = next_at t.nodes.items p in
+    let next : NodeLink = next_at t.nodes.items p in
     let x = placed_at t.nodes.items p in
     let heads_now : c.unlink.new.heads ≡ relinked_head t.heads.items b behind next = rw c.deref_mut.ensures.value at c.unlink.ensures.heads in
     let heads_len : length c.unlink.new.heads ≡ t.heads.len = ap length heads_now ∙ length-taken_head t.heads.items b behind next ∙ omega (arith, t.heads.ok.0) in
@@ -88,7 +88,7 @@ returns-clause-entries c =
     let s = stands_behind d in
     let at = c.bucket-bucket.ensures ∙ ap (λ n. bucket_of t.address.level t.address.mark n.hash) c.get-node.ensures in
     let behind : Option ℕ = c.before-behind.result in
-    let next : Link = next_at t.nodes.items p in
+    let next : NodeLink = next_at t.nodes.items p in
     let x = placed_at t.nodes.items p in
     let unlinked = c.unlink.ensures.nodes in
     let unlinked_len = ap length unlinked in

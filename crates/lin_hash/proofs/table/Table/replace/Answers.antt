@@ -3,7 +3,7 @@ use Rattle.std.specs.List.{Contains}
 use Rattle.std.specs.Vec.{with_items}
 use Rattle.std.proofs.lemmas.List.{with_items_is, length-set}
 use Rattle.mm_index.specs.Bag.{IsSameBag}
-use Rattle.lin_hash.specs.declared.node.Link.{Link}
+use Rattle.lin_hash.specs.declared.node.NodeLink.{NodeLink}
 use Rattle.lin_hash.specs.declared.node.Node.{Node}
 use Rattle.lin_hash.specs.Address.{bucket_of}
 use Rattle.lin_hash.specs.Nodes.{head_at, node_at, next_at, leading_to, entries_of, relinked_head}
@@ -25,13 +25,13 @@ find-at-requires c =
     let t = c.self.inside in
     let b = c.bucket-bucket.result in
     let held : Contains (entries_of t.nodes.items) (c.args.hash, c.args.r) = subst (λ es. Contains es (c.args.hash, c.args.r)) (sym (ap (λ v. v.entries) c.self.view_is)) c.requires in
-    subst (λ (k : Link). HoldsEntry t.nodes.items k c.args.hash c.args.r) (sym (AreHung-head t.address.level t.address.mark t.nodes.items t.heads.items [] c.self.invariant.hung c.args.hash c.bucket-bucket.result c.bucket-bucket.ensures c.index.result.now c.index.ensures))
+    subst (λ (k : NodeLink). HoldsEntry t.nodes.items k c.args.hash c.args.r) (sym (AreHung-head t.address.level t.address.mark t.nodes.items t.heads.items [] c.self.invariant.hung c.args.hash c.bucket-bucket.result c.bucket-bucket.ensures c.index.result.now c.index.ensures))
     (HoldsEntry-hung t.address.level t.address.mark t.nodes.items t.heads.items c.self.invariant.hung c.args.hash b c.bucket-bucket.ensures c.args.r held)
 
 stands_there : (c : After-find-at) → StandsAt c.self.inside.nodes.items (head_at c.self.inside.heads.items c.bucket-bucket.result) c.args.hash c.args.r c.find-at.result
 stands_there c =
     let t = c.self.inside in
-    subst (λ (k : Link). StandsAt t.nodes.items k c.args.hash c.args.r c.find-at.result) (AreHung-head t.address.level t.address.mark t.nodes.items t.heads.items [] c.self.invariant.hung c.args.hash c.bucket-bucket.result c.bucket-bucket.ensures c.index.result.now c.index.ensures) c.find-at.ensures
+    subst (λ (k : NodeLink). StandsAt t.nodes.items k c.args.hash c.args.r c.find-at.result) (AreHung-head t.address.level t.address.mark t.nodes.items t.heads.items [] c.self.invariant.hung c.args.hash c.bucket-bucket.result c.bucket-bucket.ensures c.index.result.now c.index.ensures) c.find-at.ensures
 
 pub unlink-requires-clause-place : goal.unlink-requires-clause-place
 unlink-requires-clause-place c =
@@ -55,19 +55,19 @@ unlink-requires-clause-bucket c =
 abbrev target : After-unlink → Placed
 target c = (c.args.hash, (c.args.r, c.find-at.result.place))
 
-abbrev heads_left : After-unlink → List Link
+abbrev heads_left : After-unlink → List NodeLink
 heads_left c = relinked_head c.self.inside.heads.items c.bucket-bucket.result c.find-at.result.behind (next_at c.self.inside.nodes.items c.find-at.result.place)
 
 hung_left : (c : After-unlink) → AreHung c.self.inside.address.level c.self.inside.address.mark c.unlink.new.nodes.items (heads_left c) (target c ∷ [])
 hung_left c =
     let t = c.self.inside in
-    let s = subst (λ (k : Link). StandsAt t.nodes.items k c.args.hash c.args.r c.find-at.result) (AreHung-head t.address.level t.address.mark t.nodes.items t.heads.items [] c.self.invariant.hung c.args.hash c.bucket-bucket.result c.bucket-bucket.ensures c.index.result.now c.index.ensures) c.find-at.ensures in
+    let s = subst (λ (k : NodeLink). StandsAt t.nodes.items k c.args.hash c.args.r c.find-at.result) (AreHung-head t.address.level t.address.mark t.nodes.items t.heads.items [] c.self.invariant.hung c.args.hash c.bucket-bucket.result c.bucket-bucket.ensures c.index.result.now c.index.ensures) c.find-at.ensures in
     rw c.unlink.ensures.nodes (AreHung-taken t.address.level t.address.mark t.nodes.items t.heads.items c.self.invariant.hung (target c) c.bucket-bucket.result c.bucket-bucket.ensures s.0 s.1 s.2 c.find-at.result.behind s.3)
 
 stands_left : (c : After-unlink) → Stands c.unlink.new.nodes.items (target c)
 stands_left c =
     let t = c.self.inside in
-    let s = subst (λ (k : Link). StandsAt t.nodes.items k c.args.hash c.args.r c.find-at.result) (AreHung-head t.address.level t.address.mark t.nodes.items t.heads.items [] c.self.invariant.hung c.args.hash c.bucket-bucket.result c.bucket-bucket.ensures c.index.result.now c.index.ensures) c.find-at.ensures in
+    let s = subst (λ (k : NodeLink). StandsAt t.nodes.items k c.args.hash c.args.r c.find-at.result) (AreHung-head t.address.level t.address.mark t.nodes.items t.heads.items [] c.self.invariant.hung c.args.hash c.bucket-bucket.result c.bucket-bucket.ensures c.index.result.now c.index.ensures) c.find-at.ensures in
     rw c.unlink.ensures.nodes (Stands-taken t.address.level t.address.mark t.nodes.items t.heads.items c.self.invariant.hung (target c) c.bucket-bucket.result c.bucket-bucket.ensures s.0 s.1 s.2 c.find-at.result.behind s.3)
 
 few_left : (c : After-unlink) → length c.unlink.new.nodes.items < 2 ^ 32
@@ -101,7 +101,7 @@ invariant_of-self c =
     let d = (goal.at.invariant_of-self c).After-unlink in
     let n : Node = record { hash = c.args.by.0; reference = c.args.by.1; next = c.none-next.result } in
     let behind : Option ℕ = c.find-at.result.behind in
-    let next : Link = next_at t.nodes.items c.find-at.result.place in
+    let next : NodeLink = next_at t.nodes.items c.find-at.result.place in
     let heads_now : c.unlink.new.heads ≡ heads_left d = rw c.deref_mut.ensures.value at c.unlink.ensures.heads in
     let heads_len : length c.unlink.new.heads ≡ t.heads.len = ap length heads_now ∙ length-taken_head t.heads.items c.bucket-bucket.result behind next ∙ omega (arith, t.heads.ok.0) in
     let between : c.deref_mut-2.result.now ≡ heads_left d = c.deref_mut-2.ensures.value ∙ with_items_is t.heads c.unlink.new.heads heads_len ∙ heads_now in
@@ -125,7 +125,7 @@ returns-clause-entries c =
     let d = (goal.at.returns-clause-entries c).After-unlink in
     let n : Node = record { hash = c.args.by.0; reference = c.args.by.1; next = c.none-next.result } in
     let behind : Option ℕ = c.find-at.result.behind in
-    let next : Link = next_at t.nodes.items c.find-at.result.place in
+    let next : NodeLink = next_at t.nodes.items c.find-at.result.place in
     let heads_now : c.unlink.new.heads ≡ heads_left d = rw c.deref_mut.ensures.value at c.unlink.ensures.heads in
     let heads_len : length c.unlink.new.heads ≡ t.heads.len = ap length heads_now ∙ length-taken_head t.heads.items c.bucket-bucket.result behind next ∙ omega (arith, t.heads.ok.0) in
     let between : c.deref_mut-2.result.now ≡ heads_left d = c.deref_mut-2.ensures.value ∙ with_items_is t.heads c.unlink.new.heads heads_len ∙ heads_now in
