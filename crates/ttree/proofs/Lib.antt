@@ -17,6 +17,7 @@ pub mod Losing
 pub mod Narrowing
 pub mod Occupancy
 pub mod Ordered
+pub mod Packing
 pub mod Places
 pub mod Puts
 pub mod Growing

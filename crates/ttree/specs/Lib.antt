@@ -1,6 +1,7 @@
 pub mod Fullness
 pub mod Held
 pub mod Mending
+pub mod Packing
 pub mod Removing
 pub mod Rising
 pub mod Room

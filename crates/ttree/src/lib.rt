@@ -13,6 +13,7 @@
 #![tactic(auto)]
 
 mod balance;
+mod build;
 mod index;
 mod insert;
 mod removal;

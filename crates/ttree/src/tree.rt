@@ -6,6 +6,7 @@ ghost use Rattle.mm_index.specs.Asking.{IsOnlyAsked, counted};
 ghost use Rattle.mm_index.specs.Order.{IsRising, insert_by, insert_placed, remove_by};
 ghost use Rattle.mm_index.specs.Range.{NeverFalls, in_range, from_range};
 
+use crate::build::build;
 use crate::insert::insert_unless_found;
 use crate::removal::remove;
 use crate::search::locate;
@@ -46,6 +47,7 @@ impl<const MIN: usize, const MAX: usize> TTree<MIN, MAX> {
     ghost use Rattle.ttree_node.specs.Walk.{rest_of};
     ghost use Rattle.ttree.specs.Searching.{taken, IsAskedAtMost, IsHitIn, IsGap};
     ghost use Rattle.ttree.specs.Held.{items_of_tree};
+    ghost use Rattle.ttree.specs.Packing.{IsPacked};
     ghost use Rattle.ttree.specs.Room.{nodes_of, room_of, nodes_for};
     ghost use Rattle.ttree.specs.Shape.{IsBalanced, HasTrueHeights, HasItemsInEach, IsOccupiedThroughout, ParentsAreFull, fib, binary_digits};
 
@@ -63,6 +65,29 @@ impl<const MIN: usize, const MAX: usize> TTree<MIN, MAX> {
             len: 0,
             nodes: 0,
         }
+    }
+
+    /// A tree of these references, in the order in which they come, with no search. It takes its nodes' memory and no more:
+    /// the fewest nodes that hold the references, each full but the last. No order is asked for here. What is later handed
+    /// in with a call has to be one by which they rise.
+    pub fn from_slice(alloc: Global, refs: &[TupleRef]) -> Result<TTree<MIN, MAX>, NoMemory>
+        requires some { 1 ≤ MIN }
+        requires ordered { MIN ≤ MAX }
+        requires two { 2 ≤ MAX }
+        requires short { length refs.now ≤ 2 ^ 32 }
+        ensures items { IfOk result (λ t. items_of_tree t ≡ refs.now) }
+        ensures packed { IfOk result (λ t. IsPacked MAX t.tree) }
+        ensures spares { IfOk result (λ t. t.spares ≡ 0) }
+    {
+        let nodes = refs.len().div_ceil(MAX);
+        let mut tree = LinkedTree::new(alloc);
+        tree.reserve(nodes)?;
+        build::<MIN, MAX>(tree.nodes_mut(), refs);
+        Ok(TTree {
+            tree,
+            len: refs.len(),
+            nodes,
+        })
     }
 
     /// A reference in the range of the probe.

@@ -4,6 +4,8 @@
 #![tactic(auto)]
 
 #[cfg(test)]
+mod built;
+#[cfg(test)]
 mod keys;
 #[cfg(test)]
 mod shapes;

@@ -1,0 +1,79 @@
+//! Trees that are built from below, of so many references: their lists beside the vector that was handed in, and their shapes.
+
+use no_memory::NoMemory;
+use part_raw::TupleRef;
+use std::alloc::Global;
+use ttree::{TableTree, TreeShape};
+
+// How many references, and how high a tree of how many nodes holds them.
+const SIZES: [TreeShape; 8] = [
+    TreeShape {
+        height: 0,
+        nodes: 0,
+        items: 0,
+    },
+    TreeShape {
+        height: 1,
+        nodes: 1,
+        items: 1,
+    },
+    TreeShape {
+        height: 1,
+        nodes: 1,
+        items: 32,
+    },
+    TreeShape {
+        height: 2,
+        nodes: 2,
+        items: 33,
+    },
+    TreeShape {
+        height: 2,
+        nodes: 2,
+        items: 64,
+    },
+    TreeShape {
+        height: 2,
+        nodes: 3,
+        items: 65,
+    },
+    TreeShape {
+        height: 6,
+        nodes: 32,
+        items: 1_000,
+    },
+    TreeShape {
+        height: 9,
+        nodes: 313,
+        items: 10_000,
+    },
+];
+
+// Every third number, from 0 on.
+fn rising_refs(alloc: Global, count: usize) -> Result<Vec<TupleRef>, NoMemory> {
+    let mut refs = Vec::new(alloc);
+    let mut number = 0u32;
+    for _ in 0..count {
+        refs.push(TupleRef { number })?;
+        number = number.wrapping_add(3);
+    }
+    Ok(refs)
+}
+
+// Whether a tree that is built of so many references has them in their order, and stands as it should.
+fn is_built(alloc: Global, wanted: TreeShape) -> Result<bool, NoMemory> {
+    let refs = rising_refs(alloc, wanted.items)?;
+    if refs.len() > 10_000 {
+        return Ok(false);
+    }
+    let tree = TableTree::from_slice(alloc, refs.as_slice())?;
+    let same = tree.walk().eq(refs.as_slice().iter().copied());
+    Ok(same && tree.shape() == wanted && tree.spares() == 0)
+}
+
+#[test]
+fn trees_are_built_of_so_many_references(rt: HostRuntime) {
+    for wanted in SIZES {
+        assert_eq!(rt; is_built(rt.alloc(), wanted), Ok(true));
+    }
+}
