@@ -1,0 +1,5 @@
+pub mod Executing
+pub mod Filling
+pub mod Finishing
+pub mod Laws
+pub mod StatementSpelling
