@@ -1,6 +1,6 @@
 -- Whether an element passes a test, in lists that are made of others.
-use Rattle.std.proofs.Common.{◌≡◌, ℕ, zero, suc, ◌<◌, ◌+◌, Bool, true, false, not, cond, ◌||◌, ◌&&◌, List, [], ◌∷◌, Option, Some, None, refl, sym, ap, ◌∙◌, subst, arith, length, map, add-zero}
-use Rattle.std.specs.List.{All, cons_option, count_by, filter_map, flat_map, list_any, prefix_len, range_with_len, slice_get, zip}
+use Rattle.std.proofs.Common.{◌≡◌, ℕ, zero, suc, ◌<◌, ◌+◌, Bool, true, false, cond, ◌||◌, ◌&&◌, List, [], ◌∷◌, Option, Some, None, refl, sym, ap, ◌∙◌, subst, arith, length, map, add-zero}
+use Rattle.std.specs.List.{All, cons_option, count_by, filter_map, flat_map, list_any, range_with_len, slice_get, zip}
 use Rattle.std.specs.Option.{option_map_or}
 use Rattle.std.proofs.lemmas.Bool.{false≢true, or_parts}
 use Rattle.std.proofs.lemmas.List.Folds.{list_any-append}
@@ -60,15 +60,6 @@ some_counted p (x ∷ xs) h =
           omega (arith, one, yes)
       | false ↦ λ e f. let one = sum_by-cons (λ y. cond (p y) 1 0) x xs in omega (arith, one, some_counted p xs f)
     ] refl h
-
--- where one passes, the first of them has a place
-place_within : {A : Type 0} (p : A → Bool) (xs : List A) → list_any p xs ≡ true → prefix_len (λ x. not (p x)) xs < length xs
-place_within p [] h = absurd (false≢true h)
-place_within p (x ∷ xs) h =
-    elim (p x) as (λ b. (b || list_any p xs) ≡ true → cond (not b) (1 + prefix_len (λ y. not (p y)) xs) 0 < suc (length xs)) [
-      | true ↦ λ e. omega arith
-      | false ↦ λ e. let rest = place_within p xs e in omega (arith, rest)
-    ] h
 
 -- ---- tests that say the same
 

@@ -73,7 +73,7 @@ link_in-behind column t behind =
     ap (λ b. cond b None (option_and_then link_of (slice_get t.cells (column - 1)))) (ne_eqb column 0 (λ e. absurd (omega (arith, e, behind))))
 
 -- what a cell reads as is its value under the keys that links lead to
-read_value : (relations : List RelationState) (targets : List (Option ℕ)) (column : ℕ) (cell : Cell) → cell_value (linked_keys targets relations) column cell ≡ read_in relations (target_at targets column) cell
+pub read_value : (relations : List RelationState) (targets : List (Option ℕ)) (column : ℕ) (cell : Cell) → cell_value (linked_keys targets relations) column cell ≡ read_in relations (target_at targets column) cell
 read_value relations targets column (Held value) = refl
 read_value relations targets column (Link to) = refl
 

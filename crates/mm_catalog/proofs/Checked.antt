@@ -60,13 +60,13 @@ one_missing tables (d ∷ columns) (w ∷ row) (suc k) column v ref at there e m
       | Some other ↦ and_right (is_held tables other) (list_all (is_held tables) (references columns row)) rest
     ]
 
-refers_none : (k : ColKind) → IsSome (own_type k) → referred k ≡ None
+pub refers_none : (k : ColKind) → IsSome (own_type k) → referred k ≡ None
 refers_none kind.Int some = refl
 refers_none kind.Text some = refl
 refers_none (kind.Ref name) some = absurd (false≢true some)
 refers_none (kind.RefOrNull name) some = absurd (false≢true some)
 
-no_reference : (column : Column) (v : Value) → referred column.kind ≡ None → reference_of column v ≡ None
+pub no_reference : (column : Column) (v : Value) → referred column.kind ≡ None → reference_of column v ≡ None
 no_reference column Null e = refl
 no_reference column (Int z) e = ap (option_map (λ name. (name, Int z))) e
 no_reference column (Text t) e = ap (option_map (λ name. (name, Text t))) e

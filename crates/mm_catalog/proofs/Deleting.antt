@@ -37,7 +37,6 @@ use Rattle.mm_catalog.specs.Consistent.{IsConsistent, AreCounted}
 use Rattle.mm_catalog.specs.Changes.{HasEffect}
 use Rattle.mm_catalog.specs.Picked.{ArePicked}
 use Rattle.mm_catalog.specs.Recounted.{HaveReferrers, IsRewritten}
-use Rattle.mm_catalog.specs.Counted.{HaveAtLeast, naming}
 use Rattle.mm_catalog.specs.Deleted.{AreDeleted, AreRemoved, AreUnlinked, AllFree, AnyReferenced, IsFree, IsReferenced}
 use Rattle.mm_catalog.proofs.Lists.{get-take}
 use Rattle.mm_catalog.proofs.Declared.{among_at, named_at}
@@ -59,14 +58,6 @@ module _ (tables : Database) (n : TableNumber) (picks : List Value → Bool) (ta
   refused_there some = rw (there, some) refl
 
 module _ (c : CatalogState) (ok : IsConsistent c) where
-  -- each row has at least as many referrers as links of one relation name it
-  pub enough_before : (n : ℕ) (s : RelationState) → slice_get c.relations n ≡ Some s → HaveAtLeast (take n c.relations) (naming (relation_links s))
-  unfolding links_to
-  enough_before n s there table t q row at held =
-      let below : table < n = omega (arith, slice_get_within (take n c.relations) table t at, length-take n c.relations) in
-      let counted = ok.counted table t q row (sym (get-take c.relations n table below) ∙ at) held in
-      omega (arith, counted, links_within (is_link_to table q) c.relations n s there)
-
   module _ (n : TableNumber) (refs : List TupleRef) (s : RelationState) (there : slice_get c.relations n.0 ≡ Some s) (held : All (λ r. IsSome (get s.rows r)) refs) (once : AllPairs (λ q r. q ≢ r) refs) where
     abbrev keys : Keys
     keys = linked_keys s.targets c.relations

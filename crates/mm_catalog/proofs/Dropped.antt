@@ -31,6 +31,7 @@ use Rattle.mm_catalog.proofs.Recounting.{row_before, current_recounted, rows_rec
 use Rattle.mm_catalog.proofs.Removing.{recounted_keys}
 use Rattle.mm_catalog.proofs.Gone.{moved_back, moved_back-other, moved_up-back, get-removed, position-remove}
 use Rattle.mm_catalog.proofs.Renumbered.{less_one, LeadElsewhere, target_at-map, keys_renumbered, kept_renumbered, current_renumbered, links_less_one, database-dropped}
+use Rattle.mm_catalog.proofs.Declared.{among_at}
 
 -- ---- relations that are recounted
 
@@ -119,9 +120,6 @@ some_before f (Some x) h = refl
 -- ---- the catalog
 
 module _ (c : CatalogState) (ok : IsConsistent c) (n : ℕ) (gone : List ℕ) (called : slice_get c.names n ≡ Some gone) (unreferred : is_table_referenced (database_of c) gone ≡ false) where
-  among : (k : ℕ) (s : RelationState) → slice_get c.relations k ≡ Some s → IsAmong c.names c.relations s
-  among k s there = All-at (IsAmong c.names c.relations) c.relations k s ok.each there
-
   none_refer : (k : ℕ) (s : RelationState) → slice_get c.relations k ≡ Some s → list_any (refers_to gone) s.schema.columns ≡ false
   unfolding table_of
   none_refer k s there =
@@ -130,7 +128,7 @@ module _ (c : CatalogState) (ok : IsConsistent c) (n : ℕ) (gone : List ℕ) (c
 
   elsewhere : (k : ℕ) (s : RelationState) → slice_get c.relations k ≡ Some s → LeadElsewhere s.targets n
   elsewhere k s there column t e =
-      let col = target_there c.names s.schema.columns column t (subst (λ targets. target_at targets column ≡ Some t) (among k s there).targets e) in
+      let col = target_there c.names s.schema.columns column t (subst (λ targets. target_at targets column ≡ Some t) (among_at c ok k s there).targets e) in
       found_elsewhere c.names n gone (referred col.0.kind) called (fails_at (refers_to gone) s.schema.columns column col.0 (none_refer k s there) col.1) t col.2
 
   -- its rows' links are no more counted
@@ -157,14 +155,14 @@ module _ (c : CatalogState) (ok : IsConsistent c) (n : ℕ) (gone : List ℕ) (c
         let old = row_before u.0 t u.2 r row e in
         let cells : row.cells ≡ old.0.cells = ap (λ (w : Row). w.cells) old.2 in
         let some : IsSome (target_at t.targets column) = some_before (moved_up n) (target_at t.targets column) (subst IsSome (target_at-map (moved_up n) t.targets column) leads) in
-        (among k u.0 u.1).linked r old.0 old.1 column value behind
+        (among_at c ok k u.0 u.1).linked r old.0 old.1 column value behind
         (subst (λ targets. IsSome (target_at targets column)) (ap (λ (r : RelationState). r.targets) u.2.same) some)
         (ap (λ cells. slice_get cells (column - 1)) (sym cells) ∙ held)
 
     among_left : (k : ℕ) (t : RelationState) → slice_get counted k ≡ Some t → IsAmong (remove c.names n) less (renumbered n t)
     among_left k t at =
         let u = before k t at in
-        let a = among k u.0 u.1 in
+        let a = among_at c ok k u.0 u.1 in
         let targets : t.targets ≡ u.0.targets = ap (λ (r : RelationState). r.targets) u.2.same in
         let columns : t.schema.columns ≡ u.0.schema.columns = ap (λ (r : RelationState). r.schema.columns) u.2.same in
         let keys : linked_keys (map (option_map (moved_up n)) t.targets) less ≡ linked_keys u.0.targets c.relations =

@@ -5,7 +5,6 @@ use Rattle.std.specs.Option.{option_and_then, option_map}
 use Rattle.std.specs.FinMap as finite
 use Rattle.std.proofs.lemmas.Bool.{cases_lt}
 use Rattle.std.proofs.lemmas.List.{map-append, length-take, length-drop, take-append-drop}
-use Rattle.std.proofs.lemmas.List.Edits.{length-remove}
 use Rattle.std.proofs.lemmas.List.Elements.{All-append, All-take, All-drop}
 use Rattle.std.proofs.lemmas.List.Folds.{map_fixed}
 use Rattle.std.proofs.lemmas.Option.{same_Some, slice_get_past, slice_get_within, slice_get-get_or}
@@ -21,11 +20,11 @@ use Rattle.mm_relation.specs.Rows.{Row}
 use Rattle.mm_relation.specs.State.{RelationState, IsKept}
 use Rattle.mm_catalog.specs.State.{CatalogState}
 use Rattle.mm_catalog.specs.Seen.{database_of, table_of}
-use Rattle.mm_catalog.specs.Linked.{target_at, relation_links, links, links_to, is_link_to}
+use Rattle.mm_catalog.specs.Linked.{target_at, relation_links, links_to, is_link_to}
 use Rattle.mm_catalog.specs.Consistent.{IsConsistent}
 use Rattle.mm_catalog.specs.Changes.{IsDone}
 use Rattle.mm_catalog.specs.Recounted.{IsRecounted, AreRecounted}
-use Rattle.mm_catalog.specs.Counted.{HaveAtLeast, naming}
+use Rattle.mm_catalog.specs.Counted.{naming}
 use Rattle.mm_catalog.specs.Dropped.{moved_up, renumbered, IsUnlinked}
 use Rattle.mm_catalog.proofs.Lists.{get-take}
 use Rattle.mm_catalog.proofs.Outlines.{LeadBack}
@@ -34,7 +33,7 @@ use Rattle.mm_catalog.proofs.Declared.{there_at, table_at}
 use Rattle.mm_catalog.proofs.Elsewhere.{relation_leads}
 use Rattle.mm_catalog.proofs.Counted.{IsRecounted-refl, counted_down}
 use Rattle.mm_catalog.proofs.Gone.{moved_up-before, moved_back-before, get-removed}
-use Rattle.mm_catalog.proofs.Renumbered.{less_one, count-less_one}
+use Rattle.mm_catalog.proofs.Renumbered.{less_one}
 use Rattle.mm_catalog.proofs.Dropped.{database_left, consistent_left}
 
 -- what stands behind a list of as many elements as are left out
@@ -69,14 +68,6 @@ module _ (c : CatalogState) (ok : IsConsistent c) (number : TableNumber) (meant 
 
   pub all_kept : All IsKept c.relations
   all_kept = λ k d l. (ok.each k d l).kept
-
-  -- each row that its links name has as many referrers at least
-  pub enough : (s : RelationState) → slice_get c.relations n ≡ Some s → HaveAtLeast (take n c.relations) (naming (relation_links s))
-  unfolding links_to links
-  enough s there table t r row at e =
-      let old = get-taken c.relations n table t at in
-      let had = ok.counted table t r row old.1 e in
-      omega (arith, had, count-less_one relation_links (is_link_to table r) c.relations n s there)
 
   unreferred : (name : List ℕ) → slice_get c.names n ≡ Some name → is_table_referenced (database_of c) name ≡ false
   unfolding table_of
@@ -133,9 +124,6 @@ module _ (c : CatalogState) (ok : IsConsistent c) (number : TableNumber) (meant 
         let kept : All IsKept others =
         All-append IsKept (take n unlinked) (drop (suc n) unlinked) (All-take IsKept n unlinked kept_unlinked) (All-drop IsKept (suc n) unlinked kept_unlinked) in
         λ k d l. (kept k d l).width
-
-    pub within_others : n ≤ length others
-    within_others = omega (arith, length-remove unlinked n (omega (arith, within, length-unlinked)), within, length-unlinked)
 
     before_stays : (k : ℕ) (s : RelationState) → slice_get (take n others) k ≡ Some s → renumbered n s ≡ s
     before_stays k s at =

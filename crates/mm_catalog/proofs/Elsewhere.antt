@@ -32,6 +32,8 @@ use Rattle.mm_catalog.proofs.Outlines.{LeadBack, keys_before}
 use Rattle.mm_catalog.proofs.Back.{lead_back}
 use Rattle.mm_catalog.proofs.Recounting.{row_before, key_recounted, current_recounted, rows_recounted, links_recounted}
 use Rattle.mm_catalog.proofs.LinksHeld.{link_there, link_held, link_counted}
+use Rattle.mm_catalog.proofs.Declared.{among_at}
+use Rattle.mm_catalog.proofs.Counted.{IsRecounted-refl}
 
 -- ---- the relations put together again
 
@@ -58,9 +60,6 @@ length-joined before xs n a e l =
     let behind = length-drop n xs in
     omega (arith, e, l, both, rest, behind)
 
-recounted_itself : (s : RelationState) → IsRecounted s s
-recounted_itself s = record { rows = λ r. refl; same = refl }
-
 -- the relations before one, recounted; that one, another; and those behind it
 pub rewritten_from : (old before : List RelationState) (n : ℕ) (b a : RelationState) → slice_get old n ≡ Some b → AreRecounted (take n old) before → KeepsSchema b a → ((r : TupleRef) (row : Row) → get b.rows r ≡ Some row → 0 < row.referrers → key_at a.rows r ≡ key_at b.rows r) → IsRewritten old (before ++ set (drop n old) 0 a) n b a
 rewritten_from old before n b a there counts keeps keys =
@@ -75,7 +74,7 @@ rewritten_from old before n b a there counts keeps keys =
             counts.each k s t (get-take old n k below ∙ at) (sym (slice_get-front before (set (drop n old) 0 a) k (omega (arith, below, front))) ∙ now)
         | inr above ↦
             let behind : n < k = omega (arith, above, other) in
-            subst (IsRecounted s) (same_Some s t (sym at ∙ sym (get_behind before old n k a front within behind) ∙ now)) (recounted_itself s)
+            subst (IsRecounted s) (same_Some s t (sym at ∙ sym (get_behind before old n k a front within behind) ∙ now)) (IsRecounted-refl s)
       ];
       keeps = keeps;
       keys = keys;
@@ -210,9 +209,6 @@ module _ (c : CatalogState) (ok : IsConsistent c) (n : ℕ) (new : List Relation
   abbrev key_in : TupleRef → Option RelationState → Option Value
   key_in to found = option_and_then (λ (s : RelationState). key_at s.rows to) found
 
-  among_before : (k : ℕ) (s : RelationState) → slice_get c.relations k ≡ Some s → IsAmong c.names c.relations s
-  among_before k s at = All-at (IsAmong c.names c.relations) c.relations k s ok.each at
-
   -- the old relation of a number
   old_at : (k : ℕ) (t : RelationState) → slice_get new k ≡ Some t → (s : RelationState) × (slice_get c.relations k ≡ Some s)
   old_at k t at = slice_get-inside c.relations k (omega (arith, slice_get_within new k t at, h.count))
@@ -308,7 +304,7 @@ module _ (c : CatalogState) (ok : IsConsistent c) (n : ℕ) (new : List Relation
 
   among_other : (k : ℕ) (s t : RelationState) → slice_get c.relations k ≡ Some s → IsRecounted s t → IsKept t → IsAmong c.names new t
   among_other k s t at counts kept =
-      let old = among_before k s at in
+      let old = among_at c ok k s at in
       let targets : t.targets ≡ s.targets = ap (λ (r : RelationState). r.targets) counts.same in
       record {
         kept = kept;
@@ -324,7 +320,7 @@ module _ (c : CatalogState) (ok : IsConsistent c) (n : ℕ) (new : List Relation
   among_here : IsKept a → IsCurrentAt new n → ((r : TupleRef) (row : Row) → get a.rows r ≡ Some row → HasLinksOrNulls a.targets row) → IsAmong c.names new a
   among_here kept current linked = record {
     kept = kept;
-    targets = h.keeps.targets ∙ (among_before n b h.there).targets ∙ ap (λ (schema : Schema). map (target_of c.names) schema.columns) (sym h.keeps.schema);
+    targets = h.keeps.targets ∙ (among_at c ok n b h.there).targets ∙ ap (λ (schema : Schema). map (target_of c.names) schema.columns) (sym h.keeps.schema);
     linked = linked;
     current = subst (λ keys. IsCurrent keys a) (keys_before a.targets new n back_after) (current a h.here);
   }

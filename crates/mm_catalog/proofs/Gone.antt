@@ -40,11 +40,6 @@ moved_back-before zero n h = absurd (omega arith)
 moved_back-before (suc gone) zero h = refl
 moved_back-before (suc gone) (suc n) h = ap suc (moved_back-before gone n (omega arith))
 
-pub moved_back-behind : (gone n : ℕ) → gone ≤ n → moved_back gone n ≡ suc n
-moved_back-behind zero n h = refl
-moved_back-behind (suc gone) zero h = absurd (omega arith)
-moved_back-behind (suc gone) (suc n) h = ap suc (moved_back-behind gone n (omega arith))
-
 moved_up-injective : (gone a b : ℕ) → a ≢ gone → b ≢ gone → moved_up gone a ≡ moved_up gone b → a ≡ b
 moved_up-injective zero zero b p q e = absurd (p refl)
 moved_up-injective zero (suc a) zero p q e = absurd (q refl)

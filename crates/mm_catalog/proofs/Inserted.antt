@@ -1,12 +1,12 @@
 -- A catalog into which a row comes: what it shows, that it stays consistent, and why one does not come.
-use Rattle.std.proofs.Common.{◌≡◌, ◌≢◌, ℕ, suc, ◌+◌, ◌<◌, ◌≤◌, ◌==◌, ◌⊎◌, Bool, false, cond, List, [], ◌∷◌, ◌++◌, Option, Some, None, refl, sym, ap, ◌∙◌, subst, arith, length, map, take, drop, set, get_or, length-take, zero-add, inl, inr}
+use Rattle.std.proofs.Common.{◌≡◌, ◌≢◌, ℕ, suc, ◌+◌, ◌<◌, ◌==◌, ◌⊎◌, Bool, false, cond, List, [], ◌∷◌, ◌++◌, Option, Some, None, refl, sym, ap, ◌∙◌, subst, arith, length, map, take, drop, set, get_or, length-take, zero-add, inl, inr}
 use Rattle.std.specs.List.{All, count_by, slice_get, flat_map, range_with_len}
 use Rattle.std.specs.Prelude.{Result, Ok, Err, IfOk, OnOk, OnErr, IfErr}
 use Rattle.std.specs.Option.{option_and_then, option_map_or}
 use Rattle.std.specs.Ordering.{is_eq}
 use Rattle.std.specs.FinMap as finite
 use Rattle.std.specs.FinMap.{get}
-use Rattle.std.proofs.lemmas.Bool.{and_left, and_right, cases_eq, cases_lt, ne_eqb}
+use Rattle.std.proofs.lemmas.Bool.{and_left, and_right, cases_eq, ne_eqb}
 use Rattle.std.proofs.lemmas.List.Sums.{sum_by-cons}
 use Rattle.std.proofs.lemmas.Option.{none-some, same_Some, slice_get_within, slice_get-get_or}
 use Rattle.common_lemmas.proofs.Elements.{All-flat_map}
@@ -35,7 +35,7 @@ use Rattle.mm_catalog.specs.Linked.{Linked, link_at, row_links, relation_links, 
 use Rattle.mm_catalog.specs.Consistent.{IsConsistent, AreCounted}
 use Rattle.mm_catalog.specs.Changes.{HasEffect, IsRefusedFor}
 use Rattle.mm_catalog.specs.Recounted.{HaveReferrers, IsRewritten}
-use Rattle.mm_catalog.specs.Counted.{HaveRoom, naming}
+use Rattle.mm_catalog.specs.Counted.{naming}
 use Rattle.mm_catalog.proofs.Counted.{counted_up}
 use Rattle.mm_catalog.specs.Cells.{AreCellsOf}
 use Rattle.mm_catalog.specs.Loaded.{HasCome}
@@ -51,7 +51,6 @@ use Rattle.mm_catalog.proofs.Elsewhere.{rewritten_from, kept_from, database_rewr
 use Rattle.mm_catalog.proofs.CellRows.{cells_shown, cells_linked}
 use Rattle.mm_catalog.proofs.RowLinks.{All-filter_map, link_parts}
 use Rattle.mm_catalog.proofs.Referenced.{some_column}
-use Rattle.mm_catalog.proofs.Bounded.{few_links, few_columns}
 use Rattle.mm_catalog.proofs.Checked.{key_refuses, reference_refuses, full_refuses, nothing_refuses}
 
 -- ---- no link names a row that isn't there
@@ -63,9 +62,6 @@ none_counted test (x ∷ xs) h =
     ∙ zero-add (count_by test xs) ∙ none_counted test xs (λ k d l. h (suc k) d (omega arith))
 
 module _ (c : CatalogState) (ok : IsConsistent c) (n : ℕ) (b : RelationState) (there : slice_get c.relations n ≡ Some b) (r : TupleRef) (free : get b.rows r ≡ None) where
-  NamesOther : Linked → Type 0
-  NamesOther link = is_link_to n r link ≡ false
-
   unnamed : (k : ℕ) (s : RelationState) (q : TupleRef) (row : Row) (column : ℕ) (link : Linked) → slice_get c.relations k ≡ Some s → get s.rows q ≡ Some row → link_at s.targets row column ≡ Some link → is_link_to n r link ≡ false
   unnamed k s q row column link at found e =
       let parts = link_parts s.targets row column link e in
@@ -102,19 +98,6 @@ module _ (c : CatalogState) (ok : IsConsistent c) (n : ℕ) (b : RelationState) 
 -- ---- what the call on the relation asks
 
 module _ (c : CatalogState) (ok : IsConsistent c) where
-  -- numbers of referrers are far below their limit
-  pub room_for_links : (n : ℕ) (s : RelationState) → slice_get c.relations n ≡ Some s → HaveRoom (take n c.relations) (length s.targets)
-  room_for_links n s there table t r row at found =
-      elim (cases_under table) [
-        | inl below ↦
-            let counted = ok.counted table t r row (sym (get-take c.relations n table below) ∙ at) found in
-            omega (arith, counted, few_links c ok table r, few_columns c ok n s there)
-        | inr above ↦ absurd (omega (arith, above, slice_get_within (take n c.relations) table t at, length-take n c.relations, slice_get_within c.relations n s there))
-      ]
-    where
-      cases_under : (k : ℕ) → (k < n) ⊎ (n ≤ k)
-      cases_under k = cases_lt k n
-
   pub values_width : (n : TableNumber) (values : List Value) → IsMeant c.limits (database_of c) (resolved.Insert n values) → (s : RelationState) → slice_get c.relations n.0 ≡ Some s → length values ≡ length s.targets
   unfolding table_of
   values_width n values meant s there =

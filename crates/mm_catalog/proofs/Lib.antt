@@ -55,3 +55,4 @@ pub mod UpdateNeeds
 pub mod UpdateRefused
 pub mod UpdateDone
 pub mod TreeShapes
+pub mod Standing

@@ -1,5 +1,5 @@
 -- The links of a catalog name rows that are held, and each is counted.
-use Rattle.std.proofs.Common.{◌≡◌, ℕ, zero, suc, ◌-◌, ◌<◌, ◌==◌, Bool, true, false, cond, List, [], ◌∷◌, ◌++◌, Option, Some, None, IsSome, is_some, refl, sym, ap, ◌∙◌, subst, arith, length, inl, inr}
+use Rattle.std.proofs.Common.{◌≡◌, ℕ, zero, suc, ◌-◌, ◌<◌, ◌==◌, true, false, cond, List, [], ◌∷◌, ◌++◌, Option, Some, None, IsSome, is_some, refl, sym, ap, ◌∙◌, subst, arith, length, inl, inr}
 use Rattle.std.specs.List.{Contains, cons_option, filter_map, flat_map, range_with_len, slice_get}
 use Rattle.std.specs.Option.{option_and_then, option_map, option_map_or}
 use Rattle.std.specs.FinMap.{get}
@@ -7,7 +7,7 @@ use Rattle.std.specs.Ordering.{is_eq}
 use Rattle.std.proofs.lemmas.Bool.{and_from, eq-eqb, false≢true, ne_eqb}
 use Rattle.std.proofs.lemmas.List.FromFn.{length-range_with_len, get_or-range_with_len}
 use Rattle.std.proofs.lemmas.Option.{none-some, same_Some, slice_get_within, get_or_from_slice_get, option_and_then_some}
-use Rattle.common_lemmas.proofs.Elements.{Contains-cons, Contains-cons_cases, All-at}
+use Rattle.common_lemmas.proofs.Elements.{Contains-cons, Contains-cons_cases}
 use Rattle.common_lemmas.proofs.Counts.{count_by-member}
 use Rattle.part_raw.proofs.Tuples.{same_ref_self}
 use Rattle.part_raw.specs.TupleRefs.{ref_cmp}
@@ -19,7 +19,8 @@ use Rattle.mm_relation.specs.Reading.{Keys, cell_value, key_at, link_in, link_of
 use Rattle.mm_relation.specs.State.{tree_list, RelationState, IsKept, linked_keys}
 use Rattle.mm_catalog.specs.State.{CatalogState}
 use Rattle.mm_catalog.specs.Linked.{Linked, target_at, link_at, row_links, relation_links, links, is_link_to, links_to}
-use Rattle.mm_catalog.specs.Consistent.{IsAmong, IsConsistent}
+use Rattle.mm_catalog.specs.Consistent.{IsConsistent}
+use Rattle.mm_catalog.proofs.Declared.{among_at}
 
 -- ---- what lists contain
 
@@ -58,9 +59,6 @@ Contains-range n k l =
 
 pub Contains-at : {A : Type 0} (xs : List A) (k : ℕ) (x : A) → slice_get xs k ≡ Some x → Contains xs x
 Contains-at xs k x at = (k, slice_get_within xs k x at, get_or_from_slice_get xs k x x at)
-
-abbrev ones : Bool → ℕ
-ones b = cond b 1 0
 
 -- ---- the links of rows
 
@@ -121,13 +119,10 @@ key_of_row found to h =
     (u.0, row.0, u.1, row.1)
 
 module _ (c : CatalogState) (ok : IsConsistent c) where
-  among : (k : ℕ) (s : RelationState) → slice_get c.relations k ≡ Some s → IsAmong c.names c.relations s
-  among k s at = All-at (IsAmong c.names c.relations) c.relations k s ok.each at
-
   pub link_held : (k : ℕ) (s : RelationState) (r : TupleRef) (row : Row) (column table : ℕ) (to : TupleRef) → slice_get c.relations k ≡ Some s → get s.rows r ≡ Some row → target_at s.targets column ≡ Some table → link_in column row ≡ Some to → (u : RelationState) × (named : Row) × (slice_get c.relations table ≡ Some u) × (get u.rows to ≡ Some named)
   link_held k s r row column table to at held target link =
       let keys = linked_keys s.targets c.relations in
-      let read : IsSome (row_value keys column row) = (among k s at).current.readable r row held column (target_within s.targets column table target) in
+      let read : IsSome (row_value keys column row) = (among_at c ok k s at).current.readable r row held column (target_within s.targets column table target) in
       let key : row_value keys column row ≡ option_and_then (λ (u : RelationState). key_at u.rows to) (slice_get c.relations table) =
       linked_value keys column row to link ∙ ap (λ o. option_and_then (λ (u : RelationState). key_at u.rows to) (option_and_then (slice_get c.relations) o)) target in
       key_of_row (slice_get c.relations table) to (subst IsSome key read)
@@ -137,5 +132,5 @@ module _ (c : CatalogState) (ok : IsConsistent c) where
   link_counted k s r row column table to at held target link =
       count_by-member (is_link_to table to) (links c.relations) (table, to)
       (catalog_has_link c.relations k s (table, to) at
-      (relation_has_link s (among k s at).kept r row (table, to) held (row_has_link s.targets row column table to target link)))
+      (relation_has_link s (among_at c ok k s at).kept r row (table, to) held (row_has_link s.targets row column table to target link)))
       (is_link_itself table to)

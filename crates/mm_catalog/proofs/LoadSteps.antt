@@ -1,9 +1,7 @@
 -- What a load does, row by row.
-use Rattle.std.proofs.Common.{◌≡◌, ◌⊎◌, ℕ, suc, ◌+◌, ◌≤◌, List, ◌∷◌, Some, refl, sym, ap, ◌∙◌, subst, length, drop, set, inl, inr, add-one}
+use Rattle.std.proofs.Common.{◌≡◌, ◌⊎◌, ℕ, suc, ◌+◌, List, ◌∷◌, Some, refl, sym, ap, ◌∙◌, subst, drop, set, inl, inr, add-one}
 use Rattle.std.specs.List.{All, slice_get}
-use Rattle.std.specs.Prelude.{Ok}
 use Rattle.std.proofs.Math.Seq.{drop-cons}
-use Rattle.std.proofs.lemmas.List.{drop_all}
 use Rattle.std.proofs.lemmas.List.Elements.{All-head, All-tail, All-weaker}
 use Rattle.std.proofs.lemmas.Option.{same_Some, slice_get_within, get_or_from_slice_get}
 use Rattle.common_lemmas.proofs.Places.{slice_get_set}
@@ -59,16 +57,6 @@ pub under_way_none : (c : CatalogState) (n : TableNumber) (rows : List Row) → 
 under_way_none c n rows meant = record { limits = refl; can = meant; rest = refl }
 
 module _ (c d : CatalogState) (n : TableNumber) (rows : List Row) (i : ℕ) (h : IsUnderWay c d n rows i) where
-  -- all of them came in
-  pub under_way_all : length rows ≤ i → HasEffect c d (load c.limits (database_of c) n rows) (length rows)
-  under_way_all past =
-      let is : loaded c.limits (database_of c) n 1 rows ≡ Ok (database_of d) = h.rest ∙ ap (loaded c.limits (database_of d) n (i + 1)) (drop_all i rows past) in
-      record {
-        database = ap (λ r. (load_effect (database_of c) rows r).database) (sym is);
-        limits = h.limits;
-        outcome = ap (λ r. (load_effect (database_of c) rows r).outcome) is;
-      }
-
   module _ (row : Row) (at : slice_get rows i ≡ Some row) where
     can_next : CanTake n (row ∷ drop (i + 1) rows) (database_of d)
     can_next = subst (λ rs. CanTake n rs (database_of d)) (next_row rows i row at) h.can

@@ -43,9 +43,6 @@ module _ (s t : RelationState) (h : IsRecounted s t) where
   value_recounted : (keys : Keys) (column : ℕ) (r : TupleRef) → value_at keys column t.rows r ≡ value_at keys column s.rows r
   value_recounted keys column r = and_then_alike (row_value keys column) (get t.rows r) (get s.rows r) (λ row. refl) (h.rows r)
 
-  abbrev again : RelationState
-  again = record s { rows = t.rows }
-
   readable_again : (keys : Keys) → IsCurrent keys s → (r : TupleRef) (row : Row) → get t.rows r ≡ Some row → IsReadable keys (length s.targets) row
   readable_again keys current r row at column within =
       let old = row_before r row at in

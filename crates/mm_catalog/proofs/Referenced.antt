@@ -1,6 +1,6 @@
 -- What plain tables hold of keys and references, told by the relations that they are shown of.
-use Rattle.std.proofs.Common.{◌≡◌, ◌≢◌, ℕ, zero, suc, ◌+◌, ◌<◌, ◌||◌, not, Bool, true, false, cond, List, [], ◌∷◌, Option, Some, None, IsSome, is_some, refl, sym, ap, ◌∙◌, subst, arith, length, take, get_or}
-use Rattle.std.specs.List.{All, Contains, slice_get, list_any, position, prefix_len}
+use Rattle.std.proofs.Common.{◌≡◌, ◌≢◌, ℕ, zero, suc, ◌<◌, Bool, true, false, List, [], ◌∷◌, Option, Some, None, IsSome, is_some, refl, sym, ap, ◌∙◌, subst, arith, length, take, get_or}
+use Rattle.std.specs.List.{All, Contains, slice_get, list_any, position}
 use Rattle.std.specs.Option.{option_and_then, option_map, option_map_or}
 use Rattle.std.specs.Ordering.{is_eq}
 use Rattle.std.specs.Str.{bytes_eq}
@@ -92,14 +92,6 @@ module _ (s : RelationState) (kept : IsKept s) (keys : Keys) (some : 0 < length 
       absent (q, ap (option_and_then (λ (u : Row). Some u.key)) t.1 ∙ ap (λ v. Some v) same)))
 
 -- ---- tables by name
-
-first_within : {A : Type 0} (p : A → Bool) (xs : List A) → list_any p xs ≡ true → prefix_len (λ x. not (p x)) xs < length xs
-first_within p [] h = absurd (false≢true h)
-first_within p (x ∷ xs) h =
-    elim (p x) as (λ b. (b || list_any p xs) ≡ true → cond (not b) (1 + prefix_len (λ y. not (p y)) xs) 0 < suc (length xs)) [
-      | true ↦ λ e. omega arith
-      | false ↦ λ e. let rest = first_within p xs e in omega (arith, rest)
-    ] h
 
 abbrev has_name : List ℕ → List ℕ → Bool
 has_name name n = bytes_eq n name

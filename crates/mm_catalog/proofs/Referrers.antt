@@ -43,13 +43,9 @@ use Rattle.mm_catalog.proofs.Declared.{among_at, named_at}
 use Rattle.mm_catalog.proofs.Finding.{is_some-find, found-front}
 use Rattle.mm_catalog.proofs.LinksHeld.{link_held, linked_value}
 use Rattle.mm_catalog.proofs.Tables.{database-get}
+use Rattle.mm_catalog.proofs.Checked.{no_reference}
 
 -- ---- values and what they name
-
-no_reference : (column : Column) (v : Value) → referred column.kind ≡ None → reference_of column v ≡ None
-no_reference column value.Null e = refl
-no_reference column (value.Int z) e = ap (option_map (λ name. (name, value.Int z))) e
-no_reference column (value.Text text) e = ap (option_map (λ name. (name, value.Text text))) e
 
 a_reference : (column : Column) (v : Value) (name : List ℕ) → v ≢ Null → referred column.kind ≡ Some name → reference_of column v ≡ Some (name, v)
 a_reference column value.Null name some e = absurd (some refl)

@@ -30,7 +30,9 @@ use Rattle.mm_catalog.specs.Linked.{HasLinksOrNulls, Linked, relation_links, row
 use Rattle.mm_catalog.specs.Seen.{row_values, rows_of, values_of}
 use Rattle.mm_catalog.proofs.Rising.{rising_same}
 use Rattle.mm_catalog.proofs.RowSets.{AreApart, with_cell, row_linked, row_links_set, values_set}
-use Rattle.mm_catalog.proofs.SumsApart.{among_or_not, rising_apart, sum_changed, sum_shifted}
+use Rattle.mm_catalog.proofs.SumsApart.{sum_changed, sum_shifted}
+use Rattle.mm_relation.proofs.Listings.{rising_apart}
+use Rattle.mm_relation.proofs.Setting.{among_or_not}
 
 -- a row that can be read has a cell for each column behind the key
 pub row_wide : (keys : Keys) (s : RelationState) → IsCurrent keys s → (r : TupleRef) (row : Row) → get s.rows r ≡ Some row → length s.targets ≤ length row.cells + 1

@@ -1,9 +1,8 @@
 -- A relation that is told column by column where its links lead, now that a table is gone.
-use Rattle.std.proofs.Common.{◌≡◌, ℕ, ◌+◌, ◌-◌, ◌<◌, ◌≤◌, List, ◌++◌, Option, Some, None, refl, sym, ap, ◌∙◌, subst, arith, length, map, set, drop, get_or, append-nil, length-set}
+use Rattle.std.proofs.Common.{◌≡◌, ℕ, ◌+◌, ◌-◌, ◌<◌, ◌≤◌, List, Option, Some, None, refl, sym, ap, ◌∙◌, subst, arith, length, set, get_or, length-set}
 use Rattle.std.specs.List.{slice_get}
 use Rattle.std.specs.Option.{option_and_then, option_map}
-use Rattle.std.proofs.Math.ListN.{drop_of_length-le}
-use Rattle.std.proofs.lemmas.List.{length-map, set-get_or, take_all}
+use Rattle.std.proofs.lemmas.List.{length-map, set-get_or}
 use Rattle.std.proofs.lemmas.List.Edits.{map_over_more}
 use Rattle.std.proofs.lemmas.Option.{slice_get-get_or, get_or_from_slice_get}
 use Rattle.mm_relation.specs.State.{RelationState}
@@ -32,9 +31,6 @@ module _ (gone column : ℕ) (s : RelationState) where
   no_column at = column_same None at refl
 
 module _ (gone : ℕ) (old : RelationState) where
-  pub renumbered_first : IsRenumberedUpTo gone old 0 old
-  renumbered_first = record { same = refl; wide = refl; moved = refl }
-
   pub renumbered_next : (i : ℕ) (s new : RelationState) → IsRenumberedUpTo gone old i s → i < length old.targets → new ≡ with_column_moved gone i s → IsRenumberedUpTo gone old (i + 1) new
   renumbered_next i s new h within told =
       let x : Option ℕ = target_at s.targets i in
@@ -45,14 +41,6 @@ module _ (gone : ℕ) (old : RelationState) where
         wide = length-set s.targets i (option_map (moved_up gone) x) ∙ h.wide;
         moved = map_over_more (option_map (moved_up gone)) old.targets s.targets i x within h.moved here;
       })
-
-  pub renumbered_whole : (i : ℕ) (s : RelationState) → IsRenumberedUpTo gone old i s → length old.targets ≤ i → s ≡ renumbered gone old
-  renumbered_whole i s h past =
-      h.same
-      ∙ ap (λ (ts : List (Option ℕ)). record old { targets = ts })
-      (h.moved ∙ ap (λ (ts : List (Option ℕ)). map (option_map (moved_up gone)) ts ++ drop i old.targets) (take_all i old.targets past)
-      ∙ ap (λ (ts : List (Option ℕ)). map (option_map (moved_up gone)) old.targets ++ ts) (drop_of_length-le old.targets past)
-      ∙ append-nil (map (option_map (moved_up gone)) old.targets))
 
 -- as many links are told as there are columns
 pub wide_renumbered : (gone : ℕ) (s new : RelationState) → new ≡ renumbered gone s → length s.targets ≡ length s.schema.columns → length new.targets ≡ length new.schema.columns

@@ -6,12 +6,12 @@ use Rattle.std.specs.Option.{option_map_or}
 use Rattle.std.specs.Str.{bytes_eq}
 use Rattle.std.proofs.lemmas.List.Folds.{list_any-append}
 use Rattle.common_lemmas.proofs.Tests.{list_any-map}
-use Rattle.plain_tables.specs.Tables.{Table, Row}
+use Rattle.plain_tables.specs.Tables.{Table}
 use Rattle.plain_tables.specs.Databases.{Database}
 use Rattle.plain_tables.specs.Queries.{JoinedColumn, column_number, place_meant, places_meant}
 use Rattle.plain_tables.specs.Effects.{Check, misses, repeats, condition_names, setting_name, is_long}
-use Rattle.plain_tables.specs.Resolving.{meaning, on_numbered, on_column, drop_checks, index_checks, drop_index_checks, number_of, own_columns, resolved_of, tests_of, assignments_of, mistypes, is_mistyped, insert_checks}
-use Rattle.plain_tables.specs.References.{is_table_referenced, is_index}
+use Rattle.plain_tables.specs.Resolving.{meaning, on_numbered, on_column, index_checks, drop_index_checks, number_of, own_columns, resolved_of, tests_of, assignments_of, mistypes, is_mistyped}
+use Rattle.plain_tables.specs.References.{is_index}
 use Rattle.plain_tables.specs.declared.schema.Column.{Column}
 use Rattle.plain_tables.specs.declared.schema.IndexKind.{IndexKind}
 use Rattle.plain_tables.specs.declared.schema.IndexKind.TheVariants as index
@@ -23,7 +23,7 @@ use Rattle.plain_tables.specs.declared.numbers.ColumnNumber.{ColumnNumber}
 use Rattle.plain_tables.specs.declared.numbers.Place.{Place}
 use Rattle.plain_tables.specs.declared.numbers.TableNumber.{TableNumber}
 use Rattle.plain_tables.specs.declared.refusal.Refusal.{Refusal}
-use Rattle.plain_tables.specs.declared.refusal.Refusal.TheVariants.{NoSuchTable, NoSuchColumn, NoSuchIndex, IndexExists, TableIsReferenced, ColumnNamedTwice, TooMany, WrongType, KeyCannotBeSet, TextTooLong}
+use Rattle.plain_tables.specs.declared.refusal.Refusal.TheVariants.{NoSuchTable, NoSuchColumn, NoSuchIndex, IndexExists, ColumnNamedTwice, TooMany, WrongType, KeyCannotBeSet, TextTooLong}
 use Rattle.plain_tables.specs.declared.resolved.Assignment.{Assignment}
 use Rattle.plain_tables.specs.declared.resolved.Test.{Test}
 use Rattle.plain_tables.specs.declared.resolved.Resolved.{Resolved}
@@ -32,7 +32,7 @@ use Rattle.mm_catalog.specs.declared.bind.scope.Scope.{Scope}
 use Rattle.mm_catalog.specs.Seen.{plain_index}
 use Rattle.mm_catalog.specs.declared.bind.placed.Placed.{Placed}
 use Rattle.mm_catalog.specs.Resolve.{IsScopeOf, bare, columns_of, own_place}
-use Rattle.mm_catalog.specs.ResolveChecks.{verdict, row_checks, delete_rest, update_rest}
+use Rattle.mm_catalog.specs.ResolveChecks.{verdict, delete_rest, update_rest}
 use Rattle.mm_catalog.proofs.ResolveNamed.{length-tests, long_set, key_set}
 
 -- ---- checks
@@ -79,13 +79,6 @@ module _ (tables : Database) (name : List ℕ) (scope : Scope) (h : IsScopeOf ta
 
   abbrev columns : List JoinedColumn
   columns = columns_of scope
-
-  -- ---- drop table
-
-  pub drop_is : resolved_of [] tables (command.DropTable name) ≡ meaning (record { refuses = is_table_referenced tables scope.name.now; refusal = TableIsReferenced } ∷ []) (resolved.DropTable scope.table)
-  drop_is =
-      in_scope (λ n table. meaning (drop_checks tables table) (resolved.DropTable n))
-      ∙ ap (λ (own : List ℕ). meaning (record { refuses = is_table_referenced tables own; refusal = TableIsReferenced } ∷ []) (resolved.DropTable scope.table)) h.called
 
   -- ---- index and drop index
 
@@ -134,20 +127,6 @@ module _ (tables : Database) (name : List ℕ) (scope : Scope) (h : IsScopeOf ta
           drop_index_is ∙ ap (λ o. option_map_or (drop_index_on declared) o (Err NoSuchColumn)) found
           ∙ ap (λ x. cond (not x) (Err NoSuchIndex) (Ok (resolved.DropIndex scope.table c k))) (list_any-map (is_index c k) plain_index scope.declared.now)
           ∙ ap (λ x. cond x (Err NoSuchIndex) (Ok (resolved.DropIndex scope.table c k))) is
-
-  -- ---- insert
-
-  module _ (row : Row) where
-    insert_is : resolved_of [] tables (command.Insert name row) ≡ meaning (row_checks tables scope.columns.now row) (resolved.Insert scope.table row)
-    insert_is =
-        in_scope (λ n table. meaning (insert_checks tables table row) (resolved.Insert n row))
-        ∙ ap (λ (cs : List Column). meaning (row_checks tables cs row) (resolved.Insert scope.table row)) h.columns
-
-    pub insert_meant : verdict (row_checks tables scope.columns.now row) ≡ Ok tt → resolved_of [] tables (command.Insert name row) ≡ Ok (resolved.Insert scope.table row)
-    insert_meant ok = insert_is ∙ meaning_ok (row_checks tables scope.columns.now row) (resolved.Insert scope.table row) ok
-
-    pub insert_refused : (e : Refusal) → verdict (row_checks tables scope.columns.now row) ≡ Err e → resolved_of [] tables (command.Insert name row) ≡ Err e
-    insert_refused e err = insert_is ∙ meaning_err (row_checks tables scope.columns.now row) (resolved.Insert scope.table row) e err
 
   -- ---- delete
 

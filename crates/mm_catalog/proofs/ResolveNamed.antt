@@ -29,7 +29,7 @@ use Rattle.mm_catalog.proofs.ResolveColumns.{fits_one-is}
 
 -- ---- one name more
 
-option_map_or-map : {X Y : Type 0} (g : Y → Bool) (f : X → Y) (o : Option X) → option_map_or (λ x. g (f x)) o false ≡ option_map_or g (option_map f o) false
+pub option_map_or-map : {X Y : Type 0} (g : Y → Bool) (f : X → Y) (o : Option X) → option_map_or (λ x. g (f x)) o false ≡ option_map_or g (option_map f o) false
 option_map_or-map g f None = refl
 option_map_or-map g f (Some x) = refl
 

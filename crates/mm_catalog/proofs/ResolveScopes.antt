@@ -154,16 +154,6 @@ module _ (tables : Database) (name : List ℕ) where
   abbrev found : List (List ℕ) × Join → Option ((Place × Column) × (Place × Column))
   found join = option_map placed_sides (columns join)
 
-  -- the scope of one table alone
-  pub first_joined : (scope : JoinedScope) (own : Scope) → IsScopeOf tables name own → scope.scopes.items ≡ own ∷ [] → scope.sides.items ≡ []
-      → AreJoined tables name [] false scope
-  first_joined scope own k scopes sides = record {
-    there = ap (λ o. not (is_some o) || false) k.found;
-    scopes = subst (AllZip (IsScopeOf tables) (name ∷ [])) (sym scopes) (k, tt);
-    misses = refl;
-    sides = ap (map sides_found) sides;
-  }
-
   -- a joined table that isn't there is missed among all
   pub table_lacks : (joins : List Join) (i : ℕ) (join : Join) → i < length joins → join ≡ get_or joins i join → table_named join.table tables ≡ None
       → list_any lacks (select_names name joins) ≡ true

@@ -37,10 +37,11 @@ use Rattle.mm_catalog.specs.Resolve.{IsScopeOf, columns_of_all, shown_places}
 use Rattle.mm_catalog.specs.ResolveChecks.{verdict}
 use Rattle.mm_catalog.specs.Select.{IsJoinedScopeOf, placed_sides, sides_found, sides_differ, select_rest, source_on, joined_by}
 use Rattle.mm_catalog.proofs.ResolveLists.{list_any-same}
-use Rattle.mm_catalog.proofs.ResolveNamed.{shown_places-are, length-shown}
+use Rattle.mm_catalog.proofs.ResolveNamed.{option_map_or-map, shown_places-are, length-shown}
 use Rattle.mm_catalog.proofs.ResolveSources.{map-map}
-use Rattle.mm_catalog.proofs.ResolveScopes.{columns_are, or_true}
+use Rattle.mm_catalog.proofs.ResolveScopes.{columns_are}
 use Rattle.mm_catalog.proofs.ResolveCommands.{meaning_ok, meaning_err, first_missed, rest_missed}
+use Rattle.plain_tables.proofs.SelectLemmas.{once_apart}
 
 -- ---- names that stand twice
 
@@ -57,14 +58,6 @@ without_fewer p (x ∷ xs) h =
     elim (p x) as (λ b. (b || list_any p xs) ≡ true → length (cond (not b) (x ∷ filter (λ y. not (p y)) xs) (filter (λ y. not (p y)) xs)) < suc (length xs)) [
       | true ↦ λ e. omega arith
       | false ↦ λ e. let less = without_fewer p xs e in omega arith
-    ] h
-
-without_none : {X : Type 0} (p : X → Bool) (xs : List X) → list_any p xs ≡ false → filter (λ x. not (p x)) xs ≡ xs
-without_none p [] h = refl
-without_none p (x ∷ xs) h =
-    elim (p x) as (λ b. (b || list_any p xs) ≡ false → cond (not b) (x ∷ filter (λ y. not (p y)) xs) (filter (λ y. not (p y)) xs) ≡ x ∷ xs) [
-      | true ↦ λ e. absurd (false≢true (sym e))
-      | false ↦ λ e. ap (λ ys. x ∷ ys) (without_none p xs e)
     ] h
 
 any_once : (m : List ℕ) (names : List (List ℕ)) → list_any (bytes_eq m) (once names) ≡ list_any (bytes_eq m) names
@@ -95,15 +88,6 @@ once_fewer (n ∷ ns) h = elim (cases_Bool (list_any (bytes_eq n) ns)) [
       omega (arith, without_no_more (λ k. not (bytes_eq n k)) (once ns), once_fewer ns later)
 ]
 
-once_all : (names : List (List ℕ)) → repeats bytes_eq names ≡ false → once names ≡ names
-once_all [] h = refl
-once_all (n ∷ ns) h = elim (cases_Bool (list_any (bytes_eq n) ns)) [
-  | inl again ↦ absurd (false≢true (sym h ∙ ap (λ b. b || repeats bytes_eq ns) again))
-  | inr alone ↦
-      let later : repeats bytes_eq ns ≡ false = rw alone at h in
-      ap (λ xs. n ∷ xs) (without_none (bytes_eq n) (once ns) (any_once n ns ∙ alone) ∙ once_all ns later)
-]
-
 few_enough : (m n : ℕ) → m ≤ n → nat_le m n ≡ true
 few_enough m n h = grind (arith, nat_tests)
 
@@ -116,7 +100,7 @@ repeats_once name names = elim (cases_Bool (repeats bytes_eq (name ∷ names))) 
       let less = once_fewer (name ∷ names) twice in
       twice ∙ sym (few_enough (length (once (name ∷ names))) (length names) (omega arith))
   | inr differ ↦
-      let many = ap length (once_all (name ∷ names) differ) in
+      let many = ap length (once_apart (name ∷ names) differ) in
       differ ∙ sym (too_many (length (once (name ∷ names))) (length names) (omega arith))
 ]
 
@@ -132,10 +116,6 @@ all_given g f (x ∷ xs) none =
       | None ↦ λ e. absurd (false≢true (sym e))
       | Some y ↦ λ e. ap (λ rest. Some (g y) ∷ rest) (all_given g f xs e)
     ] none
-
-option_map_or-map : {X Y : Type 0} (g : Y → Bool) (f : X → Y) (o : Option X) → option_map_or (λ x. g (f x)) o false ≡ option_map_or g (option_map f o) false
-option_map_or-map g f None = refl
-option_map_or-map g f (Some x) = refl
 
 -- a test of the columns of joins, as they are meant and as they were found
 module _ {X S F : Type 0} (f : X → F) (found : S → F) (xs : List (Option X)) (sides : List S) (are : map (λ s. Some (found s)) sides ≡ map (option_map f) xs) where
@@ -193,13 +173,6 @@ module _ (tables : Database) (distinct : Bool) (its : Items) (name : List ℕ) (
   module _ (there : misses_table ≡ false) where
     found_is : resolved_so ≡ meaning (checks (named_columns tables names)) (selection (named_columns tables names))
     found_is = ap (λ b. cond b (Err NoSuchTable) (meaning (checks (named_columns tables names)) (selection (named_columns tables names)))) there
-
-    pub sides_missed : list_any is_none sides ≡ true → resolved_so ≡ Err NoSuchColumn
-    sides_missed h =
-        let cs = named_columns tables names in
-        let missed : (misses cs (named_items its ++ condition_names conditions) || list_any is_none sides) ≡ true =
-        ap (λ b. misses cs (named_items its ++ condition_names conditions) || b) h ∙ or_true (misses cs (named_items its ++ condition_names conditions)) in
-        found_is ∙ rw missed refl
 
   module _ (scope : JoinedScope) (h : IsJoinedScopeOf tables name joins scope) where
     abbrev columns : List JoinedColumn
@@ -309,6 +282,6 @@ module _ (tables : Database) (distinct : Bool) (its : Items) (name : List ℕ) (
             → verdict (select_rest tables scope (shown_of columns its) (length conditions) mistyped) ≡ Ok tt
             → resolved_so ≡ Ok (query (shown_of columns its) source (map (λ s. joined_by s.0 s.1) (zip (remove sources 0) scope.sides.items)))
         select_done source sources made at ok =
-            let apart : once names ≡ names = once_all names (named_twice ∙ second_passes (repeats same_place (shown_places (shown_of columns its))) (nat_le (length scope.scopes.items) (length scope.sides.items)) _ _ _ ok) in
+            let apart : once names ≡ names = once_apart names (named_twice ∙ second_passes (repeats same_place (shown_places (shown_of columns its))) (nat_le (length scope.scopes.items) (length scope.sides.items)) _ _ _ ok) in
             let all = subst (λ ns. AllZip (IsScopeOf tables) ns scope.scopes.items) apart h.scopes in
             select_meant ok ∙ ap (λ r. Ok r) (selection_is scope.scopes.items source sources all made at)

@@ -24,6 +24,7 @@ use Rattle.mm_catalog.specs.Linked.{Linked, HasLinksOrNulls, link_at, row_links,
 use Rattle.mm_catalog.specs.Seen.{or_null, row_values}
 use Rattle.mm_catalog.proofs.Counted.{one_if}
 use Rattle.mm_catalog.proofs.Lists.{same_by_get}
+use Rattle.mm_relation.proofs.Setting.{not_first}
 
 -- cells behind the key, in columns of so many, and no two in one
 pub record AreApart (width : ℕ) (sets : List CellSet) : Type 0 where
@@ -88,10 +89,6 @@ range_place n k m e =
 -- a cell beside the one that is set
 cell_beside : (row : Row) (s : CellSet) (column : ℕ) → 0 < column → 0 < s.0.0 → column ≢ s.0.0 → slice_get (set row.cells (s.0.0 - 1) s.1) (column - 1) ≡ slice_get row.cells (column - 1)
 cell_beside row s column some behind other = slice_get-set_other row.cells (s.0.0 - 1) (column - 1) s.1 (λ e. other (omega (arith, e, some, behind)))
-
-not_first : (c : ℕ) → (c == 0) ≡ false → 0 < c
-not_first zero g = cc
-not_first (suc c) g = omega arith
 
 -- what is made of a cell beside it is as it was
 beside_same : {A : Type 0} (row : Row) (s : CellSet) (column : ℕ) (f : Cell → Option A) (other : Option A) → 0 < s.0.0 → column ≢ s.0.0 → cond (column == 0) other (option_and_then f (slice_get (set row.cells (s.0.0 - 1) s.1) (column - 1))) ≡ cond (column == 0) other (option_and_then f (slice_get row.cells (column - 1)))

@@ -1,38 +1,11 @@
 -- Sums over a list of which some elements change what they add.
-use Rattle.std.proofs.Common.{◌≡◌, ◌≢◌, ℕ, suc, ◌+◌, ◌*◌, List, [], ◌∷◌, ◌⊎◌, refl, sym, ap, ◌∙◌, subst, arith, length, get_or, inl, inr}
+use Rattle.std.proofs.Common.{◌≡◌, ◌≢◌, ℕ, suc, ◌+◌, ◌*◌, List, [], ◌∷◌, refl, sym, ap, ◌∙◌, subst, arith, length, inl, inr}
 use Rattle.std.specs.List.{AllPairs, Contains, sum_by}
-use Rattle.std.specs.Cmp.{IsTotalOrder}
-use Rattle.std.specs.Ordering.{ordering_reverse}
-use Rattle.std.specs.declared.cmp.Ordering.{Ordering}
-use Rattle.std.specs.declared.cmp.Ordering.TheVariants.{Less, Greater}
 use Rattle.std.proofs.Math.Nat.{suc-mul, zero-mul}
 use Rattle.std.proofs.lemmas.List.Sums.{sum_by-cons}
 use Rattle.common_lemmas.proofs.Elements.{Contains-cons, Contains-cons_cases}
 use Rattle.part_raw.specs.declared.tuple_ref.TupleRef.{TupleRef}
 use Rattle.part_raw.proofs.Lookup.{same_or_other}
-use Rattle.mm_index.specs.Order.{IsRising}
-
--- a list that rises has each element once
-pub rising_apart : {A : Type 0} (cmp : A → A → Ordering) → IsTotalOrder cmp → (xs : List A) → IsRising cmp xs → AllPairs (λ a b. a ≢ b) xs
-rising_apart {A} cmp total xs rising i j d below within e =
-    let x = get_or xs i d in
-    let less : cmp x x ≡ Less = subst (λ (y : A). cmp x y ≡ Less) (sym e) (rising i j d below within) in
-    let more : Less ≡ Greater = sym less ∙ total.antisymm x x ∙ ap ordering_reverse less in
-    absurd (cc)
-
--- a list has a reference, or hasn't
-pub among_or_not : (xs : List TupleRef) (r : TupleRef) → Contains xs r ⊎ (Contains xs r → ⊥)
-among_or_not [] r = inr (λ h. absurd (omega (arith, h.1)))
-among_or_not (x ∷ xs) r = elim (same_or_other r x) [
-  | inl same ↦ inl (0, omega arith, sym same)
-  | inr other ↦ elim (among_or_not xs r) [
-    | inl there ↦ inl (Contains-cons x xs r there)
-    | inr never ↦ inr (λ h. elim (Contains-cons_cases x xs r h) [
-      | inl same ↦ other same
-      | inr there ↦ never there
-    ])
-  ]
-]
 
 sum_same : (f g : TupleRef → ℕ) (xs : List TupleRef) → ((x : TupleRef) → Contains xs x → g x ≡ f x) → sum_by g xs ≡ sum_by f xs
 sum_same f g [] same = refl

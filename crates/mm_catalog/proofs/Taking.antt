@@ -1,18 +1,15 @@
 -- The steps by which a row comes into a relation.
-use Rattle.std.proofs.Common.{◌≡◌, ◌≢◌, ◌<◌, true, false, List, [], ◌∷◌, Option, Some, None, ◌⊎◌, sym, ap, ◌∙◌, subst, arith, length, get_or, remove, inl, inr, drop, ℕ}
-use Rattle.std.specs.Prelude.{IfSome, IfNone, is_some, Result, Ok, Err, IfOk}
+use Rattle.std.proofs.Common.{◌≡◌, ◌<◌, List, [], ◌∷◌, Some, None, ◌⊎◌, sym, ap, ◌∙◌, subst, arith, length, get_or, remove, inl, inr, drop, ℕ}
+use Rattle.std.specs.Prelude.{Result, Ok, Err, IfOk}
 use Rattle.std.specs.List.{slice_get}
 use Rattle.std.specs.FinMap.{get}
-use Rattle.std.proofs.lemmas.Bool.{false≢true}
 use Rattle.part_raw.specs.declared.tuple_ref.TupleRef.{TupleRef}
-use Rattle.part_raw.specs.Store.{Tuples}
 use Rattle.part_raw.proofs.Tuples.{get-insert_same}
 use Rattle.plain_tables.specs.declared.refusal.Refusal.{Refusal}
 use Rattle.plain_tables.specs.declared.refusal.Refusal.TheVariants.{KeyExists}
 use Rattle.plain_tables.specs.declared.value.Value.{Value}
 use Rattle.mm_relation.specs.Rows.{Row}
 use Rattle.mm_relation.specs.Changes.{IsInserted}
-use Rattle.mm_relation.specs.Reading.{key_at}
 use Rattle.mm_relation.specs.State.{RelationState, HasKey}
 use Rattle.mm_catalog.specs.Cells.{AreRefused}
 use Rattle.mm_catalog.proofs.Lists.{first_behind}
@@ -22,14 +19,6 @@ use Rattle.mm_catalog.specs.Inserted.{IsKeptOut, no_memory, key_there, none_name
 pub split_first : (values : List Value) (key : Value) (rest : List Value) → 0 < length values → key ≡ get_or values 0 key → rest ≡ remove values 0 → values ≡ key ∷ rest
 split_first [] key rest some first others = absurd (omega arith)
 split_first (v ∷ values) key rest some first others = λ i. sym first i ∷ sym others i
-
-pub found_key : (rows : Tuples Row) (key : Value) (o : Option TupleRef) → is_some o ≡ true → IfSome o (λ r. key_at rows r ≡ Some key) → HasKey rows key
-found_key rows key None some found = absurd (false≢true some)
-found_key rows key (Some r) some found = (r, found)
-
-pub no_found_key : (rows : Tuples Row) (key : Value) (o : Option TupleRef) → is_some o ≡ false → IfNone o ((r : TupleRef) → key_at rows r ≢ Some key) → HasKey rows key → ⊥
-no_found_key rows key None none absent h = absent h.0 h.1
-no_found_key rows key (Some r) none absent h = false≢true (sym none)
 
 -- values with no cells keep their row out
 pub kept_out_by_cells : (relations : List RelationState) (s : RelationState) (most : _) (key : Value) (rest : List Value) (refusal : Refusal) → (HasKey s.rows key → ⊥) → AreRefused relations s.targets rest refusal → IsKeptOut relations s most key rest refusal

@@ -42,7 +42,8 @@ use Rattle.mm_catalog.proofs.RelationSets.{linked_set, row_wide, rows_set}
 use Rattle.mm_catalog.proofs.RowSets.{AreApart}
 use Rattle.mm_catalog.proofs.Shrunk.{PicksThese, length_picked}
 use Rattle.mm_catalog.proofs.Tables.{database-get}
-use Rattle.mm_catalog.proofs.UpdateNeeds.{cell_read, current_front, sets_apart}
+use Rattle.mm_catalog.proofs.UpdateNeeds.{current_front, sets_apart}
+use Rattle.mm_catalog.proofs.CellRows.{read_value}
 
 -- ---- assignments
 
@@ -166,7 +167,7 @@ module _ (c : CatalogState) (ok : IsConsistent c) (n : TableNumber) (assignments
         let is = u.cells.each k x s at here in (
           is.0,
           ap (λ column. cell_value keys column.0 s.1) is.0 ∙ ap (λ ks. cell_value ks x.column.0 s.1) (sym same_keys)
-              ∙ cell_read front b.targets x.column.0 s.1 ∙ is.1.read,
+              ∙ read_value front b.targets x.column.0 s.1 ∙ is.1.read,
         )
 
     linked_sets : All (λ s. IsLinkOrNull (target_at b.targets s.0.0) s.1) u.sets

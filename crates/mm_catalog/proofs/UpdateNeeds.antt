@@ -46,6 +46,7 @@ use Rattle.mm_catalog.proofs.RelationSets.{keys_set, links_set, row_wide, row_wa
 use Rattle.mm_catalog.proofs.Removing.{link_held_at, links_within}
 use Rattle.mm_catalog.proofs.RowLinks.{All-filter_map, All-flat_map}
 use Rattle.mm_catalog.proofs.RowSets.{AreApart}
+use Rattle.mm_catalog.proofs.CellRows.{read_value}
 
 -- ---- lists
 
@@ -66,11 +67,6 @@ few_below xs n apart below =
 
     within : (q : ℕ) → q < n → Contains (range_with_len 0 n) q
     within q l = Contains-range n q l
-
--- a cell is read alike
-pub cell_read : (relations : List RelationState) (targets : List (Option ℕ)) (column : ℕ) (cell : Cell) → cell_value (linked_keys targets relations) column cell ≡ read_in relations (target_at targets column) cell
-cell_read relations targets column (Held value) = refl
-cell_read relations targets column (Named to) = refl
 
 then_some : {A B : Type 0} (f : A → Option B) (o : Option A) (y : B) → option_and_then f o ≡ Some y → (x : A) × (o ≡ Some x) × (f x ≡ Some y)
 then_some f None y e = absurd (none-some y e)
@@ -136,7 +132,7 @@ module _ (k : CatalogState) (ok : IsConsistent k) (n : ℕ) (b : RelationState) 
         let a = set_from i d l in
         let cell = (get_or sets i d).1 in
         subst (λ c. IsSome (cell_value (linked_keys b.targets front) c.0 cell)) (sym a.2)
-        (subst IsSome (sym (cell_read front b.targets a.0.column.0 cell)) a.3)
+        (subst IsSome (sym (read_value front b.targets a.0.column.0 cell)) a.3)
 
     -- the links that cells are name rows that are held
     pub sets_held : All (IsHeldIn front) (set_links b.targets sets)
@@ -147,7 +143,7 @@ module _ (k : CatalogState) (ok : IsConsistent k) (n : ℕ) (b : RelationState) 
         let found = then_some (λ (table : ℕ). option_map (λ (q : TupleRef). (table, q)) (link_of s.1)) (target_at b.targets s.0.0) link e in
         let q = option_map_some (λ (p : TupleRef). (found.0, p)) (link_of s.1) link found.2 in
         let read = All-contains (λ x. IsSome (cell_value (linked_keys b.targets front) x.0.0 x.1)) sets s sets_readable among in
-        subst (IsHeldIn front) q.2 (named_by front (target_at b.targets s.0.0) s.1 found.0 q.0 found.1 q.1 (subst IsSome (cell_read front b.targets s.0.0 s.1) read)))
+        subst (IsHeldIn front) q.2 (named_by front (target_at b.targets s.0.0) s.1 found.0 q.0 found.1 q.1 (subst IsSome (read_value front b.targets s.0.0 s.1) read)))
 
     few_sets : length sets ≤ 16
     few_sets =

@@ -1,5 +1,5 @@
 -- What the calls of a catalog do to it.
-use Rattle.std.specs.Prelude.{◌≡◌, ◌⊎◌, ℕ, List, Some, Result, Ok, Err, slice_get, slice_set, take}
+use Rattle.std.specs.Prelude.{◌≡◌, ◌⊎◌, ℕ, List, Some, slice_get, slice_set, take}
 use Rattle.plain_tables.specs.Doing.{done}
 use Rattle.plain_tables.specs.Effects.{Effect, Changed, Refused}
 use Rattle.plain_tables.specs.declared.refusal.Refusal.{Refusal}
@@ -32,11 +32,6 @@ pub record KeepsDatabase (old new : CatalogState) : Type 0 where
 -- The database is as before: no memory was found, or the effect is this refusal.
 abbrev pub IsDeclinedFor : CatalogState → CatalogState → Effect → Refusal → Type 0
 IsDeclinedFor old new effect refusal = KeepsDatabase old new × ((refusal ≡ NoMemory) ⊎ (effect.outcome ≡ Refused refusal))
-
--- what a call of this effect answers: how many rows changed, or why none did
-abbrev pub IsAnswered : CatalogState → CatalogState → Effect → Result ℕ Refusal → Type 0
-IsAnswered old new effect (Ok count) = HasEffect old new effect count
-IsAnswered old new effect (Err refusal) = IsRefusedFor old new effect refusal
 
 -- The relation of a number is changed so, and no other. It keeps what it keeps, and is current beside those before it.
 pub record IsChangedAt (old new : List RelationState) (n : ℕ) (change : RelationState → RelationState → Type 0) : Type 0 where

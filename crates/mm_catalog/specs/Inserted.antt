@@ -42,6 +42,14 @@ pub record IsTakenIn (before now : List RelationState) (old new : RelationState)
   pub current : IsCurrent (linked_keys old.targets before) new
   pub counted : AreCountedBy before now (naming (row_links old.targets row)) none
 
+-- the row of this key and these values behind it came into a relation, under this reference
+pub record IsInsertedBeside (before now : List RelationState) (old new : RelationState) (most : ℕ) (key : Value) (rest : List Value) (r : TupleRef) : Type 0 where
+  pub cells : List Cell
+  pub are : AreCellsOf before old.targets rest cells
+  pub fresh : HasKey old.rows key → ⊥
+  pub room : finite.len old.rows < most
+  pub taken : IsTakenIn before now old new r (new_row key cells)
+
 -- the row of these values came into the relation of a number, under this reference
 pub record IsInsertedAt (old new : List RelationState) (n most : ℕ) (values : List Value) (r : TupleRef) : Type 0 where
   pub before : RelationState

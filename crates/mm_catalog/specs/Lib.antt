@@ -17,3 +17,4 @@ pub mod Seen
 pub mod Select
 pub mod State
 pub mod Trees
+pub mod Standing

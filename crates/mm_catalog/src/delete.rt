@@ -1,42 +1,24 @@
 //! Rows that go out of one relation among others.
-ghost use Rattle.std.specs.Prelude.{◌≡◌, ◌≢◌, ◌<◌, ℕ, Some, IsSome, IfErr, OnOk, OnErr, All, Any, length, slice_get, take};
-ghost use Rattle.std.specs.Bool.{OnTrue, OnFalse};
+ghost use Rattle.std.specs.Prelude.{◌≡◌, ◌≢◌, ◌<◌, ℕ, Some, IsSome, IfErr, OnOk, OnErr, All, length, slice_get};
 ghost use Rattle.std.specs.List.{AllPairs};
 ghost use Rattle.std.specs.FinMap as finite;
 ghost use Rattle.mm_relation.specs.State.{RelationState, IsKept, IsCurrent, linked_keys};
-ghost use Rattle.mm_catalog.specs.Linked.{relation_links};
-ghost use Rattle.mm_catalog.specs.Counted.{HaveAtLeast, naming};
-ghost use Rattle.mm_catalog.specs.Changes.{IsCurrentAt};
-ghost use Rattle.mm_catalog.specs.Deleted.{IsReferenced, IsFree, AreRemoved, AreUnlinked, AreDeleted, AllFree, AnyReferenced};
+ghost use Rattle.mm_catalog.specs.Standing.{StandsBeside, Stands};
+ghost use Rattle.mm_catalog.specs.Deleted.{AreRemoved, AreUnlinked, AreDeleted, AllFree, AnyReferenced};
 
 use crate::before::Before;
 use crate::references::counting::count_down_links;
+use crate::references::named::any_referenced;
 use mm_relation::Relation;
 use mm_relation::laws::a_relation_is_kept;
 use part_raw::TupleRef;
 use plain_tables::{Refusal, TableNumber};
 
-// Whether a link names one of these rows.
-fn any_referenced(relation: &Relation, rows: &[TupleRef]) -> bool
-    requires held { All (λ r. IsSome (finite.get relation.now.rows r)) rows.now }
-    ensures referenced { OnTrue result (Any (IsReferenced relation.now) rows.now) }
-    ensures free { OnFalse result (All (IsFree relation.now) rows.now) }
-{
-    for r in rows {
-        if relation.row(*r).referrers() > 0 {
-            return true;
-        }
-    }
-    false
-}
-
 // Takes rows out of a relation, and their links with them, which lead into the relations before it.
 fn remove_each(before: &mut [Relation], relation: &mut Relation, rows: &[TupleRef])
-    requires kept { All IsKept before.old }
+    requires stands { StandsBeside before.old relation.old }
     requires held { All (λ r. IsSome (finite.get relation.old.rows r)) rows.now }
     requires once { AllPairs (λ q r. q ≢ r) rows.now }
-    requires current { IsCurrent (linked_keys relation.old.targets before.old) relation.old }
-    requires counted { HaveAtLeast before.old (naming (relation_links relation.old)) }
     ensures unlinked { AreUnlinked before.old before.new relation.old relation.new }
     ensures removed { AreRemoved relation.old relation.new rows.now }
     ensures kept { IsKept relation.new }
@@ -53,11 +35,9 @@ fn remove_each(before: &mut [Relation], relation: &mut Relation, rows: &[TupleRe
 /// Takes rows out of the relation of this number, whose links lead into those before it. It takes no memory.
 pub fn take_out(relations: &mut [Relation], table: TableNumber, rows: &[TupleRef])
     requires there { table.0 < length relations.old }
-    requires kept { All IsKept relations.old }
+    requires stands { Stands relations.old table.0 }
     requires held { (s : RelationState) → slice_get relations.old table.0 ≡ Some s → All (λ r. IsSome (finite.get s.rows r)) rows.now }
     requires once { AllPairs (λ q r. q ≢ r) rows.now }
-    requires current { IsCurrentAt relations.old table.0 }
-    requires counted { (s : RelationState) → slice_get relations.old table.0 ≡ Some s → HaveAtLeast (take table.0 relations.old) (naming (relation_links s)) }
     ensures { AreDeleted relations.old relations.new table.0 rows.now }
 {
     let (before, rest) = relations.split_at_mut(table.0);
@@ -71,11 +51,9 @@ pub fn delete(
     rows: &[TupleRef],
 ) -> Result<(), Refusal>
     requires there { table.0 < length relations.old }
-    requires kept { All IsKept relations.old }
+    requires stands { Stands relations.old table.0 }
     requires held { (s : RelationState) → slice_get relations.old table.0 ≡ Some s → All (λ r. IsSome (finite.get s.rows r)) rows.now }
     requires once { AllPairs (λ q r. q ≢ r) rows.now }
-    requires current { IsCurrentAt relations.old table.0 }
-    requires counted { (s : RelationState) → slice_get relations.old table.0 ≡ Some s → HaveAtLeast (take table.0 relations.old) (naming (relation_links s)) }
     ensures free { OnOk result (AllFree relations.old table.0 rows.now) }
     ensures deleted { OnOk result (AreDeleted relations.old relations.new table.0 rows.now) }
     ensures referenced { IfErr result (λ refusal. (refusal ≡ Refusal.RowIsReferenced) × AnyReferenced relations.old table.0 rows.now) }

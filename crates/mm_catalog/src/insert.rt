@@ -1,17 +1,17 @@
 //! A row that comes into one relation among others.
-ghost use Rattle.std.specs.Prelude.{◌≡◌, ◌⊎◌, ℕ, ◌+◌, ◌<◌, ◌≤◌, List, Some, All, IfOk, IfErr, OnOk, OnErr, length, slice_get, take};
+ghost use Rattle.std.specs.Prelude.{◌≡◌, ◌⊎◌, ℕ, ◌+◌, ◌<◌, ◌≤◌, List, Some, All, IfOk, IfErr, OnOk, OnErr, length, slice_get};
 ghost use Rattle.std.specs.FinMap as finite;
 ghost use Rattle.plain_tables.specs.declared.value.Value.{Value};
 ghost use Rattle.mm_relation.specs.Changes.{new_row};
 ghost use Rattle.mm_relation.specs.State.{RelationState, IsKept, IsCurrent, IsReadable, HasKey, linked_keys};
 ghost use Rattle.mm_catalog.specs.Cells.{AreCellsOf};
-ghost use Rattle.mm_catalog.specs.Changes.{IsCurrentAt};
-ghost use Rattle.mm_catalog.specs.Inserted.{IsKeptOut, IsTakenIn, IsInsertedAt, IsRefusedAt};
+ghost use Rattle.mm_catalog.specs.Standing.{StandsBeside, Stands};
+ghost use Rattle.mm_catalog.specs.Inserted.{IsKeptOut, IsTakenIn, IsInsertedBeside, IsInsertedAt, IsRefusedAt};
 ghost use Rattle.mm_catalog.specs.Linked.{target_at, row_links};
 ghost use Rattle.mm_catalog.specs.Counted.{IsHeldIn, HaveRoom};
 
 use crate::before::Before;
-use crate::cells::cells_of;
+use crate::references::cells::cells_of;
 use crate::references::counting::count_up_links;
 use mm_relation::laws::a_relation_is_kept;
 use mm_relation::{Cell, Relation, RowRefusal};
@@ -91,6 +91,28 @@ fn take_in(
     }
 }
 
+// Puts the row of a key and the values behind it into a relation, whose links lead into those before it. It gives the
+// reference of the row.
+fn insert_beside(
+    alloc: Global,
+    before: &mut [Relation],
+    relation: &mut Relation,
+    limits: Limits,
+    key: Value,
+    values: Vec<Value>,
+) -> Result<TupleRef, Refusal>
+    requires few { limits.rows ≤ 16777216 }
+    requires stands { StandsBeside before.old relation.old }
+    requires width { length values.items + 1 ≡ length relation.old.targets }
+    ensures inserted { IfOk result (IsInsertedBeside before.old before.new relation.old relation.new limits.rows key values.items) }
+    ensures refused { IfErr result (IsKeptOut before.old relation.old limits.rows key values.items) }
+    ensures others { OnErr result (before.new ≡ before.old) }
+    ensures unchanged { OnErr result (relation.new ≡ relation.old) }
+{
+    let cells = cells_for(alloc, before, relation, limits, &key, values)?;
+    take_in(before, relation, key, cells)
+}
+
 // Puts the row of these values into the relation of this number, whose links lead into those before it. It gives the
 // reference of the row.
 pub fn insert(
@@ -102,12 +124,9 @@ pub fn insert(
 ) -> Result<TupleRef, Refusal>
     requires few { limits.rows ≤ 16777216 }
     requires there { table.0 < length relations.old }
-    requires kept { All IsKept relations.old }
-    requires current { IsCurrentAt relations.old table.0 }
-    requires back { (s : RelationState) → slice_get relations.old table.0 ≡ Some s → (column : ℕ) (number : ℕ) → target_at s.targets column ≡ Some number → number < table.0 }
+    requires stands { Stands relations.old table.0 }
     requires some { 0 < length values }
     requires width { (s : RelationState) → slice_get relations.old table.0 ≡ Some s → length values ≡ length s.targets }
-    requires room { (s : RelationState) → slice_get relations.old table.0 ≡ Some s → HaveRoom (take table.0 relations.old) (length s.targets) }
     ensures inserted { IfOk result (IsInsertedAt relations.old relations.new table.0 limits.rows values) }
     ensures refused { IfErr result (IsRefusedAt relations.old table.0 limits.rows values) }
     ensures unchanged { OnErr result (relations.new ≡ relations.old) }
@@ -115,6 +134,5 @@ pub fn insert(
     let (before, rest) = relations.split_at_mut(table.0);
     let relation = &mut rest[0];
     let key = values.remove(0);
-    let cells = cells_for(alloc, before, relation, limits, &key, values.into_vec())?;
-    take_in(before, relation, key, cells)
+    insert_beside(alloc, before, relation, limits, key, values.into_vec())
 }

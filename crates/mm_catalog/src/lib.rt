@@ -20,7 +20,6 @@
 mod before;
 mod bind;
 mod catalog;
-mod cells;
 mod create;
 mod declare;
 mod delete;

@@ -1,10 +1,9 @@
 //! A relation that goes from among others: the rows that its links name, and the numbers of those behind it.
-ghost use Rattle.std.specs.Prelude.{◌≡◌, ◌<◌, ◌≤◌, ◌++◌, Some, All, length, slice_get, map, take, drop};
+ghost use Rattle.std.specs.Prelude.{◌≡◌, ◌<◌, ◌≤◌, ◌++◌, All, length, map, take, drop};
 ghost use Rattle.std.specs.declared.cmp.Ordering.TheVariants.{Equal};
-ghost use Rattle.mm_relation.specs.State.{RelationState, IsKept, IsCurrent, linked_keys};
 ghost use Rattle.mm_catalog.specs.Linked.{relation_links};
-ghost use Rattle.mm_catalog.specs.Counted.{HaveAtLeast, AreCountedBy, naming, none};
-ghost use Rattle.mm_catalog.specs.Changes.{IsCurrentAt};
+ghost use Rattle.mm_catalog.specs.Counted.{AreCountedBy, naming, none};
+ghost use Rattle.mm_catalog.specs.Standing.{StandsBeside, Stands};
 ghost use Rattle.mm_catalog.specs.Dropped.{with_column_moved, renumbered, IsUnlinked};
 
 use crate::references::counting::count_down_links;
@@ -37,9 +36,7 @@ impl Probe for AllRows {
 
 // The rows that the links of a relation name have fewer referrers, as many as there are such links.
 fn count_down_relation(before: &mut [Relation], relation: &Relation)
-    requires kept { All IsKept before.old }
-    requires current { IsCurrent (linked_keys relation.now.targets before.old) relation.now }
-    requires enough { HaveAtLeast before.old (naming (relation_links relation.now)) }
+    requires { StandsBeside before.old relation.now }
     ensures { AreCountedBy before.old before.new none (naming (relation_links relation.now)) }
 {
     a_relation_is_kept(relation);
@@ -52,9 +49,7 @@ fn count_down_relation(before: &mut [Relation], relation: &Relation)
 /// takes no memory.
 pub fn unlink(relations: &mut [Relation], table: TableNumber)
     requires there { table.0 < length relations.old }
-    requires kept { All IsKept relations.old }
-    requires current { IsCurrentAt relations.old table.0 }
-    requires enough { (s : RelationState) → slice_get relations.old table.0 ≡ Some s → HaveAtLeast (take table.0 relations.old) (naming (relation_links s)) }
+    requires stands { Stands relations.old table.0 }
     ensures { IsUnlinked relations.old relations.new table.0 }
 {
     let (before, rest) = relations.split_at_mut(table.0);

@@ -12,7 +12,7 @@ ghost use Rattle.mm_catalog.specs.Assigned.{AreConsistent, AreNotSet, AreSetBy, 
 ghost use Rattle.mm_catalog.specs.State.{CatalogState};
 
 use crate::before::Before;
-use crate::cells::cell_of;
+use crate::references::cells::cell_of;
 use crate::references::counting::{count_down_all, count_up};
 use crate::references::link::{Link, link_in, target_number};
 use mm_relation::laws::a_relation_is_kept;

@@ -1,8 +1,8 @@
 -- Fronts: what stands at the front of a line, symbol by symbol.
 use Rattle.std.proofs.Common.{◌≡◌, ◌≢◌, ℕ, ◌<◌, ◌≤◌, List, [], ◌∷◌, ◌++◌, length, Option, Some, None, true, false, refl, sym, ◌∙◌, ap, arith, subst}
-use Rattle.std.specs.Prelude.{Bool, Result, Err, ◌==◌}
+use Rattle.std.specs.Prelude.{Bool, Result, Err}
 use Rattle.std.specs.Str.{IsUtf8, IsAscii, bytes_eq}
-use Rattle.std.proofs.lemmas.Bool.{and_parts, eqb-true, eqb-false}
+use Rattle.std.proofs.lemmas.Bool.{and_parts}
 use Rattle.std.proofs.lemmas.Bool.Decides.{nat_tests}
 use Rattle.std.proofs.lemmas.Slice.Eq.{bytes_eq-Decides}
 use Rattle.std.proofs.lemmas.Str.{IsUtf8-from_ascii}
@@ -13,15 +13,13 @@ use Rattle.plain_tables.specs.Spelling.{Symbol, Name, Literal, Sign, Operator, o
 use Rattle.plain_tables.specs.Reading.{begins_run, lexeme, after_lexeme}
 use Rattle.plain_tables.specs.declared.value.Value.{Value}
 use Rattle.plain_tables.specs.declared.value.Value.TheVariants as value
-use Rattle.plain_tables.specs.declared.schema.ColKind.{ColKind}
-use Rattle.plain_tables.specs.declared.schema.ColKind.TheVariants as kind
 use Rattle.plain_tables.specs.declared.condition.Op.{Op}
 use Rattle.plain_tables.specs.declared.condition.Op.TheVariants as op
 use Rattle.plain_tables.specs.declared.condition.ColName.{ColName}
 use Rattle.plain_tables.proofs.Lexemes.{AllPass, IsRun, word-run, letter-word, symbol-run, integer-run, length-lexeme}
 use Rattle.plain_tables.proofs.Integers.{Literal-only}
 use Rattle.plain_tables.proofs.FirstWords.{different}
-use Rattle.plain_tables.proofs.SingleItems.{kind_word, operator-one, whole_name}
+use Rattle.plain_tables.proofs.SingleItems.{operator-one, whole_name}
 use Rattle.mm_lang.specs.Parsing.{Reads, IsOfText, EndsItem, BeginsWith, BeginsWithNone}
 use Rattle.mm_lang.proofs.Utf8.{of_text-after, literal-utf8}
 
@@ -32,13 +30,6 @@ same-bytes xs ys zs r h e f = (bytes_eq-Decides xs ys).0 (sym e ∙ h) ∙ f
 
 pub other-bytes : (xs ys zs : List ℕ) (r : Bool) → r ≡ false → r ≡ bytes_eq xs ys → ys ≡ zs → xs ≢ zs
 other-bytes xs ys zs r h e f same = let both : bytes_eq xs ys ≡ true = (bytes_eq-Decides xs ys).1 (same ∙ sym f) in cc
-
-pub empty-list : (xs : List ℕ) → (length xs == 0) ≡ true → xs ≡ []
-empty-list [] h = refl
-empty-list (x ∷ xs) h = absurd (omega (arith, eqb-true (length (x ∷ xs)) 0 h))
-
-pub other-list : (xs : List ℕ) → (length xs == 0) ≡ false → xs ≢ []
-other-list xs h e = eqb-false (length xs) 0 h (ap length e)
 
 -- an error that a `?` passes on
 pub same-error : {T E : Type 0} (r : Result T E) (y d e : E) → r ≡ Err y → y ≡ d → r ≡ Err e → d ≡ e
@@ -125,188 +116,18 @@ pub begins-no_value : (line : List ℕ) → (IsOfText line → (v : Value) → I
     → BeginsWithNone value_symbols line
 begins-no_value line not = record { none = λ of y other reads free. not of y reads.0 }
 
--- ---- kinds of columns
-
-kind-first : (line : List ℕ) (k : ColKind) (rest : List ℕ) → Reads line (kind_symbols k) rest → lexeme line ≡ kind_word k
-kind-first line kind.Int rest reads = reads.0
-kind-first line kind.Text rest reads = reads.0
-kind-first line (kind.Ref t) rest reads = reads.0
-kind-first line (kind.RefOrNull t) rest reads = reads.0
-
--- a line that begins with a kind's first word begins with no kind of another
-other-kind : (line word : List ℕ) (k : ColKind) (rest : List ℕ) → lexeme line ≡ word → bytes_eq word (kind_word k) ≡ false
-    → Reads line (kind_symbols k) rest → ⊥
-other-kind line word k rest e test reads = different word (kind_word k) test (sym e ∙ kind-first line k rest reads)
-
-pub begins-int : (line rest : List ℕ) → lexeme line ≡ codes "int" → rest ≡ after_lexeme line → BeginsWith kind_symbols line kind.Int rest
-begins-int line rest e f = record { found = (e, sym f); only = λ y other reads free. int-only line rest e f y other reads }
-  where
-    int-only : (line rest : List ℕ) → lexeme line ≡ codes "int" → rest ≡ after_lexeme line → (k : ColKind) (other : List ℕ)
-        → Reads line (kind_symbols k) other → (k ≡ kind.Int) × (other ≡ rest)
-    int-only line rest e f kind.Int other reads = (refl, sym reads.1 ∙ sym f)
-    int-only line rest e f k other reads = absurd (other-kind line (codes "int") k other e refl reads)
-
-pub begins-text : (line rest : List ℕ) → lexeme line ≡ codes "text" → rest ≡ after_lexeme line → BeginsWith kind_symbols line kind.Text rest
-begins-text line rest e f = record { found = (e, sym f); only = λ y other reads free. text-only line rest e f y other reads }
-  where
-    text-only : (line rest : List ℕ) → lexeme line ≡ codes "text" → rest ≡ after_lexeme line → (k : ColKind) (other : List ℕ)
-        → Reads line (kind_symbols k) other → (k ≡ kind.Text) × (other ≡ rest)
-    text-only line rest e f kind.Text other reads = (refl, sym reads.1 ∙ sym f)
-    text-only line rest e f k other reads = absurd (other-kind line (codes "text") k other e refl reads)
-
--- The line is a `ref`, the name of a table, and what stands behind it.
-pub record IsReference (line table rest : List ℕ) : Type 0 where
-  pub begins : lexeme line ≡ codes "ref"
-  pub is : IsName (lexeme (after_lexeme line))
-  pub named : table ≡ lexeme (after_lexeme line)
-  pub behind : rest ≡ after_lexeme (after_lexeme line)
-
-reference-only : (line table rest : List ℕ) → IsReference line table rest → lexeme rest ≢ codes "null" → (k : ColKind) (other : List ℕ)
-    → Reads line (kind_symbols k) other → (k ≡ kind.Ref table) × (other ≡ rest)
-reference-only line table rest is no_null (kind.Ref t) other reads =
-    (ap kind.Ref (sym reads.1.0.0 ∙ sym is.named), sym reads.1.1 ∙ sym is.behind)
-reference-only line table rest is no_null (kind.RefOrNull t) other reads = absurd (no_null (ap lexeme is.behind ∙ reads.1.1.0))
-reference-only line table rest is no_null k other reads = absurd (other-kind line (codes "ref") k other is.begins refl reads)
-
-pub begins-reference : (line table rest : List ℕ) → IsReference line table rest → lexeme rest ≢ codes "null"
-    → BeginsWith kind_symbols line (kind.Ref table) rest
-begins-reference line table rest is no_null = record {
-  found = (is.begins, ((sym is.named, subst IsName (sym is.named) is.is), sym is.behind));
-  only = λ y other reads free. reference-only line table rest is no_null y other reads;
-}
-
-or_null-only : (line table rest behind : List ℕ) → IsReference line table rest → lexeme rest ≡ codes "null" → behind ≡ after_lexeme rest
-    → (k : ColKind) (other : List ℕ) → Reads line (kind_symbols k) other → EndsItem (lexeme other)
-    → (k ≡ kind.RefOrNull table) × (other ≡ behind)
-or_null-only line table rest behind is null f (kind.Ref t) other reads ends =
-    absurd (ends.1 (ap lexeme (sym reads.1.1 ∙ sym is.behind) ∙ null))
-or_null-only line table rest behind is null f (kind.RefOrNull t) other reads ends =
-    (ap kind.RefOrNull (sym reads.1.0.0 ∙ sym is.named), sym reads.1.1.1 ∙ (ap after_lexeme (sym is.behind) ∙ sym f))
-or_null-only line table rest behind is null f k other reads ends = absurd (other-kind line (codes "ref") k other is.begins refl reads)
-
-pub begins-reference_or_null : (line table rest behind : List ℕ) → IsReference line table rest → lexeme rest ≡ codes "null"
-    → behind ≡ after_lexeme rest → BeginsWith kind_symbols line (kind.RefOrNull table) behind
-begins-reference_or_null line table rest behind is null f = record {
-  found = (
-    is.begins,
-    ((sym is.named, subst IsName (sym is.named) is.is), (ap lexeme (sym is.behind) ∙ null, ap after_lexeme (sym is.behind) ∙ sym f)),
-  );
-  only = λ y other reads free. or_null-only line table rest behind is null f y other reads free;
-}
-
-no-kind : (line : List ℕ) → lexeme line ≢ codes "int" → lexeme line ≢ codes "text" → lexeme line ≢ codes "ref" → (k : ColKind) (other : List ℕ)
-    → Reads line (kind_symbols k) other → ⊥
-no-kind line no_int no_text no_ref kind.Int other reads = no_int reads.0
-no-kind line no_int no_text no_ref kind.Text other reads = no_text reads.0
-no-kind line no_int no_text no_ref (kind.Ref t) other reads = no_ref reads.0
-no-kind line no_int no_text no_ref (kind.RefOrNull t) other reads = no_ref reads.0
-
-pub begins-no_kind : (line : List ℕ) → lexeme line ≢ codes "int" → lexeme line ≢ codes "text" → lexeme line ≢ codes "ref"
-    → BeginsWithNone kind_symbols line
-begins-no_kind line no_int no_text no_ref = record { none = λ of y other reads free. no-kind line no_int no_text no_ref y other reads }
-
-no-referred : (line : List ℕ) → lexeme line ≢ codes "int" → lexeme line ≢ codes "text" → (IsName (lexeme (after_lexeme line)) → ⊥)
-    → (k : ColKind) (other : List ℕ) → Reads line (kind_symbols k) other → ⊥
-no-referred line no_int no_text not kind.Int other reads = no_int reads.0
-no-referred line no_int no_text not kind.Text other reads = no_text reads.0
-no-referred line no_int no_text not (kind.Ref t) other reads = no-name (after_lexeme line) t not reads.1.0
-no-referred line no_int no_text not (kind.RefOrNull t) other reads = no-name (after_lexeme line) t not reads.1.0
-
-pub begins-no_referred : (line : List ℕ) → lexeme line ≢ codes "int" → lexeme line ≢ codes "text"
-    → (IsName (lexeme (after_lexeme line)) → ⊥) → BeginsWithNone kind_symbols line
-begins-no_referred line no_int no_text not = record { none = λ of y other reads free. no-referred line no_int no_text not y other reads }
-
 -- ---- columns
-
-pub begins-column : (line name : List ℕ) (k : ColKind) (rest : List ℕ) → IsName (lexeme line) → name ≡ lexeme line
-    → BeginsWith kind_symbols (after_lexeme line) k rest → BeginsWith column_symbols line (record { name = name; kind = k }) rest
-begins-column line name k rest is e begins = record {
-  found = ((sym e, subst IsName (sym e) is), begins.found);
-  only = λ y other reads free.
-      let same : y.name ≡ name = sym reads.0.0 ∙ sym e in
-      let kinds : (y.kind ≡ k) × (other ≡ rest) = begins.only y.kind other reads.1 free in
-      ((λ i. record { name = same i; kind = kinds.0 i }), kinds.1);
-}
-
-pub begins-no_column : (line : List ℕ) → (IsName (lexeme line) → ⊥) → BeginsWithNone column_symbols line
-begins-no_column line not = record { none = λ of y other reads free. no-name line y.name not reads.0 }
 
 pub begins-no_column_kind : (line : List ℕ) → BeginsWithNone kind_symbols (after_lexeme line) → BeginsWithNone column_symbols line
 begins-no_column_kind line not = record { none = λ of y other reads free. not.none (of_text-after line of) y.kind other reads.1 free }
 
 -- ---- names of columns
 
-bare-only : (line name rest : List ℕ) → name ≡ lexeme line → rest ≡ after_lexeme line → lexeme rest ≢ codes "."
-    → (table : Option (List ℕ)) (column other : List ℕ) → Reads line (whole_name table column) other
-    → (table ≡ None) × (column ≡ name) × (other ≡ rest)
-bare-only line name rest e f free None column other reads = (refl, sym reads.0.0 ∙ sym e, sym reads.1 ∙ sym f)
-bare-only line name rest e f free (Some t) column other reads = absurd (free (ap lexeme f ∙ reads.1.0))
-
-pub begins-bare : (line name rest : List ℕ) → IsName (lexeme line) → name ≡ lexeme line → rest ≡ after_lexeme line
-    → lexeme rest ≢ codes "." → BeginsWith name_symbols line (record { table = None; column = name }) rest
-begins-bare line name rest is e f free = record {
-  found = ((sym e, subst IsName (sym e) is), sym f);
-  only = λ y other reads not.
-      let parts : (y.table ≡ None) × (y.column ≡ name) × (other ≡ rest) = bare-only line name rest e f free y.table y.column other reads in
-      ((λ i. record { table = parts.0 i; column = parts.1 i }), parts.2);
-}
-
-dotted-only : (line table column rest : List ℕ) → table ≡ lexeme line → lexeme (after_lexeme line) ≡ codes "."
-    → column ≡ lexeme (after_lexeme (after_lexeme line)) → rest ≡ after_lexeme (after_lexeme (after_lexeme line))
-    → (t : Option (List ℕ)) (c other : List ℕ) → Reads line (whole_name t c) other → lexeme other ≢ codes "."
-    → (t ≡ Some table) × (c ≡ column) × (other ≡ rest)
-dotted-only line table column rest e dot f g None c other reads not = absurd (not (ap lexeme (sym reads.1) ∙ dot))
-dotted-only line table column rest e dot f g (Some t) c other reads not =
-    (ap Some (sym reads.0.0 ∙ sym e), sym reads.1.1.0.0 ∙ sym f, sym reads.1.1.1 ∙ sym g)
-
-pub begins-dotted : (line table column rest : List ℕ) → IsName (lexeme line) → table ≡ lexeme line → lexeme (after_lexeme line) ≡ codes "."
-    → IsName (lexeme (after_lexeme (after_lexeme line))) → column ≡ lexeme (after_lexeme (after_lexeme line))
-    → rest ≡ after_lexeme (after_lexeme (after_lexeme line))
-    → BeginsWith name_symbols line (record { table = Some table; column = column }) rest
-begins-dotted line table column rest is e dot is' f g = record {
-  found = ((sym e, subst IsName (sym e) is), (dot, ((sym f, subst IsName (sym f) is'), sym g)));
-  only = λ y other reads not.
-      let parts : (y.table ≡ Some table) × (y.column ≡ column) × (other ≡ rest) =
-      dotted-only line table column rest e dot f g y.table y.column other reads not.0 in
-      ((λ i. record { table = parts.0 i; column = parts.1 i }), parts.2);
-}
-
 pub no-first : (line : List ℕ) → (IsName (lexeme line) → ⊥) → (t : Option (List ℕ)) (c other : List ℕ) → Reads line (whole_name t c) other → ⊥
 no-first line not None c other reads = no-name line c not reads.0
 no-first line not (Some t) c other reads = no-name line t not reads.0
 
-pub begins-no_name : (line : List ℕ) → (IsName (lexeme line) → ⊥) → BeginsWithNone name_symbols line
-begins-no_name line not = record { none = λ of y other reads free. no-first line not y.table y.column other reads }
-
-no-second : (line : List ℕ) → lexeme (after_lexeme line) ≡ codes "." → (IsName (lexeme (after_lexeme (after_lexeme line))) → ⊥)
-    → (t : Option (List ℕ)) (c other : List ℕ) → Reads line (whole_name t c) other → lexeme other ≢ codes "." → ⊥
-no-second line dot not None c other reads free = free (ap lexeme (sym reads.1) ∙ dot)
-no-second line dot not (Some t) c other reads free = no-name (after_lexeme (after_lexeme line)) c not reads.1.1.0
-
-pub begins-no_column_of_table : (line : List ℕ) → lexeme (after_lexeme line) ≡ codes "." → (IsName (lexeme (after_lexeme (after_lexeme line))) → ⊥)
-    → BeginsWithNone name_symbols line
-begins-no_column_of_table line dot not = record {
-  none = λ of y other reads free. no-second line dot not y.table y.column other reads free.0;
-}
-
 -- ---- settings
-
-pub begins-setting : (line name : List ℕ) (v : Value) (rest : List ℕ) → IsName (lexeme line) → name ≡ lexeme line
-    → lexeme (after_lexeme line) ≡ codes "=" → BeginsWith value_symbols (after_lexeme (after_lexeme line)) v rest
-    → BeginsWith setting_symbols line (record { column = name; value = v }) rest
-begins-setting line name v rest is e eq value = record {
-  found = ((sym e, subst IsName (sym e) is), (eq, value.found));
-  only = λ y other reads free.
-      let same : y.column ≡ name = sym reads.0.0 ∙ sym e in
-      let values : (y.value ≡ v) × (other ≡ rest) = value.only y.value other reads.1.1 free in
-      ((λ i. record { column = same i; value = values.0 i }), values.1);
-}
-
-pub begins-no_setting : (line : List ℕ) → (IsName (lexeme line) → ⊥) → BeginsWithNone setting_symbols line
-begins-no_setting line not = record { none = λ of y other reads free. no-name line y.column not reads.0 }
-
-pub begins-no_equals : (line : List ℕ) → lexeme (after_lexeme line) ≢ codes "=" → BeginsWithNone setting_symbols line
-begins-no_equals line not = record { none = λ of y other reads free. not reads.1.0 }
 
 pub begins-no_set_value : (line : List ℕ) → BeginsWithNone value_symbols (after_lexeme (after_lexeme line)) → BeginsWithNone setting_symbols line
 begins-no_set_value line not = record {

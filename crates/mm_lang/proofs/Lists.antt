@@ -1,5 +1,5 @@
 -- Lists: how far a list has been read from the front of a line.
-use Rattle.std.proofs.Common.{◌≡◌, ◌≢◌, ℕ, ◌<◌, List, [], ◌∷◌, ◌++◌, length, map, refl, sym, ◌∙◌, ap, arith, append_assoc, subst}
+use Rattle.std.proofs.Common.{◌≡◌, ◌≢◌, ℕ, ◌<◌, List, [], ◌∷◌, ◌++◌, length, map, sym, ◌∙◌, ap, arith, append_assoc, subst}
 use Rattle.plain_tables.specs.Spelling.{Symbol, separated_by, IsSymbol}
 use Rattle.plain_tables.specs.Reading.{lexeme, after_lexeme}
 use Rattle.mm_lang.specs.Parsing.{Reads, ReadsList, IsOfText, EndsItem, BeginsWith, BeginsWithNone, BeginsWithList, BeginsWithNoList}
@@ -55,13 +55,6 @@ pub record HasRead {X : Type 0} (symbols : X → List Symbol) (between line : Li
   pub found : (zs : List X) (other : List ℕ) → ReadsList symbols between rest zs other → ReadsList symbols between line (items ++ zs) other
   pub only : (ys : List X) (other : List ℕ) → ReadsList symbols between line ys other → EndsItem (lexeme other) → lexeme other ≢ between
       → (zs : List X) × (ys ≡ items ++ zs) × ReadsList symbols between rest zs other
-
-pub has_read-none : {X : Type 0} (symbols : X → List Symbol) (between line : List ℕ) → HasRead symbols between line [] line
-has_read-none symbols between line = record {
-  of_text = λ of. of;
-  found = λ zs other reads. reads;
-  only = λ ys other reads free end. (ys, refl, reads);
-}
 
 -- what a list is by its first item: nothing else, or a separator and the others behind it
 data Tail {X : Type 0} (symbols : X → List Symbol) (between behind : List ℕ) (x : X) (zs : List X) (other : List ℕ) : Type 0 where

@@ -3,7 +3,7 @@ use Rattle.std.proofs.Common.{◌≡◌, ◌≢◌, ℕ, ◌<◌, List, [], ◌�
 use Rattle.std.specs.Str.{bytes_eq}
 use lib.Chars.{codes}
 use Rattle.plain_tables.specs.Names.{IsName}
-use Rattle.plain_tables.specs.Spelling.{Symbol, Keyword, Name, Count, Sign, Open, Close, Comma, separated, column_symbols, index_word, index_symbols, value_symbols, setting_symbols, condition_symbols, where_symbols, NamesSomething}
+use Rattle.plain_tables.specs.Spelling.{Symbol, Keyword, Name, Count, Sign, Open, Close, Comma, separated, column_symbols, index_symbols, value_symbols, setting_symbols, condition_symbols, where_symbols, NamesSomething}
 use Rattle.plain_tables.specs.Reading.{lexeme, after_lexeme}
 use Rattle.plain_tables.specs.declared.value.Value.{Value}
 use Rattle.plain_tables.specs.declared.schema.Column.{Column}
@@ -12,7 +12,7 @@ use Rattle.plain_tables.specs.declared.schema.IndexKind.{IndexKind}
 use Rattle.plain_tables.specs.declared.condition.Cond.{Cond}
 use Rattle.plain_tables.specs.declared.command.Setting.{Setting}
 use Rattle.plain_tables.specs.declared.command.Command.{Command}
-use Rattle.plain_tables.specs.declared.command.Command.TheVariants.{Table, DropTable, Index, DropIndex, Insert, Update, Delete, Load, Dump, Tables}
+use Rattle.plain_tables.specs.declared.command.Command.TheVariants.{Table, DropTable, Index, DropIndex, Insert, Update, Delete, Load, Dump}
 use Rattle.plain_tables.proofs.FirstWords.{different, first_word, behind_word, split-word}
 use Rattle.mm_lang.specs.Parsing.{Reads, IsWhole, ReadsList, IsOfText, EndsItem, BeginsWithList, BeginsWithNoList, IsNameAndList, IsWhere, Completes}
 use Rattle.mm_lang.proofs.Fronts.{no-name, reads-append, reads-split, not-word, word-ends_item}
@@ -156,55 +156,7 @@ insert-only line not (Insert table values) completes =
     not table values (list-named value_symbols line table values completes.some (behind-first line (Insert table values) completes))
 insert-only line not command completes = other-word line (codes "insert") command refl completes
 
--- ---- a name alone, and an index
-
-pub name-whole : (line name rest : List ℕ) → IsName (lexeme line) → name ≡ lexeme line → rest ≡ after_lexeme line → lexeme rest ≡ []
-    → IsWhole line (Name name ∷ [])
-name-whole line name rest is e f end = (rest, ((sym e, subst IsName (sym e) is), sym f), end)
-
-pub no-whole_name : (line : List ℕ) → (IsName (lexeme line) → ⊥) → (name : List ℕ) → IsWhole line (Name name ∷ []) → ⊥
-no-whole_name line not name is = no-name line name not is.1.0
-
-pub more-behind_name : (line rest : List ℕ) → rest ≡ after_lexeme line → lexeme rest ≢ [] → (name : List ℕ) → IsWhole line (Name name ∷ []) → ⊥
-more-behind_name line rest f more name is = more (ap lexeme (f ∙ is.1.1) ∙ is.2)
-
-pub index-whole : (line table behind_table column behind_column rest : List ℕ) (k : IndexKind) → IsName (lexeme line) → table ≡ lexeme line
-    → behind_table ≡ after_lexeme line → IsName (lexeme behind_table) → column ≡ lexeme behind_table → behind_column ≡ after_lexeme behind_table
-    → lexeme behind_column ≡ index_word k → rest ≡ after_lexeme behind_column → lexeme rest ≡ [] → IsWhole line (index_symbols table column k)
-index-whole line table behind_table column behind_column rest k is e f is' e' f' word g end =
-    let word_behind : Reads (after_lexeme behind_table) (Keyword (index_word k) ∷ []) rest =
-    subst (λ l. Reads l (Keyword (index_word k) ∷ []) rest) f' (word, sym g) in
-    let behind : Reads (after_lexeme line) (Name column ∷ Keyword (index_word k) ∷ []) rest =
-    subst (λ l. Reads l (Name column ∷ Keyword (index_word k) ∷ []) rest) f ((sym e', subst IsName (sym e') is'), word_behind) in
-    (rest, ((sym e, subst IsName (sym e) is), behind), end)
-
-pub no-table_of_index : (line : List ℕ) → (IsName (lexeme line) → ⊥) → (table column : List ℕ) (k : IndexKind)
-    → IsWhole line (index_symbols table column k) → ⊥
-no-table_of_index line not table column k is = no-name line table not is.1.0
-
-pub no-column_of_index : (line behind_table : List ℕ) → behind_table ≡ after_lexeme line → (IsName (lexeme behind_table) → ⊥)
-    → (table column : List ℕ) (k : IndexKind) → IsWhole line (index_symbols table column k) → ⊥
-no-column_of_index line behind_table f not table column k is =
-    no-name (after_lexeme line) column (subst (λ l. IsName (lexeme l) → ⊥) f not) is.1.1.0
-
-pub no-kind_of_index : (line behind_table behind_column : List ℕ) → behind_table ≡ after_lexeme line → behind_column ≡ after_lexeme behind_table
-    → ((k : IndexKind) → lexeme behind_column ≢ index_word k)
-    → (table column : List ℕ) (k : IndexKind) → IsWhole line (index_symbols table column k) → ⊥
-no-kind_of_index line behind_table behind_column f g not table column k is =
-    not k (ap lexeme (g ∙ ap after_lexeme f) ∙ is.1.1.1.0)
-
-pub more-behind_index : (line behind_table behind_column rest : List ℕ) → behind_table ≡ after_lexeme line
-    → behind_column ≡ after_lexeme behind_table → rest ≡ after_lexeme behind_column → lexeme rest ≢ []
-    → (table column : List ℕ) (k : IndexKind) → IsWhole line (index_symbols table column k) → ⊥
-more-behind_index line behind_table behind_column rest f g h more table column k is =
-    let last : rest ≡ after_lexeme (after_lexeme (after_lexeme line)) = h ∙ ap after_lexeme (g ∙ ap after_lexeme f) in
-    more (ap lexeme (last ∙ is.1.1.1.1) ∙ is.2)
-
 -- ---- index, drop and tables
-
-pub index-completed : (line table column : List ℕ) (k : IndexKind) → IsWhole line (index_symbols table column k)
-    → Completes (codes "index") line (Index table column k)
-index-completed line table column k is = completed line (Index table column k) tt is
 
 pub index-only : (line : List ℕ) → ((table column : List ℕ) (k : IndexKind) → IsWhole line (index_symbols table column k) → ⊥)
     → (command : Command) → Completes (codes "index") line command → ⊥
@@ -244,22 +196,6 @@ drop-index-only line front word f not (DropIndex table column k) completes =
     not table column k (subst (λ l. IsWhole l (index_symbols table column k)) (sym f) (made.0, made.1.1, made.2))
 drop-index-only line front word f not command completes = other-word line (codes "drop") command refl completes
 
-pub drop-neither : (line : List ℕ) → lexeme line ≢ codes "table" → lexeme line ≢ codes "index"
-    → (command : Command) → Completes (codes "drop") line command → ⊥
-drop-neither line no_table no_index (DropTable table) completes =
-    let made : IsWhole line (behind_word (DropTable table)) = behind-first line (DropTable table) completes in no_table made.1.0
-drop-neither line no_table no_index (DropIndex table column k) completes =
-    let made : IsWhole line (behind_word (DropIndex table column k)) = behind-first line (DropIndex table column k) completes in no_index made.1.0
-drop-neither line no_table no_index command completes = other-word line (codes "drop") command refl completes
-
-pub tables-completed : (line : List ℕ) → lexeme line ≡ [] → Completes (codes "tables") line Tables
-tables-completed line end = completed line Tables tt (line, refl, end)
-
-pub tables-only : (line : List ℕ) → lexeme line ≢ [] → (command : Command) → Completes (codes "tables") line command → ⊥
-tables-only line more Tables completes =
-    let made : IsWhole line [] = behind-first line Tables completes in more (ap lexeme made.1 ∙ made.2)
-tables-only line more command completes = other-word line (codes "tables") command refl completes
-
 -- ---- load and dump
 
 pub load-completed : (line table rest : List ℕ) (bytes : ℕ) → IsName (lexeme line) → table ≡ lexeme line → rest ≡ after_lexeme line
@@ -279,9 +215,6 @@ load-only line rest f not (Load table bytes) completes =
     let made : IsWhole line (behind_word (Load table bytes)) = behind-first line (Load table bytes) completes in
     not bytes (subst (λ l. IsWhole l (Count bytes ∷ [])) (sym f) (made.0, made.1.1, made.2))
 load-only line rest f not command completes = other-word line (codes "load") command refl completes
-
-pub dump-completed : (line table : List ℕ) → IsWhole line (Name table ∷ []) → Completes (codes "dump") line (Dump table)
-dump-completed line table is = completed line (Dump table) tt is
 
 pub dump-only : (line : List ℕ) → ((table : List ℕ) → IsWhole line (Name table ∷ []) → ⊥)
     → (command : Command) → Completes (codes "dump") line command → ⊥

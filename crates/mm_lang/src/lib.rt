@@ -27,3 +27,4 @@ pub use parser::{block_length, parse};
 pub use printer::{print, print_index, print_load, print_table};
 pub use refusal::ParseRefusal;
 pub use sink::Sink;
+pub use symbols::{LONGEST_NAME, is_reserved_word, is_whole_name};

@@ -39,6 +39,13 @@ impl<'a> Line<'a> {
         Line { text, word, rest }
     }
 
+    /// The text.
+    pub fn as_str(&self) -> &'a str
+        ensures { result.now ≡ self.now }
+    {
+        self.text
+    }
+
     /// The characters of the first symbol.
     pub(crate) fn word(&self) -> &'a [u8]
         ensures { result.now ≡ lexeme self.now }

@@ -14,6 +14,9 @@ use crate::lexemes::{is_letter_byte, is_word_byte, split_lexeme};
 use plain_tables::{IndexKind, Op, Text};
 use std::alloc::Global;
 
+/// The most bytes that a name may have.
+pub const LONGEST_NAME: usize = 32;
+
 // The words that name no table and no column.
 const RESERVED: [&[u8]; 23] = [
     b"and",
@@ -48,8 +51,8 @@ fn is_one_of(word: &[u8], words: &[&[u8]]) -> bool
     words.iter().any(|other| word == *other)
 }
 
-// Whether a word is reserved.
-fn is_reserved_word(word: &[u8]) -> bool
+/// Whether a word names no table and no column, since the language has it.
+pub fn is_reserved_word(word: &[u8]) -> bool
     ensures { result ≡ is_reserved word.now }
 {
     is_one_of(word, &RESERVED)
@@ -72,11 +75,11 @@ fn is_whole_word(characters: &[u8]) -> bool
     }
 }
 
-// Whether these characters are a name.
-fn is_whole_name(characters: &[u8]) -> bool
+/// Whether these characters are a name: a word of at most `LONGEST_NAME` that is not reserved.
+pub fn is_whole_name(characters: &[u8]) -> bool
     ensures { result ≡ is_name characters.now }
 {
-    is_whole_word(characters) && characters.len() <= 32 && !is_reserved_word(characters)
+    is_whole_word(characters) && characters.len() <= LONGEST_NAME && !is_reserved_word(characters)
 }
 
 /// What stands behind this keyword or sign, if the line begins with it.

@@ -1,15 +1,15 @@
 use Rattle.std.proofs.Common.{◌≡◌, Some, ◌++◌, get_or, set, take, sym, ap, ◌∙◌, subst}
 use Rattle.std.specs.List.{slice_get}
 use Rattle.mm_relation.specs.State.{RelationState, IsCurrent, linked_keys}
-use Rattle.mm_catalog.proofs.Lists.{first_behind, set_first_behind}
+use Rattle.mm_catalog.proofs.Lists.{set_first_behind}
+use Rattle.mm_catalog.proofs.Taking.{split_here}
 use Rattle.mm_catalog.proofs.declare.declare.Goals as goal
 
 pub add_index-requires-clause-current : goal.add_index-requires-clause-current
 add_index-requires-clause-current c =
     let d = c.index-rest-0.result in
     let s : RelationState = get_or c.split_at_mut-before.result.1.now 0 d in
-    let at : slice_get c.args.relations.now c.args.table.0 ≡ Some s =
-    first_behind c.args.relations.now c.args.table.0 d c.requires.there ∙ ap (λ rs. Some (get_or rs 0 d)) (sym c.split_at_mut-before.ensures.back) in
+    let at = split_here c.args.relations.now c.split_at_mut-before.result.1.now c.args.table.0 d c.requires.there c.split_at_mut-before.ensures.back in
     subst (λ rs. IsCurrent (linked_keys s.targets rs) s) (sym c.split_at_mut-before.ensures.front) (c.requires.current s at)
 
 pub returns-clause-declared : goal.returns-clause-declared
@@ -21,7 +21,7 @@ returns-clause-declared c =
     record {
       before = s;
       after = new;
-      there = first_behind c.args.relations.now n d c.requires.there ∙ ap (λ rs. Some (get_or rs 0 d)) (sym c.split_at_mut-before.ensures.back);
+      there = split_here c.args.relations.now c.split_at_mut-before.result.1.now n d c.requires.there c.split_at_mut-before.ensures.back;
       list = ap (λ rs. rs ++ set c.split_at_mut-before.result.1.now 0 new) c.split_at_mut-before.ensures.front
           ∙ ap (λ rs. take n c.args.relations.now ++ set rs 0 new) c.split_at_mut-before.ensures.back
           ∙ set_first_behind c.args.relations.now n new c.requires.there;

@@ -10,10 +10,10 @@ use Rattle.mm_catalog.proofs.delete.remove_each.Goals as goal
 
 pub loop-r-init : goal.loop-r-init
 loop-r-init c = record {
-  unlinked = AreUnlinked-none c.args.before.now c.args.relation.now c.requires.kept;
+  unlinked = AreUnlinked-none c.args.before.now c.args.relation.now c.requires.stands.kept;
   removed = AreRemoved-none c.args.relation.now;
   kept = c.a_relation_is_kept.ensures;
-  current = c.requires.current;
+  current = c.requires.stands.current;
 }
 
 pub count_down_links-requires-clause-held : goal.count_down_links-requires-clause-held
@@ -34,7 +34,7 @@ count_down_links-requires-clause-named c row at =
 pub count_down_links-requires-clause-enough : goal.count_down_links-requires-clause-enough
 count_down_links-requires-clause-enough c row at =
     let r = get_or c.args.rows.now c.loop-r.r-index (record { number = 0 }) in
-    enough_for_row c.args.before.now c.loop-r.before c.args.relation.now c.loop-r.relation r row c.requires.counted c.loop-r.invariant.unlinked c.loop-r.invariant.kept at
+    enough_for_row c.args.before.now c.loop-r.before c.args.relation.now c.loop-r.relation r row c.requires.stands.enough c.loop-r.invariant.unlinked c.loop-r.invariant.kept at
 
 pub remove_row-requires-clause-held : goal.remove_row-requires-clause-held
 remove_row-requires-clause-held c =

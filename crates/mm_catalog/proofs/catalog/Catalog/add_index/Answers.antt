@@ -1,4 +1,4 @@
-use Rattle.std.proofs.Common.{◌≡◌, ◌<◌, ◌++◌, List, Some, length, map, take, drop, sym, ap, subst, arith}
+use Rattle.std.proofs.Common.{◌≡◌, ◌<◌, List, Some, length, map, drop, sym, ap, subst, arith}
 use Rattle.std.specs.Prelude.{OnOk}
 use Rattle.std.specs.List.{slice_get}
 use Rattle.std.specs.String.{string_bytes}
@@ -35,8 +35,7 @@ pub invariant_of-self : goal.invariant_of-self
 invariant_of-self c =
     let s : CatalogState = record { limits = c.self.inside.limits; names = map string_bytes c.self.inside.names.keys; relations = c.self.inside.relations.items } in
     let meant : IsMeant s.limits (database_of s) (resolved.Index c.args.table c.args.column c.args.kind) = rw (← c.self.view_is) at c.requires in
-    let back : take c.self.inside.relations.len (c.declare.new.relations ++ drop (length c.declare.new.relations) c.self.inside.relations.items) ≡ c.declare.new.relations =
-    whole c.declare.new.relations (drop (length c.declare.new.relations) c.self.inside.relations.items) c.self.inside.relations.len (omega (arith, c.declare.auto.relations, ap length c.as_mut_slice.ensures.value, c.self.inside.relations.ok.0)) in
+    let back = whole c.declare.new.relations (drop (length c.declare.new.relations) c.self.inside.relations.items) c.self.inside.relations.len (omega (arith, c.declare.auto.relations, ap length c.as_mut_slice.ensures.value, c.self.inside.relations.ok.0)) in
     subst (λ rs. IsConsistent (record s { relations = rs })) (sym back)
     (indexed_consistent s c.self.invariant c.args.table c.args.column c.args.kind c.declare.new.relations c.declare.result meant
     (rw c.as_mut_slice.ensures.value at c.declare.ensures.declared) (rw c.as_mut_slice.ensures.value at c.declare.ensures.unchanged))
@@ -45,8 +44,7 @@ pub returns-clause-done : goal.returns-clause-done
 returns-clause-done c =
     let s : CatalogState = record { limits = c.self.inside.limits; names = map string_bytes c.self.inside.names.keys; relations = c.self.inside.relations.items } in
     let meant : IsMeant s.limits (database_of s) (resolved.Index c.args.table c.args.column c.args.kind) = rw (← c.self.view_is) at c.requires in
-    let back : take c.self.inside.relations.len (c.declare.new.relations ++ drop (length c.declare.new.relations) c.self.inside.relations.items) ≡ c.declare.new.relations =
-    whole c.declare.new.relations (drop (length c.declare.new.relations) c.self.inside.relations.items) c.self.inside.relations.len (omega (arith, c.declare.auto.relations, ap length c.as_mut_slice.ensures.value, c.self.inside.relations.ok.0)) in
+    let back = whole c.declare.new.relations (drop (length c.declare.new.relations) c.self.inside.relations.items) c.self.inside.relations.len (omega (arith, c.declare.auto.relations, ap length c.as_mut_slice.ensures.value, c.self.inside.relations.ok.0)) in
     rw (← c.self.view_is)
     (subst (λ rs. OnOk c.declare.result (IsDone s (record s { relations = rs }) (resolved.Index c.args.table c.args.column c.args.kind))) (sym back)
     (indexed_done s c.self.invariant c.args.table c.args.column c.args.kind c.declare.new.relations c.declare.result meant

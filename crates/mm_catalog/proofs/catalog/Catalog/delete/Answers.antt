@@ -1,22 +1,20 @@
-use Rattle.std.proofs.Common.{◌≡◌, ◌<◌, ◌++◌, Bool, List, length, map, take, drop, sym, ap, subst, arith}
-use Rattle.std.specs.List.{slice_get}
-use Rattle.std.specs.Prelude.{OnOk, Some}
+use Rattle.std.proofs.Common.{◌<◌, Bool, List, length, map, drop, sym, ap, subst, arith}
+use Rattle.std.specs.Prelude.{OnOk}
 use Rattle.std.specs.String.{string_bytes}
 use Rattle.plain_tables.specs.Doing as doing
 use Rattle.plain_tables.specs.Tables.{Row}
 use Rattle.mm_relation.specs.State.{RelationState}
 use Rattle.mm_catalog.specs.State.{CatalogState}
 use Rattle.mm_catalog.specs.Seen.{database_of}
-use Rattle.mm_catalog.specs.Linked.{relation_links}
 use Rattle.mm_catalog.specs.Consistent.{IsConsistent}
-use Rattle.mm_catalog.specs.Changes.{IsCurrentAt, HasEffect}
+use Rattle.mm_catalog.specs.Changes.{HasEffect}
 use Rattle.mm_catalog.specs.Picked.{ArePicked, HoldsRows}
-use Rattle.mm_catalog.specs.Counted.{HaveAtLeast, naming}
 use Rattle.mm_catalog.proofs.Lists.{whole}
 use Rattle.mm_catalog.proofs.Tables.{database-length}
-use Rattle.mm_catalog.proofs.Declared.{current_at}
-use Rattle.mm_catalog.proofs.Deleting.{enough_before, deleted_consistent, deleted_effect, deleted_refused}
+use Rattle.mm_catalog.proofs.Deleting.{deleted_consistent, deleted_effect, deleted_refused}
 use Rattle.mm_catalog.proofs.catalog.Catalog.delete.Goals as goal
+use Rattle.mm_catalog.specs.Standing.{Stands}
+use Rattle.mm_catalog.proofs.Standing.{stands_at}
 
 pub delete-requires-clause-there : goal.delete-requires-clause-there
 delete-requires-clause-there c =
@@ -24,24 +22,16 @@ delete-requires-clause-there c =
     let there : c.args.table.0 < length (database_of s) = rw (← c.self.view_is) at c.requires.there in
     subst (λ (rs : List RelationState). c.args.table.0 < length rs) (sym c.as_mut_slice.ensures.value) (omega (arith, there, database-length s c.self.invariant.named))
 
-pub delete-requires-clause-current : goal.delete-requires-clause-current
-delete-requires-clause-current c =
+pub delete-requires-clause-stands : goal.delete-requires-clause-stands
+delete-requires-clause-stands c =
     let s : CatalogState = record { limits = c.self.inside.limits; names = map string_bytes c.self.inside.names.keys; relations = c.self.inside.relations.items } in
-    subst (λ rs. IsCurrentAt rs c.args.table.0) (sym c.as_mut_slice.ensures.value) (current_at s c.self.invariant c.args.table.0)
-
-pub delete-requires-clause-counted : goal.delete-requires-clause-counted
-delete-requires-clause-counted c =
-    let s : CatalogState = record { limits = c.self.inside.limits; names = map string_bytes c.self.inside.names.keys; relations = c.self.inside.relations.items } in
-    let n = c.args.table.0 in
-    subst (λ (rs : List RelationState). (t : RelationState) → slice_get rs n ≡ Some t → HaveAtLeast (take n rs) (naming (relation_links t))) (sym c.as_mut_slice.ensures.value)
-    (enough_before s c.self.invariant n)
+    subst (λ rs. Stands rs c.args.table.0) (sym c.as_mut_slice.ensures.value) (stands_at s c.self.invariant c.args.table.0)
 
 pub invariant_of-self : goal.invariant_of-self
 invariant_of-self c =
     let s : CatalogState = record { limits = c.self.inside.limits; names = map string_bytes c.self.inside.names.keys; relations = c.self.inside.relations.items } in
     let held : HoldsRows s c.args.table.0 c.args.rows.now = rw (← c.self.view_is) at c.requires.held in
-    let back : take c.self.inside.relations.len (c.delete.new.relations ++ drop (length c.delete.new.relations) c.self.inside.relations.items) ≡ c.delete.new.relations =
-    whole c.delete.new.relations (drop (length c.delete.new.relations) c.self.inside.relations.items) c.self.inside.relations.len (omega (arith, c.delete.auto.relations, ap length c.as_mut_slice.ensures.value, c.self.inside.relations.ok.0)) in
+    let back = whole c.delete.new.relations (drop (length c.delete.new.relations) c.self.inside.relations.items) c.self.inside.relations.len (omega (arith, c.delete.auto.relations, ap length c.as_mut_slice.ensures.value, c.self.inside.relations.ok.0)) in
     subst (λ rs. IsConsistent (record s { relations = rs })) (sym back)
     (deleted_consistent s c.self.invariant c.args.table c.args.rows.now c.delete.new.relations held c.requires.once c.delete.result
     (rw c.as_mut_slice.ensures.value at c.delete.ensures.free) (rw c.as_mut_slice.ensures.value at c.delete.ensures.deleted) (rw c.as_mut_slice.ensures.value at c.delete.ensures.unchanged))
@@ -50,8 +40,7 @@ pub returns-clause-deleted : goal.returns-clause-deleted
 returns-clause-deleted c =
     let s : CatalogState = record { limits = c.self.inside.limits; names = map string_bytes c.self.inside.names.keys; relations = c.self.inside.relations.items } in
     let held : HoldsRows s c.args.table.0 c.args.rows.now = rw (← c.self.view_is) at c.requires.held in
-    let back : take c.self.inside.relations.len (c.delete.new.relations ++ drop (length c.delete.new.relations) c.self.inside.relations.items) ≡ c.delete.new.relations =
-    whole c.delete.new.relations (drop (length c.delete.new.relations) c.self.inside.relations.items) c.self.inside.relations.len (omega (arith, c.delete.auto.relations, ap length c.as_mut_slice.ensures.value, c.self.inside.relations.ok.0)) in
+    let back = whole c.delete.new.relations (drop (length c.delete.new.relations) c.self.inside.relations.items) c.self.inside.relations.len (omega (arith, c.delete.auto.relations, ap length c.as_mut_slice.ensures.value, c.self.inside.relations.ok.0)) in
     rw (← c.self.view_is)
     (subst (λ rs. OnOk c.delete.result ((picks : Row → Bool) → ArePicked s c.args.table.0 c.args.rows.now picks → HasEffect s (record s { relations = rs }) (doing.delete (database_of s) c.args.table picks) (length c.args.rows.now))) (sym back)
     (deleted_effect s c.self.invariant c.args.table c.args.rows.now c.delete.new.relations held c.requires.once c.delete.result

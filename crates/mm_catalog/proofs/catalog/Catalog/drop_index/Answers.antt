@@ -1,4 +1,4 @@
-use Rattle.std.proofs.Common.{◌≡◌, ◌<◌, ◌++◌, List, length, map, take, drop, refl, sym, ap, subst, arith}
+use Rattle.std.proofs.Common.{◌<◌, List, length, map, drop, refl, sym, ap, subst, arith}
 use Rattle.std.specs.String.{string_bytes}
 use Rattle.plain_tables.specs.declared.resolved.Resolved.TheVariants as resolved
 use Rattle.mm_relation.specs.State.{RelationState}
@@ -26,8 +26,7 @@ pub invariant_of-self : goal.invariant_of-self
 invariant_of-self c =
     let s : CatalogState = record { limits = c.self.inside.limits; names = map string_bytes c.self.inside.names.keys; relations = c.self.inside.relations.items } in
     let meant : IsMeant s.limits (database_of s) (resolved.DropIndex c.args.table c.args.column c.args.kind) = rw (← c.self.view_is) at c.requires in
-    let back : take c.self.inside.relations.len (c.undeclare.new.relations ++ drop (length c.undeclare.new.relations) c.self.inside.relations.items) ≡ c.undeclare.new.relations =
-    whole c.undeclare.new.relations (drop (length c.undeclare.new.relations) c.self.inside.relations.items) c.self.inside.relations.len (omega (arith, c.undeclare.auto.relations, ap length c.as_mut_slice.ensures.value, c.self.inside.relations.ok.0)) in
+    let back = whole c.undeclare.new.relations (drop (length c.undeclare.new.relations) c.self.inside.relations.items) c.self.inside.relations.len (omega (arith, c.undeclare.auto.relations, ap length c.as_mut_slice.ensures.value, c.self.inside.relations.ok.0)) in
     let left : IsLeft s c.undeclare.new.relations (resolved.DropIndex c.args.table c.args.column c.args.kind) =
     left_undeclared s c.self.invariant c.args.table c.args.column c.args.kind c.undeclare.new.relations meant (rw c.as_mut_slice.ensures.value at c.undeclare.ensures) in
     subst (λ rs. IsConsistent (record s { relations = rs })) (sym back) left.consistent
@@ -36,8 +35,7 @@ pub returns : goal.returns
 returns c =
     let s : CatalogState = record { limits = c.self.inside.limits; names = map string_bytes c.self.inside.names.keys; relations = c.self.inside.relations.items } in
     let meant : IsMeant s.limits (database_of s) (resolved.DropIndex c.args.table c.args.column c.args.kind) = rw (← c.self.view_is) at c.requires in
-    let back : take c.self.inside.relations.len (c.undeclare.new.relations ++ drop (length c.undeclare.new.relations) c.self.inside.relations.items) ≡ c.undeclare.new.relations =
-    whole c.undeclare.new.relations (drop (length c.undeclare.new.relations) c.self.inside.relations.items) c.self.inside.relations.len (omega (arith, c.undeclare.auto.relations, ap length c.as_mut_slice.ensures.value, c.self.inside.relations.ok.0)) in
+    let back = whole c.undeclare.new.relations (drop (length c.undeclare.new.relations) c.self.inside.relations.items) c.self.inside.relations.len (omega (arith, c.undeclare.auto.relations, ap length c.as_mut_slice.ensures.value, c.self.inside.relations.ok.0)) in
     let left : IsLeft s c.undeclare.new.relations (resolved.DropIndex c.args.table c.args.column c.args.kind) =
     left_undeclared s c.self.invariant c.args.table c.args.column c.args.kind c.undeclare.new.relations meant (rw c.as_mut_slice.ensures.value at c.undeclare.ensures) in
     rw (← c.self.view_is)

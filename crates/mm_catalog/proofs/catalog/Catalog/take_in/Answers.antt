@@ -1,4 +1,4 @@
-use Rattle.std.proofs.Common.{◌≡◌, ◌<◌, ◌++◌, ℕ, List, Some, length, map, take, drop, sym, ap, subst, arith}
+use Rattle.std.proofs.Common.{◌≡◌, ◌<◌, List, Some, length, map, drop, sym, ap, subst, arith}
 use Rattle.std.specs.Prelude.{IfOk, OnOk, IfErr}
 use Rattle.std.specs.List.{slice_get}
 use Rattle.std.specs.String.{string_bytes}
@@ -9,16 +9,15 @@ use Rattle.plain_tables.specs.declared.resolved.Resolved.TheVariants as resolved
 use Rattle.mm_relation.specs.State.{RelationState}
 use Rattle.mm_catalog.specs.State.{CatalogState}
 use Rattle.mm_catalog.specs.Seen.{database_of}
-use Rattle.mm_catalog.specs.Linked.{target_at}
 use Rattle.mm_catalog.specs.Consistent.{IsConsistent}
-use Rattle.mm_catalog.specs.Changes.{IsCurrentAt, HasEffect, IsRefusedFor}
+use Rattle.mm_catalog.specs.Changes.{HasEffect, IsRefusedFor}
 use Rattle.mm_catalog.specs.Loaded.{HasCome}
-use Rattle.mm_catalog.specs.Counted.{HaveRoom}
 use Rattle.mm_catalog.proofs.Lists.{whole}
-use Rattle.mm_catalog.proofs.Back.{lead_back}
-use Rattle.mm_catalog.proofs.Declared.{there_at, current_at}
-use Rattle.mm_catalog.proofs.Inserted.{room_for_links, some_value, values_width, inserted_consistent, inserted_effect, inserted_came, inserted_refused}
+use Rattle.mm_catalog.proofs.Declared.{there_at}
+use Rattle.mm_catalog.proofs.Inserted.{some_value, values_width, inserted_consistent, inserted_effect, inserted_came, inserted_refused}
 use Rattle.mm_catalog.proofs.catalog.Catalog.take_in.Goals as goal
+use Rattle.mm_catalog.specs.Standing.{Stands}
+use Rattle.mm_catalog.proofs.Standing.{stands_at}
 
 pub insert-requires-clause-there : goal.insert-requires-clause-there
 insert-requires-clause-there c =
@@ -26,16 +25,10 @@ insert-requires-clause-there c =
     let meant : IsMeant s.limits (database_of s) (resolved.Insert c.args.table c.args.values) = rw (← c.self.view_is) at c.requires in
     subst (λ (rs : List RelationState). c.args.table.0 < length rs) (sym c.as_mut_slice.ensures.value) (there_at s c.self.invariant c.args.table.0 meant.0 meant.1)
 
-pub insert-requires-clause-current : goal.insert-requires-clause-current
-insert-requires-clause-current c =
+pub insert-requires-clause-stands : goal.insert-requires-clause-stands
+insert-requires-clause-stands c =
     let s : CatalogState = record { limits = c.self.inside.limits; names = map string_bytes c.self.inside.names.keys; relations = c.self.inside.relations.items } in
-    subst (λ rs. IsCurrentAt rs c.args.table.0) (sym c.as_mut_slice.ensures.value) (current_at s c.self.invariant c.args.table.0)
-
-pub insert-requires-clause-back : goal.insert-requires-clause-back
-insert-requires-clause-back c =
-    let s : CatalogState = record { limits = c.self.inside.limits; names = map string_bytes c.self.inside.names.keys; relations = c.self.inside.relations.items } in
-    subst (λ (rs : List RelationState). (t : RelationState) → slice_get rs c.args.table.0 ≡ Some t → (column : ℕ) → (number : ℕ) → target_at t.targets column ≡ Some number → number < c.args.table.0) (sym c.as_mut_slice.ensures.value)
-    (lead_back s c.self.invariant c.args.table.0)
+    subst (λ rs. Stands rs c.args.table.0) (sym c.as_mut_slice.ensures.value) (stands_at s c.self.invariant c.args.table.0)
 
 pub insert-requires-clause-some : goal.insert-requires-clause-some
 insert-requires-clause-some c =
@@ -51,51 +44,29 @@ insert-requires-clause-width c =
     subst (λ (rs : List RelationState). (t : RelationState) → slice_get rs c.args.table.0 ≡ Some t → length c.args.values ≡ length t.targets) (sym c.as_mut_slice.ensures.value)
     (values_width s c.self.invariant c.args.table c.args.values meant)
 
-pub insert-requires-clause-room : goal.insert-requires-clause-room
-insert-requires-clause-room c =
-    let s : CatalogState = record { limits = c.self.inside.limits; names = map string_bytes c.self.inside.names.keys; relations = c.self.inside.relations.items } in
-    subst (λ (rs : List RelationState). (t : RelationState) → slice_get rs c.args.table.0 ≡ Some t → HaveRoom (take c.args.table.0 rs) (length t.targets)) (sym c.as_mut_slice.ensures.value)
-    (room_for_links s c.self.invariant c.args.table.0)
-
 pub invariant_of-self : goal.invariant_of-self
 invariant_of-self c =
     let s : CatalogState = record { limits = c.self.inside.limits; names = map string_bytes c.self.inside.names.keys; relations = c.self.inside.relations.items } in
     let meant : IsMeant s.limits (database_of s) (resolved.Insert c.args.table c.args.values) = rw (← c.self.view_is) at c.requires in
-    let back : take c.self.inside.relations.len (c.insert.new.relations ++ drop (length c.insert.new.relations) c.self.inside.relations.items) ≡ c.insert.new.relations =
-    whole c.insert.new.relations (drop (length c.insert.new.relations) c.self.inside.relations.items) c.self.inside.relations.len (omega (arith, c.insert.auto.relations, ap length c.as_mut_slice.ensures.value, c.self.inside.relations.ok.0)) in
+    let back = whole c.insert.new.relations (drop (length c.insert.new.relations) c.self.inside.relations.items) c.self.inside.relations.len (omega (arith, c.insert.auto.relations, ap length c.as_mut_slice.ensures.value, c.self.inside.relations.ok.0)) in
     subst (λ rs. IsConsistent (record s { relations = rs })) (sym back)
     (inserted_consistent s c.self.invariant c.args.table c.args.values meant c.insert.new.relations c.insert.result
     (rw c.as_mut_slice.ensures.value at c.insert.ensures.inserted) (rw c.as_mut_slice.ensures.value at c.insert.ensures.unchanged))
 
-pub returns-clause-inserted : goal.returns-clause-inserted
-returns-clause-inserted c =
+pub returns : goal.returns
+returns c =
     let s : CatalogState = record { limits = c.self.inside.limits; names = map string_bytes c.self.inside.names.keys; relations = c.self.inside.relations.items } in
     let meant : IsMeant s.limits (database_of s) (resolved.Insert c.args.table c.args.values) = rw (← c.self.view_is) at c.requires in
-    let back : take c.self.inside.relations.len (c.insert.new.relations ++ drop (length c.insert.new.relations) c.self.inside.relations.items) ≡ c.insert.new.relations =
-    whole c.insert.new.relations (drop (length c.insert.new.relations) c.self.inside.relations.items) c.self.inside.relations.len (omega (arith, c.insert.auto.relations, ap length c.as_mut_slice.ensures.value, c.self.inside.relations.ok.0)) in
-    rw (← c.self.view_is)
-    (subst (λ rs. OnOk c.insert.result (HasEffect s (record s { relations = rs }) (done s.limits (database_of s) (resolved.Insert c.args.table c.args.values)) 1)) (sym back)
-    (inserted_effect s c.self.invariant c.args.table c.args.values meant c.insert.new.relations c.insert.result
-    (rw c.as_mut_slice.ensures.value at c.insert.ensures.inserted)))
-
-pub returns-clause-came : goal.returns-clause-came
-returns-clause-came c =
-    let s : CatalogState = record { limits = c.self.inside.limits; names = map string_bytes c.self.inside.names.keys; relations = c.self.inside.relations.items } in
-    let meant : IsMeant s.limits (database_of s) (resolved.Insert c.args.table c.args.values) = rw (← c.self.view_is) at c.requires in
-    let back : take c.self.inside.relations.len (c.insert.new.relations ++ drop (length c.insert.new.relations) c.self.inside.relations.items) ≡ c.insert.new.relations =
-    whole c.insert.new.relations (drop (length c.insert.new.relations) c.self.inside.relations.items) c.self.inside.relations.len (omega (arith, c.insert.auto.relations, ap length c.as_mut_slice.ensures.value, c.self.inside.relations.ok.0)) in
-    rw (← c.self.view_is)
-    (subst (λ rs. IfOk c.insert.result (HasCome s (record s { relations = rs }) c.args.table.0 c.args.values)) (sym back)
-    (inserted_came s c.self.invariant c.args.table c.args.values meant c.insert.new.relations c.insert.result
-    (rw c.as_mut_slice.ensures.value at c.insert.ensures.inserted)))
-
-pub returns-clause-refused : goal.returns-clause-refused
-returns-clause-refused c =
-    let s : CatalogState = record { limits = c.self.inside.limits; names = map string_bytes c.self.inside.names.keys; relations = c.self.inside.relations.items } in
-    let meant : IsMeant s.limits (database_of s) (resolved.Insert c.args.table c.args.values) = rw (← c.self.view_is) at c.requires in
-    let back : take c.self.inside.relations.len (c.insert.new.relations ++ drop (length c.insert.new.relations) c.self.inside.relations.items) ≡ c.insert.new.relations =
-    whole c.insert.new.relations (drop (length c.insert.new.relations) c.self.inside.relations.items) c.self.inside.relations.len (omega (arith, c.insert.auto.relations, ap length c.as_mut_slice.ensures.value, c.self.inside.relations.ok.0)) in
-    rw (← c.self.view_is)
-    (subst (λ rs. IfErr c.insert.result (IsRefusedFor s (record s { relations = rs }) (done s.limits (database_of s) (resolved.Insert c.args.table c.args.values)))) (sym back)
-    (inserted_refused s c.self.invariant c.args.table c.args.values meant c.insert.new.relations c.insert.result
-    (rw c.as_mut_slice.ensures.value at c.insert.ensures.refused) (rw c.as_mut_slice.ensures.value at c.insert.ensures.unchanged)))
+    let back = whole c.insert.new.relations (drop (length c.insert.new.relations) c.self.inside.relations.items) c.self.inside.relations.len (omega (arith, c.insert.auto.relations, ap length c.as_mut_slice.ensures.value, c.self.inside.relations.ok.0)) in
+    record {
+      inserted = rw (← c.self.view_is)
+          (subst (λ rs. OnOk c.insert.result (HasEffect s (record s { relations = rs }) (done s.limits (database_of s) (resolved.Insert c.args.table c.args.values)) 1)) (sym back)
+          (inserted_effect s c.self.invariant c.args.table c.args.values meant c.insert.new.relations c.insert.result (rw c.as_mut_slice.ensures.value at c.insert.ensures.inserted)));
+      came = rw (← c.self.view_is)
+          (subst (λ rs. IfOk c.insert.result (HasCome s (record s { relations = rs }) c.args.table.0 c.args.values)) (sym back)
+          (inserted_came s c.self.invariant c.args.table c.args.values meant c.insert.new.relations c.insert.result (rw c.as_mut_slice.ensures.value at c.insert.ensures.inserted)));
+      refused = rw (← c.self.view_is)
+          (subst (λ rs. IfErr c.insert.result (IsRefusedFor s (record s { relations = rs }) (done s.limits (database_of s) (resolved.Insert c.args.table c.args.values)))) (sym back)
+          (inserted_refused s c.self.invariant c.args.table c.args.values meant c.insert.new.relations c.insert.result
+          (rw c.as_mut_slice.ensures.value at c.insert.ensures.refused) (rw c.as_mut_slice.ensures.value at c.insert.ensures.unchanged)));
+    }

@@ -1,4 +1,4 @@
-use Rattle.std.proofs.Common.{◌≡◌, ◌<◌, ◌++◌, Bool, List, Some, length, map, take, drop, refl, sym, ap, subst, arith}
+use Rattle.std.proofs.Common.{◌≡◌, ◌<◌, Bool, List, Some, length, map, drop, refl, sym, ap, subst, arith}
 use Rattle.std.specs.List.{slice_get}
 use Rattle.std.specs.Prelude.{OnOk}
 use Rattle.std.specs.String.{string_bytes}
@@ -40,8 +40,7 @@ invariant_of-self c =
     let s : CatalogState = record { limits = c.self.inside.limits; names = map string_bytes c.self.inside.names.keys; relations = c.self.inside.relations.items } in
     let meant : OfTable c.args.table (database_of s) (AreAssignable (database_of s) c.args.assignments) = rw (← c.self.view_is) at c.requires.meant in
     let held : HoldsRows s c.args.table.0 c.args.rows.now = rw (← c.self.view_is) at c.requires.held in
-    let back : take c.self.inside.relations.len (c.set_rows.new.relations ++ drop (length c.set_rows.new.relations) c.self.inside.relations.items) ≡ c.set_rows.new.relations =
-    whole c.set_rows.new.relations (drop (length c.set_rows.new.relations) c.self.inside.relations.items) c.self.inside.relations.len (omega (arith, c.set_rows.auto.relations, ap length c.as_mut_slice.ensures.value, c.self.inside.relations.ok.0)) in
+    let back = whole c.set_rows.new.relations (drop (length c.set_rows.new.relations) c.self.inside.relations.items) c.self.inside.relations.len (omega (arith, c.set_rows.auto.relations, ap length c.as_mut_slice.ensures.value, c.self.inside.relations.ok.0)) in
     subst (λ rs. IsConsistent (record s { relations = rs })) (sym back)
     (updated_consistent s c.self.invariant c.args.table c.args.assignments meant c.args.rows.now held c.requires.once c.set_rows.new.relations c.set_rows.result
     (rw c.as_mut_slice.ensures.value at c.set_rows.ensures.updated) (rw c.as_mut_slice.ensures.value at c.set_rows.ensures.unchanged))
@@ -51,8 +50,7 @@ returns-clause-updated c =
     let s : CatalogState = record { limits = c.self.inside.limits; names = map string_bytes c.self.inside.names.keys; relations = c.self.inside.relations.items } in
     let meant : OfTable c.args.table (database_of s) (AreAssignable (database_of s) c.args.assignments) = rw (← c.self.view_is) at c.requires.meant in
     let held : HoldsRows s c.args.table.0 c.args.rows.now = rw (← c.self.view_is) at c.requires.held in
-    let back : take c.self.inside.relations.len (c.set_rows.new.relations ++ drop (length c.set_rows.new.relations) c.self.inside.relations.items) ≡ c.set_rows.new.relations =
-    whole c.set_rows.new.relations (drop (length c.set_rows.new.relations) c.self.inside.relations.items) c.self.inside.relations.len (omega (arith, c.set_rows.auto.relations, ap length c.as_mut_slice.ensures.value, c.self.inside.relations.ok.0)) in
+    let back = whole c.set_rows.new.relations (drop (length c.set_rows.new.relations) c.self.inside.relations.items) c.self.inside.relations.len (omega (arith, c.set_rows.auto.relations, ap length c.as_mut_slice.ensures.value, c.self.inside.relations.ok.0)) in
     rw (← c.self.view_is)
     (subst (λ rs. OnOk c.set_rows.result ((picks : Row → Bool) → ArePicked s c.args.table.0 c.args.rows.now picks → HasEffect s (record s { relations = rs }) (doing.update (database_of s) c.args.table c.args.assignments picks) (length c.args.rows.now))) (sym back)
     (updated_effect s c.self.invariant c.args.table c.args.assignments meant c.args.rows.now held c.requires.once c.set_rows.new.relations c.set_rows.result

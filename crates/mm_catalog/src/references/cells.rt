@@ -3,7 +3,7 @@ ghost use Rattle.std.specs.Prelude.{◌≡◌, ℕ, ◌+◌, ◌<◌, ◌≤◌,
 ghost use Rattle.mm_catalog.specs.Cells.{IsCellOf, NamesNone, AreCellsOf, AreRefused};
 ghost use Rattle.mm_catalog.specs.Linked.{target_at};
 
-use crate::references::link::target_number;
+use super::link::target_number;
 use mm_relation::{Cell, ColumnNumber, Relation};
 use no_memory::NoMemory;
 use plain_tables::{Refusal, Sequence, Value};

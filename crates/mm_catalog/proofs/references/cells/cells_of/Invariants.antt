@@ -1,6 +1,6 @@
 use Rattle.std.proofs.Common.{◌≡◌, ◌≤◌, length, vec_capacity}
 use Rattle.mm_catalog.specs.Cells.{AreFirstCells}
-use Rattle.mm_catalog.proofs.cells.cells_of.Given as goal
+use Rattle.mm_catalog.proofs.references.cells.cells_of.Given as goal
 
 abbrev pub invariant-loop-value : goal.invariant-loop-value
 invariant-loop-value l = record {

@@ -6,8 +6,8 @@ use Rattle.plain_tables.specs.declared.value.Value.TheVariants.{Null}
 use Rattle.mm_relation.specs.State.{RelationState}
 use Rattle.mm_catalog.specs.Cells.{NamesNone}
 use Rattle.mm_catalog.proofs.CellRows.{linked_cell, names_none}
-use Rattle.mm_catalog.proofs.cells.cell_of.Goals as goal
-use Rattle.mm_catalog.proofs.cells.cell_of.Goals.{in-Null, in_default-matches}
+use Rattle.mm_catalog.proofs.references.cells.cell_of.Goals as goal
+use Rattle.mm_catalog.proofs.references.cells.cell_of.Goals.{in-Null, in_default-matches}
 
 pub returns-in_err-to-in-Some-default-clause-none : goal.returns-in_err-to-in-Some-default-clause-none
 returns-in_err-to-in-Some-default-clause-none c =

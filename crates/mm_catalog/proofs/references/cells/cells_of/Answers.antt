@@ -8,7 +8,7 @@ use Rattle.std.proofs.lemmas.Option.{slice_get_read}
 use Rattle.mm_catalog.specs.Cells.{IsCellOf, AreFirstCells, AreCellsOf}
 use Rattle.mm_catalog.specs.Linked.{target_at}
 use Rattle.mm_catalog.proofs.CellRows.{cells_more}
-use Rattle.mm_catalog.proofs.cells.cells_of.Goals as goal
+use Rattle.mm_catalog.proofs.references.cells.cells_of.Goals as goal
 
 pub loop-value-preserved : goal.loop-value-preserved
 loop-value-preserved c =
