@@ -1,5 +1,6 @@
 /* Refuses each call for memory of each request in turn. A request is then answered `error 90` and leaves everything as
-   it was, or it is answered as ever. A second handle, which is never refused anything, tells what is as ever. */
+   it was, or it is answered as ever; and why it was refused is told as ever, or not for want of memory. A second handle,
+   which is never refused anything, tells what is as ever. */
 #include "allocations.h"
 #include "checking.h"
 
@@ -167,13 +168,48 @@ static int feeds(long met)
     return refused != 0;
 }
 
+/* Asks why a request was refused, where it was, with each call for memory refused in turn: the words are as ever, or there
+   was no memory for them. Gives how often there was none. */
+static long asks_why(size_t number)
+{
+    const request asked = REQUESTS[number];
+    const size_t length = strlen(asked.line), block = strlen(asked.block);
+    mmdb db = MMDB_CLOSED, twin = MMDB_CLOSED;
+    mmdb_bytes words, expected;
+    mmdb_status status = MMDB_DONE;
+    long refused = 0, is_refused = 1;
+    open_after(&db, number + 1);
+    open_after(&twin, number + 1);
+    GIVES(mmdb_reason(&twin, asked.line, length, asked.block, block, &expected), MMDB_DONE);
+    CHECK((mmdb_refusal(&twin) != 0) == (expected.length != 0));
+    for (long met = 0; is_refused; met++) {
+        allocations_refuse(met, 1);
+        status = mmdb_reason(&db, asked.line, length, asked.block, block, &words);
+        is_refused = allocations_refused();
+        allocations_refuse(0, 0);
+        if (status == MMDB_DONE)
+            CHECK(is_answered_alike(words, expected));
+        else
+            CHECK(status == MMDB_NO_MEMORY && is_refused == 1);
+        refused += status == MMDB_NO_MEMORY;
+    }
+    GIVES(status, MMDB_DONE);
+    mmdb_close(&db);
+    mmdb_close(&twin);
+    CHECK(allocations_held() == 0);
+    return refused;
+}
+
 int main(void)
 {
-    long met = 0, refused = 0;
+    long met = 0, refused = 0, untold = 0;
     opens();
     for (size_t i = 0; i < sizeof REQUESTS / sizeof REQUESTS[0]; i++)
         refused += refuses_each(i);
     CHECK(refused > 0);
+    for (size_t i = 0; i < sizeof REQUESTS / sizeof REQUESTS[0]; i++)
+        untold += asks_why(i);
+    CHECK(untold > 0);
     while (feeds(met))
         met++;
     CHECK(met > 0);

@@ -211,7 +211,7 @@ static void reason_gives_each_status(mmdb *db)
     CHECK(reads(answer, "error 32 no such column\n"));
     GIVES(load(db, "load t 9", "id,s\n1,b\n", &answer), MMDB_DONE);
     GIVES(mmdb_reason(db, "load t 9", 8, "id,s\n1,b\n", 9, &reason), MMDB_DONE);
-    CHECK(reads(reason, "record 1: t has a row with the key 1"));
+    CHECK(reads(reason, "t has a row with the key 1"));
     GIVES(command(db, "tables", NULL), MMDB_DONE);
     GIVES(mmdb_reason(db, "noise", 5, NULL, 0, &reason), MMDB_DONE);
     CHECK(reads(reason, ""));

@@ -17,6 +17,18 @@ use std::collections::BTreeMap;
 // The bytes that may mark a text as UTF-8 at its front.
 const MARK: [u8; 3] = [0xEF, 0xBB, 0xBF];
 
+// The numbers of the refusals of a header and of a record.
+const BAD_HEADER: u32 = 61;
+
+const BAD_RECORD: u32 = 62;
+
+/// What was refused: the block behind a line, and by which number.
+#[derive(Clone, Copy)]
+pub struct Refused<'a> {
+    pub block: &'a [u8],
+    pub number: u32,
+}
+
 // The columns of a table as a block has them.
 fn layout_of(alloc: Global, catalog: &Catalog, table: &Seen<'_>) -> Result<Vec<Field>, NoMemory> {
     let mut layout = Vec::new(alloc);
@@ -40,18 +52,10 @@ fn reader_of(alloc: Global, block: &[u8]) -> Reader<&[u8]> {
         .from_reader(alloc, block.strip_prefix(&MARK).unwrap_or(block))
 }
 
-// The record that so many others stand before. There is none where the block has no more.
-fn record_at(alloc: Global, block: &[u8], before: u64) -> Result<Option<ByteRecord>, NoMemory> {
-    let mut reader = reader_of(alloc, block);
-    let mut fields = ByteRecord::new(alloc);
-    for _ in 0..before {
-        if reader.read_byte_record(&mut fields).is_err() {
-            return Err(NoMemory);
-        }
-    }
-    match reader.read_byte_record(&mut fields) {
-        Ok(true) => Ok(Some(fields)),
-        Ok(false) => Ok(None),
+// Reads the next record, where there is one.
+fn next_record(reader: &mut Reader<&[u8]>, fields: &mut ByteRecord) -> Result<bool, NoMemory> {
+    match reader.read_byte_record(fields) {
+        Ok(is_there) => Ok(is_there),
         Err(_) => Err(NoMemory),
     }
 }
@@ -64,42 +68,55 @@ fn text_of(field: &[u8]) -> &str {
 // The first field of a header that is not the name of its column.
 fn misnamed_field(
     alloc: Global,
-    table: &Seen<'_>,
     layout: &[Field],
     fields: &ByteRecord,
-) -> Result<String, NoMemory> {
+) -> Result<Option<String>, NoMemory> {
     for (place, column) in layout.iter().enumerate() {
         let field = fields.get(place).unwrap_or(b"");
         if field != column.name.as_bytes() {
             let (field, name) = (Cut(text_of(field)), column.name.as_str());
             let number = place.saturating_add(1);
-            return Ok(format!(in alloc;
+            return Ok(Some(format!(in alloc;
                 "field {number} of the header is {field}, and column {number} is {name}"
-            )?);
+            )?));
         }
     }
-    let name = table.name;
-    Ok(format!(in alloc; "more than one mark stands before the header of {name}")?)
+    Ok(None)
 }
 
-// Why the first record of a block is not the header of a table.
+// Why the first record of a block is not the header of a table, if it isn't.
 fn why_no_header(
     alloc: Global,
     table: &Seen<'_>,
     layout: &[Field],
     block: &[u8],
-) -> Result<String, NoMemory> {
+) -> Result<Option<String>, NoMemory> {
     let (name, columns) = (table.name, layout.len());
-    let Some(fields) = record_at(alloc, block, 0)? else {
-        return Ok(format!(in alloc; "the block has no header of the columns of {name}")?);
-    };
+    let is_marked = matches!(block.strip_prefix(&MARK), Some(behind) if behind.starts_with(&MARK));
+    if is_marked {
+        return Ok(Some(format!(in alloc;
+            "more than one mark stands before the header of {name}"
+        )?));
+    }
+    let mut fields = ByteRecord::new(alloc);
+    if !next_record(&mut reader_of(alloc, block), &mut fields)? {
+        return Ok(Some(format!(in alloc; "the block has no header of the columns of {name}")?));
+    }
     let count = fields.len();
     if count == columns {
-        return misnamed_field(alloc, table, layout, &fields);
+        return misnamed_field(alloc, layout, &fields);
     }
-    Ok(format!(in alloc;
+    Ok(Some(format!(in alloc;
         "the header has a field for each column of {name}: {columns}, not {count}"
-    )?)
+    )?))
+}
+
+// That the first record of a block is not the header of a table.
+fn bad_header(alloc: Global, table: &Seen<'_>, layout: &[Field], block: &[u8]) -> Search {
+    match why_no_header(alloc, table, layout, block)? {
+        Some(words) => tell(Refusal::BadHeader, Ok(words)),
+        None => Ok(None),
+    }
 }
 
 // Whether a field may stand in a column, or why not.
@@ -148,43 +165,32 @@ fn why_no_row(
     Ok(None)
 }
 
-// That a record of a block is no row of a table.
-fn bad_record(
-    alloc: Global,
-    table: &Seen<'_>,
-    layout: &[Field],
-    block: &[u8],
-    record: u64,
-) -> Search {
-    let Some(fields) = record_at(alloc, block, record)? else {
-        return Ok(None);
-    };
-    match why_no_row(alloc, table, layout, &fields)? {
-        Some(words) => tell(
-            Refusal::BadRecord { record },
-            format!(in alloc; "record {record}: {words}"),
-        ),
-        None => Ok(None),
+// The first record of a block, behind the header, that is no row of a table.
+fn bad_record(alloc: Global, table: &Seen<'_>, layout: &[Field], block: &[u8]) -> Search {
+    let mut reader = reader_of(alloc, block);
+    let mut fields = ByteRecord::new(alloc);
+    next_record(&mut reader, &mut fields)?;
+    for record in 1..u64::MAX {
+        if !next_record(&mut reader, &mut fields)? {
+            break;
+        }
+        if let Some(words) = why_no_row(alloc, table, layout, &fields)? {
+            return tell(Refusal::BadRecord { record }, Ok(words));
+        }
     }
+    Ok(None)
 }
 
 // A reason of an insert, told of a record.
-fn in_record(alloc: Global, inner: Option<Found>, record: u64) -> Search {
-    let Some(Found { refusal, words }) = inner else {
-        return Ok(None);
-    };
+fn in_record(inner: Option<Found>, record: u64) -> Option<Found> {
+    let Found { refusal, words } = inner?;
+    let record = Some(record);
     let refusal = match refusal {
-        Refusal::KeyExists { .. } => Refusal::KeyExists {
-            record: Some(record),
-        },
-        Refusal::NoReferencedRow { .. } => Refusal::NoReferencedRow {
-            record: Some(record),
-        },
-        _ => Refusal::TableFull {
-            record: Some(record),
-        },
+        Refusal::KeyExists { .. } => Refusal::KeyExists { record },
+        Refusal::NoReferencedRow { .. } => Refusal::NoReferencedRow { record },
+        _ => Refusal::TableFull { record },
     };
-    tell(refusal, format!(in alloc; "record {record}: {words}"))
+    Some(Found { refusal, words })
 }
 
 // A record with the key of an earlier one.
@@ -235,39 +241,49 @@ fn refused_rows(
         let record = before.saturating_add(1);
         if let Some(key) = values.first() {
             let repeated = repeated_key(alloc, keys.get(&key), key)?;
-            if let Some(found) = in_record(alloc, repeated, record)? {
-                return Ok(Some(found));
+            if repeated.is_some() {
+                return Ok(in_record(repeated, record));
             }
             keys.insert(key, record)?;
         }
         let refused = kept_out(alloc, catalog, table, values, before)?;
-        if let Some(found) = in_record(alloc, refused, record)? {
-            return Ok(Some(found));
+        if refused.is_some() {
+            return Ok(in_record(refused, record));
         }
         before = record;
     }
     Ok(None)
 }
 
-// Why the rows of a block that is whole are not put in.
-fn load_whole(alloc: Global, catalog: &Catalog, table: &Text, block: &[u8]) -> Search {
+// Why the rows of a block that is whole are not put in, by the number of the refusal: what is wrong with a record is found
+// without the rows, and what is wrong with rows is of all of them.
+fn load_whole(alloc: Global, catalog: &Catalog, table: &Text, refused: Refused<'_>) -> Search {
     let Some(table) = table_named(catalog, table) else {
         return no_table(alloc, table);
     };
+    let Refused { block, number } = refused;
     let layout = layout_of(alloc, catalog, &table)?;
+    if number == BAD_HEADER {
+        return bad_header(alloc, &table, &layout, block);
+    }
+    if number == BAD_RECORD {
+        return bad_record(alloc, &table, &layout, block);
+    }
     match rows_of(alloc, &layout, block) {
         Ok(rows) => refused_rows(alloc, catalog, &table, &rows),
-        Err(CsvRefusal::Header) => tell(
-            Refusal::BadHeader,
-            Ok(why_no_header(alloc, &table, &layout, block)?),
-        ),
-        Err(CsvRefusal::BadRow(record)) => bad_record(alloc, &table, &layout, block, record),
         Err(CsvRefusal::NoMemory) => Err(NoMemory),
+        Err(_) => Ok(None),
     }
 }
 
 /// Why the rows of a block are not put in. The line asks for so many bytes.
-pub fn load(alloc: Global, catalog: &Catalog, table: &Text, bytes: u64, block: &[u8]) -> Search {
+pub fn load(
+    alloc: Global,
+    catalog: &Catalog,
+    table: &Text,
+    bytes: u64,
+    refused: Refused<'_>,
+) -> Search {
     let most = u64::from(catalog.limits().block);
     if bytes > most {
         return tell(
@@ -275,14 +291,14 @@ pub fn load(alloc: Global, catalog: &Catalog, table: &Text, bytes: u64, block: &
             format!(in alloc; "the line asks for {bytes} bytes, and a block has at most {most}"),
         );
     }
-    let come = block.len();
+    let come = refused.block.len();
     if (come as u64) < bytes {
         return tell(
             Refusal::BlockCutShort,
             format!(in alloc; "the line asks for {bytes} bytes, and {come} have come"),
         );
     }
-    load_whole(alloc, catalog, table, block)
+    load_whole(alloc, catalog, table, refused)
 }
 
 /// Why a table is not dumped.

@@ -1,6 +1,7 @@
 //! The grammar as a table: at each place of a command what may stand there, and which place is behind it.
 
 use crate::tokens::{Kind, Token};
+use mm_lang::is_whole_name;
 
 /// What may stand at a place of a command.
 #[derive(Clone, Copy)]
@@ -84,16 +85,6 @@ pub type Rule = (State, Wanted, State);
 pub const COMMANDS: [&str; 10] = [
     "table", "drop", "index", "insert", "update", "delete", "select", "load", "dump", "tables",
 ];
-
-// The words that name no table and no column.
-const RESERVED: [&str; 23] = [
-    "and", "delete", "distinct", "drop", "dump", "from", "hash", "index", "insert", "int", "join",
-    "load", "null", "on", "ref", "select", "set", "table", "tables", "text", "tree", "update",
-    "where",
-];
-
-/// The most bytes of a name.
-pub const LONGEST_NAME: usize = 32;
 
 const A_TABLE: Wanted = Wanted::Name("a table's name");
 
@@ -234,14 +225,9 @@ pub static RULES: [Rule; 83] = [
     (State::End, Wanted::End, State::End),
 ];
 
-/// Whether a word is reserved.
-pub fn is_reserved(word: &str) -> bool {
-    RESERVED.iter().any(|other| *other == word)
-}
-
 // Whether a symbol is a name.
 fn is_name(token: &Token<'_>) -> bool {
-    token.kind == Kind::Word && token.text.len() <= LONGEST_NAME && !is_reserved(token.text)
+    token.kind == Kind::Word && is_whole_name(token.text.as_bytes())
 }
 
 // Whether a symbol is a value.

@@ -11,7 +11,7 @@ const MOST_EDITS: usize = 2;
 // Symbols that stand where they may not, or any where none is named; where that is, if it matters; and what is to be known.
 type Hint = (&'static [&'static str], Option<State>, &'static str);
 
-const HINTS: [Hint; 32] = [
+static HINTS: [Hint; 32] = [
     (
         &["create"],
         None,
@@ -115,27 +115,37 @@ fn is_one_of(symbol: &str, symbols: &[&str]) -> bool {
 
 /// What is to be known where a symbol stands at a place where it may not.
 pub fn hint(state: State, symbol: &str) -> Option<&'static str> {
-    for (symbols, at, words) in HINTS {
-        let is_here = at.is_none() || at == Some(state);
-        if is_here && (symbols.is_empty() || is_one_of(symbol, symbols)) {
-            return Some(words);
-        }
-    }
-    None
+    let found = HINTS.iter().find(|hint| {
+        let is_here = hint.1.is_none() || hint.1 == Some(state);
+        is_here && (hint.0.is_empty() || is_one_of(symbol, hint.0))
+    })?;
+    Some(found.2)
+}
+
+// The command of the same letters, capitals or not.
+fn in_capitals(word: &str) -> Option<&'static str> {
+    COMMANDS
+        .iter()
+        .find(|command| command.eq_ignore_ascii_case(word))
+        .copied()
 }
 
 /// The command whose word is the nearest to another, if one is near.
 pub fn nearest(alloc: Global, word: &str) -> Result<Option<&'static str>, NoMemory> {
+    let same = in_capitals(word);
+    if same.is_some() {
+        return Ok(same);
+    }
+    let length = word.chars().count();
     let mut found = None;
     let mut most = MOST_EDITS.saturating_add(1);
     for command in COMMANDS {
-        if command.eq_ignore_ascii_case(word) {
-            return Ok(Some(command));
-        }
-        let edits = osa_distance(alloc, word, command)?;
-        if edits < most {
-            most = edits;
-            found = Some(command);
+        if command.len().abs_diff(length) < most {
+            let edits = osa_distance(alloc, word, command)?;
+            if edits < most {
+                most = edits;
+                found = Some(command);
+            }
         }
     }
     Ok(found)

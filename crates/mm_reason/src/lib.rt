@@ -32,4 +32,4 @@ mod tokens;
 mod updating;
 mod values;
 
-pub use reasons::{asked, reason};
+pub use reasons::reason;

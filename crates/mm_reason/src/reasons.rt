@@ -1,64 +1,29 @@
 //! The reason for a refusal.
 
-ghost use Rattle.std.specs.Prelude.{◌≡◌, IfSome};
 ghost use Rattle.plain_tables.specs.Spelling.{IsSpellable};
 
+use crate::blocks::Refused;
 use crate::found::{Found, Search, tell};
 use crate::referrers::delete_rows;
 use crate::syntax::why_no_command;
 use crate::{blocks, declaring, inserting, selecting, updating};
 use mm_catalog::Catalog;
-use mm_lang::{Line, ParseRefusal, block_length, parse};
+use mm_lang::{Line, ParseRefusal, parse};
+use mm_session::{Judged, LONGEST_LINE, judge_line};
 use no_memory::NoMemory;
 use plain_tables::{Command, Refusal};
 use std::alloc::Global;
 
-// The greatest number of bytes that a line may have.
-const LONGEST_LINE: usize = 8192;
-
 // The number of the refusal of a line for which no memory was found.
 const NO_MEMORY: u32 = 90;
 
-// A line without one carriage return at its end.
-fn without_return(line: &[u8]) -> &[u8] {
-    match line {
-        [front @ .., b'\r'] => front,
-        _ => line,
-    }
-}
-
-// A text as a line, where it has no line feed.
-fn as_line(text: &str) -> Option<Line<'_>>
-    ensures { IfSome result (λ line. line ≡ text.now) }
-{
-    if text.as_bytes().contains(&b'\n') {
-        return None;
-    }
-    Some(Line::new(text))
-}
-
-// How many bytes a text asks for.
-fn asked_by(text: &str) -> u64 {
-    match as_line(text) {
-        Some(line) => block_length(&line).unwrap_or(0),
-        None => 0,
-    }
-}
-
-/// How many bytes the block has that a line asks for. It is 0 where it asks for none.
-pub fn asked(line: &[u8]) -> u64 {
-    let line = without_return(line);
-    if line.len() > LONGEST_LINE {
-        return 0;
-    }
-    match str::from_utf8(line) {
-        Ok(text) => asked_by(text),
-        Err(_) => 0,
-    }
-}
-
 // Why a command is refused, as far as it is seen without the rows that a delete is of.
-fn without_rows(alloc: Global, catalog: &Catalog, command: &Command, block: &[u8]) -> Search {
+fn without_rows(
+    alloc: Global,
+    catalog: &Catalog,
+    command: &Command,
+    refused: Refused<'_>,
+) -> Search {
     match command {
         Command::Table { name, schema } => declaring::table(alloc, catalog, name, schema),
         Command::DropTable { table } => declaring::drop_table(alloc, catalog, table),
@@ -103,17 +68,17 @@ fn without_rows(alloc: Global, catalog: &Catalog, command: &Command, block: &[u8
             joins.as_slice(),
             conditions.as_slice(),
         ),
-        Command::Load { table, bytes } => blocks::load(alloc, catalog, table, *bytes, block),
+        Command::Load { table, bytes } => blocks::load(alloc, catalog, table, *bytes, refused),
         Command::Dump { table } => blocks::dump(alloc, catalog, table),
         Command::Tables => Ok(None),
     }
 }
 
 // Why a command is refused.
-fn of_command(alloc: Global, catalog: &Catalog, command: Command, block: &[u8]) -> Search
+fn of_command(alloc: Global, catalog: &Catalog, command: Command, refused: Refused<'_>) -> Search
     requires { IsSpellable command }
 {
-    if let Some(found) = without_rows(alloc, catalog, &command, block)? {
+    if let Some(found) = without_rows(alloc, catalog, &command, refused)? {
         return Ok(Some(found));
     }
     delete_rows(alloc, catalog, command)
@@ -127,35 +92,37 @@ fn no_command(alloc: Global, line: &str) -> Search {
     }
 }
 
-// Why a line that is UTF-8 is refused.
-fn of_text(alloc: Global, catalog: &Catalog, line: &str, block: &[u8]) -> Search {
-    let Some(whole) = as_line(line) else {
-        return no_command(alloc, line);
-    };
-    match parse(alloc, &whole) {
-        Ok(command) => of_command(alloc, catalog, command, block),
-        Err(ParseRefusal::Syntax) => no_command(alloc, line),
+// Why a line that can be read is refused.
+fn of_text(alloc: Global, catalog: &Catalog, line: &Line<'_>, refused: Refused<'_>) -> Search {
+    match parse(alloc, line) {
+        Ok(command) => of_command(alloc, catalog, command, refused),
+        Err(ParseRefusal::Syntax) => no_command(alloc, line.as_str()),
         Err(ParseRefusal::NoMemory) => Err(NoMemory),
     }
 }
 
-// Why a line is refused.
-fn of_line(alloc: Global, catalog: &Catalog, line: &[u8], block: &[u8]) -> Search {
-    if line.len() > LONGEST_LINE {
-        return tell(
+// Where a line is not UTF-8.
+fn not_utf8(alloc: Global, line: &[u8]) -> Search {
+    let Err(error) = str::from_utf8(line) else {
+        return Ok(None);
+    };
+    let byte = error.valid_up_to().saturating_add(1);
+    tell(
+        Refusal::NotUtf8,
+        format!(in alloc; "at byte {byte} no character begins"),
+    )
+}
+
+// Why a line is refused. One with a line feed in it is none.
+fn of_line(alloc: Global, catalog: &Catalog, line: &[u8], refused: Refused<'_>) -> Search {
+    match judge_line(line) {
+        Some(Judged::TooLong) => tell(
             Refusal::LineTooLong,
             format!(in alloc; "a line has at most {LONGEST_LINE} bytes"),
-        );
-    }
-    match str::from_utf8(line) {
-        Ok(text) => of_text(alloc, catalog, text, block),
-        Err(error) => {
-            let byte = error.valid_up_to().saturating_add(1);
-            tell(
-                Refusal::NotUtf8,
-                format!(in alloc; "at byte {byte} no character begins"),
-            )
-        }
+        ),
+        Some(Judged::NotUtf8) => not_utf8(alloc, line),
+        Some(Judged::Text(text)) => of_text(alloc, catalog, &text, refused),
+        Some(Judged::Silent) | None => Ok(None),
     }
 }
 
@@ -174,7 +141,7 @@ pub fn reason(
             "no memory was found for it, and all tables are as before"
         )?));
     }
-    let Some(Found { refusal, words }) = of_line(alloc, catalog, without_return(line), block)?
+    let Some(Found { refusal, words }) = of_line(alloc, catalog, line, Refused { block, number })?
     else {
         return Ok(None);
     };

@@ -1,12 +1,11 @@
 //! Rows that others name, and so stay.
 
-ghost use Rattle.std.specs.Prelude.{IfOk, IsSome};
+ghost use Rattle.std.specs.Prelude.{IsSome};
 ghost use Rattle.std.specs.FinMap as finite;
 ghost use Rattle.std.specs.List.{All};
 ghost use Rattle.plain_tables.specs.ResolvedLaws.{OfTable, AreTests, IsMeant};
 ghost use Rattle.plain_tables.specs.Spelling.{IsSpellable};
 ghost use Rattle.mm_catalog.specs.Seen.{database_of};
-ghost use Rattle.mm_session.specs.Passing.{ArePassing};
 
 use crate::found::{Search, tell};
 use crate::shown::Shown;
@@ -15,26 +14,11 @@ use mm_catalog::Catalog;
 use mm_catalog::laws::a_catalog_is_consistent;
 use mm_relation::laws::a_relation_is_kept;
 use mm_relation::{ColumnNumber, Relation, Relations, TupleRef};
+use mm_session::rows_passing;
 use no_memory::NoMemory;
 use plain_tables::{Command, Refusal, Resolved, TableNumber, Test, Value};
-use plan_chooser::{Policy, choose_select};
+use plan_chooser::Policy;
 use std::alloc::Global;
-use temp_list::{RowOrder, find_rows};
-
-// The rows of a table that pass the tests, in any order.
-fn rows_passing(
-    alloc: Global,
-    catalog: &Catalog,
-    table: TableNumber,
-    tests: &[Test],
-) -> Result<Vec<TupleRef>, NoMemory>
-    requires { OfTable table (database_of catalog.now) (λ t. AreTests (database_of catalog.now) t tests.now) }
-    ensures { IfOk result (λ rows. ArePassing catalog.now table.0 tests.now rows.items) }
-{
-    a_catalog_is_consistent(catalog);
-    let plan = choose_select(Policy::Auto, catalog.at(table), tests);
-    find_rows(alloc, catalog, table, plan, tests, RowOrder::Any)
-}
 
 // The first of these rows that others name.
 fn first_named(relation: &Relation, rows: &[TupleRef]) -> Option<TupleRef>
@@ -123,7 +107,7 @@ fn passing_named(
     requires { OfTable table (database_of catalog.now) (λ t. AreTests (database_of catalog.now) t tests.now) }
 {
     a_catalog_is_consistent(catalog);
-    let rows = rows_passing(alloc, catalog, table, tests)?;
+    let rows = rows_passing(alloc, Policy::Auto, catalog, table, tests)?;
     Ok(first_named(catalog.at(table), &rows))
 }
 
@@ -149,6 +133,7 @@ pub fn delete_rows(alloc: Global, catalog: &Catalog, command: Command) -> Search
 {
     match catalog.resolve(command, &[]) {
         Ok(resolved) => named_rows(alloc, catalog, resolved),
+        Err(Refusal::NoMemory) => Err(NoMemory),
         Err(_) => Ok(None),
     }
 }

@@ -1,9 +1,10 @@
 //! Why a line is no command: where the first symbol stands that may not stand there, and what was wanted.
 
-use crate::grammar::{LONGEST_NAME, RULES, State, Wanted, behind, is_reserved};
+use crate::grammar::{RULES, State, Wanted, behind};
 use crate::hints::{hint, nearest};
 use crate::shown::Cut;
 use crate::tokens::{Kind, Token, Tokens};
+use mm_lang::{LONGEST_NAME, is_reserved_word};
 use no_memory::NoMemory;
 use std::alloc::Global;
 
@@ -52,7 +53,7 @@ fn unfit_word(
     if !is_name_wanted {
         return Ok(format!(in alloc; "{text} is no value: a text stands between quote marks")?);
     }
-    if is_reserved(word) {
+    if is_reserved_word(word.as_bytes()) {
         let wanted = wanted(alloc, state)?;
         return Ok(format!(in alloc; "wanted {wanted}, and {text} is a reserved word")?);
     }

@@ -1,6 +1,6 @@
 -- Which lines ask for a block, and which blocks they have.
 use Rattle.std.proofs.Common.{◌≡◌, ℕ, ◌<◌, ◌≤◌, false, List, [], ◌∷◌, ◌++◌, length, Option, Some, None, refl, sym, ◌∙◌, arith}
-use Rattle.std.specs.Prelude.{MatchOption, unwrap_or, is_some}
+use Rattle.std.specs.Prelude.{MatchOption, unwrap_or}
 use lib.Chars.{codes}
 use Rattle.plain_tables.specs.Spelling.{Spells, AreBlanks}
 use Rattle.plain_tables.specs.declared.command.Command.TheVariants.{Load}
@@ -75,7 +75,3 @@ has_block-empty limits line (Some n) asks is = has_block-asked limits (record { 
 pub asks-some : (line : List ℕ) (length : Option ℕ) → AsksAs line length → 0 < unwrap_or length 0 → Asks line (unwrap_or length 0)
 asks-some line None none more = absurd (omega arith)
 asks-some line (Some n) asks more = asks
-
-pub asks-none : (line : List ℕ) (length : Option ℕ) → is_some length ≡ false → AsksAs line length → (n : ℕ) → ¬ (Asks line n)
-asks-none line None h none = none
-asks-none line (Some n) h asks = cc

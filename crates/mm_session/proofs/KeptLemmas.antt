@@ -2,7 +2,7 @@
 use Rattle.std.proofs.Common.{◌≡◌, ◌≢◌, ℕ, ◌<◌, ◌≤◌, ◌+◌, true, false, List, [], ◌∷◌, ◌++◌, length, Option, Some, None, refl, sym, ap, ◌∙◌, subst, arith, append_assoc, length-append}
 use Rattle.std.specs.Prelude.{MatchOption, is_some, not, ◌&&◌}
 use Rattle.plain_tables.specs.declared.command.Limits.{Limits}
-use Rattle.plain_streams.specs.Requests.{Request, Asks, asked, unasked}
+use Rattle.plain_streams.specs.Requests.{Request, Asks, asked}
 use Rattle.plain_streams.specs.Division.{IsUnbroken, IsWhole, IsUnfinished, in_line, in_block, request_bytes}
 use Rattle.plain_streams.proofs.Asking.{IsUnbroken-nil}
 use Rattle.plain_streams.proofs.DivisionLemmas.{IsUnbroken-append}
@@ -19,10 +19,6 @@ use Rattle.mm_session.proofs.LineLemmas.{grown-kept_of, start}
 pub keeps_line-grown : (rest more : List ℕ) (line : KeptLine) → IsUnbroken more → KeepsLine rest line → KeepsLine (rest ++ more) (grown line more)
 keeps_line-grown rest more line unbroken (before, is) =
     (IsUnbroken-append rest more before unbroken, ap (λ k. grown k more) is ∙ grown-kept_of rest more)
-
--- a line that has ended and asks for no block
-pub whole-unasked : (line : List ℕ) → IsUnbroken line → ((n : ℕ) → ¬ (Asks line n)) → IsWhole (record { line = line; block = [] })
-whole-unasked line unbroken none = record { line = unbroken; block = unasked none }
 
 -- a line and the block that it asks for
 pub whole-asked : (request : Request) → IsUnbroken request.line → Asks request.line (length request.block) → IsWhole request

@@ -19,5 +19,6 @@ pub mod SelectLemmas
 pub mod ShortTexts
 pub mod ShowLemmas
 pub mod TakeLemmas
+pub mod WalkedLemmas
 pub mod WholeLemmas
 pub mod WritingLemmas

@@ -1,5 +1,5 @@
 -- What is kept of a line says what the line is.
-use Rattle.std.proofs.Common.{◌≡◌, ℕ, ◌<◌, ◌≤◌, ◌+◌, true, false, cond, Bool, List, [], ◌∷◌, ◌++◌, length, drop, leb, refl, sym, ◌∙◌, subst, arith, length-append, length-take}
+use Rattle.std.proofs.Common.{◌≡◌, ℕ, true, false, cond, Bool, List, [], ◌∷◌, ◌++◌, length, drop, leb, refl, sym, subst, arith, length-append}
 use Rattle.std.proofs.lemmas.Bool.Decides.{nat_tests}
 use Rattle.std.proofs.lemmas.List.{take-append-drop}
 use Rattle.std.proofs.lemmas.List.Elements.{Contains-append_left}
@@ -15,24 +15,6 @@ part false x l h = cc
 
 pub kept_of-part : (x l : List ℕ) → kept_of x ≡ PartOfLine l → l ≡ x
 kept_of-part x l = part (leb (length x) 8193) x l
-
-long : (b : Bool) (x : List ℕ) → cond b (PartOfLine x) LongLine ≡ LongLine → b ≡ false
-long true x h = cc
-long false x h = refl
-
-without_return-le : (x : List ℕ) → length x ≤ length (without_return x) + 1
-without_return-le x =
-    let last = length x - 1 in
-    elim (slice_index x last == 13) as (λ b. length x ≤ length (cond b (take last x) x) + 1) [
-      | true ↦ rw length-take (omega arith)
-      | false ↦ omega arith
-    ]
-
-pub kept_of-long : (x : List ℕ) → kept_of x ≡ LongLine → 8192 < length (without_return x)
-kept_of-long x h =
-    let no : leb (length x) 8193 ≡ false = long (leb (length x) 8193) x h in
-    let more : 8193 < length x = grind (arith, nat_tests) in
-    omega (arith, without_return-le x)
 
 pub grown-kept_of : (rest more : List ℕ) → grown (kept_of rest) more ≡ kept_of (rest ++ more)
 grown-kept_of rest more =

@@ -1,38 +1,24 @@
 -- What is done to a catalog, and the effect of the command that it is.
-use Rattle.std.proofs.Common.{◌≡◌, ℕ, List, ◌++◌, Ok, Err, refl, sym, ap, ◌∙◌, inl, inr, Result, OnErr, IfErr}
-use lib.Chars.{codes}
+use Rattle.std.proofs.Common.{◌≡◌, ℕ, List, ◌++◌, Ok, Err, sym, ap, ◌∙◌, inl, inr, Result, OnErr, IfErr}
 use Rattle.plain_tables.specs.AnswerText.{answer_text}
 use Rattle.plain_tables.specs.Databases.{Database}
 use Rattle.plain_tables.specs.CsvReading.{Record}
-use Rattle.plain_tables.specs.Effects.{Effect, Outcome, Done, Changed, Refused, refused}
+use Rattle.plain_tables.specs.Effects.{Effect, Outcome, Changed, Refused, refused}
 use Rattle.plain_tables.specs.Resolving.{resolved_of}
 use Rattle.plain_tables.specs.Doing.{done}
-use Rattle.plain_tables.specs.ResolvedLaws.{IsMeant, KeepsIfRefused}
+use Rattle.plain_tables.specs.ResolvedLaws.{KeepsIfRefused}
 use Rattle.plain_tables.proofs.ChangeLemmas.{refused_keeps}
 use Rattle.plain_tables.specs.declared.command.Command.{Command}
-use Rattle.plain_tables.specs.declared.command.Limits.{Limits}
 use Rattle.plain_tables.specs.declared.refusal.Refusal.{Refusal}
-use Rattle.plain_tables.specs.declared.numbers.ColumnNumber.{ColumnNumber}
-use Rattle.plain_tables.specs.declared.numbers.TableNumber.{TableNumber}
-use Rattle.plain_tables.specs.declared.schema.IndexKind.{IndexKind}
 use Rattle.plain_tables.specs.declared.resolved.Resolved.{Resolved}
-use Rattle.plain_tables.specs.declared.resolved.Resolved.TheVariants as resolved
 use Rattle.mm_catalog.specs.State.{CatalogState}
 use Rattle.mm_catalog.specs.Seen.{database_of}
-use Rattle.mm_catalog.specs.Changes.{IsDone, HasEffect, IsDeclinedFor}
+use Rattle.mm_catalog.specs.Changes.{HasEffect, IsDeclinedFor}
 use Rattle.mm_session.specs.Answered.{DoesNothing}
 use Rattle.plain_tables.specs.Commands.{effect_of, effect_of_resolved}
 use Rattle.mm_session.specs.Performed.{HasPerformed}
 
 -- ---- what was done
-
-pub performed_done : (old new : CatalogState) (r : Resolved) (before after : List ℕ) → IsDone old new r → (done old.limits (database_of old) r).outcome ≡ Done
-    → after ≡ before ++ codes "ok\n" → HasPerformed old new (done old.limits (database_of old) r) before after
-performed_done old new r before after is outcome says = record {
-  database = is.database;
-  limits = is.limits;
-  answer = says ∙ ap (λ o. before ++ answer_text o) (sym outcome);
-}
 
 pub performed_effect : (old new : CatalogState) (effect : Effect) (count : ℕ) (before after : List ℕ) → HasEffect old new effect count
     → after ≡ before ++ answer_text (Changed count) → HasPerformed old new effect before after
@@ -41,13 +27,6 @@ performed_effect old new effect count before after has says = record {
   limits = has.limits;
   answer = says ∙ ap (λ o. before ++ answer_text o) (sym has.outcome);
 }
-
-module _ (limits : Limits) (tables : Database) (n : TableNumber) (column : ColumnNumber) (k : IndexKind) where
-  pub index_done : IsMeant limits tables (resolved.Index n column k) → (done limits tables (resolved.Index n column k)).outcome ≡ Done
-  index_done (table, there, meant) = rw there refl
-
-  pub drop_index_done : IsMeant limits tables (resolved.DropIndex n column k) → (done limits tables (resolved.DropIndex n column k)).outcome ≡ Done
-  drop_index_done (table, there, meant) = rw there refl
 
 -- what is refused and leaves things unchanged
 pub refused_unchanged : {T : Type 0} (result : Result T Refusal) (P : Refusal → Type 0) (Q : Type 0) → OnErr result Q → IfErr result P → IfErr result (λ e. Q × P e)

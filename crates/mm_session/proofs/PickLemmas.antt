@@ -1,16 +1,11 @@
 -- The rows of a table that a plan found are those that are picked: each is held, and each comes once.
-use Rattle.std.proofs.Common.{◌≡◌, ◌≢◌, ℕ, true, List, [], ◌∷◌, ◌++◌, Option, Some, None, IsSome, IsTrue, refl, sym, ap, ◌∙◌, subst, map, get_or, arith}
-use Rattle.std.proofs.lemmas.Cmp.{tied_itself}
+use Rattle.std.proofs.Common.{◌≡◌, ◌≢◌, ℕ, true, List, Some, IsSome, IsTrue, sym, ◌∙◌, subst, get_or, arith}
 use Rattle.std.proofs.lemmas.List.Kept.{AllPairs-filter}
 use Rattle.std.proofs.lemmas.Option.{same_Some, slice_get_within}
-use Rattle.std.specs.List.{All, AllPairs, Contains, slice_get, flat_map}
+use Rattle.std.specs.List.{All, AllPairs, Contains, slice_get}
 use Rattle.std.specs.FinMap as finite
-use Rattle.std.specs.Cmp.{IsTotalOrder}
-use Rattle.std.specs.declared.cmp.Ordering.{Ordering}
-use Rattle.std.specs.declared.cmp.Ordering.TheVariants.{Less, Equal}
 use Rattle.part_raw.specs.declared.tuple_ref.TupleRef.{TupleRef}
 use Rattle.mm_index.specs.Bag.{IsSameBag}
-use Rattle.mm_index.specs.Order.{IsRising}
 use Rattle.mm_index.proofs.Bags.{IsSameBag-sym}
 use Rattle.mm_index.proofs.Distinct.{AllPairs-same_bag}
 use Rattle.mm_index.proofs.Refs.{Contains-same_refs}
@@ -19,7 +14,6 @@ use Rattle.part_raw.proofs.Refs.{ref_cmp_total}
 use Rattle.part_raw.proofs.Tuples.{same_ref_self, same_ref_true}
 use Rattle.std.specs.Cmp.{eq_by_cmp_equiv}
 use Rattle.std.specs.Ordering.{eq_by_cmp}
-use Rattle.std.proofs.lemmas.List.Concat.{flat_map-cons}
 use Rattle.common_lemmas.proofs.Elements.{Contains-filter, Contains-from_filter}
 use Rattle.plain_tables.specs.Tables.{Table}
 use Rattle.plain_tables.specs.Doing.{passes_all}
@@ -33,18 +27,10 @@ use Rattle.mm_catalog.specs.Consistent.{IsConsistent}
 use Rattle.mm_catalog.specs.Picked.{seen_values}
 use Rattle.mm_catalog.proofs.Declared.{among_at}
 use Rattle.temp_list.specs.Reading.{HasColumns, row_passes, passing}
-use Rattle.join_ops.proofs.BagLemmas.{IsSameBag-flat_map}
 use Rattle.join_ops.proofs.SideLemmas.{All-same_bag}
 use Rattle.mm_session.specs.Passing.{ArePassing}
 use Rattle.mm_session.proofs.MemberLemmas.{passing_held, passes_seen, width_same}
-
--- a list that rises repeats nothing
-rising_apart : {A : Type 0} (cmp : A → A → Ordering) → IsTotalOrder cmp → (xs : List A) → IsRising cmp xs → AllPairs (λ a b. a ≢ b) xs
-rising_apart cmp total xs rises i j d before within same =
-    let below : cmp (get_or xs i d) (get_or xs i d) ≡ Less = subst (λ b. cmp (get_or xs i d) b ≡ Less) (sym same) (rises i j d before within) in
-    let level : cmp (get_or xs i d) (get_or xs i d) ≡ Equal = tied_itself total (get_or xs i d) in
-    let no : Less ≡ Equal = sym below ∙ level in
-    cc
+use Rattle.mm_relation.proofs.Listings.{rising_apart}
 
 -- ---- the rows that pass
 

@@ -112,7 +112,7 @@ module _ (c : CatalogState) (ok : IsConsistent c) where
             (All-weaker (meant.HasPlace tables) (HasPlace c.relations list.sources) (λ place there. place_there list.sources place has.over.sources there) (places_shown tables query.shown) (shown_there tables query.shown is_shown));
       }
 
-      some_places : 0 < length places
+      pub some_places : 0 < length places
       some_places =
           let first = means.0 in
           let s = slice_get-inside c.relations query.source.table.0 (there_at c ok query.source.table.0 first.0 first.1) in
@@ -140,7 +140,7 @@ module _ (c : CatalogState) (ok : IsConsistent c) where
           (subst (λ ts. All (IsMember (database_of c) ts) members) (sym are_tables)
           (members_fit c.limits (database_of c) query.source query.joins ok.sound (means.0.0, means.0.1, means.0.2.1))))
 
-      ordered_shown : map (list_values c described) has.ordered ≡ map (shown_values query.shown) members
+      pub ordered_shown : map (list_values c described) has.ordered ≡ map (shown_values query.shown) members
       ordered_shown =
           map_same (list_values c described) (λ row. shown_values query.shown (member_of c list.sources row)) has.ordered
           (λ k d l. row_shown (get_or has.ordered k d) (subst (λ ns. IsRowOver c.relations ns (get_or has.ordered k d)) (sym has.tables) (has.each k d l)) (are_members k d l))

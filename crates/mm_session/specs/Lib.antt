@@ -12,5 +12,6 @@ pub mod Refused
 pub mod Responding
 pub mod Sessions
 pub mod Shown
+pub mod Walked
 pub mod WholeRuns
 pub mod Writing

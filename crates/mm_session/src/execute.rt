@@ -4,11 +4,13 @@ mod blocks;
 mod listing;
 mod query;
 mod respond;
-mod search;
+pub mod search;
 mod select;
+mod walked;
 
 use crate::answer::Answer;
 use crate::answer::records::push_changed;
+use crate::execute::search::rows_passing;
 use mm_catalog::Catalog;
 use plain_tables::{Assignment, Command, Refusal, Resolved, Sequence, TableNumber, Test};
 use plan_chooser::Policy;
@@ -70,7 +72,7 @@ impl Executor {
         ensures done { OnOk result (HasPerformed self.old.catalog self.new.catalog (done self.old.catalog.limits (database_of self.old.catalog) (resolved.Update table assignments tests.now)) answer.old answer.new) }
         ensures refused { IfErr result (IsRefusedFor self.old.catalog self.new.catalog (done self.old.catalog.limits (database_of self.old.catalog) (resolved.Update table assignments tests.now))) }
     {
-        let rows = self.rows_passing(table, tests)?;
+        let rows = rows_passing(self.alloc, self.policy, &self.catalog, table, tests)?;
         push_changed(answer, rows.len())?;
         self.catalog.update(table, &rows, assignments)
     }
@@ -86,7 +88,7 @@ impl Executor {
         ensures done { OnOk result (HasPerformed self.old.catalog self.new.catalog (done self.old.catalog.limits (database_of self.old.catalog) (resolved.Delete table tests.now)) answer.old answer.new) }
         ensures refused { IfErr result (IsRefusedFor self.old.catalog self.new.catalog (done self.old.catalog.limits (database_of self.old.catalog) (resolved.Delete table tests.now))) }
     {
-        let rows = self.rows_passing(table, tests)?;
+        let rows = rows_passing(self.alloc, self.policy, &self.catalog, table, tests)?;
         push_changed(answer, rows.len())?;
         self.catalog.delete(table, &rows)
     }

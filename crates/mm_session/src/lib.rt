@@ -27,6 +27,8 @@ mod session;
 mod stream;
 
 pub use answer::Answer;
+pub use execute::search::rows_passing;
 pub use fault::{NotOneRequest, RunFault, SessionFault};
 pub use session::Session;
+pub use stream::lines::{Judged, LONGEST_LINE, judge_line, split_line};
 pub use stream::whole_run::run;

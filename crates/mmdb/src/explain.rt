@@ -1,8 +1,8 @@
 //! The stream, with a reason on standard error for each refusal. It is cut into requests here, so that the line of each is
 //! known; what they are answered is the session's word.
 
-use mm_reason::{asked, reason};
-use mm_session::{Answer, RunFault, Session};
+use mm_reason::reason;
+use mm_session::{Answer, RunFault, Session, judge_line, split_line};
 use plan_chooser::Policy;
 use std::alloc::Global;
 use std::io::{Read, Write};
@@ -36,12 +36,6 @@ struct Explainer {
     // The number of the line in the stream, and the line feeds in its block so far.
     number: u64,
     feeds: u64,
-}
-
-// The bytes before the first line feed and those behind it, where there is one.
-fn split_line(bytes: &[u8]) -> Option<(&[u8], &[u8])> {
-    let at = bytes.iter().position(|c| *c == b'\n')?;
-    Some((&bytes[..at], &bytes[at + 1..]))
 }
 
 fn flush<W: Write>(w: &mut W) -> Result<(), RunFault> {
@@ -119,9 +113,17 @@ impl Explainer {
         let _ = self.line.extend_from_slice(front);
     }
 
+    // How many bytes the block has that the line asks for.
+    fn asked(&self) -> u64 {
+        match judge_line(&self.line) {
+            Some(line) => line.asked().unwrap_or(0),
+            None => 0,
+        }
+    }
+
     // Ends the line, and makes room for its block where that may be kept.
     fn end_line(&mut self) -> Result<(), RunFault> {
-        self.left = asked(&self.line);
+        self.left = self.asked();
         if self.left == 0 {
             return Ok(());
         }

@@ -43,7 +43,3 @@ module _ (relations : List RelationState) (list : ListState) where
           (All-weaker (IsShown relations list) (λ (row : ShownState). IsRowOver relations list.sources row.references) (λ row shown. All-contains (IsRowOver relations list.sources) list.rows row.references over.rows shown.0) rows once.some);
       columns = over.columns;
     }
-
--- a list that has all of this is that list
-pub picked_made : (list new : ListState) (rows : List ShownState) → new.sources ≡ list.sources → new.rows ≡ references_of rows → new.columns ≡ list.columns → new ≡ with_rows list rows
-picked_made list new rows sources listed columns i = record { sources = sources i; rows = listed i; columns = columns i }

@@ -25,5 +25,5 @@ mod sorting;
 mod standing;
 
 pub use list::TempList;
-pub use selecting::{RowOrder, find_rows};
+pub use selecting::{find_few_rows, find_rows};
 pub use standing::stands;

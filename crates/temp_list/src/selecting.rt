@@ -1,5 +1,5 @@
 //! The rows of one table that pass tests, found by a plan.
-ghost use Rattle.std.specs.Prelude.{◌<◌, IfOk, length};
+ghost use Rattle.std.specs.Prelude.{◌<◌, IfOk, IfSome, length};
 ghost use Rattle.plan_chooser.specs.Plans.{Fits};
 ghost use Rattle.plan_chooser.specs.declared.plans.SelectPlan.TheVariants as plans;
 ghost use Rattle.temp_list.specs.Reading.{AreSound, OfRelation, HasColumns};
@@ -16,22 +16,13 @@ use plain_tables::{Op, TableNumber, Test};
 use plan_chooser::SelectPlan;
 use std::alloc::Global;
 
-/// What the order of the rows is worth that a look at each row finds.
-#[derive(Clone, Copy, Debug, PartialEq, Eq)]
-pub enum RowOrder {
-    /// They are wanted in the order of their keys.
-    ByKeys,
-    /// Any order is as good.
-    Any,
-}
-
-// How many rows a look at each in the order of the slots may find, so that to put these into the order wanted costs less than to
-// walk the tree of the key. With no test all are found, so the tree is walked at once.
-fn most_in_slots(relation: &Relation, tests: &[Test], order: RowOrder) -> u64 {
-    match order {
-        RowOrder::Any => relation.len(),
-        RowOrder::ByKeys if tests.is_empty() => 0,
-        RowOrder::ByKeys => relation.len() / 16,
+// How many rows a look at each slot may find, so that to put these into the order of their keys costs less than to walk the tree
+// of the key. With no test all rows are found, so the tree is walked at once.
+fn most_sorted(relation: &Relation, tests: &[Test]) -> u64 {
+    if tests.is_empty() {
+        0
+    } else {
+        relation.len() / 16
     }
 }
 
@@ -41,7 +32,6 @@ fn find_by_scan<R: Relations>(
     tables: &R,
     table: TableNumber,
     tests: &[Test],
-    order: RowOrder,
 ) -> Result<Vec<TupleRef>, NoMemory>
     requires sound { AreSound (R.tables tables.now) }
     requires there { table.0 < length (R.tables tables.now) }
@@ -49,11 +39,29 @@ fn find_by_scan<R: Relations>(
     ensures { IfOk result (λ rows. OfRelation (R.tables tables.now) table.0 (λ s. AreSelected (R.tables tables.now) s tests.now rows.items)) }
 {
     let relation = tables.at(table);
-    let most = most_in_slots(relation, tests, order);
-    match passing_in_slots(alloc, tables, relation, tests, most)? {
+    match passing_in_slots(alloc, tables, relation, tests, relation.len())? {
         Some(rows) => Ok(rows),
         None => passing(alloc, tables, relation, tests),
     }
+}
+
+/// The rows of a table that pass the tests, each once, in any order, found by a look at each slot. None where they are more than a
+/// sixteenth of the table, or no test is made: then a walk of the tree of the key, which gives them in their order, costs less than
+/// to sort them.
+pub fn find_few_rows<R: Relations>(
+    alloc: Global,
+    tables: &R,
+    table: TableNumber,
+    tests: &[Test],
+) -> Result<Option<Vec<TupleRef>>, NoMemory>
+    requires sound { AreSound (R.tables tables.now) }
+    requires there { table.0 < length (R.tables tables.now) }
+    requires columns { OfRelation (R.tables tables.now) table.0 (λ s. HasColumns s tests.now) }
+    ensures { IfOk result (λ found. IfSome found (λ rows. OfRelation (R.tables tables.now) table.0 (λ s. AreSelected (R.tables tables.now) s tests.now rows.items))) }
+{
+    let relation = tables.at(table);
+    let most = most_sorted(relation, tests);
+    passing_in_slots(alloc, tables, relation, tests, most)
 }
 
 // By the hash on the column of a test.
@@ -155,15 +163,13 @@ fn find_by_tree<R: Relations>(
     }
 }
 
-/// The rows of a table that pass the tests, each once, in any order, found by a plan that fits. The order that is wanted of them
-/// decides how a scan goes, and nothing else.
+/// The rows of a table that pass the tests, each once, in any order, found by a plan that fits.
 pub fn find_rows<R: Relations>(
     alloc: Global,
     tables: &R,
     table: TableNumber,
     plan: SelectPlan,
     tests: &[Test],
-    order: RowOrder,
 ) -> Result<Vec<TupleRef>, NoMemory>
     requires sound { AreSound (R.tables tables.now) }
     requires there { table.0 < length (R.tables tables.now) }
@@ -172,7 +178,7 @@ pub fn find_rows<R: Relations>(
     ensures { IfOk result (λ rows. OfRelation (R.tables tables.now) table.0 (λ s. AreSelected (R.tables tables.now) s tests.now rows.items)) }
 {
     match plan {
-        SelectPlan::Scan => find_by_scan(alloc, tables, table, tests, order),
+        SelectPlan::Scan => find_by_scan(alloc, tables, table, tests),
         SelectPlan::Hash(n) => find_by_hash(alloc, tables, table, tests, n),
         SelectPlan::Tree(n) => find_by_tree(alloc, tables, table, tests, n),
     }

@@ -8,8 +8,8 @@ ghost use Rattle.mm_session.specs.Judging.{IsJudged};
 use memchr::memchr;
 use mm_lang::{Line, block_length};
 
-// The greatest number of bytes that a line may have.
-const LONGEST_LINE: usize = 8192;
+/// The greatest number of bytes that a line may have, without a carriage return at its end.
+pub const LONGEST_LINE: usize = 8192;
 
 /// What a line is that has ended, before it is read as a command.
 #[derive(Drop)]
@@ -90,15 +90,22 @@ pub fn judge(line: &[u8]) -> Judged<'_>
     Judged::Text(Line::new(text))
 }
 
+/// The line, judged, where no line feed is in it.
+pub fn judge_line(line: &[u8]) -> Option<Judged<'_>>
+    ensures { MatchOption result (¬ (IsUnbroken line.now)) (λ judged. IsUnbroken line.now × IsJudged line.now judged) }
+{
+    if split_line(line).is_some() {
+        return None;
+    }
+    Some(judge(line))
+}
+
 /// The line, judged, where it and the block are one whole request.
 pub fn judge_whole<'a>(line: &'a [u8], block: &[u8]) -> Option<Judged<'a>>
     ensures { MatchOption result (¬ (IsWhole (record { line = line.now; block = block.now })))
         (λ judged. IsWhole (record { line = line.now; block = block.now }) × IsJudged line.now judged) }
 {
-    if split_line(line).is_some() {
-        return None;
-    }
-    let judged = judge(line);
+    let judged = judge_line(line)?;
     if judged.asked().unwrap_or(0) == block.len() as u64 {
         Some(judged)
     } else {

@@ -1,14 +1,26 @@
-use Rattle.std.proofs.Common.{ap, sym, subst, get_or, length, map, List, ℕ, arith}
+use Rattle.std.proofs.Common.{◌≡◌, ◌∙◌, ◌<◌, List, ℕ, ap, length, map, subst, sym}
+use Rattle.std.specs.List.{All}
+use Rattle.std.proofs.lemmas.Result.{IfOk-weaker}
 use Rattle.plain_tables.specs.declared.numbers.Place.{Place}
 use Rattle.temp_list.specs.Lists.{HasPlace}
+use Rattle.mm_session.specs.Members.{tables_at}
+use Rattle.mm_session.specs.Shown.{heading}
 use Rattle.mm_session.proofs.execute.Executor.full_names.Goals as goal
 
-pub full_name-requires-clause-place : goal.full_name-requires-clause-place
-full_name-requires-clause-place c =
-    let none : Place = record { source = 0; column = record { 0 = 0 } } in
+pub names_at-requires-clause-sources : goal.names_at-requires-clause-sources
+names_at-requires-clause-sources c =
+    subst (All (λ n. n < length c.args.self.now.catalog.relations)) (sym c.sources.ensures) c.requires.over.sources
+
+pub names_at-requires-clause-places : goal.names_at-requires-clause-places
+names_at-requires-clause-places c =
     let relations = c.args.self.now.catalog.relations in
-    let list = c.args.list.now in
-    let at = c.loop-place.place-index in
-    subst (λ (ps : List Place). HasPlace relations (map (λ t. t.0) c.sources.result.now) (get_or ps at none)) (sym c.columns-place-items.ensures)
-    (subst (λ (ns : List ℕ). HasPlace relations ns (get_or list.columns at none)) (sym c.sources.ensures)
-    (c.requires.over.columns at none (let l = c.loop-place-test.true in let same = ap (λ (ps : List Place). length ps) c.columns-place-items.ensures in omega (arith, l, same))))
+    subst (λ (ps : List Place). All (HasPlace relations (map (λ t. t.0) c.sources.result.now)) ps) (sym c.columns.ensures)
+    (subst (λ (ns : List ℕ). All (HasPlace relations ns) c.args.list.now.columns) (sym c.sources.ensures) c.requires.over.columns)
+
+pub returns : goal.returns
+returns c =
+    let catalog = c.args.self.now.catalog in
+    IfOk-weaker c.names_at.result _ _
+    (λ names is.
+    is ∙ ap (λ (ns : List ℕ). map (heading (tables_at catalog ns)) c.columns.result.now) c.sources.ensures
+    ∙ ap (map (heading (tables_at catalog c.args.list.now.sources))) c.columns.ensures) c.names_at.ensures

@@ -2,7 +2,7 @@ use Rattle.std.proofs.lemmas.Result.{IfOk-weaker}
 use Rattle.mm_catalog.proofs.Declared.{there_at}
 use Rattle.common_lemmas.proofs.Places.{slice_get-inside}
 use Rattle.mm_session.proofs.PickLemmas.{test_columns, are_passing}
-use Rattle.mm_reason.proofs.referrers.rows_passing.Goals as goal
+use Rattle.mm_session.proofs.execute.search.rows_passing.Goals as goal
 
 pub at-requires : goal.at-requires
 at-requires c = there_at c.args.catalog.now c.a_catalog_is_consistent.ensures c.args.table.0 c.requires.0 c.requires.1

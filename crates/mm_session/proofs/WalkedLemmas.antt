@@ -1,0 +1,113 @@
+-- The rows that a walk of the key finds, and what is shown of them.
+use Rattle.std.proofs.Common.{◌≡◌, ◌∙◌, ℕ, zero, suc, ◌+◌, ◌<◌, ◌≤◌, Bool, true, false, cond, List, [], ◌∷◌, ◌++◌, Some, None, refl, sym, ap, subst, arith, append-nil, filter, get_or, length, map, length-append}
+use Rattle.std.specs.Prelude.{slice_get}
+use Rattle.std.specs.List.{All}
+use Rattle.std.proofs.lemmas.List.Elements.{filter-append}
+use Rattle.std.proofs.lemmas.List.Sums.{length-filter, count_by-le-length}
+use Rattle.std.proofs.lemmas.Option.{same_Some}
+use Rattle.part_raw.specs.declared.tuple_ref.TupleRef.{TupleRef}
+use Rattle.plain_tables.specs.Joining.{Member, members_of}
+use Rattle.plain_tables.specs.Doing.{headings, joined_tables, shown_rows, shown_values}
+use Rattle.plain_tables.specs.declared.numbers.Place.{Place}
+use Rattle.plain_tables.specs.declared.resolved.Joined.{Joined}
+use Rattle.plain_tables.specs.declared.resolved.Query.{Query}
+use Rattle.mm_index.specs.Order.{IsRising}
+use Rattle.mm_index.proofs.Bags.{IsSameBag-refl}
+use Rattle.mm_relation.specs.State.{RelationState}
+use Rattle.mm_catalog.specs.State.{CatalogState}
+use Rattle.mm_catalog.specs.Seen.{database_of}
+use Rattle.mm_catalog.specs.Consistent.{IsConsistent}
+use Rattle.mm_catalog.proofs.Declared.{among_at}
+use Rattle.temp_list.specs.Reading.{HasColumns, passing, value_in}
+use Rattle.temp_list.specs.Lists.{ListState, IsRowOver, HasPlace, value_of, keys_cmp, relation_of}
+use Rattle.temp_list.proofs.ListLemmas.{place_read}
+use Rattle.temp_list.proofs.SelectLemmas.{passing_held}
+use Rattle.join_ops.specs.Joins.{single_rows}
+use Rattle.join_ops.proofs.JoinLemmas.{single_over}
+use Rattle.mm_session.specs.Members.{HasMembers, IsSourceOf, tables_at, joined_numbers, member_of, first_members}
+use Rattle.mm_session.specs.Shown.{places_shown, heading, list_values}
+use Rattle.mm_session.specs.Walked.{shown_row, IsWalk, AreColumns, rows_shown}
+use Rattle.mm_session.proofs.MemberLemmas.{map_map, map_same}
+use Rattle.mm_session.proofs.QueryLemmas.{key_source, source_columns, listing_over, singles_rise, single_lead}
+use Rattle.mm_session.proofs.SelectLemmas.{described_over, some_places, ordered_shown, names_shown}
+
+-- ---- one row more
+
+pub next_passes : {A : Type 0} (p : A → Bool) (xs : List A) (x : A) → p x ≡ true → filter p (xs ++ x ∷ []) ≡ filter p xs ++ x ∷ []
+next_passes p xs x so = filter-append p xs (x ∷ []) ∙ ap (λ b. filter p xs ++ cond b (x ∷ []) []) so
+
+pub next_fails : {A : Type 0} (p : A → Bool) (xs : List A) (x : A) → p x ≡ false → filter p (xs ++ x ∷ []) ≡ filter p xs
+next_fails p xs x so = filter-append p xs (x ∷ []) ∙ ap (λ b. filter p xs ++ cond b (x ∷ []) []) so ∙ append-nil (filter p xs)
+
+pub few_passing : {A : Type 0} (p : A → Bool) (front rest : List A) → length (filter p front) ≤ length (front ++ rest)
+few_passing p front rest = omega (arith, length-filter p front, count_by-le-length p front, length-append front rest)
+
+-- ---- what a query of one table shows
+
+-- a place of one table is a column of it
+alone : (relations : List RelationState) (n : ℕ) (s : RelationState) → slice_get relations n ≡ Some s → (place : Place) → HasPlace relations (n ∷ []) place
+    → (place.source ≡ 0) × (place.column.0 < length s.schema.columns)
+alone relations n s there place (t, at, within) = go place.source refl at
+  where
+    go : (k : ℕ) → place.source ≡ k → relation_of relations (n ∷ []) k ≡ Some t → (place.source ≡ 0) × (place.column.0 < length s.schema.columns)
+    go zero e at = (e, let same = ap (λ (u : RelationState). length u.schema.columns) (same_Some s t (sym there ∙ at)) in omega (arith, same, within))
+    go (suc k) e at = cc
+
+module _ (c : CatalogState) (ok : IsConsistent c) (query : Query) (walk : IsWalk c query) (s : RelationState) (there : slice_get c.relations query.source.table.0 ≡ Some s) where
+  abbrev n : ℕ
+  n = query.source.table.0
+
+  abbrev refs : List TupleRef
+  refs = passing c.relations s query.source.tests
+
+  of : IsSourceOf c query.source (record { 0 = 0 })
+  of = key_source c ok query.source walk.0.0.0 walk.0.0.1 walk.0.0.2.0
+
+  pub tests_there : HasColumns s query.source.tests
+  tests_there = source_columns c ok query.source (record { 0 = 0 }) of s there
+
+  abbrev listing : ListState
+  listing = record { sources = n ∷ []; rows = single_rows refs; columns = [] }
+
+  abbrev has : HasMembers c (n ∷ joined_numbers query.joins) (members_of (database_of c) query.source query.joins) listing
+  has =
+      let held = passing_held c.relations s (among_at c ok n s there).kept query.source.tests in
+      let none : query.joins ≡ [] = walk.1.1 in
+      record {
+        tables = ap (λ (js : List Joined). n ∷ joined_numbers js) (sym none);
+        over = listing_over c ok query.source (record { 0 = 0 }) of s there refs held;
+        ordered = single_rows refs;
+        each = subst (λ (js : List Joined). All (IsRowOver c.relations (n ∷ joined_numbers js)) (single_rows refs)) (sym none) (single_over c.relations n s there refs held);
+        same = IsSameBag-refl (single_rows refs);
+        rising = subst (λ (js : List Joined). IsRising (keys_cmp c.relations (n ∷ joined_numbers js)) (single_rows refs)) (sym none) (singles_rise c ok n s there query.source.tests);
+        lead = ap (λ (js : List Joined). map (member_of c (n ∷ joined_numbers js)) (single_rows refs)) none
+            ∙ single_lead c ok query.source (record { 0 = 0 }) of s there ∙ ap (members_of (database_of c) query.source) (sym none);
+      }
+
+  module _ (places : List Place) (shows : places ≡ places_shown (tables_at c (n ∷ [])) query.shown) where
+    pub places_over : All (HasPlace c.relations (n ∷ [])) places
+    places_over = (described_over c ok query walk.0 listing has places shows).columns
+
+    pub columns_over : AreColumns s places
+    columns_over = λ k d l. (alone c.relations n s there (get_or places k d) (places_over k d l)).1
+
+    pub places_some : 0 < length places
+    places_some = some_places c ok query walk.0 listing has places shows
+
+    pub heads_shown : map (heading (tables_at c (n ∷ []))) places ≡ headings (joined_tables (database_of c) query.source query.joins) query.shown
+    heads_shown = names_shown c ok query walk.0 listing has places shows (record listing { columns = places }) refl refl
+
+    pub walked_rows : map (shown_row c s places) refs ≡ rows_shown c query
+    walked_rows =
+        let members = members_of (database_of c) query.source query.joins in
+        map_same (shown_row c s places) (λ r. list_values c (record listing { columns = places }) (r ∷ [])) refs
+        (λ k d l. map_same (λ place. value_in c.relations s place.column.0 (get_or refs k d)) (value_of c.relations (n ∷ []) (get_or refs k d ∷ [])) places
+        (λ j e m. sym (one_value (get_or places j e) (get_or refs k d) (places_over j e m))))
+        ∙ sym (map_map (list_values c (record listing { columns = places })) (λ (r : TupleRef). r ∷ []) refs)
+        ∙ ordered_shown c ok query walk.0 listing has places shows
+        ∙ ap (λ way. shown_rows way query.shown members) (sym walk.1.0)
+      where
+        one_value : (place : Place) (r : TupleRef) → HasPlace c.relations (n ∷ []) place → value_of c.relations (n ∷ []) (r ∷ []) place ≡ value_in c.relations s place.column.0 r
+        one_value place r has =
+            let first = (alone c.relations n s there place has).0 in
+            place_read c.relations (n ∷ []) (r ∷ []) place s r (ap (λ k. relation_of c.relations (n ∷ []) k) first ∙ there) (ap (slice_get (r ∷ [])) first)

@@ -1,0 +1,55 @@
+-- A select of one table whose rows are written as a walk of its key finds them.
+use Rattle.std.specs.Prelude.{◌≡◌, ℕ, ◌<◌, false, List, [], ◌∷◌, ◌++◌, Option, Some, length, map, slice_get}
+use Rattle.std.specs.List.{All, flat_map}
+use Rattle.std.specs.Io.KnownBytes.{Appends}
+use Rattle.part_raw.specs.declared.tuple_ref.TupleRef.{TupleRef}
+use Rattle.plain_tables.specs.Csv.{block_text, row_record}
+use Rattle.plain_tables.specs.Tables.{Row}
+use Rattle.plain_tables.specs.Joining.{members_of}
+use Rattle.plain_tables.specs.Doing.{headings, joined_tables, shown_rows}
+use Rattle.plain_tables.specs.ResolvedLaws.{IsMeant, OfTable, AreTests, AreJoins}
+use Rattle.plain_tables.specs.declared.numbers.Place.{Place}
+use Rattle.plain_tables.specs.declared.resolved.Query.{Query}
+use Rattle.plain_tables.specs.declared.resolved.Resolved.TheVariants as resolved
+use Rattle.mm_relation.specs.State.{RelationState}
+use Rattle.mm_catalog.specs.State.{CatalogState}
+use Rattle.mm_catalog.specs.Seen.{database_of}
+use Rattle.temp_list.specs.Reading.{value_in, passing}
+use Rattle.mm_session.specs.Members.{HasMembers, joined_numbers}
+use Rattle.mm_session.specs.declared.execute.query.Members.{Members}
+use Rattle.mm_session.specs.declared.execute.query.Members.TheVariants as members
+
+-- the values that are shown of a row of one table
+abbrev pub shown_row : CatalogState → RelationState → List Place → TupleRef → Row
+shown_row c s places r = map (λ place. value_in c.relations s place.column.0 r) places
+
+-- the columns of the places are there
+abbrev pub AreColumns : RelationState → List Place → Type 0
+AreColumns s places = All (λ place. place.column.0 < length s.schema.columns) places
+
+-- the records of these rows come behind what was written
+abbrev pub WritesRows : CatalogState → RelationState → List Place → Option (List ℕ) → Option (List ℕ) → List TupleRef → Type 0
+WritesRows c s places before after rows = Appends before after (flat_map row_record (map (shown_row c s places) rows))
+
+-- The query is one of a table alone, whose rows are shown in the order of their keys.
+abbrev pub IsOrdered : Query → Type 0
+IsOrdered query = (query.distinct ≡ false) × (query.joins ≡ [])
+
+-- Such a query of these tables, which a walk answers.
+abbrev pub IsWalk : CatalogState → Query → Type 0
+IsWalk c query = IsMeant c.limits (database_of c) (resolved.Select query) × IsOrdered query
+
+-- the members of a query are at hand: those of a list, or a walk gives them
+abbrev pub AreAtHand : CatalogState → Query → Members → Type 0
+AreAtHand c query (members.Listed list) =
+    HasMembers c (query.source.table.0 ∷ joined_numbers query.joins) (members_of (database_of c) query.source query.joins) list
+AreAtHand c query members.Walked = IsOrdered query
+
+-- the rows that a query shows
+abbrev pub rows_shown : CatalogState → Query → List Row
+rows_shown c query = shown_rows query.distinct query.shown (members_of (database_of c) query.source query.joins)
+
+-- the page with the block of a query behind it, and how many rows that has
+pub record IsPageWith (c : CatalogState) (query : Query) (page whole : List ℕ) (count : ℕ) : Type 0 where
+  pub made : whole ≡ page ++ block_text (headings (joined_tables (database_of c) query.source query.joins) query.shown) (rows_shown c query)
+  pub counted : count ≡ length (rows_shown c query)
