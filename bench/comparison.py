@@ -12,6 +12,7 @@ from typing import NamedTuple
 
 TOP = pathlib.Path(__file__).resolve().parent.parent
 ROUNDS = 5
+PARTS = ["fill", "points", "reads", "joins", "blocks"]
 # About so many statements, and so many rows that are read, make a batch.
 STATEMENTS = 2_000
 READ = 200_000
@@ -82,7 +83,7 @@ class Program:
 def program():
     """The program as `./run` takes it: the released one where it is of these sources, else the one that is built first."""
     subprocess.run([TOP / "run", "--version"], check=True, stdout=subprocess.DEVNULL)
-    digest = subprocess.run([TOP / "release" / "digest"], check=True, stdout=subprocess.PIPE, text=True).stdout
+    digest = subprocess.run([TOP / "scripts" / "digest"], check=True, stdout=subprocess.PIPE, text=True).stdout
     released = TOP / "release" / "mmdb"
     is_released = (TOP / "release" / "mmdb.digests").read_text().startswith(digest)
     return released if is_released else TOP / "crates" / "mmdb" / "out" / "mmdb"
@@ -101,31 +102,46 @@ def alike(statements):
 
 
 class Figure(NamedTuple):
-    """What one statement took in mmdb and in sqlite3, or how much memory a row."""
+    """What one statement took in mmdb and in sqlite3, and in another mmdb where one runs beside them, or how much memory a row."""
 
     rows: int
     what: str
     ours: float
     theirs: float
     unit: str
+    before: float | None
 
     @property
     def ratio(self):
         return self.ours / self.theirs
 
+    @property
+    def change(self):
+        """What mmdb takes of what the other mmdb takes."""
+        return self.ours / self.before if self.before else None
+
 
 class Comparison:
-    """Both programs over tables of so many rows. Each figure is handed to `tell` once it is known."""
+    """The programs over tables of so many rows: mmdb, another mmdb where one is named, and sqlite3. Each figure is handed to `tell` once
+    it is known."""
 
-    def __init__(self, rows, folder, tell):
+    def __init__(self, rows, folder, tell, before=None):
         self.rows, self.folder, self.draw, self.told = rows, folder, random.Random(rows), tell
-        self.both = [Program([program()], OURS), Program(["sqlite3", ":memory:"], THEIRS)]
+        self.ours = [Program([each], OURS) for each in (program(), before) if each]
+        self.theirs = Program(["sqlite3", ":memory:"], THEIRS)
+
+    @property
+    def all(self):
+        return [*self.ours, self.theirs]
 
     def tell(self, what, figures, unit="µs"):
-        self.told(Figure(self.rows, what, *figures, unit))
+        *ours, theirs = figures
+        before = ours[1] if len(ours) > 1 else None
+        self.told(Figure(self.rows, what, ours[0], theirs, unit, before))
 
     def took(self, batches):
-        return [running.seconds(batch) for running, batch in zip(self.both, batches)]
+        ours, theirs = batches
+        return [running.seconds(ours) for running in self.ours] + [self.theirs.seconds(theirs)]
 
     def time(self, what, batches, count, before=None, rounds=ROUNDS):
         """Times batches of so many statements; before each, others are made that aren't timed."""
@@ -146,9 +162,9 @@ class Comparison:
         """Rows by keys in random order, under a declared tree and a declared hash, with a hundred texts."""
         texts = [self.text() for _ in range(100)]
         made = inserts("t", [(key, n, h, self.draw.choice(texts)) for key, n, h in zip(self.order(), self.order(), self.order())])
-        held = [running.memory() for running in self.both]
+        held = [running.memory() for running in self.all]
         self.time("insert", made, self.rows, rounds=1)
-        grown = [running.memory() - before for running, before in zip(self.both, held)]
+        grown = [running.memory() - before for running, before in zip(self.all, held)]
         self.tell("memory of a row", [bytes_grown / self.rows for bytes_grown in grown], "bytes")
 
     def points(self):
@@ -186,9 +202,14 @@ class Comparison:
         two = "select emp.name, dept.name, site.name from emp join dept on emp.dept = dept.id join site on dept.site = site.id"
         self.time("join of three tables", alike([two] * whole), whole)
 
+    def scan(self, what, condition):
+        whole = max(1, READ // self.rows)
+        self.time(what, alike([f"select * from loaded where {condition}"] * whole), whole)
+
     def blocks(self):
         rows = [(key, self.draw.randrange(100), self.text()) for key in self.order()]
         emptied = "delete loaded\n", "delete from loaded;\n"
+        self.time("insert of rows in rising order", inserts("loaded", sorted(rows)), self.rows, before=emptied, rounds=2)
         self.time("insert of the rows of a block", inserts("loaded", rows), self.rows, before=emptied, rounds=2)
         parts = [rows[at : at + ROWS_OF_A_BLOCK] for at in range(0, self.rows, ROWS_OF_A_BLOCK)]
         texts = ["id,n,s\n" + "".join(f"{key},{n},{s}\n" for key, n, s in part) for part in parts]
@@ -198,11 +219,17 @@ class Comparison:
         ours = "".join(f"load loaded {len(text)}\n{text}" for text in texts)
         theirs = "".join(f".import --csv --skip 1 {file} loaded\n" for file in files)
         self.time("load of a row", (ours, theirs), self.rows, before=emptied, rounds=3)
+        made, dropped = ("index loaded n tree\n", "create index loaded_n on loaded (n);\n"), ("drop index loaded n tree\n", "drop index loaded_n;\n")
+        self.took(made)
+        self.time("index of a row of a full table", made, self.rows, before=dropped, rounds=3)
+        self.took(dropped)
+        for share, condition in [("1 %", "n < 1"), ("10 %", "n < 10"), ("all", "n >= 0")]:
+            self.scan(f"scan in which {share} pass", condition)
         if sum(map(len, texts)) <= LONGEST_BLOCK:
             self.time("dump of a row", ("dump loaded\n", "select * from loaded;\n"), self.rows)
 
-    def run(self):
-        for part in [self.fill, self.points, self.reads, self.joins, self.blocks]:
-            part()
-        for running in self.both:
+    def run(self, parts):
+        for part in parts:
+            getattr(self, part)()
+        for running in self.all:
             running.end()
