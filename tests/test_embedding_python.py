@@ -153,7 +153,7 @@ class Calls(binding.WithDatabase):
             with self.subTest(line=line):
                 self.assertEqual(self.refused(number, call, *given).line, line)
         self.assertEqual(self.refused(41, self.db.load, "t", [(2,), (1,)]).text, "key exists (record 2)")
-        with self.assertRaisesRegex(mmdb.Refused, "^error 62 bad record 2: record 2: the field of id is x, "):
+        with self.assertRaisesRegex(mmdb.Refused, "^error 62 bad record 2: the field of id is x, "):
             self.db.load_csv("t", b"id\n2\nx\n")
         self.assertEqual(self.db.dump("t"), [[1]])
 
@@ -294,9 +294,9 @@ class Reasons(binding.WithDatabase):
             (41, there, self.db.execute, "insert dept (?, ?)", *rows[1]),
             (41, there, self.db.change, "insert dept (:id, :name)", {"id": 10, "name": "bags"}),
             (41, there, self.db.executemany, "insert dept (?, ?)", rows),
-            (41, f"record 2: {there}", self.db.load, "dept", rows),
-            (41, f"record 1: {there}", self.db.load_dicts, "dept", [{"name": "bags", "id": 10}]),
-            (41, f"record 1: {there}", self.db.load_csv, "dept", "id,name\n10,bags\n"),
+            (41, there, self.db.load, "dept", rows),
+            (41, there, self.db.load_dicts, "dept", [{"name": "bags", "id": 10}]),
+            (41, there, self.db.load_csv, "dept", "id,name\n10,bags\n"),
             (30, nowhere, self.db.select, "select * from emp"),
             (30, nowhere, self.db.load, "emp", []),
             (30, nowhere, self.db.load_dicts, "emp", []),

@@ -1,6 +1,6 @@
 """What a session keeps of memory for later, counted from outside: the room of its largest answer, and nothing of a block.
 A dump that is given up takes little more than its limit while it is made. A table that has shrunk keeps few nodes of what
-it grew to."""
+it grew to, and one that was emptied few slots."""
 
 import os
 import random
@@ -127,6 +127,8 @@ class Shrunk(Counted):
     ROUNDS = 3
     REFERENCE = 4
     FEW_NODES = 64 * 256
+    # The slots of four partitions, of a row of one column.
+    FEW_SLOTS = 4 * 256 * 64
 
     def rounds(self, *columns, indexes=()):
         """The bytes that are held in each round when the rows are there, when few are left, and when none is."""
@@ -144,10 +146,19 @@ class Shrunk(Counted):
         return [held[at : at + len(counts)] for at in range(0, len(held), len(counts))]
 
     def test_the_tree_of_the_key_gives_its_nodes_back(self):
-        """A row of a key alone takes its slot and its reference in the tree. The slots are kept."""
-        full, few, none = self.rounds(b"id")[0]
-        self.assertGreater(full - none, self.ROWS * self.REFERENCE)
-        self.assertLess(few - none, 2 * self.FEW_NODES)
+        """A row of a key alone takes its slot and its reference in the tree. Of the slots those are kept that stand before one of
+        the few rows."""
+        full, few, _ = self.rounds(b"id")[0]
+        self.assertGreater(full - few, (self.ROWS - self.LEFT) * self.REFERENCE)
+
+    def test_an_emptied_table_gives_its_slots_back(self):
+        """Measured against a table of one row, which came and went."""
+        table = [b"table marks (id int)\n", b"table t (id int)\n"]
+        answers = b"ok\nok\nok 1\nok 1\n" + MARKED
+        (without,) = self.held_over([*table, b"insert t (1)\n", b"delete t\n", MARK], answers)
+        for full, _, none in self.rounds(b"id"):
+            self.assertGreater(full - without, self.ROWS * 2 * self.REFERENCE)
+            self.assertLess(none - without, self.FEW_SLOTS + self.FEW_NODES)
 
     def test_a_declared_index_gives_back_what_it_grew_to(self):
         """In each round, measured against the same table without it. A hash keeps memory for some thousand nodes, and the

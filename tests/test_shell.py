@@ -91,7 +91,7 @@ class Piped(WithFolder):
     def test_blocks(self):
         lines = ["table t (id int)", "load t 9", "id", "1", "2", "1", "load t 5", "id", "7", "load t 99", "tables"]
         refused = [
-            "line 6: error 41 key exists (record 3): record 3: record 1 has the key 1 too",
+            "line 6: error 41 key exists (record 3): record 1 has the key 1 too",
             "line 11: error 13 block cut short: the line asks for 99 bytes, and 7 have come",
         ]
         self.check(lines, [], refused)
@@ -495,7 +495,6 @@ class Loads(WithShell):
                     self.do(shell, f"table t (id {kind})", *(f"insert t ({key})" for key in old))
                     before = shell.db.execute("select * from t")
                     path = self.file("t.csv", "\n".join(["id", *keys, last]) + "\n")
-                    reason = f"record {re.search('[0-9]{3}', why)[0]}: {reason}"
                     self.do(shell, f".load t {path}", refused=f"{why}; no row of {path} went in: {reason}")
                     self.assertEqual(shell.db.execute("select * from t"), before)
 

@@ -21,10 +21,10 @@ _LEAST_RANGE, _MOST_RANGES = 4096, 256
 
 _TEXT_KEY = re.compile(rb'(?:"((?:[^"]|"")*)"|([^"\n]*))\n')
 _DIGITS = re.compile(r"\d+")
-# Where the words of a refusal tell of a record, and its reason of one or two. What else it quotes stands behind that.
+# Where the words of a refusal tell of a record, and its reason of another one. What else it quotes stands behind that.
 _OF_A_RECORD = re.compile(r"record \d+\)?\Z")
-_OF_RECORDS = re.compile(r"\Arecord \d+: (?:record \d+ )?")
-_KEY_IN_TABLE = re.compile(r"\A(record \d+): (\w+) has a row with the key ")
+_OF_ANOTHER_RECORD = re.compile(r"\Arecord \d+ ")
+_KEY_IN_TABLE = re.compile(r"\A(\w+) has a row with the key ")
 
 
 def spelled(key: Key) -> str:
@@ -160,7 +160,7 @@ def _in_file(why: mmdb.Refused, before: int) -> mmdb.Refused:
 
     reason = why.reason
     if reason:
-        reason = _OF_RECORDS.sub(in_file, _KEY_IN_TABLE.sub(r"\1: \2 or an earlier record has the key ", reason))
+        reason = _OF_ANOTHER_RECORD.sub(in_file, _KEY_IN_TABLE.sub(r"\1 or an earlier record has the key ", reason))
     return mmdb.Refused(why.number, _OF_A_RECORD.sub(in_file, why.text), why.line, reason)
 
 

@@ -219,11 +219,11 @@ fn a_refusal_tells_why() {
         ),
         (
             db.load("t", [(3, "a"), (2, "b")]).err(),
-            "record 2: t has a row with the key 2",
+            "t has a row with the key 2",
         ),
         (
             db.load_csv("t", "id,s\nx,a").err(),
-            "record 1: the field of id is x, and that is no integer of 64 bits",
+            "the field of id is x, and that is no integer of 64 bits",
         ),
         (db.load("u", [(1, "a")]).err(), "u is no table"),
         (db.dump("u").err(), "u is no table"),
