@@ -19,6 +19,7 @@ pub mod ResolvedLaws
 pub mod Resolving
 pub mod SequenceLends
 pub mod Spelling
+pub mod Stored
 pub mod Tables
 pub mod Values
 pub mod WrittenLaws

@@ -1,11 +1,14 @@
 //! The laws of the definitions. Each is the contract of a function that does nothing.
 
-ghost use Rattle.std.specs.Prelude.{◌≡◌, ◌↔◌, ℕ, List, [], ◌++◌, codes};
+ghost use Rattle.std.specs.Prelude.{◌≡◌, ◌↔◌, ℕ, ℤ, Some, None, List, [], ◌++◌, codes, FitsSigned};
+ghost use Rattle.std.specs.Int.{w64};
 ghost use Rattle.std.specs.Cmp.{IsTotalOrder};
-ghost use Rattle.std.specs.declared.cmp.Ordering.TheVariants.{Equal};
+ghost use Rattle.std.specs.declared.cmp.Ordering.TheVariants.{Less, Equal};
 ghost use Rattle.plain_tables.specs.declared.value.Value.{Value};
 ghost use Rattle.plain_tables.specs.declared.command.Limits.{Limits};
+ghost use Rattle.plain_tables.specs.declared.value.Value.TheVariants.{Int};
 ghost use Rattle.plain_tables.specs.Values.{value_cmp};
+ghost use Rattle.plain_tables.specs.Stored.{link_value, link_number};
 ghost use Rattle.plain_tables.specs.Hashes.{hash_of};
 ghost use Rattle.plain_tables.specs.Databases.{Database};
 
@@ -13,6 +16,13 @@ ghost use Rattle.plain_tables.specs.Databases.{Database};
 pub fn values_are_ordered()
     ensures total { IsTotalOrder value_cmp }
     ensures exact { (x y : Value) → (value_cmp x y ≡ Equal) ↔ (x ≡ y) }
+{}
+
+/// A link's number is read back, and links are ordered by their numbers, behind every integer of 64 bits.
+pub fn links_are_integers()
+    ensures read_back { (n : ℕ) → link_number (link_value n) ≡ Some n }
+    ensures above { (n : ℕ) (z : ℤ) → FitsSigned w64 z → value_cmp (Int z) (link_value n) ≡ Less }
+    ensures alone { (z : ℤ) → FitsSigned w64 z → link_number (Int z) ≡ None }
 {}
 
 /// Equal values have equal hashes.

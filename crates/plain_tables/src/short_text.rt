@@ -4,11 +4,11 @@ ghost use Rattle.std.specs.Prelude.{◌≡◌, ◌≤◌, ◌↔◌, length, IsS
 
 use std::marker::Model;
 
-// The most bytes of a short text. With its length and the mark beside it in `Text` they take 24 bytes, so a text of
-// either form is as large as a `String`, and a value of a row no larger than with one.
-const MOST: usize = 22;
+// The most bytes of a short text. With its length and the mark beside it in `Text` or in a stored value they take 16
+// bytes.
+const MOST: usize = 14;
 
-/// A text of at most 22 bytes, which lie in the value itself. Contracts see the bytes alone.
+/// A text of at most 14 bytes, which lie in the value itself. Contracts see the bytes alone.
 #[derive(Drop)]
 pub struct ShortText {
     length: u8,
@@ -22,13 +22,13 @@ impl Model for ShortText {
 
     ghost view = { λ s. take s.length s.bytes };
 
-    ghost invariant = { λ s. (s.length ≤ 22) × ∥ IsUtf8 (take s.length s.bytes) ∥₁ };
+    ghost invariant = { λ s. (s.length ≤ 14) × ∥ IsUtf8 (take s.length s.bytes) ∥₁ };
 }
 
 impl ShortText {
     /// A copy of a text, if it is short.
     pub fn from_str(text: &str) -> Option<ShortText>
-        ensures short { IsSome result ↔ (length text.now ≤ 22) }
+        ensures short { IsSome result ↔ (length text.now ≤ 14) }
         ensures copy { IfSome result (λ copy. copy ≡ text.now) }
     {
         let length = text.len();

@@ -19,12 +19,12 @@ pub const LONGEST_TEXT: usize = 1024;
 
 // Where the bytes of a text lie.
 #[derive(Drop)]
-enum Kept {
+pub enum Kept {
     Short(ShortText),
     Long(Box<String>),
 }
 
-/// A text, of which contracts see the bytes alone. One of at most 22 bytes takes no memory, and a longer one lies
+/// A text, of which contracts see the bytes alone. One of at most 14 bytes takes no memory, and a longer one lies
 /// behind a box. Texts are ordered by their bytes.
 #[derive(Drop)]
 pub struct Text {
@@ -42,10 +42,12 @@ impl Model for Text {
 }
 
 impl Text {
-    /// A copy of a text. It takes no memory where the text has at most 22 bytes.
+    ghost use Rattle.plain_tables.specs.Kept.{kept_bytes};
+
+    /// A copy of a text. It takes no memory where the text has at most 14 bytes.
     pub fn from_str(alloc: Global, text: &str) -> Result<Text, NoMemory>
         ensures copy { IfOk result (λ copy. copy ≡ text.now) }
-        ensures short { length text.now ≤ 22 → IsOk result }
+        ensures short { length text.now ≤ 14 → IsOk result }
     {
         let kept = match ShortText::from_str(text) {
             Some(short) => Kept::Short(short),
@@ -62,6 +64,14 @@ impl Text {
             Kept::Short(text) => text.as_str(),
             Kept::Long(text) => text.as_str(),
         }
+    }
+
+    // The form in which it is kept.
+    pub(crate) fn into_kept(self) -> Kept
+        ensures { kept_bytes result ≡ self }
+    {
+        let Text { kept } = self;
+        kept
     }
 
     /// Its bytes, which are UTF-8.

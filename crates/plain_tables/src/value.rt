@@ -1,6 +1,10 @@
 //! What a field of a row holds.
 
+ghost use Rattle.std.specs.Prelude.{◌≡◌};
+
 use crate::Text;
+use crate::seen_value::SeenValue;
+use crate::sought_value::SoughtValue;
 use std::cmp::Ordering;
 
 /// Null, an integer or a text. Null stands before integers, and integers before texts; integers are ordered
@@ -10,6 +14,19 @@ pub enum Value {
     Null,
     Int(i64),
     Text(Text),
+}
+
+impl Value {
+    /// The value, to be looked for.
+    pub fn sought(&self) -> SoughtValue<'_>
+        ensures { result ≡ self.now }
+    {
+        SoughtValue::new(match self {
+            Value::Null => SeenValue::Null,
+            Value::Int(z) => SeenValue::Int(*z),
+            Value::Text(text) => SeenValue::Text(text.as_str()),
+        })
+    }
 }
 
 impl PartialEq for Value {
