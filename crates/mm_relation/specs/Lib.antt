@@ -6,6 +6,7 @@ pub mod Indexes
 pub mod Agreement
 pub mod Seen
 pub mod Settings
+pub mod Cells
 pub mod Changes
 pub mod Searching
 pub mod Declaring

@@ -14,6 +14,7 @@ use crate::indexes::{insert_set, remove_set};
 use crate::linked_keys::LinkedKeys;
 use crate::row::Cell;
 use crate::rows::Rows;
+use crate::stored_cell::StoredCell;
 use no_memory::NoMemory;
 use part_raw::TupleRef;
 use plain_tables::{ColumnNumber, Sequence, Text, Value};
@@ -42,7 +43,7 @@ fn copy_of_cell(alloc: Global, cell: &Cell) -> Result<Cell, NoMemory>
 fn pile_copies(
     alloc: Global,
     sets: &[(ColumnNumber, Cell)],
-    copies: &mut Vec<Cell>,
+    copies: &mut Vec<StoredCell>,
 ) -> Result<(), NoMemory>
     ensures { OnOk result (copies.new.items ≡ piled sets.now copies.old.items) }
 {
@@ -50,7 +51,8 @@ fn pile_copies(
         return Ok(());
     };
     pile_copies(alloc, rest, copies)?;
-    copies.push(copy_of_cell(alloc, cell)?)?;
+    let copy = copy_of_cell(alloc, cell)?;
+    copies.push(StoredCell::pack(copy))?;
     Ok(())
 }
 
@@ -59,7 +61,7 @@ pub fn copies_for(
     alloc: Global,
     sets: &[(ColumnNumber, Cell)],
     count: usize,
-) -> Result<Vec<Cell>, NoMemory>
+) -> Result<Vec<StoredCell>, NoMemory>
     ensures { IfOk result (λ copies. copies.items ≡ pile count sets.now) }
 {
     let mut copies = Vec::new(alloc);
@@ -70,7 +72,7 @@ pub fn copies_for(
 }
 
 // Takes the copy on top off the pile.
-fn top_of(copies: &mut Vec<Cell>) -> Cell
+fn top_of(copies: &mut Vec<StoredCell>) -> StoredCell
     requires { 0 < length copies.old.items }
     ensures { copies.old.items ≡ copies.new.items ++ result ∷ [] }
 {
@@ -81,7 +83,12 @@ fn top_of(copies: &mut Vec<Cell>) -> Cell
 }
 
 // Sets cells in a row, each to the copy on top of the pile.
-fn write_cells(rows: &mut Rows, r: TupleRef, sets: &[(ColumnNumber, Cell)], copies: &mut Vec<Cell>)
+fn write_cells(
+    rows: &mut Rows,
+    r: TupleRef,
+    sets: &[(ColumnNumber, Cell)],
+    copies: &mut Vec<StoredCell>,
+)
     requires held { IsSome (finite.get rows.old.tuples r) }
     requires columns { (t : Row) → finite.get rows.old.tuples r ≡ Some t → All (λ s. (0 < s.0.0) × (s.0.0 ≤ length t.cells)) sets.now }
     requires ready { IsPiled sets.now copies.old.items }
@@ -104,7 +111,7 @@ fn change_row<R: LinkedKeys>(
     links: &R,
     r: TupleRef,
     sets: &[(ColumnNumber, Cell)],
-    copies: &mut Vec<Cell>,
+    copies: &mut Vec<StoredCell>,
 )
     requires held { IsSome (finite.get rows.old.tuples r) }
     requires few { finite.len rows.old.tuples ≤ 16777216 }
@@ -133,7 +140,7 @@ pub fn change_each<R: LinkedKeys>(
     links: &R,
     rs: &[TupleRef],
     sets: &[(ColumnNumber, Cell)],
-    copies: &mut Vec<Cell>,
+    copies: &mut Vec<StoredCell>,
 )
     requires held { All (λ r. IsSome (finite.get rows.old.tuples r)) rs.now }
     requires once { AllPairs (λ q r. q ≢ r) rs.now }

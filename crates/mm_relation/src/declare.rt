@@ -51,6 +51,7 @@ impl Relation {
             rows,
             by_key: Tree::new(alloc),
             indexes: Sequence::new(alloc),
+            packed: Vec::new(alloc),
         })
     }
 

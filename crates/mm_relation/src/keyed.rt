@@ -10,15 +10,15 @@ ghost use Rattle.mm_relation.specs.State.{IsKeyed, HasKey};
 
 use crate::order::KeyOrder;
 use crate::probe::KeyProbe;
-use crate::row::Cell;
 use crate::rows::Rows;
+use crate::stored_cell::StoredCell;
 use crate::tree::Tree;
 use mm_index::OrderProbe;
 use part_raw::TupleRef;
 
 // Takes the row of these cells in unless its key is there, by one search. There is room for it. The cells are gone either
 // way, and the vector keeps its memory.
-pub fn put_row(rows: &mut Rows, by_key: &mut Tree, row: &mut Vec<Cell>) -> Option<TupleRef>
+pub fn put_row(rows: &mut Rows, by_key: &mut Tree, row: &mut Vec<StoredCell>) -> Option<TupleRef>
     requires free { 0 < rows.old.free }
     requires width { length row.old.items ≡ rows.old.width }
     requires starts { StartsWithKey row.old.items }
@@ -37,9 +37,10 @@ pub fn put_row(rows: &mut Rows, by_key: &mut Tree, row: &mut Vec<Cell>) -> Optio
     ensures moved { row.new.items ≡ [] }
 {
     let r = rows.put(row);
+    let sought = rows.key(r).sought();
     let mut probe = KeyProbe {
         rows,
-        sought: rows.key(r),
+        sought: &sought,
         asked: 0,
     };
     if by_key.insert_unless_found(&mut probe, r).is_some() {

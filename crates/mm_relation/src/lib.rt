@@ -35,6 +35,7 @@ mod relations;
 mod row;
 mod rows;
 mod spares;
+mod stored_cell;
 mod tree;
 mod view;
 

@@ -3,7 +3,7 @@ ghost use Rattle.std.specs.Prelude.{◌≡◌, Some, IsSome};
 ghost use Rattle.mm_relation.specs.Reading.{Keys};
 
 use part_raw::TupleRef;
-use plain_tables::{ColumnNumber, Value};
+use plain_tables::{ColumnNumber, StoredValue};
 
 /// Where links lead: the key of the row that each names.
 pub trait LinkedKeys {
@@ -11,7 +11,7 @@ pub trait LinkedKeys {
     ghost keys: { Self → Keys };
 
     /// The key of the row that a link in this column names.
-    fn key_of(&self, column: ColumnNumber, to: TupleRef) -> &Value
+    fn key_of(&self, column: ColumnNumber, to: TupleRef) -> &StoredValue
         requires { IsSome (keys self.now column.0 to) }
         ensures { keys self.now column.0 to ≡ Some result.now };
 }

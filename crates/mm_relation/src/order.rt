@@ -4,11 +4,11 @@ ghost use Rattle.mm_relation.specs.Reading.{value_at, key_at};
 ghost use Rattle.mm_relation.specs.Order.{KeysDiffer, column_cmp};
 
 use crate::linked_keys::LinkedKeys;
-use crate::row::Cell;
 use crate::rows::Rows;
+use crate::stored_cell::SeenCell;
 use mm_index::TupleOrder;
 use part_raw::TupleRef;
-use plain_tables::{ColumnNumber, Value};
+use plain_tables::{ColumnNumber, StoredValue};
 use std::cmp::Ordering;
 
 // The value in a column, read through a link where there is one.
@@ -17,13 +17,13 @@ pub fn value_in<'a, R: LinkedKeys>(
     others: &'a R,
     column: ColumnNumber,
     r: TupleRef,
-) -> &'a Value
+) -> &'a StoredValue
     requires { IsSome (value_at (R.keys others.now) column.0 rows.now.tuples r) }
     ensures { value_at (R.keys others.now) column.0 rows.now.tuples r ≡ Some result.now }
 {
-    match &rows.cells(r)[column.0] {
-        Cell::Held(value) => value,
-        Cell::Link { to } => others.key_of(column, *to),
+    match rows.cells(r)[column.0].seen() {
+        SeenCell::Held(value) => value,
+        SeenCell::Link { to } => others.key_of(column, to),
     }
 }
 

@@ -12,9 +12,9 @@ use crate::index::IndexOn;
 use crate::indexes::{insert, remove, reserve, shed_spares};
 use crate::keyed::{put_row, take_row};
 use crate::linked_keys::LinkedKeys;
-use crate::row::Cell;
 use crate::rows::Rows;
 use crate::spares::{shed_rows, shed_tree};
+use crate::stored_cell::StoredCell;
 use crate::tree::Tree;
 use no_memory::NoMemory;
 use part_raw::TupleRef;
@@ -52,7 +52,7 @@ pub fn place<R: LinkedKeys>(
     by_key: &mut Tree,
     indexes: &mut Sequence<IndexOn>,
     links: &R,
-    row: &mut Vec<Cell>,
+    row: &mut Vec<StoredCell>,
 ) -> Option<TupleRef>
     requires free { 0 < rows.old.free }
     requires width { length row.old.items ≡ rows.old.width }

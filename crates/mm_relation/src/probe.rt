@@ -8,14 +8,14 @@ ghost use Rattle.mm_relation.specs.State.{no_keys};
 use crate::rows::Rows;
 use mm_index::Probe;
 use part_raw::TupleRef;
-use plain_tables::Value;
+use plain_tables::SoughtValue;
 use std::cmp::Ordering;
 
 /// The row with this key. It reads no link, and counts the rows whose keys it compared (`asked`).
 #[derive(Drop)]
 pub struct KeyProbe<'a> {
     pub(crate) rows: &'a Rows,
-    pub(crate) sought: &'a Value,
+    pub(crate) sought: &'a SoughtValue<'a>,
     pub(crate) asked: u64,
 }
 
@@ -28,7 +28,7 @@ impl<'a> Probe for KeyProbe<'a> {
 
     fn place(&mut self, r: TupleRef) -> Ordering {
         self.asked = self.asked.saturating_add(1);
-        self.rows.key(r).cmp(self.sought)
+        self.rows.key(r).compare(self.sought)
     }
 
     fn asked(&self) -> u64 {

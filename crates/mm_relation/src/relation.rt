@@ -14,24 +14,32 @@ use crate::refusal::RowRefusal;
 use crate::relations::{Links, Relations};
 use crate::row::Cell;
 use crate::rows::Rows;
+use crate::stored_cell::StoredCell;
 use crate::tree::{Tree, Walk};
 use crate::view::RowView;
 use lin_hash::Chain;
 use mm_index::Probe;
 use no_memory::NoMemory;
 use part_raw::{MAX_TUPLES, TupleRef};
-use plain_tables::{ColumnNumber, IndexKind, MOST_ROWS, Schema, Sequence, Value};
+use plain_tables::{
+    ColumnNumber, IndexKind, MOST_ROWS, Schema, Sequence, SoughtValue, StoredValue, Value,
+};
 use std::alloc::Global;
 use std::marker::Model;
 use ttree::{TreeShape, table_tree_shape};
 
-// The cells of a row, its key's the first.
-fn row_of(key: Value, cells: Sequence<Cell>) -> Result<Vec<Cell>, NoMemory>
-    ensures { IfOk result (λ row. row.items ≡ Held key ∷ cells) }
+// Packs the cells of a row in place of what is there, its key's the first.
+fn pack_row(packed: &mut Vec<StoredCell>, key: Value, cells: Sequence<Cell>) -> Result<(), NoMemory>
+    requires { length cells + 1 < 2 ^ 64 }
+    ensures { OnOk result (packed.new.items ≡ Held key ∷ cells) }
 {
-    let mut row = cells.into_vec();
-    row.insert(0, Cell::Held(key))?;
-    Ok(row)
+    packed.clear();
+    packed.reserve(cells.len() + 1)?;
+    packed.push_reserved(StoredCell::pack(Cell::Held(key)));
+    for cell in cells.into_vec() {
+        packed.push_reserved(StoredCell::pack(cell));
+    }
+    Ok(())
 }
 
 /// The rows of one table in a store of their own, under the tree of their keys and every declared index.
@@ -43,6 +51,8 @@ pub struct Relation {
     pub(crate) rows: Rows,
     pub(crate) by_key: Tree,
     pub(crate) indexes: Sequence<IndexOn>,
+    // Where the cells of a row are packed on their way into the store. It keeps its memory from row to row.
+    pub(crate) packed: Vec<StoredCell>,
 }
 
 impl Model for Relation {
@@ -84,7 +94,7 @@ impl Relation {
     ghost use Rattle.lin_hash.specs.Rest.{chain_rest};
 
     /// The key of a row.
-    pub fn key(&self, r: TupleRef) -> &Value
+    pub fn key(&self, r: TupleRef) -> &StoredValue
         requires { IsSome (finite.get self.now.rows r) }
         ensures { key_at self.now.rows r ≡ Some result.now }
     {
@@ -92,7 +102,7 @@ impl Relation {
     }
 
     /// The key of a row, where the reference leads to one.
-    pub fn key_if_held(&self, r: TupleRef) -> Option<&Value>
+    pub fn key_if_held(&self, r: TupleRef) -> Option<&StoredValue>
         ensures held { IfSome result (λ key. key_at self.now.rows r ≡ Some key.now) }
         ensures none { IfNone result (key_at self.now.rows r ≡ None) }
     {
@@ -265,7 +275,7 @@ impl Relation {
 
     /// A probe for the row with this key, which was not asked yet. Handed to `find`, it tells afterwards how many rows' keys
     /// were compared.
-    pub fn key_probe<'a>(&'a self, key: &'a Value) -> KeyProbe<'a>
+    pub fn key_probe<'a>(&'a self, key: &'a SoughtValue<'a>) -> KeyProbe<'a>
         ensures rows { result.rows.now.tuples ≡ self.now.rows }
         ensures sought { result.sought.now ≡ key.now }
         ensures asked { result.asked ≡ 0 }
@@ -281,7 +291,7 @@ impl Relation {
     }
 
     /// The row with this key.
-    pub fn find_key(&self, key: &Value) -> Option<TupleRef>
+    pub fn find_key(&self, key: &SoughtValue<'_>) -> Option<TupleRef>
         ensures found { IfSome result (λ r. key_at self.now.rows r ≡ Some key.now) }
         ensures none { IfNone result ((r : TupleRef) → key_at self.now.rows r ≢ Some key.now) }
     {
@@ -305,19 +315,19 @@ impl Relation {
         ensures told { IsToldRightly self.old key result }
     {
         if self.rows.len() >= u64::from(MOST_ROWS) {
-            let there = self.find_key(&key).is_some();
+            let there = self.find_key(&key.sought()).is_some();
             return Err(if there {
                 RowRefusal::KeyExists
             } else {
                 RowRefusal::Full
             });
         }
-        let Ok(mut row) = row_of(key, cells) else {
-            return Err(RowRefusal::NoMemory);
-        };
         if make_room(&mut self.rows, &mut self.by_key, &mut self.indexes).is_err() {
             return Err(RowRefusal::NoMemory);
         }
+        let Ok(()) = pack_row(&mut self.packed, key, cells) else {
+            return Err(RowRefusal::NoMemory);
+        };
         let links = Links {
             targets: self.targets.as_slice(),
             others,
@@ -327,7 +337,7 @@ impl Relation {
             &mut self.by_key,
             &mut self.indexes,
             &links,
-            &mut row,
+            &mut self.packed,
         )
         .ok_or(RowRefusal::KeyExists)
     }

@@ -5,7 +5,7 @@ ghost use Rattle.mm_relation.specs.State.{RelationState, linked_keys};
 use crate::linked_keys::LinkedKeys;
 use crate::relation::Relation;
 use part_raw::TupleRef;
-use plain_tables::{ColumnNumber, TableNumber, Value};
+use plain_tables::{ColumnNumber, StoredValue, TableNumber};
 
 /// A list of relations: those that come before one of them, and that its links lead into.
 pub trait Relations {
@@ -24,7 +24,7 @@ pub fn linked_key<'a, R: Relations>(
     others: &'a R,
     column: ColumnNumber,
     to: TupleRef,
-) -> &'a Value
+) -> &'a StoredValue
     requires { IsSome (linked_keys targets.now (R.tables others.now) column.0 to) }
     ensures { linked_keys targets.now (R.tables others.now) column.0 to ≡ Some result.now }
 {
@@ -44,7 +44,7 @@ pub struct Links<'a, R> {
 impl<'a, R: Relations> LinkedKeys for Links<'a, R> {
     ghost keys = { λ l. linked_keys l.targets.now (R.tables l.others.now) };
 
-    fn key_of(&self, column: ColumnNumber, to: TupleRef) -> &Value {
+    fn key_of(&self, column: ColumnNumber, to: TupleRef) -> &StoredValue {
         linked_key(self.targets, self.others, column, to)
     }
 }

@@ -6,17 +6,17 @@ ghost use Rattle.mm_relation.specs.Changes.{with_referrers};
 ghost use Rattle.mm_relation.specs.Reading.{key_at};
 ghost use Rattle.mm_relation.specs.Rows.{Row, StartsWithKey, row_of, row_store};
 
-use crate::row::Cell;
+use crate::stored_cell::{SeenCell, StoredCell};
 use no_memory::NoMemory;
 use part_raw::{MAX_TUPLES, Partitions, TupleRef};
-use plain_tables::{ColumnNumber, Value};
+use plain_tables::{ColumnNumber, StoredValue};
 use std::alloc::Global;
 use std::marker::Model;
 
 // A store of rows, each under a reference that is its own while it is held.
 #[derive(Drop)]
 pub struct Rows {
-    store: Partitions<Cell>,
+    store: Partitions<StoredCell>,
 }
 
 impl Model for Rows {
@@ -75,7 +75,7 @@ impl Rows {
     }
 
     // Moves the cells of a row in, with no links that name it. It takes no memory, and the vector keeps its own.
-    pub fn put(&mut self, row: &mut Vec<Cell>) -> TupleRef
+    pub fn put(&mut self, row: &mut Vec<StoredCell>) -> TupleRef
         requires free { 0 < self.old.free }
         requires width { length row.old.items ≡ self.old.width }
         requires keyed { StartsWithKey row.old.items }
@@ -103,7 +103,7 @@ impl Rows {
     }
 
     // The cells of a row, its key's the first.
-    pub fn cells(&self, r: TupleRef) -> &[Cell]
+    pub fn cells(&self, r: TupleRef) -> &[StoredCell]
         requires { IsSome (finite.get self.now.tuples r) }
         ensures row { (t : Row) → finite.get self.now.tuples r ≡ Some t → row_of result.now t.referrers ≡ t }
         ensures keyed { StartsWithKey result.now }
@@ -112,13 +112,13 @@ impl Rows {
     }
 
     // The key of a row.
-    pub fn key(&self, r: TupleRef) -> &Value
+    pub fn key(&self, r: TupleRef) -> &StoredValue
         requires { IsSome (finite.get self.now.tuples r) }
         ensures { key_at self.now.tuples r ≡ Some result.now }
     {
-        match &self.cells(r)[0] {
-            Cell::Held(key) => key,
-            Cell::Link { to: _ } => unreachable!(),
+        match self.cells(r)[0].seen() {
+            SeenCell::Held(key) => key,
+            SeenCell::Link { to: _ } => unreachable!(),
         }
     }
 
@@ -140,7 +140,7 @@ impl Rows {
     }
 
     // Sets the cell of a row in one column.
-    pub fn set_cell(&mut self, r: TupleRef, column: ColumnNumber, cell: Cell)
+    pub fn set_cell(&mut self, r: TupleRef, column: ColumnNumber, cell: StoredCell)
         requires held { IsSome (finite.get self.old.tuples r) }
         requires column { (t : Row) → finite.get self.old.tuples r ≡ Some t → (0 < column.0) × (column.0 ≤ length t.cells) }
         ensures width { self.new.width ≡ self.old.width }

@@ -4,15 +4,15 @@ ghost use Rattle.mm_relation.specs.Reading.{row_value, link_in};
 ghost use Rattle.mm_relation.specs.State.{linked_keys};
 
 use crate::relations::{Relations, linked_key};
-use crate::row::Cell;
+use crate::stored_cell::{SeenCell, StoredCell};
 use part_raw::TupleRef;
-use plain_tables::{ColumnNumber, Value};
+use plain_tables::{ColumnNumber, StoredValue};
 use std::marker::Model;
 
 /// A row that is lent, with the tables that its links lead into. It is references alone: nothing is copied.
 #[derive(Drop)]
 pub struct RowView<'a> {
-    pub(crate) cells: &'a [Cell],
+    pub(crate) cells: &'a [StoredCell],
     pub(crate) referrers: &'a u64,
     pub(crate) targets: &'a [Option<usize>],
 }
@@ -30,14 +30,14 @@ impl<'a> Model for RowView<'a> {
 
 impl<'a> RowView<'a> {
     /// The value in a column. In a reference column it is the key of the row that is named, or null.
-    pub fn value<R: Relations>(&self, column: ColumnNumber, others: &'a R) -> &'a Value
+    pub fn value<R: Relations>(&self, column: ColumnNumber, others: &'a R) -> &'a StoredValue
         requires { IsSome (row_value (linked_keys self.now.targets (R.tables others.now)) column.0 self.now.row) }
         ensures { row_value (linked_keys self.now.targets (R.tables others.now)) column.0 self.now.row ≡ Some result.now }
     {
         let cells = self.cells;
-        match &cells[column.0] {
-            Cell::Held(value) => value,
-            Cell::Link { to } => linked_key(self.targets, others, column, *to),
+        match cells[column.0].seen() {
+            SeenCell::Held(value) => value,
+            SeenCell::Link { to } => linked_key(self.targets, others, column, to),
         }
     }
 
@@ -45,9 +45,9 @@ impl<'a> RowView<'a> {
     pub fn link(&self, column: ColumnNumber) -> Option<TupleRef>
         ensures { result ≡ link_in column.0 self.now.row }
     {
-        match self.cells.get(column.0)? {
-            Cell::Held(_) => None,
-            Cell::Link { to } => Some(*to),
+        match self.cells.get(column.0)?.seen() {
+            SeenCell::Held(_) => None,
+            SeenCell::Link { to } => Some(to),
         }
     }
 

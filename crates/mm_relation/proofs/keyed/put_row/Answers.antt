@@ -1,5 +1,5 @@
 use Rattle.ttree.specs.Held.{items_of_tree}
-use Rattle.std.proofs.Common.{◌∙◌, sym, ap, arith, is_some}
+use Rattle.std.proofs.Common.{◌∙◌, sym, ap, arith, Some, is_some}
 use Rattle.std.specs.FinMap.{get, remove}
 use Rattle.part_raw.proofs.Tuples.{get-insert_same}
 use Rattle.mm_relation.proofs.KeyOrder.{covered, in_order, key_found, keyed_with, bag_with, no_key, got_key, from_some, from_none, taken_again}
@@ -20,7 +20,7 @@ insert_unless_found-requires c = (
         tt,
         (
           rw c.put-r.ensures.tuples (covered c.args.rows.now.tuples (items_of_tree c.args.by_key.now) c.put-r.result (row_of c.args.row.now.items 0) c.requires.keyed c.put-r.ensures.fresh),
-          rw (got_key c.args.rows.now.tuples c.put-r.new.self.tuples c.put-r.result (row_of c.args.row.now.items 0) c.key.result.now c.put-r.ensures.tuples c.key.ensures, c.put-r.ensures.tuples) (in_order c.args.rows.now.tuples (items_of_tree c.args.by_key.now) c.put-r.result (row_of c.args.row.now.items 0) c.requires.keyed c.put-r.ensures.fresh),
+          rw (got_key c.args.rows.now.tuples c.put-r.new.self.tuples c.put-r.result (row_of c.args.row.now.items 0) c.sought-sought.result c.put-r.ensures.tuples (c.key.ensures ∙ ap Some (sym c.sought-sought.ensures)), c.put-r.ensures.tuples) (in_order c.args.rows.now.tuples (items_of_tree c.args.by_key.now) c.put-r.result (row_of c.args.row.now.items 0) c.requires.keyed c.put-r.ensures.fresh),
         ),
       ),
     ),
@@ -35,7 +35,7 @@ returns-then-is_some-clause-keyed c =
 pub returns-then-is_some-clause-has_key : goal.returns-then-is_some-clause-has_key
 returns-then-is_some-clause-has_key c =
     key_found c.args.rows.now.tuples (items_of_tree c.args.by_key.now) c.put-r.result (row_of c.args.row.now.items 0) c.requires.keyed c.put-r.ensures.fresh c.insert_unless_found.result (sym c.if-is_some.ensures) c.insert_unless_found.ensures.held
-    (rw (got_key c.args.rows.now.tuples c.put-r.new.self.tuples c.put-r.result (row_of c.args.row.now.items 0) c.key.result.now c.put-r.ensures.tuples c.key.ensures, c.put-r.ensures.tuples) at c.insert_unless_found.ensures.found)
+    (rw (got_key c.args.rows.now.tuples c.put-r.new.self.tuples c.put-r.result (row_of c.args.row.now.items 0) c.sought-sought.result c.put-r.ensures.tuples (c.key.ensures ∙ ap Some (sym c.sought-sought.ensures)), c.put-r.ensures.tuples) at c.insert_unless_found.ensures.found)
 
 pub returns-then-is_some-clause-kept : goal.returns-then-is_some-clause-kept
 returns-then-is_some-clause-kept c =
@@ -45,18 +45,18 @@ pub returns-clause-keyed : goal.returns-clause-keyed
 returns-clause-keyed c =
     rw c.put-r.ensures.tuples
     (keyed_with c.args.rows.now.tuples (items_of_tree c.args.by_key.now) c.put-r.result (row_of c.args.row.now.items 0) c.requires.keyed c.put-r.ensures.fresh
-    (from_none c.insert_unless_found.result (sym c.if-is_some.ensures) (rw (got_key c.args.rows.now.tuples c.put-r.new.self.tuples c.put-r.result (row_of c.args.row.now.items 0) c.key.result.now c.put-r.ensures.tuples c.key.ensures, c.put-r.ensures.tuples) at c.insert_unless_found.ensures.none))
+    (from_none c.insert_unless_found.result (sym c.if-is_some.ensures) (rw (got_key c.args.rows.now.tuples c.put-r.new.self.tuples c.put-r.result (row_of c.args.row.now.items 0) c.sought-sought.result c.put-r.ensures.tuples (c.key.ensures ∙ ap Some (sym c.sought-sought.ensures)), c.put-r.ensures.tuples) at c.insert_unless_found.ensures.none))
     (items_of_tree c.insert_unless_found.new.self)
-    (from_none c.insert_unless_found.result (sym c.if-is_some.ensures) (rw (got_key c.args.rows.now.tuples c.put-r.new.self.tuples c.put-r.result (row_of c.args.row.now.items 0) c.key.result.now c.put-r.ensures.tuples c.key.ensures, c.put-r.ensures.tuples) at c.insert_unless_found.ensures.inserted)))
+    (from_none c.insert_unless_found.result (sym c.if-is_some.ensures) (rw (got_key c.args.rows.now.tuples c.put-r.new.self.tuples c.put-r.result (row_of c.args.row.now.items 0) c.sought-sought.result c.put-r.ensures.tuples (c.key.ensures ∙ ap Some (sym c.sought-sought.ensures)), c.put-r.ensures.tuples) at c.insert_unless_found.ensures.inserted)))
 
 pub returns-clause-listed : goal.returns-clause-listed
 returns-clause-listed c =
     bag_with c.args.rows.now.tuples (items_of_tree c.args.by_key.now) c.put-r.result (row_of c.args.row.now.items 0) c.requires.keyed c.put-r.ensures.fresh
-    (from_none c.insert_unless_found.result (sym c.if-is_some.ensures) (rw (got_key c.args.rows.now.tuples c.put-r.new.self.tuples c.put-r.result (row_of c.args.row.now.items 0) c.key.result.now c.put-r.ensures.tuples c.key.ensures, c.put-r.ensures.tuples) at c.insert_unless_found.ensures.none))
+    (from_none c.insert_unless_found.result (sym c.if-is_some.ensures) (rw (got_key c.args.rows.now.tuples c.put-r.new.self.tuples c.put-r.result (row_of c.args.row.now.items 0) c.sought-sought.result c.put-r.ensures.tuples (c.key.ensures ∙ ap Some (sym c.sought-sought.ensures)), c.put-r.ensures.tuples) at c.insert_unless_found.ensures.none))
     (items_of_tree c.insert_unless_found.new.self)
-    (from_none c.insert_unless_found.result (sym c.if-is_some.ensures) (rw (got_key c.args.rows.now.tuples c.put-r.new.self.tuples c.put-r.result (row_of c.args.row.now.items 0) c.key.result.now c.put-r.ensures.tuples c.key.ensures, c.put-r.ensures.tuples) at c.insert_unless_found.ensures.inserted))
+    (from_none c.insert_unless_found.result (sym c.if-is_some.ensures) (rw (got_key c.args.rows.now.tuples c.put-r.new.self.tuples c.put-r.result (row_of c.args.row.now.items 0) c.sought-sought.result c.put-r.ensures.tuples (c.key.ensures ∙ ap Some (sym c.sought-sought.ensures)), c.put-r.ensures.tuples) at c.insert_unless_found.ensures.inserted))
 
 pub returns-clause-no_key : goal.returns-clause-no_key
 returns-clause-no_key c =
     no_key c.args.rows.now.tuples (items_of_tree c.args.by_key.now) c.put-r.result (row_of c.args.row.now.items 0) c.requires.keyed c.put-r.ensures.fresh
-    (from_none c.insert_unless_found.result (sym c.if-is_some.ensures) (rw (got_key c.args.rows.now.tuples c.put-r.new.self.tuples c.put-r.result (row_of c.args.row.now.items 0) c.key.result.now c.put-r.ensures.tuples c.key.ensures, c.put-r.ensures.tuples) at c.insert_unless_found.ensures.none))
+    (from_none c.insert_unless_found.result (sym c.if-is_some.ensures) (rw (got_key c.args.rows.now.tuples c.put-r.new.self.tuples c.put-r.result (row_of c.args.row.now.items 0) c.sought-sought.result c.put-r.ensures.tuples (c.key.ensures ∙ ap Some (sym c.sought-sought.ensures)), c.put-r.ensures.tuples) at c.insert_unless_found.ensures.none))

@@ -19,16 +19,16 @@ pub key_of-requires : goal.key_of-requires
 key_of-requires g c =
     let is = read_there (g.R.LinkedKeys.keys c.args.others.now) c.args.column.0 c.args.rows.now.tuples c.args.r c.cells.result.now c.requires c.cells.ensures.row in
     let readable = subst IsSome is.1 c.requires in
-    subst IsSome (value_there (g.R.LinkedKeys.keys c.args.others.now) c.args.column.0 is.0 c.cells.result.now c.cells.ensures.keyed readable c.index-cells-column.result _ (sym c.index-cells-column.is ∙ c.in-Link.is)) readable
+    subst IsSome (value_there (g.R.LinkedKeys.keys c.args.others.now) c.args.column.0 is.0 c.cells.result.now c.cells.ensures.keyed readable c.index-cells-column.result _ (sym c.index-cells-column.is ∙ sym c.in-Link.ensures)) readable
 
 pub returns-in-Held : goal.returns-in-Held
 returns-in-Held g c =
     let is = read_there (g.R.LinkedKeys.keys c.args.others.now) c.args.column.0 c.args.rows.now.tuples c.args.r c.cells.result.now c.requires c.cells.ensures.row in
     let readable = subst IsSome is.1 c.requires in
-    is.1 ∙ value_there (g.R.LinkedKeys.keys c.args.others.now) c.args.column.0 is.0 c.cells.result.now c.cells.ensures.keyed readable c.index-cells-column.result _ (sym c.index-cells-column.is ∙ c.in-Held.is)
+    is.1 ∙ value_there (g.R.LinkedKeys.keys c.args.others.now) c.args.column.0 is.0 c.cells.result.now c.cells.ensures.keyed readable c.index-cells-column.result _ (sym c.index-cells-column.is ∙ sym c.in-Held.ensures)
 
 pub returns-in-Link : goal.returns-in-Link
 returns-in-Link g c =
     let is = read_there (g.R.LinkedKeys.keys c.args.others.now) c.args.column.0 c.args.rows.now.tuples c.args.r c.cells.result.now c.requires c.cells.ensures.row in
     let readable = subst IsSome is.1 c.requires in
-    is.1 ∙ value_there (g.R.LinkedKeys.keys c.args.others.now) c.args.column.0 is.0 c.cells.result.now c.cells.ensures.keyed readable c.index-cells-column.result _ (sym c.index-cells-column.is ∙ c.in-Link.is) ∙ c.key_of.ensures
+    is.1 ∙ value_there (g.R.LinkedKeys.keys c.args.others.now) c.args.column.0 is.0 c.cells.result.now c.cells.ensures.keyed readable c.index-cells-column.result _ (sym c.index-cells-column.is ∙ sym c.in-Link.ensures) ∙ c.key_of.ensures

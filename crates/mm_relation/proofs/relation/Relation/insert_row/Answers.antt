@@ -33,7 +33,7 @@ place-requires-clause-serve g c =
 
 pub place-requires-clause-width : goal.place-requires-clause-width
 place-requires-clause-width g c =
-    let all : length c.in-Ok.row.items ≡ length (Held c.args.key ∷ c.args.cells) = ap length c.in-Ok.ensures in
+    let all : length c.pack_row.new.packed.items ≡ length (Held c.args.key ∷ c.args.cells) = ap length c.in-Ok.ensures in
     let wide : length c.args.cells + 1 ≡ length c.self.inside.targets.items = rw (← c.self.view_is) at c.requires.width in
     omega (arith, all, wide, c.self.invariant.0.width, c.self.invariant.1, c.make_room.ensures.width)
 
@@ -48,7 +48,7 @@ invariant_of-self-2 g c =
     let few : len c.make_room.new.rows.tuples < 16777216 = omega (arith, counted, c.len.ensures, c.if-len-from.false) in (
       kept_on c.self.inside.schema c.self.inside.targets.items c.self.inside.declared.items c.make_room.new.rows.tuples c.make_room.new.by_key.tree c.make_room.new.indexes (subst IsKept (sym same) c.self.invariant.0)
           c.place.new.rows.tuples c.place.new.by_key.tree c.place.new.indexes c.place.ensures.keyed
-          (few_after c.make_room.new.rows.tuples c.place.new.rows.tuples (row_of c.in-Ok.row.items 0) c.place.result c.place.ensures.fresh c.place.ensures.put c.place.ensures.kept few)
+          (few_after c.make_room.new.rows.tuples c.place.new.rows.tuples (row_of c.pack_row.new.packed.items 0) c.place.result c.place.ensures.fresh c.place.ensures.put c.place.ensures.kept few)
           c.place.ensures.declared,
       c.place.ensures.width ∙ c.make_room.ensures.width ∙ c.self.invariant.1,
     )

@@ -20,16 +20,16 @@ pub linked_key-requires : goal.linked_key-requires
 linked_key-requires g c =
     let keys = linked_keys c.self.inside.targets.now (g.R.Relations.tables c.args.others.now) in
     let readable = rw (← c.self.view_is) at c.requires in
-    subst IsSome (value_there keys c.args.column.0 c.self.inside.referrers.now c.self.inside.cells.now c.self.invariant readable c.index-cells-column.result _ (sym c.index-cells-column.is ∙ c.in-Link.is)) readable
+    subst IsSome (value_there keys c.args.column.0 c.self.inside.referrers.now c.self.inside.cells.now c.self.invariant readable c.index-cells-column.result _ (sym c.index-cells-column.is ∙ sym c.in-Link.ensures)) readable
 
 pub returns-in-Held : goal.returns-in-Held
 returns-in-Held g c =
     let keys = linked_keys c.self.inside.targets.now (g.R.Relations.tables c.args.others.now) in
     let readable = rw (← c.self.view_is) at c.requires in
-    rw (← c.self.view_is) (value_there keys c.args.column.0 c.self.inside.referrers.now c.self.inside.cells.now c.self.invariant readable c.index-cells-column.result _ (sym c.index-cells-column.is ∙ c.in-Held.is))
+    rw (← c.self.view_is) (value_there keys c.args.column.0 c.self.inside.referrers.now c.self.inside.cells.now c.self.invariant readable c.index-cells-column.result _ (sym c.index-cells-column.is ∙ sym c.in-Held.ensures))
 
 pub returns-in-Link : goal.returns-in-Link
 returns-in-Link g c =
     let keys = linked_keys c.self.inside.targets.now (g.R.Relations.tables c.args.others.now) in
     let readable = rw (← c.self.view_is) at c.requires in
-    rw (← c.self.view_is) (value_there keys c.args.column.0 c.self.inside.referrers.now c.self.inside.cells.now c.self.invariant readable c.index-cells-column.result _ (sym c.index-cells-column.is ∙ c.in-Link.is) ∙ c.linked_key.ensures)
+    rw (← c.self.view_is) (value_there keys c.args.column.0 c.self.inside.referrers.now c.self.inside.cells.now c.self.invariant readable c.index-cells-column.result _ (sym c.index-cells-column.is ∙ sym c.in-Link.ensures) ∙ c.linked_key.ensures)
