@@ -64,7 +64,8 @@ fn put_keys(alloc: Global, relation: &mut Relation) -> Result<(), RowRefusal>
 // How many keys are compared in a search for this one.
 fn compared(relation: &Relation, key: u32) -> u64 {
     let key = Value::Int(i64::from(key));
-    let mut probe = relation.key_probe(&key);
+    let sought = key.sought();
+    let mut probe = relation.key_probe(&sought);
     let _ = relation.find(&mut probe);
     probe.asked()
 }
