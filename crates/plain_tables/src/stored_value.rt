@@ -118,7 +118,10 @@ impl StoredValue {
     pub fn compare(&self, sought: &SoughtValue<'_>) -> Ordering
         ensures { result ≡ value_cmp self.now sought.now }
     {
-        self.seen().compare(sought.seen())
+        match (&self.content, sought.seen()) {
+            (Content::Int(a), SeenValue::Int(b)) => a.cmp(&b),
+            (_, other) => self.seen().compare(other),
+        }
     }
 }
 
@@ -178,6 +181,9 @@ impl Ord for StoredValue {
     ghost matches_eq = { Prim.search (comparing, rules) };
 
     fn cmp(&self, other: &StoredValue) -> Ordering {
-        self.seen().compare(other.seen())
+        match (&self.content, &other.content) {
+            (Content::Int(a), Content::Int(b)) => a.cmp(b),
+            _ => self.seen().compare(other.seen()),
+        }
     }
 }
