@@ -5,6 +5,7 @@ pub mod Hung
 pub mod Joined
 pub mod Levels
 pub mod Linking
+pub mod Longest
 pub mod ChainLemmas
 pub mod Moves
 pub mod Placed

@@ -10,7 +10,7 @@ count_by-append test xs ys = sum_by-append (λ x. cond (test x) 1 0) xs ys
 pub count_by-cons : {A : Type 0} (test : A → Bool) (x : A) (xs : List A) → count_by test (x ∷ xs) ≡ cond (test x) 1 0 + count_by test xs
 count_by-cons test x xs = sum_by-cons (λ y. cond (test y) 1 0) x xs
 
-count_by-map : {A B : Type 0} (test : B → Bool) (f : A → B) (xs : List A) → count_by test (map f xs) ≡ count_by (λ x. test (f x)) xs
+pub count_by-map : {A B : Type 0} (test : B → Bool) (f : A → B) (xs : List A) → count_by test (map f xs) ≡ count_by (λ x. test (f x)) xs
 count_by-map test f [] = refl
 count_by-map test f (x ∷ xs) =
     count_by-cons test (f x) (map f xs) ∙ ap (λ n. cond (test (f x)) 1 0 + n) (count_by-map test f xs) ∙ sym (count_by-cons (λ y. test (f y)) x xs)

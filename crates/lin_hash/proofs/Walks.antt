@@ -83,6 +83,15 @@ entries_from-step (suc n) nodes l p is h =
 pub entries_from-smaller : (n : ℕ) (nodes : List Node) (l : NodeLink) (p : ℕ) → leads_to l ≡ Some p → EndsWithin n nodes l → length (entries_from n nodes (next_at nodes p)) < length (entries_from n nodes l)
 entries_from-smaller n nodes l p is h = let e = ap length (entries_from-step n nodes l p is h) in omega (arith, e)
 
+-- no more nodes than it may
+pub entries_from-short : (n : ℕ) (nodes : List Node) (l : NodeLink) → length (entries_from n nodes l) ≤ n
+entries_from-short zero nodes l = omega arith
+entries_from-short (suc n) nodes l =
+    elim (leads_to l) as (λ o. length (list_at (λ p. entry_of (node_at nodes p) ∷ entries_from n nodes (next_at nodes p)) o) ≤ suc n) [
+      | None ↦ omega arith
+      | Some p ↦ let rest = entries_from-short n nodes (next_at nodes p) in omega (arith, rest)
+    ]
+
 -- an entry of the hash, and one of another
 pub with_hash-hit : (hash : ℕ) (n : Node) (es : List (ℕ × TupleRef)) → n.hash ≡ hash → with_hash hash (entry_of n ∷ es) ≡ n.reference ∷ with_hash hash es
 with_hash-hit hash n es e = rw (eq-eqb n.hash hash e) refl

@@ -6,5 +6,6 @@ pub mod Filled
 pub mod Held
 pub mod Nodes
 pub mod Rest
+pub mod Shape
 pub mod Tables
 pub mod Walks

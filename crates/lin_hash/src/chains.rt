@@ -2,9 +2,11 @@
 //!
 //! A bucket is a chain: a link to its first node, and from each node to the next. In what order a chain has its nodes
 //! matters to nothing above.
-ghost use Rattle.std.specs.Prelude.{◌≡◌, ◌<◌, ◌≤◌, ◌^◌, List, [], length, slice_set, IfSome};
+ghost use Rattle.std.specs.Prelude.{◌≡◌, ◌<◌, ◌≤◌, ◌^◌, List, [], length, slice_set, IfSome, EachIndex};
+ghost use Rattle.std.specs.List.{SomeIndex};
 ghost use Rattle.lin_hash.specs.Address.{bucket_of};
 ghost use Rattle.lin_hash.specs.Nodes.{link_to, node_at, head_at, leading_to, next_at, relinked_behind, relinked_head, entries_of};
+ghost use Rattle.lin_hash.specs.Walks.{EndsWithin, walked_from};
 ghost use Rattle.lin_hash.specs.Chains.{Placed, placed_at, AreHung, IsChain, HoldsEntry, Visits, IsBehind, StandsAt};
 
 use crate::address::Address;
@@ -105,4 +107,34 @@ pub fn unlink(nodes: &mut Nodes, heads: &mut [NodeLink], bucket: usize, at: Posi
         Some(place) => nodes.lead(place, next),
         None => heads[bucket] = next,
     }
+}
+
+// How many nodes there are from a link on.
+fn walked(nodes: &Nodes, first: NodeLink) -> usize
+    requires few { length nodes.now.items < 2 ^ 32 }
+    requires ends { EndsWithin (length nodes.now.items) nodes.now.items first }
+    ensures { result ≡ walked_from nodes.now.items first }
+{
+    let mut count = 0;
+    let mut rest = first;
+    while let Some(place) = rest.place() {
+        rest = nodes.get(place).next;
+        count += 1;
+    }
+    count
+}
+
+// How many nodes the longest chain has.
+pub fn longest(nodes: &Nodes, heads: &[NodeLink]) -> usize
+    requires few { length nodes.now.items < 2 ^ 32 }
+    requires some { 0 < length heads.now }
+    requires end { EachIndex heads.now (λ i. EndsWithin (length nodes.now.items) nodes.now.items (head_at heads.now i)) }
+    ensures within { EachIndex heads.now (λ i. walked_from nodes.now.items (head_at heads.now i) ≤ result) }
+    ensures reached { SomeIndex heads.now (λ i. walked_from nodes.now.items (head_at heads.now i) ≡ result) }
+{
+    let mut longest = 0;
+    for head in heads {
+        longest = longest.max(walked(nodes, *head));
+    }
+    longest
 }

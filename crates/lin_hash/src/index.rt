@@ -8,10 +8,12 @@ ghost use Rattle.std.specs.Prelude.{◌≡◌, ◌+◌, ◌*◌, ◌^◌, ◌-�
 ghost use Rattle.mm_index.specs.Bag.{IsSameBag, with_hash};
 ghost use Rattle.lin_hash.specs.Held.{StaysOrDoubles, table_entries, table_nodes, table_heads, table_listed, table_buckets};
 ghost use Rattle.lin_hash.specs.Rest.{chain_rest};
+ghost use Rattle.lin_hash.specs.Shape.{HasHashShape, IsLongestChain};
 
 use crate::address::FIRST_BUCKETS;
 use crate::chain::Chain;
 use crate::node::NodeLink;
+use crate::shape::HashShape;
 use crate::table::Table;
 use mm_index::ExactIndex;
 use no_memory::NoMemory;
@@ -84,6 +86,28 @@ impl LinHash {
     {
         match &self.table {
             Some(table) => table.nodes(),
+            None => 0,
+        }
+    }
+
+    /// How it stands. It goes along each chain once, and takes no memory.
+    pub fn shape(&self) -> HashShape
+        ensures told { HasHashShape self.now.entries result }
+        ensures buckets { result.buckets ≡ self.now.buckets }
+    {
+        HashShape {
+            items: self.len,
+            buckets: self.buckets(),
+            longest: self.longest_chain(),
+        }
+    }
+
+    // How many entries the longest chain has.
+    fn longest_chain(&self) -> usize
+        ensures { IsLongestChain self.now.buckets self.now.entries result }
+    {
+        match &self.table {
+            Some(table) => table.longest_chain(),
             None => 0,
         }
     }

@@ -22,7 +22,9 @@ mod growing;
 mod index;
 mod node;
 mod nodes;
+mod shape;
 mod table;
 
 pub use chain::Chain;
 pub use index::LinHash;
+pub use shape::HashShape;

@@ -7,10 +7,11 @@ ghost use Rattle.std.specs.Prelude.{◌≡◌, ◌+◌, ◌-◌, ◌*◌, ◌^�
 ghost use Rattle.mm_index.specs.Bag.{IsSameBag, with_hash};
 ghost use Rattle.lin_hash.specs.Held.{StaysOrDoubles};
 ghost use Rattle.lin_hash.specs.Rest.{chain_rest};
+ghost use Rattle.lin_hash.specs.Shape.{IsLongestChain};
 
 use crate::address::{Address, FIRST_BUCKETS};
 use crate::chain::Chain;
-use crate::chains::{Position, before, find, link, link_from, unlink};
+use crate::chains::{Position, before, find, link, link_from, longest, unlink};
 use crate::growing::reserve_by_doubling;
 use crate::node::{Node, NodeLink};
 use crate::nodes::Nodes;
@@ -178,6 +179,13 @@ impl Table {
     {
         let bucket = self.address.bucket(hash);
         Chain::new(hash, self.nodes.as_blocks(), self.heads[bucket])
+    }
+
+    // How many entries the longest chain has.
+    pub fn longest_chain(&self) -> usize
+        ensures { IsLongestChain self.now.buckets self.now.entries result }
+    {
+        longest(&self.nodes, self.heads.as_slice())
     }
 
     // Puts an entry into the bucket of its hash.
