@@ -1,8 +1,6 @@
 //! The declared indexes of a relation, all together, in the order of their declaration.
 ghost use Rattle.std.specs.Prelude.{◌≡◌, ◌==◌, ◌||◌, ◌&&◌, ℕ, ◌<◌, ◌≤◌, max, length, slice_index_or, map, OnOk, All};
 ghost use Rattle.std.specs.List.{list_any};
-ghost use Rattle.lin_hash.specs.Rest.{chain_rest};
-ghost use Rattle.mm_index.specs.Bag.{IsSameBag, with_hash};
 ghost use Rattle.mm_relation.specs.declared.index.IndexOn.{IndexOn};
 ghost use Rattle.mm_relation.specs.Order.{KeysDiffer};
 ghost use Rattle.mm_relation.specs.Declaring.{is_index};
@@ -16,7 +14,7 @@ use crate::numbers::DeclaredIndex;
 use crate::row::Cell;
 use crate::rows::Rows;
 use crate::tree::Tree;
-use lin_hash::Chain;
+use lin_hash::LinHash;
 use mm_index::ExactIndex;
 use no_memory::NoMemory;
 use part_raw::TupleRef;
@@ -240,16 +238,16 @@ pub fn tree_on(indexes: &[IndexOn], column: ColumnNumber) -> &Tree
     }
 }
 
-// The chain of the first hash on this column.
-pub fn chain_on<'a>(indexes: &'a [IndexOn], column: ColumnNumber, hash: u64) -> Chain<'a>
+// The first hash on this column.
+pub fn hash_on(indexes: &[IndexOn], column: ColumnNumber) -> &LinHash
     requires { HasHashColumn column.0 (hashes_of (map seen indexes.now)) }
-    ensures { IsSameBag (chain_rest result) (with_hash hash (entries_on column.0 (hashes_of (map seen indexes.now)))) }
+    ensures { result.now.entries ≡ entries_on column.0 (hashes_of (map seen indexes.now)) }
 {
     let Some((first, rest)) = indexes.split_first() else {
         unreachable!()
     };
     match &first.index {
-        Index::Hash(held) if first.column == column => held.chain(hash),
-        _ => chain_on(rest, column, hash),
+        Index::Hash(hash) if first.column == column => hash,
+        _ => hash_on(rest, column),
     }
 }

@@ -39,7 +39,7 @@ mod stored_cell;
 mod tree;
 mod view;
 
-pub use lin_hash::Chain;
+pub use lin_hash::{Chain, HashShape};
 pub use linked_keys::LinkedKeys;
 pub use mm_index::Probe;
 pub use numbers::DeclaredIndex;

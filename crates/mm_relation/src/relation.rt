@@ -4,7 +4,7 @@ ghost use Rattle.mm_relation.specs.declared.row.Cell.TheVariants.{Held};
 
 use crate::change::{change_each, copies_for};
 use crate::index::IndexOn;
-use crate::indexes::{chain_on, is_declared, reserve, tree_on};
+use crate::indexes::{hash_on, is_declared, reserve, tree_on};
 use crate::laws::a_relation_is_kept;
 use crate::numbers::DeclaredIndex;
 use crate::parts::{displace, make_room, place};
@@ -17,7 +17,7 @@ use crate::rows::Rows;
 use crate::stored_cell::StoredCell;
 use crate::tree::{Tree, Walk};
 use crate::view::RowView;
-use lin_hash::Chain;
+use lin_hash::{Chain, HashShape, LinHash};
 use mm_index::Probe;
 use no_memory::NoMemory;
 use part_raw::{MAX_TUPLES, TupleRef};
@@ -92,6 +92,7 @@ impl Relation {
     ghost use Rattle.mm_index.specs.Range.{NeverFalls, from_range, in_range};
     ghost use Rattle.ttree.specs.Held.{rest_of};
     ghost use Rattle.lin_hash.specs.Rest.{chain_rest};
+    ghost use Rattle.lin_hash.specs.Shape.{HasHashShape};
 
     /// The key of a row.
     pub fn key(&self, r: TupleRef) -> &StoredValue
@@ -217,6 +218,25 @@ impl Relation {
         table_tree_shape(self.tree(column))
     }
 
+    // The hash on a column.
+    fn hash(&self, column: ColumnNumber) -> &LinHash
+        requires { HasHash self.now column.0 }
+        ensures { result.now.entries ≡ entries_of self.now column.0 }
+    {
+        hash_on(self.indexes.as_slice(), column)
+    }
+
+    /// How the hash on a column stands, the first declared one: its references, its buckets, and the longest chain of a bucket.
+    pub fn hash_shape(&self, column: ColumnNumber) -> HashShape
+        requires { HasHash self.now column.0 }
+        ensures told { HasHashShape (entries_of self.now column.0) result }
+        // It has each row once.
+        ensures rows { (keys : Keys) → IsCurrent keys self.now → result.items ≡ finite.len self.now.rows }
+    {
+        a_relation_is_kept(self);
+        self.hash(column).shape()
+    }
+
     /// The rows in the order of a column with a tree, from the first that does not stand below the probe's range.
     pub fn walk_column<P: Probe>(&self, column: ColumnNumber, probe: &mut P) -> Walk<'_>
         requires has_tree { HasTree self.now column.0 }
@@ -255,7 +275,7 @@ impl Relation {
         requires { HasHash self.now column.0 }
         ensures { IsSameBag (chain_rest result) (with_hash hash (entries_of self.now column.0)) }
     {
-        chain_on(self.indexes.as_slice(), column, hash)
+        self.hash(column).chain(hash)
     }
 
     /// A row in the probe's range, by one search of the tree of the key.
