@@ -1,5 +1,5 @@
 -- What an option or a result has.
-use Rattle.std.proofs.Common.{Err, IsSome, None, Option, Some, ap, is_some, refl, true, ◌≡◌}
+use Rattle.std.proofs.Common.{Err, IsSome, None, Option, Some, ap, false, is_some, refl, sym, true, ◌≡◌}
 use Rattle.std.proofs.lemmas.Bool.{false≢true}
 use Rattle.std.proofs.lemmas.Option.{none-some, same_Some}
 use Rattle.std.specs.Option.{option_and_then, option_map, option_map_or}
@@ -31,6 +31,10 @@ option_map_or_satisfies P f (Some x) otherwise old new = new x refl
 pub is_some-Some : {X : Type 0} (o : Option X) → is_some o ≡ true → (x : X) × (o ≡ Some x)
 is_some-Some None h = absurd (false≢true h)
 is_some-Some (Some x) h = (x, refl)
+
+pub none_from_is_some : {X : Type 0} (o : Option X) → is_some o ≡ false → o ≡ None
+none_from_is_some None h = refl
+none_from_is_some (Some x) h = absurd (false≢true (sym h))
 
 -- what gives something to what asks further has something itself
 pub and_then-Some : {X Y : Type 0} (f : X → Option Y) (o : Option X) → IsSome (option_and_then f o) → (x : X) × (o ≡ Some x) × IsSome (f x)

@@ -1,5 +1,5 @@
 -- What is found in a map whose tuples are seen as something else, and how it follows the map.
-use Rattle.std.proofs.Common.{◌≡◌, Bool, true, false, cond, List, [], ◌∷◌, map, length, Option, Some, None, IsSome, refl, sym, ap, ◌∙◌, subst}
+use Rattle.std.proofs.Common.{◌≡◌, Bool, true, false, cond, List, [], ◌∷◌, map, length, Option, Some, None, IsSome, is_some, refl, sym, ap, ◌∙◌, subst}
 use Rattle.std.specs.Prelude.{◌&&◌, T}
 use Rattle.std.specs.Option.{option_map}
 use Rattle.std.specs.Ordering.{is_lt, eq_by_cmp}
@@ -10,6 +10,7 @@ use Rattle.part_raw.specs.declared.tuple_ref.TupleRef.{TupleRef}
 use Rattle.part_raw.specs.TupleRefs.{ref_cmp}
 use Rattle.part_raw.specs.Store.{Tuples}
 use Rattle.part_raw.specs.Mapped.{mapped}
+use Rattle.common_lemmas.proofs.Options.{is_some-option_map}
 use Rattle.part_raw.proofs.Refs.{ref_cmp_total}
 use Rattle.part_raw.proofs.Tuples.{same_tuples}
 
@@ -62,10 +63,6 @@ module _ {X Y : Type 0} (f : X → Y) where
       get-mapped (remove tuples r) q ∙ ap (option_map f) (get-remove ref_cmp_total tuples r q) ∙ none_or (eq_by_cmp ref_cmp q r) (get tuples q)
       ∙ ap (cond (eq_by_cmp ref_cmp q r) None) (sym (get-mapped tuples q)) ∙ sym (get-remove ref_cmp_total (mapped f tuples) r q))
 
-  some_seen : (o : Option X) → IsSome (option_map f o) → IsSome o
-  some_seen None held = held
-  some_seen (Some x) held = refl
-
   -- what is held there is held in the map
   pub held-mapped : (tuples : Tuples X) (r : TupleRef) → IsSome (get (mapped f tuples) r) → IsSome (get tuples r)
-  held-mapped tuples r held = some_seen (get tuples r) (subst IsSome (get-mapped tuples r) held)
+  held-mapped tuples r held = sym (is_some-option_map f (get tuples r)) ∙ ap is_some (sym (get-mapped tuples r)) ∙ held

@@ -130,16 +130,6 @@ module _ {T : Type 0} where
             ∙ sym (get-remove_other (tuples_of blocks) (ref_to part slot) q differs)
       ])
 
-  -- the same of the slot that a reference names
-  pub tuples-rewritten : (blocks : Blocks T) (slots new : List (Option T)) (r : TupleRef) (tuple : T)
-      → Writes blocks slots new (part_of r) (slot_of r) (Some tuple) → tuples_of (set blocks (part_of r) new) ≡ insert (tuples_of blocks) r tuple
-  tuples-rewritten blocks slots new r tuple w =
-      tuples-written blocks slots new (part_of r) (slot_of r) tuple w ∙ ap (λ q. insert (tuples_of blocks) q tuple) (ref_to-itself r)
-
-  pub tuples-taken : (blocks : Blocks T) (slots new : List (Option T)) (r : TupleRef)
-      → Writes blocks slots new (part_of r) (slot_of r) None → tuples_of (set blocks (part_of r) new) ≡ remove (tuples_of blocks) r
-  tuples-taken blocks slots new r w = tuples-freed blocks slots new (part_of r) (slot_of r) w ∙ ap (remove (tuples_of blocks)) (ref_to-itself r)
-
   -- a vacant block adds nothing
   pub tuples-push : (blocks : Blocks T) (new : List (Option T)) → AreSmall blocks → IsVacant new → tuples_of (blocks ++ new ∷ []) ≡ tuples_of blocks
   tuples-push blocks new small vacant = same_tuples _ _ (λ q. get-tuples_of (blocks ++ new ∷ []) q (small_pushed blocks small) ∙ pushed blocks (part_of q) (slot_of q) ∙ sym (get-tuples_of blocks q small))
@@ -155,10 +145,6 @@ module _ {T : Type 0} where
       pushed [] (suc part) slot = refl
       pushed (slots ∷ rest) zero slot = refl
       pushed (slots ∷ rest) (suc part) slot = pushed rest part slot
-
-  -- the same where the vector grew before
-  pub tuples-pushed : (blocks grown pushed : Blocks T) (new : List (Option T)) → AreSmall blocks → grown ≡ blocks → pushed ≡ grown ++ new ∷ [] → IsVacant new → tuples_of pushed ≡ tuples_of blocks
-  tuples-pushed blocks grown pushed new small same is vacant = ap tuples_of (is ∙ ap (λ (xs : Blocks T). xs ++ new ∷ []) same) ∙ tuples-push blocks new small vacant
 
   -- no block holds nothing
   pub tuples_of-none : tuples_of {T = T} [] ≡ empty

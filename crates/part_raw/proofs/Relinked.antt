@@ -28,9 +28,6 @@ module _ (is_open : ℕ → Bool) where
     | inr more ↦ from_it i k more ∙ sym (from_it (suc i) k (omega (arith, more, differs)))
   ]
 
-  pub from_first : (next : ℕ → Option ℕ) (n i : ℕ) (first : Option ℕ) → i ≤ 0 → IsOpenList (from i is_open) next n first → IsOpenList is_open next n first
-  from_first next n i first none is = subst (λ (f : ℕ → Bool). IsOpenList f next n first) (λ j k. from_it i k (omega (arith, none)) j) is
-
   -- a partition that is not open is passed over
   pub passed : (next : ℕ → Option ℕ) (n part i : ℕ) (first : Option ℕ) → part ≡ suc i → is_open i ≡ false → IsOpenList (from part is_open) next n first → IsOpenList (from i is_open) next n first
   passed next n part i first at closed is =
@@ -52,11 +49,6 @@ module _ (is_open : ℕ → Bool) where
 
   pub below_no : (part i : ℕ) → part ≡ suc i → is_open i ≡ false → below is_open part ≡ below is_open i
   below_no part i at closed = let one : below is_open part ≡ below is_open i + 0 = ap (below is_open) at ∙ ap (λ (b : Bool). below is_open i + cond b 1 0) closed in omega (arith, one)
-
--- whether a partition is open, as its bits tell
-pub not_false : (b : Bool) → (b ≡ false → ⊥) → b ≡ true
-not_false true _ = refl
-not_false false never = absurd (never refl)
 
 module _ {T : Type 0} (blocks : Blocks T) where
   below-take : (i : ℕ) → i ≤ length blocks → below (open_at blocks) i ≡ count_by has_vacancy (take i blocks)

@@ -1,10 +1,11 @@
 -- Rows among the places of a partition: what becomes of each slot's row where the places of one are written or emptied.
-use Rattle.std.proofs.Common.{◌≡◌, ◌≢◌, ◌⊎◌, ℕ, zero, suc, ◌+◌, ◌*◌, ◌/◌, ◌%◌, ◌<◌, ◌≤◌, true, false, List, [], ◌∷◌, ◌++◌, map, length, get_or, set, take, drop, Option, Some, None, is_some, IsSome, refl, sym, ap, ◌∙◌, inl, inr, arith, subst}
+use Rattle.std.proofs.Common.{◌≡◌, ◌≢◌, ◌⊎◌, ℕ, zero, suc, ◌+◌, ◌*◌, ◌/◌, ◌%◌, ◌<◌, ◌≤◌, true, List, [], ◌∷◌, ◌++◌, map, length, get_or, set, take, drop, Option, Some, None, is_some, IsSome, refl, sym, ap, ◌∙◌, inl, inr, arith, subst}
 use Rattle.std.proofs.lemmas.Bool.{cases_eq, cases_lt, true≢false}
 use Rattle.std.proofs.lemmas.List.{length-set, length-map, length-take, length-drop, length-replicate, get_or-set_same, get_or-set_other, get_or-take, get_or-drop, get_or-map, get_or-replicate, get_or_past, drop-drop, ext_get_or, map-append, take_more, take_all}
 use Rattle.std.proofs.lemmas.Nat.{row_fits, div-add-mod', div_below, mod_below}
 use Rattle.std.proofs.Math.ListN.{replicate}
 use Rattle.std.proofs.Math.Nat.{zero-mul, suc-mul, mul-le-mul_right}
+use Rattle.common_lemmas.proofs.Options.{none_from_is_some}
 use Rattle.part_raw.specs.Rows.{window, IsRun, put_before, row_of, rows_of, rows_in, put_run, clear_run, IsLaid}
 use Rattle.part_raw.specs.Layout.{IsVacant}
 
@@ -153,10 +154,6 @@ module _ {T : Type 0} where
 
   -- ---- one slot changes
 
-  pub place_within : (width slot i : ℕ) (places : List (Option T)) → IsLaid width places → slot < 256 → i < width → slot * width + i < length places
-  place_within width slot i places laid in_range small =
-      let m = row_fits slot width 256 width in_range (omega arith) in omega (arith, m, laid.count)
-
   pub row_within : (width slot : ℕ) (places : List (Option T)) → IsLaid width places → slot < 256 → slot * width + width ≤ length places
   row_within width slot places laid in_range =
       let m = row_fits slot width 256 width in_range (omega arith) in omega (arith, m, laid.count)
@@ -304,10 +301,6 @@ module _ {T : Type 0} where
       empty_at (suc n) zero = refl
       empty_at (suc n) (suc k) = empty_at n k
 
-  none_of : (o : Option T) → is_some o ≡ false → o ≡ None
-  none_of None e = refl
-  none_of (Some x) e = absurd (true≢false e)
-
   pub empty-laid : (width : ℕ) (places : List (Option T)) → 0 < width → IsLaid width places → IsVacant (rows_in width places) → places ≡ replicate (256 * width) None
   empty-laid width places wide laid vacant =
       ext_get_or None places (replicate (256 * width) None) (laid.count ∙ sym (length-replicate (256 * width) None))
@@ -316,7 +309,7 @@ module _ {T : Type 0} where
       let slot : k / width < 256 = div_below k width 256 wide in_places in
       let place = div-add-mod' k width in
       ap (λ j. get_or places j None) (sym place)
-      ∙ none_of _ (laid.whole (k / width) (k % width) slot (mod_below k width wide) ∙ ap is_some (vacant.empty (k / width)))
+      ∙ none_from_is_some _ (laid.whole (k / width) (k % width) slot (mod_below k width wide) ∙ ap is_some (vacant.empty (k / width)))
       ∙ sym (get_or-replicate (256 * width) k None None in_places))
 
   -- ---- a row is read, value by value
@@ -368,13 +361,10 @@ module _ {T : Type 0} where
 
   -- ---- the slots of a partition
 
-  pub few_places : (width : ℕ) (places : List (Option T)) → IsLaid width places → width ≤ 65536 → length places ≤ 16777216
-  few_places width places laid fits = omega (arith, laid.count, fits)
-
   -- an empty slot's places are empty
   pub empty_places : (width slot : ℕ) (places : List (Option T)) → IsLaid width places → slot < 256 → get_or (rows_in width places) slot None ≡ None
       → (i : ℕ) → i < width → get_or places (slot * width + i) None ≡ None
-  empty_places width slot places laid in_range empty i small = none_of _ (laid.whole slot i in_range small ∙ ap is_some empty)
+  empty_places width slot places laid in_range empty i small = none_from_is_some _ (laid.whole slot i in_range small ∙ ap is_some empty)
 
   -- a slot that holds a row is one of the partition's
   pub slot_within : (width slot : ℕ) (places : List (Option T)) → IsSome (get_or (rows_in width places) slot None) → slot < 256

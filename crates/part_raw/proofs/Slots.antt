@@ -4,6 +4,7 @@ use Rattle.std.proofs.lemmas.Bool.{cases_eq, cases_lt, true≢false}
 use Rattle.std.proofs.lemmas.List.{get_or-set_same, get_or-set_other, get_or_past, length-set}
 use Rattle.std.proofs.lemmas.List.Sums.{sum_by-cons, sum_by-set}
 use Rattle.std.specs.Option.{is_none}
+use Rattle.common_lemmas.proofs.Options.{none_from_is_some}
 use Rattle.part_raw.specs.Layout.{is_set, ChangesBit, IsPartition, IsVacant, vacancies}
 
 module _ {T : Type 0} where
@@ -100,13 +101,9 @@ module _ {T : Type 0} where
   pub bits_of_no_vacancy : (words : List ℕ) (slots : List (Option T)) → IsPartition words slots → vacancies slots ≡ 0 → (slot : ℕ) → slot < 256 → is_set words slot ≡ true
   bits_of_no_vacancy words slots is none slot in_range = is.bits slot in_range ∙ full_slot slots slot none (omega (arith, is.count))
 
-  none_of : (o : Option T) → is_some o ≡ false → o ≡ None
-  none_of None e = refl
-  none_of (Some tuple) e = absurd (true≢false e)
-
   -- a slot whose bit is not set is free
   pub free_of_bit : (words : List ℕ) (slots : List (Option T)) (slot : ℕ) → IsPartition words slots → slot < 256 → is_set words slot ≡ false → get_or slots slot None ≡ None
-  free_of_bit words slots slot is in_range clear = none_of _ (sym (is.bits slot in_range) ∙ clear)
+  free_of_bit words slots slot is in_range clear = none_from_is_some _ (sym (is.bits slot in_range) ∙ clear)
 
   -- in a partition with no bit set each slot is free
   pub vacant_of_bits : (words : List ℕ) (slots : List (Option T)) → IsPartition words slots → ((slot : ℕ) → slot < 256 → is_set words slot ≡ false) → IsVacant slots

@@ -66,12 +66,6 @@ module _ {T : Type 0} (width : ℕ) (blocks blocks' : List (Shelf T)) (occupanci
   pub slots_left : sum_by vacancies (tables width blocks') + len (tuples_of (tables width blocks)) ≡ 256 * length blocks'
   slots_left = omega (arith, freed, is.store.total, is.store.counted, length-tables width blocks)
 
-  pub enough : len (tuples_of (tables width blocks)) ≤ 256 * length blocks'
-  enough = omega (arith, slots_left)
-
-  pub free_less : 256 * length blocks' - len (tuples_of (tables width blocks)) ≤ free
-  free_less = omega (arith, slots_left, is.store.total, fewer, length-tables width blocks)
-
   pub IsTable-relinked : (free' : ℕ) (first' : Option ℕ) → free' ≡ 256 * length blocks' - len (tuples_of (tables width blocks))
       → IsOpenList (open_at (tables width blocks')) (next_at occupancies') (below (open_at (tables width blocks')) (length popped)) first' → IsTable width blocks' occupancies' free' first'
   IsTable-relinked free' first' e linked = record {

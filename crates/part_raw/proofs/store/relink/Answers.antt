@@ -1,12 +1,12 @@
 use Rattle.std.proofs.Common.{◌≡◌, ◌-◌, ◌<◌, suc, map, set, None, sym, ap, ◌∙◌, arith, length, subst}
-use Rattle.std.proofs.lemmas.Bool.{true≢false}
+use Rattle.std.proofs.lemmas.Bool.{true_from_ne_false, true≢false}
 use Rattle.std.proofs.lemmas.List.{set-get_or, length-map}
 use Rattle.std.proofs.Math.Seq.{map-set_same}
 use Rattle.part_raw.specs.declared.store.Occupancy.{Occupancy}
 use Rattle.part_raw.specs.Layout.{is_set}
 use Rattle.part_raw.specs.Open.{IsOpenList, next_at}
 use Rattle.part_raw.proofs.Bitmaps.{mapped-set_same, mapped-set_other}
-use Rattle.part_raw.proofs.Relinked.{from, passed, linked, below_yes, below_no, not_false, words_read}
+use Rattle.part_raw.proofs.Relinked.{from, passed, linked, below_yes, below_no, words_read}
 use Rattle.part_raw.proofs.store.relink.Goals as goal
 
 pub loop-part-preserved-then-not-is_full : goal.loop-part-preserved-then-not-is_full
@@ -25,7 +25,7 @@ loop-part-preserved-then-not-is_full c =
       linked = λ is_open tells.
           let was = c.loop-part.invariant.linked is_open tells in
           let words = words_read occ c.args.occupancies.now.items i o in_occ read c.loop-part.invariant.held in
-          let opened = not_false (is_open i) (λ shut. absurd (true≢false (sym (c.is_full.ensures.1 (λ slot within. ap (λ w. is_set w slot) (sym words) ∙ (tells i (omega (arith, c.loop-part-test.true, c.loop-part.invariant.within))).0 shut slot within)) ∙ c.if-not-is_full.true))) in (
+          let opened = true_from_ne_false (is_open i) (λ shut. absurd (true≢false (sym (c.is_full.ensures.1 (λ slot within. ap (λ w. is_set w slot) (sym words) ∙ (tells i (omega (arith, c.loop-part-test.true, c.loop-part.invariant.within))).0 shut slot within)) ∙ c.if-not-is_full.true))) in (
             suc was.0,
             omega (arith, was.1, below_yes is_open c.loop-part.part i at opened),
             linked is_open (next_at occ) (next_at (set occ i o')) was.0 c.loop-part.part i c.loop-part.first_open at opened
