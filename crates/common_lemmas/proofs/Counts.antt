@@ -1,5 +1,5 @@
 -- How many elements pass a test.
-use Rattle.std.proofs.Common.{ℕ, Bool, List, [], ap, arith, cond, false, get_or, length, refl, sym, true, ◌+◌, ◌<◌, ◌∙◌, ◌∷◌, ◌≡◌, ◌≤◌}
+use Rattle.std.proofs.Common.{ℕ, Bool, List, [], ap, arith, cond, false, get_or, length, map, refl, sym, true, ◌+◌, ◌<◌, ◌∙◌, ◌∷◌, ◌≡◌, ◌≤◌}
 use Rattle.std.proofs.lemmas.List.Sums.{get_or-le-sum_by, sum_by-append, sum_by-cons}
 use Rattle.std.specs.List.{Contains, count_by, flat_map, sum_by}
 use Rattle.common_lemmas.proofs.Elements.{Contains-cons}
@@ -31,6 +31,12 @@ member-from_count_by {X} test (x ∷ xs) h =
           let rest = member-from_count_by test xs (omega (arith, h)) in
           (rest.0, Contains-cons x xs rest.0 rest.1, rest.2)
     ] refl
+
+pub count_by-map : {X Y : Type 0} (test : Y → Bool) (f : X → Y) (xs : List X) → count_by test (map f xs) ≡ count_by (λ x. test (f x)) xs
+count_by-map test f [] = refl
+count_by-map test f (x ∷ xs) =
+    sum_by-cons (one test) (f x) (map f xs) ∙ ap (λ n. one test (f x) + n) (count_by-map test f xs)
+    ∙ sym (sum_by-cons (λ y. one test (f y)) x xs)
 
 -- of lists joined end to end
 pub count_by-flat_map : {X Y : Type 0} (test : Y → Bool) (f : X → List Y) (xs : List X)

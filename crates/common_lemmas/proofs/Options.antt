@@ -2,7 +2,7 @@
 use Rattle.std.proofs.Common.{Err, IsSome, None, Option, Some, ap, false, is_some, refl, sym, true, ◌≡◌}
 use Rattle.std.proofs.lemmas.Bool.{false≢true}
 use Rattle.std.proofs.lemmas.Option.{none-some, same_Some}
-use Rattle.std.specs.Option.{option_and_then, option_map, option_map_or}
+use Rattle.std.specs.Option.{IfNone, option_and_then, option_map, option_map_or}
 use Rattle.std.specs.Prelude.{Ok, Result}
 use Rattle.std.specs.Result.{result_ok}
 
@@ -36,7 +36,15 @@ pub none_from_is_some : {X : Type 0} (o : Option X) → is_some o ≡ false → 
 none_from_is_some None h = refl
 none_from_is_some (Some x) h = absurd (false≢true (sym h))
 
+pub at_none : {X : Type 0} (o : Option X) (P : Type 0) → is_some o ≡ false → IfNone o P → P
+at_none None P e h = h
+at_none (Some x) P e h = absurd (false≢true (sym e))
+
 -- what gives something to what asks further has something itself
 pub and_then-Some : {X Y : Type 0} (f : X → Option Y) (o : Option X) → IsSome (option_and_then f o) → (x : X) × (o ≡ Some x) × IsSome (f x)
 and_then-Some f None h = absurd (false≢true h)
 and_then-Some f (Some x) h = (x, refl, h)
+
+pub some_from_then : {X Y : Type 0} (f : X → Option Y) (o : Option X) → IsSome (option_and_then f o) → IsSome o
+some_from_then f None h = h
+some_from_then f (Some x) h = refl

@@ -1,5 +1,5 @@
 -- What two things are to each other: less, equal or greater.
-use Rattle.std.proofs.Common.{Ordering, arith, inl, inr, refl, true, ◌≡◌, ◌≤◌, ◌⊎◌}
+use Rattle.std.proofs.Common.{Ordering, ap, arith, inl, inr, refl, true, ◌≡◌, ◌≤◌, ◌⊎◌}
 use Rattle.std.specs.Ordering.{is_eq, is_lt, ordering_index, ordering_reverse, ordering_then}
 use Rattle.std.specs.declared.cmp.Ordering.TheVariants.{Equal, Greater, Less}
 
@@ -28,6 +28,17 @@ pub ordering_index_within : (o : Ordering) → ordering_index o ≤ 2
 ordering_index_within Less = omega arith
 ordering_index_within Equal = omega arith
 ordering_index_within Greater = omega arith
+
+-- below what is less, and above what is greater
+pub Less-below : (o p : Ordering) → p ≡ Less → ordering_index o ≤ ordering_index p → o ≡ Less
+Less-below Less p e h = refl
+Less-below Equal p e h = absurd (omega (arith, h, ap ordering_index e))
+Less-below Greater p e h = absurd (omega (arith, h, ap ordering_index e))
+
+pub Greater-above : (o p : Ordering) → p ≡ Greater → ordering_index p ≤ ordering_index o → o ≡ Greater
+Greater-above Greater p e h = refl
+Greater-above Equal p e h = absurd (omega (arith, h, ap ordering_index e))
+Greater-above Less p e h = absurd (omega (arith, h, ap ordering_index e))
 
 -- one order, and a second where the first tells nothing apart
 pub then-Equal : (o : Ordering) → ordering_then o Equal ≡ o

@@ -9,11 +9,6 @@ slice_get_set [] n x within = absurd (omega arith)
 slice_get_set (y ∷ xs) zero x within = refl
 slice_get_set (y ∷ xs) (suc n) x within = slice_get_set xs n x (omega arith)
 
-pub set_again : {X : Type 0} (xs : List X) (n : ℕ) (x y : X) → set (set xs n x) n y ≡ set xs n y
-set_again [] n x y = refl
-set_again (z ∷ xs) zero x y = refl
-set_again (z ∷ xs) (suc n) x y = ap (λ zs. z ∷ zs) (set_again xs n x y)
-
 pub set_itself : {X : Type 0} (xs : List X) (n : ℕ) (x : X) → slice_get xs n ≡ Some x → set xs n x ≡ xs
 set_itself [] n x there = absurd (none-some x there)
 set_itself (y ∷ xs) zero x there = let here : y ≡ x = same_Some y x there in ap (λ z. z ∷ xs) (sym here)

@@ -27,6 +27,9 @@ use Rattle.plain_tables.specs.declared.command.Join.{Join}
 use Rattle.plain_tables.specs.declared.numbers.TableNumber.{TableNumber}
 use Rattle.plain_tables.specs.declared.resolved.Resolved.{Resolved}
 use Rattle.plain_tables.specs.declared.resolved.Resolved.TheVariants as resolved
+use Rattle.std.proofs.lemmas.Simd.{map-map}
+use Rattle.common_lemmas.proofs.Filters.{filter-map}
+use Rattle.common_lemmas.proofs.Tests.{and_false, or_false, or_true}
 use Rattle.plain_tables.proofs.ColumnLemmas.{meant_where_one}
 use Rattle.plain_statements.specs.declared.statement.Slot.{Slot}
 use Rattle.plain_statements.specs.declared.statement.SlotSetting.{SlotSetting}
@@ -45,7 +48,7 @@ use Rattle.plain_statements.specs.declared.resolution.Resolution.TheVariants.{Re
 use Rattle.plain_statements.specs.Filling.{slot_value, filled_setting, filled_condition}
 use Rattle.plain_statements.specs.Finishing.{filled_assignment, filled_test, filled_source, filled_join, filled_template, is_wrong, is_past, unless, finished}
 use Rattle.plain_statements.specs.Laws.{Resolves, FilledIsFinished}
-use Rattle.plain_statements.proofs.Fusion.{map-map, filter_map-same, filter_map-map, filter-map}
+use Rattle.plain_statements.proofs.Fusion.{filter_map-same, filter_map-map}
 
 -- ---- checks before and behind those of values
 
@@ -117,15 +120,11 @@ null-wanted true false = refl
 null-wanted false true = refl
 null-wanted false false = refl
 
-or-nothing : (b : Bool) → (b || false) ≡ b
-or-nothing true = refl
-or-nothing false = refl
-
 wanted : (tables : Database) (k : ColKind) (slot : Slot) (v : Value) (ordered stored : Bool)
     → (not (is_typed tables v k) || (is_null v && ordered)) ≡ is_wrong v (want_of tables k slot ordered stored)
 wanted tables k slot value.Null ordered stored = null-wanted (takes_null k) ordered
-wanted tables k slot (value.Int z) ordered stored = or-nothing (not (is_typed tables (value.Int z) k)) ∙ not-or (type_of tables k) (value.Int z)
-wanted tables k slot (value.Text t) ordered stored = or-nothing (not (is_typed tables (value.Text t) k)) ∙ not-or (type_of tables k) (value.Text t)
+wanted tables k slot (value.Int z) ordered stored = or_false (not (is_typed tables (value.Int z) k)) ∙ not-or (type_of tables k) (value.Int z)
+wanted tables k slot (value.Text t) ordered stored = or_false (not (is_typed tables (value.Text t) k)) ∙ not-or (type_of tables k) (value.Text t)
 
 wanted-meant : (values : List Value) (tables : Database) (found : Option JoinedColumn) (slot : Slot) (ordered stored : Bool) → is_some found ≡ true
     → (option_map_or (λ joined. not (is_typed tables (slot_value values slot) joined.column.kind)) found false || (is_null (slot_value values slot) && ordered))
@@ -133,14 +132,10 @@ wanted-meant : (values : List Value) (tables : Database) (found : Option JoinedC
 wanted-meant values tables None slot ordered stored some = cc
 wanted-meant values tables (Some joined) slot ordered stored some = wanted tables joined.column.kind slot (slot_value values slot) ordered stored
 
-and-nothing : (b : Bool) → (b && false) ≡ false
-and-nothing true = refl
-and-nothing false = refl
-
 typed-wanted : (tables : Database) (k : ColKind) (slot : Slot) (v : Value) (stored : Bool)
     → not (is_typed tables v k) ≡ is_wrong v (want_of tables k slot false stored)
 typed-wanted tables k slot v stored =
-    sym (ap (λ b. not (is_typed tables v k) || b) (and-nothing (is_null v)) ∙ or-nothing (not (is_typed tables v k)))
+    sym (ap (λ b. not (is_typed tables v k) || b) (and_false (is_null v)) ∙ or_false (not (is_typed tables v k)))
     ∙ wanted tables k slot v false stored
 
 typed-meant : (values : List Value) (tables : Database) (found : Option JoinedColumn) (slot : Slot) (stored : Bool) → is_some found ≡ true
@@ -424,7 +419,7 @@ update-filled values tables n settings conditions table =
             list_any-append (past values) (map (setting_want tables columns) settings) (map (condition_want tables columns) conditions),
             conditions-past values tables columns conditions,
             settings-past values tables columns settings,
-            or-nothing (list_any (past values) (map (setting_want tables columns) settings)),
+            or_false (list_any (past values) (map (setting_want tables columns) settings)),
             length-map conditions (filled_condition values),
             tests-filled values columns conditions,
             assignments-filled values columns settings,
@@ -464,10 +459,6 @@ select_means tables distinct its name joins conditions =
     (Open (map (condition_want tables (columns_of tables (select_names name joins))) conditions) (lastly (select_late its joins conditions))
     (select_template tables distinct its name joins conditions))
 
-or-always : (b : Bool) → (b || true) ≡ true
-or-always true = refl
-or-always false = refl
-
 select-filled : (values : List Value) (tables : Database) (distinct : Bool) (its : Items) (name : List ℕ) (joins : List Join) (conditions : List SlotCond)
     → meaning (select_checks tables its name joins (map (filled_condition values) conditions)) (select_of tables distinct its name joins (map (filled_condition values) conditions))
     ≡ finished values (select_means tables distinct its name joins conditions)
@@ -485,7 +476,7 @@ select-filled values tables distinct its name joins conditions =
           let parts = or_parts (misses columns (named_items its)) (misses columns (slot_names conditions)) split in
           elim (cases_Bool differ) [
             | inl d ↦
-                rw (opened, condition-names values conditions, f, d, or-always (list_any (is_mistyped tables columns) (map (filled_condition values) conditions))) refl
+                rw (opened, condition-names values conditions, f, d, or_true (list_any (is_mistyped tables columns) (map (filled_condition values) conditions))) refl
             | inr same ↦
                 rw (
                   opened,
@@ -494,7 +485,7 @@ select-filled values tables distinct its name joins conditions =
                   same,
                   conditions-wrong values tables columns conditions parts.1,
                   conditions-past values tables columns conditions,
-                  or-nothing (list_any (wrong values) (map (condition_want tables columns) conditions)),
+                  or_false (list_any (wrong values) (map (condition_want tables columns) conditions)),
                   length-map conditions (filled_condition values),
                   source-filled values tables columns conditions 0 name,
                   joins-filled values tables columns conditions all,

@@ -1,7 +1,7 @@
 -- Laws of statements.
 use Rattle.std.specs.Prelude.{◌≡◌, List, [], map}
-use Rattle.plain_tables.specs.Tables.{Table}
 use Rattle.plain_tables.specs.Databases.{Database}
+use Rattle.plain_tables.specs.ResolvedLaws.{emptied}
 use Rattle.plain_tables.specs.Resolving.{resolved_of}
 use Rattle.plain_tables.specs.declared.value.Value.{Value}
 use Rattle.plain_statements.specs.declared.statement.Statement.{Statement}
@@ -16,10 +16,6 @@ Resolves tables s r = (values : List Value) → resolved_of [] tables (filled va
 -- every statement has a resolution
 abbrev pub FilledIsFinished : Type 0
 FilledIsFinished = (tables : Database) (s : Statement) → (r : Resolution) × Resolves tables s r
-
--- a table without its rows and declared indexes: what a statement is resolved by
-abbrev pub emptied : Table → Table
-emptied table = record table { indexes = []; rows = [] }
 
 -- A resolution stays right as long as the tables have the same names and columns.
 abbrev pub ResolutionStays : Type 0

@@ -2,14 +2,13 @@
 use Rattle.std.proofs.Common.{◌≡◌, ◌≢◌, ◌∙◌, ℕ, zero, suc, ◌<◌, ◌^◌, List, [], ◌∷◌, ◌++◌, length, Bool, true, false, ◌⊎◌, inl, inr, refl, sym, ap, arith}
 use Rattle.std.specs.Prelude.{◌&&◌, nat_lt}
 use Rattle.std.specs.Bool.{Decides}
-use Rattle.std.specs.Str.{all_ascii_digits, bytes_eq, is_utf8}
+use Rattle.std.specs.Str.{bytes_eq, is_utf8}
 use Rattle.std.specs.Str.Parse.{IsNumeral, digits_value}
 use Rattle.std.proofs.lemmas.Bool.{cases_Bool, cases_eq, cases_lt, true≢false}
 use Rattle.std.proofs.lemmas.Bool.Decides.{Decides-and, Decides-ltb, not_from_Decides}
 use Rattle.std.proofs.lemmas.List.Elements.{Contains-append_right}
 use Rattle.std.proofs.lemmas.Slice.Eq.{bytes_eq-Decides}
 use Rattle.std.proofs.lemmas.Str.{IsUtf8-from_is_utf8, is_utf8-from_IsUtf8}
-use Rattle.std.proofs.lemmas.Str.Parse.{IsNumeralModel, numerals_by_value, tells_all_ascii_digits}
 use lib.Chars.{codes}
 use Rattle.plain_tables.specs.CsvReading.{is_numeral}
 use Rattle.plain_tables.specs.Names.{IsName, is_name}
@@ -17,6 +16,7 @@ use Rattle.plain_tables.specs.Reading.{lexeme, after_lexeme}
 use Rattle.plain_tables.specs.Spelling.{Keyword, Name, Count, Spells}
 use Rattle.plain_tables.specs.declared.command.Command.TheVariants.{Load}
 use Rattle.plain_tables.proofs.Lexemes.{lexeme-of_made, made-from_lexeme, blanks-no_lexeme, no_lexeme-blanks}
+use Rattle.mm_csv.proofs.FieldLemmas.{numeral-is, is-numeral}
 use Rattle.plain_streams.specs.Division.{IsUnbroken}
 use Rattle.plain_streams.specs.Requests.{IsReadable, Asks, Takes, asked, unasked, without_return}
 
@@ -53,13 +53,8 @@ IsLoadLine line =
     × (IsNumeral 10 (count_of line)
     × ((digits_value 10 (count_of line) < 2 ^ 63) × (lexeme (after_lexeme (after_lexeme (after_lexeme line))) ≡ []))))
 
--- digits as the library tells them
-told : IsNumeralModel (λ ds. all_ascii_digits ds ≡ true) (digits_value 10)
-told = numerals_by_value (λ ds. all_ascii_digits ds ≡ true) tells_all_ascii_digits
-
 Decides-numeral : (ds : List ℕ) → Decides (is_numeral ds) (IsNumeral 10 ds)
-Decides-numeral ds =
-    Decides-and (nat_lt 0 (length ds)) (all_ascii_digits ds) (Decides-ltb 0 (length ds)) (told.to ds, told.from ds)
+Decides-numeral ds = (numeral-is ds, is-numeral ds)
 
 is_load_line : List ℕ → Bool
 is_load_line line =

@@ -1,22 +1,21 @@
 -- Blocks of a sound table: its columns have types, and its rows fit them.
-use Rattle.std.proofs.Common.{◌≡◌, ℕ, zero, suc, ◌≤◌, List, [], ◌∷◌, ◌++◌, length, map, get_or, Bool, true, false, Option, Some, None, inl, inr, refl, sym, ap, ◌∙◌, subst, append_assoc}
-use Rattle.std.specs.Prelude.{FitsSigned, IfSome, IsTrue, nat_lt}
+use Rattle.std.proofs.Common.{◌≡◌, ℕ, ◌≤◌, List, [], ◌∷◌, length, map, Bool, true, false, Option, Some, None, inl, inr, refl, sym, subst}
+use Rattle.std.specs.Prelude.{FitsSigned, IsTrue, nat_lt}
 use Rattle.std.specs.Int.{w64}
-use Rattle.std.specs.List.{All, AllPairs, AllZip, find, list_any, slice_get}
+use Rattle.std.specs.List.{All, AllZip, list_any, slice_get}
 use Rattle.std.specs.FinSet.{slice_cmp-IsAntisymmetric}
-use Rattle.std.specs.Option.{is_some, option_and_then, option_map, option_map_or}
+use Rattle.std.specs.Option.{option_and_then, option_map_or}
 use Rattle.std.specs.Ordering.{is_eq}
 use Rattle.std.specs.declared.cmp.Ordering.{Ordering}
 use Rattle.std.specs.declared.cmp.Ordering.TheVariants.{Less, Equal, Greater}
-use Rattle.std.proofs.lemmas.Bool.{cases_Bool, false≢true, false_from_ne_true, le-ltb}
+use Rattle.std.proofs.lemmas.Bool.{cases_Bool, false≢true, le-ltb}
 use Rattle.std.proofs.lemmas.List.Elements.{All-nil, All-cons, All-head, All-tail}
 use Rattle.std.proofs.lemmas.Option.{none-some, same_Some}
-use Rattle.std.proofs.lemmas.Slice.Eq.{bytes_eq-Decides}
 use Rattle.plain_tables.proofs.BlockLemmas.{all_parts}
 use Rattle.plain_tables.specs.Names.{IsName}
 use Rattle.plain_tables.specs.Tables.{Table, Row, key_cmp, has_key_of}
 use Rattle.plain_tables.specs.Databases.{Database, is_named, table_named}
-use Rattle.plain_tables.specs.References.{IsSound, IsSoundTable, CanHold, IsRowOf, RefersInto, ReferBack, is_held, key_type, own_type, referred, takes_null, type_of}
+use Rattle.plain_tables.specs.References.{IsSound, CanHold, IsRowOf, is_held, key_type, own_type, takes_null, type_of}
 use Rattle.plain_tables.specs.CsvReading.{BlockColumn, Fits, FitsRow, all_of}
 use Rattle.plain_tables.specs.Resolving.{block_column}
 use Rattle.plain_tables.specs.declared.value.Value.{Value}
@@ -28,9 +27,8 @@ use Rattle.plain_tables.specs.declared.schema.ColKind.TheVariants as kind
 use Rattle.plain_tables.specs.declared.schema.Column.{Column}
 use Rattle.plain_tables.specs.declared.command.Limits.{Limits}
 use Rattle.plain_tables.proofs.HeldLemmas.{RowsFit}
-use Rattle.common_lemmas.proofs.Pairs.{AllPairs-behind}
 use Rattle.common_lemmas.proofs.Tests.{find_satisfies}
-use Rattle.common_lemmas.proofs.Options.{option_map_some, is_some-Some}
+use Rattle.common_lemmas.proofs.Options.{option_map_some}
 use Rattle.plain_tables.proofs.ValueLemmas.{value_cmp-exact}
 use Rattle.plain_streams.specs.Dumps.{IsReadBack}
 

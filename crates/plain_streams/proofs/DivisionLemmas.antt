@@ -4,6 +4,7 @@ use Rattle.std.specs.Prelude.{◌==◌}
 use Rattle.std.specs.List.{flat_map, AllByRecursion, Contains, position_or_len}
 use Rattle.std.proofs.Math.Seq.{drop-append_seam, take-append_seam}
 use Rattle.std.proofs.lemmas.Bool.{cases_lt, ne_eqb}
+use Rattle.plain_tables.proofs.Texts.{one_more}
 use Rattle.std.proofs.lemmas.List.{drop_all, take-append-drop, take_all}
 use Rattle.std.proofs.lemmas.List.Concat.{flat_map-append}
 use Rattle.std.proofs.lemmas.List.Elements.{Contains-append_right, Contains-append_cases}
@@ -177,9 +178,6 @@ requests_stay_first stream more requests rest all last d e =
     (others, (divides_in_one_way (stream ++ more) all last (requests ++ others) end e both).0)
 
 -- ---- the last request
-
-one_more : (n : ℕ) → 1 + n ≡ suc n
-one_more n = omega arith
 
 place-feed : (line more : List ℕ) → IsUnbroken line → position_or_len (λ b. b == 10) (line ++ 10 ∷ more) ≡ length line
 place-feed [] more free = refl

@@ -5,10 +5,11 @@ use Rattle.std.specs.List.{All, position_or_len, slice_get}
 use Rattle.std.specs.Option.{is_some, option_and_then, option_map, option_map_or}
 use Rattle.std.specs.Str.{bytes_eq}
 use Rattle.std.proofs.lemmas.Bool.{cases_Bool, false≢true}
-use Rattle.std.proofs.lemmas.List.{length-map}
+use Rattle.std.proofs.lemmas.List.{length-map, set-set}
 use Rattle.std.proofs.lemmas.List.Elements.{All-head, All-tail}
 use Rattle.std.proofs.lemmas.List.Folds.{find_at}
 use Rattle.std.proofs.lemmas.Option.{none-some, same_Some, slice_get_within}
+use Rattle.plain_tables.specs.ResolvedLaws.{rowless}
 use Rattle.plain_tables.proofs.MeantLemmas.{has_name}
 use Rattle.plain_tables.specs.Tables.{Table, Row}
 use Rattle.plain_tables.specs.Databases.{Database, is_named, table_named}
@@ -26,10 +27,10 @@ use Rattle.plain_tables.specs.declared.command.Command.TheVariants.{Dump}
 use Rattle.plain_tables.specs.declared.numbers.TableNumber.{TableNumber}
 use Rattle.plain_tables.proofs.HeldLemmas.{RowsFit}
 use Rattle.common_lemmas.proofs.Elements.{All-at}
-use Rattle.common_lemmas.proofs.Places.{set_again, set_itself}
+use Rattle.common_lemmas.proofs.Places.{set_itself}
 use Rattle.mm_csv.specs.BlockReading.{block_records}
 use Rattle.mm_csv.proofs.BlockLaws.{blocks-back}
-use Rattle.plain_streams.specs.Dumps.{AreReadBack, IsEmptyCopy, DumpsLoadAgain, DumpsRestore, emptied}
+use Rattle.plain_streams.specs.Dumps.{AreReadBack, IsEmptyCopy, DumpsLoadAgain, DumpsRestore}
 use Rattle.plain_tables.proofs.ColumnTypes.{IsElsewhere, refers_elsewhere, table-typed}
 use Rattle.plain_streams.proofs.BlockFits.{block-names, blocks-named, row-fits}
 use Rattle.plain_streams.proofs.LoadRows.{SameReferred, loaded-all, named-other}
@@ -152,21 +153,21 @@ dumps_restore limits tables table name shown block sound found read answered =
     let called : table.name ≡ name = has_name name tables table found in
     let n : TableNumber = number_of name tables in
     let there = at-number name tables table found in
-    let others : Database = set tables n.0 (emptied table) in
-    let (named, place) = named-changed name tables table (emptied table) found refl in
+    let others : Database = set tables n.0 (rowless table) in
+    let (named, place) = named-changed name tables table (rowless table) found refl in
     let elsewhere = refers_elsewhere limits tables n.0 table sound there in
-    let ready : IsEmptyCopy tables table others (emptied table) = record {
-      named = subst (λ (s : List ℕ). table_named s others ≡ Some (emptied table)) (sym called) named;
+    let ready : IsEmptyCopy tables table others (rowless table) = record {
+      named = subst (λ (s : List ℕ). table_named s others ≡ Some (rowless table)) (sym called) named;
       columns = refl;
       empty = refl;
       referred =
-          λ k c within. still-same tables tables table table (emptied table) n.0 there refl refl
+          λ k c within. still-same tables tables table table (rowless table) n.0 there refl refl
           (referred (get_or table.columns k c).kind) (elsewhere k c within) (always (referred (get_or table.columns k c).kind));
     } in
-    let loads = dumps_load_again limits tables table others (emptied table) name shown block sound found read ready answered in
+    let loads = dumps_load_again limits tables table others (rowless table) name shown block sound found read ready answered in
     let number : (number_of shown others).0 ≡ n.0 = ap (λ s. (number_of s others).0) (sym shown_is ∙ called) ∙ place in
     let whole : set others (number_of shown others).0 table ≡ tables =
-    ap (λ m. set others m table) number ∙ set_again tables n.0 (emptied table) table ∙ set_itself tables n.0 table there in
+    ap (λ m. set others m table) number ∙ set-set tables n.0 (rowless table) table ∙ set_itself tables n.0 table there in
     loads ∙ ap (λ d. record { database = d; outcome = Changed (length table.rows) }) whole
   where
     always : (o : Option (List ℕ)) → IfSome o (λ s. table_named s tables ≡ table_named s tables)

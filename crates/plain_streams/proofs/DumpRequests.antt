@@ -21,7 +21,7 @@ use Rattle.plain_tables.specs.Commands.{effect_of}
 use Rattle.plain_tables.specs.declared.command.Limits.{Limits}
 use Rattle.plain_tables.specs.declared.command.Command.TheVariants.{Load}
 use Rattle.plain_tables.proofs.Canonical.{canonical-spells}
-use Rattle.plain_tables.proofs.Lexemes.{AllPass, IsRun, symbol-run}
+use Rattle.plain_tables.proofs.Lexemes.{AllPass, IsRun, word-ascii, begins-ascii, symbol-run}
 use Rattle.common_lemmas.proofs.Tests.{find_satisfies}
 use Rattle.plain_tables.proofs.Separated.{all-append}
 use Rattle.plain_tables.specs.Databases.{is_named}
@@ -46,22 +46,16 @@ AreShown cs = AllByRecursion IsShown cs
 word-low : (c : ℕ) → is_word_character c ≡ true → 32 ≤ c
 word-low c h = grind (arith, nat_tests)
 
-word-high : (c : ℕ) → is_word_character c ≡ true → c < 128
-word-high c h = grind (arith, nat_tests)
-
 words-shown : (cs : List ℕ) → AllPass is_word_character cs → AreShown cs
 words-shown [] all = tt
-words-shown (c ∷ cs) all = ((word-low c all.0, word-high c all.0), words-shown cs all.1)
+words-shown (c ∷ cs) all = ((word-low c all.0, word-ascii c all.0), words-shown cs all.1)
 
 begins-low : (c : ℕ) → begins_run c ≡ true → 32 ≤ c
 begins-low c h = grind (arith, nat_tests)
 
-begins-high : (c : ℕ) → begins_run c ≡ true → c < 128
-begins-high c h = grind (arith, nat_tests)
-
 run-shown : (cs : List ℕ) → IsRun cs → AreShown cs
 run-shown [] run = absurd run
-run-shown (c ∷ cs) run = ((begins-low c run.1, begins-high c run.1), words-shown cs run.2)
+run-shown (c ∷ cs) run = ((begins-low c run.1, begins-ascii c run.1), words-shown cs run.2)
 
 name-shown : (name : List ℕ) → IsName name → AreShown name
 name-shown name named = run-shown name (symbol-run name (Name name) tt tt (refl, named))

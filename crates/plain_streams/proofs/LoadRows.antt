@@ -22,7 +22,8 @@ use Rattle.plain_tables.specs.declared.command.Limits.{Limits}
 use Rattle.plain_tables.specs.declared.numbers.TableNumber.{TableNumber}
 use Rattle.common_lemmas.proofs.Pairs.{AllPairs-behind}
 use Rattle.common_lemmas.proofs.Filters.{filter_all, filter_none}
-use Rattle.common_lemmas.proofs.Places.{set_again, slice_get_set}
+use Rattle.common_lemmas.proofs.Places.{slice_get_set}
+use Rattle.std.proofs.lemmas.List.{set-set}
 use Rattle.plain_tables.proofs.RowLemmas.{key_cmp_total}
 
 -- ---- a row above all others
@@ -112,7 +113,7 @@ module _ (limits : Limits) (tables others : Database) (n : TableNumber) (columns
       let pass : AllByRecursion (λ c. c.refuses ≡ false) (insert_checks limits (with_rows done) here row) =
       (new-key row done below, (ap not held, (lt-leb limits.rows (length done) few, tt))) in
       let grown : set (with_rows done) n.0 (grown_by row here) ≡ with_rows (done ++ row ∷ []) =
-      set_again others n.0 here (grown_by row here) ∙ ap with_rows (put-last row done below) in
+      set-set others n.0 here (grown_by row here) ∙ ap with_rows (put-last row done below) in
       rw there (checks-pass (with_rows done) (insert_checks limits (with_rows done) here row) _ pass ∙ ap (λ d. record { database = d; outcome = Changed 1 }) grown)
 
   pub loaded-all : (done rows : List Row) (k : ℕ) → AreRising (done ++ rows) → length (done ++ rows) ≤ limits.rows → All (IsRowOf tables columns) rows

@@ -2,14 +2,14 @@
 use Rattle.std.proofs.Common.{◌≡◌, ℕ, List, [], ◌∷◌, ◌++◌, arith, refl, sym, ap, subst, get_or}
 use lib.Chars.{codes}
 use Rattle.plain_tables.specs.Databases.{Database}
-use Rattle.plain_tables.specs.Effects.{Effect, Outcome, Done, Changed, Rows, Dumped, Listed, Refused, refused}
+use Rattle.plain_tables.specs.Effects.{Effect, Outcome, Done, Changed, Rows, Dumped, Listed, Refused}
 use Rattle.plain_tables.specs.References.{IsSound}
 use Rattle.plain_tables.specs.AnswerText.{answer_text}
 use Rattle.plain_tables.specs.ResolvedLaws.{KeepsIfRefused}
 use Rattle.plain_tables.specs.declared.refusal.Refusal.{Refusal}
 use Rattle.plain_tables.specs.declared.refusal.Refusal.TheVariants.{LineTooLong, NotUtf8, NotACommand, BlockTooLong, BlockCutShort}
 use Rattle.plain_tables.specs.declared.command.Limits.{Limits}
-use Rattle.plain_tables.proofs.ChangeLemmas.{refused_keeps}
+use Rattle.plain_tables.proofs.ChangeLemmas.{refusal_keeps, refused_keeps}
 use Rattle.plain_tables.proofs.EffectLemmas.{effect_satisfies}
 use Rattle.plain_tables.proofs.GivenLemmas.{spellable_are_given}
 use Rattle.plain_tables.proofs.ResolvedLemmas.{effects_keep_sound}
@@ -65,9 +65,6 @@ error_is_refused (Rows names rows) words same = let first = begins_otherwise 114
 error_is_refused (Dumped name block) words same = let first = begins_otherwise 108 _ words same in absurd (omega arith)
 error_is_refused (Listed tables) words same = absurd (listing_is_no_error tables words same)
 error_is_refused (Refused why) words same = (why, refl)
-
-refusal_keeps : (tables : Database) (why : Refusal) → KeepsIfRefused tables (refused tables why)
-refusal_keeps tables why because same = refl
 
 request_keeps : (limits : Limits) (tables : Database) (request : Request) (e : Effect) → IsEffect limits tables request e → KeepsIfRefused tables e
 request_keeps limits tables request e (too_long h) = refusal_keeps tables LineTooLong

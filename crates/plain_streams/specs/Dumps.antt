@@ -11,6 +11,7 @@ use Rattle.plain_tables.specs.Effects.{Changed, Dumped}
 use Rattle.plain_tables.specs.Resolving.{number_of}
 use Rattle.plain_tables.specs.Doing.{with_table}
 use Rattle.plain_tables.specs.Commands.{effect_of}
+use Rattle.plain_tables.specs.ResolvedLaws.{rowless}
 use Rattle.plain_tables.specs.declared.value.Value.{Value}
 use Rattle.plain_tables.specs.declared.value.Value.TheVariants as value
 use Rattle.plain_tables.specs.declared.schema.Column.{Column}
@@ -39,10 +40,6 @@ pub record IsEmptyCopy (tables : Database) (table : Table) (others : Database) (
   pub empty : copy.rows ≡ []
   pub referred : All (λ c. IfSome (referred c.kind) (λ name. table_named name others ≡ table_named name tables)) table.columns
 
--- a table without its rows
-abbrev pub emptied : Table → Table
-emptied table = record table { rows = [] }
-
 -- the request that loads a block into the table of that name
 abbrev pub load_request : List ℕ → List ℕ → Request
 load_request name block = record { line = canonical_spelling (Load name (length block)); block = block }
@@ -69,7 +66,7 @@ DumpsRestore =
     (limits : Limits) (tables : Database) (table : Table) (name shown block : List ℕ)
     → IsSound limits tables → table_named name tables ≡ Some table → AreReadBack table
     → (effect_of [] limits tables (Dump name)).outcome ≡ Dumped shown block
-    → effect_of (block_records block) limits (with_table (number_of name tables) (emptied table) tables) (Load shown (length block))
+    → effect_of (block_records block) limits (with_table (number_of name tables) (rowless table) tables) (Load shown (length block))
     ≡ record { database = tables; outcome = Changed (length table.rows) }
 
 -- What a dump answers is one whole request, which does the load of the block.

@@ -1,38 +1,30 @@
 -- Declared indexes: of the commands that aren't on them none is resolved by them, and none but a listing reads them.
-use Rattle.std.proofs.Common.{◌≡◌, ◌+◌, ℕ, suc, Bool, false, true, not, map, set, take, drop, List, [], ◌∷◌, ◌++◌, refl, sym, ap, ◌∙◌, subst, Option, Some, None}
-use Rattle.std.specs.Prelude.{Result, Ok, Err, ◌||◌, ◌&&◌}
-use Rattle.std.specs.List.{list_any, list_all, slice_get, remove, filter, filter_map, flat_map, cons_option, enumerate_from}
-use Rattle.std.specs.Option.{is_some, option_map, option_map_or, option_and_then}
+use Rattle.std.proofs.Common.{◌≡◌, ◌+◌, ℕ, suc, Bool, false, map, set, take, drop, List, [], ◌∷◌, ◌++◌, refl, sym, ap, ◌∙◌, subst, Option, Some, None}
+use Rattle.std.specs.Prelude.{Result, Ok, Err}
+use Rattle.std.specs.List.{list_any, list_all, slice_get, remove, filter, filter_map}
+use Rattle.std.specs.Option.{option_map, option_map_or, option_and_then}
 use Rattle.std.specs.Result.{result_map_both}
 use Rattle.std.proofs.lemmas.Bool.{false≢true}
-use Rattle.std.proofs.lemmas.List.{length-map, map-set, map_push, map-append, take-map, drop-map}
+use Rattle.std.proofs.lemmas.List.{map-set, map_push, map-append, take-map, drop-map}
 use Rattle.std.proofs.lemmas.List.Folds.{flat_map-map}
 use Rattle.std.proofs.lemmas.Option.{slice_get-map}
-use Rattle.plain_tables.specs.Values.{is_null}
+use Rattle.std.proofs.lemmas.Simd.{map-map}
 use Rattle.plain_tables.specs.Tables.{Table, Row, has_key_of}
 use Rattle.plain_tables.specs.Databases.{Database, table_named}
-use Rattle.plain_tables.specs.Queries.{JoinedColumn, source_columns, joined_columns, column_meant, sides_meant, full_name}
-use Rattle.plain_tables.specs.Effects.{Effect, Check, Outcome, Done, Changed, Rows, Dumped, Listed, Refused, checked, setting_name, grown_by, new_table}
-use Rattle.plain_tables.specs.References.{Reference, referred, key_type, type_of, same_type, is_typed, references, table_references, is_held, is_to, is_referenced, refers_into, refers_to, is_table_referenced}
-use Rattle.plain_tables.specs.Resolving.{meaning, number_of, on_numbered, own_columns, tests_of, assignments_of, asks_order, mistypes, is_mistyped, table_checks, drop_checks, insert_checks, update_checks, delete_checks, once, select_names, columns_of, behind, join_columns, differ_in_type, select_checks, joins_of, select_of, table_reading, load_of, resolved_of}
-use Rattle.plain_tables.specs.CsvReading.{Record}
+use Rattle.plain_tables.specs.Queries.{full_name}
+use Rattle.plain_tables.specs.Effects.{Effect, Check, Outcome, Done, Changed, Rows, Dumped, Listed, Refused, checked, grown_by, new_table}
+use Rattle.plain_tables.specs.References.{Reference, references, table_references, is_held, is_to, is_referenced}
+use Rattle.plain_tables.specs.Resolving.{resolved_of}
 use Rattle.plain_tables.specs.Doing as doing
 use Rattle.plain_tables.specs.Doing.{on_table, insert, goes_on, loaded, load_effect, load, passes_all, assigned_references, updated, picked, without, with_index, without_index, joined_tables, name_at, headings, done}
 use Rattle.plain_tables.specs.Joining.{Member, source_rows, joined, joined_all, members_of}
-use Rattle.plain_tables.specs.ResolvedLaws.{unindexed, is_on_indexes, shows_indexes, ResolvedAlike, AreDoneAlike, DoneAlike}
+use Rattle.plain_tables.specs.ResolvedLaws.{unindexed, rowless, shows_indexes, ResolvedAlike, AreDoneAlike, DoneAlike}
 use Rattle.plain_tables.specs.Commands.{effect_of_resolved, effect_of}
 use Rattle.plain_tables.specs.CommandLaws.{IndexesAreNotRead}
 use Rattle.plain_tables.specs.declared.value.Value.{Value}
-use Rattle.plain_tables.specs.declared.condition.Cond.{Cond}
 use Rattle.plain_tables.specs.declared.refusal.Refusal.{Refusal}
 use Rattle.plain_tables.specs.declared.refusal.Refusal.TheVariants.{NoSuchTable}
-use Rattle.plain_tables.specs.declared.schema.Schema.{Schema}
-use Rattle.plain_tables.specs.declared.command.Items.{Items}
-use Rattle.plain_tables.specs.declared.command.Join.{Join}
-use Rattle.plain_tables.specs.declared.command.Setting.{Setting}
 use Rattle.plain_tables.specs.declared.command.Limits.{Limits}
-use Rattle.plain_tables.specs.declared.command.Command.{Command}
-use Rattle.plain_tables.specs.declared.command.Command.TheVariants as command
 use Rattle.plain_tables.specs.declared.numbers.TableNumber.{TableNumber}
 use Rattle.plain_tables.specs.declared.numbers.Place.{Place}
 use Rattle.plain_tables.specs.declared.resolved.Source.{Source}
@@ -42,208 +34,21 @@ use Rattle.plain_tables.specs.declared.resolved.Shown.TheVariants as shown
 use Rattle.plain_tables.specs.declared.resolved.Resolved.{Resolved}
 use Rattle.plain_tables.specs.declared.resolved.Resolved.TheVariants as resolved
 use Rattle.common_lemmas.proofs.Tests.{any_agree, all_agree}
-use Rattle.common_lemmas.proofs.Maps.{map_agree}
-use Rattle.common_lemmas.proofs.Options.{is_some-option_map}
+use Rattle.common_lemmas.proofs.Maps.{cons_option-map}
 use Rattle.plain_tables.proofs.ResolvedLemmas.{none_shown}
-use Rattle.plain_tables.proofs.IndexLemmas.{bare, named_unindexed, place_unindexed, found_bare, checked_as}
-use Rattle.plain_tables.proofs.TypeLemmas.{AreKeyedAlike, type_alike, typed_alike, row_alike, reading_alike}
+use Rattle.plain_tables.proofs.IndexLemmas.{bare, found_bare, checked_as}
+use Rattle.plain_tables.proofs.SchemaLemmas.{resolved_by_schemas}
+use Rattle.plain_tables.proofs.TableNames.{table_named-map}
 
 -- the tables with no index declared
 abbrev plain : Database → Database
 plain tables = map unindexed tables
 
-cons_option-map : {X Y : Type 0} (f : X → Y) (o : Option X) (xs : List X) → cons_option (option_map f o) (map f xs) ≡ map f (cons_option o xs)
-cons_option-map f None xs = refl
-cons_option-map f (Some x) xs = refl
-
--- the columns of joined tables
-joined_columns_plain : (n : ℕ) (among : List Table)
-    → flat_map source_columns (enumerate_from n (plain among)) ≡ flat_map source_columns (enumerate_from n among)
-joined_columns_plain n [] = refl
-joined_columns_plain n (t ∷ among) = ap (λ cs. source_columns (n, t) ++ cs) (joined_columns_plain (n + 1) among)
-
--- ---- types
-
-key_plain : (found : Option Table) → option_and_then key_type (option_map unindexed found) ≡ option_and_then key_type found
-key_plain None = refl
-key_plain (Some t) = refl
-
-keyed_plain : (tables : Database) → AreKeyedAlike (plain tables) tables
-keyed_plain tables name = ap (option_and_then key_type) (named_unindexed name tables) ∙ key_plain (table_named name tables)
-
-column_plain : (tables : Database) (v : Value) (found : Option JoinedColumn)
-    → option_map_or (λ joined. not (is_typed (plain tables) v joined.column.kind)) found false
-    ≡ option_map_or (λ joined. not (is_typed tables v joined.column.kind)) found false
-column_plain tables v None = refl
-column_plain tables v (Some joined) = ap not (typed_alike (plain tables) tables (keyed_plain tables) v joined.column.kind)
-
-settings_plain : (tables : Database) (columns : List JoinedColumn) (settings : List Setting)
-    → list_any (λ s. mistypes (plain tables) columns (setting_name s) s.value) settings
-    ≡ list_any (λ s. mistypes tables columns (setting_name s) s.value) settings
-settings_plain tables columns settings =
-    any_agree (λ s. mistypes (plain tables) columns (setting_name s) s.value) (λ s. mistypes tables columns (setting_name s) s.value)
-    (λ s. column_plain tables s.value (column_meant columns (setting_name s))) settings
-
-conditions_plain : (tables : Database) (columns : List JoinedColumn) (conditions : List Cond)
-    → list_any (is_mistyped (plain tables) columns) conditions ≡ list_any (is_mistyped tables columns) conditions
-conditions_plain tables columns conditions =
-    any_agree (is_mistyped (plain tables) columns) (is_mistyped tables columns)
-    (λ c. ap (λ b. b || (is_null c.value && asks_order c.op)) (column_plain tables c.value (column_meant columns c.column))) conditions
-
-referred_plain : (tables : Database) (found : Option (List ℕ))
-    → option_map_or (λ name. is_some (table_named name (plain tables))) found true
-    ≡ option_map_or (λ name. is_some (table_named name tables)) found true
-referred_plain tables None = refl
-referred_plain tables (Some name) = ap is_some (named_unindexed name tables) ∙ is_some-option_map unindexed (table_named name tables)
-
--- ---- commands resolved
-
-abbrev Means : Type 0
-Means = Result Resolved Refusal
-
-numbered_found : (found : Option Table) (e f : Table → Means) → ((t : Table) → f (unindexed t) ≡ e t)
-    → option_map_or f (option_map unindexed found) (Err NoSuchTable) ≡ option_map_or e found (Err NoSuchTable)
-numbered_found None e f same = refl
-numbered_found (Some t) e f same = same t
-
-numbered_plain : (name : List ℕ) (tables : Database) (e f : TableNumber → Table → Means) → ((n : TableNumber) (t : Table) → f n (unindexed t) ≡ e n t)
-    → on_numbered name (plain tables) f ≡ on_numbered name tables e
-numbered_plain name tables e f same =
-    let number : ℕ → TableNumber = λ place. record { 0 = place } in
-    ap (λ place. option_map_or (f (number place)) (table_named name (plain tables)) (Err NoSuchTable)) (place_unindexed name tables)
-    ∙ ap (λ found. option_map_or (f (number_of name tables)) found (Err NoSuchTable)) (named_unindexed name tables)
-    ∙ numbered_found (table_named name tables) (e (number_of name tables)) (f (number_of name tables)) (same (number_of name tables))
-
--- the same checks let the same command pass
-same_checks : (checks others : List Check) (r : Resolved) → checks ≡ others → meaning checks r ≡ meaning others r
-same_checks checks others r same = ap (λ cs. meaning cs r) same
-
-table_checks_plain : (tables : Database) (name : List ℕ) (schema : Schema) → table_checks (plain tables) name schema ≡ table_checks tables name schema
-table_checks_plain tables name schema =
-    let into : list_any (λ c. not (refers_into (plain tables) c)) schema.columns ≡ list_any (λ c. not (refers_into tables c)) schema.columns =
-    any_agree (λ c. not (refers_into (plain tables) c)) (λ c. not (refers_into tables c))
-    (λ c. ap not (referred_plain tables (referred c.kind))) schema.columns
-    in
-    let there : is_some (table_named name (plain tables)) ≡ is_some (table_named name tables) =
-    ap is_some (named_unindexed name tables) ∙ is_some-option_map unindexed (table_named name tables)
-    in
-    rw (into, there, length-map tables unindexed) refl
-
--- ---- selects
-
--- the tables of these names
-names_plain : (tables : Database) (names : List (List ℕ))
-    → filter_map (λ name. table_named name (plain tables)) names ≡ plain (filter_map (λ name. table_named name tables) names)
-names_plain tables [] = refl
-names_plain tables (name ∷ names) =
-    rw (named_unindexed name tables, names_plain tables names)
-    (cons_option-map unindexed (table_named name tables) (filter_map (λ n. table_named n tables) names))
-
-columns_of_plain : (tables : Database) (names : List (List ℕ)) → columns_of (plain tables) names ≡ columns_of tables names
-columns_of_plain tables names =
-    ap joined_columns (names_plain tables (once names)) ∙ joined_columns_plain 0 (filter_map (λ name. table_named name tables) (once names))
-
-sides_plain : (tables : Database) (join : List (List ℕ) × Join) → join_columns (plain tables) join ≡ join_columns tables join
-sides_plain tables join =
-    ap (λ columns. sides_meant columns (columns_of (plain tables) (join.1.table ∷ [])) join.1) (columns_of_plain tables join.0)
-    ∙ ap (λ columns. sides_meant (columns_of tables join.0) columns join.1) (columns_of_plain tables (join.1.table ∷ []))
-
-differ_plain : (tables : Database) (sides : Option (JoinedColumn × JoinedColumn))
-    → option_map_or (differ_in_type (plain tables)) sides false ≡ option_map_or (differ_in_type tables) sides false
-differ_plain tables None = refl
-differ_plain tables (Some sides) =
-    ap (λ t. not (same_type t (type_of (plain tables) sides.1.column.kind)))
-    (type_alike (plain tables) tables (keyed_plain tables) sides.0.column.kind)
-    ∙ ap (λ t. not (same_type (type_of tables sides.0.column.kind) t))
-    (type_alike (plain tables) tables (keyed_plain tables) sides.1.column.kind)
-
-select_checks_plain : (tables : Database) (its : Items) (name : List ℕ) (joins : List Join) (conditions : List Cond)
-    → select_checks (plain tables) its name joins conditions ≡ select_checks tables its name joins conditions
-select_checks_plain tables its name joins conditions =
-    let names : List (List ℕ) = select_names name joins in
-    let all : List (List (List ℕ) × Join) = behind (name ∷ []) joins in
-    let missing : list_any (λ n. not (is_some (table_named n (plain tables)))) names ≡ list_any (λ n. not (is_some (table_named n tables))) names =
-    any_agree (λ n. not (is_some (table_named n (plain tables)))) (λ n. not (is_some (table_named n tables)))
-    (λ n. ap not (ap is_some (named_unindexed n tables) ∙ is_some-option_map unindexed (table_named n tables))) names
-    in
-    let sides : map (join_columns (plain tables)) all ≡ map (join_columns tables) all =
-    map_agree (join_columns (plain tables)) (join_columns tables) (sides_plain tables) all
-    in
-    let differ : list_any (λ s. option_map_or (differ_in_type (plain tables)) s false) (map (join_columns tables) all)
-    ≡ list_any (λ s. option_map_or (differ_in_type tables) s false) (map (join_columns tables) all) =
-    any_agree (λ s. option_map_or (differ_in_type (plain tables)) s false) (λ s. option_map_or (differ_in_type tables) s false)
-    (differ_plain tables) (map (join_columns tables) all)
-    in
-    rw (missing, columns_of_plain tables names, sides, conditions_plain tables (columns_of tables names) conditions, differ) refl
-
-joins_plain : (tables : Database) (columns : List JoinedColumn) (conditions : List Cond) (joins : List (List (List ℕ) × Join))
-    → joins_of (plain tables) columns conditions joins ≡ joins_of tables columns conditions joins
-joins_plain tables columns conditions [] = refl
-joins_plain tables columns conditions (join ∷ joins) =
-    rw (sides_plain tables join, place_unindexed join.1.table tables, joins_plain tables columns conditions joins) refl
-
-select_plain : (tables : Database) (distinct : Bool) (its : Items) (name : List ℕ) (joins : List Join) (conditions : List Cond)
-    → select_of (plain tables) distinct its name joins conditions ≡ select_of tables distinct its name joins conditions
-select_plain tables distinct its name joins conditions =
-    let columns : List JoinedColumn = columns_of tables (select_names name joins) in
-    rw (
-      columns_of_plain tables (select_names name joins),
-      place_unindexed name tables,
-      joins_plain tables columns conditions (behind (name ∷ []) joins),
-    ) refl
-
--- the same columns refer to a table
-referring_plain : (tables : Database) (name : List ℕ) → is_table_referenced (plain tables) name ≡ is_table_referenced tables name
-referring_plain [] name = refl
-referring_plain (t ∷ tables) name = ap (λ b. list_any (refers_to name) t.columns || b) (referring_plain tables name)
-
-resolved_plain : (records : List Record) (tables : Database) (c : Command) → is_on_indexes c ≡ false
-    → resolved_of records (plain tables) c ≡ resolved_of records tables c
-resolved_plain records tables (command.Table name schema) other =
-    same_checks (table_checks (plain tables) name schema) (table_checks tables name schema) (resolved.Table name schema)
-    (table_checks_plain tables name schema)
-resolved_plain records tables (command.DropTable name) other =
-    numbered_plain name tables (λ n t. meaning (drop_checks tables t) (resolved.DropTable n))
-    (λ n t. meaning (drop_checks (plain tables) t) (resolved.DropTable n))
-    (λ n t. same_checks (drop_checks (plain tables) (unindexed t)) (drop_checks tables t) (resolved.DropTable n)
-    (rw (referring_plain tables t.name) refl))
-resolved_plain records tables (command.Index name column k) other = absurd (false≢true (sym other))
-resolved_plain records tables (command.DropIndex name column k) other = absurd (false≢true (sym other))
-resolved_plain records tables (command.Insert name row) other =
-    numbered_plain name tables (λ n t. meaning (insert_checks tables t row) (resolved.Insert n row))
-    (λ n t. meaning (insert_checks (plain tables) t row) (resolved.Insert n row))
-    (λ n t. same_checks (insert_checks (plain tables) (unindexed t) row) (insert_checks tables t row) (resolved.Insert n row)
-    (rw (row_alike (plain tables) tables (keyed_plain tables) t.columns row) refl))
-resolved_plain records tables (command.Update name settings conditions) other =
-    numbered_plain name tables
-    (λ n t. meaning (update_checks tables t settings conditions)
-    (resolved.Update n (assignments_of (own_columns t) settings) (tests_of (own_columns t) conditions)))
-    (λ n t. meaning (update_checks (plain tables) t settings conditions)
-    (resolved.Update n (assignments_of (own_columns t) settings) (tests_of (own_columns t) conditions)))
-    (λ n t. same_checks (update_checks (plain tables) (unindexed t) settings conditions) (update_checks tables t settings conditions)
-    (resolved.Update n (assignments_of (own_columns t) settings) (tests_of (own_columns t) conditions))
-    (rw (settings_plain tables (own_columns t) settings, conditions_plain tables (own_columns t) conditions) refl))
-resolved_plain records tables (command.Delete name conditions) other =
-    numbered_plain name tables
-    (λ n t. meaning (delete_checks tables t conditions) (resolved.Delete n (tests_of (own_columns t) conditions)))
-    (λ n t. meaning (delete_checks (plain tables) t conditions) (resolved.Delete n (tests_of (own_columns t) conditions)))
-    (λ n t. same_checks (delete_checks (plain tables) (unindexed t) conditions) (delete_checks tables t conditions)
-    (resolved.Delete n (tests_of (own_columns t) conditions)) (rw (conditions_plain tables (own_columns t) conditions) refl))
-resolved_plain records tables (command.Select distinct its name joins conditions) other =
-    same_checks (select_checks (plain tables) its name joins conditions) (select_checks tables its name joins conditions)
-    (select_of (plain tables) distinct its name joins conditions) (select_checks_plain tables its name joins conditions)
-    ∙ ap (meaning (select_checks tables its name joins conditions)) (select_plain tables distinct its name joins conditions)
-resolved_plain records tables (command.Load name bytes) other =
-    numbered_plain name tables (λ n t. load_of n (table_reading tables t records))
-    (λ n t. load_of n (table_reading (plain tables) t records))
-    (λ n t. ap (load_of n) (reading_alike (plain tables) tables (keyed_plain tables) t records))
-resolved_plain records tables (command.Dump name) other =
-    numbered_plain name tables (λ n t. Ok (resolved.Dump n)) (λ n t. Ok (resolved.Dump n)) (λ n t. refl)
-resolved_plain records tables command.Tables other = refl
-
+-- commands are resolved by names and columns alone
 pub resolved_alike : ResolvedAlike
 resolved_alike records tables others c other alike =
-    sym (resolved_plain records tables c other) ∙ ap (λ d. resolved_of records d c) alike ∙ resolved_plain records others c other
+    resolved_by_schemas records tables others c other
+    (sym (map-map rowless unindexed tables) ∙ ap (map rowless) alike ∙ map-map rowless unindexed others)
 
 -- ---- rows that are named
 
@@ -255,7 +60,7 @@ held_found (Some t) v = refl
 
 held_plain : (tables : Database) (r : Reference) → is_held (plain tables) r ≡ is_held tables r
 held_plain tables r =
-    ap (λ found. option_map_or (λ table. has_key_of (r.1 ∷ []) table.rows) found false) (named_unindexed r.0 tables)
+    ap (λ found. option_map_or (λ table. has_key_of (r.1 ∷ []) table.rows) found false) (table_named-map unindexed (λ t. refl) r.0 tables)
     ∙ held_found (table_named r.0 tables) r.1
 
 all_held_plain : (tables : Database) (refs : List Reference) → list_all (is_held (plain tables)) refs ≡ list_all (is_held tables) refs

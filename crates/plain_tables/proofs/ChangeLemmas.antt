@@ -3,10 +3,10 @@ use Rattle.std.proofs.Common.{◌≡◌, ◌<◌, ℕ, zero, suc, true, false, n
 use Rattle.std.specs.Prelude.{Ok, pos, ◌==◌}
 use Rattle.std.specs.List.{list_any, slice_get}
 use Rattle.std.proofs.lemmas.Bool.{or_parts, eqb-false, cond-true, cond-false}
-use Rattle.std.proofs.lemmas.List.{length-set, get_or-set_same, get_or-set_other}
+use Rattle.std.proofs.lemmas.List.{length-set, get_or-set_same, get_or-set_other, set-set}
 use Rattle.std.proofs.lemmas.List.Filters.{length-filter_both}
 use Rattle.std.proofs.lemmas.Option.{none-some, same_Some, slice_get_within}
-use Rattle.common_lemmas.proofs.Places.{slice_get-set_other, slice_get_set, set_again}
+use Rattle.common_lemmas.proofs.Places.{slice_get-set_other, slice_get_set}
 use Rattle.plain_tables.specs.Tables.{Table, Row}
 use Rattle.plain_tables.specs.Databases.{Database}
 use Rattle.plain_tables.specs.Queries.{value_at}
@@ -54,7 +54,7 @@ other_rows_again tables others n old new (inr (first, last, at, before, same)) t
       new,
       at,
       ap {A = Table} {B = Table} (λ t. record t { rows = first.rows }) (alike ∙ is) ∙ before,
-      ap (λ d. set d n.0 new) same ∙ set_again tables n.0 last new,
+      ap (λ d. set d n.0 new) same ∙ set-set tables n.0 last new,
     )
 
 -- so do the tables with rows loaded
@@ -132,7 +132,7 @@ not_dumped name block why same = cc
 not_listed : (tables : Database) (why : Refusal) → Listed tables ≡ Refused why → ⊥
 not_listed tables why same = cc
 
-refusal_keeps : (tables : Database) (r : Refusal) → KeepsIfRefused tables (refused tables r)
+pub refusal_keeps : (tables : Database) (r : Refusal) → KeepsIfRefused tables (refused tables r)
 refusal_keeps tables r why same = refl
 
 pub refused_update_keeps : RefusedUpdateKeeps

@@ -1,25 +1,12 @@
 -- Tables with no index declared: what is found of them, and effects on them.
-use Rattle.std.proofs.Common.{◌≡◌, ◌+◌, ℕ, map, List, [], ◌∷◌, inl, inr, ap, ◌∙◌, refl, Option, Some, None}
-use Rattle.std.specs.List.{position_or_len}
+use Rattle.std.proofs.Common.{◌≡◌, map, List, [], ◌∷◌, inl, inr, ap, ◌∙◌, refl, Option, Some, None}
 use Rattle.std.specs.Option.{option_map, option_map_or}
 use Rattle.std.proofs.lemmas.Bool.{cases_Bool}
 use Rattle.plain_tables.specs.Tables.{Table}
-use Rattle.plain_tables.specs.Databases.{Database, is_named, table_named}
+use Rattle.plain_tables.specs.Databases.{Database}
 use Rattle.plain_tables.specs.Effects.{Effect, Check, checked, Refused}
 use Rattle.plain_tables.specs.ResolvedLaws.{unindexed}
 use Rattle.plain_tables.specs.declared.refusal.Refusal.TheVariants.{NoSuchTable}
-
--- ---- tables by name
-
-pub named_unindexed : (name : List ℕ) (tables : Database) → table_named name (map unindexed tables) ≡ option_map unindexed (table_named name tables)
-named_unindexed name [] = refl
-named_unindexed name (t ∷ tables) =
-    elim (cases_Bool (is_named name t)) [ inl e ↦ rw e refl | inr f ↦ rw f (named_unindexed name tables) ]
-
-pub place_unindexed : (name : List ℕ) (tables : Database) → position_or_len (is_named name) (map unindexed tables) ≡ position_or_len (is_named name) tables
-place_unindexed name [] = refl
-place_unindexed name (t ∷ tables) =
-    elim (cases_Bool (is_named name t)) [ inl e ↦ rw e refl | inr f ↦ rw f (ap (λ n. 1 + n) (place_unindexed name tables)) ]
 
 -- ---- effects
 

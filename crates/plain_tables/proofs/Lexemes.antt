@@ -1,5 +1,5 @@
 -- Lexemes: a line is made of a symbol and others where its lexeme is that symbol and the rest is made of the others.
-use Rattle.std.proofs.Common.{◌≡◌, ℕ, suc, ◌+◌, ◌<◌, List, [], ◌∷◌, ◌++◌, length, take, drop, Bool, true, false, cond, ◌⊎◌, inl, inr, IsTrue, IsFalse, refl, sym, ◌∙◌, ap, arith, append-nil, append_assoc, subst, ◌≤◌, length-append}
+use Rattle.std.proofs.Common.{◌≡◌, ℕ, ◌+◌, ◌<◌, List, [], ◌∷◌, ◌++◌, length, take, drop, Bool, true, false, cond, ◌⊎◌, inl, inr, IsTrue, IsFalse, refl, sym, ◌∙◌, ap, arith, append-nil, append_assoc, subst, ◌≤◌, length-append}
 use Rattle.std.specs.List.{prefix_len, AllByRecursion, list_all, flat_map}
 use Rattle.std.specs.Prelude.{ℤ, ◌==◌, ◌||◌}
 use Rattle.std.specs.Char.{digit_value}
@@ -16,7 +16,7 @@ use Rattle.plain_tables.specs.Spelling.{Mark, Open, Close, Comma, Dot, Star, Ope
 use Rattle.plain_tables.specs.declared.value.Value.TheVariants as value
 use Rattle.plain_tables.specs.declared.condition.Op.TheVariants as op
 use Rattle.plain_tables.specs.Reading.{behind_blanks, begins_run, is_operator, operator_length, length_behind, lexeme_length, lexeme, after_lexeme}
-use Rattle.plain_tables.proofs.Texts.{NoMarkFirst, text_length-literal, behind_text-free}
+use Rattle.plain_tables.proofs.Texts.{NoMarkFirst, one_more, text_length-literal, behind_text-free}
 
 -- ---- a front of a list of which each element passes a test, before one that doesn't
 
@@ -26,9 +26,6 @@ AllPass p xs = AllByRecursion (λ c. IsTrue (p c)) xs
 abbrev pub StopsBefore : (ℕ → Bool) → List ℕ → Type 0
 StopsBefore p [] = Unit {0}
 StopsBefore p (c ∷ cs) = IsFalse (p c)
-
-one_more : (n : ℕ) → 1 + n ≡ suc n
-one_more n = omega arith
 
 pub prefix_len-front : (p : ℕ → Bool) (xs ys : List ℕ) → AllPass p xs → StopsBefore p ys → prefix_len p (xs ++ ys) ≡ length xs
 prefix_len-front p [] [] all stops = refl
@@ -57,6 +54,12 @@ rest-stops p (x ∷ xs) = stops_one_later p x xs (prefix_len p xs) (p x) refl (r
 
 pub word-no_blank : (c : ℕ) → is_word_character c ≡ true → is_blank c ≡ false
 word-no_blank c h = grind (arith, nat_tests)
+
+pub word-ascii : (c : ℕ) → is_word_character c ≡ true → c < 128
+word-ascii c h = grind (arith, nat_tests)
+
+pub begins-ascii : (c : ℕ) → begins_run c ≡ true → c < 128
+begins-ascii c h = grind (arith, nat_tests)
 
 pub letter-word : (c : ℕ) → is_letter c ≡ true → is_word_character c ≡ true
 letter-word c h = rw h refl
@@ -331,7 +334,7 @@ lexeme-ends : (line : List ℕ) (symbol : Symbol) → IsWellFormed symbol → Is
 unfolding lexeme after_lexeme
 lexeme-ends line symbol well is = shape-ends (behind_blanks line) symbol (symbol-shape (lexeme line) symbol well is)
 
-line-parts : (line : List ℕ) → line ≡ take (prefix_len is_blank line) line ++ (lexeme line ++ after_lexeme line)
+pub line-parts : (line : List ℕ) → line ≡ take (prefix_len is_blank line) line ++ (lexeme line ++ after_lexeme line)
 unfolding lexeme after_lexeme
 line-parts line = rw (take-append-drop (lexeme_length (behind_blanks line)) (behind_blanks line), take-append-drop (prefix_len is_blank line) line) refl
 

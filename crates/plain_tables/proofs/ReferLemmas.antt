@@ -42,7 +42,7 @@ named_alike name (t ∷ tables) (u ∷ others) same =
     ]
 
 -- what a column refers to is there in the one database if it is in the other
-refers_as : (found : Option (List ℕ)) (tables others : Database)
+pub refers_as : (found : Option (List ℕ)) (tables others : Database)
     → ((name : List ℕ) → is_some (table_named name tables) ≡ true → is_some (table_named name others) ≡ true)
     → option_map_or (λ name. is_some (table_named name tables)) found true ≡ true
     → option_map_or (λ name. is_some (table_named name others)) found true ≡ true

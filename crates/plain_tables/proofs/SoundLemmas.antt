@@ -260,11 +260,11 @@ insert_keeps limits tables n row sound of =
     (old_fit limits tables n.0 table new sound there keeps))))
 
 -- rows that can be inserted into the table of a number
-abbrev CanTake : TableNumber → List Row → Database → Type 0
+abbrev pub CanTake : TableNumber → List Row → Database → Type 0
 CanTake n rows tables = OfTable n tables (λ table. All (λ row. IsInsertable tables row table) rows)
 
 -- rows that come after another can be inserted behind it
-can_take_on : (limits : Limits) (tables : Database) (n : TableNumber) (row : Row) (rows : List Row) → CanTake n (row ∷ rows) tables
+pub can_take_on : (limits : Limits) (tables : Database) (n : TableNumber) (row : Row) (rows : List Row) → CanTake n (row ∷ rows) tables
     → CanTake n rows (insert limits tables n row).database
 can_take_on limits tables n row rows (old, at, can) =
     let later : All (λ r. IsInsertable tables r old) rows = All-tail (λ r. IsInsertable tables r old) row rows can in

@@ -23,13 +23,14 @@ use Rattle.plain_tables.specs.Doing.{in_record, left_with, with_record, loaded, 
 use Rattle.plain_tables.specs.ResolvedLaws.{LoadCanBeTakenBack}
 use Rattle.plain_tables.specs.declared.command.Limits.{Limits}
 use Rattle.plain_tables.specs.declared.numbers.TableNumber.{TableNumber}
+use Rattle.std.proofs.lemmas.List.{set-set}
 use Rattle.plain_tables.proofs.EffectLemmas.{insert_satisfies, goes_on_parts}
 use Rattle.plain_tables.proofs.HeldLemmas.{RowsFit, row_holds}
 use Rattle.common_lemmas.proofs.Pairs.{AllPairs-head, AllPairs-tail}
 use Rattle.common_lemmas.proofs.Elements.{All-at, All-flat_map}
 use Rattle.common_lemmas.proofs.Tests.{any_agree}
 use Rattle.common_lemmas.proofs.Options.{not_Ok, same_Ok}
-use Rattle.common_lemmas.proofs.Places.{set_again, set_itself, slice_get_set}
+use Rattle.common_lemmas.proofs.Places.{set_itself, slice_get_set}
 use Rattle.plain_tables.proofs.ReferLemmas.{refers_not_to_itself, references_elsewhere}
 use Rattle.plain_tables.proofs.RowLemmas.{key_cmp_total, key_cmp-one_way, apart_by_key, with_row-rises}
 
@@ -186,7 +187,7 @@ loaded_put_in limits tables n table k (row ∷ rows) new before there rise all =
     let (after, last, put) = loaded_put_in limits first n table (k + 1) rows new (with_row row before) here
     (with_row-rises row before rise) others in (
       after,
-      last ∙ ap (λ d. set d n.0 (having table after)) left ∙ set_again tables n.0 more (having table after),
+      last ∙ ap (λ d. set d n.0 (having table after)) left ∙ set-set tables n.0 more (having table after),
       put_in_more row rows before after rise absent put,
     )
 
@@ -292,7 +293,7 @@ load_can_be_taken_back limits tables new n k rows sound (table, there, t) all =
     deleted others n last picks (slice_get_set tables n.0 last (slice_get_within tables n.0 table there))
     (none_referenced limits tables n.0 table rows after sound there put.fresh) in
     let back : set others n.0 (without picks last) ≡ tables =
-    set_again tables n.0 last (without picks last) ∙ ap (λ rs. set tables n.0 (having table rs)) put.kept
+    set-set tables n.0 last (without picks last) ∙ ap (λ rs. set tables n.0 (having table rs)) put.kept
     ∙ set_itself tables n.0 table there in
     let count : length (picked picks last) ≡ length rows =
     let both = length-filter_both picks (λ row. not (picks row)) (λ row. refl) after in

@@ -16,7 +16,7 @@ NoMarkFirst (c ∷ cs) = IsFalse (c == 39)
 two_more : (n : ℕ) → 2 + n ≡ suc (suc n)
 two_more n = omega arith
 
-one_more : (n : ℕ) → 1 + n ≡ suc n
+pub one_more : (n : ℕ) → 1 + n ≡ suc n
 one_more n = omega arith
 
 text_length-plain : (c : ℕ) (cs : List ℕ) → (c == 39) ≡ false → text_length (c ∷ cs) ≡ 1 + text_length cs

@@ -175,7 +175,7 @@ pass_own tables columns conditions k (name ∷ names) (row ∷ member) long =
 compared_alike : (v w : Value) → is_eq (value_cmp v w) ≡ is_eq (value_cmp w v)
 compared_alike v w = ap is_eq (value_cmp_total.antisymm v w) ∙ is_eq-reverse (value_cmp w v)
 
-equal_either_way : (v w : Value) → are_equal v w ≡ are_equal w v
+pub equal_either_way : (v w : Value) → are_equal v w ≡ are_equal w v
 equal_either_way value.Null value.Null = refl
 equal_either_way value.Null (value.Int b) = refl
 equal_either_way value.Null (value.Text t) = refl

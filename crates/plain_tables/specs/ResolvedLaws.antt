@@ -195,6 +195,10 @@ CommandsKeepSound =
 abbrev pub unindexed : Table → Table
 unindexed table = record table { indexes = [] }
 
+-- a table without its rows and declared indexes: what a command is resolved by
+abbrev pub emptied : Table → Table
+emptied table = record table { indexes = []; rows = [] }
+
 -- whether a command declares an index or drops one
 abbrev pub is_on_indexes : Command → Bool
 is_on_indexes (command.Index name column k) = true
