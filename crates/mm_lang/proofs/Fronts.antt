@@ -1,22 +1,21 @@
 -- Fronts: what stands at the front of a line, symbol by symbol.
-use Rattle.std.proofs.Common.{◌≡◌, ◌≢◌, ℕ, ◌<◌, ◌≤◌, List, [], ◌∷◌, ◌++◌, length, Option, Some, None, true, false, refl, sym, ◌∙◌, ap, arith, subst}
+use Rattle.std.proofs.Common.{◌≡◌, ◌≢◌, ℕ, ◌≤◌, List, [], ◌∷◌, ◌++◌, length, Option, Some, None, true, false, refl, sym, ◌∙◌, ap, arith, subst}
 use Rattle.std.specs.Prelude.{Bool, Result, Err}
 use Rattle.std.specs.Str.{IsUtf8, IsAscii, bytes_eq}
 use Rattle.std.proofs.lemmas.Bool.{and_parts}
-use Rattle.std.proofs.lemmas.Bool.Decides.{nat_tests}
 use Rattle.std.proofs.lemmas.Slice.Eq.{bytes_eq-Decides}
 use Rattle.std.proofs.lemmas.Str.{IsUtf8-from_ascii}
 use Rattle.std.proofs.lemmas.Str.Ascii.{IsAscii-nil, IsAscii-cons}
 use lib.Chars.{codes}
 use Rattle.plain_tables.specs.Names.{IsName, is_name, is_word, is_word_character, is_letter}
 use Rattle.plain_tables.specs.Spelling.{Symbol, Name, Literal, Sign, Operator, operator_text, IsSymbol, value_symbols, kind_symbols, column_symbols, name_symbols, setting_symbols, condition_symbols}
-use Rattle.plain_tables.specs.Reading.{begins_run, lexeme, after_lexeme}
+use Rattle.plain_tables.specs.Reading.{lexeme, after_lexeme}
 use Rattle.plain_tables.specs.declared.value.Value.{Value}
 use Rattle.plain_tables.specs.declared.value.Value.TheVariants as value
 use Rattle.plain_tables.specs.declared.condition.Op.{Op}
 use Rattle.plain_tables.specs.declared.condition.Op.TheVariants as op
 use Rattle.plain_tables.specs.declared.condition.ColName.{ColName}
-use Rattle.plain_tables.proofs.Lexemes.{AllPass, IsRun, word-run, letter-word, symbol-run, integer-run, length-lexeme}
+use Rattle.plain_tables.proofs.Lexemes.{AllPass, IsRun, word-run, letter-word, word-ascii, begins-ascii, symbol-run, integer-run, length-lexeme}
 use Rattle.plain_tables.proofs.Integers.{Literal-only}
 use Rattle.plain_tables.proofs.FirstWords.{different}
 use Rattle.plain_tables.proofs.SingleItems.{operator-one, whole_name}
@@ -37,9 +36,6 @@ same-error r y d e p q h = cc
 
 -- ---- names
 
-word-ascii : (c : ℕ) → is_word_character c ≡ true → c < 128
-word-ascii c h = grind (arith, nat_tests)
-
 run-ascii : (cs : List ℕ) → AllPass is_word_character cs → IsAscii cs
 run-ascii [] all = IsAscii-nil
 run-ascii (c ∷ cs) all = IsAscii-cons c cs (word-ascii c all.0) (run-ascii cs all.1)
@@ -54,12 +50,9 @@ name-utf8 name h =
     let word : is_word name ≡ true = (and_parts (is_word name) _ h).0 in
     IsUtf8-from_ascii name (letters-ascii name (word-run name word) word)
 
-minus-or-word : (c : ℕ) → begins_run c ≡ true → c < 128
-minus-or-word c h = grind (arith, nat_tests)
-
 run-is_ascii : (cs : List ℕ) → IsRun cs → IsAscii cs
 run-is_ascii [] run = elim run [ ]
-run-is_ascii (c ∷ cs) run = IsAscii-cons c cs (minus-or-word c run.1) (run-ascii cs run.2)
+run-is_ascii (c ∷ cs) run = IsAscii-cons c cs (begins-ascii c run.1) (run-ascii cs run.2)
 
 pub no-name : (line name : List ℕ) → (IsName (lexeme line) → ⊥) → IsSymbol (lexeme line) (Name name) → ⊥
 no-name line name not is = not (subst IsName (sym is.0) is.1)

@@ -3,7 +3,7 @@ use Rattle.std.specs.Str.{IsUtf8}
 use Rattle.std.specs.String.{string_bytes}
 use Rattle.std.proofs.lemmas.Str.Pattern.{split_parts, strip_prefix_char}
 use Rattle.mm_lang.proofs.Marks.{undoubled-step, undoubled-last, undoubled-none}
-use Rattle.mm_lang.proofs.Utf8.{utf8-behind}
+use Rattle.plain_tables.proofs.Utf8Parts.{utf8-behind}
 use Rattle.mm_lang.proofs.texts.joined.Goals as goal
 
 pub returns-in_default-strip_prefix-clause-syntax : goal.returns-in_default-strip_prefix-clause-syntax

@@ -2,7 +2,7 @@ use Rattle.std.proofs.Common.{Some, arith, subst}
 use Rattle.std.specs.Str.{IsUtf8}
 use Rattle.std.proofs.lemmas.Str.Pattern.{split_parts}
 use Rattle.mm_lang.proofs.Marks.{doubled-step, doubled-last}
-use Rattle.mm_lang.proofs.Utf8.{utf8-behind}
+use Rattle.plain_tables.proofs.Utf8Parts.{utf8-behind}
 use Rattle.mm_lang.proofs.texts.push_doubled.Goals as goal
 
 pub loop-part-preserved : goal.loop-part-preserved
