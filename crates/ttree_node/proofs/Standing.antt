@@ -10,10 +10,9 @@ use Rattle.ttree_node.specs.Tree.{Tree, empty, node, Frame, went_left, went_righ
 use Rattle.ttree_node.specs.Linked.{Spot, spot, there, root_of, parent_of, side_of, node_for, zipper_at, occurs, located, Linked, Sound, IsPlaceIn, is_place_in}
 use Rattle.ttree_node.specs.Seen.{tree_of, position_at}
 use Rattle.ttree_node.specs.declared.nodes.NodePlace.{NodePlace}
-use Rattle.ttree_node.specs.declared.node.Node.{Node}
 use Rattle.ttree_node.specs.declared.parts.Parts.{Parts}
 use Rattle.ttree_node.proofs.Shape.{one_same, occurs_plug, unplug, zipper_is, CutTree, cut_tree}
-use Rattle.ttree_node.proofs.Spares.{located_is, some_node}
+use Rattle.ttree_node.proofs.Spares.{located_is}
 
 abbrev pub label : Spot → Label TupleRef
 label x = x.label
@@ -92,9 +91,6 @@ module _ {MAX : ℕ} where
   module _ (p : Parts MAX) (q : Ptr) (s : Standing p q) where
     abbrev here : Tree Spot
     here = node s.l (spot q s.x) s.r
-
-    found : (n : Node MAX) → node_at q p.nodes.held ≡ Some n → n ≡ node_for s.x (parent_of s.above) (side_of s.above) (root_of s.l) (root_of s.r)
-    found n e = some_node (sym e ∙ s.node)
 
     in_tree : (c : List (Frame Spot)) (t : Tree Spot) → plug c t ≡ plug s.above here → is_node t ≡ true → IsPlaceIn (located p) (root_of t)
     in_tree c t e h = (λ i. is_place_in ((located_is p (plug s.above here) s.spares s.linked ∙ sym e) i) (root_of t)) ∙ placed_root c t h

@@ -11,10 +11,6 @@ pub data Frame (X : Type 0) : Type 0 where
   went_left : X → Tree X → Frame X
   went_right : Tree X → X → Frame X
 
-pub data Step : Type 0 where
-  left : Step
-  right : Step
-
 -- a place in a tree: the subtree that is there, and the steps above it, the last one first
 pub record Zipper (X : Type 0) : Type 0 where
   pub above : List (Frame X)
@@ -51,15 +47,6 @@ module _ {X : Type 0} where
 
   abbrev pub whole : Zipper X → Tree X
   whole z = plug z.above z.here
-
-  abbrev pub step_of : Frame X → Step
-  step_of (went_left x r) = left
-  step_of (went_right l x) = right
-
-  -- the steps from the root, the last one first
-  abbrev pub path_up : List (Frame X) → List Step
-  path_up [] = []
-  path_up (f ∷ c) = step_of f ∷ path_up c
 
 -- the same tree with other labels
 module _ {X Y : Type 0} (f : X → Y) where
