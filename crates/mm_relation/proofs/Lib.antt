@@ -17,3 +17,4 @@ pub mod Declared
 pub mod Same
 pub mod Searches
 pub mod SetColumns
+pub mod Sorted

@@ -110,10 +110,10 @@ module _ (keys : Keys) (rows : Tuples Row) where
   tree_serves_bag : (refs same : List TupleRef) (t : ℕ × RowTree) → IsSameBag refs same → TreeServes keys rows refs t → TreeServes keys rows same t
   tree_serves_bag refs same t bag serves = record { bag = IsSameBag-trans serves.bag bag; rising = serves.rising }
 
-  hash_serves_bag : (refs same : List TupleRef) (h : ℕ × List (ℕ × TupleRef)) → IsSameBag refs same → HashServes keys rows refs h → HashServes keys rows same h
+  pub hash_serves_bag : (refs same : List TupleRef) (h : ℕ × List (ℕ × TupleRef)) → IsSameBag refs same → HashServes keys rows refs h → HashServes keys rows same h
   hash_serves_bag refs same h bag serves = IsSameBag-trans serves (map_bag (λ r. (hash_at keys h.0 rows r, r)) refs same bag)
 
-  pub serves_bag : (refs same : List TupleRef) (s : SeenIndex) → IsSameBag refs same → Serves keys rows refs s → Serves keys rows same s
+  serves_bag : (refs same : List TupleRef) (s : SeenIndex) → IsSameBag refs same → Serves keys rows refs s → Serves keys rows same s
   serves_bag refs same s bag serves = where_map (is_tree s.declaration.kind) (tree_serves_bag refs same (s.declaration.column.0, s.tree) bag) (hash_serves_bag refs same (s.declaration.column.0, s.entries) bag) serves
 
   -- a row comes in
@@ -132,7 +132,7 @@ module _ (keys : Keys) (rows : Tuples Row) where
   gains_as differ refs r c (Tree t) (Hash g) awaits gains serves = absurd gains
   gains_as differ refs r c (Hash h) (Tree u) awaits gains serves = absurd gains
 
-  pub gains_serves : KeysDiffer rows → (refs : List TupleRef) (r : TupleRef) (old new : IndexOn) → Awaits keys rows r old → Gains keys rows r old new → Serves keys rows refs (seen old) → Serves keys rows (r ∷ refs) (seen new)
+  gains_serves : KeysDiffer rows → (refs : List TupleRef) (r : TupleRef) (old new : IndexOn) → Awaits keys rows r old → Gains keys rows r old new → Serves keys rows refs (seen old) → Serves keys rows (r ∷ refs) (seen new)
   gains_serves differ refs r old new awaits gains serves =
       subst (λ c. Serves keys rows (r ∷ refs) (seen_as c new.index)) (sym gains.0) (gains_as differ refs r old.column old.index new.index awaits gains.1 serves)
 
@@ -175,7 +175,7 @@ module _ (keys : Keys) (rows : Tuples Row) where
       let same : length h.entries ≡ length refs = length-same_bag h.entries _ serves ∙ length-map refs (λ q. (hash_at keys c.0 rows q, q)) in
       record { room = room; short = omega (arith, same, short); r_readable = read r (0, omega arith, refl) }
 
-  pub awaits_one : (refs : List TupleRef) (r : TupleRef) (on : IndexOn) → (Contains refs r → ⊥) → length refs < 2 ^ 32 → 1 ≤ room_in on.index → ((q : TupleRef) → Contains (r ∷ refs) q → IsSome (value_at keys on.column.0 rows q)) → Serves keys rows refs (seen on) → Awaits keys rows r on
+  awaits_one : (refs : List TupleRef) (r : TupleRef) (on : IndexOn) → (Contains refs r → ⊥) → length refs < 2 ^ 32 → 1 ≤ room_in on.index → ((q : TupleRef) → Contains (r ∷ refs) q → IsSome (value_at keys on.column.0 rows q)) → Serves keys rows refs (seen on) → Awaits keys rows r on
   awaits_one refs r on absent short room read serves = awaits_as refs r on.column on.index absent short room read serves
 
   has_as : (refs : List TupleRef) (r : TupleRef) (c : ColumnNumber) (index : Index) → Contains refs r → ((q : TupleRef) → Contains refs q → IsSome (value_at keys c.0 rows q)) → Serves keys rows refs (seen_as c index) → HasAs keys rows r c.0 index

@@ -6,18 +6,59 @@ ghost use Rattle.part_raw.specs.declared.tuple_ref.TupleRef.{TupleRef};
 ghost use Rattle.mm_relation.specs.Declaring.{without_first, is_index, IsAdded};
 ghost use Rattle.mm_relation.specs.Indexes.{declaration_of, seen, Serves, Serve};
 ghost use Rattle.mm_relation.specs.Reading.{value_at};
-ghost use Rattle.mm_relation.specs.State.{IsKeyed};
+ghost use Rattle.mm_relation.specs.State.{IsKeyed, TreeServes, HashServes};
 
-use crate::index::IndexOn;
+use crate::index::{Index, IndexOn, hash_in};
 use crate::indexes::is_same;
 use crate::linked_keys::LinkedKeys;
 use crate::numbers::DeclaredIndex;
 use crate::rows::Rows;
-use crate::tree::Tree;
+use crate::sorted_rows::rows_by_column;
+use crate::tree::{Tree, tree_of};
+use lin_hash::LinHash;
+use mm_index::ExactIndex;
 use no_memory::NoMemory;
 use part_raw::TupleRef;
-use plain_tables::Sequence;
+use plain_tables::{ColumnNumber, IndexKind, Sequence};
 use std::alloc::Global;
+
+// A hash on a column, which has each of the rows. They come in one by one.
+fn hash_over<R: LinkedKeys>(
+    alloc: Global,
+    rows: &Rows,
+    by_key: &Tree,
+    others: &R,
+    column: ColumnNumber,
+) -> Result<LinHash, NoMemory>
+    requires keyed { IsKeyed rows.now.tuples (items_of_tree by_key.now) }
+    requires few { finite.len rows.now.tuples ≤ 16777216 }
+    requires read { (q : TupleRef) → IsSome (finite.get rows.now.tuples q) → IsSome (value_at (R.keys others.now) column.0 rows.now.tuples q) }
+    ensures serves { IfOk result (λ h. HashServes (R.keys others.now) rows.now.tuples (items_of_tree by_key.now) (column.0, h.entries)) }
+{
+    let mut hash = LinHash::new(alloc);
+    hash.reserve(by_key.len())?;
+    for r in by_key.walk() {
+        hash.insert(hash_in(rows, others, column, r), r);
+    }
+    Ok(hash)
+}
+
+// A tree on a column, which has each of the rows. It is built from below.
+fn tree_over<R: LinkedKeys>(
+    alloc: Global,
+    rows: &Rows,
+    by_key: &Tree,
+    others: &R,
+    column: ColumnNumber,
+) -> Result<Tree, NoMemory>
+    requires keyed { IsKeyed rows.now.tuples (items_of_tree by_key.now) }
+    requires few { finite.len rows.now.tuples ≤ 16777216 }
+    requires read { (q : TupleRef) → IsSome (finite.get rows.now.tuples q) → IsSome (value_at (R.keys others.now) column.0 rows.now.tuples q) }
+    ensures serves { IfOk result (λ t. TreeServes (R.keys others.now) rows.now.tuples (items_of_tree by_key.now) (column.0, t.tree)) }
+{
+    let refs = rows_by_column(alloc, rows, by_key, others, column)?;
+    tree_of(alloc, refs.as_slice())
+}
 
 // An index as it is declared, which has each of the rows.
 fn index_over<R: LinkedKeys>(
@@ -25,20 +66,20 @@ fn index_over<R: LinkedKeys>(
     rows: &Rows,
     by_key: &Tree,
     others: &R,
-    index: DeclaredIndex,
+    declared: DeclaredIndex,
 ) -> Result<IndexOn, NoMemory>
     requires keyed { IsKeyed rows.now.tuples (items_of_tree by_key.now) }
     requires few { finite.len rows.now.tuples ≤ 16777216 }
-    requires read { (q : TupleRef) → IsSome (finite.get rows.now.tuples q) → IsSome (value_at (R.keys others.now) index.column.0 rows.now.tuples q) }
-    ensures declaration { IfOk result (λ on. declaration_of on ≡ index) }
+    requires read { (q : TupleRef) → IsSome (finite.get rows.now.tuples q) → IsSome (value_at (R.keys others.now) declared.column.0 rows.now.tuples q) }
+    ensures declaration { IfOk result (λ on. declaration_of on ≡ declared) }
     ensures serves { IfOk result (λ on. Serves (R.keys others.now) rows.now.tuples (items_of_tree by_key.now) (seen on)) }
 {
-    let mut on = IndexOn::new(alloc, index);
-    on.reserve(by_key.len())?;
-    for r in by_key.walk() {
-        on.insert(rows, others, r);
-    }
-    Ok(on)
+    let column = declared.column;
+    let index = match declared.kind {
+        IndexKind::Tree => Index::Tree(tree_over(alloc, rows, by_key, others, column)?),
+        IndexKind::Hash => Index::Hash(hash_over(alloc, rows, by_key, others, column)?),
+    };
+    Ok(IndexOn { column, index })
 }
 
 // Puts one more behind the others, which serves the rows.

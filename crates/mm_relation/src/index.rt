@@ -1,9 +1,8 @@
 //! One declared index of a relation.
-ghost use Rattle.std.specs.Prelude.{◌≡◌, ◌≤◌, [], IsSome, OnOk, max};
+ghost use Rattle.std.specs.Prelude.{◌≡◌, ◌≤◌, IsSome, OnOk, max};
 ghost use Rattle.mm_relation.specs.Order.{KeysDiffer};
 ghost use Rattle.mm_relation.specs.Reading.{value_at, hash_at};
-ghost use Rattle.mm_relation.specs.State.{tree_list};
-ghost use Rattle.mm_relation.specs.Indexes.{declaration_of, tree_in, entries_in, room_in, spares_in, HasFewSpares, seen, Awaits, Gains, Has, Loses};
+ghost use Rattle.mm_relation.specs.Indexes.{declaration_of, room_in, spares_in, HasFewSpares, seen, Awaits, Gains, Has, Loses};
 
 use crate::linked_keys::LinkedKeys;
 use crate::numbers::DeclaredIndex;
@@ -16,7 +15,6 @@ use mm_index::{ExactIndex, OrderProbe};
 use no_memory::NoMemory;
 use part_raw::TupleRef;
 use plain_tables::{ColumnNumber, IndexKind, hash_of};
-use std::alloc::Global;
 
 /// What stands on a column: the rows in the order of their values there, or under the hash of these.
 #[derive(Drop)]
@@ -33,7 +31,7 @@ pub struct IndexOn {
 }
 
 // The hash of a row's value in a column.
-fn hash_in<R: LinkedKeys>(rows: &Rows, others: &R, column: ColumnNumber, r: TupleRef) -> u64
+pub fn hash_in<R: LinkedKeys>(rows: &Rows, others: &R, column: ColumnNumber, r: TupleRef) -> u64
     requires { IsSome (value_at (R.keys others.now) column.0 rows.now.tuples r) }
     ensures { result ≡ hash_at (R.keys others.now) column.0 rows.now.tuples r }
 {
@@ -41,22 +39,6 @@ fn hash_in<R: LinkedKeys>(rows: &Rows, others: &R, column: ColumnNumber, r: Tupl
 }
 
 impl IndexOn {
-    // One with no row in it.
-    pub fn new(alloc: Global, declared: DeclaredIndex) -> IndexOn
-        ensures declaration { declaration_of result ≡ declared }
-        ensures no_list { tree_list (tree_in result.index) ≡ [] }
-        ensures no_entries { entries_in result.index ≡ [] }
-    {
-        let index = match declared.kind {
-            IndexKind::Tree => Index::Tree(Tree::new(alloc)),
-            IndexKind::Hash => Index::Hash(LinHash::new(alloc)),
-        };
-        IndexOn {
-            column: declared.column,
-            index,
-        }
-    }
-
     // How it was declared.
     pub fn declaration(&self) -> DeclaredIndex
         ensures { result ≡ declaration_of self.now }
