@@ -8,7 +8,7 @@ use Rattle.std.proofs.lemmas.Str.{IsUtf8-from_ascii}
 use Rattle.std.proofs.lemmas.Str.Ascii.{IsAscii-nil, IsAscii-cons}
 use lib.Chars.{codes}
 use Rattle.plain_tables.specs.Names.{IsName, is_name, is_word, is_word_character, is_letter}
-use Rattle.plain_tables.specs.Spelling.{Symbol, Name, Literal, Sign, Operator, operator_text, IsSymbol, value_symbols, kind_symbols, column_symbols, name_symbols, setting_symbols, condition_symbols}
+use Rattle.plain_tables.specs.Spelling.{Symbol, Name, Literal, Sign, Operator, operator_text, IsSymbol, value_symbols, kind_symbols, column_symbols, name_symbols}
 use Rattle.plain_tables.specs.Reading.{lexeme, after_lexeme}
 use Rattle.plain_tables.specs.declared.value.Value.{Value}
 use Rattle.plain_tables.specs.declared.value.Value.TheVariants as value
@@ -16,10 +16,9 @@ use Rattle.plain_tables.specs.declared.condition.Op.{Op}
 use Rattle.plain_tables.specs.declared.condition.Op.TheVariants as op
 use Rattle.plain_tables.specs.declared.condition.ColName.{ColName}
 use Rattle.plain_tables.proofs.Lexemes.{AllPass, IsRun, word-run, letter-word, word-ascii, begins-ascii, symbol-run, integer-run, length-lexeme}
-use Rattle.plain_tables.proofs.Integers.{Literal-only}
 use Rattle.plain_tables.proofs.FirstWords.{different}
-use Rattle.plain_tables.proofs.SingleItems.{operator-one, whole_name}
-use Rattle.mm_lang.specs.Parsing.{Reads, IsOfText, EndsItem, BeginsWith, BeginsWithNone}
+use Rattle.plain_tables.proofs.SingleItems.{whole_name}
+use Rattle.mm_lang.specs.Parsing.{Reads, IsOfText, EndsItem, BeginsWith, BeginsWithNone, assigned_symbols, compared_symbols}
 use Rattle.mm_lang.proofs.Utf8.{of_text-after, literal-utf8}
 
 -- ---- comparisons
@@ -102,7 +101,7 @@ pub begins-value : (line rest : List ℕ) (v : Value) → IsSymbol (lexeme line)
     → BeginsWith value_symbols line v rest
 begins-value line rest v is f = record {
   found = (is, sym f);
-  only = λ y other reads free. (Literal-only (lexeme line) v y is reads.0, sym reads.1 ∙ sym f);
+  only = λ y other reads free. sym reads.1 ∙ sym f;
 }
 
 pub begins-no_value : (line : List ℕ) → (IsOfText line → (v : Value) → IsSymbol (lexeme line) (Literal v) → ⊥)
@@ -120,64 +119,75 @@ pub no-first : (line : List ℕ) → (IsName (lexeme line) → ⊥) → (t : Opt
 no-first line not None c other reads = no-name line c not reads.0
 no-first line not (Some t) c other reads = no-name line t not reads.0
 
--- ---- settings
+-- ---- columns that get something
 
-pub begins-no_set_value : (line : List ℕ) → BeginsWithNone value_symbols (after_lexeme (after_lexeme line)) → BeginsWithNone setting_symbols line
-begins-no_set_value line not = record {
+pub begins-none_assigned : {V : Type 0} (symbols : V → List Symbol) (line : List ℕ) → BeginsWithNone symbols (after_lexeme (after_lexeme line))
+    → BeginsWithNone (assigned_symbols symbols) line
+begins-none_assigned symbols line not = record {
   none = λ of y other reads free.
-      not.none (of_text-after (after_lexeme line) (of_text-after line of)) y.value other reads.1.1 free;
+      not.none (of_text-after (after_lexeme line) (of_text-after line of)) y.1 other reads.1.1 free;
 }
 
--- ---- conditions
+-- ---- columns that are compared
 
-abbrev compared : Op → Value → List Symbol
-compared o v = Sign (Operator o) ∷ Literal v ∷ []
+abbrev compared : {V : Type 0} → (V → List Symbol) → Op → V → List Symbol
+compared symbols o v = Sign (Operator o) ∷ symbols v
 
-pub begins-condition : (line mid rest : List ℕ) (column : ColName) (o : Op) (v : Value) → BeginsWith name_symbols line column mid
-    → lexeme mid ≡ operator_text o → BeginsWith value_symbols (after_lexeme mid) v rest
-    → BeginsWith condition_symbols line (record { column = column; op = o; value = v }) rest
-begins-condition line mid rest column o v named e value = record {
-  found = reads-append line (name_symbols column) (compared o v) mid rest named.found (e, value.found);
-  only = λ y other reads free.
-      let parts : (m : List ℕ) × Reads line (name_symbols y.column) m × Reads m (compared y.op y.value) other =
-      reads-split line (name_symbols y.column) (compared y.op y.value) other reads in
-      let names : (y.column ≡ column) × (parts.0 ≡ mid) = named.only y.column parts.0 parts.1 (operator-ends_item y.op (lexeme parts.0) parts.2.0) in
-      let ops : y.op ≡ o = operator-one y.op o (sym parts.2.0 ∙ (ap lexeme names.1 ∙ e)) in
-      let tail : Reads (after_lexeme mid) (value_symbols y.value) other =
-      subst (λ l. Reads (after_lexeme l) (value_symbols y.value) other) names.1 parts.2.1 in
-      let values : (y.value ≡ v) × (other ≡ rest) = value.only y.value other tail free in
-      ((λ i. record { column = names.0 i; op = ops i; value = values.0 i }), values.1);
+-- what stands behind the column
+behind-column : {V : Type 0} (symbols : V → List Symbol) (line mid : List ℕ) (column : ColName) → BeginsWith name_symbols line column mid
+    → (y : ColName) (o : Op) (v : V) (other : List ℕ) → Reads line (name_symbols y ++ compared symbols o v) other
+    → Reads mid (compared symbols o v) other
+behind-column symbols line mid column named y o v other reads =
+    let parts : (m : List ℕ) × Reads line (name_symbols y) m × Reads m (compared symbols o v) other =
+    reads-split line (name_symbols y) (compared symbols o v) other reads in
+    subst (λ l. Reads l (compared symbols o v) other)
+    (named.only y parts.0 parts.1 (operator-ends_item o (lexeme parts.0) parts.2.0)) parts.2
+
+pub begins-compared : {V : Type 0} (symbols : V → List Symbol) (line mid rest : List ℕ) (column : ColName) (o : Op) (v : V)
+    → BeginsWith name_symbols line column mid → lexeme mid ≡ operator_text o → BeginsWith symbols (after_lexeme mid) v rest
+    → BeginsWith (compared_symbols symbols) line (column, o, v) rest
+begins-compared symbols line mid rest column o v named e value = record {
+  found = reads-append line (name_symbols column) (compared symbols o v) mid rest named.found (e, value.found);
+  only = λ y other reads free. value.only y.2 other (behind-column symbols line mid column named y.0 y.1 y.2 other reads).1 free;
 }
 
-pub begins-no_condition : (line : List ℕ) → BeginsWithNone name_symbols line → BeginsWithNone condition_symbols line
-begins-no_condition line not = record {
+pub begins-none_compared : {V : Type 0} (symbols : V → List Symbol) (line : List ℕ) → BeginsWithNone name_symbols line
+    → BeginsWithNone (compared_symbols symbols) line
+begins-none_compared symbols line not = record {
   none = λ of y other reads free.
-      let parts : (m : List ℕ) × Reads line (name_symbols y.column) m × Reads m (compared y.op y.value) other =
-      reads-split line (name_symbols y.column) (compared y.op y.value) other reads in
-      not.none of y.column parts.0 parts.1 (operator-ends_item y.op (lexeme parts.0) parts.2.0);
+      let parts : (m : List ℕ) × Reads line (name_symbols y.0) m × Reads m (compared symbols y.1 y.2) other =
+      reads-split line (name_symbols y.0) (compared symbols y.1 y.2) other reads in
+      not.none of y.0 parts.0 parts.1 (operator-ends_item y.1 (lexeme parts.0) parts.2.0);
 }
 
--- what stands behind the column of a condition
-behind-column : (line mid : List ℕ) (column : ColName) → BeginsWith name_symbols line column mid
-    → (y : ColName) (o : Op) (v : Value) (other : List ℕ) → Reads line (name_symbols y ++ compared o v) other → Reads mid (compared o v) other
-behind-column line mid column named y o v other reads =
-    let parts : (m : List ℕ) × Reads line (name_symbols y) m × Reads m (compared o v) other =
-    reads-split line (name_symbols y) (compared o v) other reads in
-    let names : (y ≡ column) × (parts.0 ≡ mid) = named.only y parts.0 parts.1 (operator-ends_item o (lexeme parts.0) parts.2.0) in
-    subst (λ l. Reads l (compared o v) other) names.1 parts.2
-
-pub begins-no_operator : (line mid : List ℕ) (column : ColName) → BeginsWith name_symbols line column mid
-    → ((o : Op) → lexeme mid ≢ operator_text o) → BeginsWithNone condition_symbols line
-begins-no_operator line mid column named not = record {
-  none = λ of y other reads free. not y.op (behind-column line mid column named y.column y.op y.value other reads).0;
+pub begins-no_operator : {V : Type 0} (symbols : V → List Symbol) (line mid : List ℕ) (column : ColName) → BeginsWith name_symbols line column mid
+    → ((o : Op) → lexeme mid ≢ operator_text o) → BeginsWithNone (compared_symbols symbols) line
+begins-no_operator symbols line mid column named not = record {
+  none = λ of y other reads free. not y.1 (behind-column symbols line mid column named y.0 y.1 y.2 other reads).0;
 }
 
-pub begins-no_compared : (line mid : List ℕ) (column : ColName) → BeginsWith name_symbols line column mid
-    → BeginsWithNone value_symbols (after_lexeme mid) → BeginsWithNone condition_symbols line
-begins-no_compared line mid column named not = record {
+pub begins-nothing_compared : {V : Type 0} (symbols : V → List Symbol) (line mid : List ℕ) (column : ColName) → BeginsWith name_symbols line column mid
+    → BeginsWithNone symbols (after_lexeme mid) → BeginsWithNone (compared_symbols symbols) line
+begins-nothing_compared symbols line mid column named not = record {
   none = λ of y other reads free.
-      not.none (of_text-after mid (reads-of_text line (name_symbols column) mid of named.found)) y.value other
-      (behind-column line mid column named y.column y.op y.value other reads).1 free;
+      not.none (of_text-after mid (reads-of_text line (name_symbols column) mid of named.found)) y.2 other
+      (behind-column symbols line mid column named y.0 y.1 y.2 other reads).1 free;
+}
+
+-- ---- items of the same symbols
+
+-- What a line begins with is another thing too, where both are spelled by the same symbols, and each of that sort is one of this.
+pub begins-as : {X Y : Type 0} (symbols : X → List Symbol) (others : Y → List Symbol) (to : Y → X) → ((y : Y) → others y ≡ symbols (to y))
+    → (line : List ℕ) (y : Y) (rest : List ℕ) → BeginsWith symbols line (to y) rest → BeginsWith others line y rest
+begins-as symbols others to same line y rest begins = record {
+  found = subst (λ ss. Reads line ss rest) (sym (same y)) begins.found;
+  only = λ z other reads free. begins.only (to z) other (subst (λ ss. Reads line ss other) (same z) reads) free;
+}
+
+pub begins-none_as : {X Y : Type 0} (symbols : X → List Symbol) (others : Y → List Symbol) (to : Y → X) → ((y : Y) → others y ≡ symbols (to y))
+    → (line : List ℕ) → BeginsWithNone symbols line → BeginsWithNone others line
+begins-none_as symbols others to same line not = record {
+  none = λ of z other reads free. not.none of (to z) other (subst (λ ss. Reads line ss other) (same z) reads) free;
 }
 
 -- Where the characters of the first symbol spell no value, if they are UTF-8, it is none.

@@ -37,10 +37,9 @@ begins-no_right line left rest begins not = record {
       let front : List ℕ = after_lexeme (after_lexeme line) in
       let text : IsOfText front = of_text-after (after_lexeme line) (of_text-after line of) in
       let parts : (mid : List ℕ) × Reads front (side_symbols y.left) mid × Reads mid (sides y.right) other = left-and line y other reads in
-      let same : (y.left ≡ left) × (parts.0 ≡ rest) =
-      begins.only y.left parts.0 parts.1 (operator-ends_item op.Eq (lexeme parts.0) parts.2.0) in
+      let same : parts.0 ≡ rest = begins.only y.left parts.0 parts.1 (operator-ends_item op.Eq (lexeme parts.0) parts.2.0) in
       not.none (of_text-after rest (reads-of_text front (side_symbols left) rest text begins.found)) y.right other
-      (subst (λ l. Reads (after_lexeme l) (side_symbols y.right) other) same.1 parts.2.1) free;
+      (subst (λ l. Reads (after_lexeme l) (side_symbols y.right) other) same parts.2.1) free;
 }
 
 -- ---- joins, one or more: a list with `join` between two of them, and one before the first
@@ -67,8 +66,8 @@ pub begins-no_join : (line : List ℕ) → lexeme line ≢ codes "join" → Begi
 begins-no_join line not = record { found = refl; only = λ others other reads free end. none-only line not others other reads }
   where
     none-only : (line : List ℕ) → lexeme line ≢ codes "join" → (others : List Join) (other : List ℕ)
-        → Reads line (flat_map join_symbols others) other → (others ≡ []) × (other ≡ line)
-    none-only line not [] other reads = (refl, sym reads)
+        → Reads line (flat_map join_symbols others) other → other ≡ line
+    none-only line not [] other reads = sym reads
     none-only line not (x ∷ xs) other reads = absurd (not (spelled-joins line x xs other reads).0)
 
 -- what a line with a `join` in front lists behind it

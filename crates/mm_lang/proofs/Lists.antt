@@ -48,34 +48,28 @@ spelled-list symbols between word is line (x ∷ y ∷ xs) rest some reads =
 
 -- ---- the reading of a list
 
--- A list stands at the front of the line where these items are the first of it, and its other items, one or more,
--- stand at the front of the rest.
+-- These items are read where a list of one or more at the front of the rest is, behind them, a list at the front of the line; and
+-- each list at the front of the line that ends goes on at the front of the rest.
 pub record HasRead {X : Type 0} (symbols : X → List Symbol) (between line : List ℕ) (items : List X) (rest : List ℕ) : Type 0 where
   pub of_text : IsOfText line → IsOfText rest
   pub found : (zs : List X) (other : List ℕ) → ReadsList symbols between rest zs other → ReadsList symbols between line (items ++ zs) other
   pub only : (ys : List X) (other : List ℕ) → ReadsList symbols between line ys other → EndsItem (lexeme other) → lexeme other ≢ between
-      → (zs : List X) × (ys ≡ items ++ zs) × ReadsList symbols between rest zs other
+      → (zs : List X) × ReadsList symbols between rest zs other
 
 -- what a list is by its first item: nothing else, or a separator and the others behind it
-data Tail {X : Type 0} (symbols : X → List Symbol) (between behind : List ℕ) (x : X) (zs : List X) (other : List ℕ) : Type 0 where
-  Ends : zs ≡ x ∷ [] → other ≡ behind → Tail symbols between behind x zs other
-  GoesOn : (ws : List X) → zs ≡ x ∷ ws → lexeme behind ≡ between → ReadsList symbols between (after_lexeme behind) ws other
-      → Tail symbols between behind x zs other
+data Tail {X : Type 0} (symbols : X → List Symbol) (between behind other : List ℕ) : Type 0 where
+  Ends : other ≡ behind → Tail symbols between behind other
+  GoesOn : (ws : List X) → lexeme behind ≡ between → ReadsList symbols between (after_lexeme behind) ws other
+      → Tail symbols between behind other
 
 first-item : {X : Type 0} (symbols : X → List Symbol) (between rest : List ℕ) (x : X) (behind : List ℕ) → EndsItem between
     → BeginsWith symbols rest x behind → (zs : List X) (other : List ℕ) → ReadsList symbols between rest zs other
-    → EndsItem (lexeme other) → Tail symbols between behind x zs other
+    → EndsItem (lexeme other) → Tail symbols between behind other
 first-item symbols between rest x behind ends begins [] other reads free = elim reads [ ]
-first-item symbols between rest x behind ends begins (z ∷ []) other reads free =
-    let parts : (z ≡ x) × (other ≡ behind) = begins.only z other reads free in
-    Ends (ap (λ y. y ∷ []) parts.0) parts.1
+first-item symbols between rest x behind ends begins (z ∷ []) other reads free = Ends (begins.only z other reads free)
 first-item symbols between rest x behind ends begins (z ∷ w ∷ ws) other (mid, first, e, others) free =
-    let parts : (z ≡ x) × (mid ≡ behind) = begins.only z mid first (subst EndsItem (sym e) ends) in
-    GoesOn (w ∷ ws) (ap (λ y. y ∷ w ∷ ws) parts.0) (ap lexeme (sym parts.1) ∙ e)
-    (subst (λ l. ReadsList symbols between (after_lexeme l) (w ∷ ws) other) parts.1 others)
-
-one_later : {X : Type 0} (items : List X) (x : X) (ys zs ws : List X) → ys ≡ items ++ zs → zs ≡ x ∷ ws → ys ≡ (items ++ x ∷ []) ++ ws
-one_later items x ys zs ws e f = e ∙ (ap (λ l. items ++ l) f ∙ sym (append_assoc items (x ∷ []) ws))
+    let same : mid ≡ behind = begins.only z mid first (subst EndsItem (sym e) ends) in
+    GoesOn (w ∷ ws) (ap lexeme (sym same) ∙ e) (subst (λ l. ReadsList symbols between (after_lexeme l) (w ∷ ws) other) same others)
 
 put-first : {X : Type 0} (symbols : X → List Symbol) (between rest : List ℕ) (x : X) (behind : List ℕ) → Reads rest (symbols x) behind
     → lexeme behind ≡ between → (zs : List X) (other : List ℕ) → ReadsList symbols between (after_lexeme behind) zs other
@@ -86,21 +80,13 @@ put-first symbols between rest x behind first e (z ∷ zs) other reads = (behind
 -- ---- a separator behind an item
 
 -- the items that a list still has behind those that are read
-abbrev Others : {X : Type 0} → (X → List Symbol) → List ℕ → List X → List ℕ → List X → List ℕ → Type 0
-Others {X} symbols between items rest ys other = (zs : List X) × (ys ≡ items ++ zs) × ReadsList symbols between rest zs other
+abbrev Others : {X : Type 0} → (X → List Symbol) → List ℕ → List ℕ → List ℕ → Type 0
+Others {X} symbols between rest other = (zs : List X) × ReadsList symbols between rest zs other
 
-further-tail : {X : Type 0} (symbols : X → List Symbol) (between : List ℕ) (items : List X) (x : X) (behind : List ℕ) → lexeme behind ≡ between
-    → (ys zs : List X) (other : List ℕ) → ys ≡ items ++ zs → lexeme other ≢ between → Tail symbols between behind x zs other
-    → Others symbols between (items ++ x ∷ []) (after_lexeme behind) ys other
-further-tail symbols between items x behind sep ys zs other e end (Ends f same) = absurd (end (ap lexeme same ∙ sep))
-further-tail symbols between items x behind sep ys zs other e end (GoesOn ws f g others) = (ws, one_later items x ys zs ws e f, others)
-
-further-only : {X : Type 0} (symbols : X → List Symbol) (between : List ℕ) (items : List X) (rest : List ℕ) (x : X) (behind : List ℕ)
-    → EndsItem between → BeginsWith symbols rest x behind → lexeme behind ≡ between → (ys : List X) (other : List ℕ)
-    → EndsItem (lexeme other) → lexeme other ≢ between → Others symbols between items rest ys other
-    → Others symbols between (items ++ x ∷ []) (after_lexeme behind) ys other
-further-only symbols between items rest x behind ends begins sep ys other free end (zs, e, reads) =
-    further-tail symbols between items x behind sep ys zs other e end (first-item symbols between rest x behind ends begins zs other reads free)
+further-tail : {X : Type 0} (symbols : X → List Symbol) (between behind : List ℕ) → lexeme behind ≡ between → (other : List ℕ)
+    → lexeme other ≢ between → Tail symbols between behind other → Others symbols between (after_lexeme behind) other
+further-tail symbols between behind sep other end (Ends same) = absurd (end (ap lexeme same ∙ sep))
+further-tail symbols between behind sep other end (GoesOn ws g others) = (ws, others)
 
 pub has_read-further : {X : Type 0} (symbols : X → List Symbol) (between line : List ℕ) (items : List X) (rest : List ℕ) (x : X) (behind : List ℕ)
     → EndsItem between → HasRead symbols between line items rest → BeginsWith symbols rest x behind → lexeme behind ≡ between
@@ -111,22 +97,16 @@ has_read-further symbols between line items rest x behind ends read begins sep =
       subst (λ l. ReadsList symbols between line l other) (sym (append_assoc items (x ∷ []) zs))
       (read.found (x ∷ zs) other (put-first symbols between rest x behind begins.found sep zs other reads));
   only = λ ys other reads free end.
-      further-only symbols between items rest x behind ends begins sep ys other free end (read.only ys other reads free end);
+      let others : Others symbols between rest other = read.only ys other reads free end in
+      further-tail symbols between behind sep other end (first-item symbols between rest x behind ends begins others.0 other others.1 free);
 }
 
 -- ---- the last item
 
-last-tail : {X : Type 0} (symbols : X → List Symbol) (between : List ℕ) (items : List X) (x : X) (behind : List ℕ) → lexeme behind ≢ between
-    → (ys zs : List X) (other : List ℕ) → ys ≡ items ++ zs → Tail symbols between behind x zs other
-    → (ys ≡ items ++ x ∷ []) × (other ≡ behind)
-last-tail symbols between items x behind end ys zs other e (Ends f same) = (e ∙ ap (λ l. items ++ l) f, same)
-last-tail symbols between items x behind end ys zs other e (GoesOn ws f g others) = absurd (end g)
-
-last-only : {X : Type 0} (symbols : X → List Symbol) (between : List ℕ) (items : List X) (rest : List ℕ) (x : X) (behind : List ℕ)
-    → EndsItem between → BeginsWith symbols rest x behind → lexeme behind ≢ between → (ys : List X) (other : List ℕ)
-    → EndsItem (lexeme other) → Others symbols between items rest ys other → (ys ≡ items ++ x ∷ []) × (other ≡ behind)
-last-only symbols between items rest x behind ends begins end ys other free (zs, e, reads) =
-    last-tail symbols between items x behind end ys zs other e (first-item symbols between rest x behind ends begins zs other reads free)
+last-tail : {X : Type 0} (symbols : X → List Symbol) (between behind : List ℕ) → lexeme behind ≢ between → (other : List ℕ)
+    → Tail symbols between behind other → other ≡ behind
+last-tail symbols between behind end other (Ends same) = same
+last-tail symbols between behind end other (GoesOn ws g others) = absurd (end g)
 
 pub has_read-last : {X : Type 0} (symbols : X → List Symbol) (between line : List ℕ) (items : List X) (rest : List ℕ) (x : X) (behind : List ℕ)
     → EndsItem between → HasRead symbols between line items rest → BeginsWith symbols rest x behind → lexeme behind ≢ between
@@ -134,7 +114,8 @@ pub has_read-last : {X : Type 0} (symbols : X → List Symbol) (between line : L
 has_read-last symbols between line items rest x behind ends read begins end = record {
   found = read.found (x ∷ []) behind begins.found;
   only = λ ys other reads free last.
-      last-only symbols between items rest x behind ends begins end ys other free (read.only ys other reads free last);
+      let others : Others symbols between rest other = read.only ys other reads free last in
+      last-tail symbols between behind end other (first-item symbols between rest x behind ends begins others.0 other others.1 free);
 }
 
 -- ---- no item
@@ -149,6 +130,6 @@ pub has_read-no_item : {X : Type 0} (symbols : X → List Symbol) (between line 
     → HasRead symbols between line items rest → BeginsWithNone symbols rest → BeginsWithNoList symbols between line
 has_read-no_item symbols between line items rest ends read not = record {
   none = λ of ys other reads free end.
-      let others : Others symbols between items rest ys other = read.only ys other reads free end in
-      no-first symbols between rest ends (read.of_text of) not others.0 other free others.2;
+      let others : Others symbols between rest other = read.only ys other reads free end in
+      no-first symbols between rest ends (read.of_text of) not others.0 other free others.1;
 }

@@ -14,7 +14,7 @@ use Rattle.plain_tables.specs.declared.command.Setting.{Setting}
 use Rattle.plain_tables.specs.declared.command.Command.{Command}
 use Rattle.plain_tables.specs.declared.command.Command.TheVariants.{Table, DropTable, Index, DropIndex, Insert, Update, Delete, Load, Dump}
 use Rattle.plain_tables.proofs.FirstWords.{different, first_word, behind_word, split-word}
-use Rattle.mm_lang.specs.Parsing.{Reads, IsWhole, ReadsList, IsOfText, EndsItem, BeginsWithList, BeginsWithNoList, IsNameAndList, IsWhere, Completes}
+use Rattle.mm_lang.specs.Parsing.{Reads, IsWhole, ReadsList, IsOfText, EndsItem, BeginsWithList, BeginsWithNoList, IsNameAndList, where_of, IsWhere, IsUpdate, IsDelete, Completes}
 use Rattle.mm_lang.proofs.Fronts.{no-name, reads-append, reads-split, not-word, word-ends_item}
 use Rattle.mm_lang.proofs.Lists.{list-some, list-spelled, spelled-list}
 use Rattle.mm_lang.proofs.Utf8.{of_text-after}
@@ -30,43 +30,46 @@ spelled-comma symbols line xs rest some reads = spelled-list symbols (Sign Comma
 
 -- ---- conditions, up to the end of the line
 
-pub where-some : (line front : List ℕ) (conditions : List Cond) (rest : List ℕ) → lexeme line ≡ codes "where" → front ≡ after_lexeme line
-    → ReadsList condition_symbols (codes "and") front conditions rest → lexeme rest ≡ [] → IsWhere line conditions
-where-some line front [] rest word f reads end = elim reads [ ]
-where-some line front (x ∷ xs) rest word f reads end =
-    let behind : ReadsList condition_symbols (codes "and") (after_lexeme line) (x ∷ xs) rest =
-    subst (λ l. ReadsList condition_symbols (codes "and") l (x ∷ xs) rest) f reads in
-    (rest, (word, list-spelled condition_symbols (Keyword (codes "and")) (codes "and") (λ characters e. e) (after_lexeme line) (x ∷ xs) rest behind), end)
+pub where_of-conditions : (conditions : List Cond) → where_of condition_symbols conditions ≡ where_symbols conditions
+where_of-conditions [] = refl
+where_of-conditions (x ∷ xs) = refl
 
-where-behind : (line : List ℕ) (conditions : List Cond) → IsWhere line conditions → lexeme line ≡ codes "where"
-    → (rest : List ℕ) × ReadsList condition_symbols (codes "and") (after_lexeme line) conditions rest × (lexeme rest ≡ [])
-where-behind line [] (rest, e, end) word = absurd (different (codes "where") [] refl (sym word ∙ (ap lexeme e ∙ end)))
-where-behind line (x ∷ xs) (rest, (word', reads), end) word =
-    (rest, spelled-list condition_symbols (Keyword (codes "and")) (codes "and") (λ characters e. e) (after_lexeme line) (x ∷ xs) rest (omega arith) reads, end)
+pub where-some : {X : Type 0} (symbols : X → List Symbol) (line front : List ℕ) (conditions : List X) (rest : List ℕ) → lexeme line ≡ codes "where"
+    → front ≡ after_lexeme line → ReadsList symbols (codes "and") front conditions rest → lexeme rest ≡ [] → IsWhere symbols line conditions
+where-some symbols line front [] rest word f reads end = elim reads [ ]
+where-some symbols line front (x ∷ xs) rest word f reads end =
+    let behind : ReadsList symbols (codes "and") (after_lexeme line) (x ∷ xs) rest =
+    subst (λ l. ReadsList symbols (codes "and") l (x ∷ xs) rest) f reads in
+    (rest, (word, list-spelled symbols (Keyword (codes "and")) (codes "and") (λ characters e. e) (after_lexeme line) (x ∷ xs) rest behind), end)
 
-pub no-conditions : (line front : List ℕ) → lexeme line ≡ codes "where" → front ≡ after_lexeme line
-    → BeginsWithNoList condition_symbols (codes "and") front → IsOfText line → (conditions : List Cond) → IsWhere line conditions → ⊥
-no-conditions line front word f not of conditions is =
-    let parts : (rest : List ℕ) × ReadsList condition_symbols (codes "and") (after_lexeme line) conditions rest × (lexeme rest ≡ []) =
-    where-behind line conditions is word in
-    not.none (subst IsOfText (sym f) (of_text-after line of)) conditions parts.0
-    (subst (λ l. ReadsList condition_symbols (codes "and") l conditions parts.0) (sym f) parts.1)
-    (word-ends_item (lexeme parts.0) [] refl refl parts.2) (not-word (lexeme parts.0) [] (codes "and") refl parts.2)
+where-behind : {X : Type 0} (symbols : X → List Symbol) (line : List ℕ) (conditions : List X) → IsWhere symbols line conditions
+    → lexeme line ≡ codes "where" → (rest : List ℕ) × ReadsList symbols (codes "and") (after_lexeme line) conditions rest × (lexeme rest ≡ [])
+where-behind symbols line [] (rest, e, end) word = absurd (different (codes "where") [] refl (sym word ∙ (ap lexeme e ∙ end)))
+where-behind symbols line (x ∷ xs) (rest, (word', reads), end) word =
+    (rest, spelled-list symbols (Keyword (codes "and")) (codes "and") (λ characters e. e) (after_lexeme line) (x ∷ xs) rest (omega arith) reads, end)
 
-pub more-behind_conditions : (line front : List ℕ) (found : List Cond) (behind : List ℕ) → lexeme line ≡ codes "where" → front ≡ after_lexeme line
-    → BeginsWithList condition_symbols (codes "and") front found behind → lexeme behind ≢ []
-    → (conditions : List Cond) → IsWhere line conditions → ⊥
-more-behind_conditions line front found behind word f list more conditions is =
-    let parts : (rest : List ℕ) × ReadsList condition_symbols (codes "and") (after_lexeme line) conditions rest × (lexeme rest ≡ []) =
-    where-behind line conditions is word in
-    let same : (conditions ≡ found) × (parts.0 ≡ behind) =
-    list.only conditions parts.0 (subst (λ l. ReadsList condition_symbols (codes "and") l conditions parts.0) (sym f) parts.1)
-    (word-ends_item (lexeme parts.0) [] refl refl parts.2) (not-word (lexeme parts.0) [] (codes "and") refl parts.2) in
-    more (ap lexeme (sym same.1) ∙ parts.2)
+pub no-conditions : {X : Type 0} (symbols : X → List Symbol) (line front : List ℕ) → lexeme line ≡ codes "where" → front ≡ after_lexeme line
+    → BeginsWithNoList symbols (codes "and") front → IsOfText line → (conditions : List X) → IsWhere symbols line conditions → ⊥
+no-conditions symbols line front word f not of conditions is =
+    let (rest, listed, end) = where-behind symbols line conditions is word in
+    not.none (subst IsOfText (sym f) (of_text-after line of)) conditions rest
+    (subst (λ l. ReadsList symbols (codes "and") l conditions rest) (sym f) listed)
+    (word-ends_item (lexeme rest) [] refl refl end) (not-word (lexeme rest) [] (codes "and") refl end)
 
-pub where-begins : (line : List ℕ) (conditions : List Cond) → IsWhere line conditions → (lexeme line ≡ []) ⊎ (lexeme line ≡ codes "where")
-where-begins line [] (rest, e, end) = inl (ap lexeme e ∙ end)
-where-begins line (x ∷ xs) (rest, (word, reads), end) = inr word
+pub more-behind_conditions : {X : Type 0} (symbols : X → List Symbol) (line front : List ℕ) (found : List X) (behind : List ℕ)
+    → lexeme line ≡ codes "where" → front ≡ after_lexeme line → BeginsWithList symbols (codes "and") front found behind → lexeme behind ≢ []
+    → (conditions : List X) → IsWhere symbols line conditions → ⊥
+more-behind_conditions symbols line front found behind word f list more conditions is =
+    let (rest, listed, end) = where-behind symbols line conditions is word in
+    let same : rest ≡ behind =
+    list.only conditions rest (subst (λ l. ReadsList symbols (codes "and") l conditions rest) (sym f) listed)
+    (word-ends_item (lexeme rest) [] refl refl end) (not-word (lexeme rest) [] (codes "and") refl end) in
+    more (ap lexeme (sym same) ∙ end)
+
+pub where-begins : {X : Type 0} (symbols : X → List Symbol) (line : List ℕ) (conditions : List X) → IsWhere symbols line conditions
+    → (lexeme line ≡ []) ⊎ (lexeme line ≡ codes "where")
+where-begins symbols line [] (rest, e, end) = inl (ap lexeme e ∙ end)
+where-begins symbols line (x ∷ xs) (rest, (word, reads), end) = inr word
 
 pub either-not : (characters word : List ℕ) → bytes_eq [] word ≡ false → bytes_eq (codes "where") word ≡ false
     → (characters ≡ []) ⊎ (characters ≡ codes "where") → characters ≢ word
@@ -99,7 +102,7 @@ completed line command some made = record { some = some; symbols = behind_word c
 
 -- ---- a name and a list in parentheses
 
-named-list : {X : Type 0} (symbols : X → List Symbol) (line name : List ℕ) (xs : List X) → IsNameAndList symbols line name xs
+pub named-list : {X : Type 0} (symbols : X → List Symbol) (line name : List ℕ) (xs : List X) → IsNameAndList symbols line name xs
     → IsWhole line (Name name ∷ Sign Open ∷ separated (map symbols xs) ++ Sign Close ∷ [])
 named-list symbols line name xs is =
     let front : List ℕ = after_lexeme (after_lexeme line) in
@@ -108,7 +111,7 @@ named-list symbols line name xs is =
     (comma-spelled symbols front xs is.rest is.listed) (is.closes, refl) in
     (after_lexeme is.rest, ((is.first, is.is), (is.opens, list)), is.ends)
 
-list-named : {X : Type 0} (symbols : X → List Symbol) (line name : List ℕ) (xs : List X) → 0 < length xs
+pub list-named : {X : Type 0} (symbols : X → List Symbol) (line name : List ℕ) (xs : List X) → 0 < length xs
     → IsWhole line (Name name ∷ Sign Open ∷ separated (map symbols xs) ++ Sign Close ∷ []) → IsNameAndList symbols line name xs
 list-named symbols line name xs some (end, (first, (opens, reads)), ends) =
     let front : List ℕ = after_lexeme (after_lexeme line) in
@@ -223,76 +226,99 @@ dump-only line not command completes = other-word line (codes "dump") command re
 
 -- ---- update
 
--- The line is a name, `set`, settings with commas between them, and conditions.
-pub record IsUpdate (line table : List ℕ) (settings : List Setting) (conditions : List Cond) : Type 0 where
-  pub is : IsName table
-  pub first : lexeme line ≡ table
-  pub sets : lexeme (after_lexeme line) ≡ codes "set"
-  pub rest : List ℕ
-  pub listed : ReadsList setting_symbols (codes ",") (after_lexeme (after_lexeme line)) settings rest
-  pub tail : IsWhere rest conditions
-
-pub update-completed : (line table : List ℕ) (settings : List Setting) (conditions : List Cond) → IsUpdate line table settings conditions
-    → Completes (codes "update") line (Update table settings conditions)
-update-completed line table settings conditions is =
+-- the line as it is read, and as it is spelled
+pub update-whole : {S C : Type 0} (settings_by : S → List Symbol) (conditions_by : C → List Symbol) (line table : List ℕ) (settings : List S)
+    (conditions : List C) → IsUpdate settings_by conditions_by line table settings conditions
+    → IsWhole line (Name table ∷ Keyword (codes "set") ∷ separated (map settings_by settings) ++ where_of conditions_by conditions)
+update-whole settings_by conditions_by line table settings conditions is =
     let front : List ℕ = after_lexeme (after_lexeme line) in
-    let reads : Reads front (separated (map setting_symbols settings) ++ where_symbols conditions) is.tail.0 =
-    reads-append front (separated (map setting_symbols settings)) (where_symbols conditions) is.rest is.tail.0
-    (comma-spelled setting_symbols front settings is.rest is.listed) is.tail.1 in
-    completed line (Update table settings conditions) (list-some setting_symbols (codes ",") front settings is.rest is.listed)
+    let reads : Reads front (separated (map settings_by settings) ++ where_of conditions_by conditions) is.tail.0 =
+    reads-append front (separated (map settings_by settings)) (where_of conditions_by conditions) is.rest is.tail.0
+    (comma-spelled settings_by front settings is.rest is.listed) is.tail.1 in
     (is.tail.0, ((is.first, is.is), (is.sets, reads)), is.tail.2)
 
-update-parts : (line table : List ℕ) (settings : List Setting) (conditions : List Cond)
-    → Completes (codes "update") line (Update table settings conditions) → IsUpdate line table settings conditions
-update-parts line table settings conditions completes =
+pub whole-update : {S C : Type 0} (settings_by : S → List Symbol) (conditions_by : C → List Symbol) (line table : List ℕ) (settings : List S)
+    (conditions : List C) → 0 < length settings
+    → IsWhole line (Name table ∷ Keyword (codes "set") ∷ separated (map settings_by settings) ++ where_of conditions_by conditions)
+    → IsUpdate settings_by conditions_by line table settings conditions
+whole-update settings_by conditions_by line table settings conditions some made =
     let front : List ℕ = after_lexeme (after_lexeme line) in
-    let made : IsWhole line (behind_word (Update table settings conditions)) = behind-first line (Update table settings conditions) completes in
-    let parts : (mid : List ℕ) × Reads front (separated (map setting_symbols settings)) mid × Reads mid (where_symbols conditions) made.0 =
-    reads-split front (separated (map setting_symbols settings)) (where_symbols conditions) made.0 made.1.1.1 in
+    let parts : (mid : List ℕ) × Reads front (separated (map settings_by settings)) mid × Reads mid (where_of conditions_by conditions) made.0 =
+    reads-split front (separated (map settings_by settings)) (where_of conditions_by conditions) made.0 made.1.1.1 in
     record {
       is = made.1.0.1;
       first = made.1.0.0;
       sets = made.1.1.0;
       rest = parts.0;
-      listed = spelled-comma setting_symbols front settings parts.0 completes.some parts.1;
+      listed = spelled-comma settings_by front settings parts.0 some parts.1;
       tail = (made.0, parts.2, made.2);
     }
 
-pub update-only : (line : List ℕ) → ((table : List ℕ) (settings : List Setting) (conditions : List Cond) → IsUpdate line table settings conditions → ⊥)
+pub update-some : {S C : Type 0} (settings_by : S → List Symbol) (conditions_by : C → List Symbol) (line table : List ℕ) (settings : List S)
+    (conditions : List C) → IsUpdate settings_by conditions_by line table settings conditions → 0 < length settings
+update-some settings_by conditions_by line table settings conditions is =
+    list-some settings_by (codes ",") (after_lexeme (after_lexeme line)) settings is.rest is.listed
+
+pub update-completed : (line table : List ℕ) (settings : List Setting) (conditions : List Cond)
+    → IsUpdate setting_symbols condition_symbols line table settings conditions → Completes (codes "update") line (Update table settings conditions)
+update-completed line table settings conditions is =
+    completed line (Update table settings conditions) (update-some setting_symbols condition_symbols line table settings conditions is)
+    (subst (λ w. IsWhole line (Name table ∷ Keyword (codes "set") ∷ separated (map setting_symbols settings) ++ w)) (where_of-conditions conditions)
+    (update-whole setting_symbols condition_symbols line table settings conditions is))
+
+pub update-only : (line : List ℕ)
+    → ((table : List ℕ) (settings : List Setting) (conditions : List Cond)
+    → IsUpdate setting_symbols condition_symbols line table settings conditions → ⊥)
     → (command : Command) → Completes (codes "update") line command → ⊥
 update-only line not (Update table settings conditions) completes =
-    not table settings conditions (update-parts line table settings conditions completes)
+    not table settings conditions
+    (whole-update setting_symbols condition_symbols line table settings conditions completes.some
+    (subst (λ w. IsWhole line (Name table ∷ Keyword (codes "set") ∷ separated (map setting_symbols settings) ++ w))
+    (sym (where_of-conditions conditions)) (behind-first line (Update table settings conditions) completes)))
 update-only line not command completes = other-word line (codes "update") command refl completes
 
-pub no-settings : (line front : List ℕ) → front ≡ after_lexeme (after_lexeme line) → BeginsWithNoList setting_symbols (codes ",") front
-    → IsOfText line → (table : List ℕ) (settings : List Setting) (conditions : List Cond) → IsUpdate line table settings conditions → ⊥
-no-settings line front f not of table settings conditions is =
+pub no-settings : {S C : Type 0} (settings_by : S → List Symbol) (conditions_by : C → List Symbol) (line front : List ℕ)
+    → front ≡ after_lexeme (after_lexeme line) → BeginsWithNoList settings_by (codes ",") front → IsOfText line
+    → (table : List ℕ) (settings : List S) (conditions : List C) → IsUpdate settings_by conditions_by line table settings conditions → ⊥
+no-settings settings_by conditions_by line front f not of table settings conditions is =
     not.none (subst IsOfText (sym f) (of_text-after (after_lexeme line) (of_text-after line of))) settings is.rest
-    (subst (λ l. ReadsList setting_symbols (codes ",") l settings is.rest) (sym f) is.listed)
-    (either-ends_item (lexeme is.rest) (where-begins is.rest conditions is.tail))
-    (either-not (lexeme is.rest) (codes ",") refl refl (where-begins is.rest conditions is.tail))
+    (subst (λ l. ReadsList settings_by (codes ",") l settings is.rest) (sym f) is.listed)
+    (either-ends_item (lexeme is.rest) (where-begins conditions_by is.rest conditions is.tail))
+    (either-not (lexeme is.rest) (codes ",") refl refl (where-begins conditions_by is.rest conditions is.tail))
 
-pub no-tail_of_update : (line front : List ℕ) (found : List Setting) (behind : List ℕ) → front ≡ after_lexeme (after_lexeme line)
-    → BeginsWithList setting_symbols (codes ",") front found behind → ((conditions : List Cond) → IsWhere behind conditions → ⊥)
-    → (table : List ℕ) (settings : List Setting) (conditions : List Cond) → IsUpdate line table settings conditions → ⊥
-no-tail_of_update line front found behind f list not table settings conditions is =
-    let same : (settings ≡ found) × (is.rest ≡ behind) =
-    list.only settings is.rest (subst (λ l. ReadsList setting_symbols (codes ",") l settings is.rest) (sym f) is.listed)
-    (either-ends_item (lexeme is.rest) (where-begins is.rest conditions is.tail))
-    (either-not (lexeme is.rest) (codes ",") refl refl (where-begins is.rest conditions is.tail)) in
-    not conditions (subst (λ l. IsWhere l conditions) same.1 is.tail)
+pub no-tail_of_update : {S C : Type 0} (settings_by : S → List Symbol) (conditions_by : C → List Symbol) (line front : List ℕ) (found : List S)
+    (behind : List ℕ) → front ≡ after_lexeme (after_lexeme line) → BeginsWithList settings_by (codes ",") front found behind
+    → ((conditions : List C) → IsWhere conditions_by behind conditions → ⊥)
+    → (table : List ℕ) (settings : List S) (conditions : List C) → IsUpdate settings_by conditions_by line table settings conditions → ⊥
+no-tail_of_update settings_by conditions_by line front found behind f list not table settings conditions is =
+    let same : is.rest ≡ behind =
+    list.only settings is.rest (subst (λ l. ReadsList settings_by (codes ",") l settings is.rest) (sym f) is.listed)
+    (either-ends_item (lexeme is.rest) (where-begins conditions_by is.rest conditions is.tail))
+    (either-not (lexeme is.rest) (codes ",") refl refl (where-begins conditions_by is.rest conditions is.tail)) in
+    not conditions (subst (λ l. IsWhere conditions_by l conditions) same is.tail)
 
 -- ---- delete
 
-pub delete-completed : (line table rest : List ℕ) (conditions : List Cond) → IsName (lexeme line) → table ≡ lexeme line → rest ≡ after_lexeme line
-    → IsWhere rest conditions → Completes (codes "delete") line (Delete table conditions)
-delete-completed line table rest conditions is e f tail =
-    let behind : IsWhere (after_lexeme line) conditions = subst (λ l. IsWhere l conditions) f tail in
-    completed line (Delete table conditions) tt (behind.0, ((sym e, subst IsName (sym e) is), behind.1), behind.2)
+pub delete-whole : {C : Type 0} (symbols : C → List Symbol) (line table rest : List ℕ) (conditions : List C) → IsName (lexeme line)
+    → table ≡ lexeme line → rest ≡ after_lexeme line → IsWhere symbols rest conditions → IsDelete symbols line table conditions
+delete-whole symbols line table rest conditions is e f tail =
+    let behind : IsWhere symbols (after_lexeme line) conditions = subst (λ l. IsWhere symbols l conditions) f tail in
+    (behind.0, ((sym e, subst IsName (sym e) is), behind.1), behind.2)
 
-pub delete-only : (line rest : List ℕ) → rest ≡ after_lexeme line → ((conditions : List Cond) → IsWhere rest conditions → ⊥)
+pub no-tail_of_delete : {C : Type 0} (symbols : C → List Symbol) (line rest : List ℕ) → rest ≡ after_lexeme line
+    → ((conditions : List C) → IsWhere symbols rest conditions → ⊥)
+    → (table : List ℕ) (conditions : List C) → IsDelete symbols line table conditions → ⊥
+no-tail_of_delete symbols line rest f not table conditions made =
+    not conditions (subst (λ l. IsWhere symbols l conditions) (sym f) (made.0, made.1.1, made.2))
+
+pub delete-completed : (line table : List ℕ) (conditions : List Cond) → IsDelete condition_symbols line table conditions
+    → Completes (codes "delete") line (Delete table conditions)
+delete-completed line table conditions is =
+    completed line (Delete table conditions) tt (subst (λ w. IsWhole line (Name table ∷ w)) (where_of-conditions conditions) is)
+
+pub delete-only : (line : List ℕ) → ((table : List ℕ) (conditions : List Cond) → IsDelete condition_symbols line table conditions → ⊥)
     → (command : Command) → Completes (codes "delete") line command → ⊥
-delete-only line rest f not (Delete table conditions) completes =
-    let made : IsWhole line (behind_word (Delete table conditions)) = behind-first line (Delete table conditions) completes in
-    not conditions (subst (λ l. IsWhere l conditions) (sym f) (made.0, made.1.1, made.2))
-delete-only line rest f not command completes = other-word line (codes "delete") command refl completes
+delete-only line not (Delete table conditions) completes =
+    not table conditions
+    (subst (λ w. IsWhole line (Name table ∷ w)) (sym (where_of-conditions conditions)) (behind-first line (Delete table conditions) completes))
+delete-only line not command completes = other-word line (codes "delete") command refl completes

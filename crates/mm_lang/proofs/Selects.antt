@@ -3,7 +3,7 @@ use Rattle.std.proofs.Common.{◌≡◌, ◌≢◌, ℕ, List, ◌∷◌, ◌++�
 use Rattle.std.specs.List.{flat_map}
 use lib.Chars.{codes}
 use Rattle.plain_tables.specs.Names.{IsName, is_name}
-use Rattle.plain_tables.specs.Spelling.{Symbol, Name, name_symbols, distinct_symbols, items_symbols, join_symbols, where_symbols, NamesSomething}
+use Rattle.plain_tables.specs.Spelling.{Symbol, Keyword, Name, name_symbols, condition_symbols, distinct_symbols, items_symbols, join_symbols, NamesSomething}
 use Rattle.plain_tables.specs.Reading.{lexeme, after_lexeme}
 use Rattle.plain_tables.specs.declared.condition.ColName.{ColName}
 use Rattle.plain_tables.specs.declared.condition.Cond.{Cond}
@@ -12,12 +12,11 @@ use Rattle.plain_tables.specs.declared.command.Items.{Items}
 use Rattle.plain_tables.specs.declared.command.Items.TheVariants as items
 use Rattle.plain_tables.specs.declared.command.Command.{Command}
 use Rattle.plain_tables.specs.declared.command.Command.TheVariants.{Select}
-use Rattle.plain_tables.proofs.FirstWords.{from_symbols}
-use Rattle.mm_lang.specs.Parsing.{Reads, IsWhole, IsOfText, BeginsWithList, BeginsWithNoList, NameSomething, BeginsWithItems, BeginsWithNoItems, BeginsWithDistinct, BeginsWithJoins, BeginsWithNoJoins, IsFrom, IsWhere, Completes}
+use Rattle.mm_lang.specs.Parsing.{Reads, IsWhole, IsOfText, BeginsWithList, BeginsWithNoList, NameSomething, BeginsWithItems, BeginsWithNoItems, BeginsWithDistinct, BeginsWithJoins, BeginsWithNoJoins, where_of, from_of, IsFrom, IsWhere, IsSelect, Completes}
 use Rattle.mm_lang.proofs.Fronts.{reads-append, reads-split, reads-of_text, not-word, word-ends_item, no-first}
 use Rattle.mm_lang.proofs.Lists.{list-some, list-first}
 use Rattle.mm_lang.proofs.Utf8.{of_text-after}
-use Rattle.mm_lang.proofs.Productions.{comma-spelled, spelled-comma, where-begins, either-not, either-ends_item, other-word, behind-first, completed}
+use Rattle.mm_lang.proofs.Productions.{comma-spelled, spelled-comma, where_of-conditions, where-begins, either-not, either-ends_item, other-word, behind-first, completed}
 
 word-no_name : (line word : List ℕ) → is_name word ≡ false → lexeme line ≡ word → IsName (lexeme line) → ⊥
 word-no_name line word not e is = let name : is_name word ≡ true = subst IsName e is in cc
@@ -32,8 +31,8 @@ all-items line rest star f = record {
 }
   where
     all-only : (line rest : List ℕ) → lexeme line ≡ codes "*" → rest ≡ after_lexeme line → (others : Items) (other : List ℕ)
-        → NameSomething others → Reads line (items_symbols others) other → (others ≡ items.All) × (other ≡ rest)
-    all-only line rest star f items.All other some reads = (refl, sym reads.1 ∙ sym f)
+        → NameSomething others → Reads line (items_symbols others) other → other ≡ rest
+    all-only line rest star f items.All other some reads = sym reads.1 ∙ sym f
     all-only line rest star f (items.Named names) other some reads =
         let first : (x : ColName) × (behind : List ℕ) × Reads line (name_symbols x) behind =
         list-first name_symbols (codes ",") line names other (spelled-comma name_symbols line names other some reads) in
@@ -49,13 +48,11 @@ named-items line names found rest star same list = subst (λ l. BeginsWithItems 
   where
     named-only : (line : List ℕ) (names : List ColName) (rest : List ℕ) → lexeme line ≢ codes "*"
         → BeginsWithList name_symbols (codes ",") line names rest → (others : Items) (other : List ℕ) → NameSomething others
-        → Reads line (items_symbols others) other → lexeme other ≡ codes "from" → (others ≡ items.Named names) × (other ≡ rest)
+        → Reads line (items_symbols others) other → lexeme other ≡ codes "from" → other ≡ rest
     named-only line names rest star list items.All other some reads begins = absurd (star reads.0)
     named-only line names rest star list (items.Named ys) other some reads begins =
-        let parts : (ys ≡ names) × (other ≡ rest) =
         list.only ys other (spelled-comma name_symbols line ys other some reads)
-        (word-ends_item (lexeme other) (codes "from") refl refl begins) (not-word (lexeme other) (codes "from") (codes ",") refl begins) in
-        (ap items.Named parts.0, parts.1)
+        (word-ends_item (lexeme other) (codes "from") refl refl begins) (not-word (lexeme other) (codes "from") (codes ",") refl begins)
 
 pub neither-items : (line : List ℕ) → lexeme line ≢ codes "*" → BeginsWithNoList name_symbols (codes ",") line → BeginsWithNoItems line
 neither-items line star not = record {
@@ -71,55 +68,76 @@ neither-items line star not = record {
 
 -- ---- a table, joins, and conditions
 
-pub from-whole : (line front table behind rest : List ℕ) (joins : List Join) (conditions : List Cond) → lexeme line ≡ codes "from"
+pub from-whole : {C : Type 0} (symbols : C → List Symbol) (line front table behind rest : List ℕ) (joins : List Join) (conditions : List C) → lexeme line ≡ codes "from"
     → front ≡ after_lexeme line → IsName (lexeme front) → table ≡ lexeme front → behind ≡ after_lexeme front
-    → BeginsWithJoins behind joins rest → IsWhere rest conditions → IsFrom line table joins conditions
-from-whole line front table behind rest joins conditions word f is e g begins tail =
-    let others : List Symbol = flat_map join_symbols joins ++ where_symbols conditions in
+    → BeginsWithJoins behind joins rest → IsWhere symbols rest conditions → IsFrom symbols line table joins conditions
+from-whole symbols line front table behind rest joins conditions word f is e g begins tail =
+    let others : List Symbol = flat_map join_symbols joins ++ where_of symbols conditions in
     let reads : Reads behind others tail.0 =
-    reads-append behind (flat_map join_symbols joins) (where_symbols conditions) rest tail.0 begins.found tail.1 in
+    reads-append behind (flat_map join_symbols joins) (where_of symbols conditions) rest tail.0 begins.found tail.1 in
     let named : Reads front (Name table ∷ others) tail.0 = ((sym e, subst IsName (sym e) is), subst (λ l. Reads l others tail.0) g reads) in
     (tail.0, (word, subst (λ l. Reads l (Name table ∷ others) tail.0) f named), tail.2)
 
 -- the joins, and the conditions behind them
-from-parts : (line table : List ℕ) (joins : List Join) (conditions : List Cond) → IsFrom line table joins conditions
-    → (rest : List ℕ) × Reads (after_lexeme (after_lexeme line)) (flat_map join_symbols joins) rest × IsWhere rest conditions
-from-parts line table joins conditions (end, (word, (name, reads)), ends) =
+from-parts : {C : Type 0} (symbols : C → List Symbol) (line table : List ℕ) (joins : List Join) (conditions : List C)
+    → IsFrom symbols line table joins conditions
+    → (rest : List ℕ) × Reads (after_lexeme (after_lexeme line)) (flat_map join_symbols joins) rest × IsWhere symbols rest conditions
+from-parts symbols line table joins conditions (end, (word, (name, reads)), ends) =
     let front : List ℕ = after_lexeme (after_lexeme line) in
-    let parts : (mid : List ℕ) × Reads front (flat_map join_symbols joins) mid × Reads mid (where_symbols conditions) end =
-    reads-split front (flat_map join_symbols joins) (where_symbols conditions) end reads in
+    let parts : (mid : List ℕ) × Reads front (flat_map join_symbols joins) mid × Reads mid (where_of symbols conditions) end =
+    reads-split front (flat_map join_symbols joins) (where_of symbols conditions) end reads in
     (parts.0, parts.1, (end, parts.2, ends))
 
-pub no-joins_behind : (line behind : List ℕ) → behind ≡ after_lexeme (after_lexeme line) → BeginsWithNoJoins behind → IsOfText line
-    → (table : List ℕ) (joins : List Join) (conditions : List Cond) → IsFrom line table joins conditions → ⊥
-no-joins_behind line behind f not of table joins conditions is =
-    let (rest, reads, tail) = from-parts line table joins conditions is in
+pub no-joins_behind : {C : Type 0} (symbols : C → List Symbol) (line behind : List ℕ) → behind ≡ after_lexeme (after_lexeme line) → BeginsWithNoJoins behind → IsOfText line
+    → (table : List ℕ) (joins : List Join) (conditions : List C) → IsFrom symbols line table joins conditions → ⊥
+no-joins_behind symbols line behind f not of table joins conditions is =
+    let (rest, reads, tail) = from-parts symbols line table joins conditions is in
     not.none (subst IsOfText (sym f) (of_text-after (after_lexeme line) (of_text-after line of))) joins rest
     (subst (λ l. Reads l (flat_map join_symbols joins) rest) (sym f) reads)
-    (either-ends_item (lexeme rest) (where-begins rest conditions tail))
-    (either-not (lexeme rest) (codes "join") refl refl (where-begins rest conditions tail))
+    (either-ends_item (lexeme rest) (where-begins symbols rest conditions tail))
+    (either-not (lexeme rest) (codes "join") refl refl (where-begins symbols rest conditions tail))
 
-pub no-conditions_behind : (line behind : List ℕ) (found : List Join) (rest : List ℕ) → behind ≡ after_lexeme (after_lexeme line)
-    → BeginsWithJoins behind found rest → ((conditions : List Cond) → IsWhere rest conditions → ⊥)
-    → (table : List ℕ) (joins : List Join) (conditions : List Cond) → IsFrom line table joins conditions → ⊥
-no-conditions_behind line behind found rest f begins not table joins conditions is =
-    let (mid, reads, tail) = from-parts line table joins conditions is in
-    let same : (joins ≡ found) × (mid ≡ rest) =
+pub no-conditions_behind : {C : Type 0} (symbols : C → List Symbol) (line behind : List ℕ) (found : List Join) (rest : List ℕ) → behind ≡ after_lexeme (after_lexeme line)
+    → BeginsWithJoins behind found rest → ((conditions : List C) → IsWhere symbols rest conditions → ⊥)
+    → (table : List ℕ) (joins : List Join) (conditions : List C) → IsFrom symbols line table joins conditions → ⊥
+no-conditions_behind symbols line behind found rest f begins not table joins conditions is =
+    let (mid, reads, tail) = from-parts symbols line table joins conditions is in
+    let same : mid ≡ rest =
     begins.only joins mid (subst (λ l. Reads l (flat_map join_symbols joins) mid) (sym f) reads)
-    (either-ends_item (lexeme mid) (where-begins mid conditions tail))
-    (either-not (lexeme mid) (codes "join") refl refl (where-begins mid conditions tail)) in
-    not conditions (subst (λ l. IsWhere l conditions) same.1 tail)
+    (either-ends_item (lexeme mid) (where-begins symbols mid conditions tail))
+    (either-not (lexeme mid) (codes "join") refl refl (where-begins symbols mid conditions tail)) in
+    not conditions (subst (λ l. IsWhere symbols l conditions) same tail)
 
 -- ---- select
 
--- The line is the word distinct or nothing, then items, and then what begins with `from`.
-pub record IsSelect (line : List ℕ) (distinct : Bool) (items : Items) (table : List ℕ) (joins : List Join) (conditions : List Cond) : Type 0 where
-  pub some : NameSomething items
-  pub front : List ℕ
-  pub begins : Reads line (distinct_symbols distinct) front
-  pub behind : List ℕ
-  pub found : Reads front (items_symbols items) behind
-  pub tail : IsFrom behind table joins conditions
+-- the line as it is read, and as it is spelled
+pub select-whole : {C : Type 0} (symbols : C → List Symbol) (line : List ℕ) (distinct : Bool) (items : Items) (table : List ℕ) (joins : List Join)
+    (conditions : List C) → IsSelect symbols line distinct items table joins conditions
+    → IsWhole line (distinct_symbols distinct ++ (items_symbols items ++ from_of symbols table joins conditions))
+select-whole symbols line distinct items table joins conditions is =
+    let from : List Symbol = from_of symbols table joins conditions in
+    let reads : Reads is.front (items_symbols items ++ from) is.tail.0 =
+    reads-append is.front (items_symbols items) from is.behind is.tail.0 is.found is.tail.1 in
+    (is.tail.0, reads-append line (distinct_symbols distinct) (items_symbols items ++ from) is.front is.tail.0 is.begins reads, is.tail.2)
+
+pub whole-select : {C : Type 0} (symbols : C → List Symbol) (line : List ℕ) (distinct : Bool) (items : Items) (table : List ℕ) (joins : List Join)
+    (conditions : List C) → NameSomething items
+    → IsWhole line (distinct_symbols distinct ++ (items_symbols items ++ from_of symbols table joins conditions))
+    → IsSelect symbols line distinct items table joins conditions
+whole-select symbols line distinct items table joins conditions some made =
+    let from : List Symbol = from_of symbols table joins conditions in
+    let first : (mid : List ℕ) × Reads line (distinct_symbols distinct) mid × Reads mid (items_symbols items ++ from) made.0 =
+    reads-split line (distinct_symbols distinct) (items_symbols items ++ from) made.0 made.1 in
+    let second : (mid : List ℕ) × Reads first.0 (items_symbols items) mid × Reads mid from made.0 =
+    reads-split first.0 (items_symbols items) from made.0 first.2 in
+    record {
+      some = some;
+      front = first.0;
+      begins = first.1;
+      behind = second.0;
+      found = second.1;
+      tail = (made.0, second.2, made.2);
+    }
 
 names-something : (distinct : Bool) (items : Items) (table : List ℕ) (joins : List Join) (conditions : List Cond) → NameSomething items
     → NamesSomething (Select distinct items table joins conditions)
@@ -132,39 +150,22 @@ name-something distinct items.All table joins conditions some = tt
 name-something distinct (items.Named names) table joins conditions some = some
 
 pub select-completed : (line : List ℕ) (distinct : Bool) (items : Items) (table : List ℕ) (joins : List Join) (conditions : List Cond)
-    → IsSelect line distinct items table joins conditions → Completes (codes "select") line (Select distinct items table joins conditions)
+    → IsSelect condition_symbols line distinct items table joins conditions
+    → Completes (codes "select") line (Select distinct items table joins conditions)
 select-completed line distinct items table joins conditions is =
-    let from : List Symbol = from_symbols table joins conditions in
-    let reads : Reads is.front (items_symbols items ++ from) is.tail.0 =
-    reads-append is.front (items_symbols items) from is.behind is.tail.0 is.found is.tail.1 in
     completed line (Select distinct items table joins conditions) (names-something distinct items table joins conditions is.some)
-    (is.tail.0, reads-append line (distinct_symbols distinct) (items_symbols items ++ from) is.front is.tail.0 is.begins reads, is.tail.2)
-
-select-parts : (line : List ℕ) (distinct : Bool) (items : Items) (table : List ℕ) (joins : List Join) (conditions : List Cond)
-    → Completes (codes "select") line (Select distinct items table joins conditions) → IsSelect line distinct items table joins conditions
-select-parts line distinct items table joins conditions completes =
-    let from : List Symbol = from_symbols table joins conditions in
-    let made : IsWhole line (distinct_symbols distinct ++ (items_symbols items ++ from)) =
-    behind-first line (Select distinct items table joins conditions) completes in
-    let first : (mid : List ℕ) × Reads line (distinct_symbols distinct) mid × Reads mid (items_symbols items ++ from) made.0 =
-    reads-split line (distinct_symbols distinct) (items_symbols items ++ from) made.0 made.1 in
-    let second : (mid : List ℕ) × Reads first.0 (items_symbols items) mid × Reads mid from made.0 =
-    reads-split first.0 (items_symbols items) from made.0 first.2 in
-    record {
-      some = name-something distinct items table joins conditions completes.some;
-      front = first.0;
-      begins = first.1;
-      behind = second.0;
-      found = second.1;
-      tail = (made.0, second.2, made.2);
-    }
+    (subst (λ w. IsWhole line (distinct_symbols distinct ++ (items_symbols items ++ Keyword (codes "from") ∷ Name table ∷ (flat_map join_symbols joins ++ w))))
+    (where_of-conditions conditions) (select-whole condition_symbols line distinct items table joins conditions is))
 
 pub select-only : (line : List ℕ)
     → ((distinct : Bool) (items : Items) (table : List ℕ) (joins : List Join) (conditions : List Cond)
-    → IsSelect line distinct items table joins conditions → ⊥)
+    → IsSelect condition_symbols line distinct items table joins conditions → ⊥)
     → (command : Command) → Completes (codes "select") line command → ⊥
 select-only line not (Select distinct items table joins conditions) completes =
-    not distinct items table joins conditions (select-parts line distinct items table joins conditions completes)
+    not distinct items table joins conditions
+    (whole-select condition_symbols line distinct items table joins conditions (name-something distinct items table joins conditions completes.some)
+    (subst (λ w. IsWhole line (distinct_symbols distinct ++ (items_symbols items ++ Keyword (codes "from") ∷ Name table ∷ (flat_map join_symbols joins ++ w))))
+    (sym (where_of-conditions conditions)) (behind-first line (Select distinct items table joins conditions) completes)))
 select-only line not command completes = other-word line (codes "select") command refl completes
 
 no-distinct : (line : List ℕ) (items : Items) (rest : List ℕ) → NameSomething items → Reads line (items_symbols items) rest
@@ -176,25 +177,26 @@ no-distinct line (items.Named names) rest some reads word =
     no-first line (word-no_name line (codes "distinct") refl word) first.0.table first.0.column first.1 first.2
 
 -- The items of the select stand behind the distinct that is found.
-behind-distinct : (line : List ℕ) (found : Bool) (front : List ℕ) → BeginsWithDistinct line found front → (distinct : Bool) (items : Items)
-    (table : List ℕ) (joins : List Join) (conditions : List Cond) → (is : IsSelect line distinct items table joins conditions)
-    → Reads front (items_symbols items) is.behind
-behind-distinct line found front begins distinct items table joins conditions is =
+behind-distinct : {C : Type 0} (symbols : C → List Symbol) (line : List ℕ) (found : Bool) (front : List ℕ) → BeginsWithDistinct line found front
+    → (distinct : Bool) (items : Items) (table : List ℕ) (joins : List Join) (conditions : List C)
+    → (is : IsSelect symbols line distinct items table joins conditions) → Reads front (items_symbols items) is.behind
+behind-distinct symbols line found front begins distinct items table joins conditions is =
     subst (λ l. Reads l (items_symbols items) is.behind)
-    (begins.only distinct is.front is.begins (no-distinct is.front items is.behind is.some is.found)).1 is.found
+    (begins.only distinct is.front is.begins (no-distinct is.front items is.behind is.some is.found)) is.found
 
-pub no-items : (line : List ℕ) (found : Bool) (front : List ℕ) → BeginsWithDistinct line found front → BeginsWithNoItems front → IsOfText line
-    → (distinct : Bool) (items : Items) (table : List ℕ) (joins : List Join) (conditions : List Cond)
-    → IsSelect line distinct items table joins conditions → ⊥
-no-items line found front begins not of distinct items table joins conditions is =
+pub no-items : {C : Type 0} (symbols : C → List Symbol) (line : List ℕ) (found : Bool) (front : List ℕ) → BeginsWithDistinct line found front
+    → BeginsWithNoItems front → IsOfText line → (distinct : Bool) (items : Items) (table : List ℕ) (joins : List Join) (conditions : List C)
+    → IsSelect symbols line distinct items table joins conditions → ⊥
+no-items symbols line found front begins not of distinct items table joins conditions is =
     not.none (reads-of_text line (distinct_symbols found) front of begins.found) items is.behind is.some
-    (behind-distinct line found front begins distinct items table joins conditions is) is.tail.1.0
+    (behind-distinct symbols line found front begins distinct items table joins conditions is) is.tail.1.0
 
-pub no-from : (line : List ℕ) (found : Bool) (front : List ℕ) (some : Items) (rest : List ℕ) → BeginsWithDistinct line found front
-    → BeginsWithItems front some rest → ((table : List ℕ) (joins : List Join) (conditions : List Cond) → IsFrom rest table joins conditions → ⊥)
-    → (distinct : Bool) (items : Items) (table : List ℕ) (joins : List Join) (conditions : List Cond)
-    → IsSelect line distinct items table joins conditions → ⊥
-no-from line found front some rest begins first not distinct items table joins conditions is =
-    let same : (items ≡ some) × (is.behind ≡ rest) =
-    first.only items is.behind is.some (behind-distinct line found front begins distinct items table joins conditions is) is.tail.1.0 in
-    not table joins conditions (subst (λ l. IsFrom l table joins conditions) same.1 is.tail)
+pub no-from : {C : Type 0} (symbols : C → List Symbol) (line : List ℕ) (found : Bool) (front : List ℕ) (some : Items) (rest : List ℕ)
+    → BeginsWithDistinct line found front → BeginsWithItems front some rest
+    → ((table : List ℕ) (joins : List Join) (conditions : List C) → IsFrom symbols rest table joins conditions → ⊥)
+    → (distinct : Bool) (items : Items) (table : List ℕ) (joins : List Join) (conditions : List C)
+    → IsSelect symbols line distinct items table joins conditions → ⊥
+no-from symbols line found front some rest begins first not distinct items table joins conditions is =
+    let same : is.behind ≡ rest =
+    first.only items is.behind is.some (behind-distinct symbols line found front begins distinct items table joins conditions is) is.tail.1.0 in
+    not table joins conditions (subst (λ l. IsFrom symbols l table joins conditions) same is.tail)

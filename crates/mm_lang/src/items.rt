@@ -4,7 +4,7 @@ ghost use Rattle.std.specs.Prelude.{◌≡◌, ◌<◌, ◌++◌, List, length, 
 ghost use Rattle.std.specs.Str.{IsUtf8};
 ghost use Rattle.plain_tables.specs.Spelling.{Symbol, Literal, IsSymbol, kind_symbols, column_symbols, value_symbols, name_symbols, setting_symbols, condition_symbols, spaced, operator_text};
 ghost use Rattle.plain_tables.specs.declared.value.Value.{Value};
-ghost use Rattle.mm_lang.specs.Parsing.{EndsItem, BeginsWith, BeginsWithNone, BeginsWithList, BeginsWithNoList};
+ghost use Rattle.mm_lang.specs.Parsing.{EndsItem, BeginsWith, BeginsWithNone, BeginsWithList, BeginsWithNoList, assigned_symbols, compared_symbols};
 ghost use Rattle.mm_lang.specs.Printing.{IsFree, joined, kind_symbols-free, column_symbols-free, name_symbols-free, condition_symbols-free};
 
 use crate::ParseRefusal;
@@ -13,7 +13,7 @@ use crate::numbers::{integer, push_integer};
 use crate::sink::Sink;
 use crate::symbols::{after, expect, name, operator};
 use crate::texts::{push_text, text};
-use plain_tables::{ColKind, ColName, Column, Cond, NoMemory, Op, Setting, Value};
+use plain_tables::{ColKind, ColName, Column, Cond, NoMemory, Op, Setting, Text, Value};
 use std::alloc::Global;
 
 /// What a line can have a list of.
@@ -25,12 +25,15 @@ pub trait Item: Drop {
     fn read(alloc: Global, line: &[u8]) -> Result<(Self, &[u8]), ParseRefusal>
         ensures item { IfOk result (λ r. BeginsWith symbols line.now r.0 r.1.now) }
         ensures syntax { IsErrOf result ParseRefusal.Syntax → BeginsWithNone symbols line.now };
+}
 
+/// An item that has a canonical spelling.
+pub trait PrintedItem: Item {
     /// Writes the item.
     fn push_to<S: Sink>(&self, line: &mut S) -> Result<(), NoMemory>
-        ensures { OnOk result (S.held line.new ≡ S.held line.old ++ spaced (symbols self.now)) };
+        ensures { OnOk result (S.held line.new ≡ S.held line.old ++ spaced (Self.symbols self.now)) };
 
-    ghost free: { (x : Self) → IsFree (symbols x) };
+    ghost free: { (x : Self) → IsFree (Self.symbols x) };
 }
 
 // The value that these characters spell.
@@ -50,12 +53,14 @@ fn value(alloc: Global, characters: &[u8]) -> Result<Value, ParseRefusal>
 impl Item for Value {
     ghost symbols = { value_symbols };
 
-    ghost free = { λ v. (refl, refl) };
-
     fn read(alloc: Global, line: &[u8]) -> Result<(Value, &[u8]), ParseRefusal> {
         let (characters, rest) = split_lexeme(line);
         Ok((value(alloc, characters)?, rest))
     }
+}
+
+impl PrintedItem for Value {
+    ghost free = { λ v. (refl, refl) };
 
     fn push_to<S: Sink>(&self, line: &mut S) -> Result<(), NoMemory> {
         match self {
@@ -69,8 +74,6 @@ impl Item for Value {
 
 impl Item for ColKind {
     ghost symbols = { kind_symbols };
-
-    ghost free = { kind_symbols-free };
 
     fn read(alloc: Global, line: &[u8]) -> Result<(ColKind, &[u8]), ParseRefusal> {
         if let Some(rest) = after(line, b"int") {
@@ -86,6 +89,10 @@ impl Item for ColKind {
             None => Ok((ColKind::Ref(table), rest)),
         }
     }
+}
+
+impl PrintedItem for ColKind {
+    ghost free = { kind_symbols-free };
 
     fn push_to<S: Sink>(&self, line: &mut S) -> Result<(), NoMemory> {
         match self {
@@ -108,13 +115,15 @@ impl Item for ColKind {
 impl Item for Column {
     ghost symbols = { column_symbols };
 
-    ghost free = { column_symbols-free };
-
     fn read(alloc: Global, line: &[u8]) -> Result<(Column, &[u8]), ParseRefusal> {
         let (name, line) = name(alloc, line)?;
         let (kind, line) = ColKind::read(alloc, line)?;
         Ok((Column { name, kind }, line))
     }
+}
+
+impl PrintedItem for Column {
+    ghost free = { column_symbols-free };
 
     fn push_to<S: Sink>(&self, line: &mut S) -> Result<(), NoMemory> {
         line.push_str(self.name.as_str())?;
@@ -125,8 +134,6 @@ impl Item for Column {
 
 impl Item for ColName {
     ghost symbols = { name_symbols };
-
-    ghost free = { name_symbols-free };
 
     fn read(alloc: Global, line: &[u8]) -> Result<(ColName, &[u8]), ParseRefusal> {
         let (first, rest) = name(alloc, line)?;
@@ -150,6 +157,10 @@ impl Item for ColName {
             }
         }
     }
+}
+
+impl PrintedItem for ColName {
+    ghost free = { name_symbols-free };
 
     fn push_to<S: Sink>(&self, line: &mut S) -> Result<(), NoMemory> {
         if let Some(table) = &self.table {
@@ -161,17 +172,45 @@ impl Item for ColName {
     }
 }
 
+/// A column and what it gets, NAME = .., and what stands behind them.
+pub(crate) fn assigned<V: Item>(
+    alloc: Global,
+    line: &[u8],
+) -> Result<(Text, V, &[u8]), ParseRefusal>
+    ensures item { IfOk result (λ r. BeginsWith (assigned_symbols V.symbols) line.now (r.0, r.1) r.2.now) }
+    ensures syntax { IsErrOf result ParseRefusal.Syntax → BeginsWithNone (assigned_symbols V.symbols) line.now }
+{
+    let (column, line) = name(alloc, line)?;
+    let line = expect(line, b"=")?;
+    let (value, line) = V::read(alloc, line)?;
+    Ok((column, value, line))
+}
+
+/// A column, an operator and what it is compared with, and what stands behind them.
+pub(crate) fn compared<V: Item>(
+    alloc: Global,
+    line: &[u8],
+) -> Result<(ColName, Op, V, &[u8]), ParseRefusal>
+    ensures item { IfOk result (λ r. BeginsWith (compared_symbols V.symbols) line.now (r.0, r.1, r.2) r.3.now) }
+    ensures syntax { IsErrOf result ParseRefusal.Syntax → BeginsWithNone (compared_symbols V.symbols) line.now }
+{
+    let (column, line) = ColName::read(alloc, line)?;
+    let (op, line) = operator(line)?;
+    let (value, line) = V::read(alloc, line)?;
+    Ok((column, op, value, line))
+}
+
 impl Item for Setting {
     ghost symbols = { setting_symbols };
 
-    ghost free = { λ s. (refl, refl) };
-
     fn read(alloc: Global, line: &[u8]) -> Result<(Setting, &[u8]), ParseRefusal> {
-        let (column, line) = name(alloc, line)?;
-        let line = expect(line, b"=")?;
-        let (value, line) = Value::read(alloc, line)?;
+        let (column, value, line) = assigned(alloc, line)?;
         Ok((Setting { column, value }, line))
     }
+}
+
+impl PrintedItem for Setting {
+    ghost free = { λ s. (refl, refl) };
 
     fn push_to<S: Sink>(&self, line: &mut S) -> Result<(), NoMemory> {
         line.push_str(self.column.as_str())?;
@@ -197,14 +236,14 @@ fn operator_str(op: Op) -> &'static str
 impl Item for Cond {
     ghost symbols = { condition_symbols };
 
-    ghost free = { condition_symbols-free };
-
     fn read(alloc: Global, line: &[u8]) -> Result<(Cond, &[u8]), ParseRefusal> {
-        let (column, line) = ColName::read(alloc, line)?;
-        let (op, line) = operator(line)?;
-        let (value, line) = Value::read(alloc, line)?;
+        let (column, op, value, line) = compared(alloc, line)?;
         Ok((Cond { column, op, value }, line))
     }
+}
+
+impl PrintedItem for Cond {
+    ghost free = { condition_symbols-free };
 
     fn push_to<S: Sink>(&self, line: &mut S) -> Result<(), NoMemory> {
         self.column.push_to(line)?;
@@ -239,7 +278,7 @@ pub fn list<'a, T: Item>(
 }
 
 /// Writes items with a text between two of them.
-pub fn push_list<T: Item, S: Sink>(line: &mut S, items: &[T], between: &str) -> Result<(), NoMemory>
+pub fn push_list<T: PrintedItem, S: Sink>(line: &mut S, items: &[T], between: &str) -> Result<(), NoMemory>
     ensures { OnOk result (S.held line.new ≡ S.held line.old ++ joined T.symbols between.now items.now) }
 {
     let Some((first, others)) = items.split_first() else {

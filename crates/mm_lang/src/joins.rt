@@ -7,7 +7,7 @@ ghost use Rattle.mm_lang.specs.Parsing.{BeginsWithJoins, BeginsWithNoJoins};
 ghost use Rattle.mm_lang.specs.Printing.{behind};
 
 use crate::ParseRefusal;
-use crate::items::{Item, list, push_list};
+use crate::items::{Item, PrintedItem, list, push_list};
 use crate::sink::Sink;
 use crate::symbols::{after, expect, name};
 use plain_tables::{Join, JoinSide, NoMemory};
@@ -16,14 +16,16 @@ use std::alloc::Global;
 impl Item for JoinSide {
     ghost symbols = { side_symbols };
 
-    ghost free = { λ side. (refl, refl) };
-
     fn read(alloc: Global, line: &[u8]) -> Result<(JoinSide, &[u8]), ParseRefusal> {
         let (table, line) = name(alloc, line)?;
         let line = expect(line, b".")?;
         let (column, line) = name(alloc, line)?;
         Ok((JoinSide { table, column }, line))
     }
+}
+
+impl PrintedItem for JoinSide {
+    ghost free = { λ side. (refl, refl) };
 
     fn push_to<S: Sink>(&self, line: &mut S) -> Result<(), NoMemory> {
         line.push_str(self.table.as_str())?;
@@ -37,8 +39,6 @@ impl Item for JoinSide {
 impl Item for Join {
     ghost symbols = { joined_symbols };
 
-    ghost free = { λ join. (refl, refl) };
-
     fn read(alloc: Global, line: &[u8]) -> Result<(Join, &[u8]), ParseRefusal> {
         let (table, line) = name(alloc, line)?;
         let line = expect(line, b"on")?;
@@ -47,6 +47,10 @@ impl Item for Join {
         let (right, line) = JoinSide::read(alloc, line)?;
         Ok((Join { table, left, right }, line))
     }
+}
+
+impl PrintedItem for Join {
+    ghost free = { λ join. (refl, refl) };
 
     fn push_to<S: Sink>(&self, line: &mut S) -> Result<(), NoMemory> {
         line.push_str(self.table.as_str())?;

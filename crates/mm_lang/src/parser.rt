@@ -1,16 +1,16 @@
 //! A function for each production of the grammar.
 
-ghost use Rattle.std.specs.Prelude.{◌≡◌, ◌≢◌, ℕ, List, [], ◌∷◌, codes, IfOk, IsErrOf, MatchOption, MatchResult};
+ghost use Rattle.std.specs.Prelude.{◌≡◌, ◌≢◌, ℕ, List, [], ◌∷◌, codes, Bool, IfOk, IsErrOf, MatchOption, MatchResult};
 ghost use Rattle.plain_tables.specs.Spelling.{Name, Count, Spells, index_symbols};
 ghost use Rattle.plain_tables.specs.Reading.{lexeme};
 ghost use Rattle.plain_tables.specs.declared.command.Command.{Command};
 ghost use Rattle.plain_tables.specs.declared.command.Command.TheVariants.{Load};
+ghost use Rattle.plain_tables.specs.declared.command.Items.{Items};
 ghost use Rattle.plain_tables.specs.declared.command.Join.{Join};
-ghost use Rattle.plain_tables.specs.declared.condition.Cond.{Cond};
 ghost use Rattle.plain_tables.specs.declared.schema.IndexKind.{IndexKind};
 ghost use Rattle.mm_lang.specs.declared.parser.CommandWord.{CommandWord as Word};
 ghost use Rattle.mm_lang.specs.Words.{letters};
-ghost use Rattle.mm_lang.specs.Parsing.{Completes, IsOfText, IsWhole, IsNameAndList, IsFrom, IsWhere, BeginsWithDistinct, BeginsWithItems, BeginsWithNoItems};
+ghost use Rattle.mm_lang.specs.Parsing.{Completes, IsOfText, IsWhole, IsNameAndList, IsFrom, IsWhere, IsUpdate, IsDelete, IsSelect, BeginsWithDistinct, BeginsWithItems, BeginsWithNoItems};
 
 use crate::ParseRefusal;
 use crate::items::{Item, list};
@@ -19,7 +19,7 @@ use crate::lexemes::split_lexeme;
 use crate::line::Line;
 use crate::numbers::count;
 use crate::symbols::{after, after_name, expect, index_kind, name};
-use plain_tables::{Command, Cond, IndexKind, Items, Join, Schema, Sequence, Text};
+use plain_tables::{Command, IndexKind, Items, Join, Schema, Sequence, Text};
 use std::alloc::Global;
 
 /// The word that a command begins with.
@@ -191,10 +191,7 @@ fn update(alloc: Global, line: &[u8]) -> Result<Command, ParseRefusal>
     ensures command { IfOk result (λ c. Completes (codes "update") line.now c) }
     ensures syntax { IsErrOf result ParseRefusal.Syntax → IsOfText line.now → (c : Command) → Completes (codes "update") line.now c → ⊥ }
 {
-    let (table, behind_name) = name(alloc, line)?;
-    let front = expect(behind_name, b"set")?;
-    let (settings, rest) = list(alloc, front, b",")?;
-    let conditions = conditions(alloc, rest)?;
+    let (table, settings, conditions) = update_parts(alloc, line)?;
     Ok(Command::Update {
         table,
         settings: Sequence::from_vec(settings),
@@ -207,8 +204,7 @@ fn delete(alloc: Global, line: &[u8]) -> Result<Command, ParseRefusal>
     ensures command { IfOk result (λ c. Completes (codes "delete") line.now c) }
     ensures syntax { IsErrOf result ParseRefusal.Syntax → IsOfText line.now → (c : Command) → Completes (codes "delete") line.now c → ⊥ }
 {
-    let (table, rest) = name(alloc, line)?;
-    let conditions = conditions(alloc, rest)?;
+    let (table, conditions) = delete_parts(alloc, line)?;
     Ok(Command::Delete {
         table,
         conditions: Sequence::from_vec(conditions),
@@ -220,15 +216,71 @@ fn select(alloc: Global, line: &[u8]) -> Result<Command, ParseRefusal>
     ensures command { IfOk result (λ c. Completes (codes "select") line.now c) }
     ensures syntax { IsErrOf result ParseRefusal.Syntax → IsOfText line.now → (c : Command) → Completes (codes "select") line.now c → ⊥ }
 {
+    let parts = select_parts(alloc, line)?;
+    Ok(Command::Select {
+        distinct: parts.distinct,
+        items: parts.items,
+        table: parts.table,
+        joins: Sequence::from_vec(parts.joins),
+        conditions: Sequence::from_vec(parts.conditions),
+    })
+}
+
+// NAME set SETTING {, SETTING} [where ..]
+pub(crate) fn update_parts<S: Item, C: Item>(
+    alloc: Global,
+    line: &[u8],
+) -> Result<(Text, Vec<S>, Vec<C>), ParseRefusal>
+    ensures parts { IfOk result (λ r. IsUpdate S.symbols C.symbols line.now r.0 r.1.items r.2.items) }
+    ensures syntax { IsErrOf result ParseRefusal.Syntax → IsOfText line.now → (table : List ℕ) (ss : List S) (cs : List C) → IsUpdate S.symbols C.symbols line.now table ss cs → ⊥ }
+{
+    let (table, behind_name) = name(alloc, line)?;
+    let front = expect(behind_name, b"set")?;
+    let (settings, rest) = list(alloc, front, b",")?;
+    let conditions = conditions(alloc, rest)?;
+    Ok((table, settings, conditions))
+}
+
+// NAME [where ..]
+pub(crate) fn delete_parts<C: Item>(
+    alloc: Global,
+    line: &[u8],
+) -> Result<(Text, Vec<C>), ParseRefusal>
+    ensures parts { IfOk result (λ r. IsDelete C.symbols line.now r.0 r.1.items) }
+    ensures syntax { IsErrOf result ParseRefusal.Syntax → IsOfText line.now → (table : List ℕ) (cs : List C) → IsDelete C.symbols line.now table cs → ⊥ }
+{
+    let (table, rest) = name(alloc, line)?;
+    let conditions = conditions(alloc, rest)?;
+    Ok((table, conditions))
+}
+
+/// What stands behind the first word of a select.
+#[derive(Drop)]
+pub(crate) struct SelectParts<C> {
+    pub(crate) distinct: bool,
+    pub(crate) items: Items,
+    pub(crate) table: Text,
+    pub(crate) joins: Vec<Join>,
+    pub(crate) conditions: Vec<C>,
+}
+
+// [distinct] ITEMS from NAME {join ..} [where ..]
+pub(crate) fn select_parts<C: Item>(
+    alloc: Global,
+    line: &[u8],
+) -> Result<SelectParts<C>, ParseRefusal>
+    ensures parts { IfOk result (λ s. IsSelect C.symbols line.now s.distinct s.items s.table s.joins.items s.conditions.items) }
+    ensures syntax { IsErrOf result ParseRefusal.Syntax → IsOfText line.now → (d : Bool) (i : Items) (table : List ℕ) (js : List Join) (cs : List C) → IsSelect C.symbols line.now d i table js cs → ⊥ }
+{
     let (distinct, front) = distinct(line);
     let (items, rest) = items(alloc, front)?;
     let (table, joins, conditions) = from(alloc, rest)?;
-    Ok(Command::Select {
+    Ok(SelectParts {
         distinct,
         items,
         table,
-        joins: Sequence::from_vec(joins),
-        conditions: Sequence::from_vec(conditions),
+        joins,
+        conditions,
     })
 }
 
@@ -257,9 +309,12 @@ fn items(alloc: Global, line: &[u8]) -> Result<(Items, &[u8]), ParseRefusal>
 }
 
 // from NAME {join ..} [where ..], and the end of the line
-fn from(alloc: Global, line: &[u8]) -> Result<(Text, Vec<Join>, Vec<Cond>), ParseRefusal>
-    ensures parts { IfOk result (λ r. IsFrom line.now r.0 r.1.items r.2.items) }
-    ensures syntax { IsErrOf result ParseRefusal.Syntax → IsOfText line.now → (table : List ℕ) (js : List Join) (cs : List Cond) → IsFrom line.now table js cs → ⊥ }
+fn from<C: Item>(
+    alloc: Global,
+    line: &[u8],
+) -> Result<(Text, Vec<Join>, Vec<C>), ParseRefusal>
+    ensures parts { IfOk result (λ r. IsFrom C.symbols line.now r.0 r.1.items r.2.items) }
+    ensures syntax { IsErrOf result ParseRefusal.Syntax → IsOfText line.now → (table : List ℕ) (js : List Join) (cs : List C) → IsFrom C.symbols line.now table js cs → ⊥ }
 {
     let front = expect(line, b"from")?;
     let (table, behind_table) = name(alloc, front)?;
@@ -269,9 +324,9 @@ fn from(alloc: Global, line: &[u8]) -> Result<(Text, Vec<Join>, Vec<Cond>), Pars
 }
 
 // where CONDITION {and CONDITION}, or nothing, and the end of the line
-fn conditions(alloc: Global, line: &[u8]) -> Result<Vec<Cond>, ParseRefusal>
-    ensures conditions { IfOk result (λ v. IsWhere line.now v.items) }
-    ensures syntax { IsErrOf result ParseRefusal.Syntax → IsOfText line.now → (cs : List Cond) → IsWhere line.now cs → ⊥ }
+fn conditions<C: Item>(alloc: Global, line: &[u8]) -> Result<Vec<C>, ParseRefusal>
+    ensures conditions { IfOk result (λ v. IsWhere C.symbols line.now v.items) }
+    ensures syntax { IsErrOf result ParseRefusal.Syntax → IsOfText line.now → (cs : List C) → IsWhere C.symbols line.now cs → ⊥ }
 {
     let Some(front) = after(line, b"where") else {
         end(line)?;
@@ -317,7 +372,10 @@ fn index_parts(alloc: Global, line: &[u8]) -> Result<(Text, Text, IndexKind), Pa
 }
 
 // NAME ( ITEM {, ITEM} )
-fn name_and_list<T: Item>(alloc: Global, line: &[u8]) -> Result<(Text, Vec<T>), ParseRefusal>
+pub(crate) fn name_and_list<T: Item>(
+    alloc: Global,
+    line: &[u8],
+) -> Result<(Text, Vec<T>), ParseRefusal>
     ensures both { IfOk result (λ r. IsNameAndList T.symbols line.now r.0 r.1.items) }
     ensures syntax { IsErrOf result ParseRefusal.Syntax → IsOfText line.now → (name : List ℕ) (xs : List T) → IsNameAndList T.symbols line.now name xs → ⊥ }
 {

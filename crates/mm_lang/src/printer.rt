@@ -6,7 +6,7 @@ ghost use Rattle.plain_tables.specs.Spelling.{Keyword, Sign, Open, Close, separa
 ghost use Rattle.plain_tables.specs.declared.command.Command.TheVariants as command;
 ghost use Rattle.mm_lang.specs.Printing.{behind};
 
-use crate::items::{Item, push_list};
+use crate::items::{PrintedItem, push_list};
 use crate::joins::push_joins;
 use crate::numbers::push_count;
 use crate::sink::Sink;
@@ -98,7 +98,7 @@ pub fn print_load<S: Sink>(line: &mut S, table: &str, bytes: u64) -> Result<(), 
 }
 
 // WORD NAME ( ITEM {, ITEM} )
-fn push_name_and_list<T: Item, S: Sink>(
+fn push_name_and_list<T: PrintedItem, S: Sink>(
     line: &mut S,
     word: &str,
     name: &str,
@@ -225,7 +225,7 @@ fn push_items<S: Sink>(line: &mut S, items: &Items) -> Result<(), NoMemory>
 }
 
 // ITEM {, ITEM}, behind another symbol
-fn push_behind<T: Item, S: Sink>(line: &mut S, items: &[T]) -> Result<(), NoMemory>
+fn push_behind<T: PrintedItem, S: Sink>(line: &mut S, items: &[T]) -> Result<(), NoMemory>
     ensures { OnOk result (S.held line.new ≡ S.held line.old ++ behind (separated (map T.symbols items.now))) }
 {
     if items.is_empty() {

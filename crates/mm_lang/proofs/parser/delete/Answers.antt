@@ -1,20 +1,17 @@
 use Rattle.std.proofs.Common.{ap, subst, sym, Err}
 use Rattle.std.proofs.lemmas.Result.{err_from_is_err_and}
-use Rattle.mm_lang.specs.Parsing.{IsWhere, IsOfText}
+use Rattle.plain_tables.specs.Spelling.{condition_symbols}
+use Rattle.mm_lang.specs.Parsing.{IsDelete}
 use Rattle.mm_lang.proofs.Fronts.{same-error}
-use Rattle.mm_lang.proofs.Utf8.{of_text-after}
 use Rattle.mm_lang.proofs.Productions.{delete-only, delete-completed}
 use Rattle.mm_lang.proofs.parser.delete.Goals as goal
 
-pub returns-in_err-conditions-clause-syntax : goal.returns-in_err-conditions-clause-syntax
-returns-in_err-conditions-clause-syntax c = λ syntax of.
-    let p = err_from_is_err_and c.from_residual-in_err-conditions.result c.from_residual-in_err-conditions.ensures.1 in
-    delete-only c.args.line.now c.in_ok-table.rest.now c.in_ok-table.ensures.name.2
-    (c.in_err-conditions.ensures.syntax (ap Err (same-error c.from_residual-in_err-conditions.result p.0 _ _ p.1 p.2 syntax))
-    (subst IsOfText (sym c.in_ok-table.ensures.name.2) (of_text-after c.args.line.now of)))
+pub returns-in_err-table-clause-syntax : goal.returns-in_err-table-clause-syntax
+returns-in_err-table-clause-syntax c = λ syntax of.
+    let p = err_from_is_err_and c.from_residual.result c.from_residual.ensures.1 in
+    delete-only c.args.line.now (c.in_err-table.ensures.syntax (ap Err (same-error c.from_residual.result p.0 _ _ p.1 p.2 syntax)) of)
 
 pub returns-clause-command : goal.returns-clause-command
 returns-clause-command c =
-    delete-completed c.args.line.now c.in_ok-table.table c.in_ok-table.rest.now c.from_vec.result c.in_ok-table.ensures.name.0
-    c.in_ok-table.ensures.name.1 c.in_ok-table.ensures.name.2
-    (subst (λ l. IsWhere c.in_ok-table.rest.now l) (sym c.from_vec.ensures) c.in_ok-conditions.ensures.conditions)
+    delete-completed c.args.line.now c.in_ok-table.table c.from_vec.result
+    (subst (λ l. IsDelete condition_symbols c.args.line.now c.in_ok-table.table l) (sym c.from_vec.ensures) c.in_ok-table.ensures.parts)

@@ -1,39 +1,20 @@
 use Rattle.std.proofs.Common.{ap, subst, sym, Err}
 use Rattle.std.proofs.lemmas.Result.{err_from_is_err_and}
-use Rattle.plain_tables.specs.Spelling.{items_symbols, distinct_symbols}
-use Rattle.mm_lang.specs.Parsing.{IsFrom, IsOfText}
-use Rattle.mm_lang.proofs.Fronts.{same-error, reads-of_text}
-use Rattle.mm_lang.proofs.Selects.{select-only, select-completed, no-items, no-from}
+use Rattle.plain_tables.specs.Spelling.{condition_symbols}
+use Rattle.mm_lang.specs.Parsing.{IsSelect}
+use Rattle.mm_lang.proofs.Fronts.{same-error}
+use Rattle.mm_lang.proofs.Selects.{select-only, select-completed}
 use Rattle.mm_lang.proofs.parser.select.Goals as goal
 
-pub returns-in_err-items-clause-syntax : goal.returns-in_err-items-clause-syntax
-returns-in_err-items-clause-syntax c = λ syntax of.
+pub returns-in_err-parts-clause-syntax : goal.returns-in_err-parts-clause-syntax
+returns-in_err-parts-clause-syntax c = λ syntax of.
     let p = err_from_is_err_and c.from_residual.result c.from_residual.ensures.1 in
-    select-only c.args.line.now
-    (no-items c.args.line.now c.distinct-distinct.result.0 c.distinct-distinct.result.1.now c.distinct-distinct.ensures
-    (c.in_err-items.ensures.syntax (ap Err (same-error c.from_residual.result p.0 _ _ p.1 p.2 syntax))) of)
-
-pub returns-in_err-table-clause-syntax : goal.returns-in_err-table-clause-syntax
-returns-in_err-table-clause-syntax c = λ syntax of.
-    let p = err_from_is_err_and c.from_residual-in_err-table.result c.from_residual-in_err-table.ensures.1 in
-    let front : IsOfText c.distinct-distinct.result.1.now =
-    reads-of_text c.args.line.now (distinct_symbols c.distinct-distinct.result.0) c.distinct-distinct.result.1.now of c.distinct-distinct.ensures.found in
-    let rest : IsOfText c.in_ok-items.rest.now =
-    reads-of_text c.distinct-distinct.result.1.now (items_symbols c.in_ok-items.items) c.in_ok-items.rest.now front c.in_ok-items.ensures.items.found in
-    select-only c.args.line.now
-    (no-from c.args.line.now c.distinct-distinct.result.0 c.distinct-distinct.result.1.now c.in_ok-items.items c.in_ok-items.rest.now
-    c.distinct-distinct.ensures c.in_ok-items.ensures.items
-    (c.in_err-table.ensures.syntax (ap Err (same-error c.from_residual-in_err-table.result p.0 _ _ p.1 p.2 syntax)) rest))
+    select-only c.args.line.now (c.in_err-parts.ensures.syntax (ap Err (same-error c.from_residual.result p.0 _ _ p.1 p.2 syntax)) of)
 
 pub returns-clause-command : goal.returns-clause-command
 returns-clause-command c =
-    select-completed c.args.line.now c.distinct-distinct.result.0 c.in_ok-items.items c.in_ok-table.table c.from_vec.result c.from_vec-2.result (record {
-      some = c.in_ok-items.ensures.items.some;
-      front = c.distinct-distinct.result.1.now;
-      begins = c.distinct-distinct.ensures.found;
-      behind = c.in_ok-items.rest.now;
-      found = c.in_ok-items.ensures.items.found;
-      tail = subst (λ l. IsFrom c.in_ok-items.rest.now c.in_ok-table.table l c.from_vec-2.result) (sym c.from_vec.ensures)
-          (subst (λ l. IsFrom c.in_ok-items.rest.now c.in_ok-table.table c.in_ok-table.joins.items l) (sym c.from_vec-2.ensures)
-          c.in_ok-table.ensures.parts);
-    })
+    let s = c.in_ok-parts.parts in
+    select-completed c.args.line.now s.distinct s.items s.table c.from_vec.result c.from_vec-2.result
+    (subst (λ l. IsSelect condition_symbols c.args.line.now s.distinct s.items s.table l c.from_vec-2.result) (sym c.from_vec.ensures)
+    (subst (λ l. IsSelect condition_symbols c.args.line.now s.distinct s.items s.table s.joins.items l) (sym c.from_vec-2.ensures)
+    c.in_ok-parts.ensures.parts))

@@ -1,48 +1,19 @@
-use Rattle.std.proofs.Common.{◌≡◌, ap, subst, sym, ◌∙◌, Err}
+use Rattle.std.proofs.Common.{ap, subst, sym, Err}
 use Rattle.std.proofs.lemmas.Result.{err_from_is_err_and}
-use Rattle.plain_tables.specs.Spelling.{setting_symbols}
-use Rattle.plain_tables.specs.Reading.{lexeme, after_lexeme}
-use Rattle.plain_tables.specs.Names.{IsName}
-use lib.Chars.{codes}
-use Rattle.mm_lang.specs.Parsing.{IsWhere, IsOfText, ReadsList}
+use Rattle.plain_tables.specs.Spelling.{setting_symbols, condition_symbols}
+use Rattle.mm_lang.specs.Parsing.{IsUpdate}
 use Rattle.mm_lang.proofs.Fronts.{same-error}
-use Rattle.mm_lang.proofs.Lists.{list-of_text}
-use Rattle.mm_lang.proofs.Utf8.{of_text-after}
-use Rattle.mm_lang.proofs.Productions.{update-only, update-completed, no-settings, no-tail_of_update}
+use Rattle.mm_lang.proofs.Productions.{update-only, update-completed}
 use Rattle.mm_lang.proofs.parser.update.Goals as goal
 
-pub returns-in_err-settings-clause-syntax : goal.returns-in_err-settings-clause-syntax
-returns-in_err-settings-clause-syntax c = λ syntax of.
-    let p = err_from_is_err_and c.from_residual-in_err-settings.result c.from_residual-in_err-settings.ensures.1 in
-    update-only c.args.line.now
-    (no-settings c.args.line.now c.in_ok-front.front.now (c.in_ok-front.ensures.1 ∙ ap after_lexeme c.in_ok-table.ensures.name.2)
-    (c.in_err-settings.ensures.syntax (ap Err (same-error c.from_residual-in_err-settings.result p.0 _ _ p.1 p.2 syntax))) of)
-
-pub returns-in_err-conditions-clause-syntax : goal.returns-in_err-conditions-clause-syntax
-returns-in_err-conditions-clause-syntax c = λ syntax of.
-    let p = err_from_is_err_and c.from_residual-in_err-conditions.result c.from_residual-in_err-conditions.ensures.1 in
-    let front : c.in_ok-front.front.now ≡ after_lexeme (after_lexeme c.args.line.now) =
-    c.in_ok-front.ensures.1 ∙ ap after_lexeme c.in_ok-table.ensures.name.2 in
-    let text : IsOfText c.in_ok-front.front.now =
-    subst IsOfText (sym front) (of_text-after (after_lexeme c.args.line.now) (of_text-after c.args.line.now of)) in
-    update-only c.args.line.now
-    (no-tail_of_update c.args.line.now c.in_ok-front.front.now c.in_ok-settings.settings.items c.in_ok-settings.rest.now front
-    c.in_ok-settings.ensures.items
-    (c.in_err-conditions.ensures.syntax (ap Err (same-error c.from_residual-in_err-conditions.result p.0 _ _ p.1 p.2 syntax))
-    (list-of_text setting_symbols (codes ",") c.in_ok-front.front.now c.in_ok-settings.settings.items c.in_ok-settings.rest.now text
-    c.in_ok-settings.ensures.items.found)))
+pub returns-in_err-table-clause-syntax : goal.returns-in_err-table-clause-syntax
+returns-in_err-table-clause-syntax c = λ syntax of.
+    let p = err_from_is_err_and c.from_residual.result c.from_residual.ensures.1 in
+    update-only c.args.line.now (c.in_err-table.ensures.syntax (ap Err (same-error c.from_residual.result p.0 _ _ p.1 p.2 syntax)) of)
 
 pub returns-clause-command : goal.returns-clause-command
 returns-clause-command c =
-    let front : c.in_ok-front.front.now ≡ after_lexeme (after_lexeme c.args.line.now) =
-    c.in_ok-front.ensures.1 ∙ ap after_lexeme c.in_ok-table.ensures.name.2 in
-    update-completed c.args.line.now c.in_ok-table.table c.from_vec.result c.from_vec-2.result (record {
-      is = subst IsName (sym c.in_ok-table.ensures.name.1) c.in_ok-table.ensures.name.0;
-      first = sym c.in_ok-table.ensures.name.1;
-      sets = ap lexeme (sym c.in_ok-table.ensures.name.2) ∙ c.in_ok-front.ensures.0;
-      rest = c.in_ok-settings.rest.now;
-      listed = subst (λ l. ReadsList setting_symbols (codes ",") l c.from_vec.result c.in_ok-settings.rest.now) front
-          (subst (λ l. ReadsList setting_symbols (codes ",") c.in_ok-front.front.now l c.in_ok-settings.rest.now) (sym c.from_vec.ensures)
-          c.in_ok-settings.ensures.items.found);
-      tail = subst (λ l. IsWhere c.in_ok-settings.rest.now l) (sym c.from_vec-2.ensures) c.in_ok-conditions.ensures.conditions;
-    })
+    update-completed c.args.line.now c.in_ok-table.table c.from_vec.result c.from_vec-2.result
+    (subst (λ l. IsUpdate setting_symbols condition_symbols c.args.line.now c.in_ok-table.table l c.from_vec-2.result) (sym c.from_vec.ensures)
+    (subst (λ l. IsUpdate setting_symbols condition_symbols c.args.line.now c.in_ok-table.table c.in_ok-table.settings.items l) (sym c.from_vec-2.ensures)
+    c.in_ok-table.ensures.parts))

@@ -1,28 +1,18 @@
-use Rattle.std.proofs.Common.{ap, Err, subst}
+use Rattle.std.proofs.Common.{ap, refl, Err}
 use Rattle.std.proofs.lemmas.Result.{err_from_is_err_and}
-use Rattle.plain_tables.specs.Spelling.{value_symbols}
-use Rattle.mm_lang.specs.Parsing.{BeginsWith, BeginsWithNone}
-use Rattle.mm_lang.proofs.Fronts.{same-error, begins-condition, begins-no_condition, begins-no_operator, begins-no_compared}
+use Rattle.plain_tables.specs.Spelling.{value_symbols, condition_symbols}
+use Rattle.mm_lang.specs.Parsing.{compared_symbols}
+use Rattle.mm_lang.proofs.Fronts.{same-error, begins-as, begins-none_as}
 use Rattle.mm_lang.proofs.items.CondItem.read.Goals as goal
 
 pub returns-in_err-column-clause-syntax : goal.returns-in_err-column-clause-syntax
 returns-in_err-column-clause-syntax c = λ syntax.
     let p = err_from_is_err_and c.from_residual.result c.from_residual.ensures.1 in
-    begins-no_condition c.args.line.now (c.in_err-column.ensures.syntax (ap Err (same-error c.from_residual.result p.0 _ _ p.1 p.2 syntax)))
-
-pub returns-in_err-op-clause-syntax : goal.returns-in_err-op-clause-syntax
-returns-in_err-op-clause-syntax c = λ _.
-    begins-no_operator c.args.line.now c.in_ok-column.line.now c.in_ok-column.column c.in_ok-column.ensures.item c.in_err-op.ensures
-
-pub returns-in_err-value-clause-syntax : goal.returns-in_err-value-clause-syntax
-returns-in_err-value-clause-syntax c = λ syntax.
-    let p = err_from_is_err_and c.from_residual-in_err-value.result c.from_residual-in_err-value.ensures.1 in
-    begins-no_compared c.args.line.now c.in_ok-column.line.now c.in_ok-column.column c.in_ok-column.ensures.item
-    (subst (λ l. BeginsWithNone value_symbols l) c.in_ok-op.ensures.1
-    (c.in_err-value.ensures.syntax (ap Err (same-error c.from_residual-in_err-value.result p.0 _ _ p.1 p.2 syntax))))
+    begins-none_as (compared_symbols value_symbols) condition_symbols (λ x. (x.column, x.op, x.value)) (λ x. refl) c.args.line.now
+    (c.in_err-column.ensures.syntax (ap Err (same-error c.from_residual.result p.0 _ _ p.1 p.2 syntax)))
 
 pub returns-clause-item : goal.returns-clause-item
 returns-clause-item c =
-    begins-condition c.args.line.now c.in_ok-column.line.now c.in_ok-value.line.now c.in_ok-column.column c.in_ok-op.op c.in_ok-value.value
-    c.in_ok-column.ensures.item c.in_ok-op.ensures.0
-    (subst (λ l. BeginsWith value_symbols l c.in_ok-value.value c.in_ok-value.line.now) c.in_ok-op.ensures.1 c.in_ok-value.ensures.item)
+    begins-as (compared_symbols value_symbols) condition_symbols (λ x. (x.column, x.op, x.value)) (λ x. refl) c.args.line.now
+    (record { column = c.in_ok-column.column; op = c.in_ok-column.op; value = c.in_ok-column.value }) c.in_ok-column.line.now
+    c.in_ok-column.ensures.item
