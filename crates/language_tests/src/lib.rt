@@ -1,4 +1,4 @@
-//! What no contract of plain_tables, mm_lang and mm_csv says: worked spellings, blocks and hashes, and that calls find
+//! What no contract of plain_tables, mm_lang and mm_csv says: worked spellings, statements, blocks and hashes, and that calls find
 //! memory. The tests call the public functions alone. They stand in a crate of their own, since a crate with tests is
 //! proved twice.
 #![tactic(auto)]
@@ -9,3 +9,5 @@ mod blocks;
 mod hashes;
 #[cfg(test)]
 mod spellings;
+#[cfg(test)]
+mod statements;

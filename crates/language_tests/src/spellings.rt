@@ -130,6 +130,8 @@ const SPELLINGS: &[(&str, &str)] = &[
         "update t set a = 1, b = 2, c = 3, d = 4, e = 'it''s' where t.b = 'x' and c = 'y'",
     ),
     ("delete t where id < > 3", ""),
+    ("delete t where id = ?", ""),
+    ("insert t (?, 'a')", ""),
     ("insert t (1, 'it's')", ""),
     ("", ""),
 ];

@@ -27,7 +27,7 @@ use Rattle.mm_lang.proofs.Fronts.{same-bytes, other-bytes}
 
 -- ---- symbols whose keywords are words
 
-abbrev AreWellFormed : List Symbol → Type 0
+abbrev pub AreWellFormed : List Symbol → Type 0
 AreWellFormed symbols = AllByRecursion IsWellFormed symbols
 
 kind-well : (k : ColKind) → AreWellFormed (kind_symbols k)
@@ -39,7 +39,7 @@ kind-well (kind.RefOrNull table) = (refl, (tt, (refl, tt)))
 index-well : (table column : List ℕ) (k : IndexKind) → AreWellFormed (index_symbols table column k)
 index-well table column k = (tt, (tt, (index_word-word k, tt)))
 
-whole-well : (table : Option (List ℕ)) (column : List ℕ) → AreWellFormed (whole_name table column)
+pub whole-well : (table : Option (List ℕ)) (column : List ℕ) → AreWellFormed (whole_name table column)
 whole-well None column = (tt, tt)
 whole-well (Some t) column = (tt, (tt, (tt, tt)))
 
@@ -60,15 +60,15 @@ where-well : (conditions : List Cond) → AreWellFormed (where_symbols condition
 where-well [] = tt
 where-well (x ∷ xs) = (refl, separated-well condition_symbols (Keyword (codes "and")) refl condition-well (x ∷ xs))
 
-items-well : (items : Items) → AreWellFormed (items_symbols items)
+pub items-well : (items : Items) → AreWellFormed (items_symbols items)
 items-well items.All = (tt, tt)
 items-well (items.Named names) = separated-well name_symbols (Sign Comma) tt (λ name. whole-well name.table name.column) names
 
-distinct-well : (distinct : Bool) → AreWellFormed (distinct_symbols distinct)
+pub distinct-well : (distinct : Bool) → AreWellFormed (distinct_symbols distinct)
 distinct-well true = (refl, tt)
 distinct-well false = tt
 
-joins-well : (joins : List Join) → AreWellFormed (flat_map join_symbols joins)
+pub joins-well : (joins : List Join) → AreWellFormed (flat_map join_symbols joins)
 joins-well [] = tt
 joins-well (join ∷ joins) =
     all-append IsWellFormed (join_symbols join) (flat_map join_symbols joins)

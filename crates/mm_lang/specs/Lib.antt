@@ -1,3 +1,4 @@
 pub mod Parsing
 pub mod Printing
+pub mod Statements
 pub mod Words

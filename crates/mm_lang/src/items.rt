@@ -36,8 +36,8 @@ pub trait PrintedItem: Item {
     ghost free: { (x : Self) → IsFree (Self.symbols x) };
 }
 
-// The value that these characters spell.
-fn value(alloc: Global, characters: &[u8]) -> Result<Value, ParseRefusal>
+/// The value that these characters spell.
+pub(crate) fn value(alloc: Global, characters: &[u8]) -> Result<Value, ParseRefusal>
     ensures value { IfOk result (λ v. IsSymbol characters.now (Literal v)) }
     ensures syntax { IsErrOf result ParseRefusal.Syntax → IsUtf8 characters.now → (v : Value) → IsSymbol characters.now (Literal v) → ⊥ }
 {

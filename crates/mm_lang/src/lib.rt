@@ -19,6 +19,8 @@ mod parser;
 mod printer;
 mod refusal;
 mod sink;
+mod slots;
+mod statements;
 mod symbols;
 mod texts;
 
@@ -27,4 +29,5 @@ pub use parser::{block_length, parse};
 pub use printer::{print, print_index, print_load, print_table};
 pub use refusal::ParseRefusal;
 pub use sink::Sink;
+pub use statements::parse_statement;
 pub use symbols::{LONGEST_NAME, is_reserved_word, is_whole_name};

@@ -1,0 +1,101 @@
+//! Slots, what has one, and the numbers of holes.
+
+ghost use Rattle.std.specs.Prelude.{◌≡◌, ◌+◌, ℕ, List, [], ◌∷◌, map, length, cond, IfOk, IsErrOf};
+ghost use Rattle.std.specs.List.{flat_map};
+ghost use Rattle.plain_statements.specs.declared.statement.Slot.{Slot};
+ghost use Rattle.plain_statements.specs.StatementSpelling.{numbers_of};
+ghost use Rattle.mm_lang.specs.Statements.{slot_symbol, slot_by, setting_by, condition_by, AreFrom};
+
+use crate::ParseRefusal;
+use crate::items::{Item, assigned, compared, value};
+use crate::lexemes::split_lexeme;
+use plain_statements::{Slot, SlotCond, SlotSetting};
+use std::alloc::Global;
+
+/// An item in which a slot stands.
+pub trait SlotItem: Item {
+    ghost slot: { Self → Slot };
+
+    /// Gives this number to the hole, if one stands in it, and tells whether one does.
+    fn number(&mut self, number: usize) -> bool
+        ensures symbols { Self.symbols self.new ≡ Self.symbols self.old }
+        ensures numbers { numbers_of (slot self.new) ≡ cond result (number ∷ []) [] };
+}
+
+// A hole is read without its number.
+impl Item for Slot {
+    ghost symbols = { slot_by slot_symbol };
+
+    fn read(alloc: Global, line: &[u8]) -> Result<(Slot, &[u8]), ParseRefusal> {
+        let (characters, rest) = split_lexeme(line);
+        if characters == b"?".as_slice() {
+            return Ok((Slot::Hole(0), rest));
+        }
+        Ok((Slot::Given(value(alloc, characters)?), rest))
+    }
+}
+
+impl SlotItem for Slot {
+    ghost slot = { λ s. s };
+
+    fn number(&mut self, number: usize) -> bool {
+        match self {
+            Slot::Given(_) => false,
+            Slot::Hole(n) => {
+                *n = number;
+                true
+            }
+        }
+    }
+}
+
+impl Item for SlotSetting {
+    ghost symbols = { setting_by slot_symbol };
+
+    fn read(alloc: Global, line: &[u8]) -> Result<(SlotSetting, &[u8]), ParseRefusal> {
+        let (column, slot, line) = assigned(alloc, line)?;
+        Ok((SlotSetting { column, slot }, line))
+    }
+}
+
+impl SlotItem for SlotSetting {
+    ghost slot = { λ s. s.slot };
+
+    fn number(&mut self, number: usize) -> bool {
+        self.slot.number(number)
+    }
+}
+
+impl Item for SlotCond {
+    ghost symbols = { condition_by slot_symbol };
+
+    fn read(alloc: Global, line: &[u8]) -> Result<(SlotCond, &[u8]), ParseRefusal> {
+        let (column, op, slot, line) = compared(alloc, line)?;
+        Ok((SlotCond { column, op, slot }, line))
+    }
+}
+
+impl SlotItem for SlotCond {
+    ghost slot = { λ c. c.slot };
+
+    fn number(&mut self, number: usize) -> bool {
+        self.slot.number(number)
+    }
+}
+
+/// Numbers the holes from this number on, as they stand, and gives the next one. There is no memory for holes past the
+/// numbers.
+pub fn number_holes<T: SlotItem>(items: &mut [T], first: usize) -> Result<usize, ParseRefusal>
+    ensures symbols { IfOk result (λ next. map T.symbols items.new ≡ map T.symbols items.old) }
+    ensures numbers { IfOk result (λ next. AreFrom first (flat_map numbers_of (map T.slot items.new))) }
+    ensures next { IfOk result (λ next. next ≡ first + length (flat_map numbers_of (map T.slot items.new))) }
+    ensures syntax { IsErrOf result ParseRefusal.Syntax → ⊥ }
+{
+    let mut next = first;
+    for item in items.iter_mut() {
+        if item.number(next) {
+            next = next.checked_add(1).ok_or(ParseRefusal::NoMemory)?;
+        }
+    }
+    Ok(next)
+}

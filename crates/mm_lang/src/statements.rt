@@ -1,0 +1,128 @@
+//! Statements: the commands on rows, with a `?` where a value may stand.
+
+ghost use Rattle.std.specs.Prelude.{◌≡◌, ◌≢◌, codes, IfOk, IsErrOf, MatchOption};
+ghost use Rattle.plain_statements.specs.declared.statement.Statement.{Statement};
+ghost use Rattle.plain_statements.specs.StatementSpelling.{SpellsStatement};
+ghost use Rattle.mm_lang.specs.declared.statements.StatementWord.{StatementWord as Word};
+ghost use Rattle.mm_lang.specs.Parsing.{IsOfText};
+ghost use Rattle.mm_lang.specs.Statements.{IsStatement, CompletesStatement, statement_letters};
+
+use crate::ParseRefusal;
+use crate::line::Line;
+use crate::parser::{SelectParts, delete_parts, name_and_list, select_parts, update_parts};
+use crate::slots::number_holes;
+use plain_statements::{Slot, SlotCond, SlotSetting, Statement};
+use plain_tables::{Sequence, Text};
+use std::alloc::Global;
+
+/// The word that a statement begins with.
+#[derive(Clone, Copy)]
+pub(crate) enum StatementWord {
+    Delete,
+    Insert,
+    Select,
+    Update,
+}
+
+// The word of a statement that these characters are.
+fn statement_word(characters: &[u8]) -> Option<StatementWord>
+    ensures { MatchOption result ((w : Word) → characters.now ≢ statement_letters w) (λ w. characters.now ≡ statement_letters w) }
+{
+    match characters {
+        b"insert" => Some(StatementWord::Insert),
+        b"select" => Some(StatementWord::Select),
+        b"update" => Some(StatementWord::Update),
+        b"delete" => Some(StatementWord::Delete),
+        _ => None,
+    }
+}
+
+// The statement that begins with a word, of which this is the rest.
+fn statement(alloc: Global, word: StatementWord, rest: &[u8]) -> Result<Statement, ParseRefusal>
+    ensures statement { IfOk result (CompletesStatement (statement_letters word) rest.now) }
+    ensures syntax { IsErrOf result ParseRefusal.Syntax → IsOfText rest.now → (s : Statement) → IsStatement (statement_letters word) rest.now s → ⊥ }
+{
+    match word {
+        StatementWord::Delete => delete(alloc, rest),
+        StatementWord::Insert => insert(alloc, rest),
+        StatementWord::Select => select(alloc, rest),
+        StatementWord::Update => update(alloc, rest),
+    }
+}
+
+/// The statement that a line spells.
+///
+/// The error is `Syntax` where the line spells none, and `NoMemory` where a growth was refused.
+pub fn parse_statement(alloc: Global, line: &Line<'_>) -> Result<Statement, ParseRefusal>
+    ensures statement { IfOk result (λ s. SpellsStatement line.now s) }
+    ensures syntax { IsErrOf result ParseRefusal.Syntax → (s : Statement) → SpellsStatement line.now s → ⊥ }
+{
+    let Some(word) = statement_word(line.word()) else {
+        return Err(ParseRefusal::Syntax);
+    };
+    statement(alloc, word, line.rest())
+}
+
+// NAME ( SLOT {, SLOT} )
+fn insert(alloc: Global, line: &[u8]) -> Result<Statement, ParseRefusal>
+    ensures statement { IfOk result (λ s. CompletesStatement (codes "insert") line.now s) }
+    ensures syntax { IsErrOf result ParseRefusal.Syntax → IsOfText line.now → (s : Statement) → IsStatement (codes "insert") line.now s → ⊥ }
+{
+    let (table, mut slots): (Text, Vec<Slot>) = name_and_list(alloc, line)?;
+    number_holes(slots.as_mut_slice(), 0)?;
+    Ok(Statement::Insert {
+        table,
+        slots: Sequence::from_vec(slots),
+    })
+}
+
+// NAME set NAME = SLOT {, NAME = SLOT} [where ..]
+fn update(alloc: Global, line: &[u8]) -> Result<Statement, ParseRefusal>
+    ensures statement { IfOk result (λ s. CompletesStatement (codes "update") line.now s) }
+    ensures syntax { IsErrOf result ParseRefusal.Syntax → IsOfText line.now → (s : Statement) → IsStatement (codes "update") line.now s → ⊥ }
+{
+    let (table, mut settings, mut conditions): (Text, Vec<SlotSetting>, Vec<SlotCond>) =
+        update_parts(alloc, line)?;
+    let next = number_holes(settings.as_mut_slice(), 0)?;
+    number_holes(conditions.as_mut_slice(), next)?;
+    Ok(Statement::Update {
+        table,
+        settings: Sequence::from_vec(settings),
+        conditions: Sequence::from_vec(conditions),
+    })
+}
+
+// NAME [where ..]
+fn delete(alloc: Global, line: &[u8]) -> Result<Statement, ParseRefusal>
+    ensures statement { IfOk result (λ s. CompletesStatement (codes "delete") line.now s) }
+    ensures syntax { IsErrOf result ParseRefusal.Syntax → IsOfText line.now → (s : Statement) → IsStatement (codes "delete") line.now s → ⊥ }
+{
+    let (table, mut conditions): (Text, Vec<SlotCond>) = delete_parts(alloc, line)?;
+    number_holes(conditions.as_mut_slice(), 0)?;
+    Ok(Statement::Delete {
+        table,
+        conditions: Sequence::from_vec(conditions),
+    })
+}
+
+// [distinct] ITEMS from NAME {join ..} [where ..]
+fn select(alloc: Global, line: &[u8]) -> Result<Statement, ParseRefusal>
+    ensures statement { IfOk result (λ s. CompletesStatement (codes "select") line.now s) }
+    ensures syntax { IsErrOf result ParseRefusal.Syntax → IsOfText line.now → (s : Statement) → IsStatement (codes "select") line.now s → ⊥ }
+{
+    let SelectParts {
+        distinct,
+        items,
+        table,
+        joins,
+        mut conditions,
+    } = select_parts::<SlotCond>(alloc, line)?;
+    number_holes(conditions.as_mut_slice(), 0)?;
+    Ok(Statement::Select {
+        distinct,
+        items,
+        table,
+        joins: Sequence::from_vec(joins),
+        conditions: Sequence::from_vec(conditions),
+    })
+}
