@@ -23,7 +23,7 @@ use std::alloc::Global;
 fn kept_out(relation: &Relation, key: &Value, reason: Refusal) -> Refusal
     ensures { (HasKey relation.now.rows key.now × (result ≡ Refusal.KeyExists None)) ⊎ ((HasKey relation.now.rows key.now → ⊥) × (result ≡ reason)) }
 {
-    if relation.find_key(key).is_some() {
+    if relation.find_key(&key.sought()).is_some() {
         Refusal::KeyExists { record: None }
     } else {
         reason

@@ -50,10 +50,10 @@ pub fn held_key(alloc: Global, table: &Seen<'_>, values: &[Value]) -> Search {
     let Some(key) = values.first() else {
         return Ok(None);
     };
-    if table.relation.find_key(key).is_none() {
+    if table.relation.find_key(&key.sought()).is_none() {
         return Ok(None);
     }
-    let (name, key) = (table.name, Shown(key));
+    let (name, key) = (table.name, Shown(key.sought()));
     tell(
         Refusal::KeyExists { record: None },
         format!(in alloc; "{name} has a row with the key {key}"),

@@ -16,7 +16,7 @@ use mm_relation::laws::a_relation_is_kept;
 use mm_relation::{ColumnNumber, Relation, Relations, TupleRef};
 use mm_session::rows_passing;
 use no_memory::NoMemory;
-use plain_tables::{Command, Refusal, Resolved, TableNumber, Test, Value};
+use plain_tables::{Command, Refusal, Resolved, StoredValue, TableNumber, Test};
 use plan_chooser::Policy;
 use std::alloc::Global;
 
@@ -33,7 +33,7 @@ fn first_named(relation: &Relation, rows: &[TupleRef]) -> Option<TupleRef>
 }
 
 // The key of a row that names this one in a column.
-fn naming_key(relation: &Relation, column: ColumnNumber, named: TupleRef) -> Option<&Value> {
+fn naming_key(relation: &Relation, column: ColumnNumber, named: TupleRef) -> Option<&StoredValue> {
     a_relation_is_kept(relation);
     for r in relation.walk() {
         if relation.row(r).link(column) == Some(named) {
@@ -57,7 +57,7 @@ fn why_named_by(
         };
         if refers {
             if let Some(key) = naming_key(table.relation, ColumnNumber(place), r) {
-                let (name, column, key) = (table.name, column.name.as_str(), Shown(key));
+                let (name, column, key) = (table.name, column.name.as_str(), Shown(key.sought()));
                 return Ok(Some(format!(in alloc;
                     "column {column} of the row of {name} with the key {key}"
                 )?));
@@ -90,7 +90,7 @@ fn stays(alloc: Global, catalog: &Catalog, table: &Seen<'_>, r: TupleRef) -> Sea
         return Ok(None);
     };
     let why = why_named(alloc, catalog, table.name, r)?;
-    let (name, key) = (table.name, Shown(key));
+    let (name, key) = (table.name, Shown(key.sought()));
     tell(
         Refusal::RowIsReferenced,
         format!(in alloc; "the row of {name} with the key {key} is named in {why}"),

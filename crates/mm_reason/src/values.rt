@@ -32,7 +32,7 @@ pub fn why_mistyped(
         return Ok(None);
     }
     let (table, column) = (named.table.name, named.column.name.as_str());
-    let shown = Shown(value);
+    let shown = Shown(value.sought());
     let words = match value {
         Value::Null => format!(in alloc; "column {column} of {table} takes no null")?,
         Value::Int(_) => {
@@ -98,11 +98,11 @@ pub fn why_unheld(
     let Some(table) = table_named(catalog, name) else {
         return Ok(None);
     };
-    if matches!(value, Value::Null) || table.relation.find_key(value).is_some() {
+    if matches!(value, Value::Null) || table.relation.find_key(&value.sought()).is_some() {
         return Ok(None);
     }
     let (table, column) = (table.name, column.name.as_str());
-    let shown = Shown(value);
+    let shown = Shown(value.sought());
     Ok(Some(format!(in alloc;
         "{table} has no row with the key {shown}, which column {column} names"
     )?))

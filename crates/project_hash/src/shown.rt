@@ -3,7 +3,7 @@ ghost use Rattle.std.specs.Prelude.{◌≡◌, ◌<◌, Some, length, slice_get}
 
 use mm_relation::Relations;
 use part_raw::TupleRef;
-use plain_tables::{Value, hash_of};
+use plain_tables::{StoredValue, hash_of};
 use std::cmp::Ordering;
 use std::hash::{Hash, Hasher};
 use std::marker::Model;
@@ -69,7 +69,7 @@ impl<'a, R: Relations> ShownRow<'a, R> {
     }
 
     // The value in a column that is shown.
-    fn value(&self, column: usize) -> &'a Value
+    fn value(&self, column: usize) -> &'a StoredValue
         requires { column < length self.now.values }
         ensures { slice_get self.now.values column ≡ Some result.now }
     {

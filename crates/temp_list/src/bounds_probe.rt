@@ -10,7 +10,7 @@ use crate::search::read;
 use mm_index::Probe;
 use mm_relation::{Relation, Relations};
 use part_raw::TupleRef;
-use plain_tables::{ColumnNumber, Op, Test, Value};
+use plain_tables::{ColumnNumber, Op, StoredValue, Test};
 use std::cmp::Ordering;
 
 // Whether a test bounds the values of a column.
@@ -21,18 +21,18 @@ fn bounds(column: ColumnNumber, test: &Test) -> bool
 }
 
 // Where a value of a column stands beside those that pass a test, if the test bounds the column.
-fn place_beside(column: ColumnNumber, test: &Test, value: &Value) -> Ordering
+fn place_beside(column: ColumnNumber, test: &Test, value: &StoredValue) -> Ordering
     ensures { result ≡ place_beside_so column.0 test.now value.now }
 {
     if bounds(column, test) {
-        place_of(test.op, value, &test.value)
+        place_of(test.op, value, &test.value.sought())
     } else {
         Ordering::Equal
     }
 }
 
 // Where a value of a column stands beside those that pass each test that bounds it.
-fn place_between(column: ColumnNumber, tests: &[Test], value: &Value) -> Ordering
+fn place_between(column: ColumnNumber, tests: &[Test], value: &StoredValue) -> Ordering
     ensures { result ≡ place_between_so column.0 tests.now value.now }
 {
     for test in tests {

@@ -10,17 +10,17 @@ use crate::standing::stands;
 use mm_index::Probe;
 use mm_relation::{Relation, Relations};
 use part_raw::TupleRef;
-use plain_tables::{ColumnNumber, Op, Value};
+use plain_tables::{ColumnNumber, Op, SoughtValue, StoredValue};
 use std::cmp::Ordering;
 
 // Where a value stands beside those that stand so to the value that is sought.
-pub(crate) fn place_of(op: Op, value: &Value, sought: &Value) -> Ordering
+pub(crate) fn place_of(op: Op, value: &StoredValue, sought: &SoughtValue<'_>) -> Ordering
     ensures { result ≡ place_of_so op value.now sought.now }
 {
     match op {
-        Op::Eq | Op::Ne => value.cmp(sought),
+        Op::Eq | Op::Ne => value.compare(sought),
         _ if stands(op, value, sought) => Ordering::Equal,
-        Op::Lt | Op::Le if !matches!(value, Value::Null) => Ordering::Greater,
+        Op::Lt | Op::Le if !value.is_null() => Ordering::Greater,
         _ => Ordering::Less,
     }
 }
@@ -32,7 +32,7 @@ pub struct RangeProbe<'a, R> {
     pub relation: &'a Relation,
     pub column: ColumnNumber,
     pub op: Op,
-    pub sought: &'a Value,
+    pub sought: &'a SoughtValue<'a>,
     pub asked: u64,
 }
 

@@ -15,7 +15,7 @@ use mm_relation::laws::a_relation_is_kept;
 use mm_relation::{Relation, Relations};
 use no_memory::NoMemory;
 use part_raw::{MAX_TUPLES, TupleRef};
-use plain_tables::{ColumnNumber, Op, Test, Value, hash_of};
+use plain_tables::{ColumnNumber, Op, SoughtValue, StoredValue, Test, hash_of_sought};
 use std::alloc::Global;
 
 /// The value in a column of a row that is lent.
@@ -24,7 +24,7 @@ pub fn read<'a, R: Relations>(
     relation: &'a Relation,
     r: TupleRef,
     column: ColumnNumber,
-) -> &'a Value
+) -> &'a StoredValue
     requires held { IsSome (finite.get relation.now.rows r) }
     requires current { IsCurrent (linked_keys relation.now.targets (R.tables tables.now)) relation.now }
     requires within { column.0 < length relation.now.schema.columns }
@@ -49,7 +49,7 @@ pub fn passes_all<R: Relations>(
     a_relation_is_kept(relation);
     let row = relation.row(r);
     for test in tests {
-        if !stands(test.op, row.value(test.column, tables), &test.value) {
+        if !stands(test.op, row.value(test.column, tables), &test.value.sought()) {
             return false;
         }
     }
@@ -142,7 +142,7 @@ pub fn keep_passing<R: Relations>(
 pub fn row_by_key<R: Relations>(
     tables: &R,
     relation: &Relation,
-    key: &Value,
+    key: &SoughtValue<'_>,
     out: &mut Vec<TupleRef>,
 ) -> Result<(), NoMemory>
     ensures ok { OnOk result (AppendsBag out.old.items out.new.items (standing (R.tables tables.now) relation.now 0 operator.Eq key.now)) }
@@ -161,7 +161,7 @@ pub fn rows_by_tree<R: Relations>(
     relation: &Relation,
     column: ColumnNumber,
     op: Op,
-    value: &Value,
+    value: &SoughtValue<'_>,
     out: &mut Vec<TupleRef>,
 ) -> Result<(), NoMemory>
     requires current { IsCurrent (linked_keys relation.now.targets (R.tables tables.now)) relation.now }
@@ -217,7 +217,7 @@ pub fn rows_by_hash<R: Relations>(
     tables: &R,
     relation: &Relation,
     column: ColumnNumber,
-    value: &Value,
+    value: &SoughtValue<'_>,
     out: &mut Vec<TupleRef>,
 ) -> Result<(), NoMemory>
     requires current { IsCurrent (linked_keys relation.now.targets (R.tables tables.now)) relation.now }
@@ -228,7 +228,7 @@ pub fn rows_by_hash<R: Relations>(
 {
     a_relation_is_kept(relation);
     let before = out.len();
-    for r in relation.chain_of(column, hash_of(value)) {
+    for r in relation.chain_of(column, hash_of_sought(value)) {
         if !stands(Op::Eq, read(tables, relation, r, column), value) {
             continue;
         }

@@ -82,7 +82,13 @@ fn find_by_hash<R: Relations>(
     a_relation_is_kept(relation);
     let test = &tests[n];
     let mut found = Vec::new(alloc);
-    rows_by_hash(tables, relation, test.column, &test.value, &mut found)?;
+    rows_by_hash(
+        tables,
+        relation,
+        test.column,
+        &test.value.sought(),
+        &mut found,
+    )?;
     keep_passing(tables, relation, tests, &mut found);
     Ok(found)
 }
@@ -110,7 +116,7 @@ fn find_by_one_test<R: Relations>(
         relation,
         test.column,
         test.op,
-        &test.value,
+        &test.value.sought(),
         &mut found,
     )?;
     keep_passing(tables, relation, tests, &mut found);

@@ -2,7 +2,7 @@
 ghost use Rattle.std.specs.Prelude.{◌≡◌};
 ghost use Rattle.plain_tables.specs.Queries.{are_ordered as are_ordered_so, stands_to_null as stands_to_null_so, stands as stands_so};
 
-use plain_tables::{Op, Value};
+use plain_tables::{Op, SoughtValue, StoredValue};
 use std::cmp::Ordering;
 
 // Whether values that compare so are ordered as the operator says.
@@ -20,23 +20,22 @@ fn are_ordered(op: Op, ordering: Ordering) -> bool
 }
 
 // Whether a value stands to null as the operator says.
-fn stands_to_null(op: Op, value: &Value) -> bool
+fn stands_to_null(op: Op, value: &StoredValue) -> bool
     ensures { result ≡ stands_to_null_so op value.now }
 {
     match op {
-        Op::Eq => matches!(value, Value::Null),
-        Op::Ne => !matches!(value, Value::Null),
+        Op::Eq => value.is_null(),
+        Op::Ne => !value.is_null(),
         Op::Lt | Op::Le | Op::Gt | Op::Ge => false,
     }
 }
 
 /// Whether a value stands so to the value of a test.
-pub fn stands(op: Op, value: &Value, asked: &Value) -> bool
+pub fn stands(op: Op, value: &StoredValue, asked: &SoughtValue<'_>) -> bool
     ensures { result ≡ stands_so op value.now asked.now }
 {
-    match (value, asked) {
-        (_, Value::Null) => stands_to_null(op, value),
-        (Value::Null, _) => false,
-        _ => are_ordered(op, value.cmp(asked)),
+    if asked.is_null() {
+        return stands_to_null(op, value);
     }
+    !value.is_null() && are_ordered(op, value.compare(asked))
 }

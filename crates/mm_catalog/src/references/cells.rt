@@ -18,7 +18,7 @@ pub fn cell_of(before: &[Relation], target: Option<usize>, value: Value) -> Opti
 {
     match (target, value) {
         (Some(table), value) if !matches!(value, Value::Null) => {
-            let to = before[table].find_key(&value)?;
+            let to = before[table].find_key(&value.sought())?;
             Some(Cell::Link { to })
         }
         (_, value) => Some(Cell::Held(value)),

@@ -26,7 +26,7 @@ use mm_lang::print_load;
 use mm_relation::laws::a_relation_is_kept;
 use mm_relation::{Relation, Relations, TupleRef};
 use no_memory::NoMemory;
-use plain_tables::{Column, ColumnNumber, Refusal, TableNumber, Text, Value};
+use plain_tables::{Column, ColumnNumber, Refusal, StoredValue, TableNumber, Text};
 use std::alloc::Global;
 use std::mem;
 
@@ -43,7 +43,7 @@ fn names_of(alloc: Global, columns: &[Column]) -> Result<Vec<Text>, NoMemory>
 
 // Puts the values of a row behind the others.
 fn push_lent_row<'a>(
-    values: &mut Vec<&'a Value>,
+    values: &mut Vec<&'a StoredValue>,
     catalog: &'a Catalog,
     relation: &'a Relation,
     r: TupleRef,
@@ -75,7 +75,7 @@ fn check_length(records: &RecordWriter<Answer>, limit: usize) -> Result<(), Refu
 fn push_row<'a>(
     records: &mut RecordWriter<Answer>,
     limit: usize,
-    values: &mut Vec<&'a Value>,
+    values: &mut Vec<&'a StoredValue>,
     catalog: &'a Catalog,
     relation: &'a Relation,
     r: TupleRef,
