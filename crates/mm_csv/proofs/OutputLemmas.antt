@@ -1,5 +1,5 @@
 -- Lemmas on records that are written field by field: what stands there in the end is what the definitions of CSV say.
-use Rattle.std.proofs.Common.{◌≡◌, ◌∙◌, ◌++◌, ◌∷◌, [], ◌<◌, ℕ, List, Bool, true, false, Option, refl, sym, ap, suc, length, subst, append-nil, append_assoc, arith}
+use Rattle.std.proofs.Common.{◌≡◌, ◌∙◌, ◌++◌, ◌∷◌, [], ◌<◌, ◌^◌, ℕ, List, Bool, true, false, Option, refl, sym, ap, suc, length, subst, append-nil, append_assoc, arith}
 use Rattle.std.specs.Prelude.{◌==◌, ◌||◌, ◌&&◌, ℤ, pos, negsuc, FitsSigned, if◌then◌else◌}
 use Rattle.std.proofs.lemmas.Bool.{ne_eqb}
 use Rattle.std.proofs.lemmas.Fmt.{decimal_nonempty}
@@ -7,7 +7,7 @@ use Rattle.std.proofs.lemmas.Grind.{flat_map-append}
 use Rattle.std.proofs.lemmas.List.{length-append}
 use Rattle.std.proofs.lemmas.List.Folds.{list_any-append}
 use Rattle.std.proofs.KnownBytes.{Appends-trans}
-use Rattle.std.specs.Fmt.{signed_decimal}
+use Rattle.std.specs.Fmt.{decimal, signed_decimal}
 use Rattle.std.specs.Int.{w64}
 use Rattle.std.specs.Io.KnownBytes.{Appends}
 use Rattle.std.specs.List.{flat_map}
@@ -15,7 +15,7 @@ use Rattle.plain_tables.specs.Csv.{calls_for_quotes, field_text, needs_quotes, q
 use Rattle.mm_csv.specs.FullNames.{full_name_text}
 use Rattle.mm_csv.specs.Records.{AddsField, comma, shown, shown_fields}
 use Rattle.mm_csv.specs.declared.full_name.FullName.{FullName}
-use Rattle.mm_csv.proofs.PlainFields.{integer-plain}
+use Rattle.mm_csv.proofs.PlainFields.{decimal-plain, integer-plain}
 
 -- ---- a field more
 
@@ -58,6 +58,9 @@ signed-some (negsuc n) fits = omega arith
 
 pub integer-shown : (alone : Bool) (z : ℤ) → FitsSigned w64 z → signed_decimal z ≡ shown alone (signed_decimal z)
 integer-shown alone z fits = some-plain alone (signed_decimal z) (integer-plain z fits) (signed-some z fits)
+
+pub large-shown : (alone : Bool) (n : ℕ) → n < 2 ^ 64 → decimal n ≡ shown alone (decimal n)
+large-shown alone n fits = some-plain alone (decimal n) (decimal-plain n fits) (decimal_nonempty n fits)
 
 -- ---- full names
 

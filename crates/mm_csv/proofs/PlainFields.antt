@@ -18,7 +18,7 @@ digit-plain : (n : ℕ) → calls_for_quotes (48 + n) ≡ false
 digit-plain n =
     rw (ne_eqb (48 + n) 44 (λ e. omega (arith, e)), ne_eqb (48 + n) 34 (λ e. omega (arith, e)), ne_eqb (48 + n) 13 (λ e. omega (arith, e)), ne_eqb (48 + n) 10 (λ e. omega (arith, e))) refl
 
-decimal-plain : (n : ℕ) → n < 2 ^ 64 → needs_quotes (decimal n) ≡ false
+pub decimal-plain : (n : ℕ) → n < 2 ^ 64 → needs_quotes (decimal n) ≡ false
 decimal-plain n =
     decimal_by_steps (λ n ds. needs_quotes ds ≡ false)
     (λ n lt. rw (digit-plain n) refl)

@@ -7,7 +7,7 @@ ghost use Rattle.mm_csv.specs.FullNames.{full_name_text};
 
 use crate::FullName;
 use crate::output::Output;
-use plain_tables::{NoMemory, Text, Value};
+use plain_tables::{NoMemory, StoredValue, Text, Value};
 use std::io::Write;
 
 /// A row as a record. After an error a part of it may have been written.
@@ -17,22 +17,22 @@ pub fn write_row<W: Write + Drop>(output: &mut Output<W>, row: &[Value]) -> Resu
 {
     let alone = row.len() == 1;
     for (place, value) in row.iter().enumerate() {
-        output.put_value(place, alone, value)?;
+        output.put_value(place, alone, &value.sought())?;
     }
     output.put_end()
 }
 
-/// Values that are lent one by one as a record. After an error a part of it may have been written.
+/// Values of rows, which are lent one by one, as a record. After an error a part of it may have been written.
 pub fn write_values<W: Write + Drop>(
     output: &mut Output<W>,
-    values: &[&Value],
+    values: &[&StoredValue],
 ) -> Result<(), NoMemory>
     requires { 0 < length values.now }
     ensures { OnOk result (Appends output.old output.new (row_record (map (λ v. v.now) values.now))) }
 {
     let alone = values.len() == 1;
     for (place, value) in values.iter().enumerate() {
-        output.put_value(place, alone, value)?;
+        output.put_value(place, alone, &value.sought())?;
     }
     output.put_end()
 }

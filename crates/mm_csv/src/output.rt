@@ -1,7 +1,7 @@
 //! The fields of records, written straight to where they go.
 
 ghost use Rattle.std.specs.Prelude.{◌≡◌, Bool, ◌∷◌, [], OnOk};
-ghost use Rattle.std.specs.Fmt.{signed_decimal};
+ghost use Rattle.std.specs.Fmt.{decimal, signed_decimal};
 ghost use Rattle.std.specs.Io.KnownBytes.{Appends, Keeps};
 ghost use Rattle.plain_tables.specs.Csv.{quoted, value_field};
 ghost use Rattle.mm_csv.specs.Records.{AddsField, StandsInQuotes, comma};
@@ -11,10 +11,13 @@ use crate::FullName;
 use crate::plain::must_be_quoted;
 use crate::quotes::Quotes;
 use itoa::Buffer;
-use plain_tables::{NoMemory, Value};
+use plain_tables::{NoMemory, SeenValue, SoughtValue};
 use std::alloc::Global;
 use std::io::Write;
 use std::marker::Model;
+
+// The integer that a link to row number 0 is seen as.
+const FIRST_LINK: u64 = 1 << 63;
 
 /// Where records go. Contracts see the bytes that it holds, where they are known.
 #[derive(Drop)]
@@ -107,15 +110,29 @@ impl<W: Write + Drop> Output<W> {
         self.put(Buffer::new().format(z).as_bytes())
     }
 
-    /// The field of a value.
+    #[cold]
+    fn put_large(&mut self, place: usize, n: u64) -> Result<(), NoMemory>
+        ensures { (alone : Bool) → OnOk result (AddsField alone place self.old self.new (decimal n)) }
+    {
+        self.put_comma(place)?;
+        self.put(Buffer::new().format(n).as_bytes())
+    }
+
+    /// The field of a value, of a command or of a row.
     #[inline]
-    pub fn put_value(&mut self, place: usize, alone: bool, value: &Value) -> Result<(), NoMemory>
+    pub fn put_value(
+        &mut self,
+        place: usize,
+        alone: bool,
+        value: &SoughtValue<'_>,
+    ) -> Result<(), NoMemory>
         ensures { OnOk result (AddsField alone place self.old self.new (value_field value.now)) }
     {
-        match value {
-            Value::Null => self.put_field(place, alone, b""),
-            Value::Int(z) => self.put_integer(place, *z),
-            Value::Text(text) => self.put_field(place, alone, text.as_bytes()),
+        match value.seen() {
+            SeenValue::Null => self.put_field(place, alone, b""),
+            SeenValue::Int(z) => self.put_integer(place, z),
+            SeenValue::Text(text) => self.put_field(place, alone, text.as_bytes()),
+            SeenValue::Link(number) => self.put_large(place, FIRST_LINK + u64::from(number)),
         }
     }
 

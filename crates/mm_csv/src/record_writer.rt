@@ -8,7 +8,7 @@ ghost use Rattle.mm_csv.specs.FullNames.{full_name_text};
 use crate::FullName;
 use crate::fields::{write_full_names, write_names, write_row, write_values};
 use crate::output::Output;
-use plain_tables::{NoMemory, Text, Value};
+use plain_tables::{NoMemory, StoredValue, Text, Value};
 use std::alloc::Global;
 use std::io::Write;
 use std::marker::Model;
@@ -59,8 +59,8 @@ impl<W: Write + Drop> RecordWriter<W> {
         Ok(())
     }
 
-    /// Values that are lent one by one as a record.
-    pub fn push_values(&mut self, values: &[&Value]) -> Result<(), NoMemory>
+    /// Values of rows, which are lent one by one, as a record.
+    pub fn push_values(&mut self, values: &[&StoredValue]) -> Result<(), NoMemory>
         requires { 0 < length values.now }
         ensures bytes { OnOk result (Appends self.old.bytes self.new.bytes (row_record (map (λ v. v.now) values.now))) }
         ensures goes { OnOk result ((self.old.failed ≡ false) × (self.new.failed ≡ false)) }

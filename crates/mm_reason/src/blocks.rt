@@ -198,7 +198,7 @@ fn repeated_key(alloc: Global, earlier: Option<&u64>, key: &Value) -> Search {
     let Some(earlier) = earlier else {
         return Ok(None);
     };
-    let key = Shown(key);
+    let key = Shown(key.sought().seen());
     tell(
         Refusal::KeyExists { record: None },
         format!(in alloc; "record {earlier} has the key {key} too"),

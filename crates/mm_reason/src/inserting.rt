@@ -53,7 +53,7 @@ pub fn held_key(alloc: Global, table: &Seen<'_>, values: &[Value]) -> Search {
     if table.relation.find_key(&key.sought()).is_none() {
         return Ok(None);
     }
-    let (name, key) = (table.name, Shown(key.sought()));
+    let (name, key) = (table.name, Shown(key.sought().seen()));
     tell(
         Refusal::KeyExists { record: None },
         format!(in alloc; "{name} has a row with the key {key}"),

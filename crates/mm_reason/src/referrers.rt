@@ -57,7 +57,7 @@ fn why_named_by(
         };
         if refers {
             if let Some(key) = naming_key(table.relation, ColumnNumber(place), r) {
-                let (name, column, key) = (table.name, column.name.as_str(), Shown(key.sought()));
+                let (name, column, key) = (table.name, column.name.as_str(), Shown(key.seen()));
                 return Ok(Some(format!(in alloc;
                     "column {column} of the row of {name} with the key {key}"
                 )?));
@@ -90,7 +90,7 @@ fn stays(alloc: Global, catalog: &Catalog, table: &Seen<'_>, r: TupleRef) -> Sea
         return Ok(None);
     };
     let why = why_named(alloc, catalog, table.name, r)?;
-    let (name, key) = (table.name, Shown(key.sought()));
+    let (name, key) = (table.name, Shown(key.seen()));
     tell(
         Refusal::RowIsReferenced,
         format!(in alloc; "the row of {name} with the key {key} is named in {why}"),

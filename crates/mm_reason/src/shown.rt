@@ -1,6 +1,6 @@
 //! How names, values and symbols stand in a reason: whole where they are short, and else cut.
 
-use plain_tables::Value;
+use plain_tables::SeenValue;
 use std::fmt;
 
 // The most characters that are shown of a text.
@@ -15,7 +15,7 @@ pub struct Cut<'a>(pub &'a str);
 
 /// A value as a line spells it, cut.
 #[derive(Clone, Copy)]
-pub struct Shown<'a>(pub &'a Value);
+pub struct Shown<'a>(pub SeenValue<'a>);
 
 impl fmt::Display for Cut<'_> {
     fn fmt<W: fmt::Write>(&self, f: &mut fmt::Formatter<W>) -> fmt::Result {
@@ -33,12 +33,13 @@ impl fmt::Display for Cut<'_> {
 impl fmt::Display for Shown<'_> {
     fn fmt<W: fmt::Write>(&self, f: &mut fmt::Formatter<W>) -> fmt::Result {
         match self.0 {
-            Value::Null => write!(f, "null"),
-            Value::Int(number) => write!(f, "{number}"),
-            Value::Text(text) => {
-                let text = Cut(text.as_str());
+            SeenValue::Null => write!(f, "null"),
+            SeenValue::Int(number) => write!(f, "{number}"),
+            SeenValue::Text(text) => {
+                let text = Cut(text);
                 write!(f, "'{text}'")
             }
+            SeenValue::Link(number) => write!(f, "row {number}"),
         }
     }
 }

@@ -32,7 +32,7 @@ pub fn why_mistyped(
         return Ok(None);
     }
     let (table, column) = (named.table.name, named.column.name.as_str());
-    let shown = Shown(value.sought());
+    let shown = Shown(value.sought().seen());
     let words = match value {
         Value::Null => format!(in alloc; "column {column} of {table} takes no null")?,
         Value::Int(_) => {
@@ -102,7 +102,7 @@ pub fn why_unheld(
         return Ok(None);
     }
     let (table, column) = (table.name, column.name.as_str());
-    let shown = Shown(value.sought());
+    let shown = Shown(value.sought().seen());
     Ok(Some(format!(in alloc;
         "{table} has no row with the key {shown}, which column {column} names"
     )?))
