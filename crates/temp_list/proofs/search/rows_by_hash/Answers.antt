@@ -12,8 +12,8 @@ use Rattle.temp_list.proofs.search.rows_by_hash.Goals as goal
 
 pub loop-r-init : goal.loop-r-init
 loop-r-init g c = record {
-  chain = subst (λ hash. IsSameBag (chain_rest c.into_iter-r-iterator.result) (with_hash hash (entries_of c.args.relation.now c.args.column.0))) c.hash_of.ensures
-      (subst (λ chain. IsSameBag (chain_rest chain) (with_hash c.hash_of.result (entries_of c.args.relation.now c.args.column.0))) (sym c.into_iter-r-iterator.ensures.into_iter_gives)
+  chain = subst (λ hash. IsSameBag (chain_rest c.into_iter-r-iterator.result) (with_hash hash (entries_of c.args.relation.now c.args.column.0))) c.hash_of_sought.ensures
+      (subst (λ chain. IsSameBag (chain_rest chain) (with_hash c.hash_of_sought.result (entries_of c.args.relation.now c.args.column.0))) (sym c.into_iter-r-iterator.ensures.into_iter_gives)
       c.chain_of-r-items.ensures);
   found = sym (append-nil c.args.out.now.items);
 }
