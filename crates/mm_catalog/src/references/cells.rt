@@ -34,7 +34,7 @@ fn room_for(alloc: Global, count: usize) -> Result<Vec<Cell>, NoMemory>
     Ok(cells)
 }
 
-// The cells of the values behind the key. Their list has room for the key, which the relation puts before them.
+// The cells of the values behind the key.
 pub fn cells_of(
     alloc: Global,
     before: &[Relation],
@@ -46,7 +46,7 @@ pub fn cells_of(
     ensures cells { IfOk result (AreCellsOf before.now relation.now.targets values.items) }
     ensures refused { IfErr result (AreRefused before.now relation.now.targets values.items) }
 {
-    let mut cells = room_for(alloc, values.len() + 1)?;
+    let mut cells = room_for(alloc, values.len())?;
     for value in values {
         let target = target_number(relation, ColumnNumber(cells.len() + 1));
         let cell = cell_of(before, target, value).ok_or(Refusal::NoReferencedRow { record: None })?;
