@@ -128,16 +128,19 @@ impl Session {
         Ok(())
     }
 
-    /// Answers the last request of the stream, which it ends in, where there is one.
-    pub fn finish<W: Write>(mut self, w: &mut W) -> Result<(), SessionFault>
-        ensures ended { IsErrOf result SessionFault.Ended ↔ IsTrue self.ended }
+    /// Answers the last request of the stream, which it ends in, where there is one. The session has ended then: each later call
+    /// answers `Ended` and writes nothing.
+    pub fn end<W: Write>(&mut self, w: &mut W) -> Result<(), SessionFault>
+        ensures ended { IsErrOf result SessionFault.Ended ↔ IsTrue self.old.ended }
         ensures unchanged { IsErrOf result SessionFault.Ended → Keeps (W.contents w.old) (W.contents w.new) }
-        ensures ok { OnOk result (Gains (W.contents w.old) (W.contents w.new) (Finishes self)) }
-        ensures write { IsErrOf result SessionFault.Write → Gains (W.contents w.old) (W.contents w.new) (BreaksOff self [] true) }
+        ensures ok { OnOk result (Gains (W.contents w.old) (W.contents w.new) (Finishes self.old)) }
+        ensures write { IsErrOf result SessionFault.Write → Gains (W.contents w.old) (W.contents w.new) (BreaksOff self.old [] true) }
+        ensures over { IsTrue self.new.ended }
     {
         if self.ended {
             return Err(SessionFault::Ended);
         }
+        self.ended = true;
         if self.responder.kept.is_nothing() {
             return Ok(());
         }
@@ -146,5 +149,15 @@ impl Session {
             Ok(()) => Ok(()),
             Err(_) => Err(SessionFault::Write),
         }
+    }
+
+    /// Ends the session, and lets it go.
+    pub fn finish<W: Write>(mut self, w: &mut W) -> Result<(), SessionFault>
+        ensures ended { IsErrOf result SessionFault.Ended ↔ IsTrue self.ended }
+        ensures unchanged { IsErrOf result SessionFault.Ended → Keeps (W.contents w.old) (W.contents w.new) }
+        ensures ok { OnOk result (Gains (W.contents w.old) (W.contents w.new) (Finishes self)) }
+        ensures write { IsErrOf result SessionFault.Write → Gains (W.contents w.old) (W.contents w.new) (BreaksOff self [] true) }
+    {
+        self.end(w)
     }
 }

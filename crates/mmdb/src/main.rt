@@ -1,15 +1,16 @@
-//! The program mmdb: a database in memory, which answers the command lines of standard input on standard output.
+//! The program mmdb: a database in memory, which answers the command lines of files or of standard input on standard output.
 //!
 //! It ends with status 0 where all was answered, 1 where a read failed, 2 where its words were wrong, 3 where a
-//! write failed, and 4 where there was no memory to begin.
+//! write failed, 4 where there was no memory to begin, and 5 where a refusal was to be the last answer.
 #![tactic(auto)]
 
-mod explain;
+mod told;
 mod words;
 
-use crate::explain::explain;
-use crate::words::{Wish, read_words};
+use crate::told::{Told, tell_read_fault};
+use crate::words::{Wish, all_words, read_words};
 use clap::error::ErrorKind;
+use mm_batch::{Ending, Joined, Noted, Origin, Source, answer_watched};
 use mm_session::{RunFault, run};
 use std::io::BufWriter;
 use std::process::ExitCode;
@@ -17,26 +18,70 @@ use std::process::ExitCode;
 // The bytes of answers that are kept back until a piece of the input is answered.
 const ROOM: usize = 65_536;
 
-// Answers standard input on standard output, with reasons on standard error where they are wanted.
-fn answer_input(rt: &HostRuntime, wish: Wish) -> Result<(), RunFault> {
-    let mut reader = rt.stdin();
+// The status where a read failed.
+const READ_FAULT: u8 = 1;
+
+// The sources that are to be read, as one stream.
+fn stream_of<'a>(
+    rt: &'a HostRuntime,
+    origins: &[Origin<'a>],
+) -> Result<Joined<Source<'a>>, RunFault> {
+    let Ok(mut sources) = Vec::with_capacity(rt.alloc(), origins.len()) else {
+        return Err(RunFault::NoMemory);
+    };
+    for origin in origins {
+        if sources.push(Source::new(rt, *origin)).is_err() {
+            return Err(RunFault::NoMemory);
+        }
+    }
+    Ok(Joined::new(sources))
+}
+
+// Answers a stream on standard output, and tells of refusals on standard error where that is wanted.
+fn answer(
+    rt: &HostRuntime,
+    wish: &Wish<'_>,
+    stream: &mut Joined<Source<'_>>,
+) -> Result<Ending, RunFault> {
     let Ok(mut writer) = BufWriter::with_capacity(rt.alloc(), ROOM, rt.stdout()) else {
         return Err(RunFault::NoMemory);
     };
-    if wish.explain {
-        return explain(rt, &mut reader, &mut writer, wish.policy);
+    if !wish.explain && !wish.stop {
+        run(rt.alloc(), stream, &mut writer, wish.policy)?;
+        return Ok(Ending::Whole);
     }
-    run(rt.alloc(), &mut reader, &mut writer, wish.policy)
+    let Ok(mut writer) = Noted::new(rt.alloc(), writer) else {
+        return Err(RunFault::NoMemory);
+    };
+    let mut told = Told::new(rt, wish);
+    answer_watched(rt.alloc(), stream, &mut writer, wish.policy, &mut told)
 }
 
 // Names the fault on standard error, and gives the status to end with.
 fn report(rt: &HostRuntime, fault: RunFault) -> ExitCode {
     let _ = eprintln!(rt; "mmdb: {fault}");
     ExitCode::from(match fault {
-        RunFault::Read => 1,
+        RunFault::Read => READ_FAULT,
         RunFault::Write => 3,
         RunFault::NoMemory => 4,
     })
+}
+
+// Answers what the words name, and gives the status to end with.
+fn answer_all(rt: &HostRuntime, wish: &Wish<'_>) -> ExitCode {
+    let mut stream = match stream_of(rt, &wish.origins) {
+        Ok(stream) => stream,
+        Err(fault) => return report(rt, fault),
+    };
+    match answer(rt, wish, &mut stream) {
+        Ok(Ending::Whole) => ExitCode::SUCCESS,
+        Ok(Ending::Stopped) => ExitCode::from(5),
+        Err(RunFault::Read) => {
+            tell_read_fault(rt, stream.current());
+            ExitCode::from(READ_FAULT)
+        }
+        Err(fault) => report(rt, fault),
+    }
 }
 
 // Prints what the words asked for or what is wrong with them, and gives the status to end with.
@@ -51,12 +96,12 @@ fn report_words(rt: &HostRuntime, error: &clap::Error) -> ExitCode {
 }
 
 fn main(rt: HostRuntime) -> ExitCode {
-    let wish = match read_words(&rt) {
-        Ok(wish) => wish,
+    let words = match all_words(&rt) {
+        Ok(words) => words,
         Err(error) => return report_words(&rt, &error),
     };
-    match answer_input(&rt, wish) {
-        Ok(()) => ExitCode::SUCCESS,
-        Err(fault) => report(&rt, fault),
+    match read_words(&rt, &words) {
+        Ok(wish) => answer_all(&rt, &wish),
+        Err(error) => report_words(&rt, &error),
     }
 }

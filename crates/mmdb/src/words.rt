@@ -1,7 +1,8 @@
 //! The words that the program is started with.
 
 use clap::error::ErrorKind;
-use clap::{Arg, ArgAction, Command, Error};
+use clap::{Arg, ArgAction, ArgMatches, Command, Error};
+use mm_batch::Origin;
 use plan_chooser::{POLICY_NAMES, Policy};
 use std::alloc::AllocError;
 use std::{env, io};
@@ -12,12 +13,25 @@ const POLICY: &str = "policy";
 // The option that wants reasons.
 const EXPLAIN: &str = "explain";
 
+// The option that wants no more after a refusal.
+const STOP: &str = "stop";
+
+// The option that loads a CSV file.
+const LOAD: &str = "load";
+
+// The files of command lines.
+const FILES: &str = "files";
+
 /// What the words ask for.
-#[derive(Clone, Copy)]
-pub struct Wish {
+#[derive(Drop)]
+pub struct Wish<'a> {
     pub policy: Policy,
     /// Whether each refusal is to be named on standard error, with its reason.
     pub explain: bool,
+    /// Whether the first refusal is to be the last answer.
+    pub stop: bool,
+    /// What is to be read, in its order.
+    pub origins: Vec<Origin<'a>>,
 }
 
 // The option for the policy. It is auto where none is named.
@@ -38,42 +52,99 @@ fn explain_option<'a>(rt: &HostRuntime) -> Arg<'a> {
         .help("Names each refusal on standard error, with its line and the reason")
 }
 
+// The option that wants no more after a refusal.
+fn stop_option<'a>(rt: &HostRuntime) -> Arg<'a> {
+    Arg::new(rt.alloc(), STOP)
+        .long(STOP)
+        .action(ArgAction::SetTrue)
+        .help("Ends at the first refusal, which it names so, with status 5")
+}
+
+// The option that loads a CSV file.
+fn load_option<'a>(rt: &HostRuntime) -> Arg<'a> {
+    Arg::new(rt.alloc(), LOAD)
+        .long(LOAD)
+        .value_name("TABLE=FILE")
+        .action(ArgAction::Append)
+        .help("Loads a CSV file into a table, where it stands among the files")
+}
+
+// The files of command lines.
+fn file_words<'a>(rt: &HostRuntime) -> Arg<'a> {
+    Arg::new(rt.alloc(), FILES)
+        .value_name("FILE")
+        .action(ArgAction::Append)
+        .help("Files of command lines, read in their order; - is standard input")
+}
+
 // The program as `clap` sees it.
 fn command<'a>(rt: &HostRuntime) -> Result<Command<'a>, AllocError> {
     Command::new(rt.alloc(), "mmdb")
         .version("0.1.0")
-        .about("Answers the command lines of standard input on standard output")
+        .about("Answers the command lines of files, or of standard input, on standard output")
         .arg(policy_option(rt))?
-        .arg(explain_option(rt))
+        .arg(explain_option(rt))?
+        .arg(stop_option(rt))?
+        .arg(load_option(rt))?
+        .arg(file_words(rt))
 }
 
-// What is wrong with words that could not be had: one of them is not UTF-8, or there was no memory.
-fn fault_of(rt: &HostRuntime, error: &io::Error) -> Error {
-    if error.kind() == io::ErrorKind::OutOfMemory {
-        return Error::from(AllocError);
-    }
+// That a word has this fault, or that there was no memory to say so.
+fn fault_of(rt: &HostRuntime, words: &str) -> Error {
     let Ok(mut command) = command(rt) else {
         return Error::from(AllocError);
     };
-    match command.error(ErrorKind::InvalidValue, "a word is not UTF-8") {
+    match command.error(ErrorKind::InvalidValue, words) {
         Ok(fault) => fault,
         Err(refused) => Error::from(refused),
     }
 }
 
-/// Reads the words, and gives what they ask for. An error is a wrong word, a wish for help or the version, or want of
-/// memory.
-pub fn read_words(rt: &HostRuntime) -> Result<Wish, Error> {
-    let words: Vec<String> = match env::args(rt) {
-        Ok(args) => args.collect(rt.alloc())?,
-        Err(error) => return Err(fault_of(rt, &error)),
-    };
-    let matches = command(rt)?.try_get_matches_from(words.as_slice())?;
+/// The words that the program was started with.
+pub fn all_words(rt: &HostRuntime) -> Result<Vec<String>, Error> {
+    match env::args(rt) {
+        Ok(args) => Ok(args.collect(rt.alloc())?),
+        Err(error) if error.kind() == io::ErrorKind::OutOfMemory => Err(Error::from(AllocError)),
+        Err(_) => Err(fault_of(rt, "a word is not UTF-8")),
+    }
+}
+
+// The values of an argument, each with its place among the words.
+fn placed<'a>(matches: &ArgMatches<'a>, argument: &str) -> impl Iterator<Item = (usize, &'a str)> {
+    let places = matches.indices_of(argument).unwrap_or(&[]);
+    let values = matches.get_strs(argument).unwrap_or(&[]);
+    places.iter().copied().zip(values.iter().copied())
+}
+
+// What is to be read: files and loads as they stand among the words, or standard input where there are none.
+fn origins<'a>(rt: &HostRuntime, matches: &ArgMatches<'a>) -> Result<Vec<Origin<'a>>, Error> {
+    let mut named = Vec::new(rt.alloc());
+    for (place, word) in placed(matches, FILES) {
+        named.push((place, Origin::of_word(word)))?;
+    }
+    for (place, word) in placed(matches, LOAD) {
+        let Some(origin) = Origin::of_load(word) else {
+            return Err(fault_of(rt, "--load takes TABLE=FILE, with the name of a table"));
+        };
+        named.push((place, origin))?;
+    }
+    if named.is_empty() {
+        named.push((0, Origin::Input))?;
+    }
+    named.sort_by_key(|(place, _)| *place)?;
+    Ok(named.into_iter().map(|(_, origin)| origin).collect(rt.alloc())?)
+}
+
+/// What the words ask for. An error is a wrong word, a wish for help or the version, or want of memory.
+pub fn read_words<'a>(rt: &HostRuntime, words: &'a [String]) -> Result<Wish<'a>, Error> {
+    let matches = command(rt)?.try_get_matches_from(words)?;
     Ok(Wish {
         policy: matches
             .get_str(POLICY)
             .and_then(Policy::named)
             .unwrap_or_default(),
         explain: matches.get_flag(EXPLAIN),
+        stop: matches.get_flag(STOP),
+        origins: origins(rt, &matches)?,
     })
 }

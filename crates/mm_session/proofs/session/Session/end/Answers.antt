@@ -2,7 +2,7 @@ use Rattle.std.proofs.Common.{[], ◌∙◌, sym}
 use Rattle.mm_catalog.specs.Seen.{database_of}
 use Rattle.mm_session.proofs.RunLemmas.{finishes_nothing, finishes_last, breaks_off_at_end}
 use Rattle.mm_session.proofs.WritingLemmas.{Appends-nothing}
-use Rattle.mm_session.proofs.session.Session.finish.Goals as goal
+use Rattle.mm_session.proofs.session.Session.end.Goals as goal
 
 pub returns-then-is_nothing-clause-ok : goal.returns-then-is_nothing-clause-ok
 returns-then-is_nothing-clause-ok g c =
