@@ -38,7 +38,7 @@ class Words(unittest.TestCase):
             self.assertEqual((ended.status, ended.out, ended.err), (0, f"mmdb {harness.VERSION}\n".encode(), b""))
 
     def test_wrong_words_end_with_status_2(self):
-        for words in (["file"], ["--policy", "fast"], ["--policy"], ["--nosuch"], ["-x"], ["--help=1"], ["--", "file"], [""]):
+        for words in (["--policy", "fast"], ["--policy"], ["--nosuch"], ["-x"], ["--help=1"], ["--load"], ["--stop=1"]):
             with self.subTest(words=words):
                 self.check_refused(*words)
 

@@ -1,5 +1,7 @@
 //! Where the requests of a stream begin and end, and what of the one that comes is kept to tell why it was refused.
 
+ghost use Rattle.std.specs.Prelude.{◌<◌, ◌≤◌, length};
+
 use mm_session::{LONGEST_LINE, judge_line, split_line};
 use plain_tables::NoMemory;
 use std::alloc::Global;
@@ -118,7 +120,10 @@ impl Follower {
 
     /// Takes the bytes up to the end of the request, or all where it doesn't end in them. It tells how many it took, and whether
     /// the request is whole.
-    pub fn take(&mut self, bytes: &[u8]) -> (usize, bool) {
+    pub fn take(&mut self, bytes: &[u8]) -> (usize, bool)
+        ensures within { result.0 ≤ length bytes.now }
+        ensures some { 0 < length bytes.now → 0 < result.0 }
+    {
         if self.to_come > 0 {
             let length = self.to_come.min(bytes.len() as u64) as usize;
             let (front, _) = bytes.split_at(length);

@@ -1,5 +1,10 @@
 //! Several readers as one stream of lines.
 
+ghost use Rattle.std.specs.Prelude.{◌≡◌, ◌+◌, ◌<◌, ◌≤◌, Ok, length, take, map, false, vec_len, MatchResult};
+ghost use Rattle.std.specs.Io.{ReadsAtMost};
+ghost use Rattle.std.specs.Io.KnownBytes.{Consumes, Keeps};
+ghost use Rattle.mm_batch.specs.Joining.{left, joined_known};
+
 use std::io;
 use std::io::Read;
 
@@ -16,16 +21,6 @@ pub struct Joined<R> {
 }
 
 impl<R> Joined<R> {
-    /// The stream of these readers, of which nothing is read yet.
-    pub fn new(readers: Vec<R>) -> Joined<R> {
-        Joined {
-            readers,
-            place: 0,
-            given: 0,
-            is_inside: false,
-        }
-    }
-
     /// The reader that is read, if there is one left.
     pub fn current(&self) -> Option<&R> {
         self.readers.get(self.place)
@@ -43,12 +38,30 @@ impl<R> Joined<R> {
 }
 
 impl<R: Read> Joined<R> {
+    /// The stream of these readers, of which nothing is read yet.
+    pub fn new(readers: Vec<R>) -> Joined<R>
+        ensures { left R.remaining result ≡ joined_known false (map R.remaining readers.items) }
+    {
+        Joined {
+            readers,
+            place: 0,
+            given: 0,
+            is_inside: false,
+        }
+    }
+
     // Reads from the reader at hand, and gives 0 where that has ended and the next one is at hand.
-    fn read_current(&mut self, buf: &mut [u8]) -> io::Result<usize> {
-        let Some(reader) = self.readers.get_mut(self.place) else {
-            return Ok(0);
-        };
-        let n = reader.read(buf)?;
+    fn read_current(&mut self, buf: &mut [u8]) -> io::Result<usize>
+        requires here { self.old.place < vec_len self.old.readers }
+        requires room { 0 < length buf.old }
+        ensures bound { ReadsAtMost result buf.new }
+        ensures bytes { MatchResult result (λ n. Consumes (left R.remaining self.old) (left R.remaining self.new) (take n buf.new))
+            (λ _. Keeps (left R.remaining self.old) (left R.remaining self.new)) }
+        ensures ended { result ≡ Ok 0 → self.new.place ≡ self.old.place + 1 }
+        ensures length { vec_len self.new.readers ≡ vec_len self.old.readers }
+        ensures buffer { length buf.new ≡ length buf.old }
+    {
+        let n = self.readers[self.place].read(buf)?;
         if n > 0 {
             self.given = self.place;
             self.is_inside = buf[n - 1] != b'\n';
@@ -65,6 +78,8 @@ impl<R: Read> Joined<R> {
 }
 
 impl<R: Read> Read for Joined<R> {
+    ghost remaining = { left R.remaining };
+
     fn read(&mut self, buf: &mut [u8]) -> io::Result<usize> {
         if buf.is_empty() {
             return Ok(0);

@@ -1,6 +1,6 @@
 //! A load as a request: the line that asks for a block, and the block.
 
-ghost use Rattle.std.specs.Prelude.{◌≡◌, Some, IfOk};
+ghost use Rattle.std.specs.Prelude.{◌≡◌, Some, IfOk, string_bytes};
 ghost use Rattle.std.specs.Io.Chain.{chain_remaining};
 ghost use Rattle.std.specs.Io.Cursor.{cursor_remaining};
 ghost use Rattle.plain_streams.specs.Division.{request_bytes};
@@ -15,7 +15,11 @@ use std::io::{Chain, Cursor, Read};
 pub type LoadRequest = Chain<Cursor<String>, Cursor<Vec<u8>>>;
 
 /// The request that loads a block into the table of that name, spelled in the one canonical way.
-pub fn load_request(alloc: Global, table: &str, block: Vec<u8>) -> Result<LoadRequest, NoMemory> {
+pub fn load_request(alloc: Global, table: &str, block: Vec<u8>) -> Result<LoadRequest, NoMemory>
+    ensures { IfOk result (λ request.
+        chain_remaining (cursor_remaining (λ s. Some (string_bytes s))) (cursor_remaining (λ v. Some v.items)) request
+        ≡ Some (request_bytes (load_of table.now block.items))) }
+{
     let mut line = String::new(alloc);
     print_load(&mut line, table, block.len() as u64)?;
     line.push('\n')?;

@@ -1,5 +1,8 @@
 //! A writer that remembers how an answer begins.
 
+ghost use Rattle.std.specs.Prelude.{◌≡◌, [], IfOk};
+ghost use Rattle.mm_batch.specs.Noting.{noted_contents};
+
 use mm_session::Answer;
 use plain_tables::NoMemory;
 use std::alloc::Global;
@@ -16,9 +19,11 @@ pub struct Noted<W> {
     front: Answer,
 }
 
-impl<W: Drop> Noted<W> {
+impl<W: Write + Drop> Noted<W> {
     /// The writer, with nothing noted.
-    pub fn new(alloc: Global, writer: W) -> Result<Noted<W>, NoMemory> {
+    pub fn new(alloc: Global, writer: W) -> Result<Noted<W>, NoMemory>
+        ensures { IfOk result (λ noted. noted_contents W.contents noted ≡ W.contents writer) }
+    {
         let front = Answer::new(alloc)?;
         Ok(Noted { writer, front })
     }
@@ -31,12 +36,16 @@ impl<W> Noted<W> {
     }
 
     /// Lets go what is noted.
-    pub fn forget(&mut self) {
+    pub fn forget(&mut self)
+        ensures { self.new ≡ record self.old { front = [] } }
+    {
         self.front.clear();
     }
 
     // Notes bytes, as far as there is room.
-    fn note(&mut self, bytes: &[u8]) {
+    fn note(&mut self, bytes: &[u8])
+        ensures { self.new.writer ≡ self.old.writer }
+    {
         let room = MOST_NOTED.saturating_sub(self.front.len());
         let (front, _) = bytes.split_at(room.min(bytes.len()));
         let _ = self.front.push(front);
@@ -44,6 +53,8 @@ impl<W> Noted<W> {
 }
 
 impl<W: Write> Write for Noted<W> {
+    ghost contents = { noted_contents W.contents };
+
     fn write(&mut self, buf: &[u8]) -> io::Result<usize> {
         let n = self.writer.write(buf)?;
         let (written, _) = buf.split_at(n);

@@ -1,5 +1,14 @@
 //! A whole stream, answered while each refusal is told.
 
+ghost use Rattle.std.specs.Prelude.{◌≡◌, ℕ, List, [], Ok, false, IfOk, IfErr, OnOk, OnErr, IsErrOf};
+ghost use Rattle.std.specs.Io.KnownBytes.{Keeps, IsAtEnd};
+ghost use Rattle.plain_tables.specs.declared.command.TheConstants.Limits.{STANDARD};
+ghost use Rattle.mm_session.specs.Sessions.{Gains, Feeds, Finishes, BreaksOff, new_session};
+ghost use Rattle.mm_session.specs.WholeRuns.{Reads, IsAnsweredSoFar, IsFrontOfAnswers};
+ghost use Rattle.mm_batch.specs.Joining.{left};
+ghost use Rattle.mm_batch.specs.Noting.{noted_contents};
+ghost use Rattle.mm_batch.specs.Watching.{IsAnswered, FeedsUpTo};
+
 use crate::follower::{Follower, Place};
 use crate::joined::Joined;
 use crate::noted::Noted;
@@ -77,7 +86,10 @@ struct Watched {
     follower: Follower,
 }
 
-fn flush<W: Write>(w: &mut W) -> Result<(), RunFault> {
+fn flush<W: Write>(w: &mut W) -> Result<(), RunFault>
+    ensures bytes { Keeps (W.contents w.old) (W.contents w.new) }
+    ensures kind { IfErr result (λ e. e ≡ RunFault.Write) }
+{
     match w.flush() {
         Ok(()) => Ok(()),
         Err(_) => Err(RunFault::Write),
@@ -85,7 +97,10 @@ fn flush<W: Write>(w: &mut W) -> Result<(), RunFault> {
 }
 
 impl Watched {
-    fn new(alloc: Global, policy: Policy) -> Result<Watched, RunFault> {
+    fn new(alloc: Global, policy: Policy) -> Result<Watched, RunFault>
+        ensures ok { IfOk result (λ watched. watched.session ≡ new_session STANDARD []) }
+        ensures kind { IfErr result (λ e. e ≡ RunFault.NoMemory) }
+    {
         let Ok(session) = Session::new(alloc, policy) else {
             return Err(RunFault::NoMemory);
         };
@@ -101,7 +116,10 @@ impl Watched {
         &self,
         w: &mut Noted<W>,
         watch: &mut T,
-    ) -> Result<Ending, RunFault> {
+    ) -> Result<Ending, RunFault>
+        ensures bytes { Keeps (noted_contents W.contents w.old) (noted_contents W.contents w.new) }
+        ensures kind { IfErr result (λ e. e ≡ RunFault.Write) }
+    {
         let number = w.front().refusal();
         if number == 0 {
             return Ok(Ending::Whole);
@@ -127,7 +145,14 @@ impl Watched {
         ends: bool,
         w: &mut Noted<W>,
         watch: &mut T,
-    ) -> Result<Ending, RunFault> {
+    ) -> Result<Ending, RunFault>
+        requires { self.old.session.ended ≡ false }
+        ensures ok { OnOk result (Gains (noted_contents W.contents w.old) (noted_contents W.contents w.new)
+            (Feeds self.old.session self.new.session bytes.now)) }
+        ensures fault { OnErr result (Gains (noted_contents W.contents w.old) (noted_contents W.contents w.new)
+            (BreaksOff self.old.session bytes.now false)) }
+        ensures kind { IfErr result (λ e. e ≡ RunFault.Write) }
+    {
         if self.session.feed(bytes, w).is_err() {
             return Err(RunFault::Write);
         }
@@ -146,7 +171,14 @@ impl Watched {
         piece: &[u8],
         w: &mut Noted<W>,
         watch: &mut T,
-    ) -> Result<Ending, RunFault> {
+    ) -> Result<Ending, RunFault>
+        requires { self.old.session.ended ≡ false }
+        ensures ok { IfOk result (λ ending. Gains (noted_contents W.contents w.old) (noted_contents W.contents w.new)
+            (FeedsUpTo ending self.old.session self.new.session piece.now)) }
+        ensures fault { OnErr result (Gains (noted_contents W.contents w.old) (noted_contents W.contents w.new)
+            (BreaksOff self.old.session piece.now false)) }
+        ensures kind { IfErr result (λ e. e ≡ RunFault.Write) }
+    {
         let mut rest = piece;
         while !rest.is_empty() {
             let (n, ends) = self.follower.take(rest);
@@ -165,7 +197,12 @@ impl Watched {
         mut self,
         w: &mut Noted<W>,
         watch: &mut T,
-    ) -> Result<Ending, RunFault> {
+    ) -> Result<Ending, RunFault>
+        requires { self.session.ended ≡ false }
+        ensures ok { OnOk result (Gains (noted_contents W.contents w.old) (noted_contents W.contents w.new) (Finishes self.session)) }
+        ensures fault { OnErr result (Gains (noted_contents W.contents w.old) (noted_contents W.contents w.new) (BreaksOff self.session [] true)) }
+        ensures kind { IfErr result (λ e. e ≡ RunFault.Write) }
+    {
         if self.session.end(w).is_err() {
             return Err(RunFault::Write);
         }
@@ -174,14 +211,33 @@ impl Watched {
     }
 }
 
-/// Answers a whole stream as `run` does, and tells of each refusal.
+/// Answers a whole stream as `run` does, and tells of each refusal, until one is to be the last.
 pub fn answer_watched<R: Read, W: Write, T: Watch>(
     alloc: Global,
     r: &mut Joined<R>,
     w: &mut Noted<W>,
     policy: Policy,
     watch: &mut T,
-) -> Result<Ending, RunFault> {
+) -> Result<Ending, RunFault>
+    // What was written is the answers of the finished stream; or it was stopped, and that is the answers of a front of it.
+    ensures ok { IfOk result (λ ending. Reads (left R.remaining r.old) (left R.remaining r.new) (λ stream.
+        Gains (noted_contents W.contents w.old) (noted_contents W.contents w.new) (IsAnswered ending stream))) }
+
+    // Unless it was stopped, the reader was read to its end.
+    ensures end { result ≡ Ok Ending.Whole → IsAtEnd (left R.remaining r.new) }
+
+    // What was written is the answers of all whole requests of what was read.
+    ensures read { IsErrOf result RunFault.Read → Reads (left R.remaining r.old) (left R.remaining r.new) (λ stream.
+        Gains (noted_contents W.contents w.old) (noted_contents W.contents w.new) (IsAnsweredSoFar stream)) }
+
+    // What was written is the front of the answers to what was read.
+    ensures write { IsErrOf result RunFault.Write → Reads (left R.remaining r.old) (left R.remaining r.new) (λ stream.
+        Gains (noted_contents W.contents w.old) (noted_contents W.contents w.new) (IsFrontOfAnswers stream)) }
+
+    // Nothing was read or written.
+    ensures no_memory { IsErrOf result RunFault.NoMemory → Keeps (left R.remaining r.old) (left R.remaining r.new)
+        × Keeps (noted_contents W.contents w.old) (noted_contents W.contents w.new) }
+{
     let mut watched = Watched::new(alloc, policy)?;
     let mut buffer = [0_u8; PIECE];
     for _ in 0..MOST_READS {
