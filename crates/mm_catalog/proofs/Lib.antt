@@ -55,4 +55,5 @@ pub mod UpdateNeeds
 pub mod UpdateRefused
 pub mod UpdateDone
 pub mod TreeShapes
+pub mod IndexShapes
 pub mod Standing

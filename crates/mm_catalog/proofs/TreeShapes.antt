@@ -19,7 +19,7 @@ use Rattle.mm_catalog.proofs.Declared.{among_at}
 use Rattle.mm_catalog.proofs.Tables.{database-get}
 
 -- a table has as many rows as its relation
-database-rows : (c : CatalogState) → length c.names ≡ length c.relations → (n : ℕ) (s : RelationState) → slice_get c.relations n ≡ Some s
+pub database-rows : (c : CatalogState) → length c.names ≡ length c.relations → (n : ℕ) (s : RelationState) → slice_get c.relations n ≡ Some s
     → option_map (λ (t : Table). length t.rows) (slice_get (database_of c) n) ≡ Some (length (tree_list s.by_key))
 unfolding table_of rows_of
 database-rows c named n s e =

@@ -18,3 +18,4 @@ pub mod Select
 pub mod State
 pub mod Trees
 pub mod Standing
+pub mod Indexes

@@ -11,3 +11,5 @@ mod resolve;
 mod scope;
 mod selected;
 mod types;
+
+pub use checks::{MOST_COLUMNS, MOST_CONDITIONS, MOST_ITEMS, MOST_JOINS, MOST_TABLES};

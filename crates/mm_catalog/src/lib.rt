@@ -23,6 +23,7 @@ mod catalog;
 mod create;
 mod declare;
 mod delete;
+mod indexes;
 mod insert;
 pub mod laws;
 mod load;
@@ -30,4 +31,6 @@ mod references;
 mod removal;
 mod updating;
 
+pub use bind::{MOST_COLUMNS, MOST_CONDITIONS, MOST_ITEMS, MOST_JOINS, MOST_TABLES};
 pub use catalog::Catalog;
+pub use indexes::{IndexShape, TableIndex};

@@ -20,15 +20,20 @@ use plain_tables::{
     Assignment, Column, LONGEST_TEXT, Place, Refusal, Schema, Setting, Shown, Test, Text, Value,
 };
 
-const MOST_TABLES: usize = 64;
+/// The most tables that there may be.
+pub const MOST_TABLES: usize = 64;
 
-const MOST_COLUMNS: usize = 16;
+/// The most columns that a table may have.
+pub const MOST_COLUMNS: usize = 16;
 
-const MOST_ITEMS: usize = 16;
+/// The most columns that a select may name.
+pub const MOST_ITEMS: usize = 16;
 
-const MOST_CONDITIONS: usize = 8;
+/// The most conditions that a command may have.
+pub const MOST_CONDITIONS: usize = 8;
 
-const MOST_JOINS: usize = 3;
+/// The most joins that a select may have.
+pub const MOST_JOINS: usize = 3;
 
 // Whether a value is a text past 1,024 bytes.
 fn is_long(value: &Value) -> bool
