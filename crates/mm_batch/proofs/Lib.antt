@@ -1,1 +1,2 @@
 pub mod JoiningLemmas
+pub mod WatchLemmas

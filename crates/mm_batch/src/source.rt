@@ -1,5 +1,7 @@
 //! What a stream is read from, opened when the stream reaches it.
 
+ghost use Rattle.std.specs.Io.{ReadsAtMost};
+
 use crate::fault::SourceFault;
 use crate::load::{LoadRequest, load_request};
 use mm_lang::is_whole_name;
@@ -109,7 +111,9 @@ impl<'a> Source<'a> {
         }
     }
 
-    fn read_opened(&mut self, buf: &mut [u8]) -> io::Result<usize> {
+    fn read_opened(&mut self, buf: &mut [u8]) -> io::Result<usize>
+        ensures { ReadsAtMost result buf.new }
+    {
         match &mut self.opened {
             Opened::Waiting | Opened::Ended => Ok(0),
             Opened::Input(input) => input.read(buf),
@@ -118,7 +122,9 @@ impl<'a> Source<'a> {
         }
     }
 
-    fn read_next(&mut self, buf: &mut [u8]) -> Result<usize, SourceFault> {
+    fn read_next(&mut self, buf: &mut [u8]) -> Result<usize, SourceFault>
+        ensures { ReadsAtMost result buf.new }
+    {
         if matches!(&self.opened, Opened::Waiting) {
             self.opened = self.open()?;
         }

@@ -1,6 +1,6 @@
 //! A whole stream, answered while each refusal is told.
 
-ghost use Rattle.std.specs.Prelude.{◌≡◌, ℕ, List, [], Ok, false, IfOk, IfErr, OnOk, OnErr, IsErrOf};
+ghost use Rattle.std.specs.Prelude.{◌≡◌, ℕ, List, [], Ok, true, false, IfOk, IfErr, OnOk, OnErr, IsErrOf};
 ghost use Rattle.std.specs.Io.KnownBytes.{Keeps, IsAtEnd};
 ghost use Rattle.plain_tables.specs.declared.command.TheConstants.Limits.{STANDARD};
 ghost use Rattle.mm_session.specs.Sessions.{Gains, Feeds, Finishes, BreaksOff, new_session};
@@ -50,7 +50,10 @@ impl Refused<'_> {
 
     /// The answer, without its line feed.
     pub fn answer(&self) -> &str {
-        str::from_utf8(self.answer).unwrap_or("").trim_end()
+        match str::from_utf8(self.answer) {
+            Ok(answer) => answer.trim_end(),
+            Err(_) => "",
+        }
     }
 
     /// Why it was refused, in words, where that can be told.
@@ -60,7 +63,14 @@ impl Refused<'_> {
             None if self.number == BLOCK_TOO_LONG => &[],
             None => return None,
         };
-        reason(alloc, self.catalog, self.follower.line(), block, self.number).unwrap_or(None)
+        reason(
+            alloc,
+            self.catalog,
+            self.follower.line(),
+            block,
+            self.number,
+        )
+        .unwrap_or(None)
     }
 }
 
@@ -112,11 +122,7 @@ impl Watched {
     }
 
     // Tells of the request that was answered where it is refused.
-    fn look<W: Write, T: Watch>(
-        &self,
-        w: &mut Noted<W>,
-        watch: &mut T,
-    ) -> Result<Ending, RunFault>
+    fn look<W: Write, T: Watch>(&self, w: &mut Noted<W>, watch: &mut T) -> Result<Ending, RunFault>
         ensures bytes { Keeps (noted_contents W.contents w.old) (noted_contents W.contents w.new) }
         ensures kind { IfErr result (λ e. e ≡ RunFault.Write) }
     {
@@ -183,10 +189,10 @@ impl Watched {
         while !rest.is_empty() {
             let (n, ends) = self.follower.take(rest);
             let (front, others) = rest.split_at(n);
-            if matches!(self.feed(front, ends, w, watch)?, Ending::Stopped) {
-                return Ok(Ending::Stopped);
+            match self.feed(front, ends, w, watch)? {
+                Ending::Stopped => return Ok(Ending::Stopped),
+                Ending::Whole => rest = others,
             }
-            rest = others;
         }
         flush(w)?;
         Ok(Ending::Whole)
@@ -246,8 +252,9 @@ pub fn answer_watched<R: Read, W: Write, T: Watch>(
             Ok(0) => return watched.finish(w, watch),
             Ok(n) => {
                 watched.follower.go_to(r.given());
-                if matches!(watched.take_piece(&buffer[..n], w, watch)?, Ending::Stopped) {
-                    return Ok(Ending::Stopped);
+                match watched.take_piece(&buffer[..n], w, watch)? {
+                    Ending::Stopped => return Ok(Ending::Stopped),
+                    Ending::Whole => {}
                 }
             }
         }

@@ -20,17 +20,25 @@ impl<'a> Told<'a> {
 
 impl Watch for Told<'_> {
     fn goes_on(&mut self, refused: &Refused<'_>) -> bool {
-        let origin = self.wish.origins.get(refused.reader()).copied().unwrap_or(Origin::Input);
+        let origin = self
+            .wish
+            .origins
+            .get(refused.reader())
+            .copied()
+            .unwrap_or(Origin::Input);
         let (line, answer) = (refused.line(), refused.answer());
         let rt = self.rt;
-        let _ = match origin {
-            Origin::Input => eprint!(rt; "mmdb: line {line}: {answer}"),
-            Origin::Commands { path } => eprint!(rt; "mmdb: {path} line {line}: {answer}"),
-            Origin::Load { path, .. } => eprint!(rt; "mmdb: {path}: {answer}"),
+        let reason = refused.reason(rt.alloc());
+        let (sign, words) = match &reason {
+            Some(words) => (": ", words.as_str()),
+            None => ("", ""),
         };
-        let _ = match refused.reason(rt.alloc()) {
-            Some(words) => eprintln!(rt; ": {words}"),
-            None => eprintln!(rt; ""),
+        let _ = match origin {
+            Origin::Input => eprintln!(rt; "mmdb: line {line}: {answer}{sign}{words}"),
+            Origin::Commands { path } => {
+                eprintln!(rt; "mmdb: {path} line {line}: {answer}{sign}{words}")
+            }
+            Origin::Load { path, .. } => eprintln!(rt; "mmdb: {path}: {answer}{sign}{words}"),
         };
         !self.wish.stop
     }

@@ -132,7 +132,12 @@ fn origins<'a>(rt: &HostRuntime, matches: &ArgMatches<'a>) -> Result<Vec<Origin<
         named.push((0, Origin::Input))?;
     }
     named.sort_by_key(|(place, _)| *place)?;
-    Ok(named.into_iter().map(|(_, origin)| origin).collect(rt.alloc())?)
+    Ok(
+        named
+            .into_iter()
+            .map(|(_, origin)| origin)
+            .collect(rt.alloc())?,
+    )
 }
 
 /// What the words ask for. An error is a wrong word, a wish for help or the version, or want of memory.
