@@ -1,9 +1,8 @@
 -- Bytes that readers give, one behind the other.
 use Prim.Native.Nat.{zero}
-use Rattle.std.proofs.Common.{◌≡◌, ℕ, suc, ◌<◌, ◌≤◌, ◌+◌, ◌-◌, ◌∙◌, Bool, true, false, nat_eq, List, [], ◌∷◌, ◌++◌, length, take, drop, set, map, Option, Some, None, get_or, refl, sym, ap, append_assoc, arith}
+use Rattle.std.proofs.Common.{◌≡◌, ℕ, suc, ◌<◌, ◌≤◌, ◌-◌, ◌∙◌, Bool, true, false, nat_eq, List, [], ◌∷◌, ◌++◌, length, take, set, Option, Some, None, get_or, refl, ap, append_assoc, arith}
 use Rattle.std.specs.Prelude.{not, option_map}
 use Rattle.std.specs.Io.KnownBytes.{Consumes, IsAtEnd}
-use Rattle.std.proofs.lemmas.List.{drop_more}
 use Rattle.mm_batch.specs.Joining.{ends_inside, joined, all_known, joined_known}
 
 ends_inside-append : (inside : Bool) (a b : List ℕ) → ends_inside inside (a ++ b) ≡ ends_inside (ends_inside inside a) b

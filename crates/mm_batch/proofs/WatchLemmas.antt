@@ -1,5 +1,5 @@
 -- How a stream that is watched is fed, piece by piece.
-use Rattle.std.proofs.Common.{◌≡◌, ℕ, List, [], ◌∷◌, ◌++◌, length, arith, ◌∙◌, Option, Result, Ok, Err, OnOk, OnErr, IfOk, Bool, true, false, refl, sym, ap, subst, append_assoc, append-nil}
+use Rattle.std.proofs.Common.{◌≡◌, ℕ, List, [], ◌∷◌, ◌++◌, length, arith, ◌∙◌, Option, Result, Ok, Err, OnOk, OnErr, IfOk, true, false, refl, sym, ap, subst, append_assoc, append-nil}
 use Rattle.std.specs.Io.KnownBytes.{Appends, Keeps}
 use Rattle.plain_tables.specs.declared.command.TheConstants.Limits.{STANDARD}
 use Rattle.plain_streams.specs.Runs.{RunOf}

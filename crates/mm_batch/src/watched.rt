@@ -1,6 +1,6 @@
 //! A whole stream, answered while each refusal is told.
 
-ghost use Rattle.std.specs.Prelude.{◌≡◌, ℕ, List, [], Ok, true, false, IfOk, IfErr, OnOk, OnErr, IsErrOf};
+ghost use Rattle.std.specs.Prelude.{◌≡◌, [], Ok, true, false, IfOk, IfErr, OnOk, OnErr, IsErrOf};
 ghost use Rattle.std.specs.Io.KnownBytes.{Keeps, IsAtEnd};
 ghost use Rattle.plain_tables.specs.declared.command.TheConstants.Limits.{STANDARD};
 ghost use Rattle.mm_session.specs.Sessions.{Gains, Feeds, Finishes, BreaksOff, new_session};
@@ -9,7 +9,7 @@ ghost use Rattle.mm_batch.specs.Joining.{left};
 ghost use Rattle.mm_batch.specs.Noting.{noted_contents};
 ghost use Rattle.mm_batch.specs.Watching.{IsAnswered, FeedsUpTo};
 
-use crate::follower::{Follower, Place};
+use crate::follower::Follower;
 use crate::joined::Joined;
 use crate::noted::Noted;
 use mm_catalog::Catalog;

@@ -1,6 +1,5 @@
-use Rattle.std.proofs.Common.{◌≡◌, ◌+◌, ◌<◌, ◌≤◌, length, vec_len}
+use Rattle.std.proofs.Common.{◌≡◌, ◌<◌, [], length, vec_len}
 use Rattle.std.specs.Io.KnownBytes.{Consumes}
-use Rattle.std.proofs.Common.{[]}
 use Rattle.mm_batch.specs.Joining.{left}
 use Rattle.mm_batch.proofs.joined.JoinedRead.read.Given as goal
 
