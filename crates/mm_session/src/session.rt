@@ -145,10 +145,10 @@ impl Session {
             return Ok(());
         }
         self.responder.finish();
-        match write_whole(w, self.responder.answer.as_slice()) {
-            Ok(()) => Ok(()),
-            Err(_) => Err(SessionFault::Write),
+        if write_whole(w, self.responder.answer.as_slice()).is_err() {
+            return Err(SessionFault::Write);
         }
+        Ok(())
     }
 
     /// Ends the session, and lets it go.
