@@ -14,7 +14,7 @@ use Rattle.lin_hash.specs.Nodes.{head_at, entries_of}
 use Rattle.lin_hash.specs.Shape.{chain_length, IsLongestChain}
 use Rattle.lin_hash.specs.Walks.{EndsWithin, walked_from}
 use Rattle.lin_hash.proofs.Joined.{joined, filter-joined}
-use Rattle.lin_hash.proofs.Moves.{count_by-map}
+use Rattle.common_lemmas.proofs.Counts.{count_by-map}
 use Rattle.lin_hash.proofs.Placed.{entries-placed}
 use Rattle.lin_hash.proofs.Rehung.{hung-short}
 use Rattle.lin_hash.proofs.Walks.{EndsWithin-from_chain, entries_from-chain}

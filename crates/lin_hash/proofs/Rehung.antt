@@ -8,14 +8,14 @@ use Rattle.std.proofs.lemmas.List.Sums.{get_or-le-sum_by, count_by-le-length}
 use Rattle.common_lemmas.proofs.Counts.{count_by-true, count_by-member, member-from_count_by}
 use Rattle.part_raw.specs.declared.tuple_ref.TupleRef.{TupleRef}
 use Rattle.mm_index.specs.Bag.{IsSameBag, with_hash}
-use Rattle.mm_index.proofs.Bags.{IsSameBag-trans, IsSameBag-sym, IsSameBag-from_same, IsSameBag-middle, IsSameBag-with_hash, Contains-with_hash, Contains-from_with_hash}
+use Rattle.mm_index.proofs.Bags.{IsSameBag-map, IsSameBag-trans, IsSameBag-sym, IsSameBag-from_same, IsSameBag-middle, IsSameBag-with_hash, Contains-with_hash, Contains-from_with_hash}
 use Rattle.mm_index.proofs.Refs.{Contains-same_refs}
 use Rattle.lin_hash.specs.Address.{bucket_by, bucket_of, IsAddressed}
 use Rattle.lin_hash.specs.declared.node.NodeLink.{NodeLink}
 use Rattle.lin_hash.specs.declared.node.Node.{Node}
 use Rattle.lin_hash.specs.Nodes.{leads_to, head_at, node_at, next_at, entries_of}
 use Rattle.lin_hash.specs.Chains.{Placed, place_of, placed_at, entry_in, all_placed, Stands, IsChain, AreChains, AreHung, HoldsEntry, Visits}
-use Rattle.lin_hash.proofs.Moves.{count_by-append, count_by-cons, IsSameBag-map}
+use Rattle.lin_hash.proofs.Moves.{count_by-append, count_by-cons}
 use Rattle.lin_hash.proofs.Joined.{joined, count_by-joined, count_by-set, count_by-pushed, joined-taken}
 use Rattle.lin_hash.proofs.Placed.{times_at, times_at-once, entries-placed, length-placed, placed-there}
 use Rattle.lin_hash.proofs.Hung.{AreChains-change, AreChains-push}

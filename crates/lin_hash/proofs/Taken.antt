@@ -7,13 +7,13 @@ use Rattle.std.proofs.lemmas.Bool.{cases_lt}
 use Rattle.std.proofs.lemmas.List.{length-set, length-append, length-replicate, get_or-replicate, set-get_or, map-append, take_more, take_all, append-nil}
 use Rattle.std.proofs.lemmas.List.Elements.{All-nil}
 use Rattle.mm_index.specs.Bag.{IsSameBag}
-use Rattle.mm_index.proofs.Bags.{IsSameBag-trans, IsSameBag-from_same}
+use Rattle.mm_index.proofs.Bags.{IsSameBag-map, IsSameBag-trans, IsSameBag-from_same}
 use Rattle.lin_hash.specs.Address.{bucket_by, bucket_of, IsPlaced, IsAddressed}
 use Rattle.lin_hash.specs.declared.node.NodeLink.{NodeLink}
 use Rattle.lin_hash.specs.declared.node.Node.{Node}
 use Rattle.lin_hash.specs.Nodes.{leads_to, no_link, link_to, head_at, node_at, next_at, leading_to, entry_of, entries_of, relinked_behind, relinked_head}
 use Rattle.lin_hash.specs.Chains.{Placed, place_of, placed_at, entry_in, all_placed, Stands, IsChain, AreChains, AreHung, last_place}
-use Rattle.lin_hash.proofs.Moves.{count_by-append, count_by-cons, IsSameBag-map}
+use Rattle.lin_hash.proofs.Moves.{count_by-append, count_by-cons}
 use Rattle.lin_hash.proofs.Joined.{joined, count_by-joined, count_by-pushed}
 use Rattle.lin_hash.proofs.Placed.{times_at, placed, placed-relinked, entries-placed, entries-relinked}
 use Rattle.lin_hash.proofs.ChainLemmas.{Stands-relinked, IsChain-set, IsChain-unique, IsChain-unlinked, times_at-last}

@@ -7,7 +7,7 @@ use Rattle.std.proofs.lemmas.List.Filters.{sum_by-filter_both}
 use Rattle.std.proofs.lemmas.List.Sums.{sum_by-cons, sum_by-append, sum_by_push, sum_by-swap_remove}
 use Rattle.std.specs.Bool.{Decides}
 use Rattle.std.proofs.lemmas.Bool.{eq-eqb, eqb-true}
-use Rattle.common_lemmas.proofs.Counts.{one, count_by-true, count_by-member, member-from_count_by}
+use Rattle.common_lemmas.proofs.Counts.{one, count_by-map, count_by-true, count_by-member, member-from_count_by}
 use Rattle.common_lemmas.proofs.Elements.{Contains-filter, Contains-from_filter, Contains-map, Contains-from_map}
 use Rattle.mm_index.specs.Bag.{IsSameBag, with_hash}
 
@@ -23,6 +23,10 @@ IsSameBag-trans h k = record { count = λ test. h.count test ∙ k.count test }
 -- one list is the other
 pub IsSameBag-from_same : {A : Type 0} (xs ys : List A) → xs ≡ ys → IsSameBag xs ys
 IsSameBag-from_same xs ys e = record { count = λ test. ap (count_by test) e }
+
+-- the same of each element of a bag
+pub IsSameBag-map : {A B : Type 0} (f : A → B) {xs ys : List A} → IsSameBag xs ys → IsSameBag (map f xs) (map f ys)
+IsSameBag-map f {xs} {ys} h = record { count = λ test. count_by-map test f xs ∙ h.count (λ x. test (f x)) ∙ sym (count_by-map test f ys) }
 
 pub IsSameBag-append : {A : Type 0} {xs ys us vs : List A} → IsSameBag xs ys → IsSameBag us vs → IsSameBag (xs ++ us) (ys ++ vs)
 IsSameBag-append {A} {xs} {ys} {us} {vs} h k = record {

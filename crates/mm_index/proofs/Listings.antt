@@ -1,11 +1,10 @@
 -- The listings of a store: they are one bag, as long as the store, and follow a put, a write and a take.
 use Rattle.std.proofs.Common.{◌≡◌, ◌≢◌, Bool, true, false, ◌&&◌, T, List, [], ◌∷◌, map, length, get_or, None, is_some, IsSome, sym, ap, ◌∙◌, subst, arith, inl, inr}
-use Rattle.std.specs.Bool.{Decides}
 use Rattle.std.specs.Cmp.{IsEquivalence, eq_by_cmp_equiv, tied_itself}
 use Rattle.std.specs.FinMap.{get, insert, remove, len, keys, entries, entries_sorted, contains_key-keys, len-entries}
 use Rattle.std.specs.FinMap.Entries.{is_sorted, below_all}
 use Rattle.std.specs.List.{All, AllPairs}
-use Rattle.std.specs.Ordering.{eq_by_cmp, is_lt}
+use Rattle.std.specs.Ordering.{is_lt}
 use Rattle.std.proofs.lemmas.List.{length-map}
 use Rattle.std.proofs.lemmas.List.Elements.{All-cons, All-contains, All-tail, Contains-get_or}
 use Rattle.std.proofs.lemmas.List.Kept.{AllPairs-cons}
@@ -15,7 +14,7 @@ use Rattle.part_raw.specs.Store.{Tuples}
 use Rattle.part_raw.specs.TupleRefs.{ref_cmp}
 use Rattle.part_raw.proofs.Lookup.{same_or_other}
 use Rattle.part_raw.proofs.Refs.{ref_cmp_total}
-use Rattle.part_raw.proofs.Tuples.{same_ref_self, same_ref_true, get-insert_same, get-insert_other, get-remove_same, get-remove_other, held-insert, held-remove_other}
+use Rattle.part_raw.proofs.Tuples.{same_ref, same_ref_true, Decides-same_ref, get-insert_same, get-insert_other, get-remove_same, get-remove_other, held-insert, held-remove_other}
 use Rattle.mm_index.specs.Bag.{IsSameBag}
 use Rattle.mm_index.specs.Listing.{IsListing}
 use Rattle.mm_index.proofs.Bags.{IsSameBag-sym, Contains-same_bag, length-same_bag}
@@ -23,13 +22,7 @@ use Rattle.mm_index.proofs.Distinct.{IsSameBag-from_members, AllPairs-same_bag}
 use Rattle.common_lemmas.proofs.Elements.{Contains-cons, Contains-cons_cases}
 use Rattle.common_lemmas.proofs.Pairs.{AllPairs-head, AllPairs-tail}
 
-abbrev same : TupleRef → TupleRef → Bool
-same = eq_by_cmp ref_cmp
-
-decides : (a b : TupleRef) → Decides (same a b) (a ≡ b)
-decides a b = (same_ref_true a b, λ e. subst (λ c. same a c ≡ true) e (same_ref_self a))
-
-laws : IsEquivalence same
+laws : IsEquivalence same_ref
 laws = eq_by_cmp_equiv ref_cmp_total
 
 -- keys that rise differ
@@ -66,7 +59,7 @@ module _ {X : Type 0} where
   -- any two are the same bag
   pub IsSameBag-listings : (tuples : Tuples X) (xs ys : List TupleRef) → IsListing tuples xs → IsListing tuples ys → IsSameBag xs ys
   IsSameBag-listings tuples xs ys one other =
-      IsSameBag-from_members same decides laws xs ys one.distinct other.distinct
+      IsSameBag-from_members same_ref Decides-same_ref laws xs ys one.distinct other.distinct
       (λ r h. other.listed r (All-contains (λ q. IsSome (get tuples q)) xs r one.held h))
       (λ r h. one.listed r (All-contains (λ q. IsSome (get tuples q)) ys r other.held h))
 
@@ -79,11 +72,11 @@ module _ {X : Type 0} where
   -- the same bag is a listing too
   pub IsListing-same_bag : (tuples : Tuples X) (xs ys : List TupleRef) → IsSameBag xs ys → IsListing tuples xs → IsListing tuples ys
   IsListing-same_bag tuples xs ys bag lists = record {
-    distinct = AllPairs-same_bag same decides laws xs ys bag lists.distinct;
+    distinct = AllPairs-same_bag same_ref Decides-same_ref laws xs ys bag lists.distinct;
     held = λ k d l.
         All-contains (λ q. IsSome (get tuples q)) xs (get_or ys k d) lists.held
-        (Contains-same_bag same decides ys xs (get_or ys k d) (IsSameBag-sym bag) (Contains-get_or ys k d l));
-    listed = λ r h. Contains-same_bag same decides xs ys r bag (lists.listed r h);
+        (Contains-same_bag same_ref Decides-same_ref ys xs (get_or ys k d) (IsSameBag-sym bag) (Contains-get_or ys k d l));
+    listed = λ r h. Contains-same_bag same_ref Decides-same_ref xs ys r bag (lists.listed r h);
   }
 
   not_held : (tuples : Tuples X) (r : TupleRef) → get tuples r ≡ None → IsSome (get tuples r) → ⊥

@@ -6,7 +6,7 @@ use Rattle.std.specs.Ordering.{is_eq, is_ge}
 use Rattle.std.proofs.lemmas.List.{take-append-drop, get_or-drop, length-drop}
 use Rattle.std.proofs.lemmas.List.Elements.{filter-append}
 use Rattle.mm_index.specs.Range.{in_range, from_range}
-use Rattle.common_lemmas.proofs.Filters.{filter_take, filter_drop, filter_second, filter_none}
+use Rattle.common_lemmas.proofs.Filters.{filter_all, filter_take, filter_drop, filter_second, filter_none}
 use Rattle.common_lemmas.proofs.Elements.{All-take_within}
 
 is_ge-not_Less : (o : Ordering) → o ≢ Less → is_ge o ≡ true
@@ -35,3 +35,7 @@ module _ {A : Type 0} (place : A → Ordering) (xs : List A) (first : ℕ) (belo
       let front : filter test (take first xs) ≡ [] =
       filter_none test (take first xs) (All-take_within (λ r. test r ≡ false) xs first (λ k d z b. ap is_eq (below k d z b))) in
       ap (filter test) (sym (take-append-drop first xs)) ∙ filter-append test (take first xs) (drop first xs) ∙ rw (front, back) refl
+
+-- a range that has all has the whole list
+pub from_range_all : {A : Type 0} (xs : List A) → from_range (λ r. Equal) xs ≡ xs
+from_range_all xs = filter_all (λ r. true) xs (λ k d l. refl)

@@ -1,5 +1,6 @@
 -- The laws of a map of tuples, for this crate and its callers: what is found after a put, after a take and after a write.
-use Rattle.std.proofs.Common.{◌≡◌, ◌≢◌, ◌+◌, Bool, true, false, cond, Option, Some, None, is_some, IsSome, refl, sym, ap, ◌∙◌}
+use Rattle.std.specs.Bool.{Decides}
+use Rattle.std.proofs.Common.{◌≡◌, ◌≢◌, ◌+◌, Bool, true, false, cond, Option, Some, None, is_some, IsSome, refl, sym, ap, subst, ◌∙◌}
 use Rattle.std.specs.FinMap.{get, insert, remove, len, empty, get-empty, get-insert, get-remove, len-insert, same_map}
 use Rattle.std.specs.Ordering.{eq_by_cmp}
 use Rattle.std.specs.Cmp.{eq_by_cmp_equiv}
@@ -10,7 +11,7 @@ use Rattle.part_raw.specs.TupleRefs.{ref_cmp}
 use Rattle.part_raw.specs.Store.{Tuples}
 use Rattle.part_raw.proofs.Refs.{ref_cmp_total, ref_cmp_exact}
 
-abbrev same_ref : TupleRef → TupleRef → Bool
+abbrev pub same_ref : TupleRef → TupleRef → Bool
 same_ref = eq_by_cmp ref_cmp
 
 pub same_ref_self : (r : TupleRef) → same_ref r r ≡ true
@@ -18,6 +19,9 @@ same_ref_self = (eq_by_cmp_equiv ref_cmp_total).refl
 
 pub same_ref_true : (q r : TupleRef) → same_ref q r ≡ true → q ≡ r
 same_ref_true q r e = ref_cmp_exact q r (is_eq-Equal (ref_cmp q r) e)
+
+pub Decides-same_ref : (q r : TupleRef) → Decides (same_ref q r) (q ≡ r)
+Decides-same_ref q r = (same_ref_true q r, λ e. subst (λ s. same_ref q s ≡ true) e (same_ref_self q))
 
 pub same_ref_other : (q r : TupleRef) → q ≢ r → same_ref q r ≡ false
 same_ref_other q r differs =

@@ -1,5 +1,5 @@
 -- Values: null, integers and texts, in one order.
-use Rattle.std.specs.Prelude.{◌≡◌, Bool, true, false}
+use Rattle.std.specs.Prelude.{◌≡◌, Bool, true, false, Option, None, Some}
 use Rattle.std.proofs.Common.{refl}
 use Rattle.std.specs.declared.cmp.Ordering.{Ordering}
 use Rattle.std.specs.declared.cmp.Ordering.TheVariants.{Less, Equal, Greater}
@@ -13,6 +13,11 @@ use Rattle.plain_tables.specs.declared.value.Value.TheVariants.{Null, Int, Text}
 abbrev pub is_null : Value → Bool
 is_null Null = true
 is_null v = false
+
+-- the value that is read, or null where there is none to read
+abbrev pub or_null : Option Value → Value
+or_null None = Null
+or_null (Some value) = value
 
 -- Integers are ordered by size and texts by their bytes. Null stands before every integer, and every integer before every text.
 abbrev pub value_cmp : Value → Value → Ordering

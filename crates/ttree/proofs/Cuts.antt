@@ -6,7 +6,7 @@ use Rattle.std.proofs.lemmas.List.{length-append, length-take-le, length-drop, g
 use Rattle.mm_index.specs.Range.{NeverFalls}
 use Rattle.ttree_node.specs.Tree.{Tree, empty, node, Zipper, Label, whole, list, items_of, left_of, right_of, list_until, list_from, list_before, list_after}
 use Rattle.ttree_node.proofs.Splits.{list-plug_split, list_until-from}
-use Rattle.ttree.proofs.Narrowing.{Less-below, Greater-above}
+use Rattle.common_lemmas.proofs.Orders.{Less-below, Greater-above}
 
 -- ---- a list inside another
 module _ {A : Type 0} (us xs vs : List A) where

@@ -1,11 +1,10 @@
 -- How high a balanced tree can be, and how many nodes a tree can have.
-use Rattle.std.proofs.Common.{◌≡◌, ℕ, zero, suc, ◌+◌, ◌<◌, ◌≤◌, length, ◌++◌, max, true, refl, ap, ◌∙◌, arith, inl, inr}
+use Rattle.std.proofs.Common.{◌≡◌, ℕ, zero, suc, ◌+◌, ◌<◌, ◌≤◌, length, ◌++◌, max, refl, ap, ◌∙◌, arith, inl, inr}
 use Rattle.std.proofs.lemmas.List.{length-append}
 use Rattle.std.proofs.lemmas.Bool.{cases_lt}
-use Rattle.ttree_node.specs.Tree.{Tree, empty, node, Label, list, size, height, stated, left_of, right_of, is_node}
+use Rattle.ttree_node.specs.Tree.{Tree, empty, node, Label, list, size, height}
 use Rattle.ttree.specs.Shape.{fib, IsNear, HasTrueHeight, IsOccupied, IsFit, IsTTree, IsBalanced, HasTrueHeights, HasItems, HasItemsInEach, IsOccupiedThroughout}
 use Rattle.ttree.proofs.EachNode.{each_map}
-use Rattle.ttree.proofs.Fitness.{stated-height}
 
 -- ---- the numbers of Fibonacci
 fib-zero : fib 0 ≡ 0
@@ -90,8 +89,3 @@ module _ {I : Type 0} where
     -- so its list bounds its height
     pub list_bound : (t : Tree (Label I)) → IsTTree least most t → fib (height t + 2) ≤ 1 + length (list t)
     list_bound t h = height_bound most t (balanced t h) (each_map (IsFit least most) (HasItems most) (λ l x r k. k.items) t h)
-
-    -- the height is told by the stated heights of the children
-    pub height_told : (t : Tree (Label I)) → IsTTree least most t → is_node t ≡ true → height t ≡ 1 + max (stated (left_of t)) (stated (right_of t))
-    height_told empty h n = cc
-    height_told (node l x r) h n = omega (arith, stated-height least most l h.0, stated-height least most r h.2)

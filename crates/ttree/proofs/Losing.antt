@@ -6,6 +6,7 @@ use Rattle.ttree.specs.Mending.{CanRise, IsMendableTree}
 use Rattle.ttree.specs.Removing.{HasLost, HasLostBelow}
 use Rattle.ttree.proofs.Fitness.{high_node, node_high, no_node_low, in_numbers, some_items}
 use Rattle.ttree.proofs.EachNode.{each_here}
+use Rattle.ttree.proofs.Refits.{items_at, height-new_items}
 use Rattle.ttree.proofs.Places.{size-plug_one}
 use Rattle.ttree.proofs.Replacing.{fit-new_items, kept-internal, size_merged}
 use Rattle.ttree_node.specs.Laws.{list-plug}
@@ -14,10 +15,6 @@ use Rattle.ttree_node.specs.declared.node.Side.{Side}
 use Rattle.std.proofs.lemmas.List.{append-nil, nil_from_length}
 
 module _ {I : Type 0} where
-  items-new_items : (xs : List I) (t : Tree (Label I)) → is_node t ≡ true → items_of (new_items xs t) ≡ xs
-  items-new_items xs empty e = cc
-  items-new_items xs (node l x r) e = refl
-
   -- what is no leaf has a child
   no_leaf : (t : Tree (Label I)) → (has_left t ≡ true) ⊎ (has_right t ≡ true) → 1 < height t
   no_leaf empty (inl e) = cc
@@ -33,7 +30,7 @@ module _ {I : Type 0} (least most : ℕ) where
   -- an item is taken out of a node
   pub lost : (z : Zipper (Label I)) (xs : List I) → IsTTree least most (whole z) → length (items_of z.here) ≡ length xs + 1 → HasLost least most (with_items xs z)
   lost z xs f one =
-      let is : items_of (new_items xs z.here) ≡ xs = items-new_items xs z.here (one_node z.here (length xs) one) in
+      let is : items_of (new_items xs z.here) ≡ xs = items_at z.here xs (one_node z.here (length xs) one) in
       record { was = z.here; was_fit = f; same = (λ i. new_items (sym is i) z.here); one = one ∙ (λ i. length (sym is i) + 1) }
 
   -- ---- a node with a child
@@ -201,12 +198,8 @@ module _ {I : Type 0} (least most : ℕ) where
   dropped_at (went_left x r ∷ c) was some f leaf e = let k = each_here (IsFit least most) c (node was x r) f in record { was = node was x r; was_fit = f; stated = k.1.true_height; here = dropped_left was x r some k leaf }
   dropped_at (went_right l x ∷ c) was some f leaf e = let k = each_here (IsFit least most) c (node l x was) f in record { was = node l x was; was_fit = f; stated = k.1.true_height; here = dropped_right was x l some k leaf }
 
-  same_height : (xs : List I) (t : Tree (Label I)) → height (new_items xs t) ≡ height t
-  same_height xs empty = refl
-  same_height xs (node l x r) = refl
-
   pub dropped-rises : (z : Zipper (Label I)) → 1 ≤ least → HasLost least most z → is_leaf z.here → is_node (without_leaf z).here ≡ true → CanRise least most (without_leaf z)
-  dropped-rises z some k leaf e = dropped_at z.above k.was some k.was_fit (sym (same_height (items_of z.here) k.was) ∙ sym (ap (λ t. height t) k.same) ∙ leaf_one z.here leaf) e
+  dropped-rises z some k leaf e = dropped_at z.above k.was some k.was_fit (sym (height-new_items (items_of z.here) k.was) ∙ sym (ap (λ t. height t) k.same) ∙ leaf_one z.here leaf) e
 
   -- ---- an internal node that holds enough
 

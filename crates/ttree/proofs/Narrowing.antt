@@ -1,23 +1,12 @@
 -- A search among the items of a node narrows down.
-use Rattle.std.proofs.Common.{◌≡◌, ℕ, ◌+◌, ◌<◌, ◌≤◌, Result, Ok, Err, List, length, get_or, refl, ap, arith, Ordering}
+use Rattle.std.proofs.Common.{◌≡◌, ℕ, ◌+◌, ◌<◌, ◌≤◌, Result, Ok, Err, List, length, get_or, arith, Ordering}
 use Rattle.std.specs.List.{AllWithin}
-use Rattle.std.specs.declared.cmp.Ordering.TheVariants.{Less, Equal, Greater}
-use Rattle.std.specs.Ordering.{ordering_index}
+use Rattle.std.specs.declared.cmp.Ordering.TheVariants.{Less, Greater}
 use Rattle.std.proofs.lemmas.List.{get_or_default}
+use Rattle.common_lemmas.proofs.Orders.{Less-below, Greater-above}
 use Rattle.mm_index.specs.Range.{NeverFalls}
 use Rattle.std.specs.Result.{IfErr}
 use Rattle.ttree.specs.Searching.{IsCut}
-
--- what goes below a place below, and what goes above one above
-pub Less-below : (o p : Ordering) → p ≡ Less → ordering_index o ≤ ordering_index p → o ≡ Less
-Less-below Less p e h = refl
-Less-below Equal p e h = absurd (omega (arith, h, ap ordering_index e))
-Less-below Greater p e h = absurd (omega (arith, h, ap ordering_index e))
-
-pub Greater-above : (o p : Ordering) → p ≡ Greater → ordering_index p ≤ ordering_index o → o ≡ Greater
-Greater-above Greater p e h = refl
-Greater-above Equal p e h = absurd (omega (arith, h, ap ordering_index e))
-Greater-above Less p e h = absurd (omega (arith, h, ap ordering_index e))
 
 module _ {A : Type 0} (place : A → Ordering) (xs : List A) (in_order : NeverFalls place xs) (m : ℕ) (within : m < length xs) (c : A) where
   pub below_at : place (get_or xs m c) ≡ Less → AllWithin (λ r. place r ≡ Less) xs 0 (m + 1)

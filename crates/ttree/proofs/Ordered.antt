@@ -1,7 +1,6 @@
 -- A list that rises by a strict order, searched for a reference that it does not hold.
-use Rattle.std.proofs.Common.{◌≡◌, ℕ, ◌≤◌, List, [], ◌∷◌, Option, Some, None, false, get_or, refl, sym, ap, ◌∙◌, arith, inl, inr, Ordering}
+use Rattle.std.proofs.Common.{◌≡◌, ℕ, ◌≤◌, List, [], ◌∷◌, get_or, refl, sym, ap, ◌∙◌, arith, inl, inr, Ordering}
 use Rattle.std.specs.List.{All}
-use Rattle.std.specs.Option.{IfNone, is_some}
 use Rattle.std.specs.declared.cmp.Ordering.TheVariants.{Less, Equal, Greater}
 use Rattle.std.specs.Ordering.{ordering_index}
 use Rattle.std.proofs.lemmas.List.Elements.{All-nil}
@@ -26,11 +25,6 @@ module _ {A : Type 0} (covers : A → Type 0) (cmp : A → A → Ordering) (orde
             rises_to (get_or xs i d) (get_or xs j d) r (covered i d (omega arith)) (covered j d m) r_covered (rising i j d before m) (cmp (get_or xs j d) r) refl
         | inr (inr after) ↦ absurd (omega arith)
       ]
-
--- what holds of nothing found
-pub at_none : {A : Type 0} (found : Option A) (P : Type 0) → is_some found ≡ false → IfNone found P → P
-at_none None P e h = h
-at_none (Some q) P e h = cc
 
 -- into an empty list
 pub insert_placed_first : {A : Type 0} (place : A → Ordering) (r : A) → insert_placed place r [] ≡ r ∷ []

@@ -8,6 +8,7 @@ use Rattle.ttree.specs.Shape.{IsFit, IsTTree}
 use Rattle.ttree.specs.Mending.{CanRise, IsMendableTree}
 use Rattle.ttree.specs.Removing.{HasLostBelow}
 use Rattle.ttree.specs.Rising.{IsNearTree}
+use Rattle.ttree.proofs.Refits.{height-new_items}
 use Rattle.ttree.proofs.Fitness.{low_no_node, no_node_low, in_numbers, from_numbers}
 use Rattle.ttree.proofs.EachNode.{each_here}
 
@@ -72,10 +73,6 @@ module _ {I : Type 0} (least most : ℕ) where
         }),
         rf,
       )
-
-  height-new_items : (xs : List I) (t : Tree (Label I)) → height (new_items xs t) ≡ height t
-  height-new_items xs empty = refl
-  height-new_items xs (node l x r) = refl
 
   -- a node with other items, in the whole tree
   pub whole-new_items : (c : List (Frame (Label I))) (t : Tree (Label I)) (xs : List I) → IsTTree least most (plug c t) → 0 < length xs → length xs ≤ most → length (items_of t) ≤ length xs → items_of (new_items xs t) ≡ xs → IsTTree least most (plug c (new_items xs t))

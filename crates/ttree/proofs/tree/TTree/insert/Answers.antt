@@ -3,7 +3,8 @@ use Rattle.part_raw.specs.declared.tuple_ref.TupleRef.{TupleRef}
 use Rattle.mm_index.specs.Order.{IsRising}
 use Rattle.mm_index.proofs.Placed.{IsRising-insert_by}
 use Rattle.ttree.specs.Held.{items_of_tree}
-use Rattle.ttree.proofs.Ordered.{NeverFalls-by_order, at_none, insert_placed-by}
+use Rattle.ttree.proofs.Ordered.{NeverFalls-by_order, insert_placed-by}
+use Rattle.common_lemmas.proofs.Options.{at_none}
 use Rattle.ttree.proofs.tree.TTree.insert.Goals as goal
 
 pub insert_unless_found-found-requires : goal.insert_unless_found-found-requires
