@@ -1,6 +1,6 @@
 -- What a relation keeps as it is made, and as indexes of it are declared and dropped.
 use Rattle.std.proofs.Common.{Bool, true, false, cond, not, Result, Ok, Err, OnOk, OnErr, ◌&&◌, ◌||◌, ◌==◌, ◌≡◌, ◌<◌, ℕ, List, [], ◌∷◌, ◌++◌, Option, IsSome, is_some, refl, sym, ap, ◌∙◌, arith, length, map, filter}
-use Rattle.std.proofs.lemmas.Bool.{and_parts}
+use Rattle.std.proofs.lemmas.Bool.{and_parts, not_from_true, not-true}
 use Rattle.std.proofs.lemmas.List.{map-append, append-nil}
 use Rattle.std.proofs.lemmas.List.Elements.{filter-append, All-push}
 use Rattle.std.specs.FinMap.{get, len, empty, len-empty}
@@ -24,7 +24,7 @@ use Rattle.mm_relation.specs.Declaring.{declaration, IsAdded, IsDeclaredOf, with
 use Rattle.mm_relation.specs.Changes.{has_declared_on}
 use Rattle.mm_relation.specs.Seen.{state}
 use Rattle.mm_relation.proofs.Dropping.{without_first-map, All-without_first, filter-without_first, filter-without_other}
-use Rattle.mm_relation.proofs.Keeping.{not_tree, tree_columns, hash_columns, trees_served, hashes_served}
+use Rattle.mm_relation.proofs.Keeping.{tree_columns, hash_columns, trees_served, hashes_served}
 use Rattle.ttree.specs.Held.{empty as leafless}
 
 -- what the indexes of a kind show, of which one more is the last
@@ -37,10 +37,6 @@ pushed_of f p all new on e =
 -- what the elements that pass two tests tell, without the first, and what the others tell
 first_gone : {A B : Type 0} (f : A → B) (at : B → Bool) (kind : A → Bool) (xs : List A) → map f (filter kind (without_first (λ x. at (f x) && kind x) xs)) ≡ without_first at (map f (filter kind xs))
 first_gone f at kind xs = ap (map f) (filter-without_first (λ x. at (f x)) kind xs) ∙ sym (without_first-map at f (filter kind xs))
-
-not_hash : (b : Bool) → b ≡ true → not b ≡ false
-not_hash true e = refl
-not_hash false e = absurd (cc)
 
 module _ (schema : Schema) (targets : List (Option ℕ)) (declared : List DeclaredIndex) (rows : Tuples Row) (tree : RowTree) (all : Indexes) (kept : IsKept (state schema targets declared rows tree all)) where
   pub current_with : (keys : Keys) (others : List DeclaredIndex) (new : Indexes) → IsCurrent keys (state schema targets declared rows tree all) → Serve keys rows (tree_list tree) new → IsCurrent keys (state schema targets others rows tree new)
@@ -73,10 +69,10 @@ module _ (schema : Schema) (targets : List (Option ℕ)) (declared : List Declar
       ap columns (sym (without_first-map (is_index index) declaration_of all)) ∙ each (map declaration_of all) ∙ ap less before ∙ sym (each declared)
 
   no_hash_like : (column : ColumnNumber) (d : DeclaredIndex) → is_index (declaration column Tree) d ≡ true → not (is_tree d.kind) ≡ false
-  no_hash_like column d e = not_hash (is_tree d.kind) (and_parts (d.column.0 == column.0) (is_tree d.kind) e).1
+  no_hash_like column d e = not_from_true (is_tree d.kind) (and_parts (d.column.0 == column.0) (is_tree d.kind) e).1
 
   no_tree_like : (column : ColumnNumber) (d : DeclaredIndex) → is_index (declaration column Hash) d ≡ true → is_tree d.kind ≡ false
-  no_tree_like column d e = not_tree (is_tree d.kind) (and_parts (d.column.0 == column.0) (not (is_tree d.kind)) e).1
+  no_tree_like column d e = not-true (is_tree d.kind) (and_parts (d.column.0 == column.0) (not (is_tree d.kind)) e).1
 
   pub kept_without : (kind : IndexKind) (column : ColumnNumber) → IsKept (state schema targets (without_first (is_index (declaration column kind)) declared) rows tree (without (declaration column kind)))
   kept_without Tree column = record {

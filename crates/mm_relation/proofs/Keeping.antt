@@ -2,7 +2,8 @@
 use Rattle.std.proofs.Common.{◌≡◌, ◌≤◌, ◌<◌, ◌+◌, ℕ, List, [], ◌∷◌, IfSome, IfNone, Option, Some, None, IsSome, is_some, Bool, true, false, cond, not, zero, suc, refl, sym, ap, ◌∙◌, arith, subst, length, map, filter, inl, inr}
 use Rattle.std.specs.List.{All, Contains}
 use Rattle.std.specs.Option.{option_and_then}
-use Rattle.std.proofs.lemmas.List.Elements.{All-contains}
+use Rattle.std.proofs.lemmas.List.Elements.{All-cons, All-contains, All-tail}
+use Rattle.std.proofs.lemmas.Bool.{not-true}
 use Rattle.std.specs.FinMap.{get, insert, remove, len}
 use Rattle.common_lemmas.proofs.Elements.{Contains-from_map, Contains-from_filter, Contains-filter, Contains-map}
 use Rattle.part_raw.specs.declared.tuple_ref.TupleRef.{TupleRef}
@@ -32,27 +33,16 @@ tree_columns all = columns_seen (λ b. b) (λ s. s.tree) all
 pub hash_columns : (all : Indexes) → map (λ (h : ℕ × List (ℕ × TupleRef)). h.0) (hashes_of (map seen all)) ≡ columns_with_hash (map declaration_of all)
 hash_columns all = columns_seen (λ b. not b) (λ s. s.entries) all
 
--- indexes serve rows as the trees among them do, and the hashes
-all_cons : {A : Type 0} (P : A → Type 0) (x : A) (xs : List A) → P x → All P xs → All P (x ∷ xs)
-all_cons P x xs here rest zero d l = here
-all_cons P x xs here rest (suc k) d l = rest k d (omega (arith, l))
-
-all_tail : {A : Type 0} (P : A → Type 0) (x : A) (xs : List A) → All P (x ∷ xs) → All P xs
-all_tail P x xs h k d l = h (suc k) d (omega (arith, l))
-
 kept_of : {A B : Type 0} (P : B → Type 0) (Q : A → Type 0) (f : A → B) (p : A → Bool) (xs : List A) → ((x : A) → p x ≡ true → Q x → P (f x)) → All Q xs → All P (map f (filter p xs))
 kept_of P Q f p [] each h = λ k d l. absurd (omega (arith, l))
 kept_of P Q f p (x ∷ xs) each h =
-    let rest : All P (map f (filter p xs)) = kept_of P Q f p xs each (all_tail Q x xs h) in
+    let rest : All P (map f (filter p xs)) = kept_of P Q f p xs each (All-tail Q x xs h) in
     elim (p x) as (λ b. p x ≡ b → All P (map f (cond b (x ∷ filter p xs) (filter p xs)))) [
-      | true ↦ λ e. all_cons P (f x) (map f (filter p xs)) (each x e (h 0 x (omega arith))) rest
+      | true ↦ λ e. All-cons P (f x) (map f (filter p xs)) (each x e (h 0 x (omega arith))) rest
       | false ↦ λ e. rest
     ] refl
 
-pub not_tree : (b : Bool) → not b ≡ true → b ≡ false
-not_tree true e = absurd (cc)
-not_tree false e = refl
-
+-- indexes serve rows as the trees among them do, and the hashes
 module _ (keys : Keys) (rows : Tuples Row) (refs : List TupleRef) where
   pub trees_served : (ss : List SeenIndex) → All (Serves keys rows refs) ss → All (TreeServes keys rows refs) (trees_of ss)
   trees_served ss h = kept_of (TreeServes keys rows refs) (Serves keys rows refs) (λ (s : SeenIndex). (s.declaration.column.0, s.tree)) (λ s. is_tree s.declaration.kind) ss
@@ -60,16 +50,16 @@ module _ (keys : Keys) (rows : Tuples Row) (refs : List TupleRef) where
 
   pub hashes_served : (ss : List SeenIndex) → All (Serves keys rows refs) ss → All (HashServes keys rows refs) (hashes_of ss)
   hashes_served ss h = kept_of (HashServes keys rows refs) (Serves keys rows refs) (λ (s : SeenIndex). (s.declaration.column.0, s.entries)) (λ s. not (is_tree s.declaration.kind)) ss
-      (λ s e serves. subst (λ b. Where b (TreeServes keys rows refs (s.declaration.column.0, s.tree)) (HashServes keys rows refs (s.declaration.column.0, s.entries))) (not_tree (is_tree s.declaration.kind) e) serves) h
+      (λ s e serves. subst (λ b. Where b (TreeServes keys rows refs (s.declaration.column.0, s.tree)) (HashServes keys rows refs (s.declaration.column.0, s.entries))) (not-true (is_tree s.declaration.kind) e) serves) h
 
   pub all_served : (ss : List SeenIndex) → All (TreeServes keys rows refs) (trees_of ss) → All (HashServes keys rows refs) (hashes_of ss) → All (Serves keys rows refs) ss
   all_served [] trees hashes = λ k d l. absurd (omega (arith, l))
   all_served (s ∷ ss) trees hashes =
       let both = (elim (is_tree s.declaration.kind) as (λ b. All (TreeServes keys rows refs) (map (λ (x : SeenIndex). (x.declaration.column.0, x.tree)) (cond b (s ∷ filter (λ x. is_tree x.declaration.kind) ss) (filter (λ x. is_tree x.declaration.kind) ss))) → All (HashServes keys rows refs) (map (λ (x : SeenIndex). (x.declaration.column.0, x.entries)) (cond (not b) (s ∷ filter (λ x. not (is_tree x.declaration.kind)) ss) (filter (λ x. not (is_tree x.declaration.kind)) ss))) → Where b (TreeServes keys rows refs (s.declaration.column.0, s.tree)) (HashServes keys rows refs (s.declaration.column.0, s.entries)) × All (Serves keys rows refs) ss) [
-        | true ↦ λ ts hs. (ts 0 (s.declaration.column.0, s.tree) (omega arith), all_served ss (all_tail (TreeServes keys rows refs) (s.declaration.column.0, s.tree) (trees_of ss) ts) hs)
-        | false ↦ λ ts hs. (hs 0 (s.declaration.column.0, s.entries) (omega arith), all_served ss ts (all_tail (HashServes keys rows refs) (s.declaration.column.0, s.entries) (hashes_of ss) hs))
+        | true ↦ λ ts hs. (ts 0 (s.declaration.column.0, s.tree) (omega arith), all_served ss (All-tail (TreeServes keys rows refs) (s.declaration.column.0, s.tree) (trees_of ss) ts) hs)
+        | false ↦ λ ts hs. (hs 0 (s.declaration.column.0, s.entries) (omega arith), all_served ss ts (All-tail (HashServes keys rows refs) (s.declaration.column.0, s.entries) (hashes_of ss) hs))
       ] trees hashes) in
-      all_cons (Serves keys rows refs) s ss both.0 both.1
+      All-cons (Serves keys rows refs) s ss both.0 both.1
 
 module _ (schema : Schema) (targets : List (Option ℕ)) (declared : List DeclaredIndex) where
   -- a relation is seen by what its indexes show

@@ -5,6 +5,7 @@ use Rattle.std.specs.Option.{option_cmp, option_and_then}
 use Rattle.std.specs.Ordering.{ordering_then}
 use Rattle.std.specs.declared.cmp.Ordering.{Ordering}
 use Rattle.std.specs.declared.cmp.Ordering.TheVariants.{Less, Equal, Greater}
+use Rattle.std.proofs.lemmas.Option.{same_Some}
 use Rattle.std.proofs.lemmas.List.Elements.{All-contains, Contains-get_or}
 use Rattle.std.specs.FinMap.{get, insert, remove, len}
 use Rattle.part_raw.specs.declared.tuple_ref.TupleRef.{TupleRef}
@@ -189,21 +190,13 @@ module _ (rows : Tuples Row) (list : List TupleRef) (r : TupleRef) (keyed : IsKe
         (IsRising-remove_by (λ q. IsSome (value_at no_keys 0 rows q)) (column_cmp no_keys 0 rows) strict_now r list keyed.rising);
   })
 
--- what an option that has something says of it
-pub some_alike : {A : Type 0} (a b : A) → Some a ≡ Some b → a ≡ b
-some_alike a b e = cc
-
 pub from_some : {A X : Type 0} (o : Option A) → IsSome o → IfSome o (λ _. X) → X
 from_some None some h = absurd (cc)
 from_some (Some a) some h = h
 
-pub from_none : {A X : Type 0} (o : Option A) → is_some o ≡ false → IfNone o X → X
-from_none None none h = h
-from_none (Some a) none h = absurd (cc)
-
 -- the key of the row that was put is the one that is read
 pub got_key : (rows now : Tuples Row) (r : TupleRef) (t : Row) (key : Value) → now ≡ insert rows r t → key_at now r ≡ Some key → key ≡ t.key
-got_key rows now r t key put found = some_alike key t.key (sym found ∙ ap (λ m. key_at m r) put ∙ ap (option_and_then (λ x. Some x.key)) (get-insert_same rows r t))
+got_key rows now r t key put found = same_Some key t.key (sym found ∙ ap (λ m. key_at m r) put ∙ ap (option_and_then (λ x. Some x.key)) (get-insert_same rows r t))
 
 -- to take out what was put in changes nothing
 pub taken_again : (rows : Tuples Row) (r : TupleRef) (t : Row) → get rows r ≡ None → remove (insert rows r t) r ≡ rows

@@ -10,7 +10,7 @@ use Rattle.common_lemmas.proofs.Elements.{Contains-map, Contains-cons}
 use Rattle.part_raw.specs.declared.tuple_ref.TupleRef.{TupleRef}
 use Rattle.part_raw.specs.Store.{Tuples}
 use Rattle.mm_index.specs.Bag.{IsSameBag}
-use Rattle.mm_index.proofs.Bags.{IsSameBag-sym, IsSameBag-trans, IsSameBag-cons, IsSameBag-from_same, Contains-same_bag, length-same_bag}
+use Rattle.mm_index.proofs.Bags.{IsSameBag-map, IsSameBag-sym, IsSameBag-trans, IsSameBag-cons, IsSameBag-from_same, Contains-same_bag, length-same_bag}
 use Rattle.mm_index.proofs.Refs.{same_ref, Decides-same_ref, Contains-same_refs}
 use Rattle.mm_index.proofs.Listed.{IsRising-agree, IsSameBag-insert_by, IsSameBag-remove_by}
 use Rattle.mm_relation.specs.Rows.{Row}
@@ -43,18 +43,6 @@ same_behind {A} x xs ys h = record {
       let there : count_by test (x ∷ ys) ≡ one x + count_by test ys = sum_by-cons one x ys in
       let same : count_by test (x ∷ xs) ≡ count_by test (x ∷ ys) = h.count test in
       omega arith;
-}
-
--- a map of two bags
-count_by-map : {A B : Type 0} (f : A → B) (test : B → Bool) (xs : List A) → count_by test (map f xs) ≡ count_by (λ x. test (f x)) xs
-count_by-map f test [] = refl
-count_by-map f test (x ∷ xs) =
-    sum_by-cons (λ y. cond (test y) 1 0) (f x) (map f xs) ∙ ap (λ n. cond (test (f x)) 1 0 + n) (count_by-map f test xs)
-    ∙ sym (sum_by-cons (λ y. cond (test (f y)) 1 0) x xs)
-
-pub map_bag : {A B : Type 0} (f : A → B) (xs ys : List A) → IsSameBag xs ys → IsSameBag (map f xs) (map f ys)
-map_bag f xs ys h = record {
-  count = λ test. count_by-map f test xs ∙ h.count (λ x. test (f x)) ∙ sym (count_by-map f test ys);
 }
 
 -- two bags of entries have the same members
@@ -111,7 +99,7 @@ module _ (keys : Keys) (rows : Tuples Row) where
   tree_serves_bag refs same t bag serves = record { bag = IsSameBag-trans serves.bag bag; rising = serves.rising }
 
   pub hash_serves_bag : (refs same : List TupleRef) (h : ℕ × List (ℕ × TupleRef)) → IsSameBag refs same → HashServes keys rows refs h → HashServes keys rows same h
-  hash_serves_bag refs same h bag serves = IsSameBag-trans serves (map_bag (λ r. (hash_at keys h.0 rows r, r)) refs same bag)
+  hash_serves_bag refs same h bag serves = IsSameBag-trans serves (IsSameBag-map (λ r. (hash_at keys h.0 rows r, r)) bag)
 
   serves_bag : (refs same : List TupleRef) (s : SeenIndex) → IsSameBag refs same → Serves keys rows refs s → Serves keys rows same s
   serves_bag refs same s bag serves = where_map (is_tree s.declaration.kind) (tree_serves_bag refs same (s.declaration.column.0, s.tree) bag) (hash_serves_bag refs same (s.declaration.column.0, s.entries) bag) serves
@@ -153,7 +141,7 @@ module _ (keys : Keys) (rows : Tuples Row) where
   loses_as differ refs rest r c (Hash h) (Hash g) bag has loses serves =
       same_behind (hash_at keys c.0 rows r, r) _ _
       (IsSameBag-trans (IsSameBag-sym loses.entries)
-      (IsSameBag-trans serves (map_bag (λ q. (hash_at keys c.0 rows q, q)) refs (r ∷ rest) bag)))
+      (IsSameBag-trans serves (IsSameBag-map (λ q. (hash_at keys c.0 rows q, q)) bag)))
   loses_as differ refs rest r c (Tree t) (Hash g) bag has loses serves = absurd loses
   loses_as differ refs rest r c (Hash h) (Tree u) bag has loses serves = absurd loses
 

@@ -5,7 +5,7 @@ use Rattle.std.proofs.Math.Dec.{eqb-suc-zero}
 use Rattle.std.specs.Option.{option_map, option_and_then}
 use Rattle.std.specs.FinMap.{get, insert, remove, empty}
 use Rattle.std.proofs.lemmas.List.{length-set}
-use Rattle.std.proofs.lemmas.Option.{slice_get_within, slice_get-get_or}
+use Rattle.std.proofs.lemmas.Option.{same_Some, slice_get_within, slice_get-get_or}
 use Rattle.common_lemmas.proofs.Options.{is_some-Some, and_then-Some}
 use Rattle.part_raw.specs.declared.tuple_ref.TupleRef.{TupleRef}
 use Rattle.part_raw.specs.Store.{Tuple, Tuples, Store, tuple, with_tuple}
@@ -28,9 +28,6 @@ IsWhole width t = (length t.cells ≡ width) × StartsWithKey t.cells
 abbrev pub AreWhole : ℕ → Tuples (Tuple Cell) → Type 0
 AreWhole width tuples = (r : TupleRef) (t : Tuple Cell) → get tuples r ≡ Some t → IsWhole width t
 
-some_same : {X : Type 0} {x y : X} → Some x ≡ Some y → x ≡ y
-some_same e = cc
-
 not_some : {X : Type 0} {x : X} {o : Option X} → o ≡ None → o ≡ Some x → ⊥
 not_some none some = absurd (cc)
 
@@ -41,7 +38,7 @@ module _ (width : ℕ) (tuples : Tuples (Tuple Cell)) (r : TupleRef) (whole : Ar
   pub whole_with : (t : Tuple Cell) → IsWhole width t → AreWhole width (insert tuples r t)
   whole_with t is q u found = elim (same_or_other q r) [
     | inl same ↦
-        let here : t ≡ u = some_same (sym (get-insert_same tuples r t) ∙ ap (get (insert tuples r t)) (sym same) ∙ found) in
+        let here : t ≡ u = same_Some t u (sym (get-insert_same tuples r t) ∙ ap (get (insert tuples r t)) (sym same) ∙ found) in
         subst (IsWhole width) here is
     | inr other ↦ whole q u (sym (get-insert_other tuples r q t other) ∙ found)
   ]
@@ -61,7 +58,7 @@ module _ (tuples : Tuples (Tuple Cell)) (r : TupleRef) where
   row_under t found = get-mapped row_in tuples r ∙ ap (option_map row_in) found
 
   pub is_row : (t : Tuple Cell) (row : Row) → get tuples r ≡ Some t → get (mapped row_in tuples) r ≡ Some row → row_in t ≡ row
-  is_row t row found held = some_same (sym (row_under t found) ∙ held)
+  is_row t row found held = same_Some _ _ (sym (row_under t found) ∙ held)
 
 referrers_of : (cells : List Cell) (n : ℕ) → (row_of cells n).referrers ≡ n
 referrers_of [] n = refl

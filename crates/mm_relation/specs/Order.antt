@@ -9,6 +9,7 @@ use Rattle.std.specs.Cmp.{IsTotalOrder}
 use Rattle.std.specs.Cmp.Lexicographic.{options_total}
 use Rattle.std.proofs.lemmas.Cmp.{then_total, on_total}
 use Rattle.std.specs.FinMap as map
+use Rattle.common_lemmas.proofs.Options.{some_from_then}
 use Rattle.part_raw.specs.declared.tuple_ref.TupleRef.{TupleRef}
 use Rattle.part_raw.specs.Store.{Tuples}
 use Rattle.mm_index.specs.Order.{IsStrictOver, IsRising}
@@ -45,10 +46,6 @@ then_equal : (o p : Ordering) → ordering_then o p ≡ Equal → p ≡ Equal
 then_equal Less p e = cc
 then_equal Equal p e = e
 then_equal Greater p e = cc
-
-some_from_then : {A B : Type 0} (f : A → Option B) (o : Option A) → IsSome (option_and_then f o) → IsSome o
-some_from_then f None h = h
-some_from_then f (Some x) h = refl
 
 pub held_from_value : (keys : Keys) (column : ℕ) (tuples : Tuples Row) (r : TupleRef) → IsSome (value_at keys column tuples r) → IsSome (map.get tuples r)
 held_from_value keys column tuples r h = some_from_then (row_value keys column) (map.get tuples r) h

@@ -9,7 +9,7 @@ use Rattle.common_lemmas.proofs.Elements.{All-at}
 use Rattle.part_raw.specs.declared.tuple_ref.TupleRef.{TupleRef}
 use Rattle.plain_tables.specs.declared.numbers.TableNumber.{TableNumber}
 use Rattle.plain_tables.specs.declared.numbers.Place.{Place}
-use Rattle.mm_relation.proofs.KeyOrder.{some_alike}
+use Rattle.std.proofs.lemmas.Option.{same_Some}
 use Rattle.mm_relation.specs.State.{RelationState}
 use Rattle.temp_list.specs.Reading.{or_null, value_in}
 use Rattle.temp_list.specs.Lists.{ListState, IsOver, IsRowOver, HasPlace, relation_of, value_of}
@@ -38,7 +38,7 @@ column_over relations list over i place at = All-at (HasPlace relations list.sou
 
 -- two elements that are read at one place are one
 pub same_at : {A : Type 0} (o : Option A) (x y : A) → o ≡ Some x → o ≡ Some y → x ≡ y
-same_at o x y e f = some_alike x y (sym e ∙ f)
+same_at o x y e f = same_Some x y (sym e ∙ f)
 
 -- a place of a row of a list, its relation, which is found by the number of the source's table, and its row
 module _ (relations : List RelationState) (list : ListState) (over : IsOver relations list) (place : Place) (there : HasPlace relations list.sources place) (tables : List TableNumber) (same : map (λ t. t.0) tables ≡ list.sources) (d : TableNumber) (s : RelationState) (lent : slice_get relations (get_or tables place.source d).0 ≡ Some s) (i : ℕ) (row : List TupleRef) (at : slice_get list.rows i ≡ Some row) where

@@ -5,7 +5,7 @@ use Rattle.std.proofs.lemmas.List.{length-set, nil_from_length}
 use Rattle.part_raw.proofs.Tuples.{get-insert_same, held_tuple}
 use Rattle.mm_relation.specs.Rows.{Row}
 use Rattle.mm_relation.specs.Settings.{piled, with_cells}
-use Rattle.mm_relation.proofs.KeyOrder.{some_alike}
+use Rattle.std.proofs.lemmas.Option.{same_Some}
 use Rattle.mm_relation.proofs.Setting.{last_off}
 use Rattle.mm_relation.proofs.Stored.{insert-twice, insert-itself}
 use Rattle.mm_relation.proofs.change.+write_cells.Goals as goal
@@ -33,7 +33,7 @@ write_cells-requires t c =
       (
         ap is_some now,
         (
-          (λ row held k d l. let here = all (suc k) d (omega (arith, l)) in let same : set ≡ row = some_alike set row (sym now ∙ held) in let as_many : length set.cells ≡ length row.cells = ap (λ (x : Row). length x.cells) same in (here.0, omega (arith, here.1, kept, as_many))),
+          (λ row held k d l. let here = all (suc k) d (omega (arith, l)) in let same : set ≡ row = same_Some set row (sym now ∙ held) in let as_many : length set.cells ≡ length row.cells = ap (λ (x : Row). length x.cells) same in (here.0, omega (arith, here.1, kept, as_many))),
           (c.requires.ready.0, (last_off _ _ _ _ (sym c.top_of-cell.ensures ∙ c.requires.ready.1 ∙ ap (λ ss. piled ss c.requires.ready.0) split)).0),
         ),
       ),

@@ -2,7 +2,8 @@ use Rattle.ttree.specs.Held.{items_of_tree}
 use Rattle.std.proofs.Common.{◌∙◌, sym, ap, arith, Some, is_some}
 use Rattle.std.specs.FinMap.{get, remove}
 use Rattle.part_raw.proofs.Tuples.{get-insert_same}
-use Rattle.mm_relation.proofs.KeyOrder.{covered, in_order, key_found, keyed_with, bag_with, no_key, got_key, from_some, from_none, taken_again}
+use Rattle.mm_relation.proofs.KeyOrder.{covered, in_order, key_found, keyed_with, bag_with, no_key, got_key, from_some, taken_again}
+use Rattle.common_lemmas.proofs.Options.{at_none}
 use Rattle.mm_relation.specs.Rows.{row_of}
 use Rattle.mm_relation.proofs.keyed.put_row.Goals as goal
 
@@ -45,18 +46,18 @@ pub returns-clause-keyed : goal.returns-clause-keyed
 returns-clause-keyed c =
     rw c.put-r.ensures.tuples
     (keyed_with c.args.rows.now.tuples (items_of_tree c.args.by_key.now) c.put-r.result (row_of c.args.row.now.items 0) c.requires.keyed c.put-r.ensures.fresh
-    (from_none c.insert_unless_found.result (sym c.if-is_some.ensures) (rw (got_key c.args.rows.now.tuples c.put-r.new.self.tuples c.put-r.result (row_of c.args.row.now.items 0) c.sought-sought.result c.put-r.ensures.tuples (c.key.ensures ∙ ap Some (sym c.sought-sought.ensures)), c.put-r.ensures.tuples) at c.insert_unless_found.ensures.none))
+    (at_none c.insert_unless_found.result _ (sym c.if-is_some.ensures) (rw (got_key c.args.rows.now.tuples c.put-r.new.self.tuples c.put-r.result (row_of c.args.row.now.items 0) c.sought-sought.result c.put-r.ensures.tuples (c.key.ensures ∙ ap Some (sym c.sought-sought.ensures)), c.put-r.ensures.tuples) at c.insert_unless_found.ensures.none))
     (items_of_tree c.insert_unless_found.new.self)
-    (from_none c.insert_unless_found.result (sym c.if-is_some.ensures) (rw (got_key c.args.rows.now.tuples c.put-r.new.self.tuples c.put-r.result (row_of c.args.row.now.items 0) c.sought-sought.result c.put-r.ensures.tuples (c.key.ensures ∙ ap Some (sym c.sought-sought.ensures)), c.put-r.ensures.tuples) at c.insert_unless_found.ensures.inserted)))
+    (at_none c.insert_unless_found.result _ (sym c.if-is_some.ensures) (rw (got_key c.args.rows.now.tuples c.put-r.new.self.tuples c.put-r.result (row_of c.args.row.now.items 0) c.sought-sought.result c.put-r.ensures.tuples (c.key.ensures ∙ ap Some (sym c.sought-sought.ensures)), c.put-r.ensures.tuples) at c.insert_unless_found.ensures.inserted)))
 
 pub returns-clause-listed : goal.returns-clause-listed
 returns-clause-listed c =
     bag_with c.args.rows.now.tuples (items_of_tree c.args.by_key.now) c.put-r.result (row_of c.args.row.now.items 0) c.requires.keyed c.put-r.ensures.fresh
-    (from_none c.insert_unless_found.result (sym c.if-is_some.ensures) (rw (got_key c.args.rows.now.tuples c.put-r.new.self.tuples c.put-r.result (row_of c.args.row.now.items 0) c.sought-sought.result c.put-r.ensures.tuples (c.key.ensures ∙ ap Some (sym c.sought-sought.ensures)), c.put-r.ensures.tuples) at c.insert_unless_found.ensures.none))
+    (at_none c.insert_unless_found.result _ (sym c.if-is_some.ensures) (rw (got_key c.args.rows.now.tuples c.put-r.new.self.tuples c.put-r.result (row_of c.args.row.now.items 0) c.sought-sought.result c.put-r.ensures.tuples (c.key.ensures ∙ ap Some (sym c.sought-sought.ensures)), c.put-r.ensures.tuples) at c.insert_unless_found.ensures.none))
     (items_of_tree c.insert_unless_found.new.self)
-    (from_none c.insert_unless_found.result (sym c.if-is_some.ensures) (rw (got_key c.args.rows.now.tuples c.put-r.new.self.tuples c.put-r.result (row_of c.args.row.now.items 0) c.sought-sought.result c.put-r.ensures.tuples (c.key.ensures ∙ ap Some (sym c.sought-sought.ensures)), c.put-r.ensures.tuples) at c.insert_unless_found.ensures.inserted))
+    (at_none c.insert_unless_found.result _ (sym c.if-is_some.ensures) (rw (got_key c.args.rows.now.tuples c.put-r.new.self.tuples c.put-r.result (row_of c.args.row.now.items 0) c.sought-sought.result c.put-r.ensures.tuples (c.key.ensures ∙ ap Some (sym c.sought-sought.ensures)), c.put-r.ensures.tuples) at c.insert_unless_found.ensures.inserted))
 
 pub returns-clause-no_key : goal.returns-clause-no_key
 returns-clause-no_key c =
     no_key c.args.rows.now.tuples (items_of_tree c.args.by_key.now) c.put-r.result (row_of c.args.row.now.items 0) c.requires.keyed c.put-r.ensures.fresh
-    (from_none c.insert_unless_found.result (sym c.if-is_some.ensures) (rw (got_key c.args.rows.now.tuples c.put-r.new.self.tuples c.put-r.result (row_of c.args.row.now.items 0) c.sought-sought.result c.put-r.ensures.tuples (c.key.ensures ∙ ap Some (sym c.sought-sought.ensures)), c.put-r.ensures.tuples) at c.insert_unless_found.ensures.none))
+    (at_none c.insert_unless_found.result _ (sym c.if-is_some.ensures) (rw (got_key c.args.rows.now.tuples c.put-r.new.self.tuples c.put-r.result (row_of c.args.row.now.items 0) c.sought-sought.result c.put-r.ensures.tuples (c.key.ensures ∙ ap Some (sym c.sought-sought.ensures)), c.put-r.ensures.tuples) at c.insert_unless_found.ensures.none))
