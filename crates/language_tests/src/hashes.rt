@@ -37,9 +37,15 @@ fn hash_of_text(alloc: Global, word: &str) -> Result<Option<u64>, NoMemory> {
 fn hashes_are_those_of_fnv_1a(rt: HostRuntime) {
     assert!(rt; hash_of_both(Value::Null) == Some(12638155314718423877));
     for (number, hash) in INTEGERS {
-        assert!(rt; hash_of_both(Value::Int(*number)) == Some(*hash), "at {number}");
+        assert!(rt;
+            hash_of_both(Value::Int(*number)) == Some(*hash),
+            "at {number}"
+        );
     }
     for (word, hash) in TEXTS {
-        assert!(rt; hash_of_text(rt.alloc(), *word) == Ok(Some(*hash)), "at {word}");
+        assert!(rt;
+            hash_of_text(rt.alloc(), *word) == Ok(Some(*hash)),
+            "at {word}"
+        );
     }
 }

@@ -1,17 +1,15 @@
 -- Complete: a line that spells a statement is the statement's symbols, with a question mark for each hole. Two fillings tell: nulls,
 -- and empty texts.
-use Rattle.std.proofs.Common.{◌≡◌, ◌≢◌, ℕ, zero, suc, ◌+◌, List, [], ◌∷◌, ◌++◌, length, map, Bool, true, false, get_or, refl, sym, ap, ◌∙◌, subst, arith, append_assoc, length-append}
-use Rattle.std.specs.List.{AllByRecursion, Contains, flat_map, range_with_len}
-use Rattle.std.specs.Str.{bytes_eq}
+use Rattle.std.proofs.Common.{◌≡◌, ◌≢◌, ℕ, zero, suc, ◌+◌, List, [], ◌∷◌, ◌++◌, length, map, true, get_or, refl, sym, ap, ◌∙◌, subst, arith, append_assoc, length-append}
+use Rattle.std.specs.List.{AllByRecursion, flat_map, range_with_len}
 use Rattle.std.proofs.Math.Seq.{get_or-append_seam}
-use Rattle.std.proofs.lemmas.List.{length-map}
 use lib.Chars.{codes}
-use Rattle.plain_tables.specs.Spelling.{Symbol, Keyword, Name, Literal, Count, Sign, AreBlanks, is_blank, IsSymbol, IsMadeOf, symbol_text, text_literal, IsSpellableValue, symbols_of, Spells}
-use Rattle.plain_tables.specs.Reading.{behind_blanks, begins_run, lexeme, after_lexeme, lexeme_length}
+use Rattle.plain_tables.specs.Spelling.{Symbol, Keyword, Name, Literal, Count, Sign, AreBlanks, IsSymbol, IsMadeOf, IsSpellableValue, Spells}
+use Rattle.plain_tables.specs.Reading.{behind_blanks, begins_run, lexeme, after_lexeme}
 use Rattle.plain_tables.specs.declared.value.Value.{Value}
 use Rattle.plain_tables.specs.declared.value.Value.TheVariants as value
 use Rattle.plain_tables.proofs.FirstWords.{different}
-use Rattle.plain_tables.proofs.Lexemes.{IsRun, StopsBefore, IsWellFormed, symbol-run, lexeme-of_made, made-from_lexeme, blanks-no_lexeme}
+use Rattle.plain_tables.proofs.Lexemes.{IsRun, IsWellFormed, symbol-run, lexeme-of_made, made-from_lexeme, blanks-no_lexeme}
 use Rattle.plain_tables.proofs.LineFeeds.{contains-feed}
 use Rattle.plain_tables.proofs.Separated.{all-append}
 use Rattle.plain_statements.specs.declared.statement.Slot.{Slot}
@@ -19,13 +17,14 @@ use Rattle.plain_statements.specs.declared.statement.Slot.TheVariants.{Given, Ho
 use Rattle.plain_statements.specs.declared.statement.Statement.{Statement}
 use Rattle.plain_statements.specs.declared.statement.Statement.TheVariants as statement
 use Rattle.plain_statements.specs.Filling.{filled}
-use Rattle.plain_statements.specs.StatementSpelling.{marks, written, numbers_of, holes_of, slots_of, SpellsStatement}
+use Rattle.plain_statements.specs.StatementSpelling.{marks, written, numbers_of, slots_of, SpellsStatement}
 use Rattle.mm_lang.specs.Parsing.{IsWhole}
 use Rattle.mm_lang.specs.declared.statements.StatementWord.{StatementWord}
 use Rattle.mm_lang.specs.declared.statements.StatementWord.TheVariants as word
 use Rattle.mm_lang.specs.Statements.{slot_symbol, word_of, behind_by, statement_letters, IsStatement}
 use Rattle.mm_lang.proofs.Filled.{literal, symbols-filled, something-filled}
 use Rattle.mm_lang.proofs.Parts.{Part, Plain, At, symbol_by, slots_in, IsWell, HasParts, statement-parts}
+use Rattle.mm_lang.proofs.Sound.{cons-parts}
 use Rattle.mm_lang.proofs.Written.{FirstSymbol, IsMark, IsOther, KeepsLine, TakesNext, first-symbol, keeps-line, front-lexeme}
 
 -- ---- a blank in front
@@ -68,9 +67,6 @@ each v (Hole n) = Literal v
 
 abbrev empty : Value
 empty = value.Text []
-
-cons-parts : (n m : ℕ) (ns ms : List ℕ) → n ∷ ns ≡ m ∷ ms → (n ≡ m) × (ns ≡ ms)
-cons-parts n m ns ms e = (cc, cc)
 
 -- Values of which each that is left is this one put it into each hole.
 each-hole : (v : Value) (values front : List Value) (n : ℕ) (parts : List Part) → values ≡ front ++ repeated v n

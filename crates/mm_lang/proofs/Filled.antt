@@ -1,5 +1,5 @@
 -- Filled: the symbols of the command that a statement is with values in its holes.
-use Rattle.std.proofs.Common.{◌≡◌, ℕ, ◌<◌, List, [], ◌∷◌, ◌++◌, length, map, refl, sym, ap, ◌∙◌, subst, arith}
+use Rattle.std.proofs.Common.{◌≡◌, List, [], ◌∷◌, ◌++◌, map, refl, ap, ◌∙◌, arith}
 use Rattle.std.proofs.lemmas.List.{length-map}
 use Rattle.std.specs.List.{flat_map}
 use lib.Chars.{codes}
@@ -12,8 +12,8 @@ use Rattle.plain_statements.specs.declared.statement.SlotCond.{SlotCond}
 use Rattle.plain_statements.specs.declared.statement.Statement.{Statement}
 use Rattle.plain_statements.specs.declared.statement.Statement.TheVariants as statement
 use Rattle.plain_statements.specs.Filling.{slot_value, filled_setting, filled_condition, filled}
-use Rattle.mm_lang.specs.Parsing.{where_of, from_of}
-use Rattle.mm_lang.specs.Statements.{slot_by, setting_by, condition_by, word_of, behind_by, HasSomething}
+use Rattle.mm_lang.specs.Parsing.{where_of}
+use Rattle.mm_lang.specs.Statements.{setting_by, condition_by, word_of, behind_by, HasSomething}
 
 -- the literal of a slot's value
 abbrev pub literal : List Value → Slot → Symbol

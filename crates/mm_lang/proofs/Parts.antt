@@ -1,7 +1,7 @@
 -- Parts: the symbols of a statement are some that are there in any case, and slots among them.
 use Rattle.std.proofs.Common.{◌≡◌, List, [], ◌∷◌, ◌++◌, map, refl, sym, ap, ◌∙◌, subst, append-nil}
 use Rattle.std.specs.List.{AllByRecursion, flat_map}
-use Rattle.std.proofs.lemmas.List.{map-append}
+use Rattle.std.proofs.lemmas.List.{map-append, map-id}
 use lib.Chars.{codes}
 use Rattle.plain_tables.specs.Spelling.{Symbol, Keyword, Name, Sign, Open, Close, Comma, Operator, separated_by, name_symbols, distinct_symbols, items_symbols, join_symbols}
 use Rattle.plain_tables.specs.declared.condition.Op.TheVariants as op
@@ -116,13 +116,9 @@ where-parts (x ∷ xs) =
     word-parts (Keyword (codes "where")) refl (λ f. separated_by (Keyword (codes "and")) (map (condition_by f) (x ∷ xs))) (map (λ c. c.slot) (x ∷ xs))
     (separated-parts condition_by (λ c. c.slot) (Keyword (codes "and")) refl condition-parts (x ∷ xs))
 
-map-same : {X : Type 0} (xs : List X) → map (λ x. x) xs ++ [] ≡ xs
-map-same [] = refl
-map-same (x ∷ xs) = ap (λ l. x ∷ l) (map-same xs)
-
 behind-parts : (s : Statement) → HasParts (λ f. behind_by f s) (slots_of s)
 behind-parts (statement.Insert table slots) =
-    subst (HasParts (λ f. behind_by f (statement.Insert table slots))) (map-same slots)
+    subst (HasParts (λ f. behind_by f (statement.Insert table slots))) (append-nil (map (λ s. s) slots) ∙ map-id slots)
     (word-parts (Name table) tt _ _ (word-parts (Sign Open) tt _ _
     (append-parts (λ f. separated_by (Sign Comma) (map (slot_by f) slots)) (λ f. Sign Close ∷ []) (map (λ s. s) slots) []
     (separated-parts slot_by (λ s. s) (Sign Comma) tt slot-parts slots) (plain-parts (Sign Close ∷ []) (tt, tt)))))

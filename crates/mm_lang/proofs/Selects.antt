@@ -1,5 +1,5 @@
 -- Selects: the items of a select, and what stands before and behind them.
-use Rattle.std.proofs.Common.{◌≡◌, ◌≢◌, ℕ, List, ◌∷◌, ◌++◌, Bool, true, false, refl, sym, ◌∙◌, ap, subst}
+use Rattle.std.proofs.Common.{◌≡◌, ◌≢◌, ℕ, List, ◌∷◌, ◌++◌, Bool, true, false, refl, sym, ◌∙◌, subst}
 use Rattle.std.specs.List.{flat_map}
 use lib.Chars.{codes}
 use Rattle.plain_tables.specs.Names.{IsName, is_name}

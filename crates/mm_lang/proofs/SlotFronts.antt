@@ -1,5 +1,5 @@
 -- Slot fronts: a slot at the front of a line.
-use Rattle.std.proofs.Common.{◌≡◌, ◌≢◌, ℕ, List, sym, ◌∙◌, Bool, false, subst}
+use Rattle.std.proofs.Common.{◌≡◌, ℕ, List, Bool, false}
 use Rattle.std.specs.Str.{IsUtf8, bytes_eq}
 use lib.Chars.{codes}
 use Rattle.plain_tables.specs.Spelling.{Literal, IsSymbol}

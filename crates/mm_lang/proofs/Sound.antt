@@ -1,9 +1,8 @@
 -- Sound: a line that is a statement's symbols, with a question mark for each hole, spells the statement.
-use Rattle.std.proofs.Common.{◌≡◌, ◌≢◌, ℕ, zero, suc, ◌+◌, List, [], ◌∷◌, ◌++◌, length, map, Bool, true, false, get_or, refl, sym, ap, ◌∙◌, subst, arith, append_assoc, length-append}
+use Rattle.std.proofs.Common.{◌≡◌, ◌≢◌, ℕ, ◌+◌, List, [], ◌∷◌, ◌++◌, length, map, Bool, true, false, get_or, refl, sym, ap, ◌∙◌, subst, arith, append_assoc, length-append}
 use Rattle.std.specs.Prelude.{◌==◌, ◌&&◌, not}
 use Rattle.std.specs.List.{AllByRecursion, Contains, flat_map, range_with_len}
 use Rattle.std.proofs.Math.Seq.{get_or-append_seam}
-use Rattle.std.proofs.lemmas.List.FromFn.{length-range_with_len}
 use lib.Chars.{codes}
 use Rattle.plain_tables.specs.Spelling.{Symbol, Keyword, Name, Literal, Count, Sign, AreBlanks, IsSymbol, EndsBefore, IsMadeOf, symbol_text, mark_text, text_literal, IsSpellableValue, Mark, Open, Close, Comma, Dot, Star, Operator, Spells}
 use Rattle.plain_tables.specs.Reading.{begins_run, lexeme, after_lexeme}
@@ -16,13 +15,12 @@ use Rattle.plain_tables.proofs.Lexemes.{IsRun, IsWellFormed, symbol-run, made-fr
 use Rattle.plain_tables.proofs.LineFeeds.{HasNoFeed, contains-feed, contains-no_feed}
 use Rattle.plain_tables.proofs.Separated.{all-append}
 use Rattle.plain_tables.proofs.WellFormed.{symbol-no_feed}
-use Rattle.plain_statements.specs.declared.statement.Slot.{Slot}
 use Rattle.plain_statements.specs.declared.statement.Slot.TheVariants.{Given, Hole}
 use Rattle.plain_statements.specs.declared.statement.Statement.{Statement}
 use Rattle.plain_statements.specs.Filling.{filled}
 use Rattle.plain_statements.specs.StatementSpelling.{marks, written, written_within, numbers_of, holes_of, slots_of, SpellsStatement}
 use Rattle.mm_lang.specs.Parsing.{IsWhole}
-use Rattle.mm_lang.specs.Statements.{slot_symbol, word_of, behind_by, IsStatement, AreFrom, CompletesStatement}
+use Rattle.mm_lang.specs.Statements.{slot_symbol, word_of, behind_by, CompletesStatement}
 use Rattle.mm_lang.proofs.Filled.{literal, symbols-filled, filled-something}
 use Rattle.mm_lang.proofs.Parts.{Part, Plain, At, symbol_by, slots_in, IsWell, HasParts, statement-parts}
 use Rattle.mm_lang.proofs.Written.{blanks-marks, FirstSymbol, IsMark, IsOther, KeepsLine, TakesNext, first-symbol, keeps-line, written-none}
@@ -112,7 +110,7 @@ line-takes : (line : List ℕ) → FirstSymbol line → lexeme line ≡ codes "?
 line-takes line (IsMark is takes) same = takes
 line-takes line (IsOther not each) same = absurd (not same)
 
-cons-parts : (n m : ℕ) (ns ms : List ℕ) → n ∷ ns ≡ m ∷ ms → (n ≡ m) × (ns ≡ ms)
+pub cons-parts : (n m : ℕ) (ns ms : List ℕ) → n ∷ ns ≡ m ∷ ms → (n ≡ m) × (ns ≡ ms)
 cons-parts n m ns ms e = (cc, cc)
 
 filled-made : (values : List Value) (parts : List Part) → AllByRecursion IsWell parts → (line : List ℕ) (front vs : List Value)

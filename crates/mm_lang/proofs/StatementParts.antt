@@ -1,8 +1,8 @@
 -- Statement parts: what a line is behind a statement's first word, from what is read and numbered.
-use Rattle.std.proofs.Common.{◌≡◌, ◌+◌, ℕ, ◌<◌, List, [], ◌∷◌, ◌++◌, length, map, take, drop, Bool, refl, sym, ap, ◌∙◌, subst, arith}
-use Rattle.std.specs.List.{flat_map, range_with_len}
+use Rattle.std.proofs.Common.{◌≡◌, ◌+◌, ℕ, ◌<◌, List, [], ◌∷◌, ◌++◌, length, map, take, drop, Bool, refl, sym, ap, ◌∙◌, subst}
+use Rattle.std.specs.List.{flat_map}
 use Rattle.std.proofs.Math.Seq.{take-append_seam}
-use Rattle.std.proofs.lemmas.List.{length-map}
+use Rattle.std.proofs.lemmas.List.{length-map, map-id}
 use Rattle.std.proofs.lemmas.List.Concat.{flat_map-append}
 use lib.Chars.{codes}
 use Rattle.plain_tables.specs.Spelling.{Symbol, Keyword, Name, Sign, Open, Close, separated, separated_by, distinct_symbols, items_symbols, join_symbols}
@@ -49,10 +49,6 @@ where-is symbols (x ∷ xs) = refl
 same-where : {X : Type 0} (symbols : X → List Symbol) (xs ys : List X) → map symbols xs ≡ map symbols ys → where_of symbols ys ≡ where_of symbols xs
 same-where symbols xs ys e = where-is symbols ys ∙ (ap where-by (sym e) ∙ sym (where-is symbols xs))
 
-map-same : (slots : List Slot) → map (λ s. s) slots ≡ slots
-map-same [] = refl
-map-same (s ∷ slots) = ap (λ l. s ∷ l) (map-same slots)
-
 -- What a vector holds once all of it was changed in place.
 pub written-back : {X : Type 0} (n : ℕ) (new old result : List X) → result ≡ take n (new ++ drop (length new) old) → length new ≡ n → result ≡ new
 written-back n new old result e long = e ∙ (ap (λ k. take k (new ++ drop (length new) old)) (sym long) ∙ take-append_seam new (drop (length new) old))
@@ -68,7 +64,7 @@ insert-done line table slots old e numbers is = (
     some = subst (λ n. 0 < n) (same-length slots_by slots old e) (list-some slots_by (codes ",") _ old is.rest is.listed);
     made = subst (λ l. IsWhole line (Name table ∷ Sign Open ∷ separated l ++ Sign Close ∷ [])) (sym e) (named-list slots_by line table old is);
   },
-  subst (λ l. AreFrom 0 (flat_map numbers_of l)) (map-same slots) numbers,
+  subst (λ l. AreFrom 0 (flat_map numbers_of l)) (map-id slots) numbers,
 )
 
 pub insert-none : (line : List ℕ) → ((table : List ℕ) (slots : List Slot) → IsNameAndList slots_by line table slots → ⊥)

@@ -278,7 +278,11 @@ pub fn list<'a, T: Item>(
 }
 
 /// Writes items with a text between two of them.
-pub fn push_list<T: PrintedItem, S: Sink>(line: &mut S, items: &[T], between: &str) -> Result<(), NoMemory>
+pub fn push_list<T: PrintedItem, S: Sink>(
+    line: &mut S,
+    items: &[T],
+    between: &str,
+) -> Result<(), NoMemory>
     ensures { OnOk result (S.held line.new ≡ S.held line.old ++ joined T.symbols between.now items.now) }
 {
     let Some((first, others)) = items.split_first() else {

@@ -1,4 +1,5 @@
-//! The command language: from a line to the command that it spells, and from a command to its canonical spelling.
+//! The command language: from a line to the command that it spells, and from a command to its canonical spelling; and from a
+//! line with question marks for values to the statement that it spells.
 //!
 //! It doesn't care which tables there are, nor what a command does to them: a name is a name here.
 //!
@@ -8,6 +9,9 @@
 //! the grammar. No memory is taken but for what the command holds, and none to tell the length of the block behind a
 //! line. The module `printer` writes a command in its one canonical spelling, which `items`, `joins`, `numbers` and
 //! `texts` have the parts of, to anything that takes text (`sink`).
+//!
+//! The module `statements` reads statements, by the productions of `parser` for what commands and statements have in common,
+//! with the items of `slots`, in which a hole may stand for a value.
 #![tactic(auto)]
 
 mod items;

@@ -309,10 +309,7 @@ fn items(alloc: Global, line: &[u8]) -> Result<(Items, &[u8]), ParseRefusal>
 }
 
 // from NAME {join ..} [where ..], and the end of the line
-fn from<C: Item>(
-    alloc: Global,
-    line: &[u8],
-) -> Result<(Text, Vec<Join>, Vec<C>), ParseRefusal>
+fn from<C: Item>(alloc: Global, line: &[u8]) -> Result<(Text, Vec<Join>, Vec<C>), ParseRefusal>
     ensures parts { IfOk result (λ r. IsFrom C.symbols line.now r.0 r.1.items r.2.items) }
     ensures syntax { IsErrOf result ParseRefusal.Syntax → IsOfText line.now → (table : List ℕ) (js : List Join) (cs : List C) → IsFrom C.symbols line.now table js cs → ⊥ }
 {

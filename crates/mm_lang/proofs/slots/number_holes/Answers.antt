@@ -1,4 +1,4 @@
-use Rattle.std.proofs.Common.{◌≡◌, ◌+◌, rules, ℕ, List, map, length, take, arith, sym, ap, ◌∙◌, slice_set}
+use Rattle.std.proofs.Common.{◌≡◌, ◌+◌, rules, ℕ, List, map, length, take, arith, ◌∙◌}
 use Rattle.std.specs.List.{flat_map}
 use Rattle.std.proofs.Math.Seq.{map-set_same}
 use Rattle.plain_statements.specs.StatementSpelling.{numbers_of}
@@ -12,7 +12,7 @@ loop-item-preserved g c =
     let l = c.loop-item in
     let numbers : List ℕ = numbers_of (g.T.SlotItem.slot c.number.new.self) in
     let step : AreFrom l.next numbers × (c.if-number.next ≡ l.next + length numbers) = elim c.if-number.branch [
-      then-number+in_ok-next w ↦ let one : w.in_ok-next.next ≡ l.next + 1 = search rules in
+      | then-number+in_ok-next w ↦ let one : w.in_ok-next.next ≡ l.next + 1 = search rules in
           one-more l.next c.if-number.next numbers c.number.result c.number.ensures.numbers w.if-number.true (w.next-is ∙ one)
       | else-number w ↦ no-more l.next c.if-number.next numbers c.number.result c.number.ensures.numbers w.if-number.false w.next-is
     ] in

@@ -1,6 +1,6 @@
 use Rattle.std.proofs.Common.{◌≡◌, rules, length, map, arith, ap, sym, ◌∙◌, subst, Err}
 use Rattle.std.proofs.lemmas.Result.{err_from_is_err_and}
-use Rattle.mm_lang.specs.Statements.{slot_symbol, slot_by, setting_by, condition_by, CompletesStatement, AreFrom}
+use Rattle.mm_lang.specs.Statements.{slot_symbol, condition_by, CompletesStatement}
 use lib.Chars.{codes}
 use Rattle.plain_statements.specs.declared.statement.Statement.TheVariants as statement
 use Rattle.mm_lang.proofs.Fronts.{same-error}
