@@ -65,8 +65,9 @@ class Order(Files):
             self.check_as_stream(words, stream)
 
     def test_other_words_stand_anywhere(self):
-        for words in (["--policy", "scan", "table", "read"], ["table", "--policy=scan", "read"], ["--", "table", "read"]):
-            self.check_as_stream(words[:-1] if words[0] == "--" else words, TABLE + (b"" if words[0] == "--" else READ))
+        for words in (["--policy", "scan", "table", "read"], ["table", "--policy=scan", "read"]):
+            self.check_as_stream(words, TABLE + READ)
+        self.check(["--", "table"], 0, b"ok\nok 1\n")
 
     def test_standard_input_is_read_where_it_is_named(self):
         out = b"ok\nok 1\nok 1\nerror 41 key exists\nrows 2\nt.id\n1\n9\n"
@@ -165,10 +166,9 @@ class Unreadable(Files):
         self.assertEqual((ended.status, ended.out, ended.err), (1, b"ok\nok 1\n", b"mmdb: read fault\n"))
 
     def test_a_csv_file_past_the_limit(self):
-        text = b"id\n" + b"0" * (MOST - 4) + b"5"
-        self.write("most.csv", text)
-        self.check(["table", "--load", "t=most.csv"], 0, b"ok\nok 1\nok 1\n")
-        self.write("more.csv", text + b"\n")
+        self.write("most.csv", b"x" * MOST)
+        self.check(["table", "--load", "t=most.csv"], 0, b"ok\nok 1\nerror 61 bad header\n")
+        self.write("more.csv", b"x" * (MOST + 1))
         err = f"mmdb: more.csv: it has more than {MOST} bytes, the most that one load takes\n"
         self.check(["table", "--load", "t=more.csv", "read"], 1, b"ok\nok 1\n", err)
 
@@ -184,12 +184,13 @@ class Stops(Files):
     """With --stop the first refusal is the last answer."""
 
     def test_the_line_is_named(self):
-        self.check(["--stop", "table", "bad", "read"], 5, b"ok\nok 1\nok 1\nerror 20 not a command\n", f"mmdb: bad line 2: error 20 not a command: {NO_COMMAND}\n")
+        err = f"mmdb: bad line 2: error 20 not a command: {NO_COMMAND}\n"
+        self.check(["--stop", "table", "bad", "read"], 5, b"ok\nok 1\nok 1\nerror 20 not a command\n", err)
 
     def test_lines_of_standard_input(self):
-        err = "mmdb: line 4: error 20 not a command: {NO_COMMAND}\n"
         for stream in (TABLE + BAD, TABLE + b"insert t (2)\nfoo"):
-            self.check(["--stop"], 5, b"ok\nok 1\nok 1\nerror 20 not a command\n", err.format(NO_COMMAND=NO_COMMAND), stream=stream)
+            err = f"mmdb: line 4: error 20 not a command: {NO_COMMAND}\n"
+            self.check(["--stop"], 5, b"ok\nok 1\nok 1\nerror 20 not a command\n", err, stream=stream)
 
     def test_a_csv_file_is_named(self):
         self.write("again.csv", b"id\n1\n")
@@ -229,7 +230,3 @@ class Reasons(Files):
         told = ["front line 1: error 41 key exists (record 1): t has a row with the key 1", f"back line 3: error 20 not a command: {NO_COMMAND}"]
         ended = self.run_files("--explain", "table", "front", "back")
         self.assertEqual(ended.err.decode().splitlines(), [f"mmdb: {line}" for line in told])
-
-
-if __name__ == "__main__":
-    unittest.main()
