@@ -10,3 +10,4 @@ pub mod Cells
 pub mod Changes
 pub mod Searching
 pub mod Declaring
+pub mod Sorting
