@@ -76,3 +76,13 @@ class TreeShapes(unittest.TestCase):
         [key, declared] = self.check_trees(stream).values()
         self.assertGreater(key[0], 5)
         self.assertGreater(declared[0], 5)
+
+    def test_over_rows_that_are_there(self):
+        """A tree that is declared on a full table has the fewest nodes and levels that there can be."""
+        keys = random.Random(test_model.SEED).sample(range(10_000), 3_000)
+        puts = b"".join(b"insert t (%d, %d, 's%d')\n" % (key, key % 7, key % 50) for key in keys)
+        stream = b"table t (id int, n int, s text)\n" + puts + b"index t n tree\nindex t s tree\n"
+        found = self.check_trees(stream)
+        nodes = -(-len(keys) // MOST)
+        packed = nodes.bit_length(), nodes, len(keys)
+        self.assertEqual((found["t", 1], found["t", 2]), (packed, packed))
