@@ -2,6 +2,7 @@ pub mod AnswerLemmas
 pub mod AskLemmas
 pub mod BesideLemmas
 pub mod DumpLemmas
+pub mod IndexLemmas
 pub mod KeptLemmas
 pub mod LineLemmas
 pub mod ListingLemmas

@@ -1,6 +1,7 @@
 pub mod Answered
 pub mod Buffers
 pub mod Dumps
+pub mod IndexAnswers
 pub mod Judging
 pub mod Kept
 pub mod Listing

@@ -1,6 +1,7 @@
 //! What commands do to the tables of a catalog, and what they answer.
 
 mod blocks;
+mod indexes;
 mod listing;
 mod query;
 mod respond;

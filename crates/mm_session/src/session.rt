@@ -34,6 +34,8 @@ impl Session {
     ghost use Rattle.mm_catalog.specs.Seen.{database_of};
     ghost use Rattle.plain_streams.specs.Division.{IsWhole};
     ghost use Rattle.mm_session.specs.OneRequest.{AnswersOne, StaysInStream, GoesBetween};
+    ghost use Rattle.mm_catalog.specs.State.{CatalogState};
+    ghost use Rattle.mm_session.specs.IndexAnswers.{AnswersIndexes};
     ghost use Rattle.mm_session.specs.Sessions.{Gains, Feeds, Finishes, BreaksOff, new_session};
 
     /// A session with no tables, under the standard limits.
@@ -96,6 +98,13 @@ impl Session {
         ensures run { OnOk result (GoesBetween self.old self.new (record { line = line.now; block = block.now }) answer.new) }
     {
         self.responder.answer_request(line, block, answer)
+    }
+
+    /// Makes the answer how the indexes of the table of a name stand: that of its key, and the declared ones.
+    pub fn tell_indexes(&self, name: &[u8], answer: &mut Answer)
+        ensures { (catalog : CatalogState) × (database_of catalog ≡ self.now.database) × AnswersIndexes catalog name.now answer.new }
+    {
+        self.responder.executor.tell_indexes(name, answer)
     }
 
     /// Takes the next bytes of the stream, and answers each request that ends in them.

@@ -1,6 +1,9 @@
 -- What the calls of C do with a handle, in the words of the session's calls.
 use Rattle.std.specs.Prelude.{◌≡◌, ◌<◌, ◌≤◌, ℕ, List, [], false, IsTrue, Option, Some, None}
 use Rattle.plain_streams.specs.Requests.{Request}
+use Rattle.mm_catalog.specs.Seen.{database_of}
+use Rattle.mm_catalog.specs.State.{CatalogState}
+use Rattle.mm_session.specs.IndexAnswers.{AnswersIndexes}
 use Rattle.mm_session.specs.OneRequest.{AnswersOne, StaysInStream, GoesBetween}
 use Rattle.mm_session.specs.Sessions.{Feeds, BreaksOff, new_session}
 use Rattle.mmdb_c.specs.declared.database.Database.{Database}
@@ -30,6 +33,13 @@ pub record AnswersRequest (asked : Request) (old new : Database) : Type 0 where
   pub answers : AnswersOne old.session.limits old.session.database asked new.answer new.session.database
   pub stays : StaysInStream old.session new.session
   pub between : GoesBetween old.session new.session asked new.answer
+
+-- How the indexes of the table of that name stand is kept as the answer, and nothing else changed.
+pub record TellsIndexes (name : List ℕ) (old new : Database) : Type 0 where
+  pub session : new.session ≡ old.session
+  pub catalog : CatalogState
+  pub tables : database_of catalog ≡ old.session.database
+  pub answer : AnswersIndexes catalog name new.answer
 
 -- The session took the piece, and the answers that it gained are kept.
 pub record TakesPiece (piece : List ℕ) (old new : Database) : Type 0 where

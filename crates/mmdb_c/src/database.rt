@@ -19,7 +19,7 @@ pub struct Database {
 }
 
 impl Database {
-    ghost use Rattle.mmdb_c.specs.Calls.{request, AnswersRequest, TakesPiece, LosesStream, IsAsBefore};
+    ghost use Rattle.mmdb_c.specs.Calls.{request, AnswersRequest, TellsIndexes, TakesPiece, LosesStream, IsAsBefore};
 
     /// A database with no tables, an empty answer and an empty reason.
     pub fn new(alloc: Global, policy: Policy, limits: Limits) -> Result<Database, NoMemory>
@@ -42,6 +42,13 @@ impl Database {
         self.session.answer_request(line, block, &mut self.answer)
     }
 
+    /// Makes the answer how the indexes of the table of a name stand, beside the stream.
+    pub fn tell_indexes(&mut self, name: &[u8])
+        ensures { TellsIndexes name.now self.old self.new }
+    {
+        self.session.tell_indexes(name, &mut self.answer)
+    }
+
     /// Takes the next bytes of the stream, and keeps the answers of the requests that end in them.
     pub fn feed(&mut self, piece: &[u8]) -> Result<(), SessionFault>
         ensures ok { OnOk result (TakesPiece piece.now self.old self.new) }
@@ -55,6 +62,7 @@ impl Database {
         self.answer.clear();
         self.session.feed(piece, &mut self.answer)
     }
+
     /// Keeps the words that say why the request of a line and a block was refused by the refusal that the answers begin with.
     /// There are none where they begin with none, or where that can't be told.
     pub fn find_reason(&mut self, alloc: Global, line: &[u8], block: &[u8]) -> Result<(), NoMemory>

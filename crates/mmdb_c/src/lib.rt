@@ -11,7 +11,7 @@ ghost use Rattle.std.specs.Prelude.{◌≡◌, ◌≢◌, ◌↔◌, ◌<◌, �
 ghost use Rattle.std.specs.Vec.{vec_ptr, vec_len};
 ghost use Rattle.plain_streams.specs.Division.{IsWhole};
 ghost use Rattle.mm_session.specs.Refused.{TellsRefusal};
-ghost use Rattle.mmdb_c.specs.Calls.{AreLimits, new_database, request, Becomes, AnswersRequest, TakesPiece, LosesStream, IsAsBefore};
+ghost use Rattle.mmdb_c.specs.Calls.{AreLimits, new_database, request, Becomes, AnswersRequest, TellsIndexes, TakesPiece, LosesStream, IsAsBefore};
 
 mod database;
 mod handle;
@@ -162,6 +162,29 @@ pub extern "C" fn mmdb_load(
     ensures unchanged { result ≢ DONE → (handle.new.database ≡ handle.old.database) × (answer.new ≡ answer.old) }
 {
     answer_request(alloc, handle, line, block, answer)
+}
+
+/// Tells how the indexes of a table stand, by its name, beside the stream.
+#[unsafe(no_mangle)]
+pub extern "C" fn mmdb_indexes(
+    alloc: Global,
+    handle: &mut Handle,
+    table: &[u8],
+    answer: &mut Bytes,
+) -> u32
+    ensures not_open { (result ≡ NOT_OPEN) ↔ IsNone handle.old.database }
+    ensures open { (result ≡ DONE) ↔ IsSome handle.old.database }
+    ensures done { result ≡ DONE → Becomes handle.old.database handle.new.database (TellsIndexes table.now) }
+    ensures told { result ≡ DONE → IsSomeAnd handle.new.database (λ d. answer.new.length ≡ length d.answer) }
+    ensures unchanged { result ≢ DONE → (handle.new.database ≡ handle.old.database) × (answer.new ≡ answer.old) }
+{
+    let Some(mut database) = handle.take(alloc) else {
+        return NOT_OPEN;
+    };
+    database.tell_indexes(table);
+    tell(database.answer.as_vec(), answer);
+    handle.put(alloc, database);
+    DONE
 }
 
 /// Takes the next bytes of the stream, and keeps the answers of the requests that end in them.

@@ -14,8 +14,8 @@ const LINE_TOO_LONG: &[u8] = b"error 10 line too long\n";
 
 const NOT_UTF8: &[u8] = b"error 11 not UTF-8\n";
 
-// Makes the refusal the answer, which takes no memory.
-fn refuse(answer: &mut Answer, refusal: Refusal)
+/// Makes the refusal the answer, which takes no memory.
+pub fn refuse(answer: &mut Answer, refusal: Refusal)
     ensures { answer.new ≡ refusal_text refusal }
 {
     answer.clear();
