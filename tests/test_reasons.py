@@ -138,6 +138,21 @@ class Library(unittest.TestCase):
         told = [line.split(": ", 1)[1] for line in hand.TOLD]
         self.assertEqual([words.decode() for _, words in self.reasons(hand.STREAM)], told)
 
+    def test_a_piece_of_a_stream(self):
+        """The reason is about the first request in it that has an answer, with the block behind its line."""
+        handle = self.opened()
+        self.assertEqual(self.call(self.mmdb.mmdb_load, handle, b"table t (id int)", b""), (0, b"ok\n"))
+        silent = b"# silent\n \n"
+        for line, block in ((b"selekt 1", b""), (b"load t 5", b"id\nx\n"), (b"insert t ('x')", b"")):
+            self.call(self.mmdb.mmdb_load, handle, line, block)
+            alone = self.call(self.mmdb.mmdb_reason, handle, line, block)
+            self.assertNotEqual(alone, (0, b""))
+            piece = silent + line + b"\n" + block + b"tables\ninsert u (1)\n"
+            self.assertEqual(self.mmdb.mmdb_feed(ctypes.byref(handle), piece, ctypes.c_size_t(len(piece))), 0)
+            for asked in (piece, silent + line + b"\n" + block):
+                self.assertEqual(self.call(self.mmdb.mmdb_reason, handle, asked, b""), alone)
+            self.assertEqual(self.call(self.mmdb.mmdb_reason, handle, line + b"\n", block), alone)
+
     def test_statuses(self):
         closed = ctypes.c_void_p()
         self.assertEqual(self.call(self.mmdb.mmdb_reason, closed, b"foo", b""), (1, b""))

@@ -259,7 +259,7 @@ fn refused_rows(
 // without the rows, and what is wrong with rows is of all of them.
 fn load_whole(alloc: Global, catalog: &Catalog, table: &Text, refused: Refused<'_>) -> Search {
     let Some(table) = table_named(catalog, table) else {
-        return no_table(alloc, table);
+        return no_table(alloc, catalog, table);
     };
     let Refused { block, number } = refused;
     let layout = layout_of(alloc, catalog, &table)?;
@@ -304,7 +304,7 @@ pub fn load(
 /// Why a table is not dumped.
 pub fn dump(alloc: Global, catalog: &Catalog, table: &Text) -> Search {
     let Some(table) = table_named(catalog, table) else {
-        return no_table(alloc, table);
+        return no_table(alloc, catalog, table);
     };
     let (name, most) = (table.name, catalog.limits().block);
     tell(

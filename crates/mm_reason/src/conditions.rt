@@ -3,11 +3,9 @@
 use crate::found::{Search, tell};
 use crate::tables::{Seen, meant, why_no_column};
 use crate::values::why_mistyped_condition;
-use mm_catalog::Catalog;
+use mm_catalog::{Catalog, MOST_CONDITIONS};
 use plain_tables::{Cond, Refusal};
 use std::alloc::Global;
-
-const MOST_CONDITIONS: usize = 8;
 
 /// A condition whose name means no column of these tables.
 pub fn no_column(alloc: Global, tables: &[Seen<'_>], conditions: &[Cond]) -> Search {

@@ -1,24 +1,21 @@
 //! Why tables and indexes are not declared, and not dropped.
 
 use crate::found::{Search, tell};
-use crate::tables::{Seen, referred, table_at, table_named, why_no_column};
-use mm_catalog::Catalog;
+use crate::tables::{Seen, nearest_table, referred, table_at, table_named, why_no_column};
+use mm_catalog::{Catalog, MOST_COLUMNS, MOST_TABLES};
 use no_memory::NoMemory;
 use plain_tables::{Column, IndexKind, Refusal, Schema, TableNumber, Text};
 use std::alloc::Global;
 use std::slice::from_ref;
 
-const MOST_TABLES: usize = 64;
-
-const MOST_COLUMNS: usize = 16;
-
 /// That there is no table of that name.
-pub fn no_table(alloc: Global, name: &Text) -> Search {
+pub fn no_table(alloc: Global, catalog: &Catalog, name: &Text) -> Search {
     let name = name.as_str();
-    tell(
-        Refusal::NoSuchTable,
-        format!(in alloc; "{name} is no table"),
-    )
+    let words = match nearest_table(alloc, catalog, name)? {
+        Some(near) => format!(in alloc; "{name} is no table: is {near} meant?"),
+        None => format!(in alloc; "{name} is no table"),
+    };
+    tell(Refusal::NoSuchTable, words)
 }
 
 // A column that refers to a table which isn't there.
@@ -125,7 +122,7 @@ fn referrer<'a>(table: &Seen<'a>, name: &str) -> Option<&'a Column> {
 /// Why a table is not dropped.
 pub fn drop_table(alloc: Global, catalog: &Catalog, name: &Text) -> Search {
     if catalog.table_number(name).is_none() {
-        return no_table(alloc, name);
+        return no_table(alloc, catalog, name);
     }
     let name = name.as_str();
     for number in 0..catalog.table_count() {
@@ -182,7 +179,7 @@ pub fn index(
     kind: IndexKind,
 ) -> Search {
     let Some(table) = table_named(catalog, table) else {
-        return no_table(alloc, table);
+        return no_table(alloc, catalog, table);
     };
     if table.column(column).is_none() {
         return tell(Refusal::NoSuchColumn, Ok(no_column(alloc, &table, column)?));
@@ -212,7 +209,7 @@ pub fn drop_index(
     kind: IndexKind,
 ) -> Search {
     let Some(table) = table_named(catalog, table) else {
-        return no_table(alloc, table);
+        return no_table(alloc, catalog, table);
     };
     if table.column(column).is_none() {
         return tell(Refusal::NoSuchColumn, Ok(no_column(alloc, &table, column)?));

@@ -1,7 +1,10 @@
 //! The grammar as a table: at each place of a command what may stand there, and which place is behind it.
 
+use crate::nearest::Nearest;
 use crate::tokens::{Kind, Token};
 use mm_lang::is_whole_name;
+use no_memory::NoMemory;
+use std::alloc::Global;
 
 /// What may stand at a place of a command.
 #[derive(Clone, Copy)]
@@ -81,16 +84,11 @@ pub enum State {
 /// A place, what may stand there, and the place behind it.
 pub type Rule = (State, Wanted, State);
 
-/// The words that commands begin with.
-pub const COMMANDS: [&str; 10] = [
-    "table", "drop", "index", "insert", "update", "delete", "select", "load", "dump", "tables",
-];
-
 const A_TABLE: Wanted = Wanted::Name("a table's name");
 
 const A_COLUMN: Wanted = Wanted::Name("a column's name");
 
-/// The grammar. At the first place stand the words of `COMMANDS`.
+/// The grammar. At the first place stand the words that commands begin with.
 pub static RULES: [Rule; 83] = [
     (State::Start, Wanted::Symbol("table"), State::Table),
     (State::Start, Wanted::Symbol("drop"), State::Drop),
@@ -257,6 +255,16 @@ impl Wanted {
         }
     }
 
+    // The keyword that it is, if it is one.
+    fn keyword(&self) -> Option<&'static str> {
+        match self {
+            Wanted::Symbol(symbol) if symbol.bytes().all(|c| c.is_ascii_lowercase()) => {
+                Some(*symbol)
+            }
+            _ => None,
+        }
+    }
+
     /// What is wanted, in words.
     pub fn words(&self) -> &'static str {
         match self {
@@ -270,6 +278,33 @@ impl Wanted {
             Wanted::End => "the end of the line",
         }
     }
+}
+
+/// The keyword that is nearest to a word, of those that may stand at a place.
+pub fn nearest_keyword(
+    alloc: Global,
+    state: State,
+    word: &str,
+) -> Result<Option<&'static str>, NoMemory> {
+    let mut nearest = Nearest::of(word);
+    for rule in RULES.iter().filter(|rule| rule.0 == state) {
+        if let Some(keyword) = rule.1.keyword() {
+            nearest.look_at(alloc, keyword)?;
+        }
+    }
+    Ok(nearest.found())
+}
+
+/// Whether a line may end at a place.
+pub fn may_end(state: State) -> bool {
+    RULES
+        .iter()
+        .any(|rule| rule.0 == state && matches!(rule.1, Wanted::End))
+}
+
+/// Whether a command begins with this word.
+pub fn begins_command(word: &str) -> bool {
+    RULES.iter().any(|rule| rule.0 == State::Start && rule.1.keyword() == Some(word))
 }
 
 /// The place behind a symbol that may stand at a place.

@@ -1,17 +1,11 @@
-//! What is said to those who write as other databases want it, and to those who mistype a command.
+//! What is said to those who write as other databases want it.
 
-use crate::grammar::{COMMANDS, State};
-use no_memory::NoMemory;
-use std::alloc::Global;
-use strsim::osa_distance;
-
-// The most edits that lead from a word to the command that may be meant.
-const MOST_EDITS: usize = 2;
+use crate::grammar::{State, begins_command, may_end};
 
 // Symbols that stand where they may not, or any where none is named; where that is, if it matters; and what is to be known.
 type Hint = (&'static [&'static str], Option<State>, &'static str);
 
-static HINTS: [Hint; 32] = [
+static HINTS: [Hint; 35] = [
     (
         &["create"],
         None,
@@ -30,6 +24,21 @@ static HINTS: [Hint; 32] = [
     (&["truncate"], None, "delete T takes out all rows of T"),
     (&["show", "describe"], None, "tables tells of all tables"),
     (&["quit", "exit"], None, "a session ends with its input"),
+    (
+        &["("],
+        Some(State::IndexColumn),
+        "an index is index T c tree",
+    ),
+    (
+        &[],
+        Some(State::UpdateSet),
+        "an update is update T set c = 1 where id = 1",
+    ),
+    (
+        &[],
+        Some(State::LoadCount),
+        "a load is load T 20, with 20 bytes behind the line",
+    ),
     (
         &[],
         Some(State::InsertList),
@@ -115,38 +124,12 @@ fn is_one_of(symbol: &str, symbols: &[&str]) -> bool {
 
 /// What is to be known where a symbol stands at a place where it may not.
 pub fn hint(state: State, symbol: &str) -> Option<&'static str> {
+    if may_end(state) && begins_command(symbol) {
+        return Some("a line is one command");
+    }
     let found = HINTS.iter().find(|hint| {
         let is_here = hint.1.is_none() || hint.1 == Some(state);
         is_here && (hint.0.is_empty() || is_one_of(symbol, hint.0))
     })?;
     Some(found.2)
-}
-
-// The command of the same letters, capitals or not.
-fn in_capitals(word: &str) -> Option<&'static str> {
-    COMMANDS
-        .iter()
-        .find(|command| command.eq_ignore_ascii_case(word))
-        .copied()
-}
-
-/// The command whose word is the nearest to another, if one is near.
-pub fn nearest(alloc: Global, word: &str) -> Result<Option<&'static str>, NoMemory> {
-    let same = in_capitals(word);
-    if same.is_some() {
-        return Ok(same);
-    }
-    let length = word.chars().count();
-    let mut found = None;
-    let mut most = MOST_EDITS.saturating_add(1);
-    for command in COMMANDS {
-        if command.len().abs_diff(length) < most {
-            let edits = osa_distance(alloc, word, command)?;
-            if edits < most {
-                most = edits;
-                found = Some(command);
-            }
-        }
-    }
-    Ok(found)
 }

@@ -86,7 +86,7 @@ pub fn full(alloc: Global, catalog: &Catalog, table: &Seen<'_>, rows: u64) -> Se
 /// Why a row is not put in.
 pub fn insert(alloc: Global, catalog: &Catalog, table: &Text, values: &[Value]) -> Search {
     let Some(table) = table_named(catalog, table) else {
-        return no_table(alloc, table);
+        return no_table(alloc, catalog, table);
     };
     if let Some(found) = miscounted(alloc, &table, values)? {
         return Ok(Some(found));

@@ -22,6 +22,7 @@ mod found;
 mod grammar;
 mod hints;
 mod inserting;
+mod nearest;
 mod reasons;
 mod referrers;
 mod selecting;

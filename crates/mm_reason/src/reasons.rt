@@ -9,7 +9,7 @@ use crate::syntax::why_no_command;
 use crate::{blocks, declaring, inserting, selecting, updating};
 use mm_catalog::Catalog;
 use mm_lang::{Line, ParseRefusal, parse};
-use mm_session::{Judged, LONGEST_LINE, judge_line};
+use mm_session::{Judged, LONGEST_LINE, judge_line, split_line};
 use no_memory::NoMemory;
 use plain_tables::{Command, Refusal};
 use std::alloc::Global;
@@ -113,22 +113,49 @@ fn not_utf8(alloc: Global, line: &[u8]) -> Search {
     )
 }
 
-// Why a line is refused. One with a line feed in it is none.
-fn of_line(alloc: Global, catalog: &Catalog, line: &[u8], refused: Refused<'_>) -> Search {
-    match judge_line(line) {
-        Some(Judged::TooLong) => tell(
+// The first of the requests in some bytes that has an answer: its line, and what stands behind its line feed, or the block
+// where nothing does. Bytes without a line feed are one line.
+fn first_request<'a>(bytes: &'a [u8], block: &'a [u8]) -> (&'a [u8], &'a [u8]) {
+    let mut rest = bytes;
+    for _ in 0..bytes.len() {
+        let Some((line, behind)) = split_line(rest) else {
+            return (rest, block);
+        };
+        if !matches!(judge_line(line), Some(Judged::Silent)) {
+            return (line, if behind.is_empty() { block } else { behind });
+        }
+        rest = behind;
+    }
+    (rest, block)
+}
+
+// As many of the bytes as a line asks for, or all where there are fewer.
+fn asked_of<'a>(line: &Judged<'_>, bytes: &'a [u8]) -> &'a [u8] {
+    let asked = usize::try_from(line.asked().unwrap_or(0)).unwrap_or(usize::MAX);
+    bytes.get(..asked).unwrap_or(bytes)
+}
+
+// Why a line is refused, with the block that the bytes begin with.
+fn of_line(alloc: Global, catalog: &Catalog, line: &[u8], bytes: &[u8], number: u32) -> Search {
+    let Some(judged) = judge_line(line) else {
+        return Ok(None);
+    };
+    let block = asked_of(&judged, bytes);
+    match judged {
+        Judged::TooLong => tell(
             Refusal::LineTooLong,
             format!(in alloc; "a line has at most {LONGEST_LINE} bytes"),
         ),
-        Some(Judged::NotUtf8) => not_utf8(alloc, line),
-        Some(Judged::Text(text)) => of_text(alloc, catalog, &text, refused),
-        Some(Judged::Silent) | None => Ok(None),
+        Judged::NotUtf8 => not_utf8(alloc, line),
+        Judged::Text(text) => of_text(alloc, catalog, &text, Refused { block, number }),
+        Judged::Silent => Ok(None),
     }
 }
 
 /// Why the request of a line and a block was refused by the refusal of this number, in words, if that can be told. It is
-/// asked of the tables as they were when the request was refused; a line feed is no part of the line. Of a block that came in
-/// part the line is asked with that part, and of one past its limit with none.
+/// asked of the tables as they were when the request was refused. Of a block that came in part the line is asked with that
+/// part, and of one past its limit with none. Where the line has line feeds, as a piece of a stream has, it is asked of the first
+/// request in it that has an answer.
 pub fn reason(
     alloc: Global,
     catalog: &Catalog,
@@ -141,8 +168,8 @@ pub fn reason(
             "no memory was found for it, and all tables are as before"
         )?));
     }
-    let Some(Found { refusal, words }) = of_line(alloc, catalog, line, Refused { block, number })?
-    else {
+    let (line, bytes) = first_request(line, block);
+    let Some(Found { refusal, words }) = of_line(alloc, catalog, line, bytes, number)? else {
         return Ok(None);
     };
     if u32::from(refusal.number()) != number {

@@ -4,15 +4,11 @@ use crate::conditions;
 use crate::declaring::no_table;
 use crate::found::{Search, tell};
 use crate::tables::{Named, Seen, column_meant, meant, table_named, why_no_column};
-use mm_catalog::Catalog;
+use mm_catalog::{Catalog, MOST_ITEMS, MOST_JOINS};
 use no_memory::NoMemory;
 use plain_tables::{BaseKind, ColName, Cond, Items, Join, JoinSide, Refusal, Text};
 use std::alloc::Global;
 use std::slice::from_ref;
-
-const MOST_ITEMS: usize = 16;
-
-const MOST_JOINS: usize = 3;
 
 // The tables of a select so far, each once, and the columns of its joins.
 #[derive(Drop)]
@@ -24,11 +20,11 @@ struct Scope<'a> {
 // The name of a table that isn't there.
 fn missing_table(alloc: Global, catalog: &Catalog, table: &Text, joins: &[Join]) -> Search {
     if catalog.table_number(table).is_none() {
-        return no_table(alloc, table);
+        return no_table(alloc, catalog, table);
     }
     for join in joins {
         if catalog.table_number(&join.table).is_none() {
-            return no_table(alloc, &join.table);
+            return no_table(alloc, catalog, &join.table);
         }
     }
     Ok(None)
@@ -174,7 +170,7 @@ fn repeated_table(alloc: Global, table: &Text, joins: &[Join]) -> Search {
         {
             return tell(
                 Refusal::TableNamedTwice,
-                format!(in alloc; "{name} is named twice, and a table is joined with others alone"),
+                format!(in alloc; "{name} is named twice, and no table is joined with itself"),
             );
         }
     }

@@ -1,7 +1,7 @@
 //! Why a line is no command: where the first symbol stands that may not stand there, and what was wanted.
 
-use crate::grammar::{RULES, State, Wanted, behind};
-use crate::hints::{hint, nearest};
+use crate::grammar::{RULES, State, Wanted, behind, nearest_keyword};
+use crate::hints::hint;
 use crate::shown::Cut;
 use crate::tokens::{Kind, Token, Tokens};
 use mm_lang::{LONGEST_NAME, is_reserved_word};
@@ -90,17 +90,13 @@ fn unwanted(alloc: Global, state: State, token: &Token<'_>) -> Result<String, No
 
 // Why the first word is no command.
 fn no_command(alloc: Global, token: &Token<'_>) -> Result<String, NoMemory> {
+    let is_known = hint(State::Start, token.text).is_some()
+        || nearest_keyword(alloc, State::Start, token.text)?.is_some();
+    if !is_known {
+        return unwanted(alloc, State::Start, token);
+    }
     let text = Cut(token.text);
-    if hint(State::Start, token.text).is_some() {
-        return Ok(format!(in alloc; "{text} is no command")?);
-    }
-    match nearest(alloc, token.text)? {
-        Some(command) if command.eq_ignore_ascii_case(token.text) => Ok(format!(in alloc;
-            "{text} is no command, and {command} is: words are case-sensitive"
-        )?),
-        Some(command) => Ok(format!(in alloc; "{text} is no command: is {command} meant?")?),
-        None => unwanted(alloc, State::Start, token),
-    }
+    Ok(format!(in alloc; "{text} is no command")?)
 }
 
 // Why a symbol may not stand at a place, without what other databases have to do with it.
@@ -128,6 +124,20 @@ fn hint_of(state: State, before: &Token<'_>, token: &Token<'_>) -> Option<&'stat
     hint(state, token.text)
 }
 
+// The keyword that may be meant by a word at a place, in words.
+fn meant(alloc: Global, state: State, token: &Token<'_>) -> Result<Option<String>, NoMemory> {
+    if token.kind != Kind::Word {
+        return Ok(None);
+    }
+    let Some(keyword) = nearest_keyword(alloc, state, token.text)? else {
+        return Ok(None);
+    };
+    if keyword.eq_ignore_ascii_case(token.text) {
+        return Ok(Some(format!(in alloc; "{keyword} is written in small letters")?));
+    }
+    Ok(Some(format!(in alloc; "is {keyword} meant?")?))
+}
+
 // Why a symbol may not stand at a place, in whole.
 fn refused(
     alloc: Global,
@@ -137,8 +147,11 @@ fn refused(
 ) -> Result<String, NoMemory> {
     let column = token.column;
     let words = told(alloc, state, token)?;
-    match hint_of(state, before, token) {
-        Some(hint) => Ok(format!(in alloc; "column {column}: {words}: {hint}")?),
+    if let Some(hint) = hint_of(state, before, token) {
+        return Ok(format!(in alloc; "column {column}: {words}: {hint}")?);
+    }
+    match meant(alloc, state, token)? {
+        Some(meant) => Ok(format!(in alloc; "column {column}: {words}: {meant}")?),
         None => Ok(format!(in alloc; "column {column}: {words}")?),
     }
 }

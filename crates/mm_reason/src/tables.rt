@@ -1,11 +1,13 @@
 //! The tables and columns that a command names.
 
+use crate::nearest::Nearest;
 use mm_catalog::Catalog;
 use mm_catalog::laws::a_catalog_is_consistent;
 use mm_relation::{Relation, Relations};
 use no_memory::NoMemory;
 use plain_tables::{ColKind, ColName, Column, TableNumber, Text};
 use std::alloc::Global;
+use std::slice::from_ref;
 
 /// A table that is there.
 #[derive(Clone, Copy)]
@@ -125,13 +127,56 @@ fn having<'a>(
     Ok(having)
 }
 
-/// Why a bare name means no column of these tables.
+/// The name of a table that is near to a word, if one is.
+pub fn nearest_table<'a>(
+    alloc: Global,
+    catalog: &'a Catalog,
+    word: &str,
+) -> Result<Option<&'a str>, NoMemory> {
+    let mut nearest = Nearest::of(word);
+    for number in 0..catalog.table_count() {
+        if let Some(table) = table_at(catalog, TableNumber(number)) {
+            nearest.look_at(alloc, table.name)?;
+        }
+    }
+    Ok(nearest.found())
+}
+
+// The name of a column of these tables that is near to a word, if one is.
+fn nearest_column<'a>(
+    alloc: Global,
+    tables: &[Seen<'a>],
+    word: &str,
+) -> Result<Option<&'a str>, NoMemory> {
+    let mut nearest = Nearest::of(word);
+    for table in tables {
+        for column in table.columns {
+            nearest.look_at(alloc, column.name.as_str())?;
+        }
+    }
+    Ok(nearest.found())
+}
+
+// That none of these tables has a column of that name.
+fn missing_everywhere(
+    alloc: Global,
+    tables: &[Seen<'_>],
+    column: &str,
+) -> Result<String, NoMemory> {
+    let names = names(alloc, tables, " or ")?;
+    let words = match nearest_column(alloc, tables, column)? {
+        Some(near) => format!(in alloc; "{column} is no column of {names}: is {near} meant?")?,
+        None => format!(in alloc; "{column} is no column of {names}")?,
+    };
+    Ok(words)
+}
+
+// Why a bare name means no column of these tables.
 fn why_no_bare(alloc: Global, tables: &[Seen<'_>], column: &Text) -> Result<String, NoMemory> {
     let having = having(alloc, tables, column)?;
     let column = column.as_str();
     if having.is_empty() {
-        let names = names(alloc, tables, " or ")?;
-        return Ok(format!(in alloc; "{column} is no column of {names}")?);
+        return missing_everywhere(alloc, tables, column);
     }
     let names = names(alloc, &having, " and of ")?;
     Ok(format!(in alloc; "{column} is a column of {names}: name its table before it")?)
@@ -147,9 +192,9 @@ pub fn why_no_column(
     let Some(table) = table else {
         return why_no_bare(alloc, tables, column);
     };
-    let (table, column) = (table.as_str(), column.as_str());
-    if tables.iter().any(|seen| seen.name == table) {
-        return Ok(format!(in alloc; "{column} is no column of {table}")?);
+    if let Some(seen) = tables.iter().find(|seen| seen.name == table.as_str()) {
+        return missing_everywhere(alloc, from_ref(seen), column.as_str());
     }
+    let (table, column) = (table.as_str(), column.as_str());
     Ok(format!(in alloc; "{table} of {table}.{column} is no table of this command")?)
 }

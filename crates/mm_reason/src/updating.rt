@@ -81,7 +81,7 @@ fn sets_key(alloc: Global, table: &Seen<'_>, settings: &[Setting]) -> Search {
     }
     tell(
         Refusal::KeyCannotBeSet,
-        format!(in alloc; "{key} is the key of {name}"),
+        format!(in alloc; "{key} is the key of {name}, and no key is set"),
     )
 }
 
@@ -129,7 +129,7 @@ pub fn update(
     conditions: &[Cond],
 ) -> Search {
     let Some(table) = table_named(catalog, table) else {
-        return no_table(alloc, table);
+        return no_table(alloc, catalog, table);
     };
     if let Some(found) = misnamed(alloc, catalog, &table, settings, conditions)? {
         return Ok(Some(found));
@@ -149,7 +149,7 @@ pub fn update(
 /// Why rows are not taken out, as far as it is seen without them.
 pub fn delete(alloc: Global, catalog: &Catalog, table: &Text, conditions: &[Cond]) -> Search {
     let Some(table) = table_named(catalog, table) else {
-        return no_table(alloc, table);
+        return no_table(alloc, catalog, table);
     };
     if let Some(found) = conditions::no_column(alloc, from_ref(&table), conditions)? {
         return Ok(Some(found));
