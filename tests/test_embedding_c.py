@@ -13,7 +13,7 @@ import refusing
 
 EXAMPLES = harness.ROOT / "examples" / "c"
 PAGE = harness.ROOT / "docs" / "c.md"
-EXPORTS = {"mmdb_open", "mmdb_command", "mmdb_load", "mmdb_feed", "mmdb_answer", "mmdb_refusal", "mmdb_reason", "mmdb_close"}
+EXPORTS = {"mmdb_open", "mmdb_command", "mmdb_load", "mmdb_feed", "mmdb_indexes", "mmdb_answer", "mmdb_refusal", "mmdb_reason", "mmdb_close"}
 ROOM = compiling.Room()
 
 

@@ -100,13 +100,14 @@ def _schema(shell: Shell, name: str = "") -> None:
     shell.say("".join(f"{line}\n" for table in tables for line in table.lines))
 
 
-@_dotted(".indexes", "lists the indexes of each table")
-def _indexes(shell: Shell) -> None:
+@_dotted(".indexes [TABLE]", "shows how the indexes of each table, or of one, stand")
+def _indexes(shell: Shell, name: str = "") -> None:
     rows: List[List[mmdb.Value]] = []
-    for table in tables_of(shell.db).values():
-        rows.append([table.name, table.key.name, "tree", "with the table"])
-        rows.extend([table.name, column, kind, "by index"] for column, kind in table.indexes)
-    shell.show(("table", "column", "kind", "declared"), rows)
+    for table in [table_of(shell.db, name)] if name else tables_of(shell.db).values():
+        for place, index in enumerate(shell.db.indexes(table.name)):
+            declared = "by index" if place else "with the table"
+            rows.append([table.name, index.column, index.kind, declared, *index[2:]])
+    shell.show(("table", "column", "kind", "declared", *mmdb.Index._fields[2:]), rows)
 
 
 @_dotted(".load TABLE FILE", "puts in the rows of a CSV file, all or none")

@@ -26,6 +26,7 @@ from .errors import (
     Refused,
     Warning,  # pylint: disable=redefined-builtin
 )
+from .indexes import Index
 from .rows import Row, Rows
 from .values import Value
 
@@ -40,6 +41,7 @@ __all__ = [
     "Database",
     "DatabaseError",
     "Error",
+    "Index",
     "IntegrityError",
     "InterfaceError",
     "InternalError",

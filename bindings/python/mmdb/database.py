@@ -3,9 +3,10 @@
 from __future__ import annotations
 
 import threading
-from typing import Any, Iterable, Mapping, Optional, Sequence, Tuple, Union
+from typing import Any, Iterable, List, Mapping, Optional, Sequence, Tuple, Union
 
-from .errors import WrongType, WrongUse, WrongValue
+from .errors import WrongType, WrongUse, WrongValue, refusal_of
+from .indexes import Index, indexes_of
 from .library import Handle
 from .lines import bound, check_kind, check_line, has_place
 from .reading import Reader
@@ -169,6 +170,19 @@ class Database:
             if answer.startswith(b"error "):
                 raise self._handle.refusal(answer, line)
             return self._reader.dumped(answer.decode())
+
+    def indexes(self, table: str) -> List[Index]:
+        """How the indexes of a table stand: that of its key, and then the declared ones in their order.
+
+        Raises `Refused` where there is no such table; its line is the name.
+        """
+        name = encoded(table)
+        with self._lock:
+            answer = self._handle.indexes(name)
+            if answer.startswith(b"error "):
+                # (a dump is refused for the same reason)
+                raise refusal_of(answer, name, self._handle.reason(b"dump " + name, b""))
+            return indexes_of(answer.decode())
 
     def answer(self, line: Union[str, bytes], block: Optional[bytes] = None) -> bytes:
         """The bytes that the library answers to a line, refusals too. They are empty for comments and blank lines.

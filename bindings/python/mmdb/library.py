@@ -80,6 +80,7 @@ _LIBRARY = _loaded()
 _OPEN = _call(_LIBRARY, "mmdb_open", _NUMBER, _ADDRESS, _NUMBER, _NUMBER, _NUMBER)
 _COMMAND = _call(_LIBRARY, "mmdb_command", _NUMBER, _ADDRESS, _ADDRESS, _SIZE, _ADDRESS)
 _LOAD = _call(_LIBRARY, "mmdb_load", _NUMBER, _ADDRESS, _ADDRESS, _SIZE, _ADDRESS, _SIZE, _ADDRESS)
+_INDEXES = _call(_LIBRARY, "mmdb_indexes", _NUMBER, _ADDRESS, _ADDRESS, _SIZE, _ADDRESS)
 _REASON = _call(_LIBRARY, "mmdb_reason", _NUMBER, _ADDRESS, _ADDRESS, _SIZE, _ADDRESS, _SIZE, _ADDRESS)
 _CLOSE = _call(_LIBRARY, "mmdb_close", None, _ADDRESS)
 
@@ -123,6 +124,14 @@ class Handle:
     def load(self, line: bytes, block: bytes) -> bytes:
         """What is answered to a line with its block."""
         status = _LOAD(self._at, line, len(line), block, len(block), self._told_at)
+        if status:
+            return self._answered(status)
+        answer: bytes = self._characters[: self._told.length]
+        return answer
+
+    def indexes(self, table: bytes) -> bytes:
+        """What is answered to who asks how the indexes of a table stand."""
+        status = _INDEXES(self._at, table, len(table), self._told_at)
         if status:
             return self._answered(status)
         answer: bytes = self._characters[: self._told.length]

@@ -5,6 +5,7 @@ use std::sync::Arc;
 
 use crate::columns::block_of;
 use crate::error::{Error, Result};
+use crate::index::{indexes_of, Index};
 use crate::known::Known;
 use crate::library::Handle;
 use crate::limits::{Limits, Policy};
@@ -180,6 +181,23 @@ impl Database {
             self.put_nulls(table, &shape, &mut rows, place)?;
         }
         Ok(rows)
+    }
+
+    /// How the indexes of a table stand: that of its key, and then the declared ones in their order.
+    ///
+    /// ```
+    /// let mut db = mmdb::Database::open_in_memory()?;
+    /// db.execute("table t (id int, s text)", [])?;
+    /// db.execute("index t s hash", [])?;
+    /// db.execute("insert t (1, 'a')", [])?;
+    ///
+    /// let [key, declared] = &db.indexes("t")?[..] else { unreachable!() };
+    /// assert!(matches!(key.shape, mmdb::IndexShape::Tree { height: 1, nodes: 1, .. }));
+    /// assert!(matches!(declared.shape, mmdb::IndexShape::Hash { buckets: 4, longest: 1, .. }));
+    /// # Ok::<(), mmdb::Error>(())
+    /// ```
+    pub fn indexes(&mut self, table: &str) -> Result<Vec<Index>> {
+        self.session.indexes(table).map(indexes_of)
     }
 
     /// The bytes that the library answers to a line, refusals too. They are none for comments and blank lines.

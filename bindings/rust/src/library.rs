@@ -42,6 +42,7 @@ extern "C" {
         block_length: usize,
         answer: *mut Told,
     ) -> u32;
+    fn mmdb_indexes(db: *mut Inside, table: *const u8, length: usize, answer: *mut Told) -> u32;
     fn mmdb_reason(
         db: *mut Inside,
         line: *const u8,
@@ -100,6 +101,13 @@ impl Handle {
         let (db, told) = (&mut self.inside, &mut self.told);
         // SAFETY: as of `command`.
         answered(unsafe { mmdb_load(db, line.as_ptr(), line.len(), block.as_ptr(), block.len(), told) })
+    }
+
+    /// Has it told how the indexes of a table stand.
+    pub(crate) fn indexes(&mut self, table: &[u8]) -> Result<(), Error> {
+        self.told = Told::NOTHING;
+        // SAFETY: as of `command`.
+        answered(unsafe { mmdb_indexes(&mut self.inside, table.as_ptr(), table.len(), &mut self.told) })
     }
 
     /// Why the line was refused that was just answered, with its block. There is none of another answer, and none where

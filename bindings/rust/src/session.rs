@@ -32,6 +32,14 @@ impl Session {
         accepted(&mut self.handle, line, block)
     }
 
+    /// What is told of the indexes of a table, where it is there.
+    pub(crate) fn indexes(&mut self, table: &str) -> Result<&str> {
+        self.handle.indexes(table.as_bytes())?;
+        // A dump is refused for the same reason.
+        let dump = format!("dump {table}");
+        accepted_of(&mut self.handle, table, &dump, &[])
+    }
+
     pub(crate) fn handle(&mut self) -> &mut Handle {
         &mut self.handle
     }
@@ -39,12 +47,17 @@ impl Session {
 
 /// The answer just given to a line with its block, where it is no refusal.
 fn accepted<'a>(handle: &'a mut Handle, line: &str, block: &[u8]) -> Result<&'a str> {
+    accepted_of(handle, line, line, block)
+}
+
+/// The same, where the reason is that of a line of its own.
+fn accepted_of<'a>(handle: &'a mut Handle, line: &str, asked: &str, block: &[u8]) -> Result<&'a str> {
     if let Some((number, text)) = refusal_in(handle.answer()) {
         return Err(Error::Refused {
             number,
             text,
             line: line.to_string(),
-            reason: handle.reason(line.as_bytes(), block),
+            reason: handle.reason(asked.as_bytes(), block),
         });
     }
     Ok(std::str::from_utf8(handle.answer()).expect("an answer is UTF-8"))
