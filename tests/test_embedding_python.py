@@ -133,6 +133,20 @@ class Calls(binding.WithDatabase):
         self.assertEqual(self.db.execute("select s, id from t").names, ("t.s", "t.id"))
         self.assertEqual(self.db.dump("t").names, ("id", "s"))
 
+    def test_how_indexes_stand(self):
+        with mmdb.Database() as db:
+            db.execute("table t (id int, n int)")
+            empty = mmdb.Index("id", "tree", 0, 0, 0, 0, None, None)
+            self.assertEqual(db.indexes("t"), [empty])
+            for line in ("index t n hash", "index t n tree"):
+                db.execute(line)
+            db.load("t", ([number, 7] for number in range(1000)))
+            key, hashed, declared = db.indexes("t")
+            self.assertEqual([index[:3] for index in (key, hashed, declared)], [("id", "tree", 1000), ("n", "hash", 1000), ("n", "tree", 1000)])
+            self.assertEqual(hashed[3:], (None, None, None, 500, 1000))
+            for tree in (key, declared):
+                self.assertTrue(1000 // 32 < tree.nodes < 2**tree.height and tree.fill == 1000 // tree.nodes and tree[6:] == (None, None))
+
     def test_refusals(self):
         self.db.execute("table t (id int)")
         self.db.execute("insert t (1)")
@@ -301,6 +315,7 @@ class Reasons(binding.WithDatabase):
             (30, nowhere, self.db.load, "emp", []),
             (30, nowhere, self.db.load_dicts, "emp", []),
             (30, nowhere, self.db.dump, "emp"),
+            (30, nowhere, self.db.indexes, "emp"),
         ):
             self.db.execute("delete dept where id = 30")
             with self.subTest(call=call.__name__, number=number):

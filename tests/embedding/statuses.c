@@ -73,6 +73,10 @@ static void a_closed_handle_is_told(mmdb *db)
     GIVES(mmdb_reason(db, TABLE, 5, NULL, 0, &answer), MMDB_NOT_OPEN);
     CHECK(reads(answer, ""));
     GIVES(mmdb_reason(db, NULL, 0, NULL, 1, NULL), MMDB_NOT_OPEN);
+    answer = another();
+    GIVES(mmdb_indexes(db, "t", 1, &answer), MMDB_NOT_OPEN);
+    CHECK(reads(answer, ""));
+    GIVES(mmdb_indexes(db, NULL, 1, NULL), MMDB_NOT_OPEN);
     mmdb_close(db);
 }
 
@@ -217,6 +221,51 @@ static void reason_gives_each_status(mmdb *db)
     CHECK(reads(reason, ""));
 }
 
+static void indexes_give_each_status(mmdb *db)
+{
+    mmdb_bytes answer;
+    static const char heading[] = "column,kind,rows,height,nodes,fill,buckets,longest\n";
+    char expected[200];
+    GIVES(command(db, "table indexed (id int, s text)", NULL), MMDB_DONE);
+    GIVES(command(db, "index indexed s hash", NULL), MMDB_DONE);
+    GIVES(mmdb_indexes(db, "indexed", 7, &answer), MMDB_DONE);
+    snprintf(expected, sizeof expected, "rows 2\n%sid,tree,0,0,0,0,,\ns,hash,0,,,,4,0\n", heading);
+    CHECK(reads(answer, expected));
+    GIVES(mmdb_answer(db, &answer), MMDB_DONE);
+    CHECK(reads(answer, expected));
+    GIVES(mmdb_refusal(db), 0);
+    GIVES(mmdb_indexes(db, "indexed", 7, NULL), MMDB_DONE);
+    GIVES(mmdb_indexes(db, "indexed\n", 8, &answer), MMDB_DONE);
+    CHECK(reads(answer, "error 30 no such table\n"));
+    GIVES(mmdb_refusal(db), 30);
+    GIVES(mmdb_reason(db, "dump indexe", 11, NULL, 0, &answer), MMDB_DONE);
+    CHECK(reads(answer, "indexe is no table: is indexed meant?"));
+    GIVES(mmdb_indexes(db, "\377", 1, &answer), MMDB_DONE);
+    CHECK(reads(answer, "error 11 not UTF-8\n"));
+    GIVES(mmdb_indexes(db, NULL, 0, &answer), MMDB_DONE);
+    CHECK(reads(answer, "error 30 no such table\n"));
+    answer = another();
+    GIVES(mmdb_indexes(db, NULL, 1, &answer), MMDB_NO_LINE);
+    CHECK(reads(answer, ""));
+    GIVES(command(db, "drop table indexed", NULL), MMDB_DONE);
+}
+
+static void indexes_want_memory_for_their_answer(void)
+{
+    mmdb db = MMDB_CLOSED;
+    mmdb_bytes answer;
+    GIVES(mmdb_open(&db, MMDB_AUTO, MMDB_MOST, MMDB_MOST), MMDB_DONE);
+    GIVES(command(&db, "table t (id int)", NULL), MMDB_DONE);
+    allocations_refuse(0, 1);
+    GIVES(mmdb_indexes(&db, "t", 1, &answer), MMDB_DONE);
+    CHECK(reads(answer, "error 90 no memory\n"));
+    CHECK(allocations_refused() == 1);
+    allocations_refuse(0, 0);
+    GIVES(mmdb_indexes(&db, "t", 1, &answer), MMDB_DONE);
+    CHECK(reads(answer, "rows 1\ncolumn,kind,rows,height,nodes,fill,buckets,longest\nid,tree,0,0,0,0,,\n"));
+    mmdb_close(&db);
+}
+
 static void each_status_has_words_of_its_own(void)
 {
     for (uint32_t one = MMDB_DONE; one <= MMDB_ENDED + 1; one++)
@@ -239,6 +288,8 @@ int main(void)
     a_stream_ends_where_its_answers_find_no_room(&db);
     answers_and_refusals_are_those_of_the_last_call(&db);
     reason_gives_each_status(&db);
+    indexes_give_each_status(&db);
+    indexes_want_memory_for_their_answer();
     mmdb_close(&db);
     a_closed_handle_is_told(&db);
     each_status_has_words_of_its_own();

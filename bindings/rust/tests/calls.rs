@@ -5,7 +5,7 @@ mod common;
 use std::error::Error as _;
 
 use common::{number, open, row, selected, with_rows, with_table};
-use mmdb::{Database, Error, OptionalExtension, Outcome, Row};
+use mmdb::{Database, Error, IndexShape, OptionalExtension, Outcome, Row};
 
 #[test]
 fn outcomes_of_commands() {
@@ -27,6 +27,22 @@ fn outcomes_of_commands() {
     ] {
         assert_eq!(db.command(line, []), Ok(outcome), "{line}");
     }
+}
+
+#[test]
+fn how_indexes_stand() {
+    let mut db = open();
+    db.execute("table t (id int, n int)", []).unwrap();
+    db.execute("index t n hash", []).unwrap();
+    db.load("t", (0..100).map(|id| (id, 7))).unwrap();
+    let indexes = db.indexes("t").unwrap();
+    let told: Vec<_> = indexes.iter().map(|index| (&*index.column, index.rows)).collect();
+    assert_eq!(told, [("id", 100), ("n", 100)]);
+    assert!(matches!(indexes[0].shape, IndexShape::Tree { height: 2.., nodes: 4.., fill: 1..=32, .. }));
+    assert!(matches!(indexes[1].shape, IndexShape::Hash { buckets: 50, longest: 100, .. }));
+    let refused = db.indexes("u").unwrap_err();
+    let told = (refused.number(), refused.line(), refused.reason());
+    assert_eq!(told, (Some(30), Some("u"), Some("u is no table")));
 }
 
 #[test]
