@@ -109,35 +109,50 @@ pub fn all_words(rt: &HostRuntime) -> Result<Vec<String>, Error> {
     }
 }
 
-// The values of an argument, each with its place among the words.
-fn placed<'a>(matches: &ArgMatches<'a>, argument: &str) -> impl Iterator<Item = (usize, &'a str)> {
-    let places = matches.indices_of(argument).unwrap_or(&[]);
-    let values = matches.get_strs(argument).unwrap_or(&[]);
-    places.iter().copied().zip(values.iter().copied())
+// A source, and its place among the words.
+type Placed<'a> = (usize, Origin<'a>);
+
+// Puts the files among the sources.
+fn push_files<'a>(sources: &mut Vec<Placed<'a>>, matches: &ArgMatches<'a>) -> Result<(), Error> {
+    let places = matches.indices_of(FILES).unwrap_or(&[]);
+    let words = matches.get_strs(FILES).unwrap_or(&[]);
+    for (place, word) in places.iter().zip(words.iter()) {
+        sources.push((*place, Origin::of_word(*word)))?;
+    }
+    Ok(())
+}
+
+// Puts the loads among the sources.
+fn push_loads<'a>(
+    rt: &HostRuntime,
+    sources: &mut Vec<Placed<'a>>,
+    matches: &ArgMatches<'a>,
+) -> Result<(), Error> {
+    let places = matches.indices_of(LOAD).unwrap_or(&[]);
+    let words = matches.get_strs(LOAD).unwrap_or(&[]);
+    for (place, word) in places.iter().zip(words.iter()) {
+        let Some(origin) = Origin::of_load(*word) else {
+            return Err(fault_of(rt, "--load takes TABLE=FILE, with the name of a table"));
+        };
+        sources.push((*place, origin))?;
+    }
+    Ok(())
 }
 
 // What is to be read: files and loads as they stand among the words, or standard input where there are none.
 fn origins<'a>(rt: &HostRuntime, matches: &ArgMatches<'a>) -> Result<Vec<Origin<'a>>, Error> {
-    let mut named = Vec::new(rt.alloc());
-    for (place, word) in placed(matches, FILES) {
-        named.push((place, Origin::of_word(word)))?;
+    let mut sources = Vec::new(rt.alloc());
+    push_files(&mut sources, matches)?;
+    push_loads(rt, &mut sources, matches)?;
+    if sources.is_empty() {
+        sources.push((0, Origin::Input))?;
     }
-    for (place, word) in placed(matches, LOAD) {
-        let Some(origin) = Origin::of_load(word) else {
-            return Err(fault_of(rt, "--load takes TABLE=FILE, with the name of a table"));
-        };
-        named.push((place, origin))?;
+    sources.sort_by_key(|source| source.0)?;
+    let mut origins = Vec::with_capacity(rt.alloc(), sources.len())?;
+    for (_, origin) in &sources {
+        origins.push(*origin)?;
     }
-    if named.is_empty() {
-        named.push((0, Origin::Input))?;
-    }
-    named.sort_by_key(|(place, _)| *place)?;
-    Ok(
-        named
-            .into_iter()
-            .map(|(_, origin)| origin)
-            .collect(rt.alloc())?,
-    )
+    Ok(origins)
 }
 
 /// What the words ask for. An error is a wrong word, a wish for help or the version, or want of memory.
