@@ -12,6 +12,7 @@ import library
 
 PROGRAM, LIBRARY, SHELL = (harness.ROOT / "docs" / "man" / name for name in ("mmdb.1", "mmdb.3", "mmdb-shell.1"))
 LANGUAGE = (harness.ROOT / "docs" / "language.md").read_text()
+RUNNING = (harness.ROOT / "docs" / "running.md").read_text()
 HEADER = (harness.ROOT / "include" / "mmdb.h").read_text()
 ESCAPES = {r"\(dq": '"', r"\(aq": "'", r"\-": "-", r"\e": "\\"}
 ROOM = compiling.Room()
@@ -52,6 +53,13 @@ class Contents(unittest.TestCase):
         refusals = re.findall(r"^\| (\d\d) \| `([^`]*)` \|", LANGUAGE, re.MULTILINE)
         self.assertGreater(len(refusals), 20)
         self.assertEqual(re.findall(r"^(\d\d)\t(.*)$", PROGRAM.read_text().replace(r"\-", "-"), re.MULTILINE), refusals)
+
+    def test_each_word_of_the_program_is_told(self):
+        words = set(re.findall(r"^ +(?:-\w, )?--(\w+)", harness.run_whole(b"", ["--help"]).out.decode(), re.MULTILINE))
+        self.assertGreater(len(words), 5)
+        options = re.search(r"^\.SH OPTIONS$(.*?)^\.SH", PROGRAM.read_text(), re.MULTILINE | re.DOTALL)[1]
+        self.assertEqual(set(re.findall(r"\\-\\-(\w+)", options)), words)
+        self.assertEqual(set(re.findall(r"^\| `--(\w+)", RUNNING, re.MULTILINE)), words)
 
     def test_each_status_of_the_library_is_told(self):
         statuses = re.findall(r"MMDB_\w+(?= = )", re.search(r"typedef enum mmdb_status \{(.*?)\}", HEADER, re.DOTALL)[1])
