@@ -1,5 +1,5 @@
 -- How a stream that is watched is fed, piece by piece.
-use Rattle.std.proofs.Common.{◌≡◌, ℕ, List, [], ◌∷◌, ◌++◌, length, arith, ◌∙◌, Option, Result, Ok, Err, OnOk, OnErr, IfOk, true, false, refl, sym, ap, subst, append_assoc, append-nil}
+use Rattle.std.proofs.Common.{◌≡◌, ℕ, List, [], ◌∷◌, ◌++◌, length, arith, ◌∙◌, Option, Result, Ok, Err, OnOk, OnErr, IfOk, true, false, inl, inr, refl, sym, ap, subst, append_assoc, append-nil}
 use Rattle.std.specs.Io.KnownBytes.{Appends, Keeps}
 use Rattle.plain_tables.specs.declared.command.TheConstants.Limits.{STANDARD}
 use Rattle.plain_streams.specs.Runs.{RunOf}
@@ -80,7 +80,7 @@ Done-breaks first last more old mid piece rest front others done parts (sent, we
 
 pub finished_anyhow : (ending : Ending) (stream answers : List ℕ) → IsAnsweredAll stream answers → IsAnswered ending stream answers
 finished_anyhow Whole stream answers all = all
-finished_anyhow Stopped stream answers (after, run) = (true, stream, [], sym (append-nil stream), (after, run))
+finished_anyhow Stopped stream answers all = inr all
 
 pub Gains-ending : (is this : Ending) (a b : Option (List ℕ)) (old new : State) (piece : List ℕ) → is ≡ this
     → Gains a b (FeedsUpTo is old new piece) → Gains a b (FeedsUpTo this old new piece)
@@ -89,8 +89,7 @@ Gains-ending is this a b old new piece same gains = subst (λ e. Gains a b (Feed
 -- the stream was stopped behind a front of the piece
 pub stopped_at : (old new : State) (stream gained piece front behind answer : List ℕ) → old.limits ≡ STANDARD → StandsIn old [] stream gained
     → piece ≡ front ++ behind → Feeds old new front answer → IsAnsweredUpTo (stream ++ piece) (gained ++ answer)
-stopped_at old new stream gained piece front behind answer limits stands parts feeds = (
-  false,
+stopped_at old new stream gained piece front behind answer limits stands parts feeds = inl (
   stream ++ front,
   behind,
   ap (λ p. stream ++ p) parts ∙ sym (append_assoc stream front behind),

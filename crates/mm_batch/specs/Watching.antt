@@ -1,18 +1,14 @@
 -- What a stream is answered that is watched.
-use Rattle.std.specs.Prelude.{◌≡◌, ℕ, List, [], ◌++◌, Bool}
-use Rattle.plain_tables.specs.Databases.{Database}
-use Rattle.plain_tables.specs.declared.command.TheConstants.Limits.{STANDARD}
-use Rattle.plain_streams.specs.Runs.{RunOf}
+use Rattle.std.specs.Prelude.{◌≡◌, ℕ, List, ◌++◌, ◌⊎◌}
 use Rattle.mm_session.specs.Sessions.{State, Feeds}
-use Rattle.mm_session.specs.WholeRuns.{IsAnsweredAll}
+use Rattle.mm_session.specs.WholeRuns.{IsAnsweredAll, IsAnsweredSoFar}
 use Rattle.mm_batch.specs.declared.watched.Ending.{Ending}
 use Rattle.mm_batch.specs.declared.watched.Ending.TheVariants.{Whole, Stopped}
 
--- From no tables, these are the answers of a front of the stream, finished or not.
+-- From no tables, these are the answers of the whole requests of a front of the stream, or of the finished stream.
 abbrev pub IsAnsweredUpTo : List ℕ → List ℕ → Type 0
 IsAnsweredUpTo stream answers =
-    (finished : Bool) × (front : List ℕ) × (behind : List ℕ) × (stream ≡ front ++ behind)
-    × ((after : Database) × RunOf STANDARD [] front finished answers after)
+    ((front : List ℕ) × (behind : List ℕ) × (stream ≡ front ++ behind) × IsAnsweredSoFar front answers) ⊎ IsAnsweredAll stream answers
 
 -- These are the answers of a stream that ended so.
 abbrev pub IsAnswered : Ending → List ℕ → List ℕ → Type 0
