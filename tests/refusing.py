@@ -3,6 +3,7 @@
 import bisect
 import os
 import subprocess
+import tempfile
 
 import preloading
 from harness import SECONDS, Ended
@@ -21,13 +22,23 @@ class Refuser:
 
     def run(self, command, stream, nth):
         """Runs a command with its nth call for memory refused. Gives how it ended, and whether it made that call."""
+        return self.refused(command, nth, input=stream)
+
+    def run_over_file(self, command, stream, nth):
+        """The same over a file, which is read in the same pieces each time, so that the calls are the same too."""
+        with tempfile.TemporaryFile() as file:
+            file.write(stream)
+            file.seek(0)
+            return self.refused(command, nth, stdin=file)
+
+    def refused(self, command, nth, **given):
         hears, tells = os.pipe()
         with os.fdopen(hears, "rb") as heard:
             try:
                 how = {"LD_PRELOAD": str(self.library.path), "REFUSE_NTH": str(nth), "REFUSE_TOLD": str(tells)}
                 ran = subprocess.run(
                     command,
-                    input=stream,
+                    **given,
                     capture_output=True,
                     timeout=SECONDS,
                     check=False,
@@ -39,8 +50,8 @@ class Refuser:
             return Ended(ran.returncode, ran.stdout, ran.stderr), heard.read() != b""
 
     def calls(self, command, stream):
-        """How many calls for memory a command makes that answers a stream."""
-        return bisect.bisect_left(range(1, MOST_CALLS), True, key=lambda nth: not self.run(command, stream, nth)[1])
+        """How many calls for memory a command makes that answers a file."""
+        return bisect.bisect_left(range(1, MOST_CALLS), True, key=lambda nth: not self.run_over_file(command, stream, nth)[1])
 
     def each_run(self, command, stream=b""):
         """Refuses each call for memory in turn, until a run makes no further one, and gives how each run ended."""

@@ -1,4 +1,5 @@
 """What a session keeps of memory for later, counted from outside: the room of its largest answer, and nothing of a block.
+A text that has become short again keeps no block of its own, and a wide row takes no more a column than a narrow one.
 A dump that is given up takes little more than its limit while it is made. A table that has shrunk keeps few nodes of what
 it grew to, and one that was emptied few slots."""
 
@@ -12,6 +13,7 @@ import harness
 import model
 import preloading
 import sizes
+import texts
 
 ROWS = 500
 HELD = re.compile(rb"\n\[held (\d+), most (\d+)\]\n")
@@ -98,6 +100,51 @@ class Kept(Counted):
     def test_nothing_but_the_rows_is_kept_of_a_load(self):
         _, after = self.held_behind_load(FRONT, RECORDS)
         self.assertEqual([after], self.held(FRONT + INSERTS, MARK))
+
+
+class Rows(Counted):
+    """What rows take, at the ends of partitions of 256 slots, where none is half full."""
+
+    COUNT = 4 * 256
+    BOX = 24
+
+    def held(self, *pieces):
+        """The bytes that are held behind each of these pieces, beyond those that are held behind the first."""
+        pieces = [piece for each in pieces for piece in (each, MARK)]
+        first, *others = self.held_over(pieces, model.answers_to(b"".join(pieces)))
+        return [held - first for held in others]
+
+    def rows(self, columns, keys):
+        """A load of rows of so many integers."""
+        block = b"".join(model.record([key] * columns) for key in keys)
+        header = model.record([b"c%d" % number for number in range(columns)])
+        return b"load t %d\n" % (len(header) + len(block)) + header + block
+
+    def test_each_column_takes_as_much(self):
+        """A second load of rows takes nothing but what the rows do, and the tree of their keys."""
+        loads = range(self.COUNT), range(self.COUNT, 2 * self.COUNT)
+        takes = {}
+        for columns in (1, 2, 3, 16):
+            table = b"table t (%s)\n" % b", ".join(b"c%d int" % number for number in range(columns))
+            tables = b"table marks (id int)\n" + table
+            (takes[columns],) = self.held(tables + self.rows(columns, loads[0]), self.rows(columns, loads[1]))
+        of_a_column = takes[2] - takes[1]
+        self.assertEqual(of_a_column % self.COUNT, 0, takes)
+        self.assertEqual([takes[3] - takes[1], takes[16] - takes[1]], [2 * of_a_column, 15 * of_a_column])
+        # Beside its cells a row takes a count of 8 bytes, 6 in the tree where keys rise, and less than one of what tells its slot.
+        self.assertLess(takes[1] - of_a_column, self.COUNT * 15)
+
+    def test_a_text_takes_a_block_only_while_it_is_long(self):
+        """Its bytes and a box, where it is longer than a cell has room for, and nothing where it is not."""
+        lengths = [*texts.LENGTHS, *reversed(texts.LENGTHS)]
+        block = model.record([b"id", b"name"]) + b"".join(b"%d,\n" % key for key in range(self.COUNT))
+        front = FRONT + b"load t %d\n" % len(block) + block
+        held = self.held(front, *(b"update t set name = '%s'\n" % texts.of_length(length) for length in lengths))
+        for length, taken, taken_again in zip(lengths, held, reversed(held)):
+            with self.subTest(length=length):
+                self.assertEqual(taken, taken_again)
+                self.assertIn(taken, [0] if length <= texts.IN_A_CELL else [0, self.COUNT * (self.BOX + length)])
+        self.assertEqual(max(held), self.COUNT * (self.BOX + model.LONGEST_TEXT))
 
 
 class GivenUp(Counted):

@@ -5,6 +5,7 @@ import unittest
 import harness
 import model
 import sizes
+import texts
 
 LIMITS = model.Limits()
 TABLES = 64
@@ -104,6 +105,43 @@ class Tables(unittest.TestCase):
         self.stream = b""
         self.add(f"table t ({', '.join(columns)})", f"table t ({', '.join(columns[1:])})", "tables")
         self.check()
+
+
+class Widths(unittest.TestCase):
+    """Tables of one column, of 16 and of each number between them, with texts that lie in their cells and longer ones."""
+
+    def check(self, stream):
+        ended = harness.run_whole(stream)
+        self.assertEqual((ended.status, ended.err), (0, b""))
+        self.assertTrue(ended.out == model.answers_to(stream), "the stream is answered otherwise")
+
+    def table(self, name, columns, rows):
+        """A table of texts, and a load of so many rows and two. A row's number stands in front of its key."""
+        names = [b"c%d" % number for number in range(columns)]
+        keys = [texts.of_length(texts.LENGTHS[1 + number % 4], b"%05d" % number) for number in range(rows)]
+        keys += [texts.of_length(model.LONGEST_TEXT), b""]
+        others = [[texts.of_length(texts.LENGTHS[(at + place) % 5]) for place in range(1, columns)] for at in range(len(keys))]
+        block = b"".join(map(model.record, [names, *([key, *row] for key, row in zip(keys, others))]))
+        return b"table %s (%s)\nload %s %d\n" % (name, b", ".join(name + b" text" for name in names), name, len(block)) + block
+
+    def test_tables_of_one_column_and_of_most(self):
+        """Some partitions are full of their rows. They change, some go, and others come."""
+        some = list(map(texts.of_length, texts.LENGTHS))
+        updates = [b"update t16 set c1 = '%s' where c15 = '%s'\n" % pair for pair in zip(some[1:], some)]
+        stream = b""
+        for columns, changes in ((1, []), (COLUMNS, updates)):
+            name = b"t%d" % columns
+            stream += self.table(name, columns, 600) + b"dump %s\n" % name + b"".join(changes)
+            stream += b"delete %s where c0 > '002' and c0 < '004'\ninsert %s (%s)\n" % (name, name, b", ".join([b"'y'"] * columns))
+            stream += b"select distinct c0 from %s where c0 >= '005'\ndump %s\n" % (name, name)
+        self.check(stream + b"select t1.c0 from t1 join t16 on t1.c0 = t16.c0 where t16.c15 = ''\n")
+
+    def test_most_tables_of_each_width(self):
+        names = [b"t%d" % number for number in range(TABLES)]
+        tables = b"".join(self.table(name, 1 + number % COLUMNS, 10) for number, name in enumerate(names))
+        drops = b"".join(b"drop table %s\n" % name for name in names[::3])
+        shown = b"".join(b"dump %s\n" % name for name in names)
+        self.check(tables + shown + drops + self.table(b"more", COLUMNS, 10) + b"dump more\n" + shown)
 
 
 class Blocks(unittest.TestCase):

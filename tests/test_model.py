@@ -6,9 +6,11 @@ import unittest
 import harness
 import model
 import sizes
+import texts
 
 SEED = 20260717
 STREAMS = sizes.size(300, 10_000)
+STREAMS_OF_TEXTS = sizes.size(60, 2_000)
 NAMES = ["t", "u", "e", "dept", "_x1", "n" * 32, "n" * 33, "select", "T"]
 NUMBERS = ["0", "-0", "1", "2", "3", "-1", "007", "9223372036854775807", "9223372036854775808", "-9223372036854775808", "12x"]
 TEXTS = ["''", "'a'", "'b'", "'it''s'", "''''", "'a,b'", "'\"'", "'é'", "'#'", "'\r'", "'open", "'a'b'"]
@@ -231,14 +233,23 @@ def random_pieces(draw, stream):
 class RandomStreams(unittest.TestCase):
     """The program answers as plain lists of rows do."""
 
+    def check(self, draw, stream, answers):
+        for policy in harness.POLICIES:
+            self.assertEqual(harness.run_whole(stream, ["--policy", policy]).out, answers, policy)
+        self.assertEqual(harness.run_in_pieces(random_pieces(draw, stream)).out, answers)
+
     def test_random_streams_under_each_policy_and_in_pieces(self):
         draw = random.Random(SEED)
         for number in range(STREAMS):
-            stream, answers = stream_and_answers(draw)
             with self.subTest(stream=number):
-                for policy in harness.POLICIES:
-                    self.assertEqual(harness.run_whole(stream, ["--policy", policy]).out, answers, policy)
-                self.assertEqual(harness.run_in_pieces(random_pieces(draw, stream)).out, answers)
+                self.check(draw, *stream_and_answers(draw))
+
+    def test_random_streams_of_texts_around_a_cell(self):
+        draw = random.Random(SEED)
+        for number in range(STREAMS_OF_TEXTS):
+            stream = texts.stream(draw)
+            with self.subTest(stream=number):
+                self.check(draw, stream, model.answers_to(stream))
 
     def test_the_rows_are_answered_so_by_the_lists(self):
         for name, stream, answers in harness.rows():

@@ -9,6 +9,7 @@ import harness
 import model
 import preloading
 import sizes
+import texts
 
 SEED = 19800101
 ROUNDS = sizes.size(6, 60)
@@ -30,7 +31,7 @@ FRONT = b"table marks (id int)\n"
 
 
 def text(draw):
-    return draw.choice([b"", b"a", b"b", b"c" * draw.randrange(100), b"d" * model.LONGEST_TEXT])
+    return draw.choice([b"a", b"b", b"c" * draw.randrange(100), texts.of_length(draw.choice(texts.LENGTHS))])
 
 
 def changes(draw):
@@ -41,6 +42,7 @@ def changes(draw):
     lines += inserts
     lines += [b"update emp set n = %d where n = %d" % (number, (number + 3) % 9) for number in range(9)]
     lines += [b"update dept set name = '%s' where id = %d" % (text(draw), key) for key in draw.sample(depts, len(depts) // 2)]
+    lines += [b"update dept set name = '%s' where id > %d" % (texts.of_length(length), ROWS // 2) for length in texts.LENGTHS]
     lines += [b"update emp set dept = null where dept < 0", b"delete dept where id < 0", b"delete dept", b"delete emp where n > 4"]
     lines += [b"insert dept (%d, '')" % key for key in depts] + inserts
     lines += [b"select * from emp", b"select emp.id, name from emp join dept on emp.dept = dept.id where n < 4"]
