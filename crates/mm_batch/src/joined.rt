@@ -26,11 +26,6 @@ impl<R> Joined<R> {
         self.readers.get(self.place)
     }
 
-    /// The reader of this number, if there are so many.
-    pub fn reader(&self, number: usize) -> Option<&R> {
-        self.readers.get(number)
-    }
-
     /// The number of the reader that the last bytes are of. A line feed between two is of the first.
     pub fn given(&self) -> usize {
         self.given
