@@ -49,7 +49,11 @@ pub fn passes_all<R: Relations>(
     a_relation_is_kept(relation);
     let row = relation.row(r);
     for test in tests {
-        if !stands(test.op, row.value(test.column, tables), &test.value.sought()) {
+        if !stands(
+            test.op,
+            row.value(test.column, tables),
+            &test.value.sought(),
+        ) {
             return false;
         }
     }
