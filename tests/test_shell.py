@@ -81,7 +81,7 @@ class Piped(WithFolder):
         refused = [
             "line 7: error 41 key exists: emp has a row with the key 1",
             "line 9: error 20 not a command: column 7: wanted the end of the line, found ;: a line needs no sign at its end",
-            "line 10: error 20 not a command: column 1: Tables is no command, and tables is: words are case-sensitive",
+            "line 10: error 20 not a command: column 1: Tables is no command: tables is written in small letters",
             "line 11: error 20 not a command: column 8: wanted distinct, * or a column's name, found ?",
         ]
         self.check(lines, ["emp.name,emp.dept", "Ann,10", '"",'], refused)
@@ -298,7 +298,7 @@ class AtATerminal(WithFolder):
         shell = self.typed()
         for line in COMPANY:
             shell.ask(line)
-        wanted = "error 20 not a command: column 10: wanted from, found frm\n"
+        wanted = "error 20 not a command: column 10: wanted from, found frm: is from meant?\n"
         self.assertEqual(shell.ask("select * frm emp"), f"  select * frm emp\n           ^\n{wanted}")
         wanted = "error 20 not a command: column 30: 12abc is no number, and a name begins with a letter\n"
         self.assertEqual(shell.ask("select * from emp where id = 12abc"), f"  select * from emp where id = 12abc\n{' ' * 31}^\n{wanted}")
