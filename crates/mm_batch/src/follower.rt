@@ -96,9 +96,10 @@ impl Follower {
 
     // Makes room for the block that the line asks for, if it asks for one and there is room.
     fn begin_block(&mut self) {
-        self.to_come = judge_line(&self.line)
-            .and_then(|line| line.asked())
-            .unwrap_or(0);
+        self.to_come = match judge_line(&self.line) {
+            Some(line) => line.asked().unwrap_or(0),
+            None => 0,
+        };
         if self.to_come == 0 {
             return;
         }

@@ -1,13 +1,36 @@
-use Rattle.std.proofs.Common.{◌++◌, [], false, true, ◌∙◌, append-nil}
+use Rattle.std.proofs.Common.{◌++◌, [], false, true, ◌∙◌, append-nil, ap, subst, sym}
 use Rattle.std.specs.Io.KnownBytes.{Consumes}
 use Rattle.plain_tables.specs.declared.command.TheConstants.Limits.{STANDARD}
+use Rattle.mm_session.specs.Sessions.{State, StandsIn}
 use Rattle.mm_batch.specs.Joining.{left}
+use Rattle.mm_batch.specs.Noting.{noted_contents}
 use Rattle.mm_batch.specs.declared.watched.Ending.TheVariants.{Whole, Stopped}
 use Rattle.mm_session.proofs.ResultLemmas.{on_err}
-use Rattle.mm_session.proofs.RunLemmas.{front_at_end}
-use Rattle.mm_session.proofs.WritingLemmas.{Appends-append, Consumes-append}
+use Rattle.mm_session.proofs.RunLemmas.{stands_new, front_at_end}
+use Rattle.mm_session.proofs.WritingLemmas.{Appends-append, Appends-nothing, Consumes-append, Consumes-nothing, Consumes-keeps}
 use Rattle.mm_batch.proofs.WatchLemmas.{IfOk-map, finished_anyhow, stopped_at, Gains-ending}
 use Rattle.mm_batch.proofs.watched.answer_watched.Goals as goal
+
+pub loop-init : goal.loop-init
+loop-init g c = (
+  [],
+  [],
+  Consumes-nothing (left g.R.Read.remaining c.args.r.now),
+  Appends-nothing (noted_contents g.W.Write.contents c.args.w.now),
+  ap (λ (s : State). s.ended) c.in_ok-watched.ensures.ok,
+  ap (λ (s : State). s.limits) c.in_ok-watched.ensures.ok,
+  subst (λ s. StandsIn s [] [] []) (sym c.in_ok-watched.ensures.ok) (stands_new STANDARD),
+)
+
+pub returns-in-Err-clause-read : goal.returns-in-Err-clause-read
+returns-in-Err-clause-read g c = λ _.
+    let (stream, gained, consumed, grows, going_on, limits, st) = c.loop.invariant in
+    (stream, Consumes-keeps _ _ _ stream consumed c.in-Err.ensures.bytes, (gained, grows, (c.loop.watched.session.database, rw limits at st.run)))
+
+pub returns-clause-read : goal.returns-clause-read
+returns-clause-read g c = λ _.
+    let (stream, gained, consumed, grows, going_on, limits, st) = c.loop.invariant in
+    (stream, consumed, (gained, grows, (c.loop.watched.session.database, rw limits at st.run)))
 
 pub returns-in-Ok-eq0-clause-ok : goal.returns-in-Ok-eq0-clause-ok
 returns-in-Ok-eq0-clause-ok g c =
