@@ -62,7 +62,8 @@ typedef enum mmdb_status {
     MMDB_IS_OPEN = 2,            /* mmdb_open of a handle that is open, which stays as it is */
     MMDB_NO_SUCH_POLICY = 3,     /* mmdb_open with a number that is none of mmdb_policy */
     MMDB_LIMIT_OUT_OF_RANGE = 4, /* mmdb_open with rows that are not 1 to MMDB_MOST, or a block past MMDB_MOST */
-    MMDB_NO_LINE = 5,            /* a line that is null or has no bytes; a block or a piece that is null and has some */
+    MMDB_NO_LINE = 5,            /* a line that is null or has no bytes; a block, a piece or a name that is null and has
+                                    some */
     MMDB_NOT_ONE_REQUEST = 6,    /* a line feed in a line; a line that asks for a block of another length than given */
     MMDB_NO_MEMORY = 7,          /* mmdb_open, mmdb_reason: none was found. mmdb_feed: none for the answers; the stream
                                     is over */
@@ -106,6 +107,15 @@ uint32_t mmdb_load(mmdb *db, const void *line, size_t length, const void *block,
    Gives MMDB_DONE; MMDB_NOT_OPEN; MMDB_NO_LINE; MMDB_NO_MEMORY where the answers found no room, and then the stream is
    over, and requests of this piece may have been done; or MMDB_ENDED where it was over before. */
 uint32_t mmdb_feed(mmdb *db, const void *piece, size_t length);
+
+/* Tells how the indexes of a table stand, by its name, beside the stream; it changes nothing. The answer is as that of a
+   select: `rows N`, the line `column,kind,rows,height,nodes,fill,buckets,longest`, and a record for each index, the tree of
+   the key first, then the declared ones in their order. A tree has its height, its nodes, and in fill how many rows stand
+   in a node in the mean; a hash has its buckets, and in longest how many rows stand in the fullest. The other fields are
+   empty. Where there is no such table the answer is a refusal: 30, or 11 where the name is not UTF-8.
+   Gives MMDB_DONE and the answer, which is good until the next call on this handle. Or gives MMDB_NOT_OPEN, or
+   MMDB_NO_LINE where the name is null and has a length. */
+uint32_t mmdb_indexes(mmdb *db, const void *table, size_t length, mmdb_bytes *answer);
 
 /* The answers of the last call that was done, one behind the other: of the piece that was fed, or of the line. Of a
    piece whose answers found no room it is a front of them.
@@ -218,6 +228,17 @@ static inline mmdb_status mmdb_checked_feed(mmdb *db, const void *piece, size_t 
     return (mmdb_status)mmdb_feed(db, mmdb_checked_bytes(piece), length);
 }
 
+static inline mmdb_status mmdb_checked_indexes(mmdb *db, const void *table, size_t length, mmdb_bytes *answer)
+{
+    mmdb_bytes unwanted;
+    mmdb_bytes *to = mmdb_checked_answer_at(answer, &unwanted);
+    if (mmdb_checked_is_closed(db))
+        return MMDB_NOT_OPEN;
+    if (table == NULL && length != 0)
+        return MMDB_NO_LINE;
+    return (mmdb_status)mmdb_indexes(db, mmdb_checked_bytes(table), length, to);
+}
+
 static inline mmdb_status mmdb_checked_answer(mmdb *db, mmdb_bytes *answer)
 {
     mmdb_bytes unwanted;
@@ -252,6 +273,7 @@ static inline void mmdb_checked_close(mmdb *db)
 #define mmdb_command mmdb_checked_command
 #define mmdb_load mmdb_checked_load
 #define mmdb_feed mmdb_checked_feed
+#define mmdb_indexes mmdb_checked_indexes
 #define mmdb_answer mmdb_checked_answer
 #define mmdb_refusal mmdb_checked_refusal
 #define mmdb_reason mmdb_checked_reason
