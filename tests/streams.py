@@ -47,3 +47,15 @@ def answers_of(out):
     if at > len(out):
         raise AssertionError("the last answer is cut short")
     return answers
+
+
+def whole(stream, answers):
+    """A stream and its answers without a load at its end whose block is cut short, and with a line feed behind its last
+    line. A stream that is fed has no end that the library is told of, so such a load isn't answered."""
+    units = list(model.units_of(stream))
+    if units and len(units[-1][1]) < model.block_length(units[-1][0]):
+        stream = whole_units_of(stream)
+        answers = b"".join(answers_of(answers)[:-1])
+    if stream and not units[-1][1] and not stream.endswith(b"\n"):
+        stream += b"\n"
+    return stream, answers

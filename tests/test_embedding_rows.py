@@ -62,18 +62,6 @@ def by_turns(stream):
         yield call(b"feed", request[half:])
 
 
-def whole(stream, answers):
-    """A stream and its answers without a load at its end whose block is cut short, and with a line feed behind its last
-    line. A stream that is fed has no end that the library is told of, so such a load isn't answered."""
-    units = list(model.units_of(stream))
-    if units and len(units[-1][1]) < model.block_length(units[-1][0]):
-        stream = streams.whole_units_of(stream)
-        answers = b"".join(streams.answers_of(answers)[:-1])
-    if stream and not units[-1][1] and not stream.endswith(b"\n"):
-        stream += b"\n"
-    return stream, answers
-
-
 class Answered(unittest.TestCase):
     """Each row has its answers from one handle."""
 
@@ -128,7 +116,7 @@ class AskedAgain(unittest.TestCase):
 
 
 def row(words, stream, answers):
-    return lambda test: test.check_row(words, *whole(stream, answers))
+    return lambda test: test.check_row(words, *streams.whole(stream, answers))
 
 
 for test in (Answered, AskedAgain):

@@ -7,7 +7,6 @@ and its number alone, so one that failed is judged again by its number, and a ru
 
 import collections
 import concurrent.futures
-import os
 import random
 import time
 import unittest
@@ -20,15 +19,10 @@ import streams
 import test_model
 
 
-def said(name, default):
-    """What the environment says in large sizes."""
-    return int(os.environ.get(name, default)) if sizes.is_large else default
-
-
-SEED = said("MMDB_SEED", 19860528)
-FIRST = said("MMDB_FIRST", 0)
-STREAMS = said("MMDB_STREAMS", sizes.size(200, 5_000))
-JOBS = said("MMDB_JOBS", 1)
+SEED = sizes.said("MMDB_SEED", 19860528)
+FIRST = sizes.said("MMDB_FIRST", 0)
+STREAMS = sizes.said("MMDB_STREAMS", sizes.size(200, 5_000))
+JOBS = sizes.said("MMDB_JOBS", 1)
 AT_ONCE = 50
 PLANTED_STREAMS = 60
 # Each kind of command that SQLite has to have answered, and each refusal.

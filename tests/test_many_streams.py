@@ -1,0 +1,207 @@
+"""Very many random streams, judged by plain lists of rows, in one process over the library: each whole under each policy, in
+pieces, and line by line, where each refusal has its number and a reason.
+
+In large sizes (`tests/fire many_streams`) the environment can say which streams: MMDB_FIRST is the number of the first,
+MMDB_STREAMS how many, MMDB_SEED the seed, and MMDB_JOBS how many processes judge. A stream is drawn by the seed and its
+number alone. MMDB_KEPT names a file in which is kept how far a run is, so that one that was ended goes on there.
+"""
+
+import collections
+import concurrent.futures
+import json
+import os
+import pathlib
+import random
+import time
+import unittest
+
+import covered
+import embedded
+import harness
+import joined
+import model
+import sizes
+import streams
+import test_model
+import test_referee
+import texts
+
+SEED = sizes.said("MMDB_SEED", 20261126)
+FIRST = sizes.said("MMDB_FIRST", 0)
+STREAMS = sizes.said("MMDB_STREAMS", sizes.size(400, 100_000))
+JOBS = sizes.said("MMDB_JOBS", 1)
+KEPT = os.environ.get("MMDB_KEPT") if sizes.is_large else None
+AT_ONCE = 100
+DIFFERENCES_TOLD = 5
+# No load of a stream that is fed is cut short, and memory is always found.
+REFUSALS = sorted(str(number) for number in set(model.TEXTS) - {13, 90})
+METHODS = ("Nested", "HashJoin", "TreeJoin", "TreeMerge", "Precomputed")
+
+
+# ---- which streams
+
+
+def drawn(number, draw):
+    """A stream, by its number about joins, about long texts, or of the model, to which some have nulls behind."""
+    if number % 5 == 0:
+        return joined.stream(draw)
+    if number % 5 == 1:
+        return texts.stream(draw)
+    stream = test_model.stream_of(draw)
+    return streams.whole_units_of(stream) + test_referee.nulls(draw) if number % 5 == 2 else stream
+
+
+def limits_of(draw):
+    """The greatest limits, or such that tables are full and blocks too long."""
+    few = model.Limits(draw.randrange(1, 12), draw.choice([0, 20, 60, 200, 1_000]))
+    return draw.choice([model.Limits(), model.Limits(), few])
+
+
+def whole(stream):
+    """The part of a stream that a library answers to which it is fed: not a load at its end that is cut short."""
+    return streams.whole(stream, b"")[0]
+
+
+def stream_at(number):
+    """The stream of that number with its limits and its answers, and what is counted of it."""
+    draw = random.Random(f"{SEED} {number}")
+    while True:
+        tables = covered.Tables(limits_of(draw))
+        stream = whole(drawn(number, draw))
+        try:
+            return draw, stream, tables, [tables.answer(*unit) for unit in model.units_of(stream)]
+        except model.OddQuotes:
+            pass
+
+
+# ---- how they are answered
+
+
+def by_policies(stream, limits):
+    for policy in harness.POLICIES:
+        yield f"whole under {policy}", embedded.answers_to([stream], policy, limits)
+
+
+def in_pieces(stream, limits, draw, policy):
+    pieces = test_model.random_pieces(draw, stream)
+    return f"in {len(pieces)} pieces under {policy}", embedded.answers_to(pieces, policy, limits)
+
+
+def line_by_line(stream, tables, policy):
+    """The answers to the lines. What is told beside them has to fit them: the refusal, its reason, and the indexes."""
+    answers, misfits = [], []
+    with embedded.Handle(policy, tables.limits) as handle:
+        for line, block in model.units_of(stream):
+            answer = handle.ask(line, block)
+            answers.append(answer)
+            number = int(answer[6:8]) if answer.startswith(b"error ") else 0
+            told = handle.refusal()
+            reason = handle.reason(line, block) if number else b"-"
+            if told != number and line or not reason or b"\n" in reason:
+                misfits.append(f"{line!r} is answered {answer!r}, with the refusal {told} and the reason {reason!r}")
+        misfits += [f"{listed}: {handle.indexes(name.encode())!r}" for name, listed in lists(tables) if not handle_tells(handle, name, listed)]
+    return answers, misfits
+
+
+def lists(tables):
+    """What stands in each table: its name, and for each index its column, its kind and how many rows it has."""
+    for name, table in tables.by_name.items():
+        indexes = [(0, "tree"), *table.indexes]
+        yield name, [f"{table.columns[place].name},{kind},{len(table.rows)},".encode() for place, kind in indexes]
+
+
+def handle_tells(handle, name, listed):
+    told = handle.indexes(name.encode()).splitlines()[2:]
+    return len(told) == len(listed) and all(line.startswith(front) for line, front in zip(told, listed))
+
+
+def judge(number):
+    """What a stream differs by, with its number, and what was counted of it."""
+    draw, stream, tables, listed = stream_at(number)
+    policy = harness.POLICIES[number % len(harness.POLICIES)]
+    answers = b"".join(listed)
+    runs = [*by_policies(stream, tables.limits), in_pieces(stream, tables.limits, draw, policy)]
+    found = [f"{how}: {out!r}" for how, out in runs if out != answers]
+    asked, misfits = line_by_line(stream, tables, policy)
+    found += misfits + [f"line by line under {policy}: {both}" for both in zip(asked, listed) if both[0] != both[1]][:1]
+    tables.count["streams", "judged"] += 1
+    tables.count["streams", "answered"] += len(runs) + 1
+    told = f"stream {number} of seed {SEED}, under {tables.limits}: {stream!r} has the answers {answers!r}, but "
+    return (told + "\n".join(found) if found else None), tables.count
+
+
+# ---- all of them, and how far it is
+
+
+class Progress:
+    """What was found and counted so far, kept in a file where one is named."""
+
+    def __init__(self):
+        self.next = FIRST
+        self.differences = []
+        self.count = collections.Counter()
+        self.seconds = 0.0
+        self.began = time.process_time()
+        if KEPT and os.path.exists(KEPT):
+            self.take(json.loads(pathlib.Path(KEPT).read_text()))
+
+    def take(self, kept):
+        if (kept["seed"], kept["first"]) != (SEED, FIRST):
+            raise AssertionError(f"{KEPT} is of other streams: it has seed {kept['seed']} and begins at {kept['first']}")
+        self.next, self.differences, self.seconds = kept["next"], kept["differences"], kept["seconds"]
+        self.count = collections.Counter({(what, kind): times for what, kind, times in kept["count"]})
+
+    def add(self, numbers, found, count, seconds):
+        self.next = numbers.stop
+        self.differences += found
+        self.count += count
+        self.seconds += seconds
+        if KEPT:
+            self.keep()
+
+    def keep(self):
+        """Writes the file anew, so that it is whole whenever the run ends."""
+        listed = [[*key, times] for key, times in sorted(self.count.items())]
+        kept = {"seed": SEED, "first": FIRST, "next": self.next, "seconds": self.seconds, "differences": self.differences, "count": listed}
+        new = pathlib.Path(f"{KEPT}.new")
+        new.write_text(json.dumps(kept))
+        os.replace(new, KEPT)
+
+    def tell(self):
+        print(f"seed {SEED}, streams {FIRST} to {self.next - 1}, {self.seconds:.0f} seconds of a processor, {len(self.differences)} differ")
+        for what in dict.fromkeys(what for what, _ in sorted(self.count)):
+            listed = sorted((kind, times) for (other, kind), times in self.count.items() if other == what)
+            print(f"{what}: " + ", ".join(f"{kind} {times}" for kind, times in listed), flush=True)
+
+
+def judge_some(numbers):
+    began = time.process_time()
+    judged = [judge(number) for number in numbers]
+    count = sum((count for _, count in judged), collections.Counter())
+    return [found for found, _ in judged if found], count, time.process_time() - began
+
+
+def judge_all():
+    progress = Progress()
+    end = FIRST + STREAMS
+    numbers = [range(at, min(at + AT_ONCE, end)) for at in range(progress.next, end, AT_ONCE)]
+    if JOBS == 1:
+        for some in numbers:
+            progress.add(some, *judge_some(some))
+        return progress
+    with concurrent.futures.ProcessPoolExecutor(JOBS) as jobs:
+        for some, judged in zip(numbers, jobs.map(judge_some, numbers)):
+            progress.add(some, *judged)
+    return progress
+
+
+class Judged(unittest.TestCase):
+    def test_the_library_answers_as_plain_lists_of_rows_do(self):
+        progress = judge_all()
+        if sizes.is_large:
+            progress.tell()
+        self.assertEqual(progress.differences, [], "\n\n".join(progress.differences[:DIFFERENCES_TOLD]))
+        self.assertEqual([word for word in covered.WORDS if not progress.count["commands", word.replace("_", " ")]], [])
+        self.assertEqual([number for number in REFUSALS if not progress.count["refusals", number]], [])
+        chosen = {kind.split()[1] for what, kind in progress.count if what.startswith("joins")}
+        self.assertEqual(chosen, set(METHODS))
