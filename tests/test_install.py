@@ -4,6 +4,7 @@ import functools
 import os
 import pathlib
 import re
+import resource
 import shutil
 import subprocess
 import sys
@@ -338,6 +339,20 @@ class Refusals(Installs):
         (self.prefix / "bin").mkdir(parents=True)
         (self.prefix / "bin" / "mmdb").write_text("another's")
         self.refused(1, f"{self.prefix}/bin/mmdb is there and was not installed", self.prefix)
+
+    def test_what_fell_short_is_removed(self):
+        """Files have fewer bytes than the program, and more than the list."""
+        most = 1 << 16
+        ran = self.ran(self.prefix, how={"preexec_fn": lambda: resource.setrlimit(resource.RLIMIT_FSIZE, (most, most))})
+        self.assertEqual((ran.returncode, ran.stdout), (1, ""))
+        self.assertIn(f"could not be installed whole; ./install --remove {self.prefix} takes away", ran.stderr)
+        self.assertNotEqual(below(self.prefix), set())
+        self.install("--remove", self.prefix)
+        self.assertFalse(self.prefix.exists())
+
+    def test_a_place_where_no_folder_can_be_made(self):
+        ran = self.ran("/proc/mmdb")
+        self.assertEqual((ran.returncode, ran.stderr.splitlines()[-1]), (1, "mmdb: so nothing is installed"))
 
     def test_nothing_to_remove(self):
         self.refused(1, "nothing is installed", "--remove", self.prefix)
