@@ -191,9 +191,10 @@ impl Database {
     /// db.execute("index t s hash", [])?;
     /// db.execute("insert t (1, 'a')", [])?;
     ///
-    /// let [key, declared] = &db.indexes("t")?[..] else { unreachable!() };
-    /// assert!(matches!(key.shape, mmdb::IndexShape::Tree { height: 1, nodes: 1, .. }));
-    /// assert!(matches!(declared.shape, mmdb::IndexShape::Hash { buckets: 4, longest: 1, .. }));
+    /// let indexes = db.indexes("t")?;
+    /// assert_eq!(indexes.len(), 2);
+    /// assert!(matches!(indexes[0].shape, mmdb::IndexShape::Tree { height: 1, nodes: 1, .. }));
+    /// assert!(matches!(indexes[1].shape, mmdb::IndexShape::Hash { buckets: 4, longest: 1, .. }));
     /// # Ok::<(), mmdb::Error>(())
     /// ```
     pub fn indexes(&mut self, table: &str) -> Result<Vec<Index>> {
