@@ -1,22 +1,16 @@
 """Rounds of changes, each from no rows to no rows: each is answered as the first, and holds no more memory at its end."""
 
-import os
 import random
-import re
 import unittest
 
-import harness
 import model
-import preloading
 import sizes
 import texts
+from holding import FRONT, MARK, Counter
 
 SEED = 19800101
 ROUNDS = sizes.size(6, 60)
 ROWS = sizes.size(150, 2_000)
-HELD = re.compile(rb"\n\[held (\d+), most \d+\]\n")
-MARK = b"select * from marks\n"
-MARKED = b"rows 0\nmarks.id\n"
 TABLES = b"""table dept (id int, name text)
 table emp (id text, n int, dept ref dept null)
 """
@@ -27,7 +21,6 @@ index emp dept tree
 index emp dept hash
 """
 DROPS = b"drop table emp\ndrop table dept\n"
-FRONT = b"table marks (id int)\n"
 
 
 def text(draw):
@@ -79,16 +72,15 @@ class Rounds(unittest.TestCase):
 
     @classmethod
     def setUpClass(cls):
-        cls.counter = preloading.Library("count_held")
+        cls.counter = Counter()
         cls.addClassCleanup(cls.counter.close)
 
     def run_counted(self, pieces):
         """Runs the program, and gives its answers, and the bytes that it held at each of these selects."""
-        ended = harness.run_in_pieces(pieces, env={**os.environ, "LD_PRELOAD": str(self.counter.path)})
+        ended, out, held = self.counter.run(pieces)
         self.assertEqual((ended.status, ended.err), (0, b""))
-        held = [int(number) for number in re.findall(HELD.pattern + MARKED, ended.out)]
         self.assertEqual(len(held), pieces.count(MARK))
-        return HELD.sub(b"", ended.out), held
+        return out, held
 
     def check(self, front, lines):
         out, held = self.run_counted([front, *[lines, MARK] * ROUNDS])

@@ -1,0 +1,192 @@
+"""A table of sessions at full speed: they come, are touched and looked up, and go by ranges of their end, under a declared
+tree and a hash. As many are there after each round, and they hold about as much memory.
+
+In large sizes (`tests/fire churn`) it tells how long each kind of command took, and SQLite beside it, both called from
+Python, and asserts nothing of it.
+"""
+
+import gc
+import random
+import sqlite3
+import time
+import unittest
+
+import embedded
+import holding
+import sizes
+
+SEED = 19861101
+ROWS = sizes.size(2_000, 50_000)
+ROUNDS = sizes.size(12, 20)
+TIMED_ROUNDS = 4
+# Steps of a round, in each of which so many are touched that all could be in a round.
+STEPS = 20
+LONGEST_LIFE = 2 * STEPS
+MOST_GROWTH = 1.1
+TABLE = ["table session (id int, token text, visits int, until int)", "index session until tree", "index session token hash"]
+
+
+class Sessions:
+    """What is asked of the table, step by step: each command as its kind and its values, and its answer."""
+
+    def __init__(self, draw):
+        self.draw = draw
+        self.clock = 0
+        self.next = 0
+        self.tokens = []
+        # For each session, by its token, its number and its end.
+        self.there = {}
+
+    def come(self):
+        token = f"{self.draw.getrandbits(160):040x}"[: self.draw.randrange(12, 41)] + f"-{self.next}"
+        self.next += 1
+        until = self.clock + 1 + self.draw.randrange(LONGEST_LIFE)
+        self.there[token] = [self.next, until]
+        self.tokens.append(token)
+        return "insert", (self.next, token, 0, until), b"ok 1\n"
+
+    def touch(self):
+        token = self.draw.choice(self.tokens)
+        self.there[token][1] = self.clock + 1 + self.draw.randrange(LONGEST_LIFE)
+        return "touch", (self.clock, self.there[token][1], token), b"ok 1\n"
+
+    def look_up(self):
+        token = self.draw.choice(self.tokens)
+        number, until = self.there[token]
+        return "look up", (token,), b"rows 1\nsession.id,session.until\n%d,%d\n" % (number, until)
+
+    def expire(self):
+        gone = [token for token, (_, until) in self.there.items() if until < self.clock]
+        for token in gone:
+            del self.there[token]
+        self.tokens = list(self.there)
+        return "expire", (self.clock,), b"ok %d\n" % len(gone)
+
+    def fill(self):
+        while len(self.there) < ROWS:
+            yield self.come()
+
+    def round(self):
+        for _ in range(STEPS):
+            self.clock += 1
+            for number in range(ROWS // STEPS):
+                yield self.touch()
+                if number % 4 == 0:
+                    yield self.look_up()
+            yield self.expire()
+            yield from self.fill()
+
+
+LINES = {
+    "insert": "insert session ({}, '{}', {}, {})",
+    "touch": "update session set visits = {}, until = {} where token = '{}'",
+    "look up": "select id, until from session where token = '{}'",
+    "expire": "delete session where until < {}",
+}
+STATEMENTS = {
+    "insert": "insert into session values (?, ?, ?, ?)",
+    "touch": "update session set visits = ?, until = ? where token = ?",
+    "look up": "select id, until from session where token = ?",
+    "expire": "delete from session where until < ?",
+}
+
+
+def line(kind, values):
+    return LINES[kind].format(*values).encode()
+
+
+class Pieces:
+    """The stream for the program: a fill, and rounds, each with a mark behind it. It keeps the answers that it must have."""
+
+    def __init__(self):
+        self.answers = []
+
+    def piece(self, commands):
+        listed = []
+        for kind, values, answer in commands:
+            listed.append(line(kind, values) + b"\n")
+            self.answers.append(answer)
+        return b"".join(listed)
+
+    def each(self):
+        sessions = Sessions(random.Random(SEED))
+        yield holding.FRONT + "".join(f"{line}\n" for line in TABLE).encode()
+        self.answers.append(b"ok\n" * (1 + len(TABLE)))
+        yield self.piece(sessions.fill())
+        for _ in range(ROUNDS):
+            yield self.piece(sessions.round())
+            yield holding.MARK
+            self.answers.append(holding.MARKED)
+
+
+class Held(unittest.TestCase):
+    def test_no_round_holds_much_more_than_the_first(self):
+        counter = holding.Counter()
+        self.addCleanup(counter.close)
+        pieces = Pieces()
+        ended, out, held = counter.run(pieces.each())
+        self.assertEqual((ended.status, ended.err), (0, b""))
+        self.assertTrue(out == b"".join(pieces.answers), "a command is answered otherwise")
+        self.assertEqual(len(held), ROUNDS)
+        if sizes.is_large:
+            print(f"{ROWS} sessions hold {held[0]} bytes after the first round, then {min(held[1:])} to {max(held[1:])}", flush=True)
+        self.assertLessEqual(max(held), MOST_GROWTH * held[0], held)
+
+
+@unittest.skipUnless(sizes.is_large, "it tells times, in large sizes")
+class Timed(unittest.TestCase):
+    """How long each command takes where it is called from Python: by a new text of mmdb's, and by a statement that SQLite
+    has prepared."""
+
+    def setUp(self):
+        gc.disable()
+        self.addCleanup(gc.enable)
+
+    def test_the_times_of_mmdb(self):
+        with embedded.Handle() as handle:
+            for declared in TABLE:
+                handle.ask(declared.encode(), b"")
+
+            def does(kind, values):
+                text = line(kind, values)
+                began = time.perf_counter_ns()
+                answer = handle.said(embedded.COMMAND(handle.at, text, len(text), handle.told_at))
+                return time.perf_counter_ns() - began, answer
+
+            self.check("mmdb", does, lambda answer: answer)
+
+    def test_the_times_of_sqlite(self):
+        database = sqlite3.connect(":memory:", isolation_level=None)
+        self.addCleanup(database.close)
+        database.execute("create table session (id integer primary key, token text, visits int, until int)")
+        database.execute("create index until on session (until)")
+        database.execute("create index token on session (token)")
+
+        def does(kind, values):
+            began = time.perf_counter_ns()
+            done = database.execute(STATEMENTS[kind], values)
+            rows = done.fetchall()
+            return time.perf_counter_ns() - began, (kind, rows, done.rowcount)
+
+        def told(answer):
+            kind, rows, count = answer
+            if kind == "look up":
+                return b"rows 1\nsession.id,session.until\n%d,%d\n" % rows[0]
+            return b"ok %d\n" % count
+
+        self.check(f"SQLite {sqlite3.sqlite_version}", does, told)
+
+    def check(self, name, does, told):
+        """Does all commands, and tells their times by kind."""
+        sessions = Sessions(random.Random(SEED))
+        times = {kind: [] for kind in LINES}
+        for commands in (sessions.fill(), *(sessions.round() for _ in range(TIMED_ROUNDS))):
+            for kind, values, answer in commands:
+                took, given = does(kind, values)
+                times[kind].append(took)
+                self.assertEqual(told(given), answer)
+        for kind, listed in times.items():
+            listed.sort()
+            at = [listed[len(listed) // 2], listed[len(listed) * 99 // 100], listed[-1]]
+            p50, p99, most = (f"{took / 1_000:.2f}" for took in at)
+            print(f"{name}, {kind}, {len(listed)} times: p50 {p50} µs, p99 {p99} µs, most {most} µs", flush=True)
