@@ -3,16 +3,19 @@
 from __future__ import annotations
 
 import os
+import secrets
 import stat
 import tempfile
 from contextlib import contextmanager
-from typing import BinaryIO, Iterator
+from typing import BinaryIO, Iterator, Optional, Tuple
 
 from .interrupts import Interrupts
 from .trouble import Trouble, told_of
 
 # Below these stand devices, and what a process has open.
 _STRAIGHT = ("/dev/", "/proc/")
+# The files that this process has open, by their numbers.
+_OPEN = "/proc/self/fd"
 
 
 def full_name(path: str) -> str:
@@ -51,18 +54,52 @@ def written(path: str) -> Iterator[BinaryIO]:
 def _replacing(path: str, place: str) -> Iterator[BinaryIO]:
     folder, name = os.path.split(place)
     with told_of(path if os.path.isdir(folder) else folder):
-        number, new = tempfile.mkstemp(dir=folder, prefix=f".{name[:60]}.")
+        number, new = _begun(folder, name)
     try:
-        with told_of(path):
-            with open(number, "wb") as file:
-                os.fchmod(number, _mode(place))
-                yield file
-                file.flush()
-                os.fsync(number)
-            os.replace(new, place)
+        with told_of(path), open(number, "wb") as file:
+            os.fchmod(number, _mode(place))
+            yield file
+            file.flush()
+            os.fsync(number)
+            new = new or _linked(number, place)
+            if new is not None:
+                os.replace(new, place)
     except BaseException:
-        os.unlink(new)
+        if new is not None:
+            os.unlink(new)
         raise
+
+
+def _begun(folder: str, name: str) -> Tuple[int, Optional[str]]:
+    """A new file, which has no name until it is whole, so that a shell that is killed leaves none behind. Where there is
+    no such file to be had, or none that could be linked, it has a name beside its place."""
+    try:
+        if os.path.isdir(_OPEN):
+            return os.open(folder, os.O_TMPFILE | os.O_WRONLY, 0o600), None
+    except OSError:
+        pass  # (what is wrong with the folder is told by the next)
+    return tempfile.mkstemp(dir=folder, prefix=f".{name[:60]}.")
+
+
+def _linked(number: int, place: str) -> Optional[str]:
+    """Gives a file without a name that of its place; or, where something stands there, another, which it tells."""
+    try:
+        _link(number, place)
+        return None
+    except FileExistsError:
+        folder, name = os.path.split(place)
+        new = os.path.join(folder, f".{name[:60]}.{secrets.token_hex(8)}")
+        _link(number, new)
+        return new
+
+
+def _link(number: int, name: str) -> None:
+    numbers = os.open(_OPEN, os.O_RDONLY)
+    try:
+        # (with a folder that the number stands in, the file is linked, and not what /proc has in its place)
+        os.link(str(number), name, src_dir_fd=numbers)
+    finally:
+        os.close(numbers)
 
 
 def _mode(place: str) -> int:
