@@ -142,8 +142,3 @@ class Embedding(Programs):
 
     def test_each_call_for_memory_is_refused(self):
         self.check_program("refused")
-
-    def test_threads_have_a_handle_each(self):
-        for name, words in (("threads", []), ("threads-sanitized", ["-fsanitize=thread"])):
-            program = ROOM.compiled(name, compiling.EMBEDDING / "threads.c", [*compiling.C, "-pthread", *words])
-            self.check_ran(program)

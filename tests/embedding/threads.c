@@ -1,9 +1,10 @@
-/* Four threads with a handle each, at the same time. Each has its own tables, and is given its own answers. */
+/* Threads with a handle each, at the same time: THREADS of them. Each has its own tables, of ROWS rows, and is given its own
+   answers. */
 #include "checking.h"
 
 #include <pthread.h>
 
-enum { THREADS = 4, ROWS = 500 };
+enum { POLICIES = MMDB_MERGE + 1 };
 
 /* One thread's handle and number, and how many of its answers were none of its own. */
 typedef struct worker {
@@ -34,13 +35,14 @@ static void *work(void *given)
 {
     worker *of = (worker *)given;
     char line[200], expected[200];
-    of->wrong += mmdb_open(&of->db, (uint32_t)of->number, MMDB_MOST, MMDB_MOST) != MMDB_DONE;
+    const int kept = of->number % ROWS;
+    of->wrong += mmdb_open(&of->db, (uint32_t)(of->number % POLICIES), MMDB_MOST, MMDB_MOST) != MMDB_DONE;
     expects(of, "table t (id int, s text)", "ok\n");
     expects(of, "index t s hash", "ok\n");
     for (int row = 0; row < ROWS; row++)
         works_on_row(of, row);
-    snprintf(line, sizeof line, "delete t where id >= %d", of->number);
-    snprintf(expected, sizeof expected, "ok %d\n", ROWS - of->number);
+    snprintf(line, sizeof line, "delete t where id >= %d", kept);
+    snprintf(expected, sizeof expected, "ok %d\n", ROWS - kept);
     expects(of, line, expected);
     mmdb_close(&of->db);
     return NULL;
