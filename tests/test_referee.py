@@ -12,6 +12,7 @@ import time
 import unittest
 
 import harness
+import joined
 import model
 import referee
 import sizes
@@ -46,8 +47,10 @@ def nulls(draw):
 
 
 def stream_at(number):
-    """The stream of that number: one of the model's, and every third with nulls joined behind it."""
+    """The stream of that number: every eighth about joins, the others of the model, and a third with nulls joined behind it."""
     draw = random.Random(f"{SEED} {number}")
+    if number % 8 == 7:
+        return joined.stream(draw)
     stream = test_model.stream_and_answers(draw)[0]
     return stream if number % 3 else streams.whole_units_of(stream) + nulls(draw)
 
@@ -192,6 +195,44 @@ def drop_index(self, name, column, kind):
     return answer
 
 
+def key_unseen():
+    def check_row(self, table, row, _):
+        """Takes a key that is there."""
+        self.check_references(zip(table.columns, row))
+
+    return check_row
+
+
+def reference_seen_late():
+    def update(self, name, settings, conditions):
+        """Sets rows, and looks then whether the references name some."""
+        self.check_references = lambda _: None
+        answer = model.Tables.update(self, name, settings, conditions)
+        del self.check_references
+        table = self.named(name)
+        self.check_references((table.columns[table.place(column)], value) for column, value in settings)
+        return answer
+
+    return update
+
+
+def by_the_last_key():
+    def members(_, tables, sides):
+        """Joins rows in the order of the last table."""
+        return sorted(model.Tables.members(tables, sides), key=lambda member: member[-1][0])
+
+    return members
+
+
+def null_unread():
+    def row_of(self, table, fields):
+        """Reads the empty text where a load says null."""
+        row = model.Tables.row_of(self, table, fields)
+        return [b"" if value is None and self.key_kind(column) == "text" else value for value, column in zip(row, table.columns)]
+
+    return row_of
+
+
 PLANTED = {
     "an update sets nothing": update,
     "a select leaves a row out": shown(lambda rows: rows[:-1]),
@@ -204,6 +245,10 @@ PLANTED = {
     "references are looked at before keys": check_row,
     "nulls are joined": members,
     "a dropped index stays": drop_index,
+    "a key comes twice": key_unseen(),
+    "a refused update sets rows": reference_seen_late(),
+    "joins come in the order of the last table": by_the_last_key(),
+    "a load reads no null": null_unread(),
 }
 
 
