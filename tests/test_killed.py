@@ -24,8 +24,8 @@ import sizes
 from mmdb_shell import files
 
 SEED = 20261127
-KILLS = sizes.size(10, 300)
-ROWS = sizes.size(4_000, 40_000)
+KILLS = sizes.size(10, 150)
+ROWS = sizes.size(4_000, 20_000)
 # Before a shell is killed so many files come, and then a while goes by.
 MOST_FILES = 12
 LONGEST_WAIT = 0.02
