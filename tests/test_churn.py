@@ -135,8 +135,8 @@ class Held(unittest.TestCase):
 
 @unittest.skipUnless(sizes.is_large, "it tells times, in large sizes")
 class Timed(unittest.TestCase):
-    """How long each command takes where it is called from Python: by a new text of mmdb's, and by a statement that SQLite
-    has prepared."""
+    """How much of a processor's time each command takes where it is called from Python: by a new text of mmdb's, and by a
+    statement that SQLite has prepared. What else runs on the machine doesn't count."""
 
     def setUp(self):
         gc.disable()
@@ -149,9 +149,9 @@ class Timed(unittest.TestCase):
 
             def does(kind, values):
                 text = line(kind, values)
-                began = time.perf_counter_ns()
+                began = time.thread_time_ns()
                 answer = handle.said(embedded.COMMAND(handle.at, text, len(text), handle.told_at))
-                return time.perf_counter_ns() - began, answer
+                return time.thread_time_ns() - began, answer
 
             self.check("mmdb", does, lambda answer: answer)
 
@@ -163,10 +163,10 @@ class Timed(unittest.TestCase):
         database.execute("create index token on session (token)")
 
         def does(kind, values):
-            began = time.perf_counter_ns()
+            began = time.thread_time_ns()
             done = database.execute(STATEMENTS[kind], values)
             rows = done.fetchall()
-            return time.perf_counter_ns() - began, (kind, rows, done.rowcount)
+            return time.thread_time_ns() - began, (kind, rows, done.rowcount)
 
         def told(answer):
             kind, rows, count = answer
