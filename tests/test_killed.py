@@ -52,6 +52,18 @@ def lines(name):
         yield from (f".save t new-{number}.t", ".save t one", f".dump new-{number}.all", ".save u one", f"{name} v there.csv", "delete v")
 
 
+def has_files_without_a_name():
+    """Whether the folder of temporary files can have such a file."""
+    try:
+        os.close(os.open(tempfile.gettempdir(), os.O_TMPFILE | os.O_WRONLY, 0o600))
+        return True
+    except OSError:
+        return False
+
+
+WITHOUT_A_NAME = unittest.skipUnless(has_files_without_a_name(), "the system has no files without a name")
+
+
 class Killed(unittest.TestCase):
     def setUp(self):
         room = tempfile.TemporaryDirectory(prefix="mmdb-tests-")
@@ -97,6 +109,7 @@ class Killed(unittest.TestCase):
             self.between += path.name.startswith(".")
             path.unlink()
 
+    @WITHOUT_A_NAME
     def test_a_shell_that_writes_files(self):
         stream = "".join(f"{line}\n" for line in lines(".load")).encode()
         for number in range(KILLS):
@@ -144,6 +157,7 @@ class Written(unittest.TestCase):
             raise KeyError
         self.assertEqual(self.there(), {"file": (b"two", 0o640)})
 
+    @WITHOUT_A_NAME
     def test_without_a_name(self):
         self.check(0)
 
