@@ -1,6 +1,6 @@
 //! Which fields stand as they are, and which between quotes.
 
-ghost use Rattle.std.specs.Prelude.{◌≡◌};
+ghost use Rattle.std.specs.Prelude.{◌≡◌, true, false};
 ghost use Rattle.plain_tables.specs.Csv as csv_text;
 
 // Whether a byte calls for quotes around its field.
@@ -10,8 +10,19 @@ fn is_special(byte: u8) -> bool
     (byte == b',') | (byte == b'"') | (byte == b'\r') | (byte == b'\n')
 }
 
-/// Whether a field holds a byte that calls for quotes around it. Each is tested, with no branch on what the others are.
-pub fn must_be_quoted(field: &[u8]) -> bool
+// Whether each byte lies above the comma, the greatest that calls for quotes. Most fields are told by this alone.
+fn lies_above_commas(field: &[u8]) -> bool
+    ensures { result ≡ true → csv_text.needs_quotes field.now ≡ false }
+{
+    let mut low = false;
+    for byte in field {
+        low |= *byte <= b',';
+    }
+    !low
+}
+
+// Whether some byte calls for quotes. Each is tested, with no branch on what the others are.
+fn has_special(field: &[u8]) -> bool
     ensures { result ≡ csv_text.needs_quotes field.now }
 {
     let mut must = false;
@@ -19,4 +30,12 @@ pub fn must_be_quoted(field: &[u8]) -> bool
         must |= is_special(*byte);
     }
     must
+}
+
+/// Whether a field holds a byte that calls for quotes around it.
+#[inline]
+pub fn must_be_quoted(field: &[u8]) -> bool
+    ensures { result ≡ csv_text.needs_quotes field.now }
+{
+    !lies_above_commas(field) && has_special(field)
 }
