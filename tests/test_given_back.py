@@ -11,7 +11,7 @@ import preloading
 
 MOMENT = re.compile(r"\[held (\d+), most \d+\]\nheld: (.+)")
 BOOKS = 1_000
-ENTRY = 16
+ENTRY = 12
 
 
 def moments_of(counter, binary, name):

@@ -4,7 +4,7 @@
 mod random;
 
 use random::Random;
-use std::collections::HashMap;
+use std::collections::{HashMap, HashSet};
 use std::hash::{BuildHasher, BuildHasherDefault, Hasher};
 use std::hint::black_box;
 use std::time::Instant;
@@ -31,21 +31,22 @@ struct Times {
 }
 
 unsafe extern "C" {
-    fn lin_hash_bench_distinct(hashes: *const u64, hashes_len: usize, sought: *const u64, sought_len: usize, removed_hashes: *const u64, removed_hashes_len: usize, removed: *const u32, removed_len: usize, times: *mut Times) -> bool;
-    fn lin_hash_bench_chains(hashes: *const u64, hashes_len: usize, removed_hashes: *const u64, removed_hashes_len: usize, removed: *const u32, removed_len: usize, times: *mut Times) -> bool;
+    fn lin_hash_bench_distinct(hashes: *const u32, hashes_len: usize, sought: *const u32, sought_len: usize, removed_hashes: *const u32, removed_hashes_len: usize, removed: *const u32, removed_len: usize, times: *mut Times) -> bool;
+    fn lin_hash_bench_chains(hashes: *const u32, hashes_len: usize, removed_hashes: *const u32, removed_hashes_len: usize, removed: *const u32, removed_len: usize, times: *mut Times) -> bool;
 }
 
-/// A hasher that gives the number itself.
+/// A hasher that gives the number itself, twice: the map takes a place from the low bits, and tells entries apart by the
+/// high ones.
 #[derive(Default)]
 struct Itself(u64);
 
 impl Hasher for Itself {
     fn write(&mut self, _: &[u8]) {
-        unreachable!("only numbers of 64 bits are hashed");
+        unreachable!("only numbers of 32 bits are hashed");
     }
 
-    fn write_u64(&mut self, number: u64) {
-        self.0 = number;
+    fn write_u32(&mut self, number: u32) {
+        self.0 = u64::from(number) << 32 | u64::from(number);
     }
 
     fn finish(&self) -> u64 {
@@ -55,14 +56,14 @@ impl Hasher for Itself {
 
 /// The same work for all: the hash of each reference, and the orders of the phases.
 struct Work {
-    hashes: Vec<u64>,
-    sought: Vec<u64>,
+    hashes: Vec<u32>,
+    sought: Vec<u32>,
     removed: Vec<u32>,
-    removed_hashes: Vec<u64>,
+    removed_hashes: Vec<u32>,
 }
 
 impl Work {
-    fn new(mut random: Random, hashes: Vec<u64>, removals: usize) -> Work {
+    fn new(mut random: Random, hashes: Vec<u32>, removals: usize) -> Work {
         let hashes_of = |numbers: &[u32]| numbers.iter().map(|number| hashes[*number as usize]).collect();
         let sought = hashes_of(&random.shuffled(hashes.len()));
         let mut removed = random.shuffled(hashes.len());
@@ -73,16 +74,22 @@ impl Work {
 
     fn distinct(count: usize) -> Work {
         let mut random = Random(0x9E37_79B9_7F4A_7C15);
-        let hashes = random.by_ref().take(count).collect();
+        let hashes = distinct_hashes(&mut random, count);
         Work::new(random, hashes, count)
     }
 
     fn chained() -> Work {
         let mut random = Random(0x9E37_79B9_7F4A_7C15);
-        let few: Vec<u64> = random.by_ref().take(CHAINS).collect();
+        let few = distinct_hashes(&mut random, CHAINS);
         let hashes = (0..CHAINED).map(|number| few[number % few.len()]).collect();
         Work::new(random, hashes, CHAINED_REMOVALS)
     }
+}
+
+/// So many hashes, no two alike.
+fn distinct_hashes(random: &mut Random, count: usize) -> Vec<u32> {
+    let mut seen = HashSet::new();
+    random.map(|number| number as u32).filter(|hash| seen.insert(*hash)).take(count).collect()
 }
 
 fn nanoseconds(start: Instant) -> u64 {
@@ -127,7 +134,7 @@ fn chains(work: &Work) -> Times {
     times
 }
 
-fn fill<S: BuildHasher>(map: &mut HashMap<u64, u64, S>, hashes: &[u64]) -> u64 {
+fn fill<S: BuildHasher>(map: &mut HashMap<u32, u64, S>, hashes: &[u32]) -> u64 {
     let start = Instant::now();
     for (number, hash) in hashes.iter().enumerate() {
         map.insert(*hash, number as u64);

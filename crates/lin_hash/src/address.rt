@@ -27,7 +27,7 @@ pub struct Address {
 impl Address {
     // The bucket of a hash: by the short modulus, or by the long one where that leads to a bucket that was
     // split.
-    pub fn bucket(self, hash: u64) -> usize
+    pub fn bucket(self, hash: u32) -> usize
         requires { self.level ≤ 30 }
         ensures { result ≡ bucket_of self.level self.mark hash }
     {
@@ -90,7 +90,7 @@ fn buckets_at(level: u32) -> usize
 }
 
 // The remainder by a power of two, which takes no division.
-fn remainder(hash: u64, modulus: usize) -> usize
+fn remainder(hash: u32, modulus: usize) -> usize
     requires { IsPowerOfTwo modulus }
     ensures { result ≡ hash % modulus }
 {

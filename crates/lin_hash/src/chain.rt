@@ -14,7 +14,7 @@ use part_raw::TupleRef;
 /// The references with one hash that are left to visit. A copy goes on from the same place.
 #[derive(Clone, Copy)]
 pub struct Chain<'a> {
-    hash: u64,
+    hash: u32,
     blocks: &'a [Block],
     rest: NodeLink,
     ghost ends: { EndsWithin (length (nodes_in blocks.now)) (nodes_in blocks.now) rest } by { EndsWithin-prop (length (nodes_in blocks.now)) (nodes_in blocks.now) rest },
@@ -29,7 +29,7 @@ impl<'a> Chain<'a> {
     ghost use Rattle.lin_hash.specs.Rest.{chain_rest};
 
     // Those with that hash from a node on.
-    pub(crate) fn new(hash: u64, blocks: &'a [Block], rest: NodeLink) -> Chain<'a>
+    pub(crate) fn new(hash: u32, blocks: &'a [Block], rest: NodeLink) -> Chain<'a>
         requires { EndsWithin (length (nodes_in blocks.now)) (nodes_in blocks.now) rest }
         ensures { chain_rest result ≡ with_hash hash (entries_from (length (nodes_in blocks.entry.now)) (nodes_in blocks.entry.now) rest) }
     {

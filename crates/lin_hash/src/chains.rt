@@ -58,7 +58,7 @@ pub fn link_from(nodes: &mut Nodes, heads: &mut [NodeLink], address: Address, fi
 }
 
 // Where a node with that entry stands in the chain from a link on.
-pub fn find(nodes: &Nodes, first: NodeLink, hash: u64, r: TupleRef) -> Position
+pub fn find(nodes: &Nodes, first: NodeLink, hash: u32, r: TupleRef) -> Position
     requires { HoldsEntry nodes.now.items first hash r }
     ensures { StandsAt nodes.now.items first hash r result }
 {

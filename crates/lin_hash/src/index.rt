@@ -113,7 +113,7 @@ impl LinHash {
     }
 
     /// The references with that hash, each as often as it is held, in any order. It borrows the index and takes no memory.
-    pub fn chain(&self, hash: u64) -> Chain<'_>
+    pub fn chain(&self, hash: u32) -> Chain<'_>
         ensures { IsSameBag (chain_rest result) (with_hash hash self.now.entries) }
     {
         match &self.table {
@@ -155,7 +155,7 @@ impl ExactIndex for LinHash {
     }
 
     /// Puts one pair in, and splits one bucket at most. Takes no memory.
-    fn insert(&mut self, hash: u64, r: TupleRef)
+    fn insert(&mut self, hash: u32, r: TupleRef)
         requires reserved { 0 < self.old.room }
         requires short { length self.old.entries < 2 ^ 32 }
         ensures entries { IsSameBag self.new.entries ((hash, r) ∷ self.old.entries) }
@@ -175,7 +175,7 @@ impl ExactIndex for LinHash {
 
     /// Takes one such pair out, and folds one bucket at most. Takes no memory and gives none back: the node is a spare one
     /// then, so that what was taken out can be put in again.
-    fn remove(&mut self, hash: u64, r: TupleRef)
+    fn remove(&mut self, hash: u32, r: TupleRef)
         requires { Contains self.old.entries (hash, r) }
         ensures entries { IsSameBag self.old.entries ((hash, r) ∷ self.new.entries) }
         ensures room { self.old.room + 1 ≤ self.new.room }
@@ -195,7 +195,7 @@ impl ExactIndex for LinHash {
     }
 
     /// Appends what `chain` gives. After an error `out` is as before.
-    fn matching(&self, hash: u64, out: &mut Vec<TupleRef>) -> Result<(), NoMemory> {
+    fn matching(&self, hash: u32, out: &mut Vec<TupleRef>) -> Result<(), NoMemory> {
         let before = out.len();
         for r in self.chain(hash) {
             if out.push(r).is_err() {
@@ -257,7 +257,7 @@ fn reserve_memory(table: &mut Option<Table>, alloc: Global, entries: usize) -> R
 }
 
 // Puts an entry into the table, which then has `len` of them.
-fn insert_entry(table: &mut Option<Table>, hash: u64, r: TupleRef, len: usize)
+fn insert_entry(table: &mut Option<Table>, hash: u32, r: TupleRef, len: usize)
     requires nodes { length (table_entries table.old) < table_nodes table.old }
     requires heads { length (table_entries table.old) < 2 * table_heads table.old }
     requires counted { len ≡ length (table_entries table.old) + 1 }
@@ -276,7 +276,7 @@ fn insert_entry(table: &mut Option<Table>, hash: u64, r: TupleRef, len: usize)
 }
 
 // Takes an entry out of the table, which then has `len` of them.
-fn remove_entry(table: &mut Option<Table>, hash: u64, r: TupleRef, len: usize)
+fn remove_entry(table: &mut Option<Table>, hash: u32, r: TupleRef, len: usize)
     requires held { Contains (table_entries table.old) (hash, r) }
     requires counted { length (table_entries table.old) ≡ len + 1 }
     requires short { len < 2 ^ 32 }

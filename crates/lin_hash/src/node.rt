@@ -6,6 +6,7 @@ ghost use Rattle.std.specs.Prelude.{◌≡◌, ◌<◌, ◌-◌, ◌^◌};
 ghost use Rattle.lin_hash.specs.Nodes.{leads_to, no_link, link_to};
 
 use part_raw::TupleRef;
+use std::mem::size_of;
 
 // How many places a link can name.
 pub const MOST_NODES: usize = 0xffff_ffff;
@@ -47,7 +48,9 @@ impl NodeLink {
 /// An entry, and the way to the next one.
 #[derive(Clone, Copy, Drop)]
 pub struct Node {
-    pub hash: u64,
+    pub hash: u32,
     pub reference: TupleRef,
     pub next: NodeLink,
 }
+
+const _: () = prove!(size_of::<Node>() == 12);

@@ -134,7 +134,7 @@ impl Table {
 
     // Puts an entry in, and splits a bucket where there are then more entries than twice the buckets: `len` of
     // them.
-    pub fn insert(&mut self, hash: u64, r: TupleRef, len: usize)
+    pub fn insert(&mut self, hash: u32, r: TupleRef, len: usize)
         requires nodes { length self.old.entries < self.old.nodes }
         requires heads { length self.old.entries < 2 * self.old.heads }
         requires counted { len ≡ length self.old.entries + 1 }
@@ -154,7 +154,7 @@ impl Table {
 
     // Takes one such entry out, and folds a bucket where there are then fewer entries than half the buckets:
     // `len` of them.
-    pub fn remove(&mut self, hash: u64, r: TupleRef, len: usize)
+    pub fn remove(&mut self, hash: u32, r: TupleRef, len: usize)
         requires held { Contains self.old.entries (hash, r) }
         requires counted { length self.old.entries ≡ len + 1 }
         requires short { len < 2 ^ 32 }
@@ -174,7 +174,7 @@ impl Table {
     }
 
     // The references with a hash.
-    pub fn chain(&self, hash: u64) -> Chain<'_>
+    pub fn chain(&self, hash: u32) -> Chain<'_>
         ensures { IsSameBag (chain_rest result) (with_hash hash self.now.entries) }
     {
         let bucket = self.address.bucket(hash);
@@ -189,7 +189,7 @@ impl Table {
     }
 
     // Puts an entry into the bucket of its hash.
-    fn add(&mut self, hash: u64, r: TupleRef)
+    fn add(&mut self, hash: u32, r: TupleRef)
         requires { length self.old.entries < self.old.nodes }
         ensures entries { IsSameBag self.new.entries ((hash, r) ∷ self.old.entries) }
         ensures nodes { self.new.nodes ≡ self.old.nodes }
@@ -207,7 +207,7 @@ impl Table {
     }
 
     // Takes one such entry out.
-    fn take(&mut self, hash: u64, r: TupleRef)
+    fn take(&mut self, hash: u32, r: TupleRef)
         requires { Contains self.old.entries (hash, r) }
         ensures entries { IsSameBag self.old.entries ((hash, r) ∷ self.new.entries) }
         ensures nodes { self.new.nodes ≡ self.old.nodes }
@@ -222,7 +222,7 @@ impl Table {
     }
 
     // Takes the last node off, and gives its entry.
-    fn pop(&mut self) -> (u64, TupleRef)
+    fn pop(&mut self) -> (u32, TupleRef)
         requires { 0 < length self.old.entries }
         ensures entries { self.old.entries ≡ self.new.entries ++ result ∷ [] }
         ensures nodes { self.new.nodes ≡ self.old.nodes }
@@ -245,7 +245,7 @@ impl Table {
     }
 
     // Puts an entry where another one is, which goes.
-    fn replace(&mut self, hash: u64, r: TupleRef, by: (u64, TupleRef))
+    fn replace(&mut self, hash: u32, r: TupleRef, by: (u32, TupleRef))
         requires { Contains self.old.entries (hash, r) }
         ensures entries { IsSameBag ((hash, r) ∷ self.new.entries) (by ∷ self.old.entries) }
         ensures nodes { self.new.nodes ≡ self.old.nodes }

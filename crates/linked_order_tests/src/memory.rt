@@ -13,16 +13,16 @@ use std::test::Fail;
 use ttree::TTree;
 
 // The keys of the two authors, of whom the first comes last by the key.
-const FIRST: u64 = 7;
+const FIRST: u32 = 7;
 
-const SECOND: u64 = 5;
+const SECOND: u32 = 5;
 
 const BOOKS: u64 = 1_000;
 
 fn put_author(
     alloc: Global,
     authors: &mut Partitions<Author>,
-    key: u64,
+    key: u32,
 ) -> Result<TupleRef, NoMemory> {
     if authors.len() >= MAX_TUPLES || authors.width() != 1 {
         return Err(NoMemory);
@@ -68,7 +68,7 @@ fn relink<I: OrderedIndex, E: ExactIndex>(
 // Takes the books of the author with that key out, and releases what the indexes then don't use.
 fn empty<I: OrderedIndex, E: ExactIndex>(
     shelf: &mut Shelf<'_, I, E>,
-    by: u64,
+    by: u32,
 ) -> Result<(), Refused>
     requires { IsKept shelf.old.authors.now.tuples shelf.old.books.tuples (I.items shelf.old.tree) (E.entries shelf.old.hash) }
     ensures { IsKept shelf.new.authors.now.tuples shelf.new.books.tuples (I.items shelf.new.tree) (E.entries shelf.new.hash) }

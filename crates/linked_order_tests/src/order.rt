@@ -10,7 +10,7 @@ use std::cmp::Ordering;
 /// The tuple that is linked to.
 #[derive(Drop)]
 pub struct Author {
-    pub key: u64,
+    pub key: u32,
 }
 
 /// The tuple with a link.
@@ -21,7 +21,7 @@ pub struct Book {
 }
 
 /// What a book is compared by: its author's key, and its own.
-pub fn rank(authors: &Partitions<Author>, books: &Partitions<Book>, r: TupleRef) -> (u64, u64)
+pub fn rank(authors: &Partitions<Author>, books: &Partitions<Book>, r: TupleRef) -> (u32, u64)
     requires { IsSome (rank_at authors.now.tuples books.now.tuples r) }
     ensures { rank_at authors.now.tuples books.now.tuples r ≡ Some result }
 {
@@ -57,7 +57,7 @@ impl<'a> TupleOrder for RankOrder<'a> {
 pub struct RankProbe<'a> {
     pub authors: &'a Partitions<Author>,
     pub books: &'a Partitions<Book>,
-    pub sought: (u64, u64),
+    pub sought: (u32, u64),
     pub asked: u64,
 }
 

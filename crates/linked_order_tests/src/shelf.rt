@@ -79,7 +79,7 @@ impl<'a, I: OrderedIndex, E: ExactIndex> Shelf<'a, I, E> {
     }
 
     /// The book with this rank.
-    pub fn find(&self, sought: (u64, u64)) -> Option<TupleRef>
+    pub fn find(&self, sought: (u32, u64)) -> Option<TupleRef>
         requires { IsKept self.now.authors.now.tuples self.now.books.tuples (I.items self.now.tree) (E.entries self.now.hash) }
         ensures found { IfSome result (λ r. rank_at self.now.authors.now.tuples self.now.books.tuples r ≡ Some sought) }
         ensures none { IfNone result ((r : TupleRef) → rank_at self.now.authors.now.tuples self.now.books.tuples r ≢ Some sought) }

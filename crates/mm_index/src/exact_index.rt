@@ -24,20 +24,20 @@ pub trait ExactIndex {
         ensures room { room self.old ≤ room self.new };
 
     /// Puts one pair in. Takes no memory.
-    fn insert(&mut self, hash: u64, r: TupleRef)
+    fn insert(&mut self, hash: u32, r: TupleRef)
         requires reserved { 0 < room self.old }
         requires short { length (entries self.old) < MAX_LEN }
         ensures entries { IsSameBag (entries self.new) ((hash, r) ∷ entries self.old) }
         ensures room { room self.old ≤ room self.new + 1 };
 
     /// Takes one such pair out. Takes no memory.
-    fn remove(&mut self, hash: u64, r: TupleRef)
+    fn remove(&mut self, hash: u32, r: TupleRef)
         requires { Contains (entries self.old) (hash, r) }
         ensures entries { IsSameBag (entries self.old) ((hash, r) ∷ entries self.new) }
         ensures room { room self.old + 1 ≤ room self.new };
 
     /// Appends the references with that hash, each as often as it is held, in any order.
-    fn matching(&self, hash: u64, out: &mut Vec<TupleRef>) -> Result<(), NoMemory>
+    fn matching(&self, hash: u32, out: &mut Vec<TupleRef>) -> Result<(), NoMemory>
         ensures ok { OnOk result (AppendsBag out.old.items out.new.items (with_hash hash (entries self.now))) }
         ensures err { OnErr result (out.new.items ≡ out.old.items) };
 

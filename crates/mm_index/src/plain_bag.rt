@@ -13,7 +13,7 @@ use std::marker::Model;
 /// Pairs in a vector, in no order. A look-up passes over all of them.
 #[derive(Drop)]
 pub struct PlainBag {
-    pairs: Vec<(u64, TupleRef)>,
+    pairs: Vec<(u32, TupleRef)>,
 }
 
 impl Model for PlainBag {
@@ -38,7 +38,7 @@ impl PlainBag {
     }
 
     /// The references with that hash, each as often as it is held, in any order.
-    pub fn chain(&self, hash: u64) -> Chain<'_>
+    pub fn chain(&self, hash: u32) -> Chain<'_>
         ensures { IsSameBag (chain_rest result) (with_hash hash self.now.entries) }
     {
         Chain {
@@ -58,17 +58,17 @@ impl ExactIndex for PlainBag {
         Ok(())
     }
 
-    fn insert(&mut self, hash: u64, r: TupleRef) {
+    fn insert(&mut self, hash: u32, r: TupleRef) {
         let pushed = self.pairs.push((hash, r));
         prove!(pushed.is_ok());
     }
 
-    fn remove(&mut self, hash: u64, r: TupleRef) {
+    fn remove(&mut self, hash: u32, r: TupleRef) {
         let place = place_of(self.pairs.as_slice(), hash, r);
         self.pairs.swap_remove(place);
     }
 
-    fn matching(&self, hash: u64, out: &mut Vec<TupleRef>) -> Result<(), NoMemory> {
+    fn matching(&self, hash: u32, out: &mut Vec<TupleRef>) -> Result<(), NoMemory> {
         let before = out.len();
         for r in self.chain(hash) {
             if out.push(r).is_err() {
@@ -89,7 +89,7 @@ impl ExactIndex for PlainBag {
 }
 
 // Where the pair stands first.
-fn place_of(pairs: &[(u64, TupleRef)], hash: u64, r: TupleRef) -> usize
+fn place_of(pairs: &[(u32, TupleRef)], hash: u32, r: TupleRef) -> usize
     requires { Contains pairs.now (hash, r) }
     ensures bound { result < length pairs.now }
     ensures found { slice_index_or pairs.now result (hash, r) ≡ (hash, r) }
@@ -101,8 +101,8 @@ fn place_of(pairs: &[(u64, TupleRef)], hash: u64, r: TupleRef) -> usize
 /// The references with one hash that are left to visit.
 #[derive(Clone, Copy)]
 pub struct Chain<'a> {
-    hash: u64,
-    rest: &'a [(u64, TupleRef)],
+    hash: u32,
+    rest: &'a [(u32, TupleRef)],
 }
 
 impl<'a> Iterator for Chain<'a> {

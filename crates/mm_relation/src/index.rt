@@ -31,7 +31,7 @@ pub struct IndexOn {
 }
 
 // The hash of a row's value in a column.
-pub fn hash_in<R: LinkedKeys>(rows: &Rows, others: &R, column: ColumnNumber, r: TupleRef) -> u64
+pub fn hash_in<R: LinkedKeys>(rows: &Rows, others: &R, column: ColumnNumber, r: TupleRef) -> u32
     requires { IsSome (value_at (R.keys others.now) column.0 rows.now.tuples r) }
     ensures { result ≡ hash_at (R.keys others.now) column.0 rows.now.tuples r }
 {

@@ -271,7 +271,7 @@ impl Relation {
     }
 
     /// The rows whose value in a column with a hash has this hash, in any order.
-    pub fn chain_of(&self, column: ColumnNumber, hash: u64) -> Chain<'_>
+    pub fn chain_of(&self, column: ColumnNumber, hash: u32) -> Chain<'_>
         requires { HasHash self.now column.0 }
         ensures { IsSameBag (chain_rest result) (with_hash hash (entries_of self.now column.0)) }
     {

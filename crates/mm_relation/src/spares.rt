@@ -20,7 +20,7 @@ const ROWS_A_FREE_SLOT: u64 = 4;
 // A tree keeps so few spare nodes, however few are in use.
 const FEW_NODES: usize = 64;
 
-// A hash keeps memory for so few nodes, of 16 bytes each, however few entries it has.
+// A hash keeps memory for so few nodes, of 12 bytes each, however few entries it has.
 const FEW_HASH_NODES: usize = 4_096;
 
 // And for so many an entry: so memory isn't given back and taken again as entries go and come.

@@ -95,7 +95,7 @@ impl<'a, R: Relations> ShownRow<'a, R> {
     {
         let mut hash = BEGIN;
         for column in 0..self.width() {
-            hash = (hash ^ hash_of(self.value(column))).wrapping_mul(PRIME);
+            hash = (hash ^ u64::from(hash_of(self.value(column)))).wrapping_mul(PRIME);
         }
         hash
     }

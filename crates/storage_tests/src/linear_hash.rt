@@ -14,7 +14,7 @@ fn numbered(number: u32) -> TupleRef {
     TupleRef { number }
 }
 
-fn add<E: ExactIndex>(index: &mut E, hash: u64, r: TupleRef) -> Result<(), NoMemory> {
+fn add<E: ExactIndex>(index: &mut E, hash: u32, r: TupleRef) -> Result<(), NoMemory> {
     index.reserve(1)?;
     if index.len() < MAX_LEN {
         index.insert(hash, r);
@@ -22,7 +22,7 @@ fn add<E: ExactIndex>(index: &mut E, hash: u64, r: TupleRef) -> Result<(), NoMem
     Ok(())
 }
 
-fn holds<E: ExactIndex>(alloc: Global, index: &E, hash: u64, r: TupleRef) -> Result<bool, NoMemory>
+fn holds<E: ExactIndex>(alloc: Global, index: &E, hash: u32, r: TupleRef) -> Result<bool, NoMemory>
     ensures { IfOk result (λ held. OnTrue held (Contains (E.entries index.now) (hash, r))) }
 {
     let mut found = Vec::new(alloc);
@@ -38,7 +38,7 @@ fn holds<E: ExactIndex>(alloc: Global, index: &E, hash: u64, r: TupleRef) -> Res
 fn take<E: ExactIndex>(
     alloc: Global,
     index: &mut E,
-    hash: u64,
+    hash: u32,
     r: TupleRef,
 ) -> Result<(), NoMemory> {
     if holds(alloc, index, hash, r)? {
@@ -48,7 +48,7 @@ fn take<E: ExactIndex>(
 }
 
 // The numbers of the references with a hash, in rising order.
-fn numbers<E: ExactIndex>(alloc: Global, index: &E, hash: u64) -> Result<Vec<u32>, NoMemory> {
+fn numbers<E: ExactIndex>(alloc: Global, index: &E, hash: u32) -> Result<Vec<u32>, NoMemory> {
     let mut found = Vec::new(alloc);
     index.matching(hash, &mut found)?;
     let mut numbers: Vec<u32> = found.iter().map(|r| r.number).collect(alloc)?;
@@ -62,7 +62,7 @@ struct Beside {
     index: LinHash,
     buckets: usize,
     plain: PlainBag,
-    held: Vec<(u64, TupleRef)>,
+    held: Vec<(u32, TupleRef)>,
 }
 
 impl Beside {
@@ -76,7 +76,7 @@ impl Beside {
     }
 
     // Puts a pair in. Where there are then more than twice as many as buckets, there is a bucket more.
-    fn add(&mut self, hash: u64, r: TupleRef) -> Result<(), NoMemory> {
+    fn add(&mut self, hash: u32, r: TupleRef) -> Result<(), NoMemory> {
         add(&mut self.index, hash, r)?;
         add(&mut self.plain, hash, r)?;
         self.held.push((hash, r))?;
@@ -88,7 +88,7 @@ impl Beside {
 
     // Takes the last pair out, if there is one, and gives its hash. Where there are then fewer than half as many as
     // buckets, and more than four buckets, there is a bucket fewer.
-    fn take_last(&mut self, alloc: Global) -> Result<Option<u64>, NoMemory> {
+    fn take_last(&mut self, alloc: Global) -> Result<Option<u32>, NoMemory> {
         let Some((hash, r)) = self.held.pop() else {
             return Ok(None);
         };
@@ -106,7 +106,7 @@ impl Beside {
     }
 
     // Whether the hash has the same references in both.
-    fn agrees(&self, alloc: Global, hash: u64) -> Result<bool, NoMemory> {
+    fn agrees(&self, alloc: Global, hash: u32) -> Result<bool, NoMemory> {
         let one = numbers(alloc, &self.index, hash)?;
         let other = numbers(alloc, &self.plain, hash)?;
         Ok(one.as_slice() == other.as_slice())
@@ -120,12 +120,12 @@ fn next_seed(seed: u64) -> u64 {
 
 // Changes in four waves, each of which begins with more inserts than removes, and ends with more removes. The hashes lie
 // below a limit. After each change the sizes are compared, and what has the hash that was met.
-fn agrees_throughout(alloc: Global, limit: u64) -> Result<bool, NoMemory> {
+fn agrees_throughout(alloc: Global, limit: u32) -> Result<bool, NoMemory> {
     let mut both = Beside::new(alloc);
     let mut seed = 1986;
     for step in 0..10_000u32 {
         seed = next_seed(seed);
-        let drawn = seed >> 33;
+        let drawn = (seed >> 33) as u32;
         let inserts = if step % 2_500 < 1_500 { 7 } else { 1 };
         let mut hash = drawn.checked_rem(limit).unwrap_or(drawn);
         if drawn % 8 < inserts {
