@@ -49,9 +49,9 @@ class Refuser:
                 os.close(tells)
             return Ended(ran.returncode, ran.stdout, ran.stderr), heard.read() != b""
 
-    def calls(self, command, stream):
-        """How many calls for memory a command makes that answers a file."""
-        return bisect.bisect_left(range(1, MOST_CALLS), True, key=lambda nth: not self.run_over_file(command, stream, nth)[1])
+    def calls(self, command, stream, most=MOST_CALLS):
+        """How many calls for memory a command makes that answers a file, where they are fewer than the most."""
+        return bisect.bisect_left(range(1, most), True, key=lambda nth: not self.run_over_file(command, stream, nth)[1])
 
     def each_run(self, command, stream=b""):
         """Refuses each call for memory in turn, until a run makes no further one, and gives how each run ended."""

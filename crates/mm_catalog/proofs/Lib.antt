@@ -57,3 +57,7 @@ pub mod UpdateDone
 pub mod TreeShapes
 pub mod IndexShapes
 pub mod Standing
+pub mod AnyOrder
+pub mod Arranging
+pub mod ComeIn
+pub mod RisingKeys

@@ -17,5 +17,6 @@ pub mod Seen
 pub mod Select
 pub mod State
 pub mod Trees
+pub mod LoadOrder
 pub mod Standing
 pub mod Indexes

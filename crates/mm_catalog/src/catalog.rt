@@ -3,6 +3,7 @@ ghost use Rattle.std.specs.Prelude.{◌≡◌, ◌≢◌, ◌<◌, ◌≤◌, �
 ghost use Rattle.std.specs.List.{AllPairs};
 ghost use Rattle.std.specs.Option.{option_map};
 
+use crate::by_key;
 use crate::create::{aimed, any_refers_to};
 use crate::declare::{declare, undeclare};
 use crate::delete::{delete, take_out};
@@ -255,9 +256,30 @@ impl Catalog {
         ensures loaded { OnOk result (HasEffect self.old self.new (done self.old.limits (database_of self.old) (resolved.Load table rows)) (length rows)) }
         ensures refused { IfErr result (IsDeclinedFor self.old self.new (done self.old.limits (database_of self.old) (resolved.Load table rows))) }
     {
+        let rows = self.in_best_order(table, rows.into_vec());
+        self.load_each(table, rows)
+    }
+
+    // The rows of a load in the order in which they go in best. A load of them is that of the rows as they stand.
+    fn in_best_order(&self, table: TableNumber, rows: Vec<Sequence<Value>>) -> Vec<Sequence<Value>>
+        requires { IsMeant self.now.limits (database_of self.now) (resolved.Load table rows.items) }
+        ensures meant { IsMeant self.now.limits (database_of self.now) (resolved.Load table result.items) }
+        ensures same { done self.now.limits (database_of self.now) (resolved.Load table result.items) ≡ done self.now.limits (database_of self.now) (resolved.Load table rows.items) }
+        ensures each { length result.items ≡ length rows.items }
+    {
+        a_catalog_is_consistent(self);
+        by_key::in_best_order(self.allocator(), self.at(table), self.limits(), rows)
+    }
+
+    // Puts rows into a table, one after the other. Where one of them cannot come in, those before it go out again.
+    fn load_each(&mut self, table: TableNumber, rows: Vec<Sequence<Value>>) -> Result<(), Refusal>
+        requires { IsMeant self.old.limits (database_of self.old) (resolved.Load table rows.items) }
+        ensures loaded { OnOk result (HasEffect self.old self.new (done self.old.limits (database_of self.old) (resolved.Load table rows.items)) (length rows.items)) }
+        ensures refused { IfErr result (IsDeclinedFor self.old self.new (done self.old.limits (database_of self.old) (resolved.Load table rows.items))) }
+    {
         a_catalog_is_consistent(self);
         let mut taken = room_for(self.allocator(), rows.len())?;
-        for row in rows.into_vec() {
+        for row in rows {
             match self.take_in(table, row) {
                 Ok(r) => taken.push_reserved(r),
                 Err(refusal) => {

@@ -19,6 +19,7 @@
 
 mod before;
 mod bind;
+mod by_key;
 mod catalog;
 mod create;
 mod declare;

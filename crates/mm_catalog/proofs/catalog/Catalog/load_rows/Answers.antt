@@ -1,90 +1,28 @@
-use Rattle.std.proofs.Common.{◌≡◌, ◌⊎◌, ℕ, ◌+◌, ◌<◌, ◌++◌, ◌∷◌, [], List, Some, length, refl, sym, ap, ◌∙◌, subst, arith}
-use Rattle.std.specs.List.{slice_get}
-use Rattle.std.proofs.lemmas.Iterator.Adapters.{YieldsList-from_vec}
-use Rattle.std.proofs.lemmas.Iterator.Consumers.{YieldsList-turn}
-use Rattle.std.proofs.lemmas.List.{length_push}
-use Rattle.std.proofs.lemmas.Option.{slice_get_read, slice_get_within}
-use Rattle.common_lemmas.proofs.Places.{slice_get-inside}
-use Rattle.plain_tables.specs.Doing.{in_record, load}
-use Rattle.plain_tables.specs.Effects.{Refused}
+-- A load of the rows as they go in is that of the rows as they stand.
+use Rattle.std.proofs.Common.{◌≡◌, ℕ, List, length, ap, ◌∙◌, subst}
+use Rattle.std.specs.Prelude.{OnOk, IfErr}
+use Rattle.plain_tables.specs.Doing.{load}
+use Rattle.plain_tables.specs.Effects.{Effect}
 use Rattle.plain_tables.specs.Tables.{Row}
-use Rattle.plain_tables.specs.declared.refusal.Refusal.{Refusal}
-use Rattle.plain_tables.specs.declared.refusal.Refusal.TheVariants.{NoMemory}
-use Rattle.mm_catalog.specs.Loaded.{HasMore, HaveGone}
+use Rattle.mm_catalog.specs.Changes.{HasEffect, IsDeclinedFor}
 use Rattle.mm_catalog.specs.Seen.{database_of}
 use Rattle.mm_catalog.specs.State.{CatalogState}
-use Rattle.mm_catalog.proofs.Declared.{there_at}
-use Rattle.mm_catalog.proofs.Loaded.{more_none, more_then}
-use Rattle.mm_catalog.proofs.LoadSteps.{IsUnderWay, under_way_none, under_way_meant, under_way_then, under_way_refused}
-use Rattle.mm_catalog.proofs.TakenBack.{taken_back}
 use Rattle.mm_catalog.proofs.catalog.Catalog.load_rows.Goals as goal
 
-pub loop-row-init : goal.loop-row-init
-loop-row-init c =
+pub returns-clause-loaded : goal.returns-clause-loaded
+returns-clause-loaded c =
     let old : CatalogState = c.args.self.now in
-    let n = c.args.table.0 in
-    let there = slice_get-inside old.relations n (there_at old c.a_catalog_is_consistent.ensures n c.requires.0 c.requires.1) in
-    record {
-      can_next = tt;
-      is_finite = tt;
-      count = ap length c.in_ok-taken.ensures.none;
-      room = omega (arith, c.in_ok-taken.ensures.room, c.len.ensures);
-      more = subst (HasMore old old n) (sym c.in_ok-taken.ensures.none) (more_none old n there.0 there.1);
-      way = under_way_none old c.args.table c.args.rows c.requires;
-    }
+    let new : CatalogState = c.load_each.new.self in
+    let rows : List Row = c.in_best_order-rows.result.items in
+    let effect : List Row → Effect = λ rs. load old.limits (database_of old) c.args.table rs in
+    let same : effect rows ≡ effect c.args.rows = c.in_best_order-rows.ensures.same ∙ ap effect c.into_vec.ensures in
+    let each : length rows ≡ length c.args.rows = c.in_best_order-rows.ensures.each ∙ ap length c.into_vec.ensures in
+    subst (λ (count : ℕ). OnOk c.load_each.result (HasEffect old new (effect c.args.rows) count)) each
+    (subst (λ (e : Effect). OnOk c.load_each.result (HasEffect old new e (length rows))) same c.load_each.ensures.loaded)
 
-pub take_in-requires : goal.take_in-requires
-take_in-requires c =
-    let gives = c.into_iter-row-iterator.ensures.into_iter_gives in
-    let rows = c.into_vec-row-items.result in
-    let turn = YieldsList-turn (YieldsList-from_vec rows.items gives.0 (omega (arith, gives.1, rows.ok.0))) c.loop-row.yielded c.loop-row.row-iterator c.loop-row.yielded_by c.next.result c.next.new.self c.in-Some.row c.in-Some.is c.next.ensures.steps in
-    let at : slice_get c.args.rows (length c.loop-row.yielded) ≡ Some c.in-Some.row =
-    ap (λ (rs : List Row). slice_get rs (length c.loop-row.yielded)) (sym c.into_vec-row-items.ensures)
-    ∙ slice_get_read rows.items (length rows.items) (length c.loop-row.yielded) c.in-Some.row refl turn.0 turn.1 in
-    under_way_meant c.args.self.now c.loop-row.self c.args.table c.args.rows (length c.loop-row.yielded) c.loop-row.invariant.way c.in-Some.row at
-
-pub loop-row-preserved : goal.loop-row-preserved
-loop-row-preserved c =
-    let gives = c.into_iter-row-iterator.ensures.into_iter_gives in
-    let rows = c.into_vec-row-items.result in
-    let turn = YieldsList-turn (YieldsList-from_vec rows.items gives.0 (omega (arith, gives.1, rows.ok.0))) c.loop-row.yielded c.loop-row.row-iterator c.loop-row.yielded_by c.next.result c.next.new.self c.in-Some.row c.in-Some.is c.next.ensures.steps in
-    let at : slice_get c.args.rows (length c.loop-row.yielded) ≡ Some c.in-Some.row =
-    ap (λ (rs : List Row). slice_get rs (length c.loop-row.yielded)) (sym c.into_vec-row-items.ensures)
-    ∙ slice_get_read rows.items (length rows.items) (length c.loop-row.yielded) c.in-Some.row refl turn.0 turn.1 in
-    let taken = c.loop-row.taken.items in
-    let next : length (c.loop-row.yielded ++ c.in-Some.row ∷ []) ≡ length c.loop-row.yielded + 1 = omega (arith, length_push c.loop-row.yielded c.in-Some.row) in
-    record {
-      can_next = tt;
-      is_finite = tt;
-      count = ap length c.push_reserved.ensures.items ∙ omega (arith, c.loop-row.invariant.count, length_push taken c.in-Ok.r, next);
-      room = omega (arith, c.loop-row.invariant.room, c.push_reserved.ensures.capacity);
-      more = subst (HasMore c.args.self.now c.take_in.new.self c.args.table.0) (sym c.push_reserved.ensures.items)
-          (more_then c.args.self.now c.loop-row.self c.take_in.new.self c.args.table.0 c.in-Some.row taken c.in-Ok.r c.loop-row.invariant.more c.in-Ok.ensures.came);
-      way = subst (IsUnderWay c.args.self.now c.take_in.new.self c.args.table c.args.rows) (sym next)
-          (under_way_then c.args.self.now c.loop-row.self c.args.table c.args.rows (length c.loop-row.yielded) c.loop-row.invariant.way c.in-Some.row at c.take_in.new.self c.in-Ok.ensures.inserted);
-    }
-
-pub take_back-requires-clause-there : goal.take_back-requires-clause-there
-take_back-requires-clause-there c =
-    let can = c.loop-row.invariant.way.can in
-    subst (λ (s : CatalogState). c.args.table.0 < length (database_of s)) (sym c.in-Err.ensures.refused.0)
-    (slice_get_within (database_of c.loop-row.self) c.args.table.0 can.0 can.1)
-
-pub returns-in-Err-clause-refused : goal.returns-in-Err-clause-refused
-returns-in-Err-clause-refused c =
+pub returns-clause-refused : goal.returns-clause-refused
+returns-clause-refused c =
     let old : CatalogState = c.args.self.now in
-    let gives = c.into_iter-row-iterator.ensures.into_iter_gives in
-    let rows = c.into_vec-row-items.result in
-    let turn = YieldsList-turn (YieldsList-from_vec rows.items gives.0 (omega (arith, gives.1, rows.ok.0))) c.loop-row.yielded c.loop-row.row-iterator c.loop-row.yielded_by c.next.result c.next.new.self c.in-Some.row c.in-Some.is c.next.ensures.steps in
-    let at : slice_get c.args.rows (length c.loop-row.yielded) ≡ Some c.in-Some.row =
-    ap (λ (rs : List Row). slice_get rs (length c.loop-row.yielded)) (sym c.into_vec-row-items.ensures)
-    ∙ slice_get_read rows.items (length rows.items) (length c.loop-row.yielded) c.in-Some.row refl turn.0 turn.1 in
-    let taken = c.loop-row.taken.items in
-    let more : HasMore old c.take_in.new.self c.args.table.0 taken = subst (λ (s : CatalogState). HasMore old s c.args.table.0 taken) (sym c.in-Err.ensures.refused.0) c.loop-row.invariant.more in
-    let gone : HaveGone c.take_in.new.self c.take_back.new.self c.args.table.0 taken = subst (HaveGone c.take_in.new.self c.take_back.new.self c.args.table.0) c.as_slice.ensures.value c.take_back.ensures in
-    let place : c.len-in-Err.result ≡ length c.loop-row.yielded = omega (arith, c.len-in-Err.ensures, c.loop-row.invariant.count, c.loop-row.taken.ok.0) in
-    let named : c.in_record.result ≡ in_record (length c.loop-row.yielded + 1) c.in-Err.refusal = c.in_record.ensures ∙ ap (λ (k : ℕ). in_record (k + 1) c.in-Err.refusal) place in (
-      taken_back old c.a_catalog_is_consistent.ensures c.take_in.new.self c.take_back.new.self c.args.table.0 taken more gone,
-      subst (λ (e : Refusal). (e ≡ NoMemory) ⊎ ((load old.limits (database_of old) c.args.table c.args.rows).outcome ≡ Refused e)) (sym named)
-          (under_way_refused old c.loop-row.self c.args.table c.args.rows (length c.loop-row.yielded) c.loop-row.invariant.way c.in-Some.row at c.take_in.new.self c.in-Err.refusal c.in-Err.ensures.refused),
-    )
+    let effect : List Row → Effect = λ rs. load old.limits (database_of old) c.args.table rs in
+    let same : effect c.in_best_order-rows.result.items ≡ effect c.args.rows = c.in_best_order-rows.ensures.same ∙ ap effect c.into_vec.ensures in
+    subst (λ (e : Effect). IfErr c.load_each.result (IsDeclinedFor old c.load_each.new.self e)) same c.load_each.ensures.refused
