@@ -1,5 +1,6 @@
 pub mod AnswerLemmas
 pub mod AskLemmas
+pub mod BatchLemmas
 pub mod BesideLemmas
 pub mod DumpLemmas
 pub mod IndexLemmas
@@ -10,6 +11,7 @@ pub mod MemberLemmas
 pub mod PerformLemmas
 pub mod PickLemmas
 pub mod PlaceLemmas
+pub mod PlacedLemmas
 pub mod QueryLemmas
 pub mod RefusedLemmas
 pub mod RequestLemmas

@@ -49,14 +49,14 @@ use Rattle.mm_session.proofs.ShowLemmas.{still_over, headings_shown, values_show
 
 -- ---- the places that are shown
 
-shown_there : (tables : List Table) (its : Shown) → IsShown tables its → All (meant.HasPlace tables) (places_shown tables its)
+pub shown_there : (tables : List Table) (its : Shown) → IsShown tables its → All (meant.HasPlace tables) (places_shown tables its)
 shown_there tables shown.All there =
     All-map (meant.HasPlace tables) (λ (j : JoinedColumn). j.place) (joined_columns tables)
     (All-weaker (IsAt tables) (λ (j : JoinedColumn). meant.HasPlace tables j.place)
     (λ j at. (at.0, at.1, slice_get_within at.0.columns j.place.column.0 j.column at.2)) (joined_columns tables) (columns_at tables))
 shown_there tables (shown.Columns places) there = there.1
 
-some_shown : (table : Table) (tables : List Table) (its : Shown) → 0 < length table.columns → IsShown (table ∷ tables) its → 0 < length (places_shown (table ∷ tables) its)
+pub some_shown : (table : Table) (tables : List Table) (its : Shown) → 0 < length table.columns → IsShown (table ∷ tables) its → 0 < length (places_shown (table ∷ tables) its)
 some_shown table tables (shown.Columns places) some there = there.0
 some_shown table tables shown.All some there =
     let place : JoinedColumn → Place = λ j. j.place in
@@ -82,7 +82,7 @@ module _ (c : CatalogState) (ok : IsConsistent c) where
           let same = width_same c ok n table stands s.0 s.1 in
           (s.0, ap (option_and_then (slice_get c.relations)) e ∙ s.1, omega (arith, same, within))
 
-  joins_tables : (joins : List Joined) → filter_map (slice_get (database_of c)) (joined_numbers joins) ≡ filter_map (λ (s : Source). slice_get (database_of c) s.table.0) (map (λ (j : Joined). j.source) joins)
+  pub joins_tables : (joins : List Joined) → filter_map (slice_get (database_of c)) (joined_numbers joins) ≡ filter_map (λ (s : Source). slice_get (database_of c) s.table.0) (map (λ (j : Joined). j.source) joins)
   joins_tables [] = refl
   joins_tables (join ∷ joins) = ap (cons_option (slice_get (database_of c) join.source.table.0)) (joins_tables joins)
 

@@ -1,13 +1,13 @@
 -- The rows that a walk of the key finds, and what is shown of them.
-use Rattle.std.proofs.Common.{◌≡◌, ◌∙◌, ℕ, zero, suc, ◌+◌, ◌<◌, ◌≤◌, Bool, true, false, cond, List, [], ◌∷◌, ◌++◌, Some, None, refl, sym, ap, subst, arith, append-nil, filter, get_or, length, map, length-append}
+use Rattle.std.proofs.Common.{◌≡◌, ◌∙◌, ℕ, zero, suc, ◌<◌, ◌≤◌, Bool, true, false, cond, List, [], ◌∷◌, ◌++◌, Some, refl, sym, ap, subst, arith, append-nil, filter, get_or, length, map, length-append}
 use Rattle.std.specs.Prelude.{slice_get}
 use Rattle.std.specs.List.{All}
 use Rattle.std.proofs.lemmas.List.Elements.{filter-append}
 use Rattle.std.proofs.lemmas.List.Sums.{length-filter, count_by-le-length}
 use Rattle.std.proofs.lemmas.Option.{same_Some}
 use Rattle.part_raw.specs.declared.tuple_ref.TupleRef.{TupleRef}
-use Rattle.plain_tables.specs.Joining.{Member, members_of}
-use Rattle.plain_tables.specs.Doing.{headings, joined_tables, shown_rows, shown_values}
+use Rattle.plain_tables.specs.Joining.{members_of}
+use Rattle.plain_tables.specs.Doing.{headings, joined_tables, shown_rows}
 use Rattle.plain_tables.specs.declared.numbers.Place.{Place}
 use Rattle.plain_tables.specs.declared.resolved.Joined.{Joined}
 use Rattle.plain_tables.specs.declared.resolved.Query.{Query}
@@ -24,7 +24,7 @@ use Rattle.temp_list.proofs.ListLemmas.{place_read}
 use Rattle.temp_list.proofs.SelectLemmas.{passing_held}
 use Rattle.join_ops.specs.Joins.{single_rows}
 use Rattle.join_ops.proofs.JoinLemmas.{single_over}
-use Rattle.mm_session.specs.Members.{HasMembers, IsSourceOf, tables_at, joined_numbers, member_of, first_members}
+use Rattle.mm_session.specs.Members.{HasMembers, IsSourceOf, tables_at, joined_numbers, member_of}
 use Rattle.mm_session.specs.Shown.{places_shown, heading, list_values}
 use Rattle.mm_session.specs.Walked.{shown_row, IsWalk, AreColumns, rows_shown}
 use Rattle.mm_session.proofs.MemberLemmas.{map_map, map_same}

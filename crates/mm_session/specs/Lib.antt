@@ -1,4 +1,5 @@
 pub mod Answered
+pub mod Batched
 pub mod Buffers
 pub mod Dumps
 pub mod IndexAnswers

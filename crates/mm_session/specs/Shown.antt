@@ -24,9 +24,13 @@ places_shown tables (shown.Columns places) = places
 abbrev pub heading : List Table → Place → List ℕ
 heading tables place = option_map_or (λ name. name) (name_at tables place) []
 
+-- the values at these places of a row over sources
+abbrev pub placed_values : CatalogState → List ℕ → List Place → List TupleRef → Row
+placed_values c sources places row = map (value_of c.relations sources row) places
+
 -- the values that a list shows of a row
 abbrev pub list_values : CatalogState → ListState → List TupleRef → Row
-list_values c list row = map (value_of c.relations list.sources row) list.columns
+list_values c list row = placed_values c list.sources list.columns row
 
 -- a list that can be shown: it is over the tables of the catalog, and shows a column
 pub record CanShow (c : CatalogState) (list : ListState) : Type 0 where

@@ -1,5 +1,5 @@
 -- A select of one table whose rows are written as a walk of its key finds them.
-use Rattle.std.specs.Prelude.{◌≡◌, ℕ, ◌<◌, false, List, [], ◌∷◌, ◌++◌, Option, Some, length, map, slice_get}
+use Rattle.std.specs.Prelude.{◌≡◌, ℕ, ◌<◌, false, List, [], ◌∷◌, ◌++◌, Option, length, map}
 use Rattle.std.specs.List.{All, flat_map}
 use Rattle.std.specs.Io.KnownBytes.{Appends}
 use Rattle.part_raw.specs.declared.tuple_ref.TupleRef.{TupleRef}
@@ -7,14 +7,14 @@ use Rattle.plain_tables.specs.Csv.{block_text, row_record}
 use Rattle.plain_tables.specs.Tables.{Row}
 use Rattle.plain_tables.specs.Joining.{members_of}
 use Rattle.plain_tables.specs.Doing.{headings, joined_tables, shown_rows}
-use Rattle.plain_tables.specs.ResolvedLaws.{IsMeant, OfTable, AreTests, AreJoins}
+use Rattle.plain_tables.specs.ResolvedLaws.{IsMeant}
 use Rattle.plain_tables.specs.declared.numbers.Place.{Place}
 use Rattle.plain_tables.specs.declared.resolved.Query.{Query}
 use Rattle.plain_tables.specs.declared.resolved.Resolved.TheVariants as resolved
 use Rattle.mm_relation.specs.State.{RelationState}
 use Rattle.mm_catalog.specs.State.{CatalogState}
 use Rattle.mm_catalog.specs.Seen.{database_of}
-use Rattle.temp_list.specs.Reading.{value_in, passing}
+use Rattle.temp_list.specs.Reading.{value_in}
 use Rattle.mm_session.specs.Members.{HasMembers, joined_numbers}
 use Rattle.mm_session.specs.declared.execute.query.Members.{Members}
 use Rattle.mm_session.specs.declared.execute.query.Members.TheVariants as members
@@ -43,7 +43,7 @@ IsWalk c query = IsMeant c.limits (database_of c) (resolved.Select query) × IsO
 abbrev pub AreAtHand : CatalogState → Query → Members → Type 0
 AreAtHand c query (members.Listed list) =
     HasMembers c (query.source.table.0 ∷ joined_numbers query.joins) (members_of (database_of c) query.source query.joins) list
-AreAtHand c query members.Walked = IsOrdered query
+AreAtHand c query members.Walked = query.distinct ≡ false
 
 -- the rows that a query shows
 abbrev pub rows_shown : CatalogState → Query → List Row

@@ -1,5 +1,6 @@
 //! What commands do to the tables of a catalog, and what they answer.
 
+mod batched;
 mod blocks;
 mod indexes;
 mod listing;

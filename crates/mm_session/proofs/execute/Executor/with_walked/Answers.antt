@@ -2,7 +2,7 @@ use Rattle.std.proofs.Common.{◌≡◌, ◌∙◌, ◌∷◌, ◌++◌, ◌<◌
 use Rattle.std.specs.List.{All, flat_map}
 use Rattle.std.proofs.lemmas.List.{length-map}
 use Rattle.std.proofs.lemmas.List.Elements.{All-cons, All-nil}
-use Rattle.plain_tables.specs.Csv.{record_text, row_record, block_text}
+use Rattle.plain_tables.specs.Csv.{row_record, block_text}
 use Rattle.plain_tables.specs.Tables.{Row}
 use Rattle.plain_tables.specs.declared.numbers.Place.{Place}
 use Rattle.plain_tables.specs.declared.numbers.TableNumber.{TableNumber}
