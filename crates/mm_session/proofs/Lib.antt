@@ -18,6 +18,7 @@ pub mod RequestLemmas
 pub mod ResultLemmas
 pub mod RisingLemmas
 pub mod RunLemmas
+pub mod ScannedLemmas
 pub mod SelectLemmas
 pub mod ShortTexts
 pub mod ShowLemmas

@@ -11,6 +11,8 @@ use Rattle.plain_tables.specs.Doing.{headings, joined_tables, shown_rows}
 use Rattle.plain_tables.specs.declared.numbers.Place.{Place}
 use Rattle.plain_tables.specs.declared.resolved.Joined.{Joined}
 use Rattle.plain_tables.specs.declared.resolved.Query.{Query}
+use Rattle.plain_tables.specs.declared.resolved.Resolved.TheVariants as resolved
+use Rattle.plain_tables.specs.ResolvedLaws.{IsMeant}
 use Rattle.mm_index.specs.Order.{IsRising}
 use Rattle.mm_index.proofs.Bags.{IsSameBag-refl}
 use Rattle.mm_relation.specs.State.{RelationState}
@@ -26,7 +28,7 @@ use Rattle.join_ops.specs.Joins.{single_rows}
 use Rattle.join_ops.proofs.JoinLemmas.{single_over}
 use Rattle.mm_session.specs.Members.{HasMembers, IsSourceOf, tables_at, joined_numbers, member_of}
 use Rattle.mm_session.specs.Shown.{places_shown, heading, list_values}
-use Rattle.mm_session.specs.Walked.{shown_row, IsWalk, AreColumns, rows_shown}
+use Rattle.mm_session.specs.Walked.{shown_row, AreColumns, rows_shown}
 use Rattle.mm_session.proofs.MemberLemmas.{map_map, map_same}
 use Rattle.mm_session.proofs.QueryLemmas.{key_source, source_columns, listing_over, singles_rise, single_lead}
 use Rattle.mm_session.proofs.SelectLemmas.{described_over, some_places, ordered_shown, names_shown}
@@ -53,7 +55,7 @@ alone relations n s there place (t, at, within) = go place.source refl at
     go zero e at = (e, let same = ap (λ (u : RelationState). length u.schema.columns) (same_Some s t (sym there ∙ at)) in omega (arith, same, within))
     go (suc k) e at = cc
 
-module _ (c : CatalogState) (ok : IsConsistent c) (query : Query) (walk : IsWalk c query) (s : RelationState) (there : slice_get c.relations query.source.table.0 ≡ Some s) where
+module _ (c : CatalogState) (ok : IsConsistent c) (query : Query) (one : IsMeant c.limits (database_of c) (resolved.Select query) × (query.joins ≡ [])) (s : RelationState) (there : slice_get c.relations query.source.table.0 ≡ Some s) where
   abbrev n : ℕ
   n = query.source.table.0
 
@@ -61,18 +63,18 @@ module _ (c : CatalogState) (ok : IsConsistent c) (query : Query) (walk : IsWalk
   refs = passing c.relations s query.source.tests
 
   of : IsSourceOf c query.source (record { 0 = 0 })
-  of = key_source c ok query.source walk.0.0.0 walk.0.0.1 walk.0.0.2.0
+  of = key_source c ok query.source one.0.0.0 one.0.0.1 one.0.0.2.0
 
   pub tests_there : HasColumns s query.source.tests
   tests_there = source_columns c ok query.source (record { 0 = 0 }) of s there
 
-  abbrev listing : ListState
+  abbrev pub listing : ListState
   listing = record { sources = n ∷ []; rows = single_rows refs; columns = [] }
 
-  abbrev has : HasMembers c (n ∷ joined_numbers query.joins) (members_of (database_of c) query.source query.joins) listing
+  pub has : HasMembers c (n ∷ joined_numbers query.joins) (members_of (database_of c) query.source query.joins) listing
   has =
       let held = passing_held c.relations s (among_at c ok n s there).kept query.source.tests in
-      let none : query.joins ≡ [] = walk.1.1 in
+      let none : query.joins ≡ [] = one.1 in
       record {
         tables = ap (λ (js : List Joined). n ∷ joined_numbers js) (sym none);
         over = listing_over c ok query.source (record { 0 = 0 }) of s there refs held;
@@ -86,26 +88,27 @@ module _ (c : CatalogState) (ok : IsConsistent c) (query : Query) (walk : IsWalk
 
   module _ (places : List Place) (shows : places ≡ places_shown (tables_at c (n ∷ [])) query.shown) where
     pub places_over : All (HasPlace c.relations (n ∷ [])) places
-    places_over = (described_over c ok query walk.0 listing has places shows).columns
+    places_over = (described_over c ok query one.0 listing has places shows).columns
 
     pub columns_over : AreColumns s places
     columns_over = λ k d l. (alone c.relations n s there (get_or places k d) (places_over k d l)).1
 
     pub places_some : 0 < length places
-    places_some = some_places c ok query walk.0 listing has places shows
+    places_some = some_places c ok query one.0 listing has places shows
 
     pub heads_shown : map (heading (tables_at c (n ∷ []))) places ≡ headings (joined_tables (database_of c) query.source query.joins) query.shown
-    heads_shown = names_shown c ok query walk.0 listing has places shows (record listing { columns = places }) refl refl
+    heads_shown = names_shown c ok query one.0 listing has places shows (record listing { columns = places }) refl refl
 
-    pub walked_rows : map (shown_row c s places) refs ≡ rows_shown c query
-    walked_rows =
+    pub walked_rows : query.distinct ≡ false → map (shown_row c s places) refs ≡ rows_shown c query
+    unfolding has
+    walked_rows ordered =
         let members = members_of (database_of c) query.source query.joins in
         map_same (shown_row c s places) (λ r. list_values c (record listing { columns = places }) (r ∷ [])) refs
         (λ k d l. map_same (λ place. value_in c.relations s place.column.0 (get_or refs k d)) (value_of c.relations (n ∷ []) (get_or refs k d ∷ [])) places
         (λ j e m. sym (one_value (get_or places j e) (get_or refs k d) (places_over j e m))))
         ∙ sym (map_map (list_values c (record listing { columns = places })) (λ (r : TupleRef). r ∷ []) refs)
-        ∙ ordered_shown c ok query walk.0 listing has places shows
-        ∙ ap (λ way. shown_rows way query.shown members) (sym walk.1.0)
+        ∙ ordered_shown c ok query one.0 listing has places shows
+        ∙ ap (λ way. shown_rows way query.shown members) (sym ordered)
       where
         one_value : (place : Place) (r : TupleRef) → HasPlace c.relations (n ∷ []) place → value_of c.relations (n ∷ []) (r ∷ []) place ≡ value_in c.relations s place.column.0 r
         one_value place r has =

@@ -6,6 +6,7 @@ mod indexes;
 mod listing;
 mod query;
 mod respond;
+mod scanned;
 pub mod search;
 mod select;
 mod walked;

@@ -1,12 +1,12 @@
 -- Lists of values compared value by value.
-use Rattle.std.proofs.Common.{true, false, ◌≡◌, ℕ, ◌+◌, zero, suc, List, [], ◌∷◌, Some, length, get_or, drop, min, take, ◌*◌, ◌%◌, ap, ◌∙◌, sym, refl, arith}
+use Rattle.std.proofs.Common.{true, false, ◌≡◌, ℕ, ◌+◌, zero, suc, List, [], ◌∷◌, ◌++◌, Some, length, get_or, drop, min, take, ◌*◌, ◌%◌, ap, ◌∙◌, sym, refl, arith}
 use Rattle.std.specs.Prelude.{slice_get}
 use Rattle.std.specs.Ordering.{ordering_then, nat_cmp, is_ne}
 use Rattle.std.specs.declared.cmp.Ordering.{Ordering}
 use Rattle.std.specs.declared.cmp.Ordering.TheVariants.{Less, Equal, Greater}
 use Rattle.std.specs.Cmp.{nat_cmp_is}
 use Rattle.std.proofs.lemmas.Bool.Decides.{nat_tests}
-use Rattle.std.proofs.lemmas.List.{drop_more}
+use Rattle.std.proofs.lemmas.List.{drop_more, take_more}
 use Rattle.std.proofs.lemmas.Option.{slice_get_within, get_or_from_slice_get}
 use Rattle.plain_tables.specs.declared.value.Value.{Value}
 use Rattle.plain_tables.specs.Hashes.{hash_of}
@@ -67,9 +67,22 @@ module _ (values others : List Value) (i : ℕ) (v w : Value) (at : slice_get va
 
 -- the hash of one value more
 pub hashed_more : (values : List Value) (i hash n : ℕ) (v : Value) → slice_get values i ≡ Some v → hash ≡ hash_of_values (take i values) → n ≡ hash_of v
-    → (bit_xor hash n * 1099511628211) % 18446744073709551616 ≡ hash_of_values (take (i + 1) values)
+    → (bit_xor hash n * 16777619) % 4294967296 ≡ hash_of_values (take (i + 1) values)
 hashed_more values i hash n v at so_far is =
     let next : ℕ → Value → ℕ = λ h w. with_hash h w in
-    let more = fold_more with_hash 14695981039346656037 values i v (slice_get_within values i v at) in
+    let more = fold_more with_hash 2166136261 values i v (slice_get_within values i v at) in
     let same : get_or values i v ≡ v = get_or_from_slice_get values i v v at in
     rw (more, same, so_far, is) refl
+
+-- a list up to a place is the list before it and the value there
+from_front : (values : List Value) (i : ℕ) (v : Value) → slice_get values i ≡ Some v → take (i + 1) values ≡ take i values ++ v ∷ []
+from_front values i v at =
+    take_more values i v (slice_get_within values i v at) ∙ ap (λ (w : Value). take i values ++ w ∷ []) (get_or_from_slice_get values i v v at)
+
+-- two lists of values that are equal so far
+module _ (values others : List Value) (i : ℕ) (v w : Value) (at : slice_get values i ≡ Some v) (other_at : slice_get others i ≡ Some w) where
+  pub same_more : take i values ≡ take i others → v ≡ w → take (i + 1) values ≡ take (i + 1) others
+  same_more so_far same =
+      let one = from_front values i v at in
+      let other = from_front others i w other_at in
+      one ∙ ap (λ (xs : List Value). xs ++ v ∷ []) so_far ∙ ap (λ (x : Value). take i others ++ x ∷ []) same ∙ sym other

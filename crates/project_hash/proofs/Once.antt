@@ -1,7 +1,7 @@
 -- Rows that are put into a set, of which each value is there once, and then sorted.
-use Rattle.std.proofs.Common.{◌≡◌, true, false, Bool, ℕ, ◌<◌, List, [], ◌∷◌, ◌++◌, length, get_or, ap, ◌∙◌, sym, subst, refl, arith, cond}
+use Rattle.std.proofs.Common.{◌≡◌, true, false, ℕ, ◌<◌, List, [], ◌∷◌, ◌++◌, length, get_or, ap, ◌∙◌, sym, subst, refl, arith, cond}
 use Rattle.std.specs.List.{list_any, IsDistinct, All, Contains, Any}
-use Rattle.std.specs.Ordering.{eq_by_cmp, on, is_lt, is_eq, ordering_reverse}
+use Rattle.std.specs.Ordering.{is_lt, is_eq, ordering_reverse}
 use Rattle.std.specs.declared.cmp.Ordering.{Ordering}
 use Rattle.std.specs.declared.cmp.Ordering.TheVariants.{Less, Equal, Greater}
 use Rattle.std.specs.List.Sorted.{IsSorted, IsPermutation}
@@ -17,14 +17,8 @@ use Rattle.part_raw.specs.declared.tuple_ref.TupleRef.{TupleRef}
 use Rattle.mm_relation.specs.State.{RelationState}
 use Rattle.temp_list.specs.Lists.{ListState}
 use Rattle.project_hash.specs.Alike.{values_cmp-exact}
-use Rattle.project_hash.specs.Distinct.{shown_values, values_cmp, values_cmp_total, AreRising}
-use Rattle.project_hash.specs.Shown.{ShownState, IsShown, ShowsOnce, state_at, values_of}
-
-abbrev pub rows_cmp : ShownState → ShownState → Ordering
-rows_cmp = on (λ (r : ShownState). r.values) values_cmp
-
-abbrev pub alike : ShownState → ShownState → Bool
-alike = eq_by_cmp rows_cmp
+use Rattle.project_hash.specs.Distinct.{shown_values, values_cmp_total, AreRising}
+use Rattle.project_hash.specs.Shown.{ShownState, IsShown, ShowsOnce, alike, rows_cmp, state_at, values_of}
 
 -- what holds of the rows and of one more holds after it is put in
 pub inserted_all : (P : ShownState → Type 0) (rows : List ShownState) (row : ShownState) → All P rows → P row → All P (insert_key alike rows row)

@@ -16,5 +16,5 @@ use Rattle.std.specs.Prelude.{List}
 pub values_cmp-exact : (v w : List Value) → values_cmp v w ≡ Equal → v ≡ w
 values_cmp-exact v w tied = slice_cmp-IsAntisymmetric (λ x y e. (value_cmp-exact x y).0 e) v w tied
 
-pub hashed_alike : (x y : ShownState) → IsTrue (eq_by_cmp (on (λ (r : ShownState). r.values) values_cmp) x y) → fed.u64 (hash_of_values x.values) ≡ fed.u64 (hash_of_values y.values)
-hashed_alike x y same = ap (λ (values : List Value). fed.u64 (hash_of_values values)) (tells_apart values_cmp-exact x.values y.values same)
+pub hashed_alike : (x y : ShownState) → IsTrue (eq_by_cmp (on (λ (r : ShownState). r.values) values_cmp) x y) → fed.u32 (hash_of_values x.values) ≡ fed.u32 (hash_of_values y.values)
+hashed_alike x y same = ap (λ (values : List Value). fed.u32 (hash_of_values values)) (tells_apart values_cmp-exact x.values y.values same)

@@ -55,7 +55,7 @@ DistinctShowsTheSame = (relations : List RelationState) (old new : ListState) �
 
 -- the hash of values: that of the hashes of each, one after another
 abbrev pub with_hash : ℕ → Value → ℕ
-with_hash hash v = (bit_xor hash (hash_of v) * 1099511628211) % 2 ^ 64
+with_hash hash v = (bit_xor hash (hash_of v) * 16777619) % 2 ^ 32
 
 abbrev pub hash_of_values : List Value → ℕ
-hash_of_values values = fold with_hash 14695981039346656037 values
+hash_of_values values = fold with_hash 2166136261 values

@@ -1,11 +1,13 @@
 -- A row of a list beside what is shown of it.
-use Rattle.std.specs.Prelude.{◌≡◌, ℕ, ◌<◌, List, [], length, map, slice_index_or, All, Contains}
+use Rattle.std.specs.Prelude.{◌≡◌, ℕ, ◌<◌, Bool, List, [], length, map, slice_index_or, All, Contains}
+use Rattle.std.specs.Ordering.{eq_by_cmp, on}
+use Rattle.std.specs.declared.cmp.Ordering.{Ordering}
 use Rattle.part_raw.specs.declared.tuple_ref.TupleRef.{TupleRef}
 use Rattle.plain_tables.specs.declared.value.Value.{Value}
 use Rattle.mm_relation.specs.State.{RelationState}
 use Rattle.temp_list.specs.Reading.{AreSound}
 use Rattle.temp_list.specs.Lists.{ListState, IsOver}
-use Rattle.project_hash.specs.Distinct.{shown_values, shown_rows, AreRising}
+use Rattle.project_hash.specs.Distinct.{shown_values, shown_rows, values_cmp, AreRising}
 
 -- the references of a row, and the values that are shown of it
 pub record ShownState : Type 0 where
@@ -33,6 +35,14 @@ IsShown relations list row = Contains list.rows row.references × (row.values �
 -- the values of rows
 abbrev pub values_of : List ShownState → List (List Value)
 values_of rows = map (λ row. row.values) rows
+
+-- rows compared by their values
+abbrev pub rows_cmp : ShownState → ShownState → Ordering
+rows_cmp = on (λ (r : ShownState). r.values) values_cmp
+
+-- whether two rows are shown alike
+abbrev pub alike : ShownState → ShownState → Bool
+alike = eq_by_cmp rows_cmp
 
 -- rows of the list: those that are shown rise, and what the list shows is shown
 pub record ShowsOnce (relations : List RelationState) (list : ListState) (rows : List ShownState) : Type 0 where

@@ -6,7 +6,12 @@
 #![tactic(auto)]
 
 mod duplicates;
+mod known;
 pub mod laws;
+mod scanning;
 mod shown;
+mod table;
+mod values;
 
 pub use duplicates::distinct;
+pub use scanning::distinct_of_table;

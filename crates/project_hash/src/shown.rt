@@ -1,19 +1,14 @@
 //! A row of a list, which is what the list shows of it.
-ghost use Rattle.std.specs.Prelude.{◌≡◌, ◌<◌, Some, length, slice_get};
+ghost use Rattle.std.specs.Prelude.{◌≡◌, ◌<◌, length};
 
+use crate::values::ShowsValues;
 use mm_relation::Relations;
 use part_raw::TupleRef;
-use plain_tables::{StoredValue, hash_of};
+use plain_tables::StoredValue;
 use std::cmp::Ordering;
 use std::hash::{Hash, Hasher};
 use std::marker::Model;
 use temp_list::TempList;
-
-// Where every hash begins.
-const BEGIN: u64 = 14_695_981_039_346_656_037;
-
-// What a hash is multiplied by for each value.
-const PRIME: u64 = 1_099_511_628_211;
 
 /// A row of a list, seen as its references and the values that are shown of it. Two such rows are compared by these values,
 /// first column first, and are equal where they are shown alike. The values are read where they lie.
@@ -37,7 +32,6 @@ impl<'a, R: Relations> Model for ShownRow<'a, R> {
 impl<'a, R: Relations> ShownRow<'a, R> {
     ghost use Rattle.temp_list.specs.Reading.{AreSound};
     ghost use Rattle.temp_list.specs.Lists.{IsOver};
-    ghost use Rattle.project_hash.specs.Distinct.{values_cmp, hash_of_values};
     ghost use Rattle.project_hash.specs.Shown.{state_at};
 
     /// The row at this place of a list.
@@ -60,44 +54,17 @@ impl<'a, R: Relations> ShownRow<'a, R> {
     {
         self.list.row(self.place)
     }
+}
 
-    // How many values are shown.
-    fn width(&self) -> usize
-        ensures { result ≡ length self.now.values }
-    {
+impl<'a, R: Relations> ShowsValues for ShownRow<'a, R> {
+    ghost values = { λ r. r.values };
+
+    fn width(&self) -> usize {
         self.list.columns().len()
     }
 
-    // The value in a column that is shown.
-    fn value(&self, column: usize) -> &'a StoredValue
-        requires { column < length self.now.values }
-        ensures { slice_get self.now.values column ≡ Some result.now }
-    {
+    fn value(&self, column: usize) -> &StoredValue {
         self.list.value(self.tables, self.place, column)
-    }
-
-    // Compares the values, first column first.
-    fn compare(&self, other: &ShownRow<'a, R>) -> Ordering
-        ensures { result ≡ values_cmp self.now.values other.now.values }
-    {
-        for column in 0..self.width().min(other.width()) {
-            let ordering = self.value(column).cmp(other.value(column));
-            if ordering.is_ne() {
-                return ordering;
-            }
-        }
-        self.width().cmp(&other.width())
-    }
-
-    // The hash of the values.
-    fn shown_hash(&self) -> u64
-        ensures { result ≡ hash_of_values self.now.values }
-    {
-        let mut hash = BEGIN;
-        for column in 0..self.width() {
-            hash = (hash ^ u64::from(hash_of(self.value(column)))).wrapping_mul(PRIME);
-        }
-        hash
     }
 }
 
@@ -164,11 +131,11 @@ impl<'a, R: Relations> Hash for ShownRow<'a, R> {
     ghost use Rattle.project_hash.specs.Distinct.{hash_of_values};
     ghost use Rattle.project_hash.specs.Alike.{hashed_alike};
 
-    ghost hash_input = { λ r. fed.u64 (hash_of_values r.values) };
+    ghost hash_input = { λ r. fed.u32 (hash_of_values r.values) };
 
     ghost respects_eq = { hashed_alike };
 
     fn hash<H: Hasher>(&self, state: &mut H) {
-        state.write_u64(self.shown_hash());
+        state.write_u32(self.shown_hash());
     }
 }

@@ -1,4 +1,5 @@
 pub mod ReadingLemmas
+pub mod KeyedLemmas
 pub mod ListLemmas
 pub mod RangeLemmas
 pub mod SearchLemmas

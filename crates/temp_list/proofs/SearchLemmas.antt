@@ -71,7 +71,7 @@ filter_inner {A} p q (x ∷ xs) h =
 
 -- ---- what is found under a hash
 
-with_hash-map : {A : Type 0} (f : A → ℕ) (hash : ℕ) (xs : List A) → with_hash hash (map (λ r. (f r, r)) xs) ≡ filter (λ r. f r == hash) xs
+pub with_hash-map : {A : Type 0} (f : A → ℕ) (hash : ℕ) (xs : List A) → with_hash hash (map (λ r. (f r, r)) xs) ≡ filter (λ r. f r == hash) xs
 with_hash-map f hash [] = refl
 with_hash-map {A} f hash (x ∷ xs) =
     elim (f x == hash) as (λ b. map (λ (e : ℕ × A). e.1) (cond b ((f x, x) ∷ filter (λ e. e.0 == hash) (map (λ r. (f r, r)) xs)) (filter (λ e. e.0 == hash) (map (λ r. (f r, r)) xs))) ≡ cond b (x ∷ filter (λ r. f r == hash) xs) (filter (λ r. f r == hash) xs)) [

@@ -9,7 +9,7 @@ use Rattle.std.specs.Ordering.{is_lt, is_ge}
 use Rattle.std.specs.declared.cmp.Ordering.TheVariants.{Less, Equal, Greater}
 use Rattle.std.proofs.lemmas.Cmp.{on_total}
 use Rattle.std.proofs.lemmas.List.{get_or-map, length-map}
-use Rattle.std.proofs.lemmas.List.Sorted.{ranks_by, IsPermutation-map, All-permutation, sum_by-IsPermutation}
+use Rattle.std.proofs.lemmas.List.Sorted.{ranks_by, All-permutation, sum_by-IsPermutation}
 use Rattle.smallvec.specs.SmallVec.{SmallVec}
 use Rattle.part_raw.specs.declared.tuple_ref.TupleRef.{TupleRef}
 use Rattle.plain_tables.specs.declared.numbers.TableNumber.{TableNumber}
@@ -18,7 +18,7 @@ use Rattle.plain_tables.specs.Values.{value_cmp_total}
 use Rattle.mm_index.specs.Bag.{IsSameBag}
 use Rattle.mm_relation.specs.State.{RelationState}
 use Rattle.temp_list.specs.Lists.{keys_cmp, row_keys}
-use Rattle.temp_list.specs.Seen.{list_of, listed_cmp, IsEven, AreTables}
+use Rattle.temp_list.specs.Seen.{lists, list_of, listed_cmp, IsEven, AreTables}
 
 pub keys_total : (relations : List RelationState) (sources : List ℕ) → IsTotalOrder (keys_cmp relations sources)
 keys_total relations sources = on_total (row_keys relations sources) (lists_total (options_total value_cmp_total))
@@ -46,33 +46,27 @@ rise_told cmp (x ∷ xs) false h = (
 )
 
 module _ (relations : List RelationState) (sources : List TableNumber) (rows : List (SmallVec TupleRef)) where
-  abbrev lists : List (List TupleRef)
-  lists = map (λ (row : SmallVec TupleRef). row.items) rows
-
-  at : (k : ℕ) (d : SmallVec TupleRef) (e : List TupleRef) → k < length rows → get_or lists k e ≡ (get_or rows k d).items
+  at : (k : ℕ) (d : SmallVec TupleRef) (e : List TupleRef) → k < length rows → get_or (lists rows) k e ≡ (get_or rows k d).items
   at k d e l = get_or-map (λ (row : SmallVec TupleRef). row.items) rows k d e l
 
   -- rows that rise as they are kept rise as they are seen
-  pub sorted_seen : IsSorted (listed_cmp relations sources) rows → IsSorted (keys_cmp relations (map (λ t. t.0) sources)) lists
+  pub sorted_seen : IsSorted (listed_cmp relations sources) rows → IsSorted (keys_cmp relations (map (λ t. t.0) sources)) (lists rows)
   sorted_seen s = λ k e z l.
       let d : SmallVec TupleRef = record { items = e; capacity = 0 } in
       let inside : k + 1 < length rows = omega (arith, l, length-map rows (λ (row : SmallVec TupleRef). row.items)) in
       rw (at (k + 1) d e inside, at k d e (omega (arith, inside))) (s k d z inside)
 
-  pub seen_sorted : IsSorted (keys_cmp relations (map (λ t. t.0) sources)) lists → IsSorted (listed_cmp relations sources) rows
+  pub seen_sorted : IsSorted (keys_cmp relations (map (λ t. t.0) sources)) (lists rows) → IsSorted (listed_cmp relations sources) rows
   seen_sorted s = λ k d z l.
       rw (← (at (k + 1) d d.items l), ← (at k d d.items (omega (arith, l)))) (s k d.items z (omega (arith, l, length-map rows (λ (row : SmallVec TupleRef). row.items))))
 
 -- rows that only moved
-module _ (rows moved : List (SmallVec TupleRef)) (h : IsPermutation rows moved) where
-  lists_moved : IsPermutation (map (λ (row : SmallVec TupleRef). row.items) rows) (map (λ (row : SmallVec TupleRef). row.items) moved)
-  lists_moved = IsPermutation-map (λ (row : SmallVec TupleRef). row.items) rows moved h
-
-  pub bag_moved : IsSameBag (map (λ (row : SmallVec TupleRef). row.items) moved) (map (λ (row : SmallVec TupleRef). row.items) rows)
-  bag_moved = record { count = λ test. sum_by-IsPermutation _ _ _ lists_moved }
+module _ (rows moved : List (SmallVec TupleRef)) (h : IsPermutation (lists rows) (lists moved)) where
+  pub bag_moved : IsSameBag (lists moved) (lists rows)
+  bag_moved = record { count = λ test. sum_by-IsPermutation _ _ _ h }
 
   pub even_moved : (sources : List TableNumber) (columns : List Place) → IsEven (list_of sources rows columns) → IsEven (list_of sources moved columns)
-  even_moved sources columns even = record { some = even.some; rows = All-permutation (λ (row : List TupleRef). length row ≡ length (map (λ (t : TableNumber). t.0) sources)) _ _ lists_moved even.rows }
+  even_moved sources columns even = record { some = even.some; rows = All-permutation (λ (row : List TupleRef). length row ≡ length (map (λ (t : TableNumber). t.0) sources)) _ _ h even.rows }
 
 -- the sources of a list, as they are read
 pub tables_read : (relations : List RelationState) (read kept : List TableNumber) (sources : List ℕ) → read ≡ kept → map (λ t. t.0) kept ≡ sources → All (λ n. n < length relations) sources → AreTables relations read

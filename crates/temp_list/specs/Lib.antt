@@ -1,6 +1,7 @@
 pub mod Reading
 pub mod Lists
 pub mod Seen
+pub mod Keyed
 pub mod Ranges
 pub mod Selecting
 pub mod ListLaws

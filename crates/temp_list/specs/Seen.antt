@@ -10,8 +10,12 @@ use Rattle.std.specs.declared.cmp.Ordering.{Ordering}
 use Rattle.mm_relation.specs.State.{RelationState}
 use Rattle.temp_list.specs.Lists.{ListState, keys_cmp}
 
+-- rows as they are kept, as they are seen
+abbrev pub lists : List (SmallVec TupleRef) → List (List TupleRef)
+lists rows = map (λ row. row.items) rows
+
 abbrev pub list_of : List TableNumber → List (SmallVec TupleRef) → List Place → ListState
-list_of sources rows columns = record { sources = map (λ t. t.0) sources; rows = map (λ row. row.items) rows; columns = columns }
+list_of sources rows columns = record { sources = map (λ t. t.0) sources; rows = lists rows; columns = columns }
 
 -- a list has a source, and each of its rows a reference for each source
 pub record IsEven (list : ListState) : Type 0 where

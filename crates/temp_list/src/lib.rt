@@ -15,6 +15,7 @@
 #![tactic(auto)]
 
 mod bounds_probe;
+mod keyed;
 pub mod laws;
 mod list;
 mod range_probe;

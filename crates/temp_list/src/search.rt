@@ -10,7 +10,7 @@ ghost use Rattle.temp_list.specs.Reading.{standing, between, HasColumns, value_i
 
 use crate::bounds_probe::BoundsProbe;
 use crate::range_probe::RangeProbe;
-use crate::standing::stands;
+use crate::standing::{passes, stands};
 use mm_relation::laws::a_relation_is_kept;
 use mm_relation::{Relation, Relations};
 use no_memory::NoMemory;
@@ -49,11 +49,7 @@ pub fn passes_all<R: Relations>(
     a_relation_is_kept(relation);
     let row = relation.row(r);
     for test in tests {
-        if !stands(
-            test.op,
-            row.value(test.column, tables),
-            &test.value.sought(),
-        ) {
+        if !passes(row.value(test.column, tables), test) {
             return false;
         }
     }
@@ -81,8 +77,8 @@ pub fn passing<R: Relations>(
     Ok(rows)
 }
 
-// The reference with this number.
-fn numbered(number: u64) -> TupleRef
+/// The reference with this number.
+pub fn numbered(number: u64) -> TupleRef
     requires { number < MAX_TUPLES }
     ensures { result.number ≡ number }
 {

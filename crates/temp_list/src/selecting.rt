@@ -5,6 +5,7 @@ ghost use Rattle.plan_chooser.specs.declared.plans.SelectPlan.TheVariants as pla
 ghost use Rattle.temp_list.specs.Reading.{AreSound, OfRelation, HasColumns};
 ghost use Rattle.temp_list.specs.Selecting.{AreSelected};
 
+use crate::keyed::has_integer_keys;
 use crate::search::{
     keep_passing, passing, passing_in_slots, rows_between, rows_by_hash, rows_by_tree,
 };
@@ -17,10 +18,13 @@ use plan_chooser::SelectPlan;
 use std::alloc::Global;
 
 // How many rows a look at each slot may find, so that to put these into the order of their keys costs less than to walk the tree
-// of the key. With no test all rows are found, so the tree is walked at once.
+// of the key. Integers are sorted beside their rows, so there may be more of them. With no test all rows are found, so the tree is
+// walked at once.
 fn most_sorted(relation: &Relation, tests: &[Test]) -> u64 {
     if tests.is_empty() {
         0
+    } else if has_integer_keys(relation) {
+        relation.len() / 8
     } else {
         relation.len() / 16
     }
@@ -45,9 +49,9 @@ fn find_by_scan<R: Relations>(
     }
 }
 
-/// The rows of a table that pass the tests, each once, in any order, found by a look at each slot. None where they are more than a
-/// sixteenth of the table, or no test is made: then a walk of the tree of the key, which gives them in their order, costs less than
-/// to sort them.
+/// The rows of a table that pass the tests, each once, in any order, found by a look at each slot. None where they are more than an
+/// eighth of the table, or a sixteenth where its keys are no integers, or no test is made: then a walk of the tree of the key, which
+/// gives them in their order, costs less than to sort them.
 pub fn find_few_rows<R: Relations>(
     alloc: Global,
     tables: &R,

@@ -1,9 +1,10 @@
 //! Rows in the order of their keys.
-ghost use Rattle.std.specs.Prelude.{◌≡◌, ◌↔◌, ◌<◌, IsTrue, OnOk, OnErr, length, map};
+ghost use Rattle.std.specs.Prelude.{◌≡◌, ◌↔◌, ◌<◌, IsTrue, OnOk, OnErr, map};
 ghost use Rattle.std.specs.List.Sorted.{IsPermutation, IsSorted};
 ghost use Rattle.temp_list.specs.Lists.{keys_cmp};
-ghost use Rattle.temp_list.specs.Seen.{AreTables, listed_cmp};
+ghost use Rattle.temp_list.specs.Seen.{AreTables, listed_cmp, lists};
 
+use crate::keyed::{keyed_rows, sort_keyed};
 use crate::row::ListedRow;
 use mm_relation::Relations;
 use no_memory::NoMemory;
@@ -50,7 +51,26 @@ fn rises<R: Relations>(tables: &R, sources: &[TableNumber], rows: &[ListedRow]) 
     )
 }
 
-// Puts rows into the order of their keys. Those that rise already, and all at an error, stay where they were.
+// Puts rows into the order of their keys, which each comparison reads.
+fn sort_by_reading<R: Relations>(
+    tables: &R,
+    sources: &[TableNumber],
+    rows: &mut Vec<ListedRow>,
+) -> Result<(), NoMemory>
+    requires { AreTables (R.tables tables.now) sources.now }
+    ensures sorted { OnOk result (IsSorted (listed_cmp (R.tables tables.now) sources.now) rows.new.items) }
+    ensures moved { IsPermutation (lists rows.old.items) (lists rows.new.items) }
+    ensures unchanged { OnErr result (rows.new.items ≡ rows.old.items) }
+{
+    rows.sort_by(
+        |a, b| -> Ordering
+            requires { AreTables (R.tables tables.now) sources.now }
+        { compare_rows(tables, sources, a.as_slice(), b.as_slice()) },
+    )?;
+    Ok(())
+}
+
+/// Puts rows into the order of their keys. Those that rise already, and all at an error, stay where they were.
 pub fn sort_rows<R: Relations>(
     tables: &R,
     sources: &[TableNumber],
@@ -58,17 +78,15 @@ pub fn sort_rows<R: Relations>(
 ) -> Result<(), NoMemory>
     requires { AreTables (R.tables tables.now) sources.now }
     ensures sorted { OnOk result (IsSorted (listed_cmp (R.tables tables.now) sources.now) rows.new.items) }
-    ensures moved { IsPermutation rows.old.items rows.new.items }
+    ensures moved { IsPermutation (lists rows.old.items) (lists rows.new.items) }
     ensures risen { IsSorted (listed_cmp (R.tables tables.now) sources.now) rows.old.items → rows.new.items ≡ rows.old.items }
     ensures unchanged { OnErr result (rows.new.items ≡ rows.old.items) }
 {
     if rises(tables, sources, rows.as_slice()) {
         return Ok(());
     }
-    rows.sort_by(
-        |a, b| -> Ordering
-            requires { AreTables (R.tables tables.now) sources.now }
-        { compare_rows(tables, sources, a.as_slice(), b.as_slice()) },
-    )?;
-    Ok(())
+    match keyed_rows(*rows.allocator(), tables, sources, rows.as_slice())? {
+        Some(keyed) => sort_keyed(tables, sources, keyed, rows),
+        None => sort_by_reading(tables, sources, rows),
+    }
 }

@@ -2,7 +2,7 @@
 ghost use Rattle.std.specs.Prelude.{◌≡◌};
 ghost use Rattle.plain_tables.specs.Queries.{are_ordered as are_ordered_so, stands_to_null as stands_to_null_so, stands as stands_so};
 
-use plain_tables::{Op, SoughtValue, StoredValue};
+use plain_tables::{Op, SeenValue, SoughtValue, StoredValue, Test, Value};
 use std::cmp::Ordering;
 
 // Whether values that compare so are ordered as the operator says.
@@ -38,4 +38,14 @@ pub fn stands(op: Op, value: &StoredValue, asked: &SoughtValue<'_>) -> bool
         return stands_to_null(op, value);
     }
     !value.is_null() && are_ordered(op, value.compare(asked))
+}
+
+/// Whether a value passes a test. Two integers are compared where they are, with no value made to be looked for.
+pub fn passes(value: &StoredValue, test: &Test) -> bool
+    ensures { result ≡ stands_so test.now.op value.now test.now.value }
+{
+    match (value.seen(), &test.value) {
+        (SeenValue::Int(z), Value::Int(asked)) => are_ordered(test.op, z.cmp(asked)),
+        _ => stands(test.op, value, &test.value.sought()),
+    }
 }

@@ -3,8 +3,8 @@ use Rattle.std.specs.List.{All, Contains}
 use Rattle.std.proofs.lemmas.List.Elements.{Contains-get_or}
 use borrow.Author.Count.{below_more}
 use Rattle.indexmap.specs.IndexSet.{insert_key}
-use Rattle.project_hash.specs.Shown.{ShownState, IsShown, state_at, values_of}
-use Rattle.project_hash.proofs.Once.{alike, inserted_all, inserted_keeps, inserted_there, shows_once}
+use Rattle.project_hash.specs.Shown.{ShownState, IsShown, alike, state_at, values_of}
+use Rattle.project_hash.proofs.Once.{inserted_all, inserted_keeps, inserted_there, shows_once}
 use Rattle.project_hash.proofs.duplicates.shown_once.Goals as goal
 
 pub loop-place-preserved : goal.loop-place-preserved

@@ -36,29 +36,29 @@ names_at-requires-clause-sources c =
 pub names_at-requires-clause-places : goal.names_at-requires-clause-places
 names_at-requires-clause-places c =
     subst (All (HasPlace c.args.self.now.catalog.relations (c.args.query.now.source.table.0 ∷ []))) (sym c.deref.ensures.value)
-    (places_over c.args.self.now.catalog c.a_catalog_is_consistent.ensures c.args.query.now c.requires.walk c.at-relation.result.now c.at-relation.ensures c.in_ok-places.places.items c.in_ok-places.ensures)
+    (places_over c.args.self.now.catalog c.a_catalog_is_consistent.ensures c.args.query.now (c.requires.walk.0, c.requires.walk.1.1) c.at-relation.result.now c.at-relation.ensures c.in_ok-places.places.items c.in_ok-places.ensures)
 
 pub push_walked-requires-clause-current : goal.push_walked-requires-clause-current
 push_walked-requires-clause-current c = (among_at c.args.self.now.catalog c.a_catalog_is_consistent.ensures c.args.query.now.source.table.0 c.at-relation.result.now c.at-relation.ensures).current
 
 pub push_walked-requires-clause-tests : goal.push_walked-requires-clause-tests
 push_walked-requires-clause-tests c =
-    subst (HasColumns c.at-relation.result.now) (sym c.as_slice-tests.ensures) (tests_there c.args.self.now.catalog c.a_catalog_is_consistent.ensures c.args.query.now c.requires.walk c.at-relation.result.now c.at-relation.ensures)
+    subst (HasColumns c.at-relation.result.now) (sym c.as_slice-tests.ensures) (tests_there c.args.self.now.catalog c.a_catalog_is_consistent.ensures c.args.query.now (c.requires.walk.0, c.requires.walk.1.1) c.at-relation.result.now c.at-relation.ensures)
 
 pub push_walked-requires-clause-columns : goal.push_walked-requires-clause-columns
 push_walked-requires-clause-columns c =
     subst (AreColumns c.at-relation.result.now) (sym c.deref-3.ensures.value)
-    (columns_over c.args.self.now.catalog c.a_catalog_is_consistent.ensures c.args.query.now c.requires.walk c.at-relation.result.now c.at-relation.ensures c.in_ok-places.places.items c.in_ok-places.ensures)
+    (columns_over c.args.self.now.catalog c.a_catalog_is_consistent.ensures c.args.query.now (c.requires.walk.0, c.requires.walk.1.1) c.at-relation.result.now c.at-relation.ensures c.in_ok-places.places.items c.in_ok-places.ensures)
 
 pub push_walked-requires-clause-some : goal.push_walked-requires-clause-some
 push_walked-requires-clause-some c =
-    let some = places_some c.args.self.now.catalog c.a_catalog_is_consistent.ensures c.args.query.now c.requires.walk c.at-relation.result.now c.at-relation.ensures c.in_ok-places.places.items c.in_ok-places.ensures in
+    let some = places_some c.args.self.now.catalog c.a_catalog_is_consistent.ensures c.args.query.now (c.requires.walk.0, c.requires.walk.1.1) c.at-relation.result.now c.at-relation.ensures c.in_ok-places.places.items c.in_ok-places.ensures in
     let same = ap length c.deref-3.ensures.value in
     omega (arith, some, same)
 
 pub push_full_names-requires : goal.push_full_names-requires
 push_full_names-requires c =
-    let some = places_some c.args.self.now.catalog c.a_catalog_is_consistent.ensures c.args.query.now c.requires.walk c.at-relation.result.now c.at-relation.ensures c.in_ok-places.places.items c.in_ok-places.ensures in
+    let some = places_some c.args.self.now.catalog c.a_catalog_is_consistent.ensures c.args.query.now (c.requires.walk.0, c.requires.walk.1.1) c.at-relation.result.now c.at-relation.ensures c.in_ok-places.places.items c.in_ok-places.ensures in
     let name : Place → List ℕ = heading (tables_at c.args.self.now.catalog (c.args.query.now.source.table.0 ∷ [])) in
     let same = ap length (ap (map full_name_text) c.deref-2.ensures.value ∙ c.in_ok-names.ensures ∙ ap (map name) c.deref.ensures.value) in
     let names = length-map c.deref-2.result.now full_name_text in
@@ -75,11 +75,11 @@ returns c =
     let heads : map full_name_text c.deref-2.result.now ≡ headings (joined_tables (database_of catalog) c.args.query.now.source c.args.query.now.joins) c.args.query.now.shown =
     ap (map full_name_text) c.deref-2.ensures.value ∙ c.in_ok-names.ensures
     ∙ ap (map (heading (tables_at catalog (c.args.query.now.source.table.0 ∷ [])))) c.deref.ensures.value
-    ∙ heads_shown c.args.self.now.catalog c.a_catalog_is_consistent.ensures c.args.query.now c.requires.walk c.at-relation.result.now c.at-relation.ensures places c.in_ok-places.ensures in
+    ∙ heads_shown c.args.self.now.catalog c.a_catalog_is_consistent.ensures c.args.query.now (c.requires.walk.0, c.requires.walk.1.1) c.at-relation.result.now c.at-relation.ensures places c.in_ok-places.ensures in
     let rows : map (shown_row catalog s c.deref-3.result.now) refs ≡ rows_shown catalog c.args.query.now =
     ap (λ (ps : List Place). map (shown_row catalog s ps) refs) c.deref-3.ensures.value
     ∙ ap (λ (ts : List Test). map (shown_row catalog s places) (passing catalog.relations s ts)) c.as_slice-tests.ensures
-    ∙ walked_rows c.args.self.now.catalog c.a_catalog_is_consistent.ensures c.args.query.now c.requires.walk c.at-relation.result.now c.at-relation.ensures places c.in_ok-places.ensures in
+    ∙ walked_rows c.args.self.now.catalog c.a_catalog_is_consistent.ensures c.args.query.now (c.requires.walk.0, c.requires.walk.1.1) c.at-relation.result.now c.at-relation.ensures places c.in_ok-places.ensures c.requires.walk.1.0 in
     record {
       made = block_whole c.args.page c.new-records.result.bytes c.push_full_names.new.self.bytes c.push_walked.new.records.bytes (map full_name_text c.deref-2.result.now)
           (flat_map row_record (map (shown_row catalog s c.deref-3.result.now) refs)) c.in_ok-whole.whole

@@ -1,7 +1,7 @@
 use Rattle.std.proofs.Common.{◌<◌, length, slice_get, Some, ◌≡◌, subst, sym}
 use Rattle.project_hash.specs.Shown.{ShownState}
 use Rattle.project_hash.proofs.Reading.{value_shown}
-use Rattle.project_hash.proofs.shown.ShownRow.value.Goals as goal
+use Rattle.project_hash.proofs.shown.ShownRowShowsValues.value.Goals as goal
 
 pub returns : goal.returns
 returns g c =
