@@ -1,5 +1,5 @@
 -- Filling: what a statement is with values in its holes.
-use Rattle.std.specs.Prelude.{List, map, slice_index_or}
+use Rattle.std.specs.Prelude.{ℕ, List, map, slice_index_or}
 use Rattle.plain_tables.specs.declared.value.Value.{Value}
 use Rattle.plain_tables.specs.declared.value.Value.TheVariants as value
 use Rattle.plain_tables.specs.declared.condition.Cond.{Cond}
@@ -13,11 +13,14 @@ use Rattle.plain_statements.specs.declared.statement.SlotCond.{SlotCond}
 use Rattle.plain_statements.specs.declared.statement.Statement.{Statement}
 use Rattle.plain_statements.specs.declared.statement.Statement.TheVariants as statement
 
--- The value of a slot: the one that is given, or that of the hole's number. A hole behind the values, of which a call has as many as
--- there are holes, would be null.
+-- The value for the hole of a number. A hole behind the values, of which a call has as many as there are holes, would be null.
+abbrev pub hole_value : List Value → ℕ → Value
+hole_value values n = slice_index_or values n value.Null
+
+-- the value of a slot: the one that is given, or that of the hole's number
 abbrev pub slot_value : List Value → Slot → Value
 slot_value values (Given v) = v
-slot_value values (Hole n) = slice_index_or values n value.Null
+slot_value values (Hole n) = hole_value values n
 
 abbrev pub filled_setting : List Value → SlotSetting → Setting
 filled_setting values s = record { column = s.column; value = slot_value values s.slot }

@@ -22,10 +22,10 @@ use Rattle.plain_statements.specs.declared.resolution.SlotJoined.{SlotJoined}
 use Rattle.plain_statements.specs.declared.resolution.SlotQuery.{SlotQuery}
 use Rattle.plain_statements.specs.declared.resolution.Template.{Template}
 use Rattle.plain_statements.specs.declared.resolution.Template.TheVariants as template
+use Rattle.plain_statements.specs.declared.resolution.Need.{Need}
 use Rattle.plain_statements.specs.declared.resolution.Want.{Want}
 use Rattle.plain_statements.specs.declared.resolution.Resolution.{Resolution}
-use Rattle.plain_statements.specs.declared.resolution.Resolution.TheVariants.{Refused, Open}
-use Rattle.plain_statements.specs.Filling.{slot_value}
+use Rattle.plain_statements.specs.Filling.{hole_value, slot_value}
 
 abbrev pub filled_assignment : List Value → SlotAssignment → Assignment
 filled_assignment values a = record { column = a.column; value = slot_value values a.slot }
@@ -51,24 +51,28 @@ filled_template values (template.Update n assignments tests) =
 filled_template values (template.Delete n tests) = resolved.Delete n (map (filled_test values) tests)
 filled_template values (template.Select query) = resolved.Select (filled_query values query)
 
--- whether a value is none that is wanted: of another type, or a null where none can stand
-abbrev pub is_wrong : Value → Want → Bool
-is_wrong value.Null w = not w.null
-is_wrong v w = option_map_or (λ b. not (has_type v b)) w.base true
+-- whether a value is none that is needed: of another type, or a null where none can stand
+abbrev pub is_wrong : Value → Need → Bool
+is_wrong value.Null need = not need.null
+is_wrong v need = option_map_or (λ b. not (has_type v b)) need.base true
 
 -- whether a value is to be stored, and is too long for it
-abbrev pub is_past : Value → Want → Bool
-is_past v w = w.stored && is_long v
+abbrev pub is_past : Value → Need → Bool
+is_past v need = need.stored && is_long v
+
+-- whether the value that comes for a hole is one of which this holds
+abbrev pub comes : (Value → Need → Bool) → List Value → Want → Bool
+comes test values w = test (hole_value values w.hole) w.need
 
 -- what is done, if nothing refuses it
 abbrev pub unless : Option Refusal → Resolved → Result Resolved Refusal
 unless (Some why) r = Err why
 unless None r = Ok r
 
--- What is done with these values, or why it is refused: each has to be of its type, and no text that is to be stored too long.
+-- What is done with these values, or why it is refused: each has to be of its type, then no text that is to be stored too long, and
+-- then nothing else may refuse it.
 abbrev pub finished : List Value → Resolution → Result Resolved Refusal
-finished values (Refused why) = Err why
-finished values (Open wants last template) =
-    if list_any (λ w. is_wrong (slot_value values w.slot) w) wants then Err WrongType
-    else if list_any (λ w. is_past (slot_value values w.slot) w) wants then Err TextTooLong
-    else unless last (filled_template values template)
+finished values r =
+    if list_any (comes is_wrong values) r.wants then Err WrongType
+    else if list_any (comes is_past values) r.wants then Err TextTooLong
+    else unless r.last (filled_template values r.template)

@@ -24,7 +24,8 @@ pub fn question_marks_are_holes()
     ensures { QuestionMarksAreHoles }
 {}
 
-/// Each statement has a resolution: to resolve what is filled is to finish what is resolved.
+/// Each statement has a resolution, so that to resolve what is filled is to finish what is resolved, or it is refused in one way
+/// whatever its values are.
 pub fn filled_is_finished()
     ensures { FilledIsFinished }
 {}

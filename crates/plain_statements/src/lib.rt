@@ -16,6 +16,6 @@ mod resolution;
 mod statement;
 
 pub use resolution::{
-    Resolution, SlotAssignment, SlotJoined, SlotQuery, SlotSource, SlotTest, Template, Want,
+    Need, Resolution, SlotAssignment, SlotJoined, SlotQuery, SlotSource, SlotTest, Template, Want,
 };
 pub use statement::{Slot, SlotCond, SlotSetting, Statement};

@@ -1,7 +1,12 @@
 //! A statement with numbers in the place of names, and what is left to be checked of its values.
 
+ghost use Rattle.std.specs.Prelude.{◌≡◌};
+ghost use Rattle.plain_statements.specs.Finishing as finishing;
+
 use crate::Slot;
-use plain_tables::{BaseKind, ColumnNumber, Op, Place, Refusal, Sequence, Shown, TableNumber};
+use plain_tables::{
+    BaseKind, ColumnNumber, LONGEST_TEXT, Op, Place, Refusal, Sequence, Shown, TableNumber, Value,
+};
 
 /// What an update puts into a column.
 #[derive(Debug, Drop)]
@@ -61,23 +66,51 @@ pub struct SlotQuery {
     pub joins: Sequence<SlotJoined>,
 }
 
-/// What the value of a slot has to be: of a type, unless it is a null and may be one; and stored, so no longer than a text can be.
-#[derive(Debug, Drop)]
-pub struct Want {
-    pub slot: Slot,
+/// What a value has to be: of a type, unless it is a null and may be one; and where it is to be stored, no longer than a stored
+/// text can be.
+#[derive(Clone, Copy, Debug)]
+pub struct Need {
     pub base: Option<BaseKind>,
     pub null: bool,
     pub stored: bool,
 }
 
-/// What a statement means of the tables as they are: why it is refused whatever its values are; or what they have to be, why it is
-/// refused once they are right, and what is done if it isn't.
+impl Need {
+    /// Whether a value is none that is needed: of another type, or a null where none can stand.
+    pub fn is_wrong(self, value: &Value) -> bool
+        ensures { result ≡ finishing.is_wrong value.now self }
+    {
+        match (value, self.base) {
+            (Value::Null, _) => !self.null,
+            (Value::Int(_), Some(BaseKind::Int)) => false,
+            (Value::Text(_), Some(BaseKind::Text)) => false,
+            _ => true,
+        }
+    }
+
+    /// Whether a value is to be stored, and is too long for it.
+    pub fn is_past(self, value: &Value) -> bool
+        ensures { result ≡ finishing.is_past value.now self }
+    {
+        match value {
+            Value::Text(text) => self.stored && text.as_bytes().len() > LONGEST_TEXT,
+            _ => false,
+        }
+    }
+}
+
+/// What the value has to be that comes for the hole of this number.
+#[derive(Clone, Copy, Debug)]
+pub struct Want {
+    pub hole: usize,
+    pub need: Need,
+}
+
+/// What a statement means of the tables as they are, unless it is refused whatever its values are: what the values to come have to
+/// be, why it is refused once they are right, and what is done if it isn't.
 #[derive(Debug, Drop)]
-pub enum Resolution {
-    Refused(Refusal),
-    Open {
-        wants: Sequence<Want>,
-        last: Option<Refusal>,
-        template: Template,
-    },
+pub struct Resolution {
+    pub wants: Sequence<Want>,
+    pub last: Option<Refusal>,
+    pub template: Template,
 }
