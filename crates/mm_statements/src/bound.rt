@@ -1,0 +1,63 @@
+//! The values that are bound to a statement's holes.
+ghost use Rattle.std.specs.Prelude.{◌≡◌, ◌≢◌, ◌<◌, ◌≤◌, Err, IfOk, IfErr, OnOk, OnErr, length, replicate, slice_set};
+ghost use Rattle.plain_tables.specs.declared.value.Value.TheVariants as value;
+ghost use Rattle.mm_statements.specs.Cells.{cell_value};
+ghost use Rattle.mm_statements.specs.declared.declined.Declined.TheVariants as declined;
+
+use crate::cell::Cell;
+use crate::declined::Declined;
+use no_memory::NoMemory;
+use plain_tables::Value;
+use std::alloc::Global;
+use std::marker::Model;
+
+/// The values of a statement's holes, by their places: null until one is bound, which stays until another is.
+#[derive(Debug, Drop)]
+pub struct Bound {
+    values: Vec<Value>,
+}
+
+impl Model for Bound {
+    ghost use Rattle.std.specs.Prelude.{List};
+    ghost use Rattle.plain_tables.specs.declared.value.Value.{Value as PlainValue};
+
+    ghost Value = { List PlainValue };
+
+    ghost view = { λ b. b.values.items };
+}
+
+impl Bound {
+    /// A null for each of so many holes.
+    pub fn new(alloc: Global, places: usize) -> Result<Bound, NoMemory>
+        ensures { IfOk result (λ bound. bound ≡ replicate places value.Null) }
+    {
+        let mut values = Vec::with_capacity(alloc, places)?;
+        while values.len() < places {
+            values.push(Value::Null)?;
+        }
+        Ok(Bound { values })
+    }
+
+    /// The values, by their places.
+    pub fn as_slice(&self) -> &[Value]
+        ensures { result.now ≡ self.now }
+    {
+        self.values.as_slice()
+    }
+
+    /// Binds a value to the hole of a place. A text is copied.
+    pub fn bind(&mut self, place: usize, cell: Cell<'_>) -> Result<(), Declined>
+        ensures bound { OnOk result (self.new ≡ slice_set self.old place (cell_value cell.entry)) }
+        ensures within { OnOk result (place < length self.old) }
+        ensures past { length self.old ≤ place → result ≡ Err declined.NoSuchPlace }
+        ensures declined { IfErr result (λ e. e ≢ declined.NoMemory → length self.old ≤ place) }
+        ensures unchanged { OnErr result (self.new ≡ self.old) }
+    {
+        if place >= self.values.len() {
+            return Err(Declined::NoSuchPlace);
+        }
+        let value = cell.to_value(*self.values.allocator())?;
+        self.values[place] = value;
+        Ok(())
+    }
+}

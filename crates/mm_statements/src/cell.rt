@@ -1,0 +1,39 @@
+//! A value as a program hands it in and reads it.
+ghost use Rattle.std.specs.Prelude.{◌≡◌, IfOk};
+ghost use Rattle.mm_statements.specs.Cells.{cell_value};
+
+use no_memory::NoMemory;
+use plain_tables::{Text, Value};
+use std::alloc::Global;
+
+/// A null, an integer, or a text that is lent. A text may hold any characters, a line feed too.
+#[derive(Clone, Copy, Debug)]
+pub enum Cell<'a> {
+    Null,
+    Integer(i64),
+    Text(&'a str),
+}
+
+impl<'a> Cell<'a> {
+    /// A value, lent.
+    pub fn of(value: &'a Value) -> Cell<'a>
+        ensures { cell_value result ≡ value.now }
+    {
+        match value {
+            Value::Null => Cell::Null,
+            Value::Int(number) => Cell::Integer(*number),
+            Value::Text(text) => Cell::Text(text.as_str()),
+        }
+    }
+
+    /// The value, as one's own.
+    pub fn to_value(self, alloc: Global) -> Result<Value, NoMemory>
+        ensures { IfOk result (λ v. v ≡ cell_value self.entry) }
+    {
+        Ok(match self {
+            Cell::Null => Value::Null,
+            Cell::Integer(number) => Value::Int(number),
+            Cell::Text(text) => Value::Text(Text::from_str(alloc, text)?),
+        })
+    }
+}
