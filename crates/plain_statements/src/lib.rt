@@ -1,4 +1,4 @@
-//! Statements: commands on rows in which holes may stand for values. Their meaning: definitions and laws alone.
+//! Statements: commands on rows in which holes may stand for values. Their meaning: definitions and laws, and what a value has to be.
 //!
 //! ```text
 //!  line with ? ──▶ statement ──▶ the command with these values in its holes ──▶ its effect on plain tables
