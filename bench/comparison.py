@@ -2,6 +2,7 @@
 
 import array
 import fcntl
+import os
 import pathlib
 import random
 import re
@@ -16,6 +17,8 @@ PARTS = ["fill", "points", "reads", "joins", "blocks"]
 # About so many statements, and so many rows that are read, make a batch.
 STATEMENTS = 2_000
 READ = 200_000
+# Large pages for the memory of both programs, as ./run asks for them.
+LARGE_PAGES = {**os.environ, "GLIBC_TUNABLES": "glibc.malloc.hugetlb=1"}
 # A block of more bytes mmdb refuses under its standard limits; so many rows of the block below are well within it.
 LONGEST_BLOCK = 16_777_216
 ROWS_OF_A_BLOCK = 100_000
@@ -47,7 +50,7 @@ class Program:
     """A running program, which waits for statements."""
 
     def __init__(self, words, declarations):
-        self.running = subprocess.Popen(words, stdin=subprocess.PIPE, stdout=subprocess.DEVNULL)
+        self.running = subprocess.Popen(words, stdin=subprocess.PIPE, stdout=subprocess.DEVNULL, env=LARGE_PAGES)
         self.seconds(declarations)
 
     def seconds(self, statements):
