@@ -10,6 +10,7 @@ mod placed;
 mod resolve;
 mod scope;
 mod selected;
+mod statements;
 mod types;
 
 pub use checks::{MOST_COLUMNS, MOST_CONDITIONS, MOST_ITEMS, MOST_JOINS, MOST_TABLES};
