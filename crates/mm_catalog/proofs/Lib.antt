@@ -47,6 +47,7 @@ pub mod ResolveLists
 pub mod ResolveTables
 pub mod ResolveColumns
 pub mod ResolveNamed
+pub mod Adding
 pub mod ResolveScopes
 pub mod ResolveSources
 pub mod ResolveCommands
