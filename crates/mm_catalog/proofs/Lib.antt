@@ -51,7 +51,9 @@ pub mod Adding
 pub mod ResolveScopes
 pub mod ResolveSources
 pub mod ResolveCommands
+pub mod ResolveJoins
 pub mod ResolveSelect
+pub mod ResolveStatements
 pub mod UpdateNeeds
 pub mod UpdateRefused
 pub mod UpdateDone
