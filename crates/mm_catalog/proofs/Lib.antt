@@ -47,10 +47,13 @@ pub mod ResolveLists
 pub mod ResolveTables
 pub mod ResolveColumns
 pub mod ResolveNamed
+pub mod Adding
 pub mod ResolveScopes
 pub mod ResolveSources
 pub mod ResolveCommands
+pub mod ResolveJoins
 pub mod ResolveSelect
+pub mod ResolveStatements
 pub mod UpdateNeeds
 pub mod UpdateRefused
 pub mod UpdateDone

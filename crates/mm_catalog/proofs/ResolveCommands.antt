@@ -7,10 +7,10 @@ use Rattle.std.specs.Str.{bytes_eq}
 use Rattle.std.proofs.lemmas.List.Folds.{list_any-append}
 use Rattle.common_lemmas.proofs.Tests.{list_any-map}
 use Rattle.plain_tables.specs.Tables.{Table}
-use Rattle.plain_tables.specs.Databases.{Database}
+use Rattle.plain_tables.specs.Databases.{Database, table_named}
 use Rattle.plain_tables.specs.Queries.{JoinedColumn, column_number, place_meant, places_meant}
 use Rattle.plain_tables.specs.Effects.{Check, misses, repeats, condition_names, setting_name, is_long}
-use Rattle.plain_tables.specs.Resolving.{meaning, on_numbered, on_column, index_checks, drop_index_checks, number_of, own_columns, resolved_of, tests_of, assignments_of, mistypes, is_mistyped}
+use Rattle.plain_tables.specs.Resolving.{meaning, on_column, index_checks, drop_index_checks, number_of, own_columns, resolved_of, tests_of, assignments_of, mistypes, is_mistyped}
 use Rattle.plain_tables.specs.References.{is_index}
 use Rattle.plain_tables.specs.declared.schema.Column.{Column}
 use Rattle.plain_tables.specs.declared.schema.IndexKind.{IndexKind}
@@ -31,7 +31,7 @@ use Rattle.plain_tables.specs.declared.resolved.Resolved.TheVariants as resolved
 use Rattle.mm_catalog.specs.declared.bind.scope.Scope.{Scope}
 use Rattle.mm_catalog.specs.Seen.{plain_index}
 use Rattle.mm_catalog.specs.declared.bind.placed.Placed.{Placed}
-use Rattle.mm_catalog.specs.Resolve.{IsScopeOf, bare, columns_of, own_place}
+use Rattle.mm_catalog.specs.Resolve.{IsScopeOf, assignment_at, bare, columns_of, own_place}
 use Rattle.mm_catalog.specs.ResolveChecks.{verdict, delete_rest, update_rest}
 use Rattle.mm_catalog.proofs.ResolveNamed.{length-tests, long_set, key_set}
 
@@ -68,10 +68,11 @@ rest_missed columns names others b h rest = misses-append columns names others �
 -- ---- the scope of a command
 
 module _ (tables : Database) (name : List ℕ) (scope : Scope) (h : IsScopeOf tables name scope) where
-  in_scope : (means : TableNumber → Table → Result Resolved Refusal) → on_numbered name tables means ≡ means scope.table h.table
-  in_scope means = ap (λ o. option_map_or (means (number_of name tables)) o (Err NoSuchTable)) h.found ∙ ap (λ n. means n h.table) h.number
+  pub in_scope : {X : Type 0} (means : TableNumber → Table → X) (none : X)
+      → option_map_or (means (number_of name tables)) (table_named name tables) none ≡ means scope.table h.table
+  in_scope means none = ap (λ o. option_map_or (means (number_of name tables)) o none) h.found ∙ ap (λ n. means n h.table) h.number
 
-  own_columns-are : own_columns h.table ≡ columns_of scope
+  pub own_columns-are : own_columns h.table ≡ columns_of scope
   own_columns-are =
       let own : List ℕ → List Column → List JoinedColumn =
       λ name columns. map (λ c. record { table = name; place = own_place (column_number c.0); column = c.1 }) (enumerate_from 0 columns) ++ [] in
@@ -96,13 +97,13 @@ module _ (tables : Database) (name : List ℕ) (scope : Scope) (h : IsScopeOf ta
 
     pub index_is : resolved_of [] tables (command.Index name column k) ≡ option_map_or (index_on declared) (place_meant columns (bare column)) (Err NoSuchColumn)
     index_is =
-        in_scope (λ n table. on_column column table (λ c. meaning (index_checks table c k) (resolved.Index n c k)))
+        in_scope (λ n table. on_column column table (λ c. meaning (index_checks table c k) (resolved.Index n c k))) (Err NoSuchTable)
         ∙ ap (λ cs. option_map_or (index_on h.table.indexes) (place_meant cs (bare column)) (Err NoSuchColumn)) own_columns-are
         ∙ ap (λ own. option_map_or (index_on own) (place_meant columns (bare column)) (Err NoSuchColumn)) h.indexes
 
     pub drop_index_is : resolved_of [] tables (command.DropIndex name column k) ≡ option_map_or (drop_index_on declared) (place_meant columns (bare column)) (Err NoSuchColumn)
     drop_index_is =
-        in_scope (λ n table. on_column column table (λ c. meaning (drop_index_checks table c k) (resolved.DropIndex n c k)))
+        in_scope (λ n table. on_column column table (λ c. meaning (drop_index_checks table c k) (resolved.DropIndex n c k))) (Err NoSuchTable)
         ∙ ap (λ cs. option_map_or (drop_index_on h.table.indexes) (place_meant cs (bare column)) (Err NoSuchColumn)) own_columns-are
         ∙ ap (λ own. option_map_or (drop_index_on own) (place_meant columns (bare column)) (Err NoSuchColumn)) h.indexes
 
@@ -140,7 +141,7 @@ module _ (tables : Database) (name : List ℕ) (scope : Scope) (h : IsScopeOf ta
 
     delete_is : resolved_of [] tables (command.Delete name conditions) ≡ meaning (delete_on columns) (resolved.Delete scope.table (tests_of columns conditions))
     delete_is =
-        in_scope (λ n table. meaning (delete_on (own_columns table)) (resolved.Delete n (tests_of (own_columns table) conditions)))
+        in_scope (λ n table. meaning (delete_on (own_columns table)) (resolved.Delete n (tests_of (own_columns table) conditions))) (Err NoSuchTable)
         ∙ ap (λ cs. meaning (delete_on cs) (resolved.Delete scope.table (tests_of cs conditions))) own_columns-are
 
     pub delete_missed : misses columns (condition_names conditions) ≡ true → resolved_of [] tables (command.Delete name conditions) ≡ Err NoSuchColumn
@@ -180,7 +181,7 @@ module _ (tables : Database) (name : List ℕ) (scope : Scope) (h : IsScopeOf ta
 
     update_is : resolved_of [] tables (command.Update name settings conditions) ≡ meaning (update_on columns) change
     update_is =
-        in_scope (λ n table. meaning (update_on (own_columns table)) (resolved.Update n (assignments_of (own_columns table) settings) (tests_of (own_columns table) conditions)))
+        in_scope (λ n table. meaning (update_on (own_columns table)) (resolved.Update n (assignments_of (own_columns table) settings) (tests_of (own_columns table) conditions))) (Err NoSuchTable)
         ∙ ap (λ cs. meaning (update_on cs) (resolved.Update scope.table (assignments_of cs settings) (tests_of cs conditions))) own_columns-are
 
     update_missed : misses columns update_names ≡ true → resolved_of [] tables (command.Update name settings conditions) ≡ Err NoSuchColumn
@@ -209,7 +210,7 @@ module _ (tables : Database) (name : List ℕ) (scope : Scope) (h : IsScopeOf ta
               set_types,
               types,
               long_set columns settings settings_named ∙ ap (list_any (λ (a : Assignment). is_long a.value)) (sym assigned),
-              key_set columns settings ∙ ap (list_any (λ (a : Assignment). a.column.0 == 0)) (sym assigned),
+              key_set columns setting_name assignment_at (λ (a : Assignment). a.column) (λ _ _. refl) settings ∙ ap (list_any (λ (a : Assignment). a.column.0 == 0)) (sym assigned),
               ap length tests ∙ length-tests columns conditions named,
             ) refl
 

@@ -20,6 +20,7 @@ use Rattle.plain_tables.specs.declared.condition.ColName.{ColName}
 use Rattle.plain_tables.specs.declared.command.Items.{Items}
 use Rattle.plain_tables.specs.declared.command.Items.TheVariants as items
 use Rattle.plain_tables.specs.declared.command.Setting.{Setting}
+use Rattle.plain_tables.specs.declared.numbers.ColumnNumber.{ColumnNumber}
 use Rattle.plain_tables.specs.declared.numbers.Place.{Place}
 use Rattle.plain_tables.specs.declared.resolved.Assignment.{Assignment}
 use Rattle.mm_catalog.specs.declared.bind.scope.NamedColumn.{NamedColumn}
@@ -111,15 +112,19 @@ module _ (columns : List JoinedColumn) where
 
   -- ---- settings by their places
 
-  one_place : (o : Option Place) (s : Setting) (places : List Place) (others : List Assignment)
-      → list_any (λ (p : Place). p.column.0 == 0) places ≡ list_any (λ (a : Assignment). a.column.0 == 0) others
-      → list_any (λ (p : Place). p.column.0 == 0) (cons_option o places) ≡ list_any (λ (a : Assignment). a.column.0 == 0) (cons_option (option_map (assignment_at s) o) others)
-  one_place None s places others e = e
-  one_place (Some p) s places others e = ap (λ b. (p.column.0 == 0) || b) e
+  -- what is made of a column's place is of the key where the place is
+  module _ {X Y : Type 0} (name : X → ColName) (make : X → Place → Y) (column : Y → ColumnNumber) (same : (x : X) (p : Place) → column (make x p) ≡ p.column) where
+    one_place : (o : Option Place) (x : X) (places : List Place) (others : List Y)
+        → list_any (λ (p : Place). p.column.0 == 0) places ≡ list_any (λ y. (column y).0 == 0) others
+        → list_any (λ (p : Place). p.column.0 == 0) (cons_option o places) ≡ list_any (λ y. (column y).0 == 0) (cons_option (option_map (make x) o) others)
+    one_place None x places others e = e
+    one_place (Some p) x places others e =
+        ap (λ b. (p.column.0 == 0) || b) e ∙ ap (λ (k : ColumnNumber). (k.0 == 0) || list_any (λ y. (column y).0 == 0) others) (sym (same x p))
 
-  pub key_set : (settings : List Setting) → list_any (λ p. p.column.0 == 0) (places_meant columns (map setting_name settings)) ≡ list_any (λ a. a.column.0 == 0) (assignments_of columns settings)
-  key_set [] = refl
-  key_set (s ∷ ss) = one_place (place_meant columns (setting_name s)) s (places_meant columns (map setting_name ss)) (assignments_of columns ss) (key_set ss)
+    pub key_set : (xs : List X) → list_any (λ p. p.column.0 == 0) (places_meant columns (map name xs))
+        ≡ list_any (λ y. (column y).0 == 0) (filter_map (λ x. option_map (make x) (place_meant columns (name x))) xs)
+    key_set [] = refl
+    key_set (x ∷ xs) = one_place (place_meant columns (name x)) x (places_meant columns (map name xs)) (filter_map (λ y. option_map (make y) (place_meant columns (name y))) xs) (key_set xs)
 
   long_one : (s : Setting) (a : Assignment) → option_map (assignment_at s) (place_meant columns (setting_name s)) ≡ Some a → is_long s.value ≡ is_long a.value
   long_one s a e = ap (λ (b : Assignment). is_long b.value) (option_map_some (assignment_at s) (place_meant columns (setting_name s)) a e).2

@@ -1,19 +1,16 @@
--- The conditions of a select, each as a test of its table.
+-- The conditions of a select, each as a test of its table, whatever stands in them beside the names of columns.
 use Rattle.std.proofs.Common.{◌≡◌, ◌≢◌, ℕ, zero, suc, ◌+◌, ◌≤◌, Bool, true, false, cond, List, [], ◌∷◌, ◌++◌, Some, refl, ap, ◌∙◌, map, set, slice_get, arith, append-nil, add-zero}
 use Rattle.std.specs.Prelude.{◌==◌}
-use Rattle.std.specs.List.{filter, enumerate_from}
+use Rattle.std.specs.List.{filter, filter_map, enumerate_from}
 use Rattle.std.specs.Option.{option_map, option_map_or}
 use Rattle.std.proofs.lemmas.Bool.Decides.{nat_tests}
 use Rattle.std.proofs.lemmas.List.Elements.{filter-append, filter_map-append}
 use Rattle.std.proofs.lemmas.Option.{same_Some}
 use Rattle.plain_tables.specs.Queries.{JoinedColumn, place_meant}
-use Rattle.plain_tables.specs.Resolving.{is_on_source, tests_of}
-use Rattle.plain_tables.specs.declared.condition.Cond.{Cond}
+use Rattle.plain_tables.specs.declared.condition.ColName.{ColName}
+use Rattle.plain_tables.specs.declared.numbers.TableNumber.{TableNumber}
 use Rattle.plain_tables.specs.declared.numbers.Place.{Place}
-use Rattle.plain_tables.specs.declared.resolved.Source.{Source}
 use Rattle.mm_catalog.specs.declared.bind.scope.Scope.{Scope}
-use Rattle.mm_catalog.specs.Resolve.{test_at}
-use Rattle.mm_catalog.specs.Select.{source_on, untested, with_test}
 
 pub map-map : {X Y Z : Type 0} (g : Y → Z) (f : X → Y) (xs : List X) → map (λ x. g (f x)) xs ≡ map g (map f xs)
 map-map g f [] = refl
@@ -25,59 +22,71 @@ same_number m n h = grind (arith, nat_tests)
 other_number : (m n : ℕ) → m ≢ n → (m == n) ≡ false
 other_number m n h = grind (arith, nat_tests)
 
-module _ (columns : List JoinedColumn) where
-  pub untested_are : (k : ℕ) (scopes : List Scope) → map untested scopes ≡ map (source_on columns []) (enumerate_from k scopes)
+-- Conditions of a kind, by the columns that they name and the tests that they are, and sources of a kind, by their tables and tests.
+module _ {C T S : Type 0} (name : C → ColName) (test : C → Place → T) (source : TableNumber → List T → S) (columns : List JoinedColumn) where
+  abbrev is_on : ℕ → C → Bool
+  is_on n c = option_map_or (λ place. place.source == n) (place_meant columns (name c)) false
+
+  abbrev tests : List C → List T
+  tests conditions = filter_map (λ c. option_map (test c) (place_meant columns (name c))) conditions
+
+  -- the source of the table that is joined as the one of a number, with the conditions on it
+  abbrev on : List C → ℕ × Scope → S
+  on conditions s = source s.1.table (tests (filter (is_on s.0) conditions))
+
+  pub untested_are : (k : ℕ) (scopes : List Scope) → map (λ s. source s.table []) scopes ≡ map (on []) (enumerate_from k scopes)
   untested_are k [] = refl
-  untested_are k (s ∷ ss) = ap (λ sources. untested s ∷ sources) (untested_are (k + 1) ss)
+  untested_are k (s ∷ ss) = ap (λ sources. source s.table [] ∷ sources) (untested_are (k + 1) ss)
 
-  module _ (given : List Cond) (c : Cond) where
+  module _ (given : List C) (c : C) where
     -- the sources without the condition and with it
-    abbrev pub before : ℕ → List Scope → List Source
-    before k scopes = map (source_on columns given) (enumerate_from k scopes)
+    abbrev before : ℕ → List Scope → List S
+    before k scopes = map (on given) (enumerate_from k scopes)
 
-    abbrev pub after : ℕ → List Scope → List Source
-    after k scopes = map (source_on columns (given ++ c ∷ [])) (enumerate_from k scopes)
+    abbrev after : ℕ → List Scope → List S
+    after k scopes = map (on (given ++ c ∷ [])) (enumerate_from k scopes)
 
     -- what the condition adds to the tests of a table
-    tests_more : (n : ℕ) (b : Bool) → is_on_source columns n c ≡ b
-        → tests_of columns (filter (is_on_source columns n) (given ++ c ∷ [])) ≡ tests_of columns (filter (is_on_source columns n) given) ++ tests_of columns (cond b (c ∷ []) [])
+    tests_more : (n : ℕ) (b : Bool) → is_on n c ≡ b
+        → tests (filter (is_on n) (given ++ c ∷ [])) ≡ tests (filter (is_on n) given) ++ tests (cond b (c ∷ []) [])
     tests_more n b h =
-        ap (tests_of columns) (filter-append (is_on_source columns n) given (c ∷ []) ∙ ap (λ x. filter (is_on_source columns n) given ++ cond x (c ∷ []) []) h)
-        ∙ filter_map-append (λ d. option_map (test_at d) (place_meant columns d.column)) (filter (is_on_source columns n) given) (cond b (c ∷ []) [])
+        ap tests (filter-append (is_on n) given (c ∷ []) ∙ ap (λ x. filter (is_on n) given ++ cond x (c ∷ []) []) h)
+        ∙ filter_map-append (λ d. option_map (test d) (place_meant columns (name d))) (filter (is_on n) given) (cond b (c ∷ []) [])
 
-    source_same : (n : ℕ) (s : Scope) → is_on_source columns n c ≡ false → source_on columns (given ++ c ∷ []) (n, s) ≡ source_on columns given (n, s)
-    source_same n s h =
-        ap (λ ts. record { table = s.table; tests = ts }) (tests_more n false h ∙ append-nil (tests_of columns (filter (is_on_source columns n) given)))
+    source_same : (n : ℕ) (s : Scope) → is_on n c ≡ false → on (given ++ c ∷ []) (n, s) ≡ on given (n, s)
+    source_same n s h = ap (source s.table) (tests_more n false h ∙ append-nil (tests (filter (is_on n) given)))
 
-    pub sources_same : (k : ℕ) (scopes : List Scope) → ((n : ℕ) → k ≤ n → is_on_source columns n c ≡ false) → after k scopes ≡ before k scopes
+    sources_same : (k : ℕ) (scopes : List Scope) → ((n : ℕ) → k ≤ n → is_on n c ≡ false) → after k scopes ≡ before k scopes
     sources_same k [] h = refl
     sources_same k (s ∷ ss) h =
-        ap (λ source. source ∷ after (k + 1) ss) (source_same k s (h k (omega arith)))
-        ∙ ap (λ sources. source_on columns given (k, s) ∷ sources) (sources_same (k + 1) ss (λ n l. h n (omega arith)))
+        ap (λ x. x ∷ after (k + 1) ss) (source_same k s (h k (omega arith)))
+        ∙ ap (λ sources. on given (k, s) ∷ sources) (sources_same (k + 1) ss (λ n l. h n (omega arith)))
 
-    module _ (place : Place) (is : place_meant columns c.column ≡ Some place) where
-      on_place : (n : ℕ) → is_on_source columns n c ≡ (place.source == n)
+    -- a source with one test more
+    module _ (more : S → T → S) (adds : (n : TableNumber) (ts : List T) (t : T) → source n (ts ++ t ∷ []) ≡ more (source n ts) t)
+        (place : Place) (is : place_meant columns (name c) ≡ Some place) where
+      on_place : (n : ℕ) → is_on n c ≡ (place.source == n)
       on_place n = ap (λ o. option_map_or (λ (p : Place). p.source == n) o false) is
 
-      tests_of_one : tests_of columns (c ∷ []) ≡ test_at c place ∷ []
+      tests_of_one : tests (c ∷ []) ≡ test c place ∷ []
       tests_of_one = rw is refl
 
-      source_more : (n : ℕ) (s : Scope) → place.source ≡ n → source_on columns (given ++ c ∷ []) (n, s) ≡ with_test (source_on columns given (n, s)) (test_at c place)
+      source_more : (n : ℕ) (s : Scope) → place.source ≡ n → on (given ++ c ∷ []) (n, s) ≡ more (on given (n, s)) (test c place)
       source_more n s h =
-          ap (λ ts. record { table = s.table; tests = ts })
-          (tests_more n true (on_place n ∙ same_number place.source n h) ∙ ap (λ ts. tests_of columns (filter (is_on_source columns n) given) ++ ts) tests_of_one)
+          ap (source s.table) (tests_more n true (on_place n ∙ same_number place.source n h) ∙ ap (λ ts. tests (filter (is_on n) given) ++ ts) tests_of_one)
+          ∙ adds s.table (tests (filter (is_on n) given)) (test c place)
 
-      pub sources_more : (k i : ℕ) (scopes : List Scope) (source : Source) → place.source ≡ k + i → slice_get (before k scopes) i ≡ Some source
-          → after k scopes ≡ set (before k scopes) i (with_test source (test_at c place))
-      sources_more k i [] source h at = cc
-      sources_more k zero (s ∷ ss) source h at =
+      pub sources_more : (k i : ℕ) (scopes : List Scope) (x : S) → place.source ≡ k + i → slice_get (before k scopes) i ≡ Some x
+          → after k scopes ≡ set (before k scopes) i (more x (test c place))
+      sources_more k i [] x h at = cc
+      sources_more k zero (s ∷ ss) x h at =
           let first : place.source ≡ k = h ∙ add-zero k in
-          let same : source_on columns given (k, s) ≡ source = same_Some (source_on columns given (k, s)) source at in
-          ap (λ rest. source_on columns (given ++ c ∷ []) (k, s) ∷ rest)
+          let same : on given (k, s) ≡ x = same_Some (on given (k, s)) x at in
+          ap (λ rest. on (given ++ c ∷ []) (k, s) ∷ rest)
           (sources_same (k + 1) ss (λ n l. on_place n ∙ other_number place.source n (λ e. omega arith)))
-          ∙ ap (λ x. x ∷ before (k + 1) ss) (source_more k s first ∙ ap (λ x. with_test x (test_at c place)) same)
-      sources_more k (suc i) (s ∷ ss) source h at =
+          ∙ ap (λ y. y ∷ before (k + 1) ss) (source_more k s first ∙ ap (λ y. more y (test c place)) same)
+      sources_more k (suc i) (s ∷ ss) x h at =
           let later : place.source ≡ (k + 1) + i = omega arith in
-          ap (λ rest. source_on columns (given ++ c ∷ []) (k, s) ∷ rest) (sources_more (k + 1) i ss source later at)
-          ∙ ap (λ x. x ∷ set (before (k + 1) ss) i (with_test source (test_at c place)))
+          ap (λ rest. on (given ++ c ∷ []) (k, s) ∷ rest) (sources_more (k + 1) i ss x later at)
+          ∙ ap (λ y. y ∷ set (before (k + 1) ss) i (more x (test c place)))
           (source_same k s (on_place k ∙ other_number place.source k (λ e. omega arith)))

@@ -19,4 +19,6 @@ pub mod State
 pub mod Trees
 pub mod LoadOrder
 pub mod Standing
+pub mod Slots
+pub mod Wanted
 pub mod Indexes

@@ -1,5 +1,5 @@
 -- The checks of a command whose names are resolved.
-use Rattle.std.specs.Prelude.{List, [], ◌∷◌, Bool, not, ◌||◌, ◌==◌, nat_lt, length, Result, Ok, Err, if◌then◌else◌}
+use Rattle.std.specs.Prelude.{ℕ, List, [], ◌∷◌, Bool, not, ◌||◌, ◌==◌, nat_lt, length, Result, Ok, Err, if◌then◌else◌}
 use Rattle.std.specs.List.{list_any}
 use Rattle.plain_tables.specs.Databases.{Database}
 use Rattle.plain_tables.specs.Tables.{Row}
@@ -10,6 +10,7 @@ use Rattle.plain_tables.specs.declared.refusal.Refusal.TheVariants.{ColumnNamedT
 use Rattle.plain_tables.specs.declared.schema.Column.{Column}
 use Rattle.plain_tables.specs.declared.resolved.Assignment.{Assignment}
 use Rattle.plain_tables.specs.declared.resolved.Test.{Test}
+use Rattle.plain_statements.specs.declared.resolution.SlotAssignment.{SlotAssignment}
 use Rattle.mm_catalog.specs.declared.bind.placed.Placed.{Placed}
 
 -- the refusal of the first check that refuses
@@ -41,3 +42,13 @@ update_rest repeated set tested =
     ∷ record { refuses = list_any (λ a. a.column.0 == 0) set.items; refusal = KeyCannotBeSet }
     ∷ record { refuses = nat_lt 8 (length tested.items); refusal = TooMany }
     ∷ []
+
+-- ---- the checks of a statement that come behind those of its values
+
+-- those of a delete with so many conditions
+abbrev pub delete_late : ℕ → List Check
+delete_late conditions = record { refuses = nat_lt 8 conditions; refusal = TooMany } ∷ []
+
+-- those of an update by these assignments, with so many conditions
+abbrev pub update_late : List SlotAssignment → ℕ → List Check
+update_late set conditions = record { refuses = list_any (λ a. a.column.0 == 0) set; refusal = KeyCannotBeSet } ∷ delete_late conditions

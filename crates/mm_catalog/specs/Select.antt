@@ -56,17 +56,32 @@ RefusesSelects tables name joins e =
 abbrev pub sides_differ : Database → Sides → Bool
 sides_differ tables s = not (same_type (type_of tables s.outer.column.now.kind) (type_of tables s.inner.column.now.kind))
 
--- The checks of a select in which each name means a column, with so many conditions, where a value in one is none for its column
--- or not. A table that is named twice has but one scope.
-abbrev pub select_rest : Database → JoinedScope → Shown → ℕ → Bool → List Check
-select_rest tables scope shown conditions mistyped =
+-- whether a select names more items, conditions or joins than it may
+abbrev pub asks_too_much : Shown → ℕ → ℕ → Bool
+asks_too_much shown conditions joins = nat_lt 16 (length (shown_places shown)) || nat_lt 8 conditions || nat_lt 3 joins
+
+-- The checks of what a select shows and of its tables and joins. A table that is named twice has but one scope.
+abbrev pub joined_rest : Database → JoinedScope → Shown → List Check
+joined_rest tables scope shown =
     let scopes = scope.scopes.items in
     let sides = scope.sides.items in
     record { refuses = repeats same_place (shown_places shown); refusal = ColumnNamedTwice }
     ∷ record { refuses = nat_le (length scopes) (length sides); refusal = TableNamedTwice }
-    ∷ record { refuses = mistyped || list_any (sides_differ tables) sides; refusal = WrongType }
-    ∷ record { refuses = nat_lt 16 (length (shown_places shown)) || nat_lt 8 conditions || nat_lt 3 (length sides); refusal = TooMany }
+    ∷ record { refuses = list_any (sides_differ tables) sides; refusal = WrongType }
     ∷ []
+
+-- The checks of a select in which each name means a column, with so many conditions, where a value in one is none for its column
+-- or not.
+abbrev pub select_rest : Database → JoinedScope → Shown → ℕ → Bool → List Check
+select_rest tables scope shown conditions mistyped =
+    joined_rest tables scope shown
+    ++ record { refuses = mistyped; refusal = WrongType }
+    ∷ record { refuses = asks_too_much shown conditions (length scope.sides.items); refusal = TooMany }
+    ∷ []
+
+-- the check of a select with slots that comes behind those of its values
+abbrev pub select_late : Shown → ℕ → ℕ → List Check
+select_late shown conditions joins = record { refuses = asks_too_much shown conditions joins; refusal = TooMany } ∷ []
 
 -- ---- sources
 

@@ -4,12 +4,18 @@
 
 mod checks;
 mod joined_scope;
+mod late;
 mod load;
 mod names;
 mod placed;
+mod repeats;
 mod resolve;
 mod scope;
 mod selected;
+mod slot_sources;
+mod slots;
+mod statements;
 mod types;
+mod wanted;
 
 pub use checks::{MOST_COLUMNS, MOST_CONDITIONS, MOST_ITEMS, MOST_JOINS, MOST_TABLES};

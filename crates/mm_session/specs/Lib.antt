@@ -1,6 +1,7 @@
 pub mod Answered
 pub mod Batched
 pub mod Buffers
+pub mod Changing
 pub mod Dumps
 pub mod IndexAnswers
 pub mod Judging

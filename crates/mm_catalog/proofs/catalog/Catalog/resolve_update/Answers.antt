@@ -42,7 +42,7 @@ returns-in_err-check_update-clause-refused c =
     let own-2 : columns_of_all c.from_ref-2.result.now ≡ columns_of scope = ap columns_of_all c.from_ref-2.ensures.value in
     let e = c.in_err-check_update.field-0.0 in
     let is : c.from_residual-in_err-check_update.result ≡ Err e = search rules in
-    let twice = c.repeats_setting-repeated.ensures ∙ ap (λ (ss : List Setting). repeats bytes_eq (map (λ s. s.column) ss)) c.as_slice.ensures in
+    let twice = c.repeats_name-repeated.ensures ∙ ap (λ (ss : List Setting). repeats bytes_eq (map (λ s. s.column) ss)) c.as_slice.ensures in
     rw is (λ _. update_refused tables c.args.table scope c.in_ok-scope.ensures.found c.args.settings c.args.conditions
     (ap (λ cs. misses cs (map setting_name c.args.settings)) (sym own) ∙ c.in_ok-set.ensures.named)
     (ap (λ cs. misses cs (condition_names c.args.conditions)) (sym own-2) ∙ c.in_ok-tested.ensures.named)
@@ -59,7 +59,7 @@ returns-clause-meant c =
     let scope = c.in_ok-scope.scope in
     let own : columns_of_all c.from_ref.result.now ≡ columns_of scope = ap columns_of_all c.from_ref.ensures.value in
     let own-2 : columns_of_all c.from_ref-2.result.now ≡ columns_of scope = ap columns_of_all c.from_ref-2.ensures.value in
-    let twice = c.repeats_setting-repeated.ensures ∙ ap (λ (ss : List Setting). repeats bytes_eq (map (λ s. s.column) ss)) c.as_slice.ensures in
+    let twice = c.repeats_name-repeated.ensures ∙ ap (λ (ss : List Setting). repeats bytes_eq (map (λ s. s.column) ss)) c.as_slice.ensures in
     update_meant tables c.args.table scope c.in_ok-scope.ensures.found c.args.settings c.args.conditions
     (ap (λ cs. misses cs (map setting_name c.args.settings)) (sym own) ∙ c.in_ok-set.ensures.named)
     (ap (λ cs. misses cs (condition_names c.args.conditions)) (sym own-2) ∙ c.in_ok-tested.ensures.named)

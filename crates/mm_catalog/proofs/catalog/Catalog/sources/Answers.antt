@@ -10,7 +10,9 @@ use Rattle.plain_tables.specs.Effects.{misses, condition_names}
 use Rattle.plain_tables.specs.Resolving.{is_mistyped}
 use Rattle.plain_tables.specs.declared.condition.ColName.{ColName}
 use Rattle.plain_tables.specs.declared.condition.Cond.{Cond}
+use Rattle.plain_tables.specs.declared.numbers.TableNumber.{TableNumber}
 use Rattle.plain_tables.specs.declared.resolved.Source.{Source}
+use Rattle.plain_tables.specs.declared.resolved.Test.{Test}
 use Rattle.mm_catalog.specs.Resolve.{columns_of_all, test_at}
 use Rattle.mm_catalog.specs.Seen.{database_of}
 use Rattle.mm_catalog.specs.Select.{source_on, with_test}
@@ -19,11 +21,14 @@ use Rattle.mm_catalog.proofs.ResolveNamed.{missed_at, named_more, any_more}
 use Rattle.mm_catalog.proofs.ResolveSources.{sources_more, untested_are}
 use Rattle.mm_catalog.proofs.catalog.Catalog.sources.Goals as goal
 
+abbrev source_with : TableNumber → List Test → Source
+source_with n tests = record { table = n; tests = tests }
+
 pub loop-condition-init : goal.loop-condition-init
 loop-condition-init c = record {
   can_next = tt;
   is_finite = tt;
-  sources = c.in_ok-sources.ensures ∙ untested_are (columns_of_all c.args.scopes.now) 0 c.args.scopes.now;
+  sources = c.in_ok-sources.ensures ∙ untested_are (λ (d : Cond). d.column) test_at source_with (columns_of_all c.args.scopes.now) 0 c.args.scopes.now;
   types = refl;
   named = refl;
 }
@@ -73,7 +78,7 @@ loop-condition-preserved c =
       sources =
           all ∙ set_so
           ∙ ap (λ (ss : List Source). set ss place.source (with_test there.0 (test_at condition place))) c.loop-condition.invariant.sources
-          ∙ sym (sources_more columns given condition place c.in_ok-at.ensures.place 0 place.source scopes there.0 (sym (zero-add place.source))
+          ∙ sym (sources_more column test_at source_with columns given condition with_test (λ _ _ _. refl) place c.in_ok-at.ensures.place 0 place.source scopes there.0 (sym (zero-add place.source))
           (ap (λ (ss : List Source). slice_get ss place.source) (sym c.loop-condition.invariant.sources) ∙ there.1));
       types =
           ap (λ m. m || at.mistyped) c.loop-condition.invariant.types

@@ -1,0 +1,16 @@
+use Rattle.std.proofs.Common.{◌≡◌, false}
+use Rattle.plain_tables.specs.Effects.{misses}
+use Rattle.plain_statements.specs.Slots.{condition_needs, slot_condition_names, slot_tests_of}
+use Rattle.mm_catalog.specs.Resolve.{columns_of_all}
+use Rattle.mm_catalog.specs.Seen.{database_of}
+use Rattle.mm_catalog.specs.Wanted.{Adds}
+use Rattle.mm_catalog.proofs.catalog.Catalog.slot_tests.Given as goal
+
+abbrev pub invariant-loop-condition : goal.invariant-loop-condition
+invariant-loop-condition l = record {
+  can_next : (goal.iterator-loop-condition).can_next l.condition-iterator;
+  is_finite : (goal.iterator-loop-condition).is_finite l.condition-iterator;
+  tests : l.tests.items ≡ slot_tests_of (columns_of_all l.scopes) l.yielded;
+  wanted : Adds (condition_needs (database_of l.self) (columns_of_all l.scopes) l.yielded) l.initial.wanted l.wanted;
+  named : misses (columns_of_all l.scopes) (slot_condition_names l.yielded) ≡ false;
+}

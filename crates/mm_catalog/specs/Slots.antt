@@ -1,0 +1,43 @@
+-- Conditions, settings and sources with slots in the place of values, by the places of columns.
+use Rattle.std.specs.Prelude.{ℕ, List, [], ◌∷◌, ◌++◌, Bool, false, ◌==◌}
+use Rattle.std.specs.List.{filter}
+use Rattle.std.specs.Option.{option_map_or}
+use Rattle.plain_tables.specs.Queries.{JoinedColumn, place_meant}
+use Rattle.plain_tables.specs.declared.numbers.Place.{Place}
+use Rattle.plain_statements.specs.declared.statement.SlotCond.{SlotCond}
+use Rattle.plain_statements.specs.declared.statement.SlotSetting.{SlotSetting}
+use Rattle.plain_statements.specs.declared.resolution.SlotAssignment.{SlotAssignment}
+use Rattle.plain_statements.specs.declared.resolution.SlotJoined.{SlotJoined}
+use Rattle.plain_statements.specs.declared.resolution.SlotSource.{SlotSource}
+use Rattle.plain_statements.specs.declared.resolution.SlotTest.{SlotTest}
+use Rattle.plain_statements.specs.Slots.{slot_tests_of}
+use Rattle.mm_catalog.specs.declared.bind.joined_scope.Sides.{Sides}
+use Rattle.mm_catalog.specs.declared.bind.scope.Scope.{Scope}
+
+-- a condition on the column at a place, and a setting of it
+abbrev pub slot_test_at : SlotCond → Place → SlotTest
+slot_test_at c place = record { column = place.column; op = c.op; slot = c.slot }
+
+abbrev pub slot_assignment_at : SlotSetting → Place → SlotAssignment
+slot_assignment_at s place = record { column = place.column; slot = s.slot }
+
+-- the source of a table that no condition is on
+abbrev pub untested_slots : Scope → SlotSource
+untested_slots scope = record { table = scope.table; tests = [] }
+
+-- whether a condition is on the table that is joined as the one of this number
+abbrev pub is_slot_on_source : List JoinedColumn → ℕ → SlotCond → Bool
+is_slot_on_source columns source c = option_map_or (λ place. place.source == source) (place_meant columns c.column) false
+
+-- the source of the table that is joined as the one of a number, with the conditions on it
+abbrev pub slot_source_on : List JoinedColumn → List SlotCond → ℕ × Scope → SlotSource
+slot_source_on columns conditions s =
+    record { table = s.1.table; tests = slot_tests_of columns (filter (is_slot_on_source columns s.0) conditions) }
+
+-- a source with one test more
+abbrev pub with_slot_test : SlotSource → SlotTest → SlotSource
+with_slot_test source test = record { table = source.table; tests = source.tests ++ test ∷ [] }
+
+-- a source that is joined by two columns
+abbrev pub slot_joined_by : SlotSource → Sides → SlotJoined
+slot_joined_by source sides = record { source = source; outer = sides.outer.place; inner = sides.inner.place.column }

@@ -1,0 +1,49 @@
+//! The checks of a statement that come behind those of its values: why it is refused once these are right.
+ghost use Rattle.std.specs.Prelude.{◌≡◌, ◌==◌};
+ghost use Rattle.std.specs.List.{list_any};
+ghost use Rattle.plain_statements.specs.Slots.{first_refusal};
+ghost use Rattle.mm_catalog.specs.ResolveChecks as checks;
+ghost use Rattle.mm_catalog.specs.Select as select;
+
+use crate::bind::checks::{MOST_CONDITIONS, asks_too_much};
+use plain_statements::SlotAssignment;
+use plain_tables::{Refusal, Shown};
+
+// Whether an assignment is of the key.
+fn sets_key(assignments: &[SlotAssignment]) -> bool
+    ensures { result ≡ list_any (λ a. a.column.0 == 0) assignments.now }
+{
+    assignments
+        .iter()
+        .any(|assignment| assignment.column.0 == 0)
+}
+
+/// There are few enough conditions.
+pub fn delete_late(conditions: usize) -> Option<Refusal>
+    ensures { result ≡ first_refusal (checks.delete_late conditions) }
+{
+    if conditions > MOST_CONDITIONS {
+        return Some(Refusal::TooMany);
+    }
+    None
+}
+
+/// The key isn't set, and there are few enough conditions.
+pub fn update_late(assignments: &[SlotAssignment], conditions: usize) -> Option<Refusal>
+    ensures { result ≡ first_refusal (checks.update_late assignments.now conditions) }
+{
+    if sets_key(assignments) {
+        return Some(Refusal::KeyCannotBeSet);
+    }
+    delete_late(conditions)
+}
+
+/// There are few enough items, conditions and joins.
+pub fn select_late(shown: &Shown, conditions: usize, joins: usize) -> Option<Refusal>
+    ensures { result ≡ first_refusal (select.select_late shown.now conditions joins) }
+{
+    if asks_too_much(shown, conditions, joins) {
+        return Some(Refusal::TooMany);
+    }
+    None
+}
