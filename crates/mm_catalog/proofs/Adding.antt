@@ -1,25 +1,17 @@
 -- What is asked of the values of slots, one list behind another.
-use Rattle.std.proofs.Common.{◌≡◌, ℕ, ◌<◌, Bool, false, true, List, [], ◌∷◌, ◌++◌, map, take, get_or, length, Option, Some, None, refl, sym, ap, subst, ◌∙◌, ◌+◌, arith, append-nil, append_assoc}
+use Rattle.std.proofs.Common.{◌≡◌, ℕ, ◌<◌, List, [], ◌∷◌, ◌++◌, map, take, get_or, length, Option, refl, sym, ap, subst, ◌∙◌, ◌+◌, arith, append-nil, append_assoc}
 use Rattle.std.specs.Prelude.{◌||◌}
-use Rattle.std.specs.List.{list_any, filter_map, cons_option, zip}
-use Rattle.std.specs.Option.{option_map}
+use Rattle.std.specs.List.{filter_map, zip}
 use Rattle.std.proofs.lemmas.List.{map-append, take_more}
 use Rattle.std.proofs.lemmas.List.Elements.{filter_map-append}
 use Rattle.std.proofs.lemmas.Slice.Zip.{get_or-zip, length-zip}
-use Rattle.common_lemmas.proofs.Options.{option_map_some}
 use Rattle.common_lemmas.proofs.Tests.{or_false}
-use Rattle.plain_tables.specs.Queries.{JoinedColumn, column_meant}
-use Rattle.plain_tables.specs.declared.condition.ColName.{ColName}
-use Rattle.plain_tables.specs.declared.schema.ColKind.{ColKind}
-use Rattle.plain_tables.specs.declared.schema.Column.{Column}
 use Rattle.plain_tables.specs.declared.value.Value.{Value}
 use Rattle.plain_statements.specs.declared.statement.Slot.TheVariants.{Given, Hole}
 use Rattle.plain_statements.specs.declared.resolution.Need.{Need}
 use Rattle.plain_statements.specs.Finishing.{is_wrong, is_past}
 use Rattle.plain_statements.specs.Slots.{Needed, is_given, wants_of, want_of}
-use Rattle.mm_catalog.specs.declared.bind.scope.NamedColumn.{NamedColumn}
 use Rattle.mm_catalog.specs.declared.bind.wanted.Wanted.{Wanted}
-use Rattle.mm_catalog.specs.Resolve.{placed, as_found}
 use Rattle.mm_catalog.specs.Wanted.{IsWantedOf, Adds}
 use Rattle.mm_catalog.proofs.ResolveNamed.{any_more}
 
@@ -62,16 +54,7 @@ adds-more ask given x first second third f s =
     subst (λ xs. Adds xs first third) (sym (filter_map-append ask given (x ∷ [])))
     (adds-both (filter_map ask given) (filter_map ask (x ∷ [])) first second third f s)
 
--- ---- what a column asks
-
--- what is asked of the value for a column that is found
-pub asks-found : (columns : List JoinedColumn) (name : ColName) (ask : ColKind → Needed) (found : NamedColumn)
-    → option_map as_found (Some found) ≡ option_map placed (column_meant columns name)
-    → cons_option (option_map (λ joined. ask joined.column.kind) (column_meant columns name)) [] ≡ ask found.column.now.kind ∷ []
-asks-found columns name ask found is =
-    let there = option_map_some placed (column_meant columns name) (as_found found) (sym is) in
-    ap (λ o. cons_option (option_map (λ (j : JoinedColumn). ask j.column.kind) o) []) there.1
-    ∙ ap (λ p. ask p.1.kind ∷ []) there.2
+-- ---- the values of a row
 
 -- the pairs of two lists, with one more
 pub pairs_more : {A B C : Type 0} (f : A × B → C) (xs : List A) (ys : List B) (n : ℕ) (x : A) (y : B) → n < length xs → n < length ys

@@ -1,5 +1,5 @@
 -- What a catalog tells of the indexes of its tables.
-use Rattle.std.proofs.Common.{◌≡◌, ℕ, zero, suc, ◌<◌, ◌≤◌, ◌||◌, ◌⊎◌, ◌==◌, true, false, IsTrue, Bool, List, [], ◌∷◌, Some, length, map, filter, not, refl, sym, ap, ◌∙◌, subst, arith, inl, inr, slice_get}
+use Rattle.std.proofs.Common.{◌≡◌, ℕ, ◌<◌, ◌≤◌, ◌||◌, ◌⊎◌, ◌==◌, true, false, IsTrue, Bool, List, [], ◌∷◌, Some, length, map, filter, not, refl, sym, ap, ◌∙◌, subst, arith, inl, inr, slice_get}
 use Rattle.std.specs.List.{Contains, list_any}
 use Rattle.std.specs.Option.{option_map, option_and_then}
 use Rattle.std.specs.FinMap.{len}
@@ -14,7 +14,7 @@ use Rattle.lin_hash.specs.Shape.{HasHashShape}
 use Rattle.lin_hash.specs.declared.shape.HashShape.{HashShape}
 use Rattle.mm_relation.specs.declared.numbers.DeclaredIndex.{DeclaredIndex}
 use Rattle.mm_relation.specs.Changes.{HasTree, HasHash, entries_of}
-use Rattle.mm_relation.specs.State.{RelationState, IsKept, is_tree, HasColumn, HasHashColumn, columns_with_tree, columns_with_hash}
+use Rattle.mm_relation.specs.State.{RelationState, IsKept, is_tree}
 use Rattle.mm_catalog.specs.Consistent.{IsConsistent}
 use Rattle.plain_tables.specs.declared.schema.IndexKind.TheVariants.{Tree, Hash}
 use Rattle.mm_catalog.specs.Indexes.{key_tree, TellsHash}

@@ -1,22 +1,13 @@
 -- What a select means once the names in it are found and its checks are made.
-use Rattle.std.proofs.Common.{◌≡◌, ℕ, suc, ◌+◌, ◌<◌, ◌≤◌, Bool, true, false, cond, not, is_some, is_none, List, [], ◌∷◌, ◌++◌, Option, Some, None, refl, sym, ap, subst, ◌∙◌, map, length, get_or, arith, inl, inr}
-use Rattle.std.specs.Prelude.{Result, Ok, Err, ◌||◌, nat_lt, nat_le, zip}
-use Rattle.std.specs.List.{AllZip, filter, filter_map, list_any, enumerate_from, cons_option, remove}
-use Rattle.std.specs.Option.{option_map, option_map_or}
+use Rattle.std.proofs.Common.{◌≡◌, ℕ, Bool, true, false, cond, not, is_some, is_none, List, [], ◌∷◌, ◌++◌, Option, refl, sym, ap, ◌∙◌, map, length, get_or}
+use Rattle.std.specs.Prelude.{Result, Ok, Err, ◌||◌, nat_lt, zip}
+use Rattle.std.specs.List.{list_any, enumerate_from, remove}
+use Rattle.std.specs.Option.{option_map_or}
 use Rattle.std.specs.Str.{bytes_eq}
-use Rattle.std.proofs.lemmas.Bool.{cases_Bool, false≢true}
-use Rattle.std.proofs.lemmas.Bool.Decides.{nat_tests}
-use Rattle.std.proofs.lemmas.List.{length-map, length-append}
-use Rattle.std.proofs.lemmas.Map.Views.{any-filter_same}
-use Rattle.std.proofs.lemmas.Slice.Eq.{bytes_eq-Decides}
-use Rattle.std.proofs.lemmas.Slice.Zip.{AllZip-long}
-use Rattle.common_lemmas.proofs.Options.{option_map_some}
-use Rattle.common_lemmas.proofs.Tests.{list_any-map}
 use Rattle.plain_tables.specs.Databases.{Database, table_named}
 use Rattle.plain_tables.specs.Queries.{JoinedColumn, same_place, places_meant, named_items}
-use Rattle.plain_tables.specs.References.{same_type, type_of}
 use Rattle.plain_tables.specs.Effects.{Check, misses, repeats, condition_names}
-use Rattle.plain_tables.specs.Resolving.{once, select_names, behind, join_columns, differ_in_type, is_mistyped, meaning, resolved_of, shown_of, source_of, joins_of, columns_of as named_columns}
+use Rattle.plain_tables.specs.Resolving.{select_names, behind, join_columns, differ_in_type, is_mistyped, meaning, resolved_of, shown_of, source_of, joins_of, columns_of as named_columns}
 use Rattle.plain_tables.specs.declared.command.Items.{Items}
 use Rattle.plain_tables.specs.declared.command.Join.{Join}
 use Rattle.plain_tables.specs.declared.command.Command.TheVariants as command
@@ -30,16 +21,12 @@ use Rattle.plain_tables.specs.declared.resolved.Shown.{Shown}
 use Rattle.plain_tables.specs.declared.resolved.Source.{Source}
 use Rattle.plain_tables.specs.declared.resolved.Resolved.{Resolved}
 use Rattle.plain_tables.specs.declared.resolved.Resolved.TheVariants as resolved
-use Rattle.plain_tables.specs.declared.schema.Column.{Column}
 use Rattle.mm_catalog.specs.declared.bind.scope.Scope.{Scope}
 use Rattle.mm_catalog.specs.declared.bind.joined_scope.JoinedScope.{JoinedScope}
-use Rattle.mm_catalog.specs.declared.bind.joined_scope.Sides.{Sides}
-use Rattle.mm_catalog.specs.Resolve.{IsScopeOf, columns_of_all, shown_places}
+use Rattle.mm_catalog.specs.Resolve.{IsScopeOf, columns_of_all}
 use Rattle.mm_catalog.specs.ResolveChecks.{verdict}
 use Rattle.mm_catalog.specs.Select.{IsJoinedScopeOf, asks_too_much, select_rest, source_on, joined_by}
-use Rattle.mm_catalog.proofs.ResolveLists.{list_any-same}
-use Rattle.mm_catalog.proofs.ResolveNamed.{option_map_or-map, shown_places-are, length-shown}
-use Rattle.mm_catalog.proofs.ResolveSources.{map-map}
+use Rattle.mm_catalog.proofs.ResolveNamed.{length-shown}
 use Rattle.mm_catalog.proofs.ResolveJoins.{joined_checks, joined_checks-are, many_joins, scopes_apart, sources_are}
 use Rattle.mm_catalog.proofs.ResolveScopes.{columns_are}
 use Rattle.mm_catalog.proofs.ResolveCommands.{meaning_ok, meaning_err, first_missed, rest_missed}

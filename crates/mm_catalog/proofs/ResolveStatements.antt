@@ -1,15 +1,14 @@
 -- What a statement means once the names in it are found, and that it is answered so.
-use Rattle.std.proofs.Common.{◌≡◌, ◌≢◌, ℕ, Bool, true, false, not, is_none, is_some, List, [], ◌∷◌, ◌++◌, refl, sym, ap, ◌∙◌, map, length, get_or, Some, None, append-nil}
-use Rattle.std.specs.Prelude.{Result, Ok, Err, ◌||◌, ◌==◌, nat_lt, if◌then◌else◌, zip}
+use Rattle.std.proofs.Common.{◌≡◌, ◌≢◌, ℕ, Bool, true, false, not, is_none, List, [], ◌∷◌, ◌++◌, refl, sym, ap, ◌∙◌, map, length, get_or, append-nil}
+use Rattle.std.specs.Prelude.{Ok, Err, ◌||◌, ◌==◌, nat_lt, if◌then◌else◌, zip}
 use Rattle.std.specs.List.{list_any, enumerate_from, remove}
 use Rattle.std.specs.Option.{option_map_or}
 use Rattle.std.specs.Result.{IfOk, IfErr}
 use Rattle.std.specs.Str.{bytes_eq}
-use Rattle.plain_tables.specs.Tables.{Table}
-use Rattle.plain_tables.specs.Databases.{Database, table_named}
+use Rattle.plain_tables.specs.Databases.{Database}
 use Rattle.plain_tables.specs.Queries.{JoinedColumn, named_items, places_meant, same_place}
-use Rattle.plain_tables.specs.Effects.{Check, condition_names, misses, repeats, setting_name}
-use Rattle.plain_tables.specs.Resolving.{behind, differ_in_type, join_columns, number_of, own_columns, resolved_of, select_names, shown_of, columns_of as named_columns}
+use Rattle.plain_tables.specs.Effects.{Check, misses, repeats}
+use Rattle.plain_tables.specs.Resolving.{behind, differ_in_type, join_columns, own_columns, select_names, shown_of, columns_of as named_columns}
 use Rattle.plain_tables.specs.declared.command.Items.{Items}
 use Rattle.plain_tables.specs.declared.command.Join.{Join}
 use Rattle.plain_tables.specs.declared.condition.ColName.{ColName}
@@ -20,24 +19,21 @@ use Rattle.plain_tables.specs.declared.refusal.Refusal.{Refusal}
 use Rattle.plain_tables.specs.declared.refusal.Refusal.TheVariants.{ColumnNamedTwice, KeyCannotBeSet, NoMemory, NoSuchColumn, NoSuchTable, TableNamedTwice, TooMany, WrongNumberOfValues, WrongType}
 use Rattle.plain_tables.specs.declared.resolved.Shown.{Shown}
 use Rattle.plain_tables.specs.declared.schema.Column.{Column}
-use Rattle.plain_tables.specs.declared.value.Value.{Value}
 use Rattle.plain_statements.specs.declared.statement.Slot.{Slot}
 use Rattle.plain_statements.specs.declared.statement.SlotCond.{SlotCond}
 use Rattle.plain_statements.specs.declared.statement.SlotSetting.{SlotSetting}
 use Rattle.plain_statements.specs.declared.statement.Statement.{Statement}
 use Rattle.plain_statements.specs.declared.statement.Statement.TheVariants as statement
 use Rattle.plain_statements.specs.declared.resolution.Need.{Need}
-use Rattle.plain_statements.specs.declared.resolution.Resolution.{Resolution}
 use Rattle.plain_statements.specs.declared.resolution.SlotAssignment.{SlotAssignment}
 use Rattle.plain_statements.specs.declared.resolution.SlotJoined.{SlotJoined}
 use Rattle.plain_statements.specs.declared.resolution.SlotSource.{SlotSource}
 use Rattle.plain_statements.specs.declared.resolution.SlotTest.{SlotTest}
 use Rattle.plain_statements.specs.declared.resolution.Template.{Template}
 use Rattle.plain_statements.specs.declared.resolution.Template.TheVariants as template
-use Rattle.plain_statements.specs.Filling.{filled, filled_condition, filled_setting}
 use Rattle.plain_statements.specs.Laws.{Refuses, Resolves}
 use Rattle.plain_statements.specs.Slots.{condition_needs, opened, row_needs, setting_needs, slot_assignments_of, slot_condition_names, slot_setting_name, slot_tests_of}
-use Rattle.plain_statements.proofs.Resolutions.{Meant, condition-names, first, resolution_of, setting-names, settled, settles, slot_joins_of, slot_source_of}
+use Rattle.plain_statements.proofs.Resolutions.{Meant, first, resolution_of, settled, settles, slot_joins_of, slot_source_of}
 use Rattle.mm_catalog.specs.declared.bind.joined_scope.JoinedScope.{JoinedScope}
 use Rattle.mm_catalog.specs.declared.bind.scope.Scope.{Scope}
 use Rattle.mm_catalog.specs.Resolve.{IsScopeOf, columns_of, columns_of_all}
@@ -215,10 +211,10 @@ module _ (tables : Database) (distinct : Bool) (its : Items) (name : List ℕ) (
   found_on cs =
       if missing cs then Err NoSuchColumn
       else first (
-        record { refuses = repeats same_place (places_meant cs (named_items its)); refusal = ColumnNamedTwice }
-        ∷ record { refuses = repeats bytes_eq names; refusal = TableNamedTwice }
-        ∷ record { refuses = list_any (λ s. option_map_or (differ_in_type tables) s false) (map (join_columns tables) (behind (name ∷ []) joins)); refusal = WrongType }
-        ∷ []
+      record { refuses = repeats same_place (places_meant cs (named_items its)); refusal = ColumnNamedTwice }
+      ∷ record { refuses = repeats bytes_eq names; refusal = TableNamedTwice }
+      ∷ record { refuses = list_any (λ s. option_map_or (differ_in_type tables) s false) (map (join_columns tables) (behind (name ∷ []) joins)); refusal = WrongType }
+      ∷ []
       ) (opened (condition_needs tables cs conditions)
       (record { refuses = nat_lt 16 (length (named_items its)) || nat_lt 8 (length conditions) || nat_lt 3 (length joins); refusal = TooMany } ∷ []) (selection cs))
 

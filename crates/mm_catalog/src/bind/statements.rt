@@ -9,9 +9,7 @@ use crate::bind::late::{delete_late, select_late, update_late};
 use crate::bind::repeats::repeats_name;
 use crate::bind::wanted::Wanted;
 use crate::catalog::Catalog;
-use plain_statements::{
-    Resolution, Slot, SlotCond, SlotQuery, SlotSetting, Statement, Template,
-};
+use plain_statements::{Resolution, Slot, SlotCond, SlotQuery, SlotSetting, Statement, Template};
 use plain_tables::{Items, Join, Refusal, Sequence, Text};
 use std::slice::from_ref;
 

@@ -61,7 +61,11 @@ impl Wanted {
 
     /// What a statement means whose values these are, by the refusal of the checks that come last, if they refuse it, and by what is
     /// done. A given value that is none that is needed refuses it whatever values come.
-    pub fn resolution(self, last: Option<Refusal>, template: Template) -> Result<Resolution, Refusal>
+    pub fn resolution(
+        self,
+        last: Option<Refusal>,
+        template: Template,
+    ) -> Result<Resolution, Refusal>
         ensures { (needs : List Needed) (late : List Check) → IsWantedOf needs self → last ≡ first_refusal late → result ≡ opened needs late template }
     {
         if self.given_wrong {

@@ -1,5 +1,4 @@
-use Rattle.std.proofs.Common.{◌≡◌, Some, ◌++◌, get_or, set, take, sym, ap, ◌∙◌, subst}
-use Rattle.std.specs.List.{slice_get}
+use Rattle.std.proofs.Common.{◌++◌, get_or, set, take, sym, ap, ◌∙◌, subst}
 use Rattle.mm_relation.specs.State.{RelationState, IsCurrent, linked_keys}
 use Rattle.mm_catalog.proofs.Lists.{set_first_behind}
 use Rattle.mm_catalog.proofs.Taking.{split_here}

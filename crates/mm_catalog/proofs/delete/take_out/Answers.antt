@@ -1,4 +1,4 @@
-use Rattle.std.proofs.Common.{Some, ◌++◌, get_or, set, sym, ap, ◌∙◌, subst}
+use Rattle.std.proofs.Common.{◌++◌, get_or, set, sym, ap, subst}
 use Rattle.mm_relation.specs.State.{RelationState, IsCurrent, linked_keys}
 use Rattle.mm_catalog.specs.Deleted.{AreUnlinked}
 use Rattle.mm_catalog.proofs.Taking.{split_here}

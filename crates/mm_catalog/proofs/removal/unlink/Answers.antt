@@ -1,5 +1,4 @@
-use Rattle.std.proofs.Common.{◌≡◌, Some, List, ◌++◌, get_or, sym, ap, ◌∙◌, subst}
-use Rattle.std.specs.List.{slice_get}
+use Rattle.std.proofs.Common.{List, ◌++◌, get_or, sym, ap, subst}
 use Rattle.mm_relation.specs.State.{RelationState}
 use Rattle.mm_catalog.specs.Linked.{relation_links}
 use Rattle.mm_catalog.specs.Counted.{AreCountedBy, naming, none}

@@ -1,5 +1,4 @@
-use Rattle.std.proofs.Common.{rules, ◌≡◌, ◌∙◌, List, [], length, refl, sym, subst, true, arith, eq-eqb}
-use Rattle.std.specs.Prelude.{◌==◌}
+use Rattle.std.proofs.Common.{◌≡◌, ◌∙◌, List, [], length, refl, sym, subst, true, eq-eqb}
 use Rattle.plain_statements.specs.declared.statement.Slot.{Slot}
 use Rattle.plain_statements.specs.declared.statement.Statement.TheVariants as statement
 use Rattle.plain_statements.specs.Slots.{row_needs}

@@ -1,4 +1,4 @@
-use Rattle.std.proofs.Common.{◌≡◌, refl, ap}
+use Rattle.std.proofs.Common.{refl, ap}
 use Rattle.std.specs.Prelude.{◌||◌}
 use Rattle.mm_catalog.specs.declared.bind.wanted.Wanted.{Wanted}
 use Rattle.mm_catalog.proofs.Adding.{adds-given}

@@ -1,4 +1,4 @@
-use Rattle.std.proofs.Common.{◌≡◌, refl}
+use Rattle.std.proofs.Common.{refl}
 use Rattle.std.proofs.lemmas.Result.{IfOk-weaker}
 use Rattle.mm_catalog.specs.declared.bind.wanted.Wanted.{Wanted}
 use Rattle.mm_catalog.proofs.Adding.{adds-hole}
