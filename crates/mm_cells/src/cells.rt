@@ -69,7 +69,7 @@ impl Cells {
         self.cells.len()
     }
 
-    /// The cells, and the bytes of their texts: where a program that is no Rattle reads them.
+    /// The cells, and the bytes of their texts, to be read where they lie.
     pub fn parts(&self) -> (&Vec<Cell>, &Vec<u8>)
         ensures values { map (cell_value result.1.now.items) result.0.now.items ≡ self.now }
         ensures readable { All (IsReadable result.1.now.items) result.0.now.items }
