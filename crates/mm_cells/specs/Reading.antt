@@ -16,6 +16,7 @@ cell_value texts c =
     else if c.kind == 2 then value.Text (slice_range texts c.at (c.at + c.length))
     else value.Null
 
--- A cell's text ends within these bytes.
-abbrev pub IsWithin : List ℕ → Cell → Type 0
-IsWithin texts c = c.at + c.length ≤ length texts
+-- A cell can be read: it is of one of the three kinds, and its text ends within these bytes.
+pub record IsReadable (texts : List ℕ) (c : Cell) : Type 0 where
+  pub kind : c.kind ≤ 2
+  pub within : c.at + c.length ≤ length texts

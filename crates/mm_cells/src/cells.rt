@@ -1,14 +1,24 @@
 //! Cells, and the values that they are.
 ghost use Rattle.std.specs.Prelude.{◌≡◌, ◌++◌, ◌∷◌, ◌+◌, ◌<◌, [], None, length, map, OnOk, OnErr};
-ghost use Rattle.std.specs.Vec.{vec_len};
 ghost use Rattle.plain_tables.specs.Stored.{link_number};
 ghost use Rattle.plain_tables.specs.declared.value.Value.TheVariants as value;
-ghost use Rattle.mm_cells.specs.Reading.{cell_value};
+ghost use Rattle.std.specs.List.{All};
+ghost use Rattle.mm_cells.specs.Reading.{cell_value, IsReadable};
 
 use no_memory::NoMemory;
-use plain_tables::StoredValue;
+use plain_tables::{SeenValue, StoredValue, Value};
 use std::alloc::Global;
 use std::marker::Model;
+use std::mem::size_of;
+
+/// The kind of a cell that is null.
+pub const NULL: u16 = 0;
+
+/// The kind of a cell that is an integer.
+pub const INTEGER: u16 = 1;
+
+/// The kind of a cell that is a text.
+pub const TEXT: u16 = 2;
 
 /// A null; an integer; or a text, by its place and its length among the bytes of the texts.
 #[repr(C)]
@@ -20,6 +30,8 @@ pub struct Cell {
     pub kind: u16,
 }
 
+const _: () = prove!(size_of::<Cell>() == 16);
+
 /// Values as cells. Contracts see the values that are read.
 #[derive(Drop)]
 pub struct Cells {
@@ -30,13 +42,13 @@ pub struct Cells {
 impl Model for Cells {
     ghost use Rattle.std.specs.Prelude.{List, map};
     ghost use Rattle.std.specs.List.{All};
-    ghost use Rattle.mm_cells.specs.Reading.{Read, cell_value, IsWithin};
+    ghost use Rattle.mm_cells.specs.Reading.{Read, cell_value, IsReadable};
 
     ghost Value = { List Read };
 
     ghost view = { λ s. map (cell_value s.texts.items) s.cells.items };
 
-    ghost invariant = { λ s. All (IsWithin s.texts.items) s.cells.items };
+    ghost invariant = { λ s. All (IsReadable s.texts.items) s.cells.items };
 }
 
 impl Cells {
@@ -57,14 +69,99 @@ impl Cells {
         self.cells.len()
     }
 
+    /// The cells, and the bytes of their texts, to be read where they lie.
+    pub fn parts(&self) -> (&Vec<Cell>, &Vec<u8>)
+        ensures values { map (cell_value result.1.now.items) result.0.now.items ≡ self.now }
+        ensures readable { All (IsReadable result.1.now.items) result.0.now.items }
+    {
+        (&self.cells, &self.texts)
+    }
+
+    // Puts a cell that is no text behind the others.
+    fn put(&mut self, cell: Cell) -> Result<(), NoMemory>
+        requires no_text { cell.kind < 2 }
+        requires nowhere { cell.at + cell.length ≡ 0 }
+        ensures pushed { OnOk result (self.new ≡ self.old ++ cell_value [] cell ∷ []) }
+        ensures unchanged { OnErr result (self.new ≡ self.old) }
+    {
+        self.cells.push(cell)?;
+        Ok(())
+    }
+
+    /// Puts a null behind the others. Where that finds no memory, it is not put there.
+    pub fn push_null(&mut self) -> Result<(), NoMemory>
+        ensures pushed { OnOk result (self.new ≡ self.old ++ value.Null ∷ []) }
+        ensures unchanged { OnErr result (self.new ≡ self.old) }
+    {
+        self.put(Cell {
+            integer: 0,
+            at: 0,
+            length: 0,
+            kind: NULL,
+        })
+    }
+
+    /// Puts an integer behind the others. Where that finds no memory, it is not put there.
+    pub fn push_integer(&mut self, integer: i64) -> Result<(), NoMemory>
+        ensures pushed { OnOk result (self.new ≡ self.old ++ value.Int integer ∷ []) }
+        ensures unchanged { OnErr result (self.new ≡ self.old) }
+    {
+        self.put(Cell {
+            integer,
+            at: 0,
+            length: 0,
+            kind: INTEGER,
+        })
+    }
+
+    /// Puts a text behind the others. Where that finds no memory, or the text is longer than 65,535 bytes or the texts together
+    /// longer than 4 GiB, it is not put there.
+    pub fn push_text(&mut self, text: &str) -> Result<(), NoMemory>
+        ensures pushed { OnOk result (self.new ≡ self.old ++ value.Text text.now ∷ []) }
+        ensures unchanged { OnErr result (self.new ≡ self.old) }
+    {
+        let Ok(at) = u32::try_from(self.texts.len()) else {
+            return Err(NoMemory);
+        };
+        let Ok(length) = u16::try_from(text.len()) else {
+            return Err(NoMemory);
+        };
+        self.cells.reserve(1)?;
+        self.texts.extend_from_slice(text.as_bytes())?;
+        self.cells.push(Cell {
+            integer: 0,
+            at,
+            length,
+            kind: TEXT,
+        })?;
+        Ok(())
+    }
+
+    /// Puts a value of a command behind the others. Where that finds no memory, or the texts have no more room for it, it is not put
+    /// there.
+    pub fn push_value(&mut self, value: &Value) -> Result<(), NoMemory>
+        ensures pushed { OnOk result (self.new ≡ self.old ++ value.now ∷ []) }
+        ensures unchanged { OnErr result (self.new ≡ self.old) }
+    {
+        match value {
+            Value::Null => self.push_null(),
+            Value::Int(integer) => self.push_integer(*integer),
+            Value::Text(text) => self.push_text(text.as_str()),
+        }
+    }
+
     /// Puts a stored value behind the others. Where that finds no memory, or the texts have no more room for it, none is put there.
     pub fn push(&mut self, value: &StoredValue) -> Result<(), NoMemory>
         requires { link_number value.now ≡ None }
         ensures pushed { OnOk result (self.new ≡ self.old ++ value.now ∷ []) }
         ensures unchanged { OnErr result (self.new ≡ self.old) }
     {
-        let _value = value;
-        Err(NoMemory)
+        match value.seen() {
+            SeenValue::Null => self.push_null(),
+            SeenValue::Int(integer) => self.push_integer(integer),
+            SeenValue::Text(text) => self.push_text(text),
+            SeenValue::Link(_) => unreachable!(),
+        }
     }
 
     /// Lets the values go, and keeps their room.

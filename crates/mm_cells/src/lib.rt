@@ -5,4 +5,4 @@
 
 mod cells;
 
-pub use cells::{Cell, Cells};
+pub use cells::{Cell, Cells, INTEGER, NULL, TEXT};

@@ -8,6 +8,7 @@ pub mod KeptLemmas
 pub mod LineLemmas
 pub mod ListingLemmas
 pub mod MemberLemmas
+pub mod NoLinks
 pub mod PerformLemmas
 pub mod PickLemmas
 pub mod PlaceLemmas

@@ -1,5 +1,6 @@
 -- What is done to a catalog, and the effect of the command that it is.
 use Rattle.std.proofs.Common.{◌≡◌, ℕ, List, ◌++◌, Ok, Err, sym, ap, ◌∙◌, inl, inr, Result, OnErr, IfErr}
+use Rattle.std.specs.Prelude.{◌⊎◌}
 use Rattle.plain_tables.specs.AnswerText.{answer_text}
 use Rattle.plain_tables.specs.Databases.{Database}
 use Rattle.plain_tables.specs.CsvReading.{Record}
@@ -10,6 +11,7 @@ use Rattle.plain_tables.specs.ResolvedLaws.{KeepsIfRefused}
 use Rattle.plain_tables.proofs.ChangeLemmas.{refused_keeps}
 use Rattle.plain_tables.specs.declared.command.Command.{Command}
 use Rattle.plain_tables.specs.declared.refusal.Refusal.{Refusal}
+use Rattle.plain_tables.specs.declared.refusal.Refusal.TheVariants.{NoMemory}
 use Rattle.plain_tables.specs.declared.resolved.Resolved.{Resolved}
 use Rattle.mm_catalog.specs.State.{CatalogState}
 use Rattle.mm_catalog.specs.Seen.{database_of}
@@ -40,13 +42,22 @@ refused_so tables e why keeps is =
     ap (λ (d : Database). record { database = d; outcome = e.outcome }) (keeps why is)
     ∙ ap (λ (o : Outcome). record { database = tables; outcome = o }) is
 
-pub does_nothing_resolved : (records : List Record) (old new : CatalogState) (c : Command) (r : Resolved) (why : Refusal)
-    → resolved_of records (database_of old) c ≡ Ok r → IsDeclinedFor old new (done old.limits (database_of old) r) why
-    → DoesNothing (effect_of records old.limits (database_of old) c) (database_of old) (database_of new) why
-does_nothing_resolved records old new c r why is (same, because) = (
+-- what is declined is refused by the effect itself, if it isn't for want of memory
+pub declined_unchanged : (old new : CatalogState) (r : Resolved) (why : Refusal) → IsDeclinedFor old new (done old.limits (database_of old) r) why
+    → (database_of new ≡ database_of old) × ((why ≡ NoMemory) ⊎ (done old.limits (database_of old) r ≡ refused (database_of old) why))
+declined_unchanged old new r why (same, because) = (
   same.database,
   elim because [
     | inl none ↦ inl none
-    | inr so ↦ inr (ap (effect_of_resolved old.limits (database_of old)) is ∙ refused_so (database_of old) (done old.limits (database_of old) r) why (refused_keeps old.limits (database_of old) r) so)
+    | inr so ↦ inr (refused_so (database_of old) (done old.limits (database_of old) r) why (refused_keeps old.limits (database_of old) r) so)
   ],
 )
+
+pub does_nothing_resolved : (records : List Record) (old new : CatalogState) (c : Command) (r : Resolved) (why : Refusal)
+    → resolved_of records (database_of old) c ≡ Ok r → IsDeclinedFor old new (done old.limits (database_of old) r) why
+    → DoesNothing (effect_of records old.limits (database_of old) c) (database_of old) (database_of new) why
+does_nothing_resolved records old new c r why is declined =
+    let unchanged = declined_unchanged old new r why declined in (
+      unchanged.0,
+      elim unchanged.1 [ inl none ↦ inl none | inr so ↦ inr (ap (effect_of_resolved old.limits (database_of old)) is ∙ so) ],
+    )

@@ -1,8 +1,7 @@
 -- Commands that a session does beside its stream, without a line that spells them: what they change, and what they show.
 use Rattle.std.specs.Prelude.{◌≡◌, ◌⊎◌, ℕ, List, length}
 use Rattle.std.specs.List.{flat_map}
-use Rattle.plain_tables.specs.Tables.{Row}
-use Rattle.plain_tables.specs.Effects.{Effect, Outcome, Changed, Rows, Done, Dumped, Listed, Refused, refused}
+use Rattle.plain_tables.specs.Effects.{Effect, Outcome, Changed, Rows, refused}
 use Rattle.plain_tables.specs.declared.value.Value.{Value}
 use Rattle.plain_tables.specs.declared.refusal.Refusal.{Refusal}
 use Rattle.plain_tables.specs.declared.refusal.Refusal.TheVariants.{NoMemory}

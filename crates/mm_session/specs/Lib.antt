@@ -6,6 +6,7 @@ pub mod Dumps
 pub mod IndexAnswers
 pub mod Judging
 pub mod Kept
+pub mod Listed
 pub mod Listing
 pub mod Members
 pub mod OneRequest

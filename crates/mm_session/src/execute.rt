@@ -2,6 +2,8 @@
 
 mod batched;
 mod blocks;
+mod cells;
+mod changing;
 mod indexes;
 mod listing;
 mod query;

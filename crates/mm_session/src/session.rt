@@ -113,8 +113,7 @@ impl Session {
         ensures refused { IfErr result (HasDeclined self.old self.new (done self.old.limits self.old.database command)) }
         ensures stream { StaysInStream self.old self.new }
     {
-        let _command = command;
-        Err(Refusal::NoMemory)
+        self.responder.executor.change(command)
     }
 
     /// Makes the cells the values that a select shows, a row behind the other, and tells how many columns each row has. A failure
@@ -124,9 +123,7 @@ impl Session {
         ensures shown { IfOk result (λ columns. ShowsValues (done self.now.limits self.now.database (resolved.Select query.now)).outcome columns cells.new) }
         ensures some { IfOk result (λ columns. 0 < columns) }
     {
-        let _query = query;
-        cells.clear();
-        Err(NoMemory)
+        self.responder.executor.select_values(query, cells)
     }
 
     /// Makes the answer how the indexes of the table of a name stand: that of its key, and the declared ones.

@@ -1,0 +1,39 @@
+-- Cells: what they are as more texts come.
+use Rattle.std.proofs.Common.{◌≡◌, ℕ, ◌+◌, ◌-◌, ◌≤◌, length, arith, List, [], ◌∷◌, ◌++◌, refl, ap, ◌∙◌, take, drop, map}
+use Rattle.std.specs.Prelude.{slice_range}
+use Rattle.std.specs.List.{All}
+use Rattle.std.proofs.lemmas.List.{map-append, take-append-le, drop-append-le, length-drop}
+use Rattle.std.proofs.Math.Seq.{drop-append_seam, take-length}
+use Rattle.std.proofs.lemmas.List.Elements.{All-tail, All-head}
+use Rattle.mm_cells.specs.Reading.{cell_value, IsReadable}
+use Rattle.mm_cells.specs.declared.cells.Cell.{Cell}
+use Rattle.plain_tables.specs.declared.value.Value.TheVariants as value
+
+range-kept : (texts more : List ℕ) (a b : ℕ) → a ≤ b → b ≤ length texts → slice_range (texts ++ more) a b ≡ slice_range texts a b
+range-kept texts more a b order within =
+    ap (take (b - a)) (drop-append-le a texts more (omega arith))
+    ∙ take-append-le (b - a) (drop a texts) more (let n = length-drop a texts in omega arith)
+
+range-new : (texts more : List ℕ) → slice_range (texts ++ more) (length texts) (length texts + length more) ≡ more
+range-new texts more =
+    let n : length texts + length more - length texts ≡ length more = omega arith in
+    ap (λ k. take k (drop (length texts) (texts ++ more))) n
+    ∙ ap (take (length more)) (drop-append_seam texts more) ∙ take-length more
+
+value-kept : (texts more : List ℕ) (c : Cell) → IsReadable texts c → cell_value (texts ++ more) c ≡ cell_value texts c
+value-kept texts more c readable = rw (range-kept texts more c.at (c.at + c.length) (omega arith) readable.within) refl
+
+-- what was read is read still once more texts have come
+pub values-kept : (texts more : List ℕ) (cells : List Cell) → All (IsReadable texts) cells
+    → map (cell_value (texts ++ more)) cells ≡ map (cell_value texts) cells
+values-kept texts more [] all = refl
+values-kept texts more (c ∷ cells) all =
+    rw (value-kept texts more c (All-head (IsReadable texts) c cells all), values-kept texts more cells (All-tail (IsReadable texts) c cells all)) refl
+
+-- a text behind the others is read as itself
+pub text-read : (texts more : List ℕ) (cells : List Cell) (c : Cell) → All (IsReadable texts) cells → c.kind ≡ 2 → c.at ≡ length texts → c.length ≡ length more
+    → map (cell_value (texts ++ more)) (cells ++ c ∷ []) ≡ map (cell_value texts) cells ++ value.Text more ∷ []
+text-read texts more cells c all kind at long =
+    map-append (cell_value (texts ++ more)) cells (c ∷ [])
+    ∙ ap (λ vs. vs ++ cell_value (texts ++ more) c ∷ []) (values-kept texts more cells all)
+    ∙ ap (λ v. map (cell_value texts) cells ++ v ∷ []) (rw (kind, at, long, range-new texts more) refl)

@@ -1,0 +1,16 @@
+use Rattle.std.proofs.Common.{sym, subst}
+use Rattle.std.specs.Prelude.{IfOk}
+use Rattle.plain_tables.specs.Doing.{done}
+use Rattle.plain_tables.specs.ResolvedLaws.{IsMeant}
+use Rattle.plain_tables.specs.declared.resolved.Resolved.TheVariants as resolved
+use Rattle.mm_session.specs.Changing.{ShowsValues}
+use Rattle.mm_session.specs.Sessions.{State}
+use Rattle.mm_session.proofs.session.Session.select.Goals as goal
+
+pub select_values-requires : goal.select_values-requires
+select_values-requires c = subst (λ (s : State). IsMeant s.limits s.database (resolved.Select c.args.query.now)) (sym c.self.view_is) c.requires
+
+pub returns-clause-shown : goal.returns-clause-shown
+returns-clause-shown c =
+    subst (λ (s : State). IfOk c.select_values.result (λ columns. ShowsValues (done s.limits s.database (resolved.Select c.args.query.now)).outcome columns c.select_values.new.cells)) c.self.view_is
+    c.select_values.ensures.shown
