@@ -2,12 +2,14 @@
 
 ghost use Rattle.std.specs.Prelude.{◌≡◌, ◌++◌, ◌+◌, ◌-◌, ◌*◌, ◌≤◌, [], length, take, drop, IsOk, IfOk, OnOk};
 ghost use Rattle.std.specs.Fmt.{decimal};
+ghost use Rattle.plain_tables.specs.AnswerText.{refusal_text};
 
 pub mod records;
 
 use itoa::Buffer;
+use crate::answer::records::push_refusal;
 use mm_lang::Sink;
-use plain_tables::NoMemory;
+use plain_tables::{NoMemory, Refusal};
 use std::alloc::Global;
 use std::io;
 use std::io::Write;
@@ -96,6 +98,14 @@ impl Answer {
     {
         self.bytes.clear();
         let _ = self.bytes.extend_from_slice(text);
+    }
+
+    /// Makes a refusal the answer. It takes no memory.
+    pub fn refuse(&mut self, refusal: Refusal)
+        ensures { self.new ≡ refusal_text refusal }
+    {
+        self.clear();
+        let _ = push_refusal(self, refusal);
     }
 
     /// Puts bytes at the end. While the answer is short it needs no memory.

@@ -9,7 +9,6 @@ ghost use Rattle.mm_catalog.specs.Seen.{database_of};
 ghost use Rattle.mm_session.specs.IndexAnswers.{column_name, fill_of, numbers_of, number_field, index_line, AddsRecords, AddsIndexes, TellsNothing, AnswersIndexes};
 
 use super::Executor;
-use super::respond::refuse;
 use crate::answer::Answer;
 use crate::answer::records::push_count;
 use mm_catalog::{Catalog, IndexShape, TableIndex};
@@ -165,6 +164,6 @@ impl Executor {
         let Err(refusal) = self.list_named(name, answer) else {
             return;
         };
-        refuse(answer, refusal);
+        answer.refuse(refusal);
     }
 }

@@ -4,7 +4,6 @@ ghost use Rattle.std.specs.Prelude.{◌≡◌};
 ghost use Rattle.plain_tables.specs.AnswerText.{refusal_text};
 
 use crate::answer::Answer;
-use crate::answer::records::push_refusal;
 use crate::execute::Executor;
 use crate::stream::lines::Judged;
 use mm_lang::{Line, ParseRefusal, parse};
@@ -13,14 +12,6 @@ use plain_tables::Refusal;
 const LINE_TOO_LONG: &[u8] = b"error 10 line too long\n";
 
 const NOT_UTF8: &[u8] = b"error 11 not UTF-8\n";
-
-/// Makes the refusal the answer, which takes no memory.
-pub fn refuse(answer: &mut Answer, refusal: Refusal)
-    ensures { answer.new ≡ refusal_text refusal }
-{
-    answer.clear();
-    let _ = push_refusal(answer, refusal);
-}
 
 impl Executor {
     ghost use Rattle.std.specs.Prelude.{◌≡◌, ℕ, List, OnOk, IfOk, IfErr, OnErr, ◌<◌};
@@ -59,7 +50,7 @@ impl Executor {
             Judged::Text(text) => {
                 answer.clear();
                 if let Err(refusal) = self.obey(text, block, answer) {
-                    refuse(answer, refusal);
+                    answer.refuse(refusal);
                 }
             }
         }
