@@ -1,11 +1,13 @@
-//! Lines with parameters.
+//! Lines with places for values.
 
 use std::ops::Range;
 
+use crate::bound::Bound;
 use crate::error::Error;
 use crate::params::Params;
 use crate::spelling::push_value;
 use crate::to_value::ToValue;
+use crate::value::ValueRef;
 
 const BLANKS: &[char] = &[' ', '\t'];
 
@@ -13,29 +15,27 @@ const BLANKS: &[char] = &[' ', '\t'];
 const APART_BEFORE: &[char] = &[' ', '\t', '(', ',', '=', '<', '>'];
 const APART_BEHIND: &[char] = &[' ', '\t', ')', ','];
 
-/// A line into whose places values are put.
+/// Where a place stands in its line.
+pub(crate) type Place = Range<usize>;
+
+/// The values that are given for the places of a line.
 #[derive(Debug)]
 pub struct Binding<'a> {
-    /// What stands before the next place, with the values that were put.
-    made: &'a mut String,
-    /// What stands behind that.
-    rest: &'a str,
-    /// How many places have their values.
-    filled: usize,
+    line: &'a str,
+    places: &'a [Place],
+    /// The values of the first places.
+    bound: &'a mut Bound,
     /// How many values were given.
     given: usize,
 }
 
-/// Makes the line in which each parameter stands in its place, spelled as the language does.
-pub(crate) fn bind<P: Params>(line: &str, parameters: P, made: &mut String) -> Result<(), Error> {
-    let is_comment = first_token(line).starts_with('#');
-    let (front, rest) = if is_comment { (line, "") } else { ("", line) };
-    made.clear();
-    made.push_str(front);
+/// Takes the parameters as the values of the places, in the order of these.
+pub(crate) fn bind<P: Params>(line: &str, places: &[Place], parameters: P, bound: &mut Bound) -> Result<(), Error> {
+    bound.clear();
     let mut binding = Binding {
-        made,
-        rest,
-        filled: 0,
+        line,
+        places,
+        bound,
         given: 0,
     };
     parameters.bind(&mut binding)?;
@@ -43,64 +43,69 @@ pub(crate) fn bind<P: Params>(line: &str, parameters: P, made: &mut String) -> R
 }
 
 impl Binding<'_> {
-    /// Puts a value into the next place, which is a `?`.
+    /// Takes the value of the next place, which is a `?`.
     pub(crate) fn put(&mut self, value: &dyn ToValue) -> Result<(), Error> {
         self.given += 1;
-        match first_place(self.rest) {
-            Some(place) if is_nameless(&self.rest[place.clone()]) => self.put_at(place, value),
-            Some(place) => Err(missing(&self.rest[place])),
-            None => Ok(()),
+        match self.places.get(self.bound.len()) {
+            Some(place) if is_nameless(&self.line[place.clone()]) => self.bound.push((&value.to_value()?).into()),
+            Some(place) => return Err(missing(&self.line[place.clone()])),
+            None => {}
         }
+        Ok(())
     }
 
-    /// Puts its value into each place, by the place's name.
+    /// Takes the value of each place, by the place's name.
     pub(crate) fn put_named<'v>(&mut self, value_of: impl Fn(&str) -> Option<&'v dyn ToValue>) -> Result<(), Error> {
-        while let Some(place) = first_place(self.rest) {
-            let name = &self.rest[place.clone()];
+        for place in self.places {
+            let name = &self.line[place.clone()];
             let value = value_of(name).ok_or_else(|| missing(name))?;
             self.given += 1;
-            self.put_at(place, value)?;
+            self.bound.push((&value.to_value()?).into());
         }
         Ok(())
     }
 
-    /// Whether a place without a value has this name.
+    /// Whether a place has this name.
     pub(crate) fn has_place(&self, name: &str) -> bool {
-        places(self.rest).any(|place| place == name)
+        self.places.iter().any(|place| self.line[place.clone()] == *name)
     }
 
-    fn put_at(&mut self, place: Range<usize>, value: &dyn ToValue) -> Result<(), Error> {
-        self.made.push_str(&self.rest[..place.start]);
-        if !self.made.ends_with(APART_BEFORE) {
-            self.made.push(' ');
-        }
-        push_value(self.made, (&value.to_value()?).into())?;
-        self.rest = &self.rest[place.end..];
-        if !self.rest.starts_with(APART_BEHIND) {
-            self.made.push(' ');
-        }
-        self.filled += 1;
-        Ok(())
-    }
-
-    /// Ends the line, where as many values were given as it has places.
+    /// Sees that as many values were given as there are places.
     fn finish(self) -> Result<(), Error> {
-        let mut left = 0;
-        for place in places(self.rest) {
-            if !is_nameless(place) {
-                return Err(missing(place));
-            }
-            left += 1;
+        let without = self
+            .places
+            .iter()
+            .skip(self.bound.len())
+            .map(|place| &self.line[place.clone()]);
+        if let Some(name) = without.into_iter().find(|name| !is_nameless(name)) {
+            return Err(missing(name));
         }
-        if self.filled + left != self.given {
+        if self.places.len() != self.given {
             return Err(Error::Places {
-                places: self.filled + left,
+                places: self.places.len(),
                 parameters: self.given,
             });
         }
-        self.made.push_str(self.rest);
         Ok(())
     }
+}
+
+/// Makes the line in which each value stands in its place, spelled as the language does.
+pub(crate) fn fill<'v>(line: &str, places: &[Place], values: impl Iterator<Item = ValueRef<'v>>, made: &mut String) {
+    made.clear();
+    let mut rest = 0;
+    for (place, value) in places.iter().zip(values) {
+        made.push_str(&line[rest..place.start]);
+        if !made.ends_with(APART_BEFORE) {
+            made.push(' ');
+        }
+        push_value(made, value);
+        if !line[place.end..].starts_with(APART_BEHIND) {
+            made.push(' ');
+        }
+        rest = place.end;
+    }
+    made.push_str(&line[rest..]);
 }
 
 fn is_nameless(place: &str) -> bool {
@@ -113,19 +118,48 @@ fn missing(place: &str) -> Error {
     }
 }
 
-/// The places of a line that begins in no text, in their order.
-fn places(line: &str) -> impl Iterator<Item = &str> {
-    let mut rest = line;
+/// Puts the places of a line there in the stead of what is there. A comment has none.
+pub(crate) fn find_places(line: &str, places: &mut Vec<Place>) {
+    places.clear();
+    if !first_token(line).starts_with('#') {
+        places.extend(places_of(line));
+    }
+}
+
+/// The places of a line, in their order.
+fn places_of(line: &str) -> impl Iterator<Item = Place> + '_ {
+    let mut from = 0;
     std::iter::from_fn(move || {
-        let place = first_place(rest)?;
-        let (front, behind) = rest.split_at(place.end);
-        rest = behind;
-        Some(&front[place.start..])
+        let place = first_place(&line[from..])?;
+        let found = from + place.start..from + place.end;
+        from = found.end;
+        Some(found)
     })
 }
 
+/// Whether a line has a place.
+pub(crate) fn has_places(line: &str) -> bool {
+    first_place(line).is_some()
+}
+
+/// The line as the library takes it as a statement, where each place is a `?`; or none where it is so already.
+pub(crate) fn with_marks(line: &str, places: &[Place]) -> Option<String> {
+    if places.iter().all(|place| is_nameless(&line[place.clone()])) {
+        return None;
+    }
+    let mut made = String::with_capacity(line.len());
+    let mut rest = 0;
+    for place in places {
+        made.push_str(&line[rest..place.start]);
+        made.push('?');
+        rest = place.end;
+    }
+    made.push_str(&line[rest..]);
+    Some(made)
+}
+
 /// The first place of a line that begins in no text: a `?`, or a `:` and a word, which stands in no text.
-fn first_place(line: &str) -> Option<Range<usize>> {
+fn first_place(line: &str) -> Option<Place> {
     let mut in_text = false;
     for (at, byte) in line.bytes().enumerate() {
         match byte {
@@ -151,6 +185,31 @@ fn word_at(line: &str, at: usize) -> &str {
 /// The word that a command begins with, or nothing.
 pub(crate) fn first_word(line: &str) -> &str {
     word_at(first_token(line), 0)
+}
+
+/// Whether a line is an insert, an update or a delete, by its first word.
+pub(crate) fn is_change(line: &str) -> bool {
+    matches!(first_word(line), "insert" | "update" | "delete")
+}
+
+/// Whether a line is a select, by its first word.
+pub(crate) fn is_select(line: &str) -> bool {
+    first_word(line) == "select"
+}
+
+/// A select without its conditions, which are the one part of it that has values and texts.
+pub(crate) fn without_conditions(line: &str) -> &str {
+    let word = "where";
+    let is_apart = |at: usize| {
+        let before = line[..at].chars().next_back();
+        before.map_or(true, |before| !is_of_name(before)) && word_at(line, at) == word
+    };
+    let conditions = line.match_indices(word).map(|(at, _)| at).find(|at| is_apart(*at));
+    &line[..conditions.unwrap_or(line.len())]
+}
+
+fn is_of_name(character: char) -> bool {
+    character.is_ascii_alphanumeric() || character == '_'
 }
 
 fn first_token(line: &str) -> &str {
