@@ -158,8 +158,7 @@ impl Database {
         P: Params,
         F: FnOnce(&Row<'_>) -> Result<T>,
     {
-        let rows = self.select(line, params)?;
-        rows.get(0).ok_or(Error::NoRows).and_then(|row| read(&row))
+        self.select(line, params)?.first(read)
     }
 
     /// Does any command, and gives what it answers.

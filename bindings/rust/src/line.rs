@@ -15,8 +15,27 @@ const BLANKS: &[char] = &[' ', '\t'];
 const APART_BEFORE: &[char] = &[' ', '\t', '(', ',', '=', '<', '>'];
 const APART_BEHIND: &[char] = &[' ', '\t', ')', ','];
 
-/// Where a place stands in its line.
-pub(crate) type Place = Range<usize>;
+/// A place of a line.
+#[derive(Clone, Debug)]
+pub(crate) struct Place {
+    /// Where it stands.
+    at: Range<usize>,
+    /// Whether it is a `?`.
+    is_nameless: bool,
+}
+
+impl Place {
+    /// How it is written in its line.
+    fn name<'l>(&self, line: &'l str) -> &'l str {
+        &line[self.at.clone()]
+    }
+
+    fn missing(&self, line: &str) -> Error {
+        Error::MissingParameter {
+            name: self.name(line).to_string(),
+        }
+    }
+}
 
 /// The values that are given for the places of a line.
 #[derive(Debug)]
@@ -47,8 +66,8 @@ impl Binding<'_> {
     pub(crate) fn put(&mut self, value: &dyn ToValue) -> Result<(), Error> {
         self.given += 1;
         match self.places.get(self.bound.len()) {
-            Some(place) if is_nameless(&self.line[place.clone()]) => self.bound.push((&value.to_value()?).into()),
-            Some(place) => return Err(missing(&self.line[place.clone()])),
+            Some(place) if place.is_nameless => self.bound.push((&value.to_value()?).into()),
+            Some(place) => return Err(place.missing(self.line)),
             None => {}
         }
         Ok(())
@@ -57,8 +76,7 @@ impl Binding<'_> {
     /// Takes the value of each place, by the place's name.
     pub(crate) fn put_named<'v>(&mut self, value_of: impl Fn(&str) -> Option<&'v dyn ToValue>) -> Result<(), Error> {
         for place in self.places {
-            let name = &self.line[place.clone()];
-            let value = value_of(name).ok_or_else(|| missing(name))?;
+            let value = value_of(place.name(self.line)).ok_or_else(|| place.missing(self.line))?;
             self.given += 1;
             self.bound.push((&value.to_value()?).into());
         }
@@ -67,18 +85,14 @@ impl Binding<'_> {
 
     /// Whether a place has this name.
     pub(crate) fn has_place(&self, name: &str) -> bool {
-        self.places.iter().any(|place| self.line[place.clone()] == *name)
+        self.places.iter().any(|place| place.name(self.line) == name)
     }
 
     /// Sees that as many values were given as there are places.
     fn finish(self) -> Result<(), Error> {
-        let without = self
-            .places
-            .iter()
-            .skip(self.bound.len())
-            .map(|place| &self.line[place.clone()]);
-        if let Some(name) = without.into_iter().find(|name| !is_nameless(name)) {
-            return Err(missing(name));
+        let mut without = self.places[self.bound.len()..].iter();
+        if let Some(place) = without.find(|place| !place.is_nameless) {
+            return Err(place.missing(self.line));
         }
         if self.places.len() != self.given {
             return Err(Error::Places {
@@ -95,27 +109,17 @@ pub(crate) fn fill<'v>(line: &str, places: &[Place], values: impl Iterator<Item 
     made.clear();
     let mut rest = 0;
     for (place, value) in places.iter().zip(values) {
-        made.push_str(&line[rest..place.start]);
+        made.push_str(&line[rest..place.at.start]);
         if !made.ends_with(APART_BEFORE) {
             made.push(' ');
         }
         push_value(made, value);
-        if !line[place.end..].starts_with(APART_BEHIND) {
+        if !line[place.at.end..].starts_with(APART_BEHIND) {
             made.push(' ');
         }
-        rest = place.end;
+        rest = place.at.end;
     }
     made.push_str(&line[rest..]);
-}
-
-fn is_nameless(place: &str) -> bool {
-    place == "?"
-}
-
-fn missing(place: &str) -> Error {
-    Error::MissingParameter {
-        name: place.to_string(),
-    }
 }
 
 /// Puts the places of a line there in the stead of what is there. A comment has none.
@@ -130,10 +134,13 @@ pub(crate) fn find_places(line: &str, places: &mut Vec<Place>) {
 fn places_of(line: &str) -> impl Iterator<Item = Place> + '_ {
     let mut from = 0;
     std::iter::from_fn(move || {
-        let place = first_place(&line[from..])?;
-        let found = from + place.start..from + place.end;
-        from = found.end;
-        Some(found)
+        let found = first_place(&line[from..])?;
+        let at = from + found.start..from + found.end;
+        from = at.end;
+        Some(Place {
+            is_nameless: line[at.clone()] == *"?",
+            at,
+        })
     })
 }
 
@@ -144,22 +151,22 @@ pub(crate) fn has_places(line: &str) -> bool {
 
 /// The line as the library takes it as a statement, where each place is a `?`; or none where it is so already.
 pub(crate) fn with_marks(line: &str, places: &[Place]) -> Option<String> {
-    if places.iter().all(|place| is_nameless(&line[place.clone()])) {
+    if places.iter().all(|place| place.is_nameless) {
         return None;
     }
     let mut made = String::with_capacity(line.len());
     let mut rest = 0;
     for place in places {
-        made.push_str(&line[rest..place.start]);
+        made.push_str(&line[rest..place.at.start]);
         made.push('?');
-        rest = place.end;
+        rest = place.at.end;
     }
     made.push_str(&line[rest..]);
     Some(made)
 }
 
 /// The first place of a line that begins in no text: a `?`, or a `:` and a word, which stands in no text.
-fn first_place(line: &str) -> Option<Place> {
+fn first_place(line: &str) -> Option<Range<usize>> {
     let mut in_text = false;
     for (at, byte) in line.bytes().enumerate() {
         match byte {

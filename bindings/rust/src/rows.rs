@@ -5,7 +5,7 @@ use std::ops::Range;
 use std::sync::Arc;
 
 use crate::cells::{Cells, OwnCells};
-use crate::error::Result;
+use crate::error::{Error, Result};
 use crate::row::Row;
 use crate::value::Value;
 
@@ -154,6 +154,14 @@ impl<'r> RowsRef<'r> {
         Rows {
             names: Arc::clone(self.names),
             cells: self.cells.to_own(),
+        }
+    }
+
+    /// What a function makes of the first row.
+    pub(crate) fn first<T>(self, read: impl FnOnce(&Row<'_>) -> Result<T>) -> Result<T> {
+        match self.get(0) {
+            Some(row) => read(&row),
+            None => Err(Error::NoRows),
         }
     }
 

@@ -3,7 +3,7 @@
 use std::fmt;
 
 use crate::database::Database;
-use crate::error::{Error, Result};
+use crate::error::Result;
 use crate::kept::Kept;
 use crate::params::Params;
 use crate::row::Row;
@@ -81,8 +81,7 @@ impl<'db> Statement<'db> {
         P: Params,
         F: FnOnce(&Row<'_>) -> Result<T>,
     {
-        let rows = self.query(params)?;
-        rows.get(0).ok_or(Error::NoRows).and_then(|row| read(&row))
+        self.query(params)?.first(read)
     }
 
     /// The names of the columns that the rows of the select have, each as `table.column`. There are none of a change.
