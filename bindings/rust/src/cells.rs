@@ -57,8 +57,8 @@ impl<'c> Cells<'c> {
     ///
     /// # Safety
     ///
-    /// As long as they are lent, nothing writes to the cells or to their texts, of which each is UTF-8 and stands, by its
-    /// place and its length, in one block that begins there.
+    /// As long as they are lent, nothing writes to the cells or to their texts, of which each is UTF-8 and stands, by
+    /// its place and its length, in one block that begins there.
     pub(crate) unsafe fn new(cells: &'c [Cell], texts: *const u8) -> Cells<'c> {
         Cells {
             cells,

@@ -48,8 +48,8 @@ impl Database {
         })
     }
 
-    /// Prepares an insert, an update, a delete or a select, to be executed more than once. [`Error::NotAStatement`] says
-    /// that the line is another command.
+    /// Prepares an insert, an update, a delete or a select, to be executed more than once. [`Error::NotAStatement`]
+    /// says that the line is another command.
     ///
     /// Its places are as in [`execute`](Database::execute). What can't be done whatever the values are is refused here;
     /// the refusal tells the line with nulls in its places.
@@ -247,8 +247,8 @@ impl Database {
         Ok(self.heeded())
     }
 
-    /// Why [`answer`](Database::answer) or [`answer_to_load`](Database::answer_to_load) gave a refusal of this line with
-    /// its block, in a line of words for people.
+    /// Why [`answer`](Database::answer) or [`answer_to_load`](Database::answer_to_load) gave a refusal of this line
+    /// with its block, in a line of words for people.
     ///
     /// It is asked right behind that call. There is none where that was no refusal, and none where no memory is found
     /// for the words.
@@ -294,8 +294,8 @@ impl Database {
         }
     }
 
-    /// The same, where its statement isn't kept. One without places is seldom done twice, so it stays so. Where there is
-    /// no statement, the line with its values tells why.
+    /// The same, where its statement isn't kept. One without places is seldom done twice, so it stays so. Where there
+    /// is no statement, the line with its values tells why.
     fn change_anew<P: Params>(&mut self, line: &str, params: P) -> Result<usize> {
         let handle = &self.session.handle;
         if has_places(line) {

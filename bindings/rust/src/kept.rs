@@ -62,7 +62,8 @@ impl Kept {
         }
     }
 
-    /// The rows of a select, which are lent. The names of its columns are asked for where there were declarations since.
+    /// The rows of a select, which are lent. The names of its columns are asked for where there were declarations
+    /// since.
     pub(crate) fn rows<'k, P: Params>(
         &'k mut self,
         handle: &'k Handle,

@@ -189,9 +189,9 @@ impl Handle {
         answered(unsafe { mmdb_indexes(self.inside.get(), table.as_ptr(), table.len(), &mut self.told) })
     }
 
-    /// Why the line was refused that was just answered, with its block; or the statement that was just executed, which is
-    /// this line with its values. There is none of another answer, and none where no memory is found for the words. What
-    /// was told before is gone then.
+    /// Why the line was refused that was just answered, with its block; or the statement that was just executed, which
+    /// is this line with its values. There is none of another answer, and none where no memory is found for the words.
+    /// What was told before is gone then.
     pub(crate) fn reason(&self, line: &[u8], block: &[u8]) -> Option<String> {
         let mut told = Told::NOTHING;
         let db = self.inside.get();
@@ -239,8 +239,8 @@ impl Handle {
         // SAFETY: the handle is open.
         done(unsafe { mmdb_execute(self.inside.get(), statement.0, &mut found) })?;
         Ok(Executed {
-            // SAFETY: the rows are good until the statement is executed again or finalised, or the handle is closed. Both
-            // are lent as long as the rows are. The library has UTF-8 texts alone.
+            // SAFETY: the rows are good until the statement is executed again or finalised, or the handle is closed.
+            // Both are lent as long as the rows are. The library has UTF-8 texts alone.
             cells: unsafe { found.cells() },
             changed: found.changed,
         })

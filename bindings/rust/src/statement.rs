@@ -40,13 +40,14 @@ impl<'db> Statement<'db> {
         Statement { db, kept }
     }
 
-    /// Does the insert, the update or the delete, and gives how many rows it was about. [`Error::NotAChange`] says that
-    /// it is a select.
+    /// Does the insert, the update or the delete, and gives how many rows it was about.
+    /// [`Error::NotAChange`](crate::Error::NotAChange) says that it is a select.
     pub fn execute<P: Params>(&mut self, params: P) -> Result<usize> {
         self.kept.change(self.db.handle(), params)
     }
 
-    /// The rows of the select, which are lent until it is executed again. [`Error::NotASelect`] says that it is none.
+    /// The rows of the select, which are lent until it is executed again.
+    /// [`Error::NotASelect`](crate::Error::NotASelect) says that it is none.
     ///
     /// ```
     /// # let mut db = mmdb::Database::open_in_memory()?;
@@ -74,8 +75,8 @@ impl<'db> Statement<'db> {
         Ok(MappedRowsRef::new(self.query(params)?, map))
     }
 
-    /// What a function makes of the first row of the select. Those behind it are passed over. [`Error::NoRows`] says
-    /// that there is none.
+    /// What a function makes of the first row of the select. Those behind it are passed over.
+    /// [`Error::NoRows`](crate::Error::NoRows) says that there is none.
     pub fn query_row<T, P, F>(&mut self, params: P, read: F) -> Result<T>
     where
         P: Params,

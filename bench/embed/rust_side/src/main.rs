@@ -1,7 +1,7 @@
-//! Times the crate mmdb beside SQLite's prepared statements over `:memory:`, both in this process, on the same statements
-//! over a table of so many rows, or by the word `inserts` on inserts into an empty one. Each figure is a line: what was
-//! done, the way of mmdb, the microseconds of mmdb and those of SQLite. mmdb is asked by a statement that the program
-//! prepares, and by a line whose statement the crate keeps. The rows of a select are read.
+//! Times the crate mmdb beside SQLite's prepared statements over `:memory:`, both in this process, on the same
+//! statements over a table of so many rows, or by the word `inserts` on inserts into an empty one. Each figure is a
+//! line: what was done, the way of mmdb, the microseconds of mmdb and those of SQLite. mmdb is asked by a statement
+//! that the program prepares, and by a line whose statement the crate keeps. The rows of a select are read.
 
 mod sqlite;
 
@@ -249,8 +249,8 @@ impl Both {
         Ok(sqlite::processor_seconds() - before)
     }
 
-    /// The seconds of a statement, of some thousands. What is inserted is taken out again, in batches that make the table
-    /// at most twice as large.
+    /// The seconds of a statement, of some thousands. What is inserted is taken out again, in batches that make the
+    /// table at most twice as large.
     fn statement(&mut self, way: Way, kind: Kind, rows: usize) -> Result<f64> {
         let keys = self.draw.keys(kind, rows);
         let batches = if kind == Kind::Range {
