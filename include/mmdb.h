@@ -147,17 +147,18 @@ uint32_t mmdb_load(mmdb *db, const void *line, size_t length, const void *block,
                    mmdb_bytes *answer);
 
 /* Prepares an insert, an update, a delete or a select in which each ? that stands in no text is the place of a value.
-   Places are numbered from 0 as they stand. The statement is kept until mmdb_finalize or mmdb_close, whatever becomes
-   of the tables.
+   Places are numbered from 0 as they stand. One carriage return at the line's end is dropped. The statement is kept
+   until mmdb_finalize or mmdb_close, whatever becomes of the tables.
    Gives MMDB_DONE and the statement, whose places have nulls. Or gives MMDB_NOT_OPEN, MMDB_NO_LINE or MMDB_NO_MEMORY;
-   or MMDB_REFUSED by 10, 11 or 20, the last also for blanks, comments and all other commands, or by what the line is
-   refused by whatever the values are (30, 32, 33, 34, 35, 37, 45). Then there is no statement. */
+   or MMDB_REFUSED by 10, 11 or 20, the last also for a line feed, blanks, comments and all other commands, or by what
+   the names and the given values are refused by (30, 32, 33, 34, 35, 45). Then there is no statement. */
 uint32_t mmdb_prepare(mmdb *db, const void *line, size_t length, mmdb_statement *statement);
 
 /* Puts a value into a place of a statement, by their numbers. It stays until another is bound there, also while the
    statement is executed. A text is copied; it may hold line feeds, as no line can, and each byte that UTF-8 lets it.
    Gives MMDB_DONE; or MMDB_NOT_OPEN, MMDB_NO_SUCH_STATEMENT or MMDB_NO_SUCH_PLACE; of a text also MMDB_NO_LINE where it
-   is null and has a length, MMDB_NOT_UTF8 or MMDB_NO_MEMORY. After any but MMDB_DONE all is as it was. */
+   is null and has a length, MMDB_NOT_UTF8 or MMDB_NO_MEMORY. After any but MMDB_DONE all is as it was. The answers are
+   left as they are. */
 uint32_t mmdb_bind_integer(mmdb *db, uint32_t statement, uint32_t place, int64_t value);
 uint32_t mmdb_bind_text(mmdb *db, uint32_t statement, uint32_t place, const void *text, size_t length);
 uint32_t mmdb_bind_null(mmdb *db, uint32_t statement, uint32_t place);
@@ -169,13 +170,14 @@ uint32_t mmdb_bind_null(mmdb *db, uint32_t statement, uint32_t place);
 uint32_t mmdb_execute(mmdb *db, uint32_t statement, mmdb_rows *rows);
 
 /* The columns that the rows of a select have: a row for each, of two cells, its name as T.c and its kind, which is the
-   integer MMDB_INTEGER or MMDB_TEXT. Of another statement there are no rows. They are good as long as rows of the
-   statement would be that were answered in their stead.
+   integer MMDB_INTEGER or MMDB_TEXT. Of another statement there are no rows. They are good until the next call on this
+   handle.
    Gives MMDB_DONE and the columns; or MMDB_REFUSED as the execution with the bound values would be before it looks at
    rows; or MMDB_NOT_OPEN or MMDB_NO_SUCH_STATEMENT. */
 uint32_t mmdb_columns(mmdb *db, uint32_t statement, mmdb_rows *columns);
 
-/* Frees a statement: its rows are good no longer, and its number may be given to another.
+/* Frees a statement: its rows are good no longer, and its number may be given to another. The answers are left as they
+   are.
    Gives MMDB_DONE; or MMDB_NOT_OPEN or MMDB_NO_SUCH_STATEMENT. */
 uint32_t mmdb_finalize(mmdb *db, uint32_t statement);
 
@@ -196,7 +198,8 @@ uint32_t mmdb_feed(mmdb *db, const void *piece, size_t length);
 uint32_t mmdb_indexes(mmdb *db, const void *table, size_t length, mmdb_bytes *answer);
 
 /* The answers of the last call that was done, one behind the other: of the piece that was fed, or of the line. Of a
-   piece whose answers found no room it is a front of them. Of a statement it is its refusal, and else no bytes.
+   piece whose answers found no room it is a front of them. Where a statement was prepared, executed or asked for its
+   columns they are its refusal, or no bytes.
    Gives MMDB_DONE, and bytes that are good until the next call but this one, mmdb_refusal and mmdb_reason; or
    MMDB_NOT_OPEN. */
 uint32_t mmdb_answer(mmdb *db, mmdb_bytes *answer);

@@ -54,7 +54,7 @@ static int is_on_rows(call of)
 {
     const unsigned char *at = of.bytes, *end = of.bytes + of.length;
     size_t length;
-    if (strcmp(of.name, "command") != 0 || of.length > LONGEST_LINE || of.bytes[of.length - 1] == '\r')
+    if (strcmp(of.name, "command") != 0 || of.length > LONGEST_LINE)
         return 0;
     while (at < end && (*at == ' ' || *at == '\t'))
         at++;

@@ -127,7 +127,7 @@ static void prepare_gives_each_status(mmdb *db)
     CHECK(prepared(db, "insert t (?, '?', ?)").places == 2);
     CHECK(prepared(db, "insert t (1, 'it''s ?', null)").places == 0);
     CHECK(prepared(db, "update t set s = ?, c = ? where id >= ? and id<?").places == 4);
-    CHECK(prepared(db, "delete t where s = ?").places == 1);
+    CHECK(prepared(db, "delete t where s = ?\r").places == 1);
     CHECK(prepared(db, "select distinct s from t join u on t.c = u.k where t.id <> ? and k = ?").places == 2);
 }
 
@@ -155,6 +155,7 @@ static void a_line_that_is_no_statement_is_refused(mmdb *db)
         { "select ? from t", "error 20 not a command\n" },
         { "delete t where ? = 1", "error 20 not a command\n" },
         { "delete t where id = ?\n", "error 20 not a command\n" },
+        { "delete t where id = ?\r\r", "error 20 not a command\n" },
         { "insert v (?)", "error 30 no such table\n" },
         { "select * from v where id = ?", "error 30 no such table\n" },
         { "select nothing from t where id = ?", "error 32 no such column\n" },
@@ -426,6 +427,52 @@ static void a_value_of_another_type_is_refused(mmdb *db)
     GIVES(command(db, "delete t", NULL), MMDB_DONE);
 }
 
+/* What is checked behind the values is told by the execution, also where there are none to come. */
+static void what_comes_behind_the_values_is_told_last(mmdb *db)
+{
+    char line[LONGEST_TEXT + 100] = "insert t (1, '";
+    mmdb_statement key = prepared(db, "update t set id = 5"), conditions, text;
+    const size_t front = strlen(line);
+    memset(line + front, 'x', LONGEST_TEXT + 1);
+    strcpy(line + front + LONGEST_TEXT + 1, "', null)");
+    text = prepared(db, line);
+    strcpy(line, "delete t where id = 0");
+    for (int more = 0; more < 8; more++)
+        strcat(line, " and id = ?");
+    conditions = prepared(db, line);
+    GIVES(mmdb_execute(db, key.number, NULL), MMDB_REFUSED);
+    CHECK(is_refused_by(db, "error 36 key cannot be set\n"));
+    GIVES(mmdb_execute(db, text.number, NULL), MMDB_REFUSED);
+    CHECK(is_refused_by(db, "error 46 text too long\n"));
+    GIVES(mmdb_execute(db, conditions.number, NULL), MMDB_REFUSED);
+    CHECK(is_refused_by(db, "error 35 wrong type\n"));
+    for (uint32_t place = 0; place < conditions.places; place++)
+        GIVES(mmdb_bind_integer(db, conditions.number, place, 1), MMDB_DONE);
+    GIVES(mmdb_execute(db, conditions.number, NULL), MMDB_REFUSED);
+    CHECK(is_refused_by(db, "error 37 too many\n"));
+}
+
+/* A refusal is told until a statement is prepared or executed, or a line is done. */
+static void binding_leaves_the_answers(mmdb *db)
+{
+    mmdb_statement insert = prepared(db, "insert u (?)"), select = prepared(db, "select * from u");
+    mmdb_bytes answer;
+    GIVES(mmdb_execute(db, insert.number, NULL), MMDB_REFUSED);
+    GIVES(bind_text(db, insert, 0, ""), MMDB_DONE);
+    GIVES(mmdb_bind_null(db, insert.number, 7), MMDB_NO_SUCH_PLACE);
+    CHECK(is_refused_by(db, "error 35 wrong type\n"));
+    GIVES(mmdb_execute(db, insert.number, NULL), MMDB_REFUSED);
+    GIVES(mmdb_finalize(db, insert.number), MMDB_DONE);
+    CHECK(is_refused_by(db, "error 41 key exists\n"));
+    GIVES(mmdb_execute(db, select.number, NULL), MMDB_DONE);
+    GIVES(mmdb_answer(db, &answer), MMDB_DONE);
+    CHECK(reads(answer, "") && mmdb_refusal(db) == 0);
+    GIVES(command(db, "tables", NULL), MMDB_DONE);
+    GIVES(prepare(db, "select * from u", NULL), MMDB_DONE);
+    GIVES(mmdb_answer(db, &answer), MMDB_DONE);
+    CHECK(reads(answer, ""));
+}
+
 /* The words are those of the line with the values in their places. */
 static void the_reason_is_that_of_the_line(mmdb *db)
 {
@@ -586,6 +633,8 @@ int main(void)
     a_text_is_compared_and_set_whatever_it_holds(&db);
     a_text_that_is_too_long_is_refused(&db);
     a_value_of_another_type_is_refused(&db);
+    what_comes_behind_the_values_is_told_last(&db);
+    binding_leaves_the_answers(&db);
     the_reason_is_that_of_the_line(&db);
     columns_give_each_status(&db);
     a_finalised_statement_is_none(&db);
