@@ -30,6 +30,29 @@ use crate::rows::{MappedRowsRef, RowsRef};
 /// assert_eq!(db.execute("delete t", [])?, 100);
 /// # Ok::<(), mmdb::Error>(())
 /// ```
+///
+/// Rows aren't read once their statement is executed again:
+///
+/// ```compile_fail,E0499
+/// # let mut db = mmdb::Database::open_in_memory()?;
+/// # db.execute("table t (id int)", [])?;
+/// let mut all = db.prepare("select * from t where id > ?")?;
+/// let rows = all.query([1])?;
+/// all.query([2])?;
+/// assert!(rows.is_empty());
+/// # Ok::<(), mmdb::Error>(())
+/// ```
+///
+/// And no table is declared while there are statements:
+///
+/// ```compile_fail,E0502
+/// # let mut db = mmdb::Database::open_in_memory()?;
+/// # db.execute("table t (id int)", [])?;
+/// let mut all = db.prepare("select * from t")?;
+/// db.execute("drop table t", [])?;
+/// all.query([])?;
+/// # Ok::<(), mmdb::Error>(())
+/// ```
 pub struct Statement<'db> {
     db: &'db Database,
     kept: Kept,
