@@ -273,9 +273,9 @@ static void a_select_gives_cells(mmdb *db)
 
 static void changes_tell_how_many_rows_they_were_about(mmdb *db)
 {
-    mmdb_statement insert = prepared(db, "insert t (?, 'a', null)"), update = prepared(db, "update t set s = ? where id < ?");
-    mmdb_statement clear = prepared(db, "delete t where s = ?"), key = prepared(db, "update t set id = ?");
-    mmdb_statement reference = prepared(db, "update t set c = '' where id = ?"), hop = prepared(db, "delete u where k = ?");
+    mmdb_statement insert = prepared(db, "insert t (?, 'a', null)"), clear = prepared(db, "delete t where s = ?");
+    mmdb_statement update = prepared(db, "update t set s = ? where id < ?"), key = prepared(db, "update t set id = ?");
+    mmdb_statement refer = prepared(db, "update t set c = '' where id = ?"), erase = prepared(db, "delete u where k = ?");
     for (int64_t id = 0; id < 10; id++) {
         GIVES(mmdb_bind_integer(db, insert.number, 0, id), MMDB_DONE);
         CHECK(changed_by(db, insert) == 1);
@@ -292,10 +292,10 @@ static void changes_tell_how_many_rows_they_were_about(mmdb *db)
     GIVES(mmdb_bind_integer(db, key.number, 0, 1), MMDB_DONE);
     GIVES(mmdb_execute(db, key.number, NULL), MMDB_REFUSED);
     CHECK(is_refused_by(db, "error 36 key cannot be set\n"));
-    GIVES(mmdb_bind_integer(db, reference.number, 0, 3), MMDB_DONE);
-    CHECK(changed_by(db, reference) == 1);
-    GIVES(bind_text(db, hop, 0, ""), MMDB_DONE);
-    GIVES(mmdb_execute(db, hop.number, NULL), MMDB_REFUSED);
+    GIVES(mmdb_bind_integer(db, refer.number, 0, 3), MMDB_DONE);
+    CHECK(changed_by(db, refer) == 1);
+    GIVES(bind_text(db, erase, 0, ""), MMDB_DONE);
+    GIVES(mmdb_execute(db, erase.number, NULL), MMDB_REFUSED);
     CHECK(is_refused_by(db, "error 44 row is referenced\n"));
     GIVES(command(db, "delete t", NULL), MMDB_DONE);
 }
@@ -355,7 +355,8 @@ static void a_text_may_hold_anything_that_is_utf8(mmdb *db)
 /* In the rows of the texts above. */
 static void a_text_is_compared_and_set_whatever_it_holds(mmdb *db)
 {
-    mmdb_statement select = prepared(db, "select id from t where s = ?"), update = prepared(db, "update t set s = ? where id = ?");
+    mmdb_statement select = prepared(db, "select id from t where s = ?");
+    mmdb_statement update = prepared(db, "update t set s = ? where id = ?");
     mmdb_rows rows;
     GIVES(mmdb_bind_text(db, select.number, 0, "two\nlines\n", 10), MMDB_DONE);
     GIVES(mmdb_execute(db, select.number, &rows), MMDB_DONE);

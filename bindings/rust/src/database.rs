@@ -112,7 +112,7 @@ impl Database {
 
     /// The rows of a select. [`Error::NotASelect`] says that the line is none, and then it isn't done.
     pub fn query<P: Params>(&mut self, line: &str, params: P) -> Result<Rows> {
-        self.select(line, params).map(|rows| rows.to_rows())
+        self.select(line, params, |rows| Ok(rows.to_rows()))
     }
 
     /// What a function makes of each row of a select, one after the other.
@@ -158,7 +158,7 @@ impl Database {
         P: Params,
         F: FnOnce(&Row<'_>) -> Result<T>,
     {
-        self.select(line, params)?.first(read)
+        self.select(line, params, |rows| rows.first(read))
     }
 
     /// Does any command, and gives what it answers.
@@ -308,8 +308,11 @@ impl Database {
             .map(|answer| count_of(answer).unwrap_or(0))
     }
 
-    /// The rows of a select, which its statement lends.
-    fn select<P: Params>(&mut self, line: &str, params: P) -> Result<RowsRef<'_>> {
+    /// What is made of the rows of a select, which its statement lends. Where they are many, their room isn't kept.
+    fn select<P, T>(&mut self, line: &str, params: P, make: impl FnOnce(RowsRef<'_>) -> Result<T>) -> Result<T>
+    where
+        P: Params,
+    {
         let at = match self.lines.find(line) {
             Some(at) => at,
             None if !is_select(line) => return Err(Error::NotASelect),
@@ -318,8 +321,14 @@ impl Database {
                 Err(declined) => return Err(self.why_none(line, params, declined)),
             },
         };
-        let declared = self.known.declared();
-        self.lines.use_of(at).rows(&self.session.handle, params, declared)
+        let kept = self.lines.use_of(at);
+        let rows = kept.rows(&self.session.handle, params, self.known.declared())?;
+        let are_many = rows.are_many();
+        let made = make(rows);
+        if are_many {
+            kept.let_go(&self.session.handle);
+        }
+        made
     }
 
     /// Why the statement of a select is none: as the line with its values says.

@@ -36,18 +36,26 @@ impl Kept {
     pub(crate) fn prepare(handle: &Handle, line: &str) -> Result<Kept, Declined> {
         let mut places = Vec::new();
         find_places(line, &mut places);
-        let marked = with_marks(line, &places);
+        let written = Written {
+            line: line.into(),
+            places,
+            bound: Bound::default(),
+        };
         Ok(Kept {
-            prepared: handle.prepare(marked.as_deref().unwrap_or(line).as_bytes())?,
+            prepared: written.prepare(handle)?,
             is_select: is_select(line),
-            written: Written {
-                line: line.into(),
-                places,
-                bound: Bound::default(),
-            },
+            written,
             names: Arc::default(),
             named_at: None,
         })
+    }
+
+    /// Gives back the room of the rows that it has shown, where it can be prepared anew.
+    pub(crate) fn let_go(&mut self, handle: &Handle) {
+        if let Ok(anew) = self.written.prepare(handle) {
+            handle.finalize(&mut self.prepared);
+            self.prepared = anew;
+        }
     }
 
     /// Does a change, and gives how many rows it was about.
@@ -123,6 +131,11 @@ impl Kept {
 }
 
 impl Written {
+    fn prepare(&self, handle: &Handle) -> Result<Prepared, Declined> {
+        let marked = with_marks(&self.line, &self.places);
+        handle.prepare(marked.as_deref().unwrap_or(&self.line).as_bytes())
+    }
+
     /// Why a call with these values was declined.
     #[cold]
     fn why(&self, handle: &Handle, declined: Declined) -> Error {

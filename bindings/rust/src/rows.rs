@@ -157,6 +157,11 @@ impl<'r> RowsRef<'r> {
         }
     }
 
+    /// Whether they have more cells than one would keep room for.
+    pub(crate) fn are_many(&self) -> bool {
+        self.cells.len() > 65_536
+    }
+
     /// What a function makes of the first row.
     pub(crate) fn first<T>(self, read: impl FnOnce(&Row<'_>) -> Result<T>) -> Result<T> {
         match self.get(0) {

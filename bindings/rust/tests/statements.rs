@@ -264,6 +264,22 @@ fn lines_are_kept_and_go() {
     }
 }
 
+/// So many cells that their room isn't kept.
+#[test]
+fn many_rows_are_read_by_a_kept_line() {
+    let mut db = open();
+    db.execute("table t (id int, n int)", []).unwrap();
+    db.load("t", (0..40_000).map(|id| (id, -id))).unwrap();
+    let line = "select * from t where id >= ? and n <= ?";
+    for from in [0, 39_990, 5_000, 0] {
+        let rows = db.query(line, [from, -from]).unwrap();
+        assert_eq!(rows.len() as i64, 40_000 - from);
+        assert!(rows.iter().map(|row| row.get::<_, i64>(0).unwrap()).eq(from..40_000));
+        let first = db.query_row(line, [from, -from], |row| row.get::<_, i64>("n"));
+        assert_eq!(first, Ok(-from));
+    }
+}
+
 /// Each way of declaring is heeded: what a line means is asked anew.
 #[test]
 fn a_line_outlives_its_table() {
