@@ -146,8 +146,8 @@ pub(crate) struct Handle {
 }
 
 // SAFETY: what the pointers lead to belongs to this handle alone, and is reached by no other. The library keeps nothing
-// that is a thread's own, and asks only that the calls on one handle come one after another. They do, as each takes the
-// handle as `&mut`.
+// that is a thread's own, and asks only that the calls on one handle come one after another. They do, as the handle isn't
+// `Sync`, and no call is made out of another.
 unsafe impl Send for Handle {}
 
 impl Handle {
@@ -191,7 +191,6 @@ impl Handle {
 
     /// Why the line was refused that was just answered, with its block; or the statement that was just executed, which
     /// is this line with its values. There is none of another answer, and none where no memory is found for the words.
-    /// What was told before is gone then.
     pub(crate) fn reason(&self, line: &[u8], block: &[u8]) -> Option<String> {
         let mut told = Told::NOTHING;
         let db = self.inside.get();

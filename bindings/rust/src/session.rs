@@ -62,10 +62,10 @@ fn accepted<'a>(handle: &'a mut Handle, line: &str, block: &[u8]) -> Result<&'a 
 
 /// The same, where the reason is that of a line of its own.
 fn accepted_of<'a>(handle: &'a mut Handle, line: &str, asked: &str, block: &[u8]) -> Result<&'a str> {
-    let answer = std::str::from_utf8(handle.answer()).expect("an answer is UTF-8");
-    if answer.starts_with(ERROR) {
+    if handle.answer().starts_with(ERROR.as_bytes()) {
+        let answer = String::from_utf8_lossy(handle.answer()).into_owned();
         let reason = |_: &str| handle.reason(asked.as_bytes(), block);
-        return Err(refused(answer, line.to_string(), reason));
+        return Err(refused(&answer, line.to_string(), reason));
     }
     Ok(std::str::from_utf8(handle.answer()).expect("an answer is UTF-8"))
 }
@@ -73,7 +73,7 @@ fn accepted_of<'a>(handle: &'a mut Handle, line: &str, asked: &str, block: &[u8]
 /// What the answer begins with that is a refusal.
 const ERROR: &str = "error ";
 
-/// The refusal that an answer tells of a line. The reason is asked for last, as the answer may be gone then.
+/// The refusal that an answer tells of a line, and the reason that a function asks for by this line.
 pub(crate) fn refused(answer: &str, line: String, reason: impl FnOnce(&str) -> Option<String>) -> Error {
     let told = answer.strip_prefix(ERROR).unwrap_or_default().trim_end_matches('\n');
     let (number, text) = told.split_once(' ').unwrap_or((told, ""));
