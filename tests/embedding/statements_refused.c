@@ -1,6 +1,6 @@
 /* Refuses each call for memory of each call on a statement in turn. It then says that there was none, and everything is
-   as it was; or it is done as ever. What was refused is done when it is called again. A second handle, which is never
-   refused anything, tells what is as ever. */
+   as it was, the values that are bound too; or it is done as ever. What was refused is done when it is called again. A
+   second handle, which is never refused anything, tells what is as ever. */
 #include "allocations.h"
 #include "checking.h"
 
@@ -160,6 +160,8 @@ static outcome tries(size_t number, long met)
         GIVES(status, STEPS[number].without_memory);
         if (status == MMDB_REFUSED)
             expects_90(&one.db);
+        if (STEPS[number].does == binds)
+            CHECK(inserts(&one, &rows) == inserts(&twin, &expected));
         CHECK(is_as(&one, &twin));
         status = STEPS[number].does(&one, &rows);
     }
