@@ -76,13 +76,13 @@ class Cargo(unittest.TestCase):
 
     def test_the_first_program_of_the_page(self):
         program, printed = embedding.first_program("docs/rust.md", "rust")
-        self.assertEqual(program.count("\n"), 13)
+        self.assertEqual(program.count("\n"), 16)
         self.check_program("first", program, printed)
 
     def test_the_pieces_of_the_page(self):
         """Those behind the first program are one program."""
         pieces = PIECE.findall((harness.ROOT / "docs" / "rust.md").read_text())[1:]
-        self.assertEqual(len(pieces), 7)
+        self.assertEqual(len(pieces), 8)
         program = f"#![allow(unused)]\nfn main() -> Result<(), mmdb::Error> {{\n{''.join(pieces)}Ok(())\n}}\n"
         refused = "error 42 no referenced row: dept has no row with the key 99, which column dept names"
         self.check_program("pieces", program, f"1 Ann Some(10)\n2 O'Hara None\n{refused}\n")

@@ -1,6 +1,7 @@
-/* Times mmdb beside SQLite over `:memory:`, both in this process, on the same statements over a table of so many rows.
-   Each figure is a line: what was done, the way of SQLite, the microseconds of mmdb and those of SQLite. A statement's
-   text is made within its time, and the row of a select is read. */
+/* Times mmdb beside SQLite over `:memory:`, both in this process, on the same statements over a table of so many rows, or
+   by the word `inserts` on inserts into an empty one. Each figure is a line: what was done, the way of both, the
+   microseconds of mmdb and those of SQLite. A statement's text is made within its time, and the rows of a select are
+   read. */
 #define _POSIX_C_SOURCE 200809L
 #include "mmdb.h"
 
@@ -11,38 +12,60 @@
 #include <string.h>
 #include <time.h>
 
-enum { ROUNDS = 7, STATEMENTS = 10000, MOST_NEW = 2000, ROWS_OF_A_BLOCK = 100000, LONGEST_ROW = 64, LINE = 200 };
+enum { ROUNDS = 7, STATEMENTS = 10000, SELECTS = 100, MOST_NEW = 2000, LINE = 200 };
+enum { ROWS_OF_A_SELECT = 1000, ROWS_OF_A_BLOCK = 100000, INSERTS = 100000, LONGEST_ROW = 64 };
 
-typedef enum kind { SELECT, INSERT, UPDATE, DELETE, KINDS } kind;
-typedef enum way { OURS, NEW_TEXT, PREPARED, WAYS } way;
+typedef enum kind { SELECT, INSERT, UPDATE, DELETE, RANGE, KINDS } kind;
 
-static const char *const NAMES[KINDS] = { "select by key", "insert by key", "update by key", "delete by key" };
+/* Both are asked by a new text each time, and by statements that are prepared once. */
+typedef enum way { OUR_TEXT, THEIR_TEXT, OUR_STATEMENT, THEIR_STATEMENT, WAYS } way;
 
-/* The statements of both: a key, a number and a text of eight letters go into each. */
+static const char *const NAMES[KINDS] = { "select by key", "insert by key", "update by key", "delete by key",
+                                          "select of 1,000" };
+
+/* The statements of both: a key, a number and a text of eight letters go into each, or the keys of a range. */
 static const char *const OUR_TEXTS[KINDS] = {
     "select * from t where id = %1$" PRId64,
     "insert t (%1$" PRId64 ", %2$" PRId64 ", '%3$s')",
     "update t set n = %2$" PRId64 ", s = '%3$s' where id = %1$" PRId64,
     "delete t where id = %1$" PRId64,
+    "select * from t where id >= %1$" PRId64 " and id < %2$" PRId64,
 };
 static const char *const THEIR_TEXTS[KINDS] = {
     "select * from t where id = %1$" PRId64,
     "insert into t values (%1$" PRId64 ", %2$" PRId64 ", '%3$s')",
     "update t set n = %2$" PRId64 ", s = '%3$s' where id = %1$" PRId64,
     "delete from t where id = %1$" PRId64,
+    "select * from t where id >= %1$" PRId64 " and id < %2$" PRId64,
 };
-static const char *const PREPARED_TEXTS[KINDS] = {
-    "select * from t where id = ?1",
-    "insert into t values (?1, ?2, ?3)",
-    "update t set n = ?2, s = ?3 where id = ?1",
-    "delete from t where id = ?1",
+static const char *const OUR_STATEMENTS[KINDS] = {
+    "select * from t where id = ?",
+    "insert t (?, ?, ?)",
+    "update t set n = ?, s = ? where id = ?",
+    "delete t where id = ?",
+    "select * from t where id >= ? and id < ?",
+};
+static const char *const THEIR_STATEMENTS[KINDS] = {
+    "select * from t where id = ?",
+    "insert into t values (?, ?, ?)",
+    "update t set n = ?, s = ? where id = ?",
+    "delete from t where id = ?",
+    "select * from t where id >= ? and id < ?",
 };
 
 /* Both databases, and what was read of their rows, so that nothing is left out. */
 static mmdb ours = MMDB_CLOSED;
+static mmdb_statement prepared[KINDS];
 static sqlite3 *theirs = NULL;
-static sqlite3_stmt *prepared[KINDS];
+static sqlite3_stmt *their_prepared[KINDS];
 static uint64_t sums[WAYS];
+
+/* What goes into a statement. */
+typedef struct values {
+    int64_t key;
+    int64_t number;
+    char text[9];
+} values;
 
 static void insist(int holds, const char *what)
 {
@@ -61,22 +84,41 @@ static uint64_t draw(uint64_t most)
     return state % most;
 }
 
-static void letters(int64_t key, char to[9])
+static values values_of(kind of, int64_t key)
 {
+    values made = { key, of == RANGE ? key + 2 * ROWS_OF_A_SELECT : key / 2, "" };
     for (int i = 0; i < 8; i++)
-        to[i] = (char)('a' + ((key >> (3 * i)) & 7));
-    to[8] = '\0';
+        made.text[i] = (char)('a' + ((key >> (3 * i)) & 7));
+    return made;
 }
 
-static void read_ours(mmdb_bytes answer)
+static int is_select(kind of)
 {
-    const char *record = (const char *)answer.at;
-    char *end;
+    return of == SELECT || of == RANGE;
+}
+
+/* Reads the records of an answer, in which no field is quoted. */
+static void read_answer(mmdb_bytes answer)
+{
+    const char *record = (const char *)answer.at, *end = record + answer.length;
+    char *behind;
     for (int line = 0; line < 2; line++)
-        record = (const char *)memchr(record, '\n', answer.length) + 1;
-    sums[OURS] += (uint64_t)strtoll(record, &end, 10);
-    sums[OURS] += (uint64_t)strtoll(end + 1, &end, 10);
-    sums[OURS] += (unsigned char)end[1];
+        record = (const char *)memchr(record, '\n', (size_t)(end - record)) + 1;
+    while (record < end) {
+        sums[OUR_TEXT] += (uint64_t)strtoll(record, &behind, 10);
+        sums[OUR_TEXT] += (uint64_t)strtoll(behind + 1, &behind, 10);
+        sums[OUR_TEXT] += (unsigned char)behind[1];
+        record = (const char *)memchr(behind, '\n', (size_t)(end - behind)) + 1;
+    }
+}
+
+static void read_rows(const mmdb_rows *rows)
+{
+    for (size_t row = 0; row < rows->rows; row++) {
+        sums[OUR_STATEMENT] += (uint64_t)mmdb_cell_at(rows, row, 0)->integer;
+        sums[OUR_STATEMENT] += (uint64_t)mmdb_cell_at(rows, row, 1)->integer;
+        sums[OUR_STATEMENT] += mmdb_text(rows, mmdb_cell_at(rows, row, 2)).at[0];
+    }
 }
 
 static void read_theirs(sqlite3_stmt *row, way of)
@@ -86,52 +128,68 @@ static void read_theirs(sqlite3_stmt *row, way of)
     sums[of] += sqlite3_column_text(row, 2)[0];
 }
 
-static void do_ours(kind of, int64_t key, int64_t number, const char *text)
+static void do_our_text(kind of, const values *with)
 {
     char line[LINE];
     mmdb_bytes answer;
-    int length = snprintf(line, sizeof line, OUR_TEXTS[of], key, number, text);
+    int length = snprintf(line, sizeof line, OUR_TEXTS[of], with->key, with->number, with->text);
     insist(mmdb_command(&ours, line, (size_t)length, &answer) == MMDB_DONE && mmdb_refusal(&ours) == 0, line);
-    if (of == SELECT)
-        read_ours(answer);
+    if (is_select(of))
+        read_answer(answer);
+}
+
+static void do_our_statement(kind of, const values *with)
+{
+    const uint32_t statement = prepared[of].number;
+    mmdb_rows rows;
+    uint32_t key = of == UPDATE ? 2 : 0, number = of == UPDATE ? 0 : 1;
+    mmdb_bind_integer(&ours, statement, key, with->key);
+    if (of == INSERT || of == UPDATE)
+        mmdb_bind_text(&ours, statement, number + 1, with->text, 8);
+    if (of == INSERT || of == UPDATE || of == RANGE)
+        mmdb_bind_integer(&ours, statement, number, with->number);
+    insist(mmdb_execute(&ours, statement, &rows) == MMDB_DONE, OUR_STATEMENTS[of]);
+    if (is_select(of))
+        read_rows(&rows);
 }
 
 static void finish_theirs(sqlite3_stmt *statement, kind of, way by)
 {
-    if (of == SELECT) {
-        insist(sqlite3_step(statement) == SQLITE_ROW, "a row of sqlite3");
+    int status = sqlite3_step(statement);
+    for (; is_select(of) && status == SQLITE_ROW; status = sqlite3_step(statement))
         read_theirs(statement, by);
-    }
-    insist(sqlite3_step(statement) == SQLITE_DONE, sqlite3_sql(statement));
+    insist(status == SQLITE_DONE, sqlite3_sql(statement));
 }
 
-static void do_new_text(kind of, int64_t key, int64_t number, const char *text)
+static void do_their_text(kind of, const values *with)
 {
     char line[LINE];
     sqlite3_stmt *statement;
-    int length = snprintf(line, sizeof line, THEIR_TEXTS[of], key, number, text);
+    int length = snprintf(line, sizeof line, THEIR_TEXTS[of], with->key, with->number, with->text);
     insist(sqlite3_prepare_v2(theirs, line, length + 1, &statement, NULL) == SQLITE_OK, line);
-    finish_theirs(statement, of, NEW_TEXT);
+    finish_theirs(statement, of, THEIR_TEXT);
     sqlite3_finalize(statement);
 }
 
-static void do_prepared(kind of, int64_t key, int64_t number, const char *text)
+static void do_their_statement(kind of, const values *with)
 {
-    sqlite3_bind_int64(prepared[of], 1, key);
-    if (of == INSERT || of == UPDATE) {
-        sqlite3_bind_int64(prepared[of], 2, number);
-        sqlite3_bind_text(prepared[of], 3, text, 8, SQLITE_STATIC);
-    }
-    finish_theirs(prepared[of], of, PREPARED);
-    sqlite3_reset(prepared[of]);
+    sqlite3_stmt *statement = their_prepared[of];
+    int key = of == UPDATE ? 3 : 1, number = of == UPDATE ? 1 : 2;
+    sqlite3_bind_int64(statement, key, with->key);
+    if (of == INSERT || of == UPDATE)
+        sqlite3_bind_text(statement, number + 1, with->text, 8, SQLITE_STATIC);
+    if (of == INSERT || of == UPDATE || of == RANGE)
+        sqlite3_bind_int64(statement, number, with->number);
+    finish_theirs(statement, of, THEIR_STATEMENT);
+    sqlite3_reset(statement);
 }
 
 static void do_one(way by, kind of, int64_t key)
 {
-    static void (*const WAY[WAYS])(kind, int64_t, int64_t, const char *) = { do_ours, do_new_text, do_prepared };
-    char text[9];
-    letters(key, text);
-    WAY[by](of, key, key / 2, text);
+    static void (*const WAY[WAYS])(kind, const values *) = { do_our_text, do_their_text, do_our_statement,
+                                                             do_their_statement };
+    values with = values_of(of, key);
+    WAY[by](of, &with);
 }
 
 static double seconds(void)
@@ -162,14 +220,16 @@ static void shuffle(int64_t *keys, int64_t count, int64_t factor, int64_t more)
 /* Draws the keys of some statements, and gives their number. The keys in the table are even, and new ones are odd. */
 static int64_t draw_keys(int64_t *keys, kind of, int64_t rows)
 {
-    int64_t most = rows < MOST_NEW ? rows : MOST_NEW;
-    if (of == INSERT) {
+    int64_t most = rows < MOST_NEW ? rows : MOST_NEW, count = of == RANGE ? SELECTS : STATEMENTS;
+    if (of == INSERT || of == DELETE) {
         shuffle(keys, most, rows / most * 2, 1);
         return most;
     }
-    for (int64_t i = 0; i < STATEMENTS; i++)
+    if (of == RANGE)
+        rows -= ROWS_OF_A_SELECT - 1;
+    for (int64_t i = 0; i < count; i++)
         keys[i] = 2 * (int64_t)draw((uint64_t)rows);
-    return STATEMENTS;
+    return count;
 }
 
 /* The seconds of a statement, of some thousands. What is inserted is taken out again, in batches that make the table at
@@ -177,28 +237,63 @@ static int64_t draw_keys(int64_t *keys, kind of, int64_t rows)
 static double statement(way by, kind of, int64_t rows)
 {
     static int64_t keys[STATEMENTS];
+    const way in_both = by == OUR_TEXT || by == OUR_STATEMENT ? OUR_STATEMENT : THEIR_STATEMENT;
     int64_t count = draw_keys(keys, of, rows);
-    int64_t batches = STATEMENTS / count;
+    int64_t batches = of == RANGE ? 1 : STATEMENTS / count;
     double took = 0;
     for (int64_t i = 0; i < batches; i++) {
+        if (of == DELETE)
+            batch(in_both, INSERT, keys, count);
         took += batch(by, of, keys, count);
         if (of == INSERT)
-            batch(by == OURS ? OURS : PREPARED, DELETE, keys, count);
+            batch(in_both, DELETE, keys, count);
     }
     return took / (double)(batches * count);
 }
 
+static void tell(const char *what, const char *by, double of_ours, double of_theirs)
+{
+    printf("%s\t%s\t%f\t%f\n", what, by, of_ours * 1e6, of_theirs * 1e6);
+    fflush(stdout);
+}
+
 static void compare(kind of, int64_t rows)
 {
-    double best[WAYS] = { 1e9, 1e9, 1e9 };
+    double best[WAYS] = { 1e9, 1e9, 1e9, 1e9 };
     for (int turn = 0; turn < ROUNDS * WAYS; turn++) {
         double took = statement((way)(turn % WAYS), of, rows);
         if (took < best[turn % WAYS])
             best[turn % WAYS] = took;
     }
-    printf("%s\tnew text\t%f\t%f\n", NAMES[of], best[OURS] * 1e6, best[NEW_TEXT] * 1e6);
-    printf("%s\tprepared\t%f\t%f\n", NAMES[of], best[OURS] * 1e6, best[PREPARED] * 1e6);
-    fflush(stdout);
+    tell(NAMES[of], "new text", best[OUR_TEXT], best[THEIR_TEXT]);
+    tell(NAMES[of], "statement", best[OUR_STATEMENT], best[THEIR_STATEMENT]);
+}
+
+/* The seconds of a row of many that one statement inserts into an empty table, in SQLite in one transaction. */
+static double inserts(way by, const int64_t *keys)
+{
+    double took;
+    sqlite3_exec(theirs, "begin", NULL, NULL, NULL);
+    took = batch(by, INSERT, keys, INSERTS);
+    sqlite3_exec(theirs, "commit", NULL, NULL, NULL);
+    sqlite3_exec(theirs, "delete from t", NULL, NULL, NULL);
+    insist(mmdb_command(&ours, "delete t", 8, NULL) == MMDB_DONE, "delete t");
+    return took / INSERTS;
+}
+
+static void compare_inserts(void)
+{
+    static int64_t keys[INSERTS];
+    double best[WAYS] = { 1e9, 1e9, 1e9, 1e9 };
+    shuffle(keys, INSERTS, 2, 0);
+    for (int turn = 0; turn < ROUNDS; turn++) {
+        for (way by = OUR_STATEMENT; by <= THEIR_STATEMENT; by++) {
+            double took = inserts(by, keys);
+            if (took < best[by])
+                best[by] = took;
+        }
+    }
+    tell("100,000 inserts", "statement", best[OUR_STATEMENT], best[THEIR_STATEMENT]);
 }
 
 static void load_block(const char *block, size_t length)
@@ -216,12 +311,12 @@ static void fill(const int64_t *keys, int64_t rows)
     insist(block != NULL, "malloc");
     sqlite3_exec(theirs, "begin", NULL, NULL, NULL);
     for (int64_t i = 0; i < rows; i++) {
-        char text[9];
-        letters(keys[i], text);
-        do_prepared(INSERT, keys[i], keys[i] / 2, text);
+        const values with = values_of(INSERT, keys[i]);
+        do_their_statement(INSERT, &with);
         if (length == 0)
             length = (size_t)sprintf(block, "id,n,s\n");
-        length += (size_t)sprintf(block + length, "%" PRId64 ",%" PRId64 ",%s\n", keys[i], keys[i] / 2, text);
+        length += (size_t)sprintf(block + length, "%" PRId64 ",%" PRId64 ",%s\n", with.key, with.number,
+                                  with.text);
         if ((i + 1) % ROWS_OF_A_BLOCK == 0 || i == rows - 1) {
             load_block(block, length);
             length = 0;
@@ -238,29 +333,42 @@ static void open_both(void)
     insist(mmdb_command(&ours, TABLE, strlen(TABLE), NULL) == MMDB_DONE, TABLE);
     insist(sqlite3_open(":memory:", &theirs) == SQLITE_OK, "sqlite3_open");
     sqlite3_exec(theirs, "create table t (id integer primary key, n integer, s text)", NULL, NULL, NULL);
-    for (int i = 0; i < KINDS; i++)
-        insist(sqlite3_prepare_v2(theirs, PREPARED_TEXTS[i], -1, &prepared[i], NULL) == SQLITE_OK, PREPARED_TEXTS[i]);
+    for (int i = 0; i < KINDS; i++) {
+        const char *line = OUR_STATEMENTS[i], *text = THEIR_STATEMENTS[i];
+        insist(mmdb_prepare(&ours, line, strlen(line), &prepared[i]) == MMDB_DONE, line);
+        insist(sqlite3_prepare_v2(theirs, text, -1, &their_prepared[i], NULL) == SQLITE_OK, text);
+    }
+}
+
+static void compare_all(int64_t rows)
+{
+    int64_t *keys = (int64_t *)calloc((size_t)rows, sizeof *keys);
+    insist(keys != NULL, "calloc");
+    shuffle(keys, rows, 2, 0);
+    fill(keys, rows);
+    free(keys);
+    for (kind of = SELECT; of <= DELETE; of++)
+        compare(of, rows);
+    if (rows >= ROWS_OF_A_SELECT)
+        compare(RANGE, rows);
+    for (way by = OUR_TEXT; by < WAYS; by++)
+        insist(sums[by] != 0, "a select");
 }
 
 int main(int count, char **words)
 {
     int64_t rows = count == 2 ? strtoll(words[1], NULL, 10) : 0;
-    int64_t *keys;
+    int only_inserts = count == 2 && strcmp(words[1], "inserts") == 0;
     if (count == 2 && strcmp(words[1], "--version") == 0)
         return puts(sqlite3_libversion()) < 0;
-    insist(rows > 0, "beside ROWS");
+    insist(rows > 0 || only_inserts, "beside ROWS, and beside inserts,");
     open_both();
-    keys = (int64_t *)calloc((size_t)rows, sizeof *keys);
-    insist(keys != NULL, "calloc");
-    shuffle(keys, rows, 2, 0);
-    fill(keys, rows);
-    free(keys);
-    compare(SELECT, rows);
-    compare(INSERT, rows);
-    compare(UPDATE, rows);
-    insist(sums[OURS] != 0 && sums[NEW_TEXT] != 0 && sums[PREPARED] != 0, "a select");
+    if (only_inserts)
+        compare_inserts();
+    else
+        compare_all(rows);
     for (int i = 0; i < KINDS; i++)
-        sqlite3_finalize(prepared[i]);
+        sqlite3_finalize(their_prepared[i]);
     sqlite3_close(theirs);
     mmdb_close(&ours);
     return 0;

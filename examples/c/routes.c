@@ -3,12 +3,11 @@
 #include "mmdb.h"
 
 #include <inttypes.h>
-#include <stdarg.h>
 #include <stdio.h>
 #include <stdlib.h>
 #include <string.h>
 
-enum { LINE = 8192, BLOCK = 4096, TEXT = 64, ROW_IS_REFERENCED = 44 };
+enum { BLOCK = 4096, LINE = 64, ROW_IS_REFERENCED = 44 };
 
 /* What the rows of a load are made of. Addresses are numbers, so that ranges of them can be asked for. */
 static const struct {
@@ -24,98 +23,84 @@ static const struct {
     { "192.0.2.0/24", UINT32_C(0xc0000200), 24, "O'Hare" },
 };
 
+/* A router has its tables in a database, and the statements that ask and change them, which are prepared once. */
+typedef struct router {
+    mmdb db;
+    mmdb_statement add_hop;
+    mmdb_statement find;
+    mmdb_statement lead_elsewhere;
+    mmdb_statement remove_hop;
+} router;
+
 static uint32_t last_address(uint32_t first, int bits)
 {
     return bits == 0 ? UINT32_MAX : first | (UINT32_MAX >> bits);
 }
 
-/* Tells why nothing was answered. Gives 0, as each function here does where it fails. */
-static int fails(const char *what, uint32_t status)
+/* Whether a call was done. Tells why it wasn't: by the answer where it was refused. */
+static int is_done(mmdb *db, const char *what, mmdb_status status)
 {
-    fprintf(stderr, "routes: %s: %s\n", what, mmdb_status_text(status));
+    mmdb_bytes answer;
+    if (status == MMDB_DONE)
+        return 1;
+    if (status == MMDB_REFUSED && mmdb_answer(db, &answer) == MMDB_DONE)
+        fprintf(stderr, "routes: %s: %.*s", what, (int)answer.length, (const char *)answer.at);
+    else
+        fprintf(stderr, "routes: %s: %s\n", what, mmdb_status_text(status));
     return 0;
 }
 
-/* Tells why the line was refused that was just answered, with its block. Gives 0 where no memory is found for that. */
-static int explains(mmdb *db, FILE *to, const char *line, const char *block, size_t length)
+/* Does a line that declares something, with the block that it asks for. Its refusal is an answer, too. */
+static int does(mmdb *db, const char *line, const char *block, size_t length)
 {
-    mmdb_bytes reason;
-    mmdb_status status = mmdb_reason(db, line, strlen(line), block, length, &reason);
-    if (status != MMDB_DONE || reason.length == 0)
-        return fails(line, MMDB_NO_MEMORY);
-    fprintf(to, "(%.*s)\n", (int)reason.length, (const char *)reason.at);
-    return 1;
-}
-
-/* Shows a line and its answer, and why it was refused. A refusal is an answer too; here only one that is expected is
-   none of a failure. */
-static int shows(mmdb *db, const char *line, const char *block, size_t length, mmdb_bytes answer, uint32_t expected)
-{
-    uint32_t refusal = mmdb_refusal(db);
-    printf("> %s\n", line);
-    fwrite(answer.at, 1, answer.length, stdout);
-    if (refusal == expected)
-        return refusal == 0 || explains(db, stdout, line, block, length);
-    fprintf(stderr, "routes: %s: refused by %" PRIu32 "\n", line, refusal);
-    if (refusal != 0)
-        explains(db, stderr, line, block, length);
-    return 0;
-}
-
-/* Writes a text as mmdb reads it: between quote marks, with each one in it doubled. Gives 0 where it has no room. */
-static int quote(char *to, size_t room, const char *text)
-{
-    size_t at = 0;
-    if (room < 2 * strlen(text) + 3)
+    mmdb_bytes answer;
+    if (!is_done(db, line, mmdb_load(db, line, strlen(line), block, length, &answer)))
         return 0;
-    to[at++] = '\'';
-    for (; *text != '\0'; text++) {
-        if (*text == '\'')
-            to[at++] = '\'';
-        to[at++] = *text;
-    }
-    to[at++] = '\'';
-    to[at] = '\0';
+    if (mmdb_refusal(db) != 0)
+        return is_done(db, line, MMDB_REFUSED);
+    printf("%s: %.*s", line, (int)answer.length, (const char *)answer.at);
     return 1;
-}
-
-/* Asks a line that is made as printf makes it, and expects a refusal of that number, or 0 for none. */
-static int asks(mmdb *db, uint32_t expected, mmdb_bytes *answer, const char *format, ...)
-{
-    char line[LINE + 1];
-    mmdb_status status;
-    va_list values;
-    va_start(values, format);
-    vsnprintf(line, sizeof line, format, values);
-    va_end(values);
-    status = mmdb_command(db, line, strlen(line), answer);
-    return status == MMDB_DONE ? shows(db, line, NULL, 0, *answer, expected) : fails(line, status);
 }
 
 static int declares(mmdb *db)
 {
-    mmdb_bytes answer;
-    return asks(db, 0, &answer, "table hop (name text, address text)") &&
-           asks(db, 0, &answer, "table route (prefix text, first int, last int, bits int, hop ref hop)") &&
-           asks(db, 0, &answer, "index route first tree") &&
-           asks(db, 0, &answer, "index route hop hash");
+    return does(db, "table hop (name text, address text)", NULL, 0) &&
+           does(db, "table route (prefix text, first int, last int, bits int, hop ref hop)", NULL, 0) &&
+           does(db, "index route first tree", NULL, 0) &&
+           does(db, "index route hop hash", NULL, 0);
 }
 
-static int adds_hop(mmdb *db, const char *name, const char *address)
+static int prepares(mmdb *db, const char *line, mmdb_statement *statement)
 {
-    mmdb_bytes answer;
-    char quoted_name[TEXT], quoted_address[TEXT];
-    return quote(quoted_name, sizeof quoted_name, name) &&
-           quote(quoted_address, sizeof quoted_address, address) &&
-           asks(db, 0, &answer, "insert hop (%s, %s)", quoted_name, quoted_address);
+    return is_done(db, line, mmdb_prepare(db, line, strlen(line), statement));
+}
+
+static int prepares_all(router *of)
+{
+    return prepares(&of->db, "insert hop (?, ?)", &of->add_hop) &&
+           prepares(&of->db, "select bits, prefix, address from route join hop on route.hop = hop.name"
+                             " where first <= ? and last >= ?", &of->find) &&
+           prepares(&of->db, "update route set hop = ? where hop = ?", &of->lead_elsewhere) &&
+           prepares(&of->db, "delete hop where name = ?", &of->remove_hop);
+}
+
+/* A text is one value, whatever it holds: no quote marks are put around it. */
+static int binds_text(mmdb *db, mmdb_statement to, uint32_t place, const char *text)
+{
+    return is_done(db, text, mmdb_bind_text(db, to.number, place, text, strlen(text)));
+}
+
+static int adds_hop(router *of, const char *name, const char *address)
+{
+    return binds_text(&of->db, of->add_hop, 0, name) &&
+           binds_text(&of->db, of->add_hop, 1, address) &&
+           is_done(&of->db, name, mmdb_execute(&of->db, of->add_hop.number, NULL));
 }
 
 /* Loads all routes at once: as CSV, whose first record is the names of the columns. All come in, or none. */
 static int loads_routes(mmdb *db)
 {
-    mmdb_bytes answer;
-    mmdb_status status;
-    char line[TEXT], block[BLOCK];
+    char line[LINE], block[BLOCK];
     size_t length = (size_t)snprintf(block, sizeof block, "prefix,first,last,bits,hop\n");
     for (size_t i = 0; i < sizeof ROUTES / sizeof ROUTES[0]; i++) {
         uint32_t last = last_address(ROUTES[i].first, ROUTES[i].bits);
@@ -123,74 +108,75 @@ static int loads_routes(mmdb *db)
                                    ROUTES[i].prefix, ROUTES[i].first, last, ROUTES[i].bits, ROUTES[i].hop);
     }
     snprintf(line, sizeof line, "load route %zu", length);
-    status = mmdb_load(db, line, strlen(line), block, length, &answer);
-    return status == MMDB_DONE ? shows(db, line, block, length, answer, 0) : fails(line, status);
+    return does(db, line, block, length);
 }
 
-/* The record behind the one that begins there. No text of these tables has a line feed, so each record is a line. */
-static const char *record_behind(const char *record, const char *end)
+/* Finds the route of an address: the longest of the prefixes that hold it, each of which is a row of `bits, prefix,
+   address`. The rows are good until the statement is executed again. */
+static int finds(router *of, const char *name, uint32_t address)
 {
-    const char *feed = (const char *)memchr(record, '\n', (size_t)(end - record));
-    return feed == NULL ? end : feed + 1;
-}
-
-/* Finds the route of an address: the longest of the prefixes that hold it, each of which is a record of the answer,
-   `bits,prefix,address`. The answer is read before the next call, as it is good until then. */
-static int finds(mmdb *db, uint32_t address)
-{
-    mmdb_bytes answer;
-    const char *record, *next, *end, *best = "";
-    int length = 0;
-    long most = -1;
-    if (!asks(db, 0, &answer,
-              "select bits, prefix, address from route join hop on route.hop = hop.name"
-              " where first <= %" PRIu32 " and last >= %" PRIu32, address, address))
+    const uint32_t find = of->find.number;
+    mmdb_rows rows;
+    size_t best = 0;
+    if (!is_done(&of->db, name, mmdb_bind_integer(&of->db, find, 0, address)) ||
+        !is_done(&of->db, name, mmdb_bind_integer(&of->db, find, 1, address)) ||
+        !is_done(&of->db, name, mmdb_execute(&of->db, find, &rows)))
         return 0;
-    end = (const char *)answer.at + answer.length;
-    record = record_behind(record_behind((const char *)answer.at, end), end);
-    for (; record < end; record = next) {
-        long bits = strtol(record, NULL, 10);
-        next = record_behind(record, end);
-        if (bits > most) {
-            most = bits;
-            best = record;
-            length = (int)(next - record);
-        }
+    for (size_t row = 0; row < rows.rows; row++)
+        if (mmdb_cell_at(&rows, row, 0)->integer > mmdb_cell_at(&rows, best, 0)->integer)
+            best = row;
+    if (rows.rows == 0) {
+        printf("%s has no route\n", name);
+    } else {
+        mmdb_bytes prefix = mmdb_text(&rows, mmdb_cell_at(&rows, best, 1));
+        mmdb_bytes hop = mmdb_text(&rows, mmdb_cell_at(&rows, best, 2));
+        printf("%s goes to %.*s by %.*s, the longest of %d\n", name, (int)hop.length, (const char *)hop.at,
+               (int)prefix.length, (const char *)prefix.at, (int)rows.rows);
     }
-    printf("the route is %.*s", length, best);
     return 1;
 }
 
 /* Takes out a hop. While routes lead to it that is refused, and then they are led elsewhere first. */
-static int removes_hop(mmdb *db, const char *name, const char *other)
+static int removes_hop(router *of, const char *name, const char *other)
 {
-    mmdb_bytes answer;
-    char gone[TEXT], instead[TEXT];
-    return quote(gone, sizeof gone, name) &&
-           quote(instead, sizeof instead, other) &&
-           asks(db, ROW_IS_REFERENCED, &answer, "delete hop where name = %s", gone) &&
-           asks(db, 0, &answer, "update route set hop = %s where hop = %s", instead, gone) &&
-           asks(db, 0, &answer, "delete hop where name = %s", gone);
+    mmdb *db = &of->db;
+    mmdb_rows rows;
+    mmdb_status status;
+    if (!binds_text(db, of->remove_hop, 0, name))
+        return 0;
+    status = mmdb_execute(db, of->remove_hop.number, NULL);
+    if (status == MMDB_REFUSED && mmdb_refusal(db) == ROW_IS_REFERENCED) {
+        if (!binds_text(db, of->lead_elsewhere, 0, other) ||
+            !binds_text(db, of->lead_elsewhere, 1, name) ||
+            !is_done(db, other, mmdb_execute(db, of->lead_elsewhere.number, &rows)))
+            return 0;
+        printf("%d routes to %s lead to %s now\n", (int)rows.changed, name, other);
+        status = mmdb_execute(db, of->remove_hop.number, NULL);
+    }
+    if (!is_done(db, name, status))
+        return 0;
+    printf("%s is gone\n", name);
+    return 1;
 }
 
-static int runs(mmdb *db)
+static int runs(router *of)
 {
-    return declares(db) &&
-           adds_hop(db, "provider", "198.51.100.1") &&
-           adds_hop(db, "O'Hare", "203.0.113.7") &&
-           adds_hop(db, "annex", "203.0.113.9") &&
-           loads_routes(db) &&
-           finds(db, UINT32_C(0x0a010203)) &&
-           finds(db, UINT32_C(0x08080808)) &&
-           removes_hop(db, "annex", "O'Hare") &&
-           finds(db, UINT32_C(0x0a010203));
+    return declares(&of->db) &&
+           prepares_all(of) &&
+           adds_hop(of, "provider", "198.51.100.1") &&
+           adds_hop(of, "O'Hare", "203.0.113.7") &&
+           adds_hop(of, "annex", "203.0.113.9") &&
+           loads_routes(&of->db) &&
+           finds(of, "10.1.2.3", UINT32_C(0x0a010203)) &&
+           finds(of, "8.8.8.8", UINT32_C(0x08080808)) &&
+           removes_hop(of, "annex", "O'Hare") &&
+           finds(of, "10.1.2.3", UINT32_C(0x0a010203));
 }
 
 int main(void)
 {
-    mmdb db = MMDB_CLOSED;
-    mmdb_status status = mmdb_open(&db, MMDB_AUTO, MMDB_MOST, MMDB_MOST);
-    int done = status == MMDB_DONE ? runs(&db) : fails("open", status);
-    mmdb_close(&db);
+    router of = { MMDB_CLOSED, { 0, 0 }, { 0, 0 }, { 0, 0 }, { 0, 0 } };
+    int done = is_done(&of.db, "open", mmdb_open(&of.db, MMDB_AUTO, MMDB_MOST, MMDB_MOST)) && runs(&of);
+    mmdb_close(&of.db);
     return done ? EXIT_SUCCESS : EXIT_FAILURE;
 }

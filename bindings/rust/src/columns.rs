@@ -20,7 +20,6 @@ pub(crate) struct Column {
     pub(crate) name: String,
     pub(crate) kind: Kind,
     pub(crate) takes_null: bool,
-    pub(crate) refers_to: Option<String>,
 }
 
 /// The columns of each table, by the table's name.
@@ -40,9 +39,8 @@ pub(crate) fn tables_of(listing: &str) -> Tables {
 
 fn column_of(declared: &str, before: &Tables) -> Column {
     let words: Vec<&str> = declared.split(' ').collect();
-    let refers_to = words.get(2).map(|table| table.to_string());
-    let kind = match &refers_to {
-        Some(table) => before[table][0].kind,
+    let kind = match words.get(2) {
+        Some(table) => before[*table][0].kind,
         None if words[1] == "int" => Kind::Integer,
         None => Kind::Text,
     };
@@ -50,7 +48,6 @@ fn column_of(declared: &str, before: &Tables) -> Column {
         name: words[0].to_string(),
         kind,
         takes_null: words.len() == 4,
-        refers_to,
     }
 }
 

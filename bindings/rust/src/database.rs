@@ -6,23 +6,25 @@ use std::sync::Arc;
 use crate::columns::block_of;
 use crate::error::{Error, Result};
 use crate::index::{indexes_of, Index};
+use crate::kept::{why_not_prepared, Kept, Lines};
 use crate::known::Known;
-use crate::library::Handle;
+use crate::library::{Declined, Handle};
 use crate::limits::{Limits, Policy};
-use crate::line::first_word;
+use crate::line::{first_word, has_places, is_change, is_select};
 use crate::outcome::{count_of, Outcome};
 use crate::params::{Params, Values};
 use crate::records::{header_and_records, Shape};
 use crate::row::Row;
-use crate::rows::{MappedRows, Rows};
+use crate::rows::{MappedRows, Rows, RowsRef};
 use crate::session::Session;
+use crate::statement::Statement;
 
 /// A database in main memory, without tables at first, until it is dropped.
 pub struct Database {
     session: Session,
     known: Known,
-    /// Where the next row that is wanted alone is put.
-    room: Rows,
+    /// The statements of the lines that were executed and queried.
+    lines: Lines,
 }
 
 impl Database {
@@ -42,11 +44,39 @@ impl Database {
         Ok(Database {
             session: Session::over(handle),
             known: Known::default(),
-            room: Rows::default(),
+            lines: Lines::default(),
         })
     }
 
+    /// Prepares an insert, an update, a delete or a select, to be executed more than once. [`Error::NotAStatement`]
+    /// says that the line is another command.
+    ///
+    /// Its places are as in [`execute`](Database::execute). What can't be done whatever the values are is refused here;
+    /// the refusal tells the line with nulls in its places.
+    ///
+    /// ```
+    /// let mut db = mmdb::Database::open_in_memory()?;
+    /// db.execute("table t (id int, s text)", [])?;
+    /// let mut insert = db.prepare("insert t (?, ?)")?;
+    /// for (id, text) in [(1, "a"), (2, "two\nlines")] {
+    ///     assert_eq!(insert.execute((id, text))?, 1);
+    /// }
+    /// assert_eq!(db.prepare("select nothing from t").unwrap_err().number(), Some(32));
+    /// # Ok::<(), mmdb::Error>(())
+    /// ```
+    pub fn prepare(&self, line: &str) -> Result<Statement<'_>> {
+        if !is_change(line) && !is_select(line) {
+            return Err(Error::NotAStatement);
+        }
+        match Kept::prepare(self.handle(), line) {
+            Ok(kept) => Ok(Statement::new(self, kept)),
+            Err(declined) => Err(why_not_prepared(self.handle(), line, declined)),
+        }
+    }
+
     /// Does a command, and gives how many rows an `insert`, an `update` or a `delete` was about; 0 for any other.
+    ///
+    /// The statement of a line with places is kept, so that it isn't read again when the line comes again.
     ///
     /// Each place of the line that stands in no text is filled with a parameter: each `?` in their order, or each
     /// `:name` by its name. A parameter is one value, whatever it holds: nothing in it is ever read as a part of the
@@ -66,17 +96,23 @@ impl Database {
     /// [`Error::NotAChange`] says that the line is a `select`, a `dump` or `tables`: [`query`](Database::query),
     /// [`dump`](Database::dump) and [`command`](Database::command) give what these answer.
     pub fn execute<P: Params>(&mut self, line: &str, params: P) -> Result<usize> {
-        if matches!(first_word(line), "select" | "dump" | "tables") {
-            return Err(Error::NotAChange);
+        if let Some(at) = self.lines.find(line) {
+            return self.lines.use_of(at).change(&self.session.handle, params);
         }
-        let answer = self.session.ask(line, params)?;
-        self.known.heed(answer.as_bytes());
-        Ok(count_of(answer).unwrap_or(0))
+        match first_word(line) {
+            "select" | "dump" | "tables" => Err(Error::NotAChange),
+            "insert" | "update" | "delete" => self.change_anew(line, params),
+            _ => {
+                let answer = self.session.ask(line, params)?;
+                self.known.heed(answer.as_bytes());
+                Ok(count_of(answer).unwrap_or(0))
+            }
+        }
     }
 
     /// The rows of a select. [`Error::NotASelect`] says that the line is none, and then it isn't done.
     pub fn query<P: Params>(&mut self, line: &str, params: P) -> Result<Rows> {
-        self.select(line, params, Shape::rows)
+        self.select(line, params, |rows| Ok(rows.to_rows()))
     }
 
     /// What a function makes of each row of a select, one after the other.
@@ -122,18 +158,16 @@ impl Database {
         P: Params,
         F: FnOnce(&Row<'_>) -> Result<T>,
     {
-        let room = std::mem::take(&mut self.room);
-        let rows = self.select(line, params, |shape, records| shape.first_row(records, room))?;
-        let row = rows.get(0).ok_or(Error::NoRows);
-        let made = row.and_then(|row| read(&row));
-        self.room = rows;
-        made
+        self.select(line, params, |rows| rows.first(read))
     }
 
     /// Does any command, and gives what it answers.
     pub fn command<P: Params>(&mut self, line: &str, params: P) -> Result<Outcome> {
-        if first_word(line) == "select" {
+        if is_select(line) {
             return self.query(line, params).map(Outcome::Rows);
+        }
+        if is_change(line) {
+            return self.change(line, params).map(Outcome::Count);
         }
         let answer = self.session.ask(line, params)?;
         self.known.heed(answer.as_bytes());
@@ -213,8 +247,8 @@ impl Database {
         Ok(self.heeded())
     }
 
-    /// Why [`answer`](Database::answer) or [`answer_to_load`](Database::answer_to_load) gave a refusal of this line with
-    /// its block, in a line of words for people.
+    /// Why [`answer`](Database::answer) or [`answer_to_load`](Database::answer_to_load) gave a refusal of this line
+    /// with its block, in a line of words for people.
     ///
     /// It is asked right behind that call. There is none where that was no refusal, and none where no memory is found
     /// for the words.
@@ -243,45 +277,65 @@ impl Database {
         })
     }
 
-    /// The rows that a function reads from the records of a select. It declares nothing, so what is known stays so.
-    fn select<P: Params>(&mut self, line: &str, params: P, read: impl FnOnce(&Shape, &str) -> Rows) -> Result<Rows> {
-        if first_word(line) != "select" {
-            return Err(Error::NotASelect);
-        }
-        let (header, records) = header_and_records(self.session.ask(line, params)?);
-        if let Some(shape) = self.known.shape(header) {
-            let rows = read(&shape, records);
-            return self.with_nulls(&shape, rows);
-        }
-        let (header, records) = (header.to_string(), records.to_string());
-        let shape = self.known.learn(&header, &mut self.session)?;
-        self.with_nulls(&shape, read(&shape, &records))
+    pub(crate) fn handle(&self) -> &Handle {
+        &self.session.handle
     }
 
-    /// The rows of a select, with nulls for the empty fields that are.
-    fn with_nulls(&mut self, shape: &Shape, mut rows: Rows) -> Result<Rows> {
-        for place in shape.texts_or_null() {
-            self.check_nulls(shape, &mut rows, place)?;
-        }
-        Ok(rows)
+    /// How many declarations and drops there were.
+    pub(crate) fn declared(&self) -> u64 {
+        self.known.declared()
     }
 
-    /// Makes the empty fields of a reference by text nulls. That they are where the empty text is no key.
-    fn check_nulls(&mut self, shape: &Shape, rows: &mut Rows, place: usize) -> Result<()> {
-        let table = match &shape.columns[place].refers_to {
-            Some(table) if rows.has_empty_text(place) => table,
-            _ => return Ok(()),
+    /// Does an insert, an update or a delete.
+    fn change<P: Params>(&mut self, line: &str, params: P) -> Result<usize> {
+        match self.lines.find(line) {
+            Some(at) => self.lines.use_of(at).change(&self.session.handle, params),
+            None => self.change_anew(line, params),
+        }
+    }
+
+    /// The same, where its statement isn't kept. One without places is seldom done twice, so it stays so. Where there
+    /// is no statement, the line with its values tells why.
+    fn change_anew<P: Params>(&mut self, line: &str, params: P) -> Result<usize> {
+        let handle = &self.session.handle;
+        if has_places(line) {
+            if let Ok(at) = self.lines.keep(handle, line) {
+                return self.lines.use_of(at).change(handle, params);
+            }
+        }
+        self.session
+            .ask(line, params)
+            .map(|answer| count_of(answer).unwrap_or(0))
+    }
+
+    /// What is made of the rows of a select, which its statement lends. Where they are many, their room isn't kept.
+    fn select<P, T>(&mut self, line: &str, params: P, make: impl FnOnce(RowsRef<'_>) -> Result<T>) -> Result<T>
+    where
+        P: Params,
+    {
+        let at = match self.lines.find(line) {
+            Some(at) => at,
+            None if !is_select(line) => return Err(Error::NotASelect),
+            None => match self.lines.keep(&self.session.handle, line) {
+                Ok(at) => at,
+                Err(declined) => return Err(self.why_none(line, params, declined)),
+            },
         };
-        let columns = self.known.columns(table, &mut self.session)?;
-        let key = columns.map_or("", |columns| columns[0].name.as_str());
-        let line = format!("select {key} from {table} where {key} = ''");
-        if !self.session.ask(&line, ())?.starts_with("rows 0\n") {
-            return Err(Error::NullOrEmpty {
-                column: shape.names[place].clone(),
-            });
+        let kept = self.lines.use_of(at);
+        let rows = kept.rows(&self.session.handle, params, self.known.declared())?;
+        let are_many = rows.are_many();
+        let made = make(rows);
+        if are_many {
+            kept.let_go(&self.session.handle);
         }
-        rows.make_empty_texts_null(place);
-        Ok(())
+        made
+    }
+
+    /// Why the statement of a select is none: as the line with its values says.
+    #[cold]
+    fn why_none<P: Params>(&mut self, line: &str, params: P, declined: Declined) -> Error {
+        let why = why_not_prepared(&self.session.handle, line, declined);
+        self.session.ask(line, params).err().unwrap_or(why)
     }
 
     /// Makes those empty fields of a dump nulls which are nulls: those of the rows that a select finds, by rising keys.

@@ -43,7 +43,7 @@ pub enum Error {
         /// The name that was given.
         name: String,
     },
-    /// A parameter is a text with a line feed, which can't stand in a line. A load takes it.
+    /// A parameter is a text with a line feed, which can't stand in a line. A statement takes it, and a load.
     LineFeed,
     /// A value is an integer that isn't one of `i64`.
     IntegerOutOfRange {
@@ -52,6 +52,8 @@ pub enum Error {
     },
     /// The line has a line feed, or asks for a block of another length than the one given.
     NotOneRequest,
+    /// The line is no insert, update, delete or select, and was to be prepared.
+    NotAStatement,
     /// The line is no select, and was to be queried.
     NotASelect,
     /// The line is a `select`, a `dump` or `tables`, and was to be executed, which gives a number alone.
@@ -106,9 +108,8 @@ pub enum Error {
         /// The name of the column.
         column: String,
     },
-    /// An empty field of a select's answer is null or the empty text, and nothing in the answer says which: the empty
-    /// text is a key of the table that the column refers to. Select without the column, where it is `= null` and where
-    /// it is `= ''`.
+    /// An empty field of an answer is null or the empty text, and nothing in the answer says which. No call gives this,
+    /// since the rows of a select are cells, which say what they are.
     NullOrEmpty {
         /// The name of the column, with its table.
         column: String,
@@ -171,11 +172,15 @@ impl fmt::Display for Error {
             }
             Error::MissingParameter { name } => write!(to, "the place {name} has no parameter"),
             Error::UnknownParameter { name } => write!(to, "the line has no place {name}"),
-            Error::LineFeed => write!(to, "a text with a line feed cannot stand in a line; a load takes it"),
+            Error::LineFeed => write!(
+                to,
+                "a text with a line feed cannot stand in a line; a statement takes it, and a load"
+            ),
             Error::IntegerOutOfRange { integer } => write!(to, "the integer {integer} is no i64"),
             Error::NotOneRequest => {
                 write!(to, "a line has no line feed, and a load has a block as long as it says")
             }
+            Error::NotAStatement => write!(to, "the line to prepare is no insert, update, delete or select"),
             Error::NotASelect => write!(to, "the line to query is no select"),
             Error::NotAChange => write!(to, "the line to execute is a select, a dump or tables"),
             Error::Other(text) => to.write_str(text),
@@ -186,6 +191,24 @@ impl fmt::Display for Error {
 }
 
 impl Error {
+    /// A line for which memory was wanted and refused.
+    pub(crate) fn no_memory(line: String) -> Error {
+        Error::Refused {
+            number: 90,
+            text: "no memory".to_string(),
+            line,
+            reason: None,
+        }
+    }
+
+    /// This refusal, without the words on a wrong type, which may be that of a value that isn't there yet.
+    pub(crate) fn without_reason_of_type(mut self) -> Error {
+        if let Error::Refused { number: 35, reason, .. } = &mut self {
+            *reason = None;
+        }
+        self
+    }
+
     /// Writes an error about values: of rows that are read, or are to be loaded.
     fn fmt_of_values(&self, to: &mut fmt::Formatter<'_>) -> fmt::Result {
         match self {

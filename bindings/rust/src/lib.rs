@@ -6,9 +6,13 @@
 //! # fn main() -> mmdb::Result<()> {
 //! let mut db = Database::open_in_memory()?;
 //! db.execute("table book (id int, title text)", [])?;
-//! assert_eq!(db.execute("insert book (?, ?)", params![1, "It's ?"])?, 1);
+//! {
+//!     let mut insert = db.prepare("insert book (?, ?)")?;
+//!     assert_eq!(insert.execute(params![1, "It's ?"])?, 1);
+//!     assert_eq!(insert.execute((2, "Two\nlines"))?, 1);
+//! }
 //!
-//! let rows = db.query("select * from book where id < ?", [9])?;
+//! let rows = db.query("select * from book where id < ?", [2])?;
 //! for row in &rows {
 //!     let (id, title): (i64, &str) = (row.get("id")?, row.get("title")?);
 //!     assert_eq!((id, title), (1, "It's ?"));
@@ -20,6 +24,9 @@
 //! # }
 //! ```
 //!
+//! Lines with values are read once: [`Database::prepare`] gives a [`Statement`], and [`Database::execute`] and
+//! [`Database::query`] keep those of their lines.
+//!
 //! The archive `libmmdb.a` is linked from the folder that the environment variable `MMDB_LIBRARY` names when the crate
 //! is built, else from where pkg-config knows `mmdb`.
 
@@ -30,11 +37,14 @@
 #[doc = include_str!("../README.md")]
 pub struct Readme;
 
+mod bound;
+mod cells;
 mod columns;
 mod database;
 mod error;
 mod from_value;
 mod index;
+mod kept;
 mod known;
 mod library;
 mod limits;
@@ -47,6 +57,7 @@ mod row;
 mod rows;
 mod session;
 mod spelling;
+mod statement;
 mod to_value;
 mod value;
 
@@ -59,7 +70,8 @@ pub use optional::OptionalExtension;
 pub use outcome::Outcome;
 pub use params::{params_from_iter, Params, ParamsFromIter, Take, Values};
 pub use row::{ColumnIndex, Row};
-pub use rows::{MappedRows, Rows, RowsIter};
+pub use rows::{MappedRows, MappedRowsRef, Rows, RowsIter, RowsRef};
+pub use statement::Statement;
 pub use to_value::{ToValue, ToValueOutput};
 pub use value::{Value, ValueRef};
 

@@ -1,20 +1,64 @@
 //! The calls of the library, and a handle of it.
 
+use std::cell::UnsafeCell;
 use std::ffi::c_void;
-use std::ptr;
+use std::{mem, ptr, slice, str};
 
+use crate::cells::{Cell, Cells};
 use crate::error::Error;
+use crate::value::ValueRef;
 
 const IS_DONE: u32 = 0;
 const LIMIT_OUT_OF_RANGE: u32 = 4;
 const NO_LINE: u32 = 5;
 const NOT_ONE_REQUEST: u32 = 6;
 const NO_MEMORY: u32 = 7;
+const REFUSED: u32 = 12;
 
 /// The `mmdb` of mmdb.h.
 #[repr(C)]
 struct Inside {
     inside: *mut c_void,
+}
+
+/// The `mmdb_statement` of mmdb.h.
+#[repr(C)]
+#[derive(Default)]
+struct Numbered {
+    number: u32,
+    places: u32,
+}
+
+/// The `mmdb_rows` of mmdb.h.
+#[repr(C)]
+struct Found {
+    cells: *const Cell,
+    texts: *const u8,
+    rows: usize,
+    columns: usize,
+    changed: u64,
+}
+
+impl Found {
+    const NOTHING: Found = Found {
+        cells: ptr::null(),
+        texts: ptr::null(),
+        rows: 0,
+        columns: 0,
+        changed: 0,
+    };
+
+    /// The cells.
+    ///
+    /// # Safety
+    ///
+    /// It is what the library told of a statement, whose rows are good as long as they are lent.
+    unsafe fn cells<'c>(&self) -> Cells<'c> {
+        if self.rows == 0 || self.columns == 0 {
+            return Cells::new(&[], [].as_ptr());
+        }
+        Cells::new(slice::from_raw_parts(self.cells, self.rows * self.columns), self.texts)
+    }
 }
 
 /// The `mmdb_bytes` of mmdb.h: bytes that the library keeps for a handle until the next call on it.
@@ -29,6 +73,18 @@ impl Told {
         at: ptr::null(),
         length: 0,
     };
+
+    /// The bytes.
+    ///
+    /// # Safety
+    ///
+    /// They are good as long as they are lent.
+    unsafe fn bytes<'b>(&self) -> &'b [u8] {
+        if self.length == 0 {
+            return &[];
+        }
+        slice::from_raw_parts(self.at, self.length)
+    }
 }
 
 extern "C" {
@@ -42,7 +98,15 @@ extern "C" {
         block_length: usize,
         answer: *mut Told,
     ) -> u32;
+    fn mmdb_prepare(db: *mut Inside, line: *const u8, length: usize, statement: *mut Numbered) -> u32;
+    fn mmdb_bind_integer(db: *mut Inside, statement: u32, place: u32, value: i64) -> u32;
+    fn mmdb_bind_text(db: *mut Inside, statement: u32, place: u32, text: *const u8, length: usize) -> u32;
+    fn mmdb_bind_null(db: *mut Inside, statement: u32, place: u32) -> u32;
+    fn mmdb_execute(db: *mut Inside, statement: u32, rows: *mut Found) -> u32;
+    fn mmdb_columns(db: *mut Inside, statement: u32, columns: *mut Found) -> u32;
+    fn mmdb_finalize(db: *mut Inside, statement: u32) -> u32;
     fn mmdb_indexes(db: *mut Inside, table: *const u8, length: usize, answer: *mut Told) -> u32;
+    fn mmdb_answer(db: *mut Inside, answer: *mut Told) -> u32;
     fn mmdb_reason(
         db: *mut Inside,
         line: *const u8,
@@ -54,16 +118,36 @@ extern "C" {
     fn mmdb_close(db: *mut Inside);
 }
 
+/// A statement of a handle, by its number.
+pub(crate) struct Prepared(u32);
+
+/// What the execution of a statement gives that isn't refused: its cells, and how many rows it was about.
+pub(crate) struct Executed<'s> {
+    pub(crate) cells: Cells<'s>,
+    pub(crate) changed: u64,
+}
+
+/// Why a call on a statement wasn't done.
+#[derive(Clone, Copy, Debug)]
+pub(crate) enum Declined {
+    /// It was refused, as the handle's answer tells.
+    Refused,
+    /// There is no memory.
+    NoMemory,
+    /// The library gave another status.
+    Status(u32),
+}
+
 /// A database that is open, until it is dropped.
 pub(crate) struct Handle {
-    inside: Inside,
-    /// What the last call has told.
+    inside: UnsafeCell<Inside>,
+    /// What the last call has told that answers bytes.
     told: Told,
 }
 
 // SAFETY: what the pointers lead to belongs to this handle alone, and is reached by no other. The library keeps nothing
-// that is a thread's own, and asks only that the calls on one handle come one after another. They do, as each takes the
-// handle as `&mut`.
+// that is a thread's own, and asks only that the calls on one handle come one after another. They do, as the handle isn't
+// `Sync`, and no call is made out of another.
 unsafe impl Send for Handle {}
 
 impl Handle {
@@ -74,16 +158,11 @@ impl Handle {
         // SAFETY: the handle is closed, as null says.
         match unsafe { mmdb_open(&mut inside, policy, rows, block) } {
             IS_DONE => Ok(Handle {
-                inside,
+                inside: UnsafeCell::new(inside),
                 told: Told::NOTHING,
             }),
             LIMIT_OUT_OF_RANGE => Err(Error::OutOfRange),
-            NO_MEMORY => Err(Error::Refused {
-                number: 90,
-                text: "no memory".to_string(),
-                line: String::new(),
-                reason: None,
-            }),
+            NO_MEMORY => Err(Error::no_memory(String::new())),
             status => Err(Error::Status(status)),
         }
     }
@@ -92,13 +171,13 @@ impl Handle {
     pub(crate) fn command(&mut self, line: &[u8]) -> Result<(), Error> {
         self.told = Told::NOTHING;
         // SAFETY: the pointer and the length are those of a slice, which isn't null; the handle is open.
-        answered(unsafe { mmdb_command(&mut self.inside, line.as_ptr(), line.len(), &mut self.told) })
+        answered(unsafe { mmdb_command(self.inside.get(), line.as_ptr(), line.len(), &mut self.told) })
     }
 
     /// Has a line with its block answered.
     pub(crate) fn load(&mut self, line: &[u8], block: &[u8]) -> Result<(), Error> {
         self.told = Told::NOTHING;
-        let (db, told) = (&mut self.inside, &mut self.told);
+        let (db, told) = (self.inside.get(), &mut self.told);
         // SAFETY: as of `command`.
         answered(unsafe { mmdb_load(db, line.as_ptr(), line.len(), block.as_ptr(), block.len(), told) })
     }
@@ -107,27 +186,105 @@ impl Handle {
     pub(crate) fn indexes(&mut self, table: &[u8]) -> Result<(), Error> {
         self.told = Told::NOTHING;
         // SAFETY: as of `command`.
-        answered(unsafe { mmdb_indexes(&mut self.inside, table.as_ptr(), table.len(), &mut self.told) })
+        answered(unsafe { mmdb_indexes(self.inside.get(), table.as_ptr(), table.len(), &mut self.told) })
     }
 
-    /// Why the line was refused that was just answered, with its block. There is none of another answer, and none where
-    /// no memory is found for the words. The answer is gone then.
-    pub(crate) fn reason(&mut self, line: &[u8], block: &[u8]) -> Option<String> {
-        self.told = Told::NOTHING;
-        let (db, told) = (&mut self.inside, &mut self.told);
+    /// Why the line was refused that was just answered, with its block; or the statement that was just executed, which
+    /// is this line with its values. There is none of another answer, and none where no memory is found for the words.
+    pub(crate) fn reason(&self, line: &[u8], block: &[u8]) -> Option<String> {
+        let mut told = Told::NOTHING;
+        let db = self.inside.get();
         // SAFETY: as of `command`.
-        let status = unsafe { mmdb_reason(db, line.as_ptr(), line.len(), block.as_ptr(), block.len(), told) };
-        let words = std::str::from_utf8(self.answer()).ok()?;
+        let status = unsafe { mmdb_reason(db, line.as_ptr(), line.len(), block.as_ptr(), block.len(), &mut told) };
+        // SAFETY: the words are good until the next call.
+        let words = str::from_utf8(unsafe { told.bytes() }).ok()?;
         (status == IS_DONE && !words.is_empty()).then(|| words.to_string())
     }
 
     /// What the last call has told.
     pub(crate) fn answer(&self) -> &[u8] {
-        if self.told.length == 0 {
-            return &[];
-        }
-        // SAFETY: the library keeps these bytes for the handle until the next call on it, which takes it as `&mut`.
-        unsafe { std::slice::from_raw_parts(self.told.at, self.told.length) }
+        // SAFETY: the library keeps these bytes for the handle until the next call on it. Who reads them has the handle as
+        // `&mut`, and so nobody calls it.
+        unsafe { self.told.bytes() }
+    }
+}
+
+/// The calls on statements. Each takes the handle as `&`, since rows are good whatever is done by other statements.
+impl Handle {
+    /// Has a line kept as a statement.
+    pub(crate) fn prepare(&self, line: &[u8]) -> Result<Prepared, Declined> {
+        let mut made = Numbered::default();
+        // SAFETY: the pointer and the length are those of a slice; the handle is open.
+        let status = unsafe { mmdb_prepare(self.inside.get(), line.as_ptr(), line.len(), &mut made) };
+        done(status).map(|()| Prepared(made.number))
+    }
+
+    /// Puts a value into a place of a statement.
+    pub(crate) fn bind(&self, statement: &mut Prepared, place: u32, value: ValueRef<'_>) -> Result<(), Declined> {
+        let (db, number) = (self.inside.get(), statement.0);
+        // SAFETY: as of `prepare`.
+        done(unsafe {
+            match value {
+                ValueRef::Null => mmdb_bind_null(db, number, place),
+                ValueRef::Integer(integer) => mmdb_bind_integer(db, number, place, integer),
+                ValueRef::Text(text) => mmdb_bind_text(db, number, place, text.as_ptr(), text.len()),
+            }
+        })
+    }
+
+    /// Does what a statement of this handle says.
+    pub(crate) fn execute<'s>(&'s self, statement: &'s mut Prepared) -> Result<Executed<'s>, Declined> {
+        let mut found = Found::NOTHING;
+        // SAFETY: the handle is open.
+        done(unsafe { mmdb_execute(self.inside.get(), statement.0, &mut found) })?;
+        Ok(Executed {
+            // SAFETY: the rows are good until the statement is executed again or finalised, or the handle is closed.
+            // Both are lent as long as the rows are. The library has UTF-8 texts alone.
+            cells: unsafe { found.cells() },
+            changed: found.changed,
+        })
+    }
+
+    /// The names of the columns that the rows of a statement of this handle have.
+    pub(crate) fn columns(&self, statement: &mut Prepared) -> Result<Vec<String>, Declined> {
+        let mut found = Found::NOTHING;
+        // SAFETY: as of `execute`.
+        done(unsafe { mmdb_columns(self.inside.get(), statement.0, &mut found) })?;
+        // SAFETY: the columns are good until the next call on the handle, and there is none here.
+        let cells = unsafe { found.cells() };
+        let texts = cells.values().filter_map(|value| match value {
+            ValueRef::Text(name) => Some(name.to_string()),
+            _ => None,
+        });
+        Ok(texts.collect())
+    }
+
+    /// Frees a statement, which is none of the handle's then.
+    pub(crate) fn finalize(&self, statement: &mut Prepared) {
+        let number = mem::replace(&mut statement.0, u32::MAX);
+        // SAFETY: the handle is open. As the statement is taken as `&mut`, its rows aren't lent.
+        unsafe { mmdb_finalize(self.inside.get(), number) };
+    }
+
+    /// The refusal by which a call on a statement was just declined, as it is answered.
+    pub(crate) fn refusal(&self) -> String {
+        let mut told = Told::NOTHING;
+        // SAFETY: the handle is open, and the answer is good until the next call.
+        let answer = unsafe {
+            mmdb_answer(self.inside.get(), &mut told);
+            told.bytes()
+        };
+        String::from_utf8_lossy(answer).into_owned()
+    }
+}
+
+/// Whether a call on a statement was done, by its status.
+fn done(status: u32) -> Result<(), Declined> {
+    match status {
+        IS_DONE => Ok(()),
+        NO_MEMORY => Err(Declined::NoMemory),
+        REFUSED => Err(Declined::Refused),
+        status => Err(Declined::Status(status)),
     }
 }
 
@@ -143,6 +300,6 @@ fn answered(status: u32) -> Result<(), Error> {
 impl Drop for Handle {
     fn drop(&mut self) {
         // SAFETY: the handle is open, and is used no more.
-        unsafe { mmdb_close(&mut self.inside) }
+        unsafe { mmdb_close(self.inside.get()) }
     }
 }

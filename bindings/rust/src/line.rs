@@ -1,11 +1,13 @@
-//! Lines with parameters.
+//! Lines with places for values.
 
 use std::ops::Range;
 
+use crate::bound::Bound;
 use crate::error::Error;
 use crate::params::Params;
 use crate::spelling::push_value;
 use crate::to_value::ToValue;
+use crate::value::ValueRef;
 
 const BLANKS: &[char] = &[' ', '\t'];
 
@@ -13,29 +15,46 @@ const BLANKS: &[char] = &[' ', '\t'];
 const APART_BEFORE: &[char] = &[' ', '\t', '(', ',', '=', '<', '>'];
 const APART_BEHIND: &[char] = &[' ', '\t', ')', ','];
 
-/// A line into whose places values are put.
+/// A place of a line.
+#[derive(Clone, Debug)]
+pub(crate) struct Place {
+    /// Where it stands.
+    at: Range<usize>,
+    /// Whether it is a `?`.
+    is_nameless: bool,
+}
+
+impl Place {
+    /// How it is written in its line.
+    fn name<'l>(&self, line: &'l str) -> &'l str {
+        &line[self.at.clone()]
+    }
+
+    fn missing(&self, line: &str) -> Error {
+        Error::MissingParameter {
+            name: self.name(line).to_string(),
+        }
+    }
+}
+
+/// The values that are given for the places of a line.
 #[derive(Debug)]
 pub struct Binding<'a> {
-    /// What stands before the next place, with the values that were put.
-    made: &'a mut String,
-    /// What stands behind that.
-    rest: &'a str,
-    /// How many places have their values.
-    filled: usize,
+    line: &'a str,
+    places: &'a [Place],
+    /// The values of the first places.
+    bound: &'a mut Bound,
     /// How many values were given.
     given: usize,
 }
 
-/// Makes the line in which each parameter stands in its place, spelled as the language does.
-pub(crate) fn bind<P: Params>(line: &str, parameters: P, made: &mut String) -> Result<(), Error> {
-    let is_comment = first_token(line).starts_with('#');
-    let (front, rest) = if is_comment { (line, "") } else { ("", line) };
-    made.clear();
-    made.push_str(front);
+/// Takes the parameters as the values of the places, in the order of these.
+pub(crate) fn bind<P: Params>(line: &str, places: &[Place], parameters: P, bound: &mut Bound) -> Result<(), Error> {
+    bound.clear();
     let mut binding = Binding {
-        made,
-        rest,
-        filled: 0,
+        line,
+        places,
+        bound,
         given: 0,
     };
     parameters.bind(&mut binding)?;
@@ -43,85 +62,107 @@ pub(crate) fn bind<P: Params>(line: &str, parameters: P, made: &mut String) -> R
 }
 
 impl Binding<'_> {
-    /// Puts a value into the next place, which is a `?`.
+    /// Takes the value of the next place, which is a `?`.
     pub(crate) fn put(&mut self, value: &dyn ToValue) -> Result<(), Error> {
         self.given += 1;
-        match first_place(self.rest) {
-            Some(place) if is_nameless(&self.rest[place.clone()]) => self.put_at(place, value),
-            Some(place) => Err(missing(&self.rest[place])),
-            None => Ok(()),
+        match self.places.get(self.bound.len()) {
+            Some(place) if place.is_nameless => self.bound.push((&value.to_value()?).into()),
+            Some(place) => return Err(place.missing(self.line)),
+            None => {}
         }
+        Ok(())
     }
 
-    /// Puts its value into each place, by the place's name.
+    /// Takes the value of each place, by the place's name.
     pub(crate) fn put_named<'v>(&mut self, value_of: impl Fn(&str) -> Option<&'v dyn ToValue>) -> Result<(), Error> {
-        while let Some(place) = first_place(self.rest) {
-            let name = &self.rest[place.clone()];
-            let value = value_of(name).ok_or_else(|| missing(name))?;
+        for place in self.places {
+            let value = value_of(place.name(self.line)).ok_or_else(|| place.missing(self.line))?;
             self.given += 1;
-            self.put_at(place, value)?;
+            self.bound.push((&value.to_value()?).into());
         }
         Ok(())
     }
 
-    /// Whether a place without a value has this name.
+    /// Whether a place has this name.
     pub(crate) fn has_place(&self, name: &str) -> bool {
-        places(self.rest).any(|place| place == name)
+        self.places.iter().any(|place| place.name(self.line) == name)
     }
 
-    fn put_at(&mut self, place: Range<usize>, value: &dyn ToValue) -> Result<(), Error> {
-        self.made.push_str(&self.rest[..place.start]);
-        if !self.made.ends_with(APART_BEFORE) {
-            self.made.push(' ');
-        }
-        push_value(self.made, (&value.to_value()?).into())?;
-        self.rest = &self.rest[place.end..];
-        if !self.rest.starts_with(APART_BEHIND) {
-            self.made.push(' ');
-        }
-        self.filled += 1;
-        Ok(())
-    }
-
-    /// Ends the line, where as many values were given as it has places.
+    /// Sees that as many values were given as there are places.
     fn finish(self) -> Result<(), Error> {
-        let mut left = 0;
-        for place in places(self.rest) {
-            if !is_nameless(place) {
-                return Err(missing(place));
-            }
-            left += 1;
+        let mut without = self.places[self.bound.len()..].iter();
+        if let Some(place) = without.find(|place| !place.is_nameless) {
+            return Err(place.missing(self.line));
         }
-        if self.filled + left != self.given {
+        if self.places.len() != self.given {
             return Err(Error::Places {
-                places: self.filled + left,
+                places: self.places.len(),
                 parameters: self.given,
             });
         }
-        self.made.push_str(self.rest);
         Ok(())
     }
 }
 
-fn is_nameless(place: &str) -> bool {
-    place == "?"
+/// Makes the line in which each value stands in its place, spelled as the language does.
+pub(crate) fn fill<'v>(line: &str, places: &[Place], values: impl Iterator<Item = ValueRef<'v>>, made: &mut String) {
+    made.clear();
+    let mut rest = 0;
+    for (place, value) in places.iter().zip(values) {
+        made.push_str(&line[rest..place.at.start]);
+        if !made.ends_with(APART_BEFORE) {
+            made.push(' ');
+        }
+        push_value(made, value);
+        if !line[place.at.end..].starts_with(APART_BEHIND) {
+            made.push(' ');
+        }
+        rest = place.at.end;
+    }
+    made.push_str(&line[rest..]);
 }
 
-fn missing(place: &str) -> Error {
-    Error::MissingParameter {
-        name: place.to_string(),
+/// Puts the places of a line there in the stead of what is there. A comment has none.
+pub(crate) fn find_places(line: &str, places: &mut Vec<Place>) {
+    places.clear();
+    if !first_token(line).starts_with('#') {
+        places.extend(places_of(line));
     }
 }
 
-/// The places of a line that begins in no text, in their order.
-fn places(line: &str) -> impl Iterator<Item = &str> {
-    let mut rest = line;
+/// The places of a line, in their order.
+fn places_of(line: &str) -> impl Iterator<Item = Place> + '_ {
+    let mut from = 0;
     std::iter::from_fn(move || {
-        let place = first_place(rest)?;
-        let (front, behind) = rest.split_at(place.end);
-        rest = behind;
-        Some(&front[place.start..])
+        let found = first_place(&line[from..])?;
+        let at = from + found.start..from + found.end;
+        from = at.end;
+        Some(Place {
+            is_nameless: line[at.clone()] == *"?",
+            at,
+        })
     })
+}
+
+/// Whether a line has a place.
+pub(crate) fn has_places(line: &str) -> bool {
+    first_place(line).is_some()
+}
+
+/// The line as the library takes it as a statement, where each place is a `?`; or none where it is so already.
+pub(crate) fn with_marks(line: &str, places: &[Place]) -> Option<String> {
+    if places.iter().all(|place| place.is_nameless) {
+        return None;
+    }
+    let mut made = String::with_capacity(line.len());
+    let mut rest = 0;
+    for place in places {
+        made.push_str(&line[rest..place.at.start]);
+        made.push('?');
+        rest = place.at.end;
+    }
+    made.push_str(&line[rest..]);
+    Some(made)
 }
 
 /// The first place of a line that begins in no text: a `?`, or a `:` and a word, which stands in no text.
@@ -151,6 +192,31 @@ fn word_at(line: &str, at: usize) -> &str {
 /// The word that a command begins with, or nothing.
 pub(crate) fn first_word(line: &str) -> &str {
     word_at(first_token(line), 0)
+}
+
+/// Whether a line is an insert, an update or a delete, by its first word.
+pub(crate) fn is_change(line: &str) -> bool {
+    matches!(first_word(line), "insert" | "update" | "delete")
+}
+
+/// Whether a line is a select, by its first word.
+pub(crate) fn is_select(line: &str) -> bool {
+    first_word(line) == "select"
+}
+
+/// A select without its conditions, which are the one part of it that has values and texts.
+pub(crate) fn without_conditions(line: &str) -> &str {
+    let word = "where";
+    let is_apart = |at: usize| {
+        let before = line[..at].chars().next_back();
+        before.map_or(true, |before| !is_of_name(before)) && word_at(line, at) == word
+    };
+    let conditions = line.match_indices(word).map(|(at, _)| at).find(|at| is_apart(*at));
+    &line[..conditions.unwrap_or(line.len())]
+}
+
+fn is_of_name(character: char) -> bool {
+    character.is_ascii_alphanumeric() || character == '_'
 }
 
 fn first_token(line: &str) -> &str {

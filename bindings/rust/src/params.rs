@@ -38,7 +38,7 @@ pub trait Values {
 /// The parameters of a line: [`Values`] for its places `?`, or names with values for its places `:name`. A type of a
 /// program's own has them by [`Values`].
 pub trait Params {
-    /// Puts the values into their places.
+    /// Gives the values for their places.
     #[doc(hidden)]
     fn bind(self, line: &mut Binding<'_>) -> Result<(), Error>;
 }

@@ -1,7 +1,8 @@
-//! Records of CSV, and how their fields are read by the columns that they belong to.
+//! The records of a dump, and how their fields are read by the columns that they belong to.
 
 use std::sync::Arc;
 
+use crate::cells::OwnCells;
 use crate::columns::{Column, Kind};
 use crate::rows::Rows;
 
@@ -15,33 +16,25 @@ pub(crate) struct Shape {
 impl Shape {
     /// The rows that records say. An empty field of a reference by text stays an empty text, where it may be a null.
     pub(crate) fn rows(&self, records: &str) -> Rows {
-        let mut rows = Rows::default().emptied(&self.names);
-        rows.reserve(records.len());
+        let mut rows = Rows::of(&self.names);
+        let cells = rows.cells();
+        cells.reserve(records.len());
         let mut rest = records;
         while !rest.is_empty() {
-            rest = self.push_first_record(&mut rows, rest);
-        }
-        rows
-    }
-
-    /// The first of these rows, if there is one, in the room of rows that are wanted no more.
-    pub(crate) fn first_row(&self, records: &str, room: Rows) -> Rows {
-        let mut rows = room.emptied(&self.names);
-        if !records.is_empty() {
-            self.push_first_record(&mut rows, records);
+            rest = self.push_first_record(cells, rest);
         }
         rows
     }
 
     /// Reads the first record, and gives those behind it.
-    fn push_first_record<'r>(&self, rows: &mut Rows, records: &'r str) -> &'r str {
+    fn push_first_record<'r>(&self, cells: &mut OwnCells, records: &'r str) -> &'r str {
         let mut rest = records;
         for column in &self.columns {
             let (field, behind) = first_field(rest);
             match column.kind {
-                Kind::Integer => rows.push(field.content.parse().ok()),
-                Kind::Text if field.has_marks => rows.push_text(field.content.split_inclusive('"').step_by(2)),
-                Kind::Text => rows.push_text(std::iter::once(field.content)),
+                Kind::Integer => cells.push(field.content.parse().ok()),
+                Kind::Text if field.has_marks => cells.push_text(field.content.split_inclusive('"').step_by(2)),
+                Kind::Text => cells.push_text(std::iter::once(field.content)),
             }
             rest = behind;
         }

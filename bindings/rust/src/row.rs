@@ -2,12 +2,12 @@
 
 use std::fmt;
 
+use crate::cells::Cells;
 use crate::error::{Error, Result};
 use crate::from_value::FromValue;
-use crate::rows::Cell;
 use crate::value::ValueRef;
 
-/// A row of [`Rows`](crate::Rows), which lend it.
+/// A row of [`Rows`](crate::Rows) or of [`RowsRef`](crate::RowsRef), which lend it.
 ///
 /// ```
 /// let mut db = mmdb::Database::open_in_memory()?;
@@ -24,8 +24,7 @@ use crate::value::ValueRef;
 #[derive(Clone, Copy)]
 pub struct Row<'r> {
     pub(crate) names: &'r [String],
-    pub(crate) cells: &'r [Cell],
-    pub(crate) texts: &'r str,
+    pub(crate) cells: Cells<'r>,
 }
 
 impl<'r> Row<'r> {
@@ -54,12 +53,11 @@ impl<'r> Row<'r> {
 
     /// The values, in the order of the columns.
     pub fn values(&self) -> impl Iterator<Item = ValueRef<'r>> {
-        let texts = self.texts;
-        self.cells.iter().map(move |cell| cell.value_in(texts))
+        self.cells.values()
     }
 
     pub(crate) fn value(&self, at: usize) -> ValueRef<'r> {
-        self.cells[at].value_in(self.texts)
+        self.cells.value(at)
     }
 }
 

@@ -1,11 +1,13 @@
 //! Rows, and how their values are read.
 
 use std::fmt;
+use std::ops::Range;
 use std::sync::Arc;
 
-use crate::error::Result;
+use crate::cells::{Cells, OwnCells};
+use crate::error::{Error, Result};
 use crate::row::Row;
-use crate::value::{Value, ValueRef};
+use crate::value::Value;
 
 /// The rows of a select or a dump, with the names of their columns.
 ///
@@ -28,16 +30,7 @@ use crate::value::{Value, ValueRef};
 pub struct Rows {
     names: Arc<Vec<String>>,
     /// Row by row, and in each by the order of the columns.
-    cells: Vec<Cell>,
-    texts: String,
-}
-
-/// A value of rows: a text by its place and length among their texts.
-#[derive(Clone, Copy, Debug)]
-pub(crate) enum Cell {
-    Null,
-    Integer(i64),
-    Text { at: usize, length: u32 },
+    cells: OwnCells,
 }
 
 impl Rows {
@@ -48,26 +41,106 @@ impl Rows {
 
     /// How many rows there are.
     pub fn len(&self) -> usize {
+        self.lent().len()
+    }
+
+    /// Whether there are none.
+    pub fn is_empty(&self) -> bool {
+        self.lent().is_empty()
+    }
+
+    /// A row, counted from 0.
+    pub fn get(&self, row: usize) -> Option<Row<'_>> {
+        self.lent().get(row)
+    }
+
+    /// The rows, one after the other.
+    pub fn iter(&self) -> RowsIter<'_> {
+        self.lent().iter()
+    }
+
+    /// The values alone, each of its own.
+    pub fn to_vec(&self) -> Vec<Vec<Value>> {
+        self.lent().to_vec()
+    }
+
+    /// Rows of these columns, without a row.
+    pub(crate) fn of(names: &Arc<Vec<String>>) -> Rows {
+        Rows {
+            names: Arc::clone(names),
+            cells: OwnCells::default(),
+        }
+    }
+
+    pub(crate) fn lent(&self) -> RowsRef<'_> {
+        RowsRef::new(&self.names, self.cells.lent())
+    }
+
+    pub(crate) fn cells(&mut self) -> &mut OwnCells {
+        &mut self.cells
+    }
+
+    /// Whether a column has an empty text.
+    pub(crate) fn has_empty_text(&self, place: usize) -> bool {
+        self.iter().any(|row| row.value(place).is_empty_text())
+    }
+
+    /// Makes null what a column has in the rows with these keys. Both have their keys in front, and rise by them.
+    pub(crate) fn put_nulls(&mut self, place: usize, keys: &Rows) {
+        let mut keys = keys.iter().map(|row| row.value(0)).peekable();
+        let rows = self.iter().enumerate();
+        let found: Vec<usize> = rows
+            .filter_map(|(at, row)| keys.next_if_eq(&row.value(0)).map(|_| at))
+            .collect();
+        let width = self.lent().width();
+        for row in found {
+            self.cells.make_null(row * width + place);
+        }
+    }
+}
+
+/// The rows of a [`Statement`](crate::Statement), which lends them until it is executed again.
+#[derive(Clone, Copy)]
+pub struct RowsRef<'r> {
+    names: &'r Arc<Vec<String>>,
+    cells: Cells<'r>,
+}
+
+impl<'r> RowsRef<'r> {
+    pub(crate) fn new(names: &'r Arc<Vec<String>>, cells: Cells<'r>) -> RowsRef<'r> {
+        RowsRef { names, cells }
+    }
+
+    /// The columns' names, in order, each as `table.column`.
+    pub fn column_names(&self) -> &'r [String] {
+        self.names
+    }
+
+    /// How many rows there are.
+    pub fn len(&self) -> usize {
         self.cells.len() / self.width()
     }
 
     /// Whether there are none.
     pub fn is_empty(&self) -> bool {
-        self.cells.is_empty()
+        self.cells.len() == 0
     }
 
     /// A row, counted from 0.
-    pub fn get(&self, row: usize) -> Option<Row<'_>> {
+    pub fn get(&self, row: usize) -> Option<Row<'r>> {
         let from = row.checked_mul(self.width())?;
-        let cells = self.cells.get(from..from.checked_add(self.width())?)?;
-        Some(self.row_of(cells))
+        let cells = self.cells.part(from, self.width())?;
+        Some(Row {
+            names: self.names,
+            cells,
+        })
     }
 
     /// The rows, one after the other.
-    pub fn iter(&self) -> RowsIter<'_> {
+    pub fn iter(&self) -> RowsIter<'r> {
         RowsIter {
-            rows: self,
-            cells: self.cells.chunks_exact(self.width()),
+            rows: *self,
+            left: 0..self.len(),
         }
     }
 
@@ -76,11 +149,24 @@ impl Rows {
         self.iter().map(|row| row.values().map(Value::from).collect()).collect()
     }
 
-    fn row_of<'r>(&'r self, cells: &'r [Cell]) -> Row<'r> {
-        Row {
-            names: &self.names,
-            cells,
-            texts: &self.texts,
+    /// The same rows as the program's own, for when the statement is executed again.
+    pub fn to_rows(&self) -> Rows {
+        Rows {
+            names: Arc::clone(self.names),
+            cells: self.cells.to_own(),
+        }
+    }
+
+    /// Whether they have more cells than one would keep room for.
+    pub(crate) fn are_many(&self) -> bool {
+        self.cells.len() > 65_536
+    }
+
+    /// What a function makes of the first row.
+    pub(crate) fn first<T>(self, read: impl FnOnce(&Row<'_>) -> Result<T>) -> Result<T> {
+        match self.get(0) {
+            Some(row) => read(&row),
+            None => Err(Error::NoRows),
         }
     }
 
@@ -88,69 +174,29 @@ impl Rows {
     fn width(&self) -> usize {
         self.names.len().max(1)
     }
+}
 
-    /// Rows of these columns without a row, in the room of others.
-    pub(crate) fn emptied(mut self, names: &Arc<Vec<String>>) -> Rows {
-        self.names = Arc::clone(names);
-        self.cells.clear();
-        self.texts.clear();
-        self
-    }
-
-    /// Takes room for texts of so many bytes.
-    pub(crate) fn reserve(&mut self, bytes: usize) {
-        self.texts.reserve(bytes);
-    }
-
-    pub(crate) fn push(&mut self, integer: Option<i64>) {
-        self.cells.push(integer.map_or(Cell::Null, Cell::Integer));
-    }
-
-    /// Puts in a text, which is made of these pieces.
-    pub(crate) fn push_text<'t>(&mut self, pieces: impl Iterator<Item = &'t str>) {
-        let at = self.texts.len();
-        pieces.for_each(|piece| self.texts.push_str(piece));
-        let length = (self.texts.len() - at) as u32;
-        self.cells.push(Cell::Text { at, length });
-    }
-
-    /// Whether a column has an empty text.
-    pub(crate) fn has_empty_text(&self, place: usize) -> bool {
-        let mut cells = self.cells.iter().skip(place).step_by(self.width());
-        cells.any(Cell::is_empty_text)
-    }
-
-    /// Makes the empty texts of a column nulls.
-    pub(crate) fn make_empty_texts_null(&mut self, place: usize) {
-        let width = self.width();
-        let cells = self.cells.iter_mut().skip(place).step_by(width);
-        let empty = cells.filter(|cell| cell.is_empty_text());
-        empty.for_each(|cell| *cell = Cell::Null);
-    }
-
-    /// Makes null what a column has in the rows with these keys. Both have their keys in front, and rise by them.
-    pub(crate) fn put_nulls(&mut self, place: usize, keys: &Rows) {
-        let width = self.width();
-        let mut keys = keys.iter().map(|row| row.value(0)).peekable();
-        for row in self.cells.chunks_exact_mut(width) {
-            if keys.next_if_eq(&row[0].value_in(&self.texts)).is_some() {
-                row[place] = Cell::Null;
-            }
-        }
+impl fmt::Debug for RowsRef<'_> {
+    fn fmt(&self, to: &mut fmt::Formatter<'_>) -> fmt::Result {
+        to.debug_list().entries(*self).finish()
     }
 }
 
-impl Cell {
-    fn is_empty_text(&self) -> bool {
-        matches!(self, Cell::Text { length: 0, .. })
-    }
+impl<'r> IntoIterator for &RowsRef<'r> {
+    type Item = Row<'r>;
+    type IntoIter = RowsIter<'r>;
 
-    pub(crate) fn value_in<'t>(&self, texts: &'t str) -> ValueRef<'t> {
-        match *self {
-            Cell::Null => ValueRef::Null,
-            Cell::Integer(integer) => ValueRef::Integer(integer),
-            Cell::Text { at, length } => ValueRef::Text(&texts[at..at + length as usize]),
-        }
+    fn into_iter(self) -> RowsIter<'r> {
+        self.iter()
+    }
+}
+
+impl<'r> IntoIterator for RowsRef<'r> {
+    type Item = Row<'r>;
+    type IntoIter = RowsIter<'r>;
+
+    fn into_iter(self) -> RowsIter<'r> {
+        self.iter()
     }
 }
 
@@ -179,28 +225,38 @@ impl<'rows> IntoIterator for &'rows Rows {
 }
 
 /// Gives rows, one after the other.
-#[derive(Clone, Debug)]
+#[derive(Clone)]
 #[must_use = "rows are read as they are asked for"]
 pub struct RowsIter<'rows> {
-    rows: &'rows Rows,
-    cells: std::slice::ChunksExact<'rows, Cell>,
+    rows: RowsRef<'rows>,
+    left: Range<usize>,
+}
+
+impl fmt::Debug for RowsIter<'_> {
+    fn fmt(&self, to: &mut fmt::Formatter<'_>) -> fmt::Result {
+        to.debug_list().entries(self.clone()).finish()
+    }
 }
 
 impl<'rows> Iterator for RowsIter<'rows> {
     type Item = Row<'rows>;
 
     fn next(&mut self) -> Option<Row<'rows>> {
-        self.cells.next().map(|cells| self.rows.row_of(cells))
+        self.left.next().and_then(|row| self.rows.get(row))
+    }
+
+    fn nth(&mut self, passed: usize) -> Option<Row<'rows>> {
+        self.left.nth(passed).and_then(|row| self.rows.get(row))
     }
 
     fn size_hint(&self) -> (usize, Option<usize>) {
-        self.cells.size_hint()
+        self.left.size_hint()
     }
 }
 
 impl DoubleEndedIterator for RowsIter<'_> {
     fn next_back(&mut self) -> Option<Self::Item> {
-        self.cells.next_back().map(|cells| self.rows.row_of(cells))
+        self.left.next_back().and_then(|row| self.rows.get(row))
     }
 }
 
@@ -243,3 +299,37 @@ impl<T, F: FnMut(&Row<'_>) -> Result<T>> Iterator for MappedRows<F> {
 }
 
 impl<T, F: FnMut(&Row<'_>) -> Result<T>> ExactSizeIterator for MappedRows<F> {}
+
+/// What [`Statement::query_map`](crate::Statement::query_map) gives: what the function makes of each row.
+#[derive(Clone)]
+#[must_use = "the function is called as its results are asked for"]
+pub struct MappedRowsRef<'rows, F> {
+    rows: RowsIter<'rows>,
+    map: F,
+}
+
+impl<'rows, F> MappedRowsRef<'rows, F> {
+    pub(crate) fn new(rows: RowsRef<'rows>, map: F) -> MappedRowsRef<'rows, F> {
+        MappedRowsRef { rows: rows.iter(), map }
+    }
+}
+
+impl<F> fmt::Debug for MappedRowsRef<'_, F> {
+    fn fmt(&self, to: &mut fmt::Formatter<'_>) -> fmt::Result {
+        self.rows.fmt(to)
+    }
+}
+
+impl<T, F: FnMut(&Row<'_>) -> Result<T>> Iterator for MappedRowsRef<'_, F> {
+    type Item = Result<T>;
+
+    fn next(&mut self) -> Option<Result<T>> {
+        self.rows.next().map(|row| (self.map)(&row))
+    }
+
+    fn size_hint(&self) -> (usize, Option<usize>) {
+        self.rows.size_hint()
+    }
+}
+
+impl<T, F: FnMut(&Row<'_>) -> Result<T>> ExactSizeIterator for MappedRowsRef<'_, F> {}

@@ -1,14 +1,17 @@
 //! Lines with parameters, and what the library answers to them.
 
+use crate::bound::Bound;
 use crate::error::{Error, Result};
 use crate::library::Handle;
-use crate::line::bind;
+use crate::line::{bind, fill, find_places, Place};
 use crate::params::Params;
 
 /// A handle, and the room in which lines are made for it.
 pub(crate) struct Session {
-    handle: Handle,
+    pub(crate) handle: Handle,
     line: String,
+    places: Vec<Place>,
+    bound: Bound,
 }
 
 impl Session {
@@ -16,12 +19,19 @@ impl Session {
         Session {
             handle,
             line: String::new(),
+            places: Vec::new(),
+            bound: Bound::default(),
         }
     }
 
     /// The answer to a line with parameters, where it is no refusal. It is lent until the next call.
     pub(crate) fn ask<P: Params>(&mut self, line: &str, params: P) -> Result<&str> {
-        bind(line, params, &mut self.line)?;
+        find_places(line, &mut self.places);
+        bind(line, &self.places, params, &mut self.bound)?;
+        if self.bound.has_line_feed() {
+            return Err(Error::LineFeed);
+        }
+        fill(line, &self.places, self.bound.iter(), &mut self.line);
         self.handle.command(self.line.as_bytes())?;
         accepted(&mut self.handle, &self.line, &[])
     }
@@ -52,20 +62,26 @@ fn accepted<'a>(handle: &'a mut Handle, line: &str, block: &[u8]) -> Result<&'a 
 
 /// The same, where the reason is that of a line of its own.
 fn accepted_of<'a>(handle: &'a mut Handle, line: &str, asked: &str, block: &[u8]) -> Result<&'a str> {
-    if let Some((number, text)) = refusal_in(handle.answer()) {
-        return Err(Error::Refused {
-            number,
-            text,
-            line: line.to_string(),
-            reason: handle.reason(asked.as_bytes(), block),
-        });
+    if handle.answer().starts_with(ERROR.as_bytes()) {
+        let answer = String::from_utf8_lossy(handle.answer()).into_owned();
+        let reason = |_: &str| handle.reason(asked.as_bytes(), block);
+        return Err(refused(&answer, line.to_string(), reason));
     }
     Ok(std::str::from_utf8(handle.answer()).expect("an answer is UTF-8"))
 }
 
-/// The number of the refusal that an answer is, and its text, where it is one.
-fn refusal_in(answer: &[u8]) -> Option<(u32, String)> {
-    let told = std::str::from_utf8(answer.strip_prefix(b"error ")?).ok()?;
-    let (number, text) = told.trim_end_matches('\n').split_once(' ')?;
-    Some((number.parse().ok()?, text.to_string()))
+/// What the answer begins with that is a refusal.
+const ERROR: &str = "error ";
+
+/// The refusal that an answer tells of a line, and the reason that a function asks for by this line.
+pub(crate) fn refused(answer: &str, line: String, reason: impl FnOnce(&str) -> Option<String>) -> Error {
+    let told = answer.strip_prefix(ERROR).unwrap_or_default().trim_end_matches('\n');
+    let (number, text) = told.split_once(' ').unwrap_or((told, ""));
+    let (number, text) = (number.parse().unwrap_or_default(), text.to_string());
+    Error::Refused {
+        number,
+        text,
+        reason: reason(&line),
+        line,
+    }
 }

@@ -1,17 +1,14 @@
 //! How values are spelled.
 
-use crate::error::Error;
 use crate::value::ValueRef;
 
-/// Writes a value as it stands in a line.
-pub(crate) fn push_value(line: &mut String, value: ValueRef<'_>) -> Result<(), Error> {
+/// Writes a value as it stands in a line. A text with a line feed can stand in none.
+pub(crate) fn push_value(line: &mut String, value: ValueRef<'_>) {
     match value {
         ValueRef::Null => line.push_str("null"),
         ValueRef::Integer(integer) => push_integer(line, integer),
-        ValueRef::Text(text) if text.contains('\n') => return Err(Error::LineFeed),
         ValueRef::Text(text) => push_marked(line, text, '\''),
     }
-    Ok(())
 }
 
 /// Writes a text between marks, with each of these marks in it doubled.

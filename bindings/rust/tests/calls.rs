@@ -38,8 +38,23 @@ fn how_indexes_stand() {
     let indexes = db.indexes("t").unwrap();
     let told: Vec<_> = indexes.iter().map(|index| (&*index.column, index.rows)).collect();
     assert_eq!(told, [("id", 100), ("n", 100)]);
-    assert!(matches!(indexes[0].shape, IndexShape::Tree { height: 2.., nodes: 4.., fill: 1..=32, .. }));
-    assert!(matches!(indexes[1].shape, IndexShape::Hash { buckets: 50, longest: 100, .. }));
+    assert!(matches!(
+        indexes[0].shape,
+        IndexShape::Tree {
+            height: 2..,
+            nodes: 4..,
+            fill: 1..=32,
+            ..
+        }
+    ));
+    assert!(matches!(
+        indexes[1].shape,
+        IndexShape::Hash {
+            buckets: 50,
+            longest: 100,
+            ..
+        }
+    ));
     let refused = db.indexes("u").unwrap_err();
     let told = (refused.number(), refused.line(), refused.reason());
     assert_eq!(told, (Some(30), Some("u"), Some("u is no table")));
@@ -233,10 +248,7 @@ fn a_refusal_tells_why() {
             db.query_row("select s from t where id = ?", ["1"], |_| Ok(())).err(),
             "column id of t has integers, and '1' is a text",
         ),
-        (
-            db.load("t", [(3, "a"), (2, "b")]).err(),
-            "t has a row with the key 2",
-        ),
+        (db.load("t", [(3, "a"), (2, "b")]).err(), "t has a row with the key 2"),
         (
             db.load_csv("t", "id,s\nx,a").err(),
             "the field of id is x, and that is no integer of 64 bits",
@@ -270,7 +282,7 @@ fn a_database_is_used_on_after_a_refusal() {
             parameters: 1
         })
     );
-    assert_eq!(db.execute("insert t (3, ?)", ["\n"]), Err(Error::LineFeed));
+    assert_eq!(db.execute("drop table ?", ["\n"]), Err(Error::LineFeed));
     assert_eq!(
         db.query_row("select * from t where id = 3", [], |_| Ok(())),
         Err(Error::NoRows)

@@ -143,16 +143,17 @@ fn nulls_integers_and_texts() {
 }
 
 #[test]
-fn an_empty_field_of_two_meanings() {
+fn null_and_the_empty_text_are_told_apart() {
     let (mut db, mut draw) = (with_table(), Draw(1986));
     let rows = fill(&mut db, &mut draw, &["", "a"]);
     assert_eq!(db.dump("e").unwrap().to_vec(), rows);
-    let either = Error::NullOrEmpty {
-        column: "e.u".to_string(),
-    };
-    assert_eq!(db.query("select * from e", []), Err(either.clone()));
+    assert_eq!(selected(&mut db, "select * from e", []), rows);
     let one = db.query_row("select * from e where u = ''", [], |row| row.get::<_, String>("u"));
-    assert_eq!(one, Err(either));
+    assert_eq!(one, Ok(String::new()));
+    let null = db.query_row("select * from e where u = null", [], |row| {
+        row.get::<_, Option<String>>("u")
+    });
+    assert_eq!(null, Ok(None));
     for value in [Value::Null, "".into()] {
         let sign = if value.is_null() { "null" } else { "''" };
         let found = selected(&mut db, &format!("select id, w from e where u = {sign}"), []);

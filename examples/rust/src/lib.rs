@@ -55,6 +55,12 @@ pub fn give_back(db: &mut Database, book: i64) -> Result<bool, Error> {
     Ok(db.execute("delete loan where book = ?", [book])? == 1)
 }
 
+/// Takes many books back, by one statement. Says how many of them were out.
+pub fn give_back_all(db: &mut Database, books: &[i64]) -> Result<usize, Error> {
+    let mut give_back = db.prepare("delete loan where book = ?")?;
+    books.iter().map(|book| give_back.execute([book])).sum()
+}
+
 /// The books that are out past a day, each with the mail of who has it.
 pub fn overdue(db: &mut Database, day: u32) -> Result<Vec<Overdue>, Error> {
     let line = "select book.title, person.mail, loan.due from loan join book on loan.book = book.id \

@@ -1,6 +1,6 @@
 //! Shows the fixture, and what the code makes of it.
 
-use lending::{fixture, give_back, lend, overdue};
+use lending::{fixture, give_back, give_back_all, lend, overdue};
 use mmdb::{Database, Error};
 
 fn print_overdue(db: &mut Database, day: u32) -> Result<(), Error> {
@@ -23,5 +23,10 @@ fn main() -> Result<(), Error> {
     println!("book 4 to Bo O'Hara: {:?}", lend(&mut db, 4, "Bo O'Hara", 150)?);
     println!("book 1 to Bo O'Hara: {:?}", lend(&mut db, 1, "Bo O'Hara", 150)?);
     println!("book 3 to a stranger: {:?}", lend(&mut db, 3, "' or name <> '", 150)?);
-    print_overdue(&mut db, 160)
+    print_overdue(&mut db, 160)?;
+    println!(
+        "books 1 to 4 are given back: {} of them",
+        give_back_all(&mut db, &[1, 2, 3, 4])?
+    );
+    Ok(())
 }

@@ -1,6 +1,6 @@
 //! Tests that share a fixture: each begins with the same library, which is its own.
 
-use lending::{fixture, give_back, lend, overdue, Overdue, Refusal};
+use lending::{fixture, give_back, give_back_all, lend, overdue, Overdue, Refusal};
 
 #[test]
 fn a_book_that_is_out_is_not_lent() {
@@ -16,6 +16,14 @@ fn a_book_is_given_back_once() {
     assert!(give_back(&mut db, 4).unwrap());
     assert!(!give_back(&mut db, 4).unwrap());
     assert!(!give_back(&mut db, 3).unwrap());
+}
+
+#[test]
+fn many_books_are_given_back() {
+    let mut db = fixture::library().unwrap();
+    assert_eq!(give_back_all(&mut db, &[1, 3, 4, 1]), Ok(2));
+    assert_eq!(give_back_all(&mut db, &[]), Ok(0));
+    assert_eq!(db.dump("loan").unwrap().len(), 1);
 }
 
 #[test]

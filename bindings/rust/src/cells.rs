@@ -1,0 +1,160 @@
+//! Cells of rows: as the library hands them out, and as a program keeps them.
+
+use std::marker::PhantomData;
+use std::{slice, str};
+
+use crate::value::ValueRef;
+
+const NULL: u16 = 0;
+const INTEGER: u16 = 1;
+const TEXT: u16 = 2;
+
+/// The `mmdb_cell` of mmdb.h: a value, of a text where it begins among the texts, and how long it is.
+#[derive(Clone, Copy, Debug)]
+#[repr(C)]
+pub(crate) struct Cell {
+    integer: i64,
+    at: u32,
+    length: u16,
+    kind: u16,
+}
+
+impl Cell {
+    const fn null() -> Cell {
+        Cell {
+            integer: 0,
+            at: 0,
+            length: 0,
+            kind: NULL,
+        }
+    }
+
+    /// Where its text ends among the texts.
+    fn end(&self) -> usize {
+        match self.kind {
+            TEXT => self.at as usize + self.length as usize,
+            _ => 0,
+        }
+    }
+}
+
+/// Cells that are lent, with the texts that they tell of.
+#[derive(Clone, Copy)]
+pub(crate) struct Cells<'c> {
+    cells: &'c [Cell],
+    /// Where the texts of these cells begin.
+    texts: *const u8,
+    lent: PhantomData<&'c [u8]>,
+}
+
+// SAFETY: the texts are only read, and are lent as the cells are, so that this is a pair of shared slices.
+unsafe impl Send for Cells<'_> {}
+// SAFETY: as above.
+unsafe impl Sync for Cells<'_> {}
+
+impl<'c> Cells<'c> {
+    /// Cells, and where the texts begin that they tell of.
+    ///
+    /// # Safety
+    ///
+    /// As long as they are lent, nothing writes to the cells or to their texts, of which each is UTF-8 and stands, by
+    /// its place and its length, in one block that begins there.
+    pub(crate) unsafe fn new(cells: &'c [Cell], texts: *const u8) -> Cells<'c> {
+        Cells {
+            cells,
+            texts,
+            lent: PhantomData,
+        }
+    }
+
+    pub(crate) fn len(self) -> usize {
+        self.cells.len()
+    }
+
+    /// The value of a cell. It panics past the last, as a slice does.
+    pub(crate) fn value(self, at: usize) -> ValueRef<'c> {
+        self.value_of(&self.cells[at])
+    }
+
+    pub(crate) fn values(self) -> impl Iterator<Item = ValueRef<'c>> {
+        self.cells.iter().map(move |cell| self.value_of(cell))
+    }
+
+    /// So many of the cells, from one on, if they are there.
+    pub(crate) fn part(self, from: usize, count: usize) -> Option<Cells<'c>> {
+        let cells = self.cells.get(from..from.checked_add(count)?)?;
+        Some(Cells { cells, ..self })
+    }
+
+    pub(crate) fn to_own(self) -> OwnCells {
+        let end = self.cells.iter().map(Cell::end).max().unwrap_or(0);
+        // SAFETY: the texts stand in one block that begins there, and the last of them ends here.
+        let texts = unsafe { slice::from_raw_parts(self.texts, end) };
+        OwnCells {
+            cells: self.cells.to_vec(),
+            texts: texts.to_vec(),
+        }
+    }
+
+    /// The value of one of these cells.
+    fn value_of(self, cell: &Cell) -> ValueRef<'c> {
+        match cell.kind {
+            INTEGER => ValueRef::Integer(cell.integer),
+            // SAFETY: the cell is one of those that these are the texts of, which are UTF-8 and lent.
+            TEXT => ValueRef::Text(unsafe {
+                let bytes = slice::from_raw_parts(self.texts.add(cell.at as usize), cell.length as usize);
+                str::from_utf8_unchecked(bytes)
+            }),
+            _ => ValueRef::Null,
+        }
+    }
+}
+
+/// Cells of a program's own.
+#[derive(Clone, Debug, Default)]
+pub(crate) struct OwnCells {
+    cells: Vec<Cell>,
+    /// The texts that they tell of, each UTF-8.
+    texts: Vec<u8>,
+}
+
+impl OwnCells {
+    pub(crate) fn lent(&self) -> Cells<'_> {
+        // SAFETY: both are lent, and each cell of a text was made, here or by the library, with the bytes of a text.
+        unsafe { Cells::new(&self.cells, self.texts.as_ptr()) }
+    }
+
+    /// Takes room for texts of so many bytes.
+    pub(crate) fn reserve(&mut self, bytes: usize) {
+        self.texts.reserve(bytes);
+    }
+
+    pub(crate) fn push(&mut self, integer: Option<i64>) {
+        self.cells.push(match integer {
+            Some(integer) => Cell {
+                integer,
+                kind: INTEGER,
+                ..Cell::null()
+            },
+            None => Cell::null(),
+        });
+    }
+
+    /// Puts in a text, which is made of these pieces.
+    pub(crate) fn push_text<'t>(&mut self, pieces: impl Iterator<Item = &'t str>) {
+        let at = self.texts.len();
+        pieces.for_each(|piece| self.texts.extend_from_slice(piece.as_bytes()));
+        let length = self.texts.len() - at;
+        self.cells.push(Cell {
+            at: u32::try_from(at).expect("a dump has 16,777,216 bytes at most"),
+            length: u16::try_from(length).expect("a stored text has 1,024 bytes at most"),
+            kind: TEXT,
+            ..Cell::null()
+        });
+    }
+
+    /// Makes a cell null.
+    pub(crate) fn make_null(&mut self, at: usize) {
+        self.cells[at] = Cell::null();
+    }
+}

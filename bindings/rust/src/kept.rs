@@ -1,0 +1,262 @@
+//! Statements that the library keeps, and those of them that are found by their lines.
+
+use std::collections::HashMap;
+use std::hash::{BuildHasherDefault, Hasher};
+use std::sync::Arc;
+
+use crate::bound::Bound;
+use crate::error::{Error, Result};
+use crate::library::{Declined, Handle, Prepared};
+use crate::line::{bind, fill, find_places, is_select, with_marks, without_conditions, Place};
+use crate::params::Params;
+use crate::rows::RowsRef;
+use crate::session::refused;
+use crate::value::ValueRef;
+
+/// A statement, and what has to be known to put values into its places and to read its rows.
+pub(crate) struct Kept {
+    prepared: Prepared,
+    is_select: bool,
+    written: Written,
+    /// The names of the columns that its rows have.
+    names: Arc<Vec<String>>,
+    /// How many declarations there were when the names were asked for.
+    named_at: Option<u64>,
+}
+
+/// A line, its places, and the values that were bound last.
+struct Written {
+    line: Arc<str>,
+    places: Vec<Place>,
+    bound: Bound,
+}
+
+impl Kept {
+    /// Has a line kept, which is an insert, an update, a delete or a select.
+    pub(crate) fn prepare(handle: &Handle, line: &str) -> Result<Kept, Declined> {
+        let mut places = Vec::new();
+        find_places(line, &mut places);
+        let written = Written {
+            line: line.into(),
+            places,
+            bound: Bound::default(),
+        };
+        Ok(Kept {
+            prepared: written.prepare(handle)?,
+            is_select: is_select(line),
+            written,
+            names: Arc::default(),
+            named_at: None,
+        })
+    }
+
+    /// Gives back the room of the rows that it has shown, where it can be prepared anew.
+    pub(crate) fn let_go(&mut self, handle: &Handle) {
+        if let Ok(anew) = self.written.prepare(handle) {
+            handle.finalize(&mut self.prepared);
+            self.prepared = anew;
+        }
+    }
+
+    /// Does a change, and gives how many rows it was about.
+    pub(crate) fn change<P: Params>(&mut self, handle: &Handle, params: P) -> Result<usize> {
+        if self.is_select {
+            return Err(Error::NotAChange);
+        }
+        self.bind(handle, params)?;
+        match handle.execute(&mut self.prepared) {
+            Ok(executed) => Ok(executed.changed as usize),
+            Err(declined) => Err(self.written.why(handle, declined)),
+        }
+    }
+
+    /// The rows of a select, which are lent. The names of its columns are asked for where there were declarations
+    /// since.
+    pub(crate) fn rows<'k, P: Params>(
+        &'k mut self,
+        handle: &'k Handle,
+        params: P,
+        declared: u64,
+    ) -> Result<RowsRef<'k>> {
+        if !self.is_select {
+            return Err(Error::NotASelect);
+        }
+        self.bind(handle, params)?;
+        if self.named_at != Some(declared) {
+            let names = handle.columns(&mut self.prepared);
+            self.names = Arc::new(names.map_err(|declined| self.written.why(handle, declined))?);
+            self.named_at = Some(declared);
+        }
+        match handle.execute(&mut self.prepared) {
+            Ok(executed) => Ok(RowsRef::new(&self.names, executed.cells)),
+            Err(declined) => Err(self.written.why(handle, declined)),
+        }
+    }
+
+    /// The names of the columns that its rows have, whatever its values are. There are none of a change.
+    pub(crate) fn names(&mut self, handle: &Handle, declared: u64) -> Result<&[String]> {
+        if self.is_select && self.named_at != Some(declared) {
+            let line = without_conditions(&self.written.line);
+            let why = |declined| refusal_of(handle, declined, line.to_string(), true);
+            let mut all = handle.prepare(line.as_bytes()).map_err(why)?;
+            let names = handle.columns(&mut all);
+            let names = names.map_err(why);
+            handle.finalize(&mut all);
+            self.names = Arc::new(names?);
+            self.named_at = Some(declared);
+        }
+        Ok(&self.names)
+    }
+
+    /// The line, as it was given.
+    pub(crate) fn line(&self) -> &str {
+        &self.written.line
+    }
+
+    /// Frees it.
+    pub(crate) fn finalize(&mut self, handle: &Handle) {
+        handle.finalize(&mut self.prepared);
+    }
+
+    fn bind<P: Params>(&mut self, handle: &Handle, params: P) -> Result<()> {
+        let written = &mut self.written;
+        bind(&written.line, &written.places, params, &mut written.bound)?;
+        for (place, value) in (0..).zip(written.bound.iter()) {
+            if let Err(declined) = handle.bind(&mut self.prepared, place, value) {
+                return Err(written.why(handle, declined));
+            }
+        }
+        Ok(())
+    }
+}
+
+impl Written {
+    fn prepare(&self, handle: &Handle) -> Result<Prepared, Declined> {
+        let marked = with_marks(&self.line, &self.places);
+        handle.prepare(marked.as_deref().unwrap_or(&self.line).as_bytes())
+    }
+
+    /// Why a call with these values was declined.
+    #[cold]
+    fn why(&self, handle: &Handle, declined: Declined) -> Error {
+        let mut line = String::new();
+        fill(&self.line, &self.places, self.bound.iter(), &mut line);
+        // With line feeds it is no line that could be asked about.
+        refusal_of(handle, declined, line, !self.bound.has_line_feed())
+    }
+}
+
+/// Why a line was declined to be prepared. It is told with nulls in its places.
+#[cold]
+pub(crate) fn why_not_prepared(handle: &Handle, line: &str, declined: Declined) -> Error {
+    let (mut places, mut filled) = (Vec::new(), String::new());
+    find_places(line, &mut places);
+    fill(line, &places, places.iter().map(|_| ValueRef::Null), &mut filled);
+    let error = refusal_of(handle, declined, filled, true);
+    if places.is_empty() {
+        error
+    } else {
+        error.without_reason_of_type()
+    }
+}
+
+/// Why a call on a statement was declined, whose values a line has.
+fn refusal_of(handle: &Handle, declined: Declined, line: String, can_be_asked: bool) -> Error {
+    match declined {
+        Declined::Refused => refused(&handle.refusal(), line, |line| {
+            let reason = || handle.reason(line.as_bytes(), &[]);
+            can_be_asked.then(reason).flatten()
+        }),
+        Declined::NoMemory => Error::no_memory(line),
+        Declined::Status(status) => Error::Status(status),
+    }
+}
+
+/// How many statements are kept by their lines.
+const MOST_LINES: usize = 256;
+
+/// The statements that are found by their lines. Where there are many, the one goes that wasn't used for longest.
+#[derive(Default)]
+pub(crate) struct Lines {
+    kept: Vec<Slot>,
+    /// Where the statement of a line is.
+    places: HashMap<Arc<str>, usize, BuildHasherDefault<LineHasher>>,
+    /// How many uses there were.
+    uses: u64,
+}
+
+struct Slot {
+    kept: Kept,
+    /// Which use was its last.
+    used: u64,
+}
+
+impl Lines {
+    /// Where the statement of a line is, if it is kept.
+    pub(crate) fn find(&self, line: &str) -> Option<usize> {
+        self.places.get(line).copied()
+    }
+
+    /// The statement that is there, which is used now.
+    pub(crate) fn use_of(&mut self, at: usize) -> &mut Kept {
+        let slot = &mut self.kept[at];
+        self.uses += 1;
+        slot.used = self.uses;
+        &mut slot.kept
+    }
+
+    /// Keeps the statement of a line, which isn't kept yet, and tells where.
+    pub(crate) fn keep(&mut self, handle: &Handle, line: &str) -> Result<usize, Declined> {
+        let kept = Kept::prepare(handle, line)?;
+        let line = Arc::clone(&kept.written.line);
+        let slot = Slot { kept, used: self.uses };
+        let at = if self.kept.len() < MOST_LINES {
+            self.kept.push(slot);
+            self.kept.len() - 1
+        } else {
+            let at = self.longest_unused();
+            let mut gone = std::mem::replace(&mut self.kept[at], slot).kept;
+            gone.finalize(handle);
+            self.places.remove(&gone.written.line);
+            at
+        };
+        self.places.insert(line, at);
+        Ok(at)
+    }
+
+    fn longest_unused(&self) -> usize {
+        let uses = self.kept.iter().map(|slot| slot.used).enumerate();
+        uses.min_by_key(|(_, used)| *used).map_or(0, |(at, _)| at)
+    }
+}
+
+/// Hashes lines by eight bytes at a time. They are the program's own, so that nobody picks them to be alike.
+#[derive(Default)]
+struct LineHasher(u64);
+
+impl LineHasher {
+    fn mix(&mut self, word: [u8; 8]) {
+        let mixed = self.0.rotate_left(5) ^ u64::from_le_bytes(word);
+        self.0 = mixed.wrapping_mul(0x517c_c1b7_2722_0a95);
+    }
+}
+
+impl Hasher for LineHasher {
+    fn write(&mut self, bytes: &[u8]) {
+        let mut words = bytes.chunks_exact(8);
+        for word in &mut words {
+            self.mix(word.try_into().unwrap_or_default());
+        }
+        let mut last = [0; 8];
+        last[..words.remainder().len()].copy_from_slice(words.remainder());
+        self.mix(last);
+    }
+
+    fn write_u8(&mut self, byte: u8) {
+        self.0 ^= u64::from(byte);
+    }
+
+    fn finish(&self) -> u64 {
+        self.0 ^ (self.0 >> 32)
+    }
+}

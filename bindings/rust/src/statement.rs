@@ -1,0 +1,127 @@
+//! A statement that a program keeps.
+
+use std::fmt;
+
+use crate::database::Database;
+use crate::error::Result;
+use crate::kept::Kept;
+use crate::params::Params;
+use crate::row::Row;
+use crate::rows::{MappedRowsRef, RowsRef};
+
+/// An insert, an update, a delete or a select that was prepared, and is executed with other values each time.
+///
+/// It borrows its database, and is freed where it is dropped. As many may be there at once as are wanted; the calls of
+/// the database itself wait until all are gone.
+///
+/// ```
+/// use mmdb::Database;
+///
+/// let mut db = Database::open_in_memory()?;
+/// db.execute("table t (id int, s text)", [])?;
+/// {
+///     let mut insert = db.prepare("insert t (?, ?)")?;
+///     let mut find = db.prepare("select s from t where id = ?")?;
+///     for id in 0..100 {
+///         assert_eq!(insert.execute((id, format!("row {id}")))?, 1);
+///         assert!(find.query_row([id], |row| Ok(row.get::<_, &str>(0)?.len() > 4))?);
+///     }
+/// }
+/// assert_eq!(db.execute("delete t", [])?, 100);
+/// # Ok::<(), mmdb::Error>(())
+/// ```
+///
+/// Rows aren't read once their statement is executed again:
+///
+/// ```compile_fail,E0499
+/// # let mut db = mmdb::Database::open_in_memory()?;
+/// # db.execute("table t (id int)", [])?;
+/// let mut all = db.prepare("select * from t where id > ?")?;
+/// let rows = all.query([1])?;
+/// all.query([2])?;
+/// assert!(rows.is_empty());
+/// # Ok::<(), mmdb::Error>(())
+/// ```
+///
+/// And no table is declared while there are statements:
+///
+/// ```compile_fail,E0502
+/// # let mut db = mmdb::Database::open_in_memory()?;
+/// # db.execute("table t (id int)", [])?;
+/// let mut all = db.prepare("select * from t")?;
+/// db.execute("drop table t", [])?;
+/// all.query([])?;
+/// # Ok::<(), mmdb::Error>(())
+/// ```
+pub struct Statement<'db> {
+    db: &'db Database,
+    kept: Kept,
+}
+
+impl<'db> Statement<'db> {
+    pub(crate) fn new(db: &'db Database, kept: Kept) -> Statement<'db> {
+        Statement { db, kept }
+    }
+
+    /// Does the insert, the update or the delete, and gives how many rows it was about.
+    /// [`Error::NotAChange`](crate::Error::NotAChange) says that it is a select.
+    pub fn execute<P: Params>(&mut self, params: P) -> Result<usize> {
+        self.kept.change(self.db.handle(), params)
+    }
+
+    /// The rows of the select, which are lent until it is executed again.
+    /// [`Error::NotASelect`](crate::Error::NotASelect) says that it is none.
+    ///
+    /// ```
+    /// # let mut db = mmdb::Database::open_in_memory()?;
+    /// # db.execute("table t (id int, s text)", [])?;
+    /// # db.load("t", [(1, "a"), (2, "b")])?;
+    /// let mut all = db.prepare("select * from t where id > ?")?;
+    /// let mut long = 0;
+    /// for row in all.query([0])? {
+    ///     let (id, text): (i64, &str) = (row.get(0)?, row.get("s")?);
+    ///     long += id * text.len() as i64;
+    /// }
+    /// assert_eq!(long, 3);
+    /// # Ok::<(), mmdb::Error>(())
+    /// ```
+    pub fn query<P: Params>(&mut self, params: P) -> Result<RowsRef<'_>> {
+        self.kept.rows(self.db.handle(), params, self.db.declared())
+    }
+
+    /// What a function makes of each row of the select, one after the other.
+    pub fn query_map<T, P, F>(&mut self, params: P, map: F) -> Result<MappedRowsRef<'_, F>>
+    where
+        P: Params,
+        F: FnMut(&Row<'_>) -> Result<T>,
+    {
+        Ok(MappedRowsRef::new(self.query(params)?, map))
+    }
+
+    /// What a function makes of the first row of the select. Those behind it are passed over.
+    /// [`Error::NoRows`](crate::Error::NoRows) says that there is none.
+    pub fn query_row<T, P, F>(&mut self, params: P, read: F) -> Result<T>
+    where
+        P: Params,
+        F: FnOnce(&Row<'_>) -> Result<T>,
+    {
+        self.query(params)?.first(read)
+    }
+
+    /// The names of the columns that the rows of the select have, each as `table.column`. There are none of a change.
+    pub fn column_names(&mut self) -> Result<&[String]> {
+        self.kept.names(self.db.handle(), self.db.declared())
+    }
+}
+
+impl Drop for Statement<'_> {
+    fn drop(&mut self) {
+        self.kept.finalize(self.db.handle());
+    }
+}
+
+impl fmt::Debug for Statement<'_> {
+    fn fmt(&self, to: &mut fmt::Formatter<'_>) -> fmt::Result {
+        to.debug_tuple("Statement").field(&self.kept.line()).finish()
+    }
+}

@@ -1,0 +1,82 @@
+//! What is done again and again takes no block of memory but for what it hands out.
+
+use std::alloc::{GlobalAlloc, Layout, System};
+use std::cell::Cell;
+
+use mmdb::{named_params, params, Database, Row};
+
+/// Counts the blocks that a thread takes by Rust's allocator. The library's own aren't.
+struct Counting;
+
+thread_local! {
+    static TAKEN: Cell<usize> = const { Cell::new(0) };
+}
+
+// SAFETY: the allocator is the system's.
+unsafe impl GlobalAlloc for Counting {
+    unsafe fn alloc(&self, layout: Layout) -> *mut u8 {
+        let _ = TAKEN.try_with(|taken| taken.set(taken.get() + 1));
+        System.alloc(layout)
+    }
+
+    unsafe fn dealloc(&self, block: *mut u8, layout: Layout) {
+        System.dealloc(block, layout)
+    }
+}
+
+#[global_allocator]
+static COUNTING: Counting = Counting;
+
+/// How many blocks are taken where something is done a hundred times, after it was done once.
+fn taken_by(mut what: impl FnMut()) -> usize {
+    what();
+    let before = TAKEN.with(Cell::get);
+    (0..100).for_each(|_| what());
+    TAKEN.with(Cell::get) - before
+}
+
+fn filled() -> Database {
+    let mut db = Database::open_in_memory().unwrap();
+    db.execute("table t (id int, s text)", []).unwrap();
+    db.load("t", (0..100).map(|id| (id, "a text"))).unwrap();
+    db
+}
+
+#[test]
+fn a_kept_line_takes_none() {
+    let mut db = filled();
+    let line = "select id, s from t where id = ?";
+    let is_it = |row: &Row<'_>| Ok(row.get::<_, &str>("s")? == "a text");
+    assert_eq!(taken_by(|| assert_eq!(db.query_row(line, [7], is_it), Ok(true))), 0);
+    let line = "update t set s = :s where id = :id";
+    assert_eq!(
+        taken_by(|| assert_eq!(db.execute(line, named_params! { ":id": 7, ":s": "a text" }), Ok(1))),
+        0
+    );
+    let mut id = 1_000;
+    assert_eq!(
+        taken_by(|| {
+            assert_eq!(db.execute("insert t (?, ?)", params![id, "another"]), Ok(1));
+            id += 1;
+        }),
+        0
+    );
+}
+
+#[test]
+fn a_statement_takes_none() {
+    let db = filled();
+    let mut select = db.prepare("select * from t where id >= ?").unwrap();
+    let taken = taken_by(|| {
+        let texts = select.query([0]).unwrap().into_iter().map(|row| row.get::<_, &str>(1));
+        assert_eq!(texts.filter(|text| *text == Ok("a text")).count(), 100);
+    });
+    assert_eq!(taken, 0);
+}
+
+#[test]
+fn rows_of_ones_own_take_two() {
+    let mut db = filled();
+    let taken = taken_by(|| assert_eq!(db.query("select * from t where id >= ?", [0]).unwrap().len(), 100));
+    assert_eq!(taken, 200);
+}

@@ -1,0 +1,190 @@
+/* Refuses each call for memory of each call on a statement in turn. It then says that there was none, and everything is
+   as it was, the values that are bound too; or it is done as ever. What was refused is done when it is called again. A
+   second handle, which is never refused anything, tells what is as ever. */
+#include "allocations.h"
+#include "checking.h"
+
+static const char LONG[] = "a text that is longer than a slot of few bytes, and than some more of them";
+
+/* A handle with rows, and statements whose values are bound. */
+typedef struct kept {
+    mmdb db;
+    mmdb_statement insert;
+    mmdb_statement update;
+    mmdb_statement erase;
+    mmdb_statement select;
+    mmdb_statement join;
+} kept;
+
+static mmdb_statement prepared(mmdb *db, const char *line)
+{
+    mmdb_statement statement;
+    GIVES(mmdb_prepare(db, line, strlen(line), &statement), MMDB_DONE);
+    return statement;
+}
+
+static void open_kept(kept *to)
+{
+    const kept fresh = { MMDB_CLOSED, { 0, 0 }, { 0, 0 }, { 0, 0 }, { 0, 0 }, { 0, 0 } };
+    mmdb *db = &to->db;
+    *to = fresh;
+    GIVES(mmdb_open(db, MMDB_AUTO, MMDB_MOST, MMDB_MOST), MMDB_DONE);
+    GIVES(command(db, "table u (k text)", NULL), MMDB_DONE);
+    GIVES(command(db, "table t (id int, s text, c ref u null)", NULL), MMDB_DONE);
+    GIVES(command(db, "index t s hash", NULL), MMDB_DONE);
+    GIVES(load(db, "load u 23", "k\na key of some length\n", NULL), MMDB_DONE);
+    GIVES(load(db, "load t 56", "id,s,c\n1,a,\n2,another text,a key of some length\n3,\"c\n\",\n", NULL), MMDB_DONE);
+    GIVES(mmdb_refusal(db), 0);
+    to->insert = prepared(db, "insert t (?, ?, null)");
+    to->update = prepared(db, "update t set s = ? where id > ?");
+    to->erase = prepared(db, "delete t where s <> ?");
+    to->select = prepared(db, "select * from t where id >= ?");
+    to->join = prepared(db, "select distinct t.s, u.k from t join u on t.c = u.k where t.s <> ?");
+    GIVES(mmdb_bind_integer(db, to->insert.number, 0, 4), MMDB_DONE);
+    GIVES(mmdb_bind_text(db, to->insert.number, 1, LONG, strlen(LONG)), MMDB_DONE);
+    GIVES(mmdb_bind_text(db, to->update.number, 0, LONG, strlen(LONG)), MMDB_DONE);
+    GIVES(mmdb_bind_integer(db, to->update.number, 1, 1), MMDB_DONE);
+    GIVES(mmdb_bind_text(db, to->erase.number, 0, "a", 1), MMDB_DONE);
+    GIVES(mmdb_bind_integer(db, to->select.number, 0, 1), MMDB_DONE);
+    GIVES(mmdb_bind_text(db, to->join.number, 0, "a", 1), MMDB_DONE);
+}
+
+/* The calls, each of which can be made again where it wasn't done. */
+static mmdb_status prepares(kept *of, mmdb_rows *rows)
+{
+    static const char LINE[] = "select s, c from t where s = ? and id < ? and c <> 'a text that is given'";
+    mmdb_statement statement;
+    (void)rows;
+    return mmdb_prepare(&of->db, LINE, strlen(LINE), &statement);
+}
+
+static mmdb_status binds(kept *of, mmdb_rows *rows)
+{
+    (void)rows;
+    return mmdb_bind_text(&of->db, of->insert.number, 1, LONG + 1, strlen(LONG) - 1);
+}
+
+static mmdb_status inserts(kept *of, mmdb_rows *rows)
+{
+    return mmdb_execute(&of->db, of->insert.number, rows);
+}
+
+static mmdb_status updates(kept *of, mmdb_rows *rows)
+{
+    return mmdb_execute(&of->db, of->update.number, rows);
+}
+
+static mmdb_status erases(kept *of, mmdb_rows *rows)
+{
+    return mmdb_execute(&of->db, of->erase.number, rows);
+}
+
+static mmdb_status selects(kept *of, mmdb_rows *rows)
+{
+    return mmdb_execute(&of->db, of->select.number, rows);
+}
+
+static mmdb_status joins(kept *of, mmdb_rows *rows)
+{
+    return mmdb_execute(&of->db, of->join.number, rows);
+}
+
+static mmdb_status tells_columns(kept *of, mmdb_rows *rows)
+{
+    return mmdb_columns(&of->db, of->select.number, rows);
+}
+
+typedef mmdb_status (*step)(kept *of, mmdb_rows *rows);
+
+static const struct {
+    step does;
+    mmdb_status without_memory;
+} STEPS[] = {
+    { prepares, MMDB_NO_MEMORY }, { binds, MMDB_NO_MEMORY },    { inserts, MMDB_REFUSED }, { updates, MMDB_REFUSED },
+    { erases, MMDB_REFUSED },     { selects, MMDB_REFUSED },    { joins, MMDB_REFUSED },   { tells_columns, MMDB_REFUSED },
+};
+
+static int are_alike(const mmdb_rows *one, const mmdb_rows *other)
+{
+    int alike = one->rows == other->rows && one->columns == other->columns && one->changed == other->changed;
+    for (size_t i = 0; alike && i < one->rows * one->columns; i++) {
+        const mmdb_bytes text = mmdb_text(one, one->cells + i), as = mmdb_text(other, other->cells + i);
+        const uint16_t kind = one->cells[i].kind;
+        alike = kind == other->cells[i].kind;
+        if (alike && kind == MMDB_INTEGER)
+            alike = one->cells[i].integer == other->cells[i].integer;
+        if (alike && kind == MMDB_TEXT)
+            alike = text.length == as.length && memcmp(text.at, as.at, as.length) == 0;
+    }
+    return alike;
+}
+
+static int is_as(kept *one, kept *other)
+{
+    mmdb_bytes answer, expected;
+    mmdb_rows rows, expected_rows;
+    GIVES(command(&one->db, "dump t", &answer), MMDB_DONE);
+    GIVES(command(&other->db, "dump t", &expected), MMDB_DONE);
+    GIVES(selects(one, &rows), MMDB_DONE);
+    GIVES(selects(other, &expected_rows), MMDB_DONE);
+    return answer.length == expected.length && memcmp(answer.at, expected.at, answer.length) == 0 &&
+           are_alike(&rows, &expected_rows);
+}
+
+static void expects_90(mmdb *db)
+{
+    mmdb_bytes answer;
+    GIVES(mmdb_refusal(db), 90);
+    GIVES(mmdb_answer(db, &answer), MMDB_DONE);
+    CHECK(reads(answer, "error 90 no memory\n"));
+}
+
+/* What became of a call one of whose calls for memory was refused. */
+typedef enum outcome { NONE_WAS_REFUSED, DONE_AS_EVER, NO_MEMORY } outcome;
+
+static outcome tries(size_t number, long met)
+{
+    kept one, twin;
+    mmdb_rows rows, expected;
+    mmdb_status status;
+    outcome ends;
+    open_kept(&one);
+    open_kept(&twin);
+    memset(&rows, 0, sizeof rows);
+    memset(&expected, 0, sizeof expected);
+    allocations_refuse(met, 1);
+    status = STEPS[number].does(&one, &rows);
+    ends = allocations_refused() == 0 ? NONE_WAS_REFUSED : status == MMDB_DONE ? DONE_AS_EVER : NO_MEMORY;
+    allocations_refuse(0, 0);
+    if (ends == NO_MEMORY) {
+        GIVES(status, STEPS[number].without_memory);
+        if (status == MMDB_REFUSED)
+            expects_90(&one.db);
+        if (STEPS[number].does == binds)
+            CHECK(inserts(&one, &rows) == inserts(&twin, &expected));
+        CHECK(is_as(&one, &twin));
+        status = STEPS[number].does(&one, &rows);
+    }
+    GIVES(status, MMDB_DONE);
+    GIVES(STEPS[number].does(&twin, &expected), MMDB_DONE);
+    CHECK(are_alike(&rows, &expected));
+    CHECK(is_as(&one, &twin));
+    mmdb_close(&one.db);
+    mmdb_close(&twin.db);
+    CHECK(allocations_held() == 0);
+    return ends;
+}
+
+int main(void)
+{
+    long refused = 0;
+    for (size_t number = 0; number < sizeof STEPS / sizeof STEPS[0]; number++) {
+        outcome ends = NO_MEMORY;
+        for (long met = 0; ends != NONE_WAS_REFUSED; met++) {
+            ends = tries(number, met);
+            refused += ends == NO_MEMORY;
+        }
+    }
+    CHECK(refused > 0);
+    return checks_failed != 0;
+}

@@ -1,0 +1,46 @@
+"""The rows through statements of the library: what is bound to the places of a line has the answer that the line with these
+values has."""
+
+import unittest
+
+import compiling
+import harness
+import streams
+from test_embedding_rows import line_by_line
+
+ROOM = compiling.Room()
+
+
+def tearDownModule():
+    ROOM.close()
+
+
+class Bound(unittest.TestCase):
+    """Each row has its answers where its lines on rows are done by statements, to whose places their values are bound."""
+
+    VALUES_STAY = 0
+
+    @classmethod
+    def setUpClass(cls):
+        words = [*compiling.C, *compiling.SANITIZED, f"-DVALUES_STAY={cls.VALUES_STAY}"]
+        cls.program = ROOM.compiled(cls.__name__, compiling.EMBEDDING / "by_statements.c", words)
+
+    def check_row(self, words, stream, answers):
+        ended = compiling.ran([self.program, *words], b"".join(line_by_line(stream)))
+        self.assertEqual((ended.status, ended.out, ended.err), (0, answers, b""))
+
+
+class Given(Bound):
+    """The same where the values stay in the lines."""
+
+    VALUES_STAY = 1
+
+
+def row(words, stream, answers):
+    return lambda test: test.check_row(words, *streams.whole(stream, answers))
+
+
+for name, stream, answers in harness.rows():
+    setattr(Bound, f"test_{name}", row([], stream, answers))
+for name, limits, stream, answers in harness.limited_rows():
+    setattr(Bound, f"test_limited_{name}", row([str(limits.rows), str(limits.block)], stream, answers))
