@@ -1,0 +1,10 @@
+pub mod ChangeLemmas
+pub mod DeclareLemmas
+pub mod ExecuteLemmas
+pub mod FinishedLemmas
+pub mod GivenLemmas
+pub mod MarkLemmas
+pub mod PrepareLemmas
+pub mod RequestLemmas
+pub mod RightLemmas
+pub mod SeenLemmas

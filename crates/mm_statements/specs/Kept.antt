@@ -1,6 +1,8 @@
--- Kept: the statement that a number names.
-use Rattle.std.specs.Prelude.{◌≡◌, ◌≢◌, ℕ, Option}
+-- Kept: the statement that a number names, and what is seen of it.
+use Rattle.std.specs.Prelude.{◌≡◌, ◌≢◌, ℕ, List, Option, None, map}
+use Rattle.std.specs.Option.{option_map}
 use Rattle.slab.specs.Slab.{get}
+use Rattle.mm_statements.specs.Databases.{KeptStatement}
 use Rattle.mm_statements.specs.declared.kept.Prepared.{Prepared}
 use Rattle.mm_statements.specs.declared.kept.Statements.{Statements}
 
@@ -16,3 +18,19 @@ SameNamed old new = (number : ℕ) → named new number ≡ named old number
 pub record NamesNow (old new : Statements) (number : ℕ) (what : Option Prepared) : Type 0 where
   pub own : named new number ≡ what
   pub others : (other : ℕ) → other ≢ number → named new other ≡ named old other
+
+-- the statement, of which nothing is known that it means
+abbrev pub unresolved : Prepared → Prepared
+unresolved p = record p { resolution = None }
+
+-- what is seen of a statement: its line and its values, and not what it means
+abbrev pub seen : Prepared → KeptStatement
+seen p = record { line = p.line; values = p.bound }
+
+-- what is seen of the statements, by their numbers
+abbrev pub all_seen : Statements → List (Option KeptStatement)
+all_seen statements = map (option_map seen) statements.kept.slots
+
+-- what is seen of every number is what was seen
+abbrev pub SameSeen : Statements → Statements → Type 0
+SameSeen old new = (number : ℕ) → option_map seen (named new number) ≡ option_map seen (named old number)

@@ -1,2 +1,9 @@
 pub mod Cells
+pub mod Databases
+pub mod Declaring
+pub mod Executing
+pub mod Faults
 pub mod Kept
+pub mod Preparing
+pub mod Resolving
+pub mod Right

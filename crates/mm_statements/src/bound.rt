@@ -1,5 +1,7 @@
 //! The values that are bound to a statement's holes.
 ghost use Rattle.std.specs.Prelude.{◌≡◌, ◌≢◌, ◌<◌, ◌≤◌, Err, IfOk, IfErr, OnOk, OnErr, length, replicate, slice_set};
+ghost use Rattle.std.specs.List.{All};
+ghost use Rattle.plain_tables.specs.ResolvedLaws.{HasWidth};
 ghost use Rattle.plain_tables.specs.declared.value.Value.TheVariants as value;
 ghost use Rattle.mm_statements.specs.Cells.{cell_value};
 ghost use Rattle.mm_statements.specs.declared.declined.Declined.TheVariants as declined;
@@ -11,7 +13,7 @@ use plain_tables::Value;
 use std::alloc::Global;
 use std::marker::Model;
 
-/// The values of a statement's holes, by their places: null until one is bound, which stays until another is.
+/// The values of a statement's holes, by their places: null until one is bound, which stays until another is. Integers have 64 bits.
 #[derive(Debug, Drop)]
 pub struct Bound {
     values: Vec<Value>,
@@ -19,11 +21,15 @@ pub struct Bound {
 
 impl Model for Bound {
     ghost use Rattle.std.specs.Prelude.{List};
+    ghost use Rattle.std.specs.List.{All};
+    ghost use Rattle.plain_tables.specs.ResolvedLaws.{HasWidth};
     ghost use Rattle.plain_tables.specs.declared.value.Value.{Value as PlainValue};
 
     ghost Value = { List PlainValue };
 
     ghost view = { λ b. b.values.items };
+
+    ghost invariant = { λ b. All HasWidth b.values.items };
 }
 
 impl Bound {
@@ -40,9 +46,15 @@ impl Bound {
 
     /// The values, by their places.
     pub fn as_slice(&self) -> &[Value]
-        ensures { result.now ≡ self.now }
+        ensures values { result.now ≡ self.now }
+        ensures width { All HasWidth self.now }
     {
         self.values.as_slice()
+    }
+
+    /// What memory for the values is taken from.
+    pub fn allocator(&self) -> Global {
+        *self.values.allocator()
     }
 
     /// Binds a value to the hole of a place. A text is copied.

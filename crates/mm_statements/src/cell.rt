@@ -1,5 +1,6 @@
 //! A value as a program hands it in and reads it.
 ghost use Rattle.std.specs.Prelude.{◌≡◌, IfOk};
+ghost use Rattle.plain_tables.specs.ResolvedLaws.{HasWidth};
 ghost use Rattle.mm_statements.specs.Cells.{cell_value};
 
 use no_memory::NoMemory;
@@ -28,7 +29,8 @@ impl<'a> Cell<'a> {
 
     /// The value, as one's own.
     pub fn to_value(self, alloc: Global) -> Result<Value, NoMemory>
-        ensures { IfOk result (λ v. v ≡ cell_value self.entry) }
+        ensures value { IfOk result (λ v. v ≡ cell_value self.entry) }
+        ensures width { IfOk result (λ v. HasWidth v) }
     {
         Ok(match self {
             Cell::Null => Value::Null,

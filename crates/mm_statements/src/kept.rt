@@ -1,8 +1,9 @@
 //! The statements of a database, each under its number.
 ghost use Rattle.std.specs.Prelude.{◌≡◌, ◌≢◌, ◌≤◌, ℕ, Err, IfErr, IfOk, None, OnErr, OnOk, Some, length, option_copied, replicate, slice_set};
+ghost use Rattle.std.specs.Option.{option_map};
 ghost use Rattle.plain_tables.specs.declared.value.Value.TheVariants as value;
 ghost use Rattle.mm_statements.specs.Cells.{cell_value};
-ghost use Rattle.mm_statements.specs.Kept.{NamesNow, SameNamed, named};
+ghost use Rattle.mm_statements.specs.Kept.{NamesNow, SameNamed, named, unresolved};
 ghost use Rattle.mm_statements.specs.declared.declined.Declined.TheVariants as declined;
 ghost use Rattle.mm_statements.specs.declared.kept.Prepared.{Prepared as PlainPrepared};
 
@@ -22,6 +23,15 @@ pub struct Prepared {
     pub line: Text,
     pub bound: Bound,
     pub resolution: Option<Resolution>,
+}
+
+impl Prepared {
+    // Forgets what the statement means of the tables.
+    fn forget(&mut self)
+        ensures { self.new ≡ unresolved self.old }
+    {
+        self.resolution = None;
+    }
 }
 
 /// The statements that are kept. A number names one from the call that gives the number to the one that frees it; then it may be
@@ -108,5 +118,15 @@ impl Statements {
         };
         prepared.resolution = Some(resolution);
         Ok(())
+    }
+    /// Forgets what each statement means of the tables.
+    pub fn forget(&mut self)
+        ensures { (number : ℕ) → named self.new number ≡ option_map unresolved (named self.old number) }
+    {
+        for number in 0..self.kept.capacity() {
+            if let Some(prepared) = self.kept.get_mut(number) {
+                prepared.forget();
+            }
+        }
     }
 }

@@ -13,13 +13,20 @@
 
 mod bound;
 mod cell;
+mod database;
+mod declaring;
 mod declined;
+mod faults;
 mod filling;
 mod finishing;
 mod kept;
+mod reading;
+mod resolving;
 
 pub use bound::Bound;
 pub use cell::Cell;
+pub use database::{Database, Executed, Numbered};
 pub use declined::Declined;
+pub use faults::{ExecuteFault, PrepareFault};
 pub use finishing::finish;
 pub use kept::{Prepared, Statements};

@@ -1,0 +1,79 @@
+-- Declaring: the lines whose commands are not on rows begin with one of three words.
+use Rattle.std.proofs.Common.{◌≡◌, ℕ, ◌-◌, Bool, true, false, cond, ◌||◌, List, [], ◌∷◌, ◌++◌, length, take, drop, refl, sym, ap, subst, ◌∙◌, append_assoc, append-nil}
+use Rattle.std.specs.Prelude.{◌==◌, nat_eq, slice_index}
+use Rattle.std.specs.List.{starts_with}
+use Rattle.std.proofs.lemmas.Bool.{false≢true}
+use Rattle.std.proofs.lemmas.List.{take-append-drop}
+use lib.Chars.{codes}
+use Rattle.plain_tables.specs.CommandLaws.{is_on_rows}
+use Rattle.plain_tables.specs.Spelling.{AreBlanks, IsMadeOf, Keyword, Spells, Symbol, symbols_of}
+use Rattle.plain_tables.specs.declared.command.Command.{Command}
+use Rattle.plain_tables.specs.declared.command.Command.TheVariants as command
+use Rattle.plain_tables.proofs.FirstWords.{behind_word, first_word, split-word}
+use Rattle.plain_streams.specs.Requests.{without_return}
+use Rattle.mm_statements.specs.Declaring.{IsBesideRows, behind_blanks}
+
+-- whether a text begins with a word
+abbrev pub begins : List ℕ → List ℕ → Bool
+begins text word = starts_with nat_eq text word
+
+behind-blanks : (blanks more : List ℕ) → AreBlanks blanks → behind_blanks (blanks ++ more) ≡ behind_blanks more
+behind-blanks [] more are = refl
+behind-blanks (b ∷ blanks) more are = rw are.0 (behind-blanks blanks more are.1)
+
+return-front : (line : List ℕ) → (tail : List ℕ) × (line ≡ without_return line ++ tail)
+return-front line =
+    let last : ℕ = length line - 1 in
+    elim (slice_index line last == 13) as (λ b. (tail : List ℕ) × (line ≡ cond b (take last line) line ++ tail)) [
+      | true ↦ (drop last line, sym (take-append-drop last line))
+      | false ↦ ([], sym (append-nil line))
+    ]
+
+-- the word stands behind the line's blanks
+word-behind : (line word : List ℕ) (symbols : List Symbol) → ((more : List ℕ) → behind_blanks (word ++ more) ≡ word ++ more)
+    → IsMadeOf (without_return line) (Keyword word ∷ symbols) → (more : List ℕ) × (behind_blanks line ≡ word ++ more)
+word-behind line word symbols plain made =
+    let (blanks, characters, rest, are, is, ends, others, whole) = made in
+    let (tail, front) = return-front line in
+    let text : without_return line ≡ blanks ++ (word ++ rest) = rw is at whole in
+    let more : List ℕ = rest ++ tail in
+    let all : line ≡ blanks ++ (word ++ more) =
+    front ∙ (ap (λ l. l ++ tail) text ∙ (append_assoc blanks (word ++ rest) tail ∙ ap (λ l. blanks ++ l) (append_assoc word rest tail))) in
+    (more, ap behind_blanks all ∙ (behind-blanks blanks (word ++ more) are ∙ plain more))
+
+-- whether a text begins with one of the three words
+abbrev pub begins_so : List ℕ → Bool
+begins_so text = begins text (codes "table") || (begins text (codes "drop") || begins text (codes "index"))
+
+plain-word : (c : Command) (more : List ℕ) → behind_blanks (first_word c ++ more) ≡ first_word c ++ more
+plain-word (command.Table name schema) more = refl
+plain-word (command.DropTable name) more = refl
+plain-word (command.Index name column k) more = refl
+plain-word (command.DropIndex name column k) more = refl
+plain-word (command.Insert name row) more = refl
+plain-word (command.Update name settings conditions) more = refl
+plain-word (command.Delete name conditions) more = refl
+plain-word (command.Select distinct its name joins conditions) more = refl
+plain-word (command.Load name bytes) more = refl
+plain-word (command.Dump name) more = refl
+plain-word command.Tables more = refl
+
+word-begins : (c : Command) (more : List ℕ) → is_on_rows c ≡ false → begins_so (first_word c ++ more) ≡ true
+word-begins (command.Table name schema) more beside = refl
+word-begins (command.DropTable name) more beside = refl
+word-begins (command.Index name column k) more beside = refl
+word-begins (command.DropIndex name column k) more beside = refl
+word-begins command.Tables more beside = refl
+word-begins c more beside = absurd (false≢true (sym beside))
+
+pub beside-begins : (line : List ℕ) → IsBesideRows (without_return line) → begins_so (behind_blanks line) ≡ true
+beside-begins line (c, spells, beside) =
+    let made : IsMadeOf (without_return line) (Keyword (first_word c) ∷ behind_word c) =
+    subst (λ ss. IsMadeOf (without_return line) ss) (split-word c).0 spells.2 in
+    let (more, is) = word-behind line (first_word c) (behind_word c) (plain-word c) made in
+    ap begins_so is ∙ word-begins c more beside
+
+pub last-begins : (a b d : Bool) → (a || (b || d)) ≡ true → a ≡ false → b ≡ false → d ≡ true
+last-begins true b d is none other = absurd (false≢true (sym none))
+last-begins false true d is none other = absurd (false≢true (sym other))
+last-begins false false d is none other = is

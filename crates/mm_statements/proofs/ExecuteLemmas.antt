@@ -1,0 +1,127 @@
+-- Executing: what comes of the resolved command of a statement.
+use Rattle.std.proofs.Common.{◌≡◌, ◌≢◌, ℕ, map, length, sym, ap, ◌∙◌, subst, refl, ⊎_elim, [], Option, Some, None, Result, Ok, Err}
+use Rattle.std.specs.Prelude.{IfSome, OnErr}
+use Rattle.std.specs.List.{All}
+use Rattle.std.specs.Option.{option_map}
+use Rattle.plain_tables.specs.Commands.{effect_of_resolved}
+use Rattle.plain_tables.specs.Databases.{Database}
+use Rattle.plain_tables.specs.Doing.{done}
+use Rattle.plain_tables.specs.Effects.{Effect, refused}
+use Rattle.plain_tables.specs.ResolvedLaws.{HasWidth, IsMeant, emptied}
+use Rattle.plain_tables.specs.declared.command.Limits.{Limits}
+use Rattle.plain_tables.specs.declared.refusal.Refusal.{Refusal}
+use Rattle.plain_tables.specs.declared.refusal.Refusal.TheVariants.{NoMemory}
+use Rattle.plain_tables.specs.declared.resolved.Resolved.{Resolved}
+use Rattle.plain_tables.proofs.ResolvedLemmas.{resolved_are_meant}
+use Rattle.plain_statements.specs.declared.resolution.Resolution.{Resolution}
+use Rattle.plain_statements.specs.declared.statement.Statement.{Statement}
+use Rattle.plain_statements.specs.Filling.{filled}
+use Rattle.plain_statements.specs.Finishing.{finished}
+use Rattle.plain_statements.specs.Laws.{Resolves}
+use Rattle.plain_statements.specs.StatementSpelling.{SpellsStatement}
+use Rattle.mm_session.specs.Changing.{HasChanged, HasDeclined, IsChange}
+use Rattle.mm_session.specs.OneRequest.{StaysInStream}
+use Rattle.mm_session.specs.Sessions.{State}
+use Rattle.mm_statements.specs.Databases.{IsUnchanged, SameStatements, statement_at}
+use Rattle.mm_statements.specs.Executing.{IsDeclined, IsEffectOf}
+use Rattle.mm_statements.specs.Kept.{SameSeen, named, seen}
+use Rattle.mm_statements.specs.Resolving.{IsFinished, IsUnfinished, IsUnmeant}
+use Rattle.mm_statements.specs.Resolving as resolving
+use Rattle.mm_statements.specs.Right.{AreRight, IsRight}
+use Rattle.mm_statements.specs.declared.faults.ExecuteFault.{ExecuteFault}
+use Rattle.mm_statements.specs.declared.faults.ExecuteFault.TheVariants as fault
+use Rattle.mm_statements.specs.declared.kept.Prepared.{Prepared}
+use Rattle.mm_statements.specs.declared.kept.Statements.{Statements}
+use Rattle.mm_statements.proofs.ChangeLemmas.{change-schemas}
+use Rattle.mm_statements.proofs.GivenLemmas.{filled-given}
+use Rattle.mm_statements.proofs.RightLemmas.{stays-right}
+use Rattle.mm_statements.proofs.SeenLemmas.{same-seen, state_of, statement-seen}
+
+-- ---- the resolved command
+
+module _ (tables : Database) (p : Prepared) (s : Statement) (spelled : SpellsStatement p.line s) (r : Resolution) (resolves : Resolves tables s r) where
+  pub is-finished : (statements : Statements) (number : ℕ) (m : Result Resolved Refusal) → named statements number ≡ Some p
+      → finished p.bound r ≡ m → IsFinished tables statements number m
+  is-finished statements number m there is = record {
+    prepared = p;
+    there = there;
+    statement = s;
+    spelled = spelled;
+    means = resolves p.bound ∙ is;
+  }
+
+  pub is-meant : (limits : Limits) (c : Resolved) → All HasWidth p.bound → finished p.bound r ≡ Ok c → IsMeant limits tables c
+  is-meant limits c widths is =
+      resolved_are_meant [] limits tables (filled p.bound s) c (filled-given p.bound widths p.line s spelled) (resolves p.bound ∙ is)
+
+-- what is known of a statement that is right is its resolution
+pub known-resolves : (tables : Database) (p : Prepared) (r : Resolution) (right : IsRight tables p) → p.resolution ≡ Some r
+    → Resolves tables right.statement r
+known-resolves tables p r right known = subst (λ o. IfSome o (Resolves tables right.statement)) known right.resolved
+
+-- a statement whose line is declined is declined so
+pub unmeant-finished : (tables : Database) (statements : Statements) (number : ℕ) (p : Prepared) (why : Refusal)
+    → named statements number ≡ Some p → IsRight tables p → IsUnmeant tables p.line why → IsFinished tables statements number (Err why)
+unmeant-finished tables statements number p why there right (resolving.no_statement none) = absurd (none right.statement right.spelled)
+unmeant-finished tables statements number p why there right (resolving.refuses s e spelled refused) = record {
+  prepared = p;
+  there = there;
+  statement = s;
+  spelled = spelled;
+  means = refused p.bound;
+}
+
+-- ---- its effect
+
+pub effect-of : (session : State) (statements : Statements) (number : ℕ) (m : Result Resolved Refusal)
+    → IsFinished session.database statements number m
+    → IsEffectOf (state_of session statements) number (effect_of_resolved session.limits session.database m)
+effect-of session statements number m f = record {
+  kept = seen f.prepared;
+  there = statement-seen session statements number ∙ ap (option_map seen) f.there;
+  statement = f.statement;
+  spelled = f.spelled;
+  is = ap (effect_of_resolved session.limits session.database) (sym f.means);
+}
+
+-- a statement that could not be finished is declined so
+pub unfinished-declined : (session : State) (statements : Statements) (number : ℕ) (e : ExecuteFault)
+    → IsUnfinished session.database statements number e → IsDeclined (state_of session statements) number e
+unfinished-declined session statements number fault.NoSuchStatement none = statement-seen session statements number ∙ ap (option_map seen) none
+unfinished-declined session statements number (fault.Refused why) says = λ other. effect-of session statements number (Err why) (says other)
+
+-- and one whose change was declined
+pub change-declined : (old new : State) (statements : Statements) (number : ℕ) (c : Resolved) (why : Refusal)
+    → IsFinished old.database statements number (Ok c) → HasDeclined old new (done old.limits old.database c) why
+    → IsDeclined (state_of old statements) number (fault.Refused why)
+change-declined old new statements number c why f declined other =
+    ⊎_elim (λ none. absurd (other none))
+    (λ is. subst (IsEffectOf (state_of old statements) number) is (effect-of old statements number (Ok c) f)) declined.1
+
+-- ---- what stays
+
+pub same-session : (old new : State) → new.database ≡ old.database → StaysInStream old new → new ≡ old
+same-session old new tables stays = λ i. record { limits = stays.limits i; database = tables i; ended = stays.ended i; kept = stays.kept i }
+
+pub unchanged : (before after : State) (old new : Statements) → after ≡ before → SameSeen old new
+    → IsUnchanged (state_of before old) (state_of after new)
+unchanged before after old new same seen = record { session = same; statements = same-seen before after old new seen }
+
+pub changed-right : (old new : State) (statements : Statements) (c : Resolved) (count : ℕ) → IsChange c
+    → HasChanged new (done old.limits old.database c) count → AreRight old.database statements → AreRight new.database statements
+changed-right old new statements c count change changed right =
+    let same : new.database ≡ (done old.limits old.database c).database = sym (ap (λ (e : Effect). e.database) changed) in
+    stays-right old.database new.database statements
+    (sym (ap (map emptied) same ∙ change-schemas old.limits old.database c change)) right
+
+-- a statement that was finished is there
+pub there-named : (tables : Database) (statements : Statements) (number : ℕ) (m : Result Resolved Refusal) → IsFinished tables statements number m
+    → ¬ (named statements number ≡ None)
+there-named tables statements number m f none = let e : None ≡ Some f.prepared = sym none ∙ f.there in cc
+
+-- ---- results
+
+-- what holds anyway holds of an error
+pub on-err : {X E P : Type 0} (r : Result X E) → P → OnErr r P
+on-err (Ok x) h = tt
+on-err (Err e) h = h

@@ -1,0 +1,35 @@
+-- Executing: what comes of the statement of a number.
+use Rattle.std.specs.Prelude.{◌≡◌, ◌≢◌, ℕ, ◌<◌, List, [], Some, None}
+use Rattle.plain_tables.specs.Effects.{Effect, refused}
+use Rattle.plain_tables.specs.declared.value.Value.{Value}
+use Rattle.plain_tables.specs.declared.refusal.Refusal.TheVariants.{NoMemory}
+use Rattle.plain_statements.specs.declared.statement.Statement.{Statement}
+use Rattle.plain_statements.specs.Executing.{executed}
+use Rattle.plain_statements.specs.StatementSpelling.{SpellsStatement}
+use Rattle.mm_session.specs.Changing.{HasChanged, ShowsValues}
+use Rattle.mm_session.specs.Sessions.{State}
+use Rattle.mm_statements.specs.Databases.{KeptStatement, DatabaseState, statement_at}
+use Rattle.mm_statements.specs.declared.faults.ExecuteFault.{ExecuteFault}
+use Rattle.mm_statements.specs.declared.faults.ExecuteFault.TheVariants as fault
+use Rattle.mm_statements.specs.declared.database.Executed.{Executed}
+use Rattle.mm_statements.specs.declared.database.Executed.TheVariants as gives
+
+-- The number names a statement, and this is the effect of the statement that its line spells, with the values that are bound.
+pub record IsEffectOf (database : DatabaseState) (number : ℕ) (effect : Effect) : Type 0 where
+  pub kept : KeptStatement
+  pub there : statement_at database number ≡ Some kept
+  pub statement : Statement
+  pub spelled : SpellsStatement kept.line statement
+  pub is : effect ≡ executed database.session.limits database.session.database statement kept.values
+
+-- The effect came about. It changed so many rows, or it shows rows of so many columns, whose values the cells are.
+abbrev pub HasGiven : State → Effect → Executed → List Value → Type 0
+HasGiven new effect (gives.Changed count) cells = HasChanged new effect count × (cells ≡ [])
+HasGiven new effect (gives.Rows columns) cells =
+    (new.database ≡ effect.database) × ShowsValues effect.outcome columns cells × (0 < columns)
+
+-- The number names no statement; or the refusal is the effect, unless there was no memory.
+abbrev pub IsDeclined : DatabaseState → ℕ → ExecuteFault → Type 0
+IsDeclined database number fault.NoSuchStatement = statement_at database number ≡ None
+IsDeclined database number (fault.Refused why) =
+    why ≢ NoMemory → IsEffectOf database number (refused database.session.database why)

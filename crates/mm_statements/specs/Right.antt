@@ -1,0 +1,20 @@
+-- Right: what is true of each statement that is kept.
+use Rattle.std.specs.Prelude.{◌≡◌, ℕ, Some, IfSome, length}
+use Rattle.plain_tables.specs.Databases.{Database}
+use Rattle.plain_statements.specs.declared.statement.Statement.{Statement}
+use Rattle.plain_statements.specs.Laws.{Resolves}
+use Rattle.plain_statements.specs.StatementSpelling.{SpellsStatement, holes_of}
+use Rattle.mm_statements.specs.declared.kept.Prepared.{Prepared}
+use Rattle.mm_statements.specs.declared.kept.Statements.{Statements}
+use Rattle.mm_statements.specs.Kept.{named}
+
+-- The line spells a statement, each of whose holes has a value; and what is known of its meaning is what it means of these tables.
+pub record IsRight (tables : Database) (p : Prepared) : Type 0 where
+  pub statement : Statement
+  pub spelled : SpellsStatement p.line statement
+  pub counted : length p.bound ≡ length (holes_of statement)
+  pub resolved : IfSome p.resolution (Resolves tables statement)
+
+-- each statement that is kept is right by these tables
+abbrev pub AreRight : Database → Statements → Type 0
+AreRight tables statements = (number : ℕ) (p : Prepared) → named statements number ≡ Some p → IsRight tables p

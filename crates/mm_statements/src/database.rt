@@ -1,0 +1,216 @@
+//! A database with statements: a session, and the statements that are kept of its tables.
+
+use crate::cell::Cell;
+use crate::declined::Declined;
+use crate::faults::{ExecuteFault, PrepareFault};
+use crate::kept::Statements;
+use crate::reading::{count_marks, meaning, readable};
+use crate::resolving::command_of;
+use mm_cells::Cells;
+use mm_session::{Answer, NotOneRequest, Session, SessionFault};
+use no_memory::NoMemory;
+use plain_tables::{Limits, Resolved};
+use plan_chooser::Policy;
+use std::alloc::Global;
+use std::io::Write;
+use std::marker::Model;
+
+/// A statement that was prepared: its number, and how many holes it has.
+#[derive(Clone, Copy, Debug, PartialEq, Eq)]
+pub struct Numbered {
+    pub statement: usize,
+    pub places: usize,
+}
+
+/// What an execution gave: how many rows it changed; or rows, of so many columns each.
+#[derive(Clone, Copy, Debug, PartialEq, Eq)]
+pub enum Executed {
+    Changed(usize),
+    Rows { columns: usize },
+}
+
+/// A session with statements. A statement is a line whose question marks are holes for values; it is prepared once, and executed with
+/// the values that are bound then.
+#[derive(Drop)]
+pub struct Database {
+    session: Session,
+    statements: Statements,
+}
+
+impl Model for Database {
+    ghost use Rattle.mm_statements.specs.Databases.{DatabaseState};
+    ghost use Rattle.mm_statements.specs.Kept.{all_seen};
+    ghost use Rattle.mm_statements.specs.Right.{AreRight};
+
+    ghost Value = { DatabaseState };
+
+    ghost view = { λ d. record { session = d.session; statements = all_seen d.statements } };
+
+    ghost invariant = { λ d. AreRight d.session.database d.statements };
+}
+
+impl Database {
+    ghost use Rattle.std.specs.Prelude.{◌≡◌, ◌≢◌, ◌≤◌, ◌↔◌, ℕ, Err, None, Some, false, true, [], IsErrOf, IsTrue, IfErr, IfOk, OnErr, OnOk, length, replicate, slice_set};
+    ghost use Rattle.std.specs.Io.KnownBytes.{Keeps};
+    ghost use Rattle.plain_tables.specs.declared.value.Value.TheVariants as value;
+    ghost use Rattle.plain_streams.specs.Division.{IsWhole};
+    ghost use Rattle.plain_streams.specs.Requests.{without_return};
+    ghost use Rattle.mm_session.specs.OneRequest.{AnswersOne, GoesBetween, StaysInStream};
+    ghost use Rattle.mm_session.specs.Sessions.{BreaksOff, Feeds, Finishes, Gains, new_session};
+    ghost use Rattle.mm_statements.specs.Cells.{cell_value};
+    ghost use Rattle.mm_statements.specs.Databases.{KeptStatement, statement_at, IsUnchanged, NowNames, SameStatements};
+    ghost use Rattle.mm_statements.specs.Executing.{HasGiven, IsDeclined, IsEffectOf};
+    ghost use Rattle.mm_statements.specs.Preparing.{IsPrepared, IsUnpreparedFor};
+    ghost use Rattle.mm_statements.specs.declared.declined.Declined.TheVariants as declined;
+    ghost use Rattle.mm_statements.specs.declared.faults.ExecuteFault.TheVariants as fault;
+    ghost use Rattle.plain_tables.specs.Effects.{Effect};
+
+    /// A database with no tables, under these limits, and no statements.
+    pub fn new(alloc: Global, policy: Policy, limits: Limits) -> Result<Database, NoMemory>
+        requires { limits.rows ≤ 16777216 }
+        ensures session { IfOk result (λ d. d.session ≡ new_session limits []) }
+        ensures none { IfOk result (λ d. (number : ℕ) → statement_at d number ≡ None) }
+    {
+        Ok(Database {
+            session: Session::with_limits(alloc, policy, limits)?,
+            statements: Statements::new(alloc),
+        })
+    }
+
+    /// The session, lent.
+    pub fn session(&self) -> &Session
+        ensures { result.now ≡ self.now.session }
+    {
+        &self.session
+    }
+
+    /// Answers one request by itself, beside the stream: a line without its line feed, and the block behind it, which is empty
+    /// for a line that asks for none. The stream goes on as if the request had not been there.
+    pub fn answer_request(
+        &mut self,
+        line: &[u8],
+        block: &[u8],
+        answer: &mut Answer,
+    ) -> Result<(), NotOneRequest>
+        // The request is one, and was answered.
+        ensures ok { OnOk result (AnswersOne self.old.session.limits self.old.session.database (record { line = line.now; block = block.now }) answer.new self.new.session.database) }
+
+        // It isn't: the line has a line feed in it, or takes another number of bytes than the block has.
+        ensures err { OnErr result (¬ (IsWhole (record { line = line.now; block = block.now }))) }
+        ensures unchanged { OnErr result ((self.new ≡ self.old) × (answer.new ≡ answer.old)) }
+
+        // The stream goes on as before, and the request stands behind what of it was answered.
+        ensures stream { StaysInStream self.old.session self.new.session }
+        ensures run { OnOk result (GoesBetween self.old.session self.new.session (record { line = line.now; block = block.now }) answer.new) }
+
+        // The statements stay.
+        ensures statements { SameStatements self.old self.new }
+    {
+        self.session.answer_request(line, block, answer)?;
+        self.statements.forget();
+        Ok(())
+    }
+
+    /// Takes the next bytes of the stream, and answers each request that ends in them.
+    ///
+    /// After `Write` the session has ended: each later call answers `Ended` and writes nothing.
+    pub fn feed<W: Write>(&mut self, piece: &[u8], w: &mut W) -> Result<(), SessionFault>
+        // Ended, before the call.
+        ensures ended { IsErrOf result SessionFault.Ended ↔ IsTrue self.old.session.ended }
+        ensures unchanged { IsErrOf result SessionFault.Ended → (self.new.session ≡ self.old.session) × Keeps (W.contents w.old) (W.contents w.new) }
+
+        // Each request that ended was answered.
+        ensures ok { OnOk result (Gains (W.contents w.old) (W.contents w.new) (Feeds self.old.session self.new.session piece.now)) }
+
+        // A write failed, and the answers stop somewhere.
+        ensures write { IsErrOf result SessionFault.Write → Gains (W.contents w.old) (W.contents w.new) (BreaksOff self.old.session piece.now false) }
+        ensures over { IsErrOf result SessionFault.Write → IsTrue self.new.session.ended }
+        ensures limits { self.new.session.limits ≡ self.old.session.limits }
+
+        // The statements stay.
+        ensures statements { SameStatements self.old self.new }
+    {
+        let fed = self.session.feed(piece, w);
+        self.statements.forget();
+        fed
+    }
+
+    /// Answers the last request of the stream, which it ends in, where there is one. The session has ended then: each later call
+    /// answers `Ended` and writes nothing.
+    pub fn end<W: Write>(&mut self, w: &mut W) -> Result<(), SessionFault>
+        ensures ended { IsErrOf result SessionFault.Ended ↔ IsTrue self.old.session.ended }
+        ensures unchanged { IsErrOf result SessionFault.Ended → Keeps (W.contents w.old) (W.contents w.new) }
+        ensures ok { OnOk result (Gains (W.contents w.old) (W.contents w.new) (Finishes self.old.session)) }
+        ensures write { IsErrOf result SessionFault.Write → Gains (W.contents w.old) (W.contents w.new) (BreaksOff self.old.session [] true) }
+        ensures over { IsTrue self.new.session.ended }
+        ensures statements { SameStatements self.old self.new }
+    {
+        let ended = self.session.end(w);
+        self.statements.forget();
+        ended
+    }
+
+    /// Keeps the statement that a line spells, under a number that named none. Each of its holes has a null until a value is bound.
+    pub fn prepare(&mut self, alloc: Global, line: &[u8]) -> Result<Numbered, PrepareFault>
+        ensures prepared { IfOk result (λ n. IsPrepared self.old.session.database (without_return line.now) n.places) }
+        ensures fresh { IfOk result (λ n. statement_at self.old n.statement ≡ None) }
+        ensures kept { IfOk result (λ n. NowNames self.old self.new n.statement (Some (record { line = without_return line.now; values = replicate n.places value.Null }))) }
+        ensures refused { IfErr result (IsUnpreparedFor self.old.session.database (without_return line.now)) }
+        ensures session { self.new.session ≡ self.old.session }
+        ensures unchanged { OnErr result (IsUnchanged self.old self.new) }
+    {
+        let line = readable(line)?;
+        let resolution = meaning(alloc, self.session.catalog(), &line)?;
+        let places = count_marks(line.as_str().as_bytes());
+        let statement = self
+            .statements
+            .prepare(alloc, line.as_str(), places, resolution)?;
+        Ok(Numbered { statement, places })
+    }
+
+    /// Frees a number: it names no statement.
+    pub fn finalize(&mut self, number: usize) -> Result<(), Declined>
+        ensures freed { OnOk result (NowNames self.old self.new number None) }
+        ensures missing { statement_at self.old number ≡ None → result ≡ Err declined.NoSuchStatement }
+        ensures declined { IfErr result (λ e. e ≡ declined.NoSuchStatement) }
+        ensures none { OnErr result (statement_at self.old number ≡ None) }
+        ensures session { self.new.session ≡ self.old.session }
+        ensures unchanged { OnErr result (IsUnchanged self.old self.new) }
+    {
+        self.statements.finalize(number)
+    }
+
+    /// Binds a value to the hole of a place in the statement that a number names. A text is copied.
+    pub fn bind(&mut self, number: usize, place: usize, cell: Cell<'_>) -> Result<(), Declined>
+        ensures bound { OnOk result ((p : KeptStatement) → statement_at self.old number ≡ Some p → NowNames self.old self.new number (Some (record p { values = slice_set p.values place (cell_value cell.entry) }))) }
+        ensures missing { statement_at self.old number ≡ None → result ≡ Err declined.NoSuchStatement }
+        ensures past { (p : KeptStatement) → statement_at self.old number ≡ Some p → length p.values ≤ place → result ≡ Err declined.NoSuchPlace }
+        ensures declined { IfErr result (λ e. e ≢ declined.NoMemory → (p : KeptStatement) → statement_at self.old number ≡ Some p → length p.values ≤ place) }
+        ensures session { self.new.session ≡ self.old.session }
+        ensures unchanged { OnErr result (IsUnchanged self.old self.new) }
+    {
+        self.statements.bind(number, place, cell)
+    }
+
+    /// Does what the statement of a number says with the values that are bound, beside the stream. It makes the cells the values of the
+    /// rows that it shows, a row behind the other, and none where it shows none; where it fails they may be any.
+    pub fn execute(&mut self, number: usize, cells: &mut Cells) -> Result<Executed, ExecuteFault>
+        ensures done { IfOk result (λ given. (effect : Effect) × IsEffectOf self.old number effect × HasGiven self.new.session effect given cells.new) }
+        ensures missing { statement_at self.old number ≡ None → result ≡ Err fault.NoSuchStatement }
+        ensures declined { IfErr result (IsDeclined self.old number) }
+        ensures unchanged { OnErr result (IsUnchanged self.old self.new) }
+
+        // The stream goes on as before, and the statements stay.
+        ensures stream { StaysInStream self.old.session self.new.session }
+        ensures statements { SameStatements self.old self.new }
+    {
+        cells.clear();
+        let command = command_of(&self.session, &mut self.statements, number)?;
+        if let Resolved::Select(query) = &command {
+            let columns = self.session.select(query, cells)?;
+            return Ok(Executed::Rows { columns });
+        }
+        let count = self.session.change(command)?;
+        Ok(Executed::Changed(count))
+    }
+}
