@@ -50,7 +50,7 @@ impl Model for Database {
 }
 
 impl Database {
-    ghost use Rattle.std.specs.Prelude.{◌≡◌, ◌≢◌, ◌≤◌, ◌↔◌, ℕ, Err, None, Some, false, true, [], IsErrOf, IsTrue, IfErr, IfOk, OnErr, OnOk, length, replicate, slice_set};
+    ghost use Rattle.std.specs.Prelude.{◌≡◌, ◌≢◌, ◌≤◌, ◌↔◌, ℕ, Err, None, Some, false, true, [], IsErrOf, IsSome, IsTrue, IfErr, IfOk, OnErr, OnOk, length, replicate, slice_set};
     ghost use Rattle.std.specs.Io.KnownBytes.{Keeps};
     ghost use Rattle.plain_tables.specs.declared.value.Value.TheVariants as value;
     ghost use Rattle.plain_streams.specs.Division.{IsWhole};
@@ -148,6 +148,13 @@ impl Database {
         let ended = self.session.end(w);
         self.statements.forget();
         ended
+    }
+
+    /// Whether a number names a statement.
+    pub fn has(&self, number: usize) -> bool
+        ensures { IsTrue result ↔ IsSome (statement_at self.now number) }
+    {
+        self.statements.get(number).is_some()
     }
 
     /// Keeps the statement that a line spells, under a number that named none. Each of its holes has a null until a value is bound.

@@ -6,6 +6,8 @@ use Rattle.mm_catalog.specs.State.{CatalogState}
 use Rattle.mm_session.specs.IndexAnswers.{AnswersIndexes}
 use Rattle.mm_session.specs.OneRequest.{AnswersOne, StaysInStream, GoesBetween}
 use Rattle.mm_session.specs.Sessions.{Feeds, BreaksOff, new_session}
+use Rattle.plain_tables.specs.declared.command.Limits.{Limits}
+use Rattle.mm_statements.specs.Databases.{SameStatements, statement_at}
 use Rattle.mmdb_c.specs.declared.database.Database.{Database}
 
 -- the limits that a database may have
@@ -14,9 +16,12 @@ pub record AreLimits (rows block : ℕ) : Type 0 where
   pub rows_fit : rows ≤ 16777216
   pub block_fits : block ≤ 16777216
 
--- a database with no tables, under these limits
-abbrev pub new_database : ℕ → ℕ → Database
-new_database rows block = record { session = new_session (record { rows = rows; block = block }) []; answer = []; reason = [] }
+-- a database with no tables and no statements, under these limits, to which no call has answered
+pub record IsNew (limits : Limits) (d : Database) : Type 0 where
+  pub session : d.inner.session ≡ new_session limits []
+  pub none : (number : ℕ) → statement_at d.inner number ≡ None
+  pub answer : d.answer ≡ []
+  pub reason : d.reason ≡ []
 
 -- the request of a line and a block
 abbrev pub request : List ℕ → List ℕ → Request
@@ -30,28 +35,32 @@ Becomes None new says = ⊥
 
 -- The session answered the request beside its stream, and the answer is kept.
 pub record AnswersRequest (asked : Request) (old new : Database) : Type 0 where
-  pub answers : AnswersOne old.session.limits old.session.database asked new.answer new.session.database
-  pub stays : StaysInStream old.session new.session
-  pub between : GoesBetween old.session new.session asked new.answer
+  pub answers : AnswersOne old.inner.session.limits old.inner.session.database asked new.answer new.inner.session.database
+  pub stays : StaysInStream old.inner.session new.inner.session
+  pub between : GoesBetween old.inner.session new.inner.session asked new.answer
+  pub statements : SameStatements old.inner new.inner
 
 -- How the indexes of the table of that name stand is kept as the answer, and nothing else changed.
 pub record TellsIndexes (name : List ℕ) (old new : Database) : Type 0 where
-  pub session : new.session ≡ old.session
+  pub inner : new.inner ≡ old.inner
   pub catalog : CatalogState
-  pub tables : database_of catalog ≡ old.session.database
+  pub tables : database_of catalog ≡ old.inner.session.database
   pub answer : AnswersIndexes catalog name new.answer
 
 -- The session took the piece, and the answers that it gained are kept.
 pub record TakesPiece (piece : List ℕ) (old new : Database) : Type 0 where
-  pub feeds : Feeds old.session new.session piece new.answer
+  pub feeds : Feeds old.inner.session new.inner.session piece new.answer
+  pub statements : SameStatements old.inner new.inner
 
 -- The answers to the piece broke off, what was gained of them is kept, and the stream is over.
 pub record LosesStream (piece : List ℕ) (old new : Database) : Type 0 where
-  pub breaks_off : BreaksOff old.session piece false new.answer
-  pub over : IsTrue new.session.ended
-  pub limits : new.session.limits ≡ old.session.limits
+  pub breaks_off : BreaksOff old.inner.session piece false new.answer
+  pub over : IsTrue new.inner.session.ended
+  pub limits : new.inner.session.limits ≡ old.inner.session.limits
+  pub statements : SameStatements old.inner new.inner
 
--- The session and the answers are as they were.
+-- The session, its statements, what these have shown and the answers are as they were.
 pub record IsAsBefore (old new : Database) : Type 0 where
-  pub session : new.session ≡ old.session
+  pub inner : new.inner ≡ old.inner
+  pub shown : new.shown ≡ old.shown
   pub answer : new.answer ≡ old.answer

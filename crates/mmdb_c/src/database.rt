@@ -1,35 +1,37 @@
-//! A session, the answers to the last call, and the reason that was last asked for.
+//! A database, the answers to the last call, the values that its statements have shown, and the reason that was last asked for.
 
-ghost use Rattle.std.specs.Prelude.{◌≡◌, ◌≤◌, ◌↔◌, [], IsTrue, IsErrOf, IfOk, OnOk, OnErr};
+ghost use Rattle.std.specs.Prelude.{◌≡◌, ◌≤◌, ◌↔◌, IsTrue, IsErrOf, IfOk, OnOk, OnErr};
 ghost use Rattle.plain_streams.specs.Division.{IsWhole};
-ghost use Rattle.mm_session.specs.Sessions.{new_session};
 
+use mm_cells::Cells;
 use mm_reason::reason;
-use mm_session::{Answer, NotOneRequest, Session, SessionFault};
+use mm_session::{Answer, NotOneRequest, SessionFault};
 use plain_tables::{Limits, NoMemory};
 use plan_chooser::Policy;
 use std::alloc::Global;
 
-/// A session, the answers to the last call, and the reason that was last asked for.
+/// A database, the answers to the last call, the values that each of its statements has shown, and the reason that was last asked for.
 #[derive(Drop)]
 pub struct Database {
-    pub session: Session,
+    pub inner: mm_statements::Database,
     pub answer: Answer,
     pub reason: Answer,
+    pub shown: Vec<Cells>,
 }
 
 impl Database {
-    ghost use Rattle.mmdb_c.specs.Calls.{request, AnswersRequest, TellsIndexes, TakesPiece, LosesStream, IsAsBefore};
+    ghost use Rattle.mmdb_c.specs.Calls.{request, IsNew, AnswersRequest, TellsIndexes, TakesPiece, LosesStream, IsAsBefore};
 
-    /// A database with no tables, an empty answer and an empty reason.
+    /// A database with no tables and no statements, an empty answer and an empty reason.
     pub fn new(alloc: Global, policy: Policy, limits: Limits) -> Result<Database, NoMemory>
         requires { limits.rows ≤ 16777216 }
-        ensures { IfOk result (λ d. (d.session ≡ new_session limits []) × (d.answer ≡ []) × (d.reason ≡ [])) }
+        ensures { IfOk result (IsNew limits) }
     {
         Ok(Database {
-            session: Session::with_limits(alloc, policy, limits)?,
+            inner: mm_statements::Database::new(alloc, policy, limits)?,
             answer: Answer::new(alloc)?,
             reason: Answer::new(alloc)?,
+            shown: Vec::new(alloc),
         })
     }
 
@@ -39,28 +41,28 @@ impl Database {
         ensures err { OnErr result (¬ (IsWhole (request line.now block.now))) }
         ensures unchanged { OnErr result (self.new ≡ self.old) }
     {
-        self.session.answer_request(line, block, &mut self.answer)
+        self.inner.answer_request(line, block, &mut self.answer)
     }
 
     /// Makes the answer how the indexes of the table of a name stand, beside the stream.
     pub fn tell_indexes(&mut self, name: &[u8])
         ensures { TellsIndexes name.now self.old self.new }
     {
-        self.session.tell_indexes(name, &mut self.answer)
+        self.inner.session().tell_indexes(name, &mut self.answer)
     }
 
     /// Takes the next bytes of the stream, and keeps the answers of the requests that end in them.
     pub fn feed(&mut self, piece: &[u8]) -> Result<(), SessionFault>
         ensures ok { OnOk result (TakesPiece piece.now self.old self.new) }
         ensures write { IsErrOf result SessionFault.Write → LosesStream piece.now self.old self.new }
-        ensures ended { IsErrOf result SessionFault.Ended ↔ IsTrue self.old.session.ended }
+        ensures ended { IsErrOf result SessionFault.Ended ↔ IsTrue self.old.inner.session.ended }
         ensures unchanged { IsErrOf result SessionFault.Ended → self.new ≡ self.old }
     {
-        if self.session.has_ended() {
+        if self.inner.session().has_ended() {
             return Err(SessionFault::Ended);
         }
         self.answer.clear();
-        self.session.feed(piece, &mut self.answer)
+        self.inner.feed(piece, &mut self.answer)
     }
 
     /// Keeps the words that say why the request of a line and a block was refused by the refusal that the answers begin with.
@@ -70,7 +72,7 @@ impl Database {
     {
         self.reason.clear();
         let number = self.answer.refusal();
-        match reason(alloc, self.session.catalog(), line, block, number)? {
+        match reason(alloc, self.inner.session().catalog(), line, block, number)? {
             Some(words) => self.reason.push(words.as_bytes()),
             None => Ok(()),
         }

@@ -1,7 +1,7 @@
 //! mmdb for C: handles, and the calls on them.
 //!
-//! A handle owns a database: a session, and the answers to the last call. Each call takes the database out of the handle, does what
-//! the session's call does, and puts it back. The header that C reads is `include/mmdb.h`.
+//! A handle owns a database: a session with statements, the answers to the last call, and what each statement has shown. Each call takes
+//! the database out of the handle, does what the call of the session or the statements does, and puts it back. The header that C reads is `include/mmdb.h`.
 //!
 //! - A handle that is closed owns nothing, and a call on it does nothing.
 //! - After each status but `DONE` the tables are as they were, unless a piece found no room for its answers.
@@ -11,10 +11,13 @@ ghost use Rattle.std.specs.Prelude.{◌≡◌, ◌≢◌, ◌↔◌, ◌<◌, �
 ghost use Rattle.std.specs.Vec.{vec_ptr, vec_len};
 ghost use Rattle.plain_streams.specs.Division.{IsWhole};
 ghost use Rattle.mm_session.specs.Refused.{TellsRefusal};
-ghost use Rattle.mmdb_c.specs.Calls.{AreLimits, new_database, request, Becomes, AnswersRequest, TellsIndexes, TakesPiece, LosesStream, IsAsBefore};
+ghost use Rattle.mmdb_c.specs.Calls.{AreLimits, IsNew, request, Becomes, AnswersRequest, TellsIndexes, TakesPiece, LosesStream, IsAsBefore};
 
 mod database;
 mod handle;
+mod rows;
+mod statements;
+pub mod statement_calls;
 
 use crate::database::Database;
 use crate::handle::Handle;
@@ -41,6 +44,14 @@ const NO_MEMORY: u32 = 7;
 
 const ENDED: u32 = 8;
 
+const NO_SUCH_STATEMENT: u32 = 9;
+
+const NO_SUCH_PLACE: u32 = 10;
+
+const NOT_UTF8: u32 = 11;
+
+const REFUSED: u32 = 12;
+
 /// The bytes of an answer.
 #[repr(C)]
 #[derive(Drop)]
@@ -62,7 +73,7 @@ pub extern "C" fn mmdb_open(
     ensures no_such_policy { (result ≡ NO_SUCH_POLICY) ↔ (IsNone handle.old.database × (4 < policy)) }
     ensures out_of_range { (result ≡ LIMIT_OUT_OF_RANGE) ↔ (IsNone handle.old.database × (policy ≤ 4) × ¬ (AreLimits rows block)) }
     ensures opened { IsNone handle.old.database × (policy ≤ 4) × AreLimits rows block → (result ≡ DONE) ⊎ (result ≡ NO_MEMORY) }
-    ensures done { result ≡ DONE → handle.new.database ≡ Some (new_database rows block) }
+    ensures done { result ≡ DONE → IsSomeAnd handle.new.database (IsNew (record { rows = rows; block = block })) }
     ensures unchanged { result ≢ DONE → handle.new.database ≡ handle.old.database }
 {
     if let Some(database) = handle.take(alloc) {
@@ -191,8 +202,8 @@ pub extern "C" fn mmdb_indexes(
 #[unsafe(no_mangle)]
 pub extern "C" fn mmdb_feed(alloc: Global, handle: &mut Handle, piece: &[u8]) -> u32
     ensures not_open { (result ≡ NOT_OPEN) ↔ IsNone handle.old.database }
-    ensures ended { (result ≡ ENDED) ↔ IsSomeAnd handle.old.database (λ d. IsTrue d.session.ended) }
-    ensures goes_on { IsSomeAnd handle.old.database (λ d. d.session.ended ≡ false) → (result ≡ DONE) ⊎ (result ≡ NO_MEMORY) }
+    ensures ended { (result ≡ ENDED) ↔ IsSomeAnd handle.old.database (λ d. IsTrue d.inner.session.ended) }
+    ensures goes_on { IsSomeAnd handle.old.database (λ d. d.inner.session.ended ≡ false) → (result ≡ DONE) ⊎ (result ≡ NO_MEMORY) }
     ensures done { result ≡ DONE → Becomes handle.old.database handle.new.database (TakesPiece piece.now) }
     ensures no_memory { result ≡ NO_MEMORY → Becomes handle.old.database handle.new.database (LosesStream piece.now) }
     ensures unchanged { (result ≡ NOT_OPEN) ⊎ (result ≡ ENDED) → handle.new.database ≡ handle.old.database }

@@ -1,0 +1,102 @@
+-- What the calls of C on statements do with a handle, in the words of the calls of the database.
+use Rattle.std.specs.Prelude.{◌≡◌, ◌≢◌, ◌<◌, ◌≤◌, ◌/◌, ℕ, List, [], Option, Some, None, length, replicate, slice_index_or, slice_set}
+use Rattle.plain_tables.specs.AnswerText.{refusal_text}
+use Rattle.plain_tables.specs.Effects.{Effect}
+use Rattle.plain_tables.specs.declared.refusal.Refusal.{Refusal}
+use Rattle.plain_tables.specs.declared.refusal.Refusal.TheVariants.{NoMemory}
+use Rattle.plain_tables.specs.declared.value.Value.{Value}
+use Rattle.plain_tables.specs.declared.value.Value.TheVariants as value
+use Rattle.plain_streams.specs.Requests.{without_return}
+use Rattle.mm_session.specs.OneRequest.{StaysInStream}
+use Rattle.mm_statements.specs.Databases.{KeptStatement, IsUnchanged, NowNames, SameStatements, statement_at}
+use Rattle.mm_statements.specs.Executing.{HasGiven, IsDeclined, IsEffectOf}
+use Rattle.mm_statements.specs.Preparing.{IsPrepared}
+use Rattle.mm_statements.specs.Preparing as preparing
+use Rattle.mm_statements.specs.declared.database.Executed.{Executed}
+use Rattle.mm_statements.specs.declared.database.Executed.TheVariants as gives
+use Rattle.mm_statements.specs.declared.declined.Declined.{Declined}
+use Rattle.mm_statements.specs.declared.declined.Declined.TheVariants as declined
+use Rattle.mm_statements.specs.declared.faults.ExecuteFault.TheVariants as fault
+use Rattle.mmdb_c.specs.declared.database.Database.{Database}
+use Rattle.mmdb_c.specs.declared.statements.Statement.{Statement}
+use Rattle.mmdb_c.specs.declared.rows.Rows.{Rows}
+
+-- the session and the statements are as they were
+abbrev pub KeepsAll : Database → Database → Type 0
+KeepsAll old new = IsUnchanged old.inner new.inner
+
+-- The line is kept as the statement that it spells, under a number that named none, with a null for each of its places; and the answer is
+-- empty.
+pub record Prepares (line : List ℕ) (old new : Database) (told : Statement) : Type 0 where
+  pub prepared : IsPrepared old.inner.session.database (without_return line) told.places
+  pub fresh : statement_at old.inner told.number ≡ None
+  pub kept : NowNames old.inner new.inner told.number (Some (record { line = without_return line; values = replicate told.places value.Null }))
+  pub session : new.inner.session ≡ old.inner.session
+  pub answer : new.answer ≡ []
+
+-- The line spells no statement that can be kept, and the answer is the refusal.
+pub record IsUnprepared (line : List ℕ) (old new : Database) : Type 0 where
+  pub why : Refusal
+  pub refused : preparing.IsUnprepared old.inner.session.database (without_return line) why
+  pub answer : new.answer ≡ refusal_text why
+
+-- the number names no statement
+abbrev pub IsMissing : ℕ → Database → Type 0
+IsMissing number d = statement_at d.inner number ≡ None
+
+-- the number names a statement, which has no such place
+abbrev pub IsPast : ℕ → ℕ → Database → Type 0
+IsPast number place d = (kept : KeptStatement) × (statement_at d.inner number ≡ Some kept) × (length kept.values ≤ place)
+
+-- why no value was bound
+abbrev pub IsUnbound : ℕ → ℕ → Database → Declined → Type 0
+IsUnbound number place d declined.NoSuchStatement = IsMissing number d
+IsUnbound number place d declined.NoSuchPlace = IsPast number place d
+IsUnbound number place d declined.NoMemory = Unit {0}
+
+-- The value stands at the place of the statement, and nothing else has changed.
+pub record Binds (number place : ℕ) (v : Value) (old new : Database) : Type 0 where
+  pub kept : KeptStatement
+  pub there : statement_at old.inner number ≡ Some kept
+  pub bound : NowNames old.inner new.inner number (Some (record kept { values = slice_set kept.values place v }))
+  pub session : new.inner.session ≡ old.inner.session
+  pub answer : new.answer ≡ old.answer
+
+-- The number names no statement, and nothing else has changed.
+pub record Finalizes (number : ℕ) (old new : Database) : Type 0 where
+  pub freed : NowNames old.inner new.inner number None
+  pub session : new.inner.session ≡ old.inner.session
+  pub answer : new.answer ≡ old.answer
+
+-- the values that the statement of a number has shown
+abbrev pub shown_by : Database → ℕ → List Value
+shown_by d number = slice_index_or d.shown.items number []
+
+-- The effect of the statement came about beside the stream, and what it shows are its cells.
+pub record HasExecuted (number : ℕ) (old new : Database) (given : Executed) : Type 0 where
+  pub effect : Effect
+  pub is : IsEffectOf old.inner number effect
+  pub given : HasGiven new.inner.session effect given (shown_by new number)
+  pub stream : StaysInStream old.inner.session new.inner.session
+  pub statements : SameStatements old.inner new.inner
+
+-- so it is, and the answer is empty
+pub record Executes (number : ℕ) (old new : Database) (given : Executed) : Type 0 where
+  pub executed : HasExecuted number old new given
+  pub answer : new.answer ≡ []
+
+-- The statement is refused, or there was no memory; that is the answer.
+pub record IsUnexecuted (number : ℕ) (old new : Database) : Type 0 where
+  pub why : Refusal
+  pub declined : IsDeclined old.inner number (fault.Refused why)
+  pub answer : new.answer ≡ refusal_text why
+
+-- What C is told of what an execution gave: how many rows it changed; or how many rows there are, and of how many columns.
+abbrev pub Tells : List Value → Executed → Rows → Type 0
+Tells cells (gives.Changed count) told = (told.changed ≡ count) × (told.rows ≡ 0) × (told.columns ≡ 0)
+Tells cells (gives.Rows columns) told = (told.changed ≡ 0) × (told.rows ≡ length cells / columns) × (told.columns ≡ columns)
+
+-- what was given, if it is rows, has columns
+abbrev pub HasColumns : Executed → Type 0
+HasColumns (gives.Changed count) = Unit {0}
+HasColumns (gives.Rows columns) = 0 < columns

@@ -1,0 +1,199 @@
+//! The calls on statements.
+
+ghost use Rattle.std.specs.Prelude.{◌≡◌, ◌≢◌, ◌↔◌, ◌⊎◌, [], IsNone, IsSome, IsSomeAnd};
+ghost use Rattle.std.specs.Str.{IsUtf8};
+ghost use Rattle.plain_tables.specs.declared.value.Value.TheVariants as value;
+ghost use Rattle.mm_statements.specs.Cells.{cell_value};
+ghost use Rattle.mm_statements.specs.declared.database.Executed.{Executed};
+ghost use Rattle.mmdb_c.specs.Calls.{Becomes};
+ghost use Rattle.mmdb_c.specs.StatementCalls.{Prepares, IsUnprepared, KeepsAll, IsMissing, IsPast, Binds, Finalizes, Executes, IsUnexecuted, Tells, shown_by};
+
+use crate::handle::Handle;
+use crate::rows::Rows;
+use crate::statements::{Statement, Unexecuted, Unprepared};
+use crate::{
+    DONE, NO_LINE, NO_MEMORY, NO_SUCH_PLACE, NO_SUCH_STATEMENT, NOT_OPEN, NOT_UTF8, REFUSED,
+};
+use mm_statements::{Cell, Declined};
+use std::alloc::Global;
+
+/// Prepares the statement that a line spells, and tells its number and how many places it has.
+#[unsafe(no_mangle)]
+pub extern "C" fn mmdb_prepare(
+    alloc: Global,
+    handle: &mut Handle,
+    line: &[u8],
+    statement: &mut Statement,
+) -> u32
+    ensures not_open { (result ≡ NOT_OPEN) ↔ IsNone handle.old.database }
+    ensures no_line { (result ≡ NO_LINE) ↔ (IsSome handle.old.database × (line.now ≡ [])) }
+    ensures judged { IsSome handle.old.database × (line.now ≢ []) → (result ≡ DONE) ⊎ ((result ≡ REFUSED) ⊎ (result ≡ NO_MEMORY)) }
+    ensures done { result ≡ DONE → Becomes handle.old.database handle.new.database (λ old new. Prepares line.now old new statement.new) }
+    ensures refused { result ≡ REFUSED → Becomes handle.old.database handle.new.database (IsUnprepared line.now) }
+    ensures kept { (result ≡ REFUSED) ⊎ (result ≡ NO_MEMORY) → Becomes handle.old.database handle.new.database KeepsAll }
+    ensures unchanged { (result ≡ NOT_OPEN) ⊎ (result ≡ NO_LINE) → handle.new.database ≡ handle.old.database }
+    ensures untold { result ≢ DONE → statement.new ≡ statement.old }
+{
+    let Some(mut database) = handle.take(alloc) else {
+        return NOT_OPEN;
+    };
+    if line.is_empty() {
+        handle.put(alloc, database);
+        return NO_LINE;
+    }
+    let prepared = database.prepare(alloc, line);
+    handle.put(alloc, database);
+    match prepared {
+        Ok(told) => {
+            *statement = told;
+            DONE
+        }
+        Err(Unprepared::Refused) => REFUSED,
+        Err(Unprepared::NoMemory) => NO_MEMORY,
+    }
+}
+
+// Binds a value to a place of a statement.
+fn bind(alloc: Global, handle: &mut Handle, statement: u32, place: u32, cell: Cell<'_>) -> u32
+    ensures not_open { (result ≡ NOT_OPEN) ↔ IsNone handle.old.database }
+    ensures missing { IsSomeAnd handle.old.database (IsMissing statement) → result ≡ NO_SUCH_STATEMENT }
+    ensures past { IsSomeAnd handle.old.database (IsPast statement place) → result ≡ NO_SUCH_PLACE }
+    ensures no_such_statement { result ≡ NO_SUCH_STATEMENT → IsSomeAnd handle.old.database (IsMissing statement) }
+    ensures no_such_place { result ≡ NO_SUCH_PLACE → IsSomeAnd handle.old.database (IsPast statement place) }
+    ensures others { IsSome handle.old.database → (result ≡ DONE) ⊎ ((result ≡ NO_SUCH_STATEMENT) ⊎ ((result ≡ NO_SUCH_PLACE) ⊎ (result ≡ NO_MEMORY))) }
+    ensures done { result ≡ DONE → Becomes handle.old.database handle.new.database (Binds statement place (cell_value cell.entry)) }
+    ensures kept { result ≢ DONE → IsSome handle.old.database → Becomes handle.old.database handle.new.database KeepsAll }
+{
+    let Some(mut database) = handle.take(alloc) else {
+        return NOT_OPEN;
+    };
+    let bound = database.bind(statement, place, cell);
+    handle.put(alloc, database);
+    match bound {
+        Ok(()) => DONE,
+        Err(Declined::NoSuchStatement) => NO_SUCH_STATEMENT,
+        Err(Declined::NoSuchPlace) => NO_SUCH_PLACE,
+        Err(Declined::NoMemory) => NO_MEMORY,
+    }
+}
+
+/// Binds an integer to a place of a statement.
+#[unsafe(no_mangle)]
+pub extern "C" fn mmdb_bind_integer(
+    alloc: Global,
+    handle: &mut Handle,
+    statement: u32,
+    place: u32,
+    integer: i64,
+) -> u32
+    ensures not_open { (result ≡ NOT_OPEN) ↔ IsNone handle.old.database }
+    ensures missing { IsSomeAnd handle.old.database (IsMissing statement) → result ≡ NO_SUCH_STATEMENT }
+    ensures past { IsSomeAnd handle.old.database (IsPast statement place) → result ≡ NO_SUCH_PLACE }
+    ensures no_such_statement { result ≡ NO_SUCH_STATEMENT → IsSomeAnd handle.old.database (IsMissing statement) }
+    ensures no_such_place { result ≡ NO_SUCH_PLACE → IsSomeAnd handle.old.database (IsPast statement place) }
+    ensures others { IsSome handle.old.database → (result ≡ DONE) ⊎ ((result ≡ NO_SUCH_STATEMENT) ⊎ ((result ≡ NO_SUCH_PLACE) ⊎ (result ≡ NO_MEMORY))) }
+    ensures done { result ≡ DONE → Becomes handle.old.database handle.new.database (Binds statement place (value.Int integer)) }
+    ensures kept { result ≢ DONE → IsSome handle.old.database → Becomes handle.old.database handle.new.database KeepsAll }
+{
+    bind(alloc, handle, statement, place, Cell::Integer(integer))
+}
+
+/// Binds a null to a place of a statement.
+#[unsafe(no_mangle)]
+pub extern "C" fn mmdb_bind_null(
+    alloc: Global,
+    handle: &mut Handle,
+    statement: u32,
+    place: u32,
+) -> u32
+    ensures not_open { (result ≡ NOT_OPEN) ↔ IsNone handle.old.database }
+    ensures missing { IsSomeAnd handle.old.database (IsMissing statement) → result ≡ NO_SUCH_STATEMENT }
+    ensures past { IsSomeAnd handle.old.database (IsPast statement place) → result ≡ NO_SUCH_PLACE }
+    ensures no_such_statement { result ≡ NO_SUCH_STATEMENT → IsSomeAnd handle.old.database (IsMissing statement) }
+    ensures no_such_place { result ≡ NO_SUCH_PLACE → IsSomeAnd handle.old.database (IsPast statement place) }
+    ensures others { IsSome handle.old.database → (result ≡ DONE) ⊎ ((result ≡ NO_SUCH_STATEMENT) ⊎ ((result ≡ NO_SUCH_PLACE) ⊎ (result ≡ NO_MEMORY))) }
+    ensures done { result ≡ DONE → Becomes handle.old.database handle.new.database (Binds statement place value.Null) }
+    ensures kept { result ≢ DONE → IsSome handle.old.database → Becomes handle.old.database handle.new.database KeepsAll }
+{
+    bind(alloc, handle, statement, place, Cell::Null)
+}
+
+/// Binds a text to a place of a statement. It is copied.
+#[unsafe(no_mangle)]
+pub extern "C" fn mmdb_bind_text(
+    alloc: Global,
+    handle: &mut Handle,
+    statement: u32,
+    place: u32,
+    text: &[u8],
+) -> u32
+    ensures not_open { (result ≡ NOT_OPEN) ↔ IsNone handle.old.database }
+    ensures not_utf8 { (result ≡ NOT_UTF8) ↔ (IsSome handle.old.database × ¬ (IsUtf8 text.now)) }
+    ensures missing { IsSomeAnd handle.old.database (IsMissing statement) → IsUtf8 text.now → result ≡ NO_SUCH_STATEMENT }
+    ensures past { IsSomeAnd handle.old.database (IsPast statement place) → IsUtf8 text.now → result ≡ NO_SUCH_PLACE }
+    ensures no_such_statement { result ≡ NO_SUCH_STATEMENT → IsSomeAnd handle.old.database (IsMissing statement) }
+    ensures no_such_place { result ≡ NO_SUCH_PLACE → IsSomeAnd handle.old.database (IsPast statement place) }
+    ensures done { result ≡ DONE → Becomes handle.old.database handle.new.database (Binds statement place (value.Text text.now)) }
+    ensures kept { result ≢ DONE → IsSome handle.old.database → Becomes handle.old.database handle.new.database KeepsAll }
+{
+    if let Ok(text) = str::from_utf8(text) {
+        return bind(alloc, handle, statement, place, Cell::Text(text));
+    }
+    let Some(database) = handle.take(alloc) else {
+        return NOT_OPEN;
+    };
+    handle.put(alloc, database);
+    NOT_UTF8
+}
+
+/// Does what a statement does with the values that are bound, and tells what it gave.
+#[unsafe(no_mangle)]
+pub extern "C" fn mmdb_execute(
+    alloc: Global,
+    handle: &mut Handle,
+    statement: u32,
+    rows: &mut Rows,
+) -> u32
+    ensures not_open { (result ≡ NOT_OPEN) ↔ IsNone handle.old.database }
+    ensures no_such_statement { (result ≡ NO_SUCH_STATEMENT) ↔ IsSomeAnd handle.old.database (IsMissing statement) }
+    ensures done { result ≡ DONE → Becomes handle.old.database handle.new.database (λ old new. (given : Executed) × Executes statement old new given × Tells (shown_by new statement) given rows.new) }
+    ensures refused { result ≡ REFUSED → Becomes handle.old.database handle.new.database (IsUnexecuted statement) }
+    ensures kept { result ≢ DONE → IsSome handle.old.database → Becomes handle.old.database handle.new.database KeepsAll }
+    ensures others { IsSome handle.old.database → (result ≡ DONE) ⊎ ((result ≡ NO_SUCH_STATEMENT) ⊎ (result ≡ REFUSED)) }
+    ensures untold { result ≢ DONE → rows.new ≡ rows.old }
+{
+    let Some(mut database) = handle.take(alloc) else {
+        return NOT_OPEN;
+    };
+    let executed = database.execute(statement);
+    if let Ok(given) = executed {
+        rows.tell(given, &database.shown[statement as usize]);
+    }
+    handle.put(alloc, database);
+    match executed {
+        Ok(_) => DONE,
+        Err(Unexecuted::NoSuchStatement) => NO_SUCH_STATEMENT,
+        Err(Unexecuted::Refused) => REFUSED,
+    }
+}
+
+/// Frees a statement.
+#[unsafe(no_mangle)]
+pub extern "C" fn mmdb_finalize(alloc: Global, handle: &mut Handle, statement: u32) -> u32
+    ensures not_open { (result ≡ NOT_OPEN) ↔ IsNone handle.old.database }
+    ensures no_such_statement { (result ≡ NO_SUCH_STATEMENT) ↔ IsSomeAnd handle.old.database (IsMissing statement) }
+    ensures done { result ≡ DONE → Becomes handle.old.database handle.new.database (Finalizes statement) }
+    ensures kept { result ≢ DONE → IsSome handle.old.database → Becomes handle.old.database handle.new.database KeepsAll }
+    ensures others { IsSome handle.old.database → (result ≡ DONE) ⊎ (result ≡ NO_SUCH_STATEMENT) }
+{
+    let Some(mut database) = handle.take(alloc) else {
+        return NOT_OPEN;
+    };
+    let finalized = database.finalize(alloc, statement);
+    handle.put(alloc, database);
+    if finalized.is_ok() {
+        DONE
+    } else {
+        NO_SUCH_STATEMENT
+    }
+}
