@@ -6,8 +6,8 @@ ghost use Rattle.plain_tables.specs.AnswerText.{refusal_text};
 
 pub mod records;
 
-use itoa::Buffer;
 use crate::answer::records::push_refusal;
+use itoa::Buffer;
 use mm_lang::Sink;
 use plain_tables::{NoMemory, Refusal};
 use std::alloc::Global;

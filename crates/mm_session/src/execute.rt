@@ -4,6 +4,7 @@ mod batched;
 mod blocks;
 mod cells;
 mod changing;
+mod columns;
 mod indexes;
 mod listing;
 mod query;

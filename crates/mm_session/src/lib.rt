@@ -19,7 +19,7 @@
 //! - A session that met a write fault has ended, and writes nothing more.
 //! - A request can be asked by itself, with its answer in a buffer of the caller's. It leaves the stream where it is.
 //! - So can a resolved command be done, without a line and an answer: it tells how many rows it changed, or puts the values that it
-//!   shows into cells of the caller's.
+//!   shows, or what tells their columns, into cells of the caller's.
 #![tactic(auto)]
 
 mod answer;

@@ -41,6 +41,7 @@ impl Session {
     ghost use Rattle.plain_tables.specs.ResolvedLaws.{IsMeant};
     ghost use Rattle.plain_tables.specs.declared.resolved.Resolved.TheVariants as resolved;
     ghost use Rattle.mm_session.specs.Changing.{HasChanged, HasDeclined, IsChange, ShowsValues};
+    ghost use Rattle.mm_session.specs.Columns.{columns_told};
     ghost use Rattle.mm_session.specs.Sessions.{Gains, Feeds, Finishes, BreaksOff, new_session};
 
     /// A session with no tables, under the standard limits.
@@ -124,6 +125,15 @@ impl Session {
         ensures some { IfOk result (λ columns. 0 < columns) }
     {
         self.responder.executor.select_values(query, cells)
+    }
+
+    /// Makes the cells the columns of what a select shows: of each its name, behind its table's, and then the number of the kind of
+    /// its values: 1 of integers, 2 of texts. A failure may leave any cells there.
+    pub fn columns(&self, query: &Query, cells: &mut Cells) -> Result<(), NoMemory>
+        requires { IsMeant self.now.limits self.now.database (resolved.Select query.now) }
+        ensures { OnOk result (cells.new ≡ columns_told self.now.database query.now) }
+    {
+        self.responder.executor.columns(query, cells)
     }
 
     /// Makes the answer how the indexes of the table of a name stand: that of its key, and the declared ones.
