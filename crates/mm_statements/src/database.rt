@@ -1,6 +1,7 @@
 //! A database with statements: a session, and the statements that are kept of its tables.
 
 use crate::cell::Cell;
+use crate::declaring::may_declare;
 use crate::declined::Declined;
 use crate::faults::{ExecuteFault, PrepareFault};
 use crate::kept::Statements;
@@ -107,7 +108,9 @@ impl Database {
         ensures statements { SameStatements self.old self.new }
     {
         self.session.answer_request(line, block, answer)?;
-        self.statements.forget();
+        if may_declare(line) {
+            self.statements.forget();
+        }
         Ok(())
     }
 
