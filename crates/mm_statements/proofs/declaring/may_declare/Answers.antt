@@ -1,6 +1,4 @@
 use Rattle.std.proofs.Common.{◌≡◌, ◌∙◌, ap, sym, false}
-use Rattle.std.specs.Prelude.{nat_eq}
-use Rattle.std.specs.List.{starts_with}
 use lib.Chars.{codes}
 use Rattle.mm_statements.specs.Declaring.{behind_blanks}
 use Rattle.mm_statements.proofs.DeclareLemmas.{begins, beside-begins, last-begins}
