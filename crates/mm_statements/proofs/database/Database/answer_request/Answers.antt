@@ -1,4 +1,4 @@
-use Rattle.mm_statements.proofs.RequestLemmas.{answered-right, rows-alone}
+use Rattle.mm_statements.proofs.RequestLemmas.{answered-right, declares-none}
 use Rattle.mm_statements.proofs.RightLemmas.{forgotten-right}
 use Rattle.mm_statements.proofs.SeenLemmas.{forgotten-seen, same-seen}
 use Rattle.mm_statements.proofs.database.Database.answer_request.Goals as goal
@@ -16,12 +16,12 @@ returns-then-may_declare-clause-statements c =
     (same-seen c.self.inside.session c.answer_request.new.self c.self.inside.statements c.forget.new.self
     (forgotten-seen c.self.inside.statements c.forget.new.self c.forget.ensures))
 
--- A request of a command on rows leaves names and columns, and what is known of statements stays right.
+-- A request that declares and drops no table leaves names and columns, and what is known of statements stays right.
 pub invariant_of-self-else-may_declare : goal.invariant_of-self-else-may_declare
 invariant_of-self-else-may_declare c =
     answered-right c.self.inside.session.limits c.self.inside.session.database _ _ c.answer_request.new.self.database c.self.inside.statements
     c.in_ok-answer_request.ensures.ok.answers
-    (rows-alone c.args.line.now c.args.block.now c.may_declare.result c.may_declare.ensures c.if-may_declare.false) c.self.invariant
+    (declares-none c.args.line.now c.args.block.now c.may_declare.result c.may_declare.ensures c.if-may_declare.false) c.self.invariant
 
 pub returns-else-may_declare-clause-run : goal.returns-else-may_declare-clause-run
 returns-else-may_declare-clause-run c = rw (← c.self.view_is) c.in_ok-answer_request.ensures.run
