@@ -5,7 +5,7 @@ use Rattle.std.specs.List.{starts_with}
 use Rattle.std.proofs.lemmas.Bool.{false≢true}
 use Rattle.std.proofs.lemmas.List.{take-append-drop}
 use lib.Chars.{codes}
-use Rattle.plain_tables.specs.Spelling.{AreBlanks, IsMadeOf, Keyword, Spells, Symbol, symbols_of}
+use Rattle.plain_tables.specs.Spelling.{AreBlanks, IsMadeOf, Keyword, Symbol}
 use Rattle.plain_tables.specs.declared.command.Command.{Command}
 use Rattle.plain_tables.specs.declared.command.Command.TheVariants as command
 use Rattle.plain_tables.proofs.FirstWords.{behind_word, first_word, split-word}
