@@ -1,17 +1,16 @@
--- Declaring: the lines whose commands are not on rows begin with one of three words.
+-- Declaring: the lines that declare or drop a table begin with one of two words.
 use Rattle.std.proofs.Common.{◌≡◌, ℕ, ◌-◌, Bool, true, false, cond, ◌||◌, List, [], ◌∷◌, ◌++◌, length, take, drop, refl, sym, ap, subst, ◌∙◌, append_assoc, append-nil}
 use Rattle.std.specs.Prelude.{◌==◌, nat_eq, slice_index}
 use Rattle.std.specs.List.{starts_with}
 use Rattle.std.proofs.lemmas.Bool.{false≢true}
 use Rattle.std.proofs.lemmas.List.{take-append-drop}
 use lib.Chars.{codes}
-use Rattle.plain_tables.specs.CommandLaws.{is_on_rows}
-use Rattle.plain_tables.specs.Spelling.{AreBlanks, IsMadeOf, Keyword, Spells, Symbol, symbols_of}
+use Rattle.plain_tables.specs.Spelling.{AreBlanks, IsMadeOf, Keyword, Symbol}
 use Rattle.plain_tables.specs.declared.command.Command.{Command}
 use Rattle.plain_tables.specs.declared.command.Command.TheVariants as command
 use Rattle.plain_tables.proofs.FirstWords.{behind_word, first_word, split-word}
 use Rattle.plain_streams.specs.Requests.{without_return}
-use Rattle.mm_statements.specs.Declaring.{IsBesideRows, behind_blanks}
+use Rattle.mm_statements.specs.Declaring.{IsOfTables, behind_blanks, declares}
 
 -- whether a text begins with a word
 abbrev pub begins : List ℕ → List ℕ → Bool
@@ -41,9 +40,9 @@ word-behind line word symbols plain made =
     front ∙ (ap (λ l. l ++ tail) text ∙ (append_assoc blanks (word ++ rest) tail ∙ ap (λ l. blanks ++ l) (append_assoc word rest tail))) in
     (more, ap behind_blanks all ∙ (behind-blanks blanks (word ++ more) are ∙ plain more))
 
--- whether a text begins with one of the three words
+-- whether a text begins with one of the two words
 abbrev pub begins_so : List ℕ → Bool
-begins_so text = begins text (codes "table") || (begins text (codes "drop") || begins text (codes "index"))
+begins_so text = begins text (codes "table") || begins text (codes "drop")
 
 plain-word : (c : Command) (more : List ℕ) → behind_blanks (first_word c ++ more) ≡ first_word c ++ more
 plain-word (command.Table name schema) more = refl
@@ -58,22 +57,18 @@ plain-word (command.Load name bytes) more = refl
 plain-word (command.Dump name) more = refl
 plain-word command.Tables more = refl
 
-word-begins : (c : Command) (more : List ℕ) → is_on_rows c ≡ false → begins_so (first_word c ++ more) ≡ true
-word-begins (command.Table name schema) more beside = refl
-word-begins (command.DropTable name) more beside = refl
-word-begins (command.Index name column k) more beside = refl
-word-begins (command.DropIndex name column k) more beside = refl
-word-begins command.Tables more beside = refl
-word-begins c more beside = absurd (false≢true (sym beside))
+word-begins : (c : Command) (more : List ℕ) → declares c ≡ true → begins_so (first_word c ++ more) ≡ true
+word-begins (command.Table name schema) more of = refl
+word-begins (command.DropTable name) more of = refl
+word-begins c more of = absurd (false≢true of)
 
-pub beside-begins : (line : List ℕ) → IsBesideRows (without_return line) → begins_so (behind_blanks line) ≡ true
-beside-begins line (c, spells, beside) =
+pub tables-begin : (line : List ℕ) → IsOfTables (without_return line) → begins_so (behind_blanks line) ≡ true
+tables-begin line (c, spells, of) =
     let made : IsMadeOf (without_return line) (Keyword (first_word c) ∷ behind_word c) =
     subst (λ ss. IsMadeOf (without_return line) ss) (split-word c).0 spells.2 in
     let (more, is) = word-behind line (first_word c) (behind_word c) (plain-word c) made in
-    ap begins_so is ∙ word-begins c more beside
+    ap begins_so is ∙ word-begins c more of
 
-pub last-begins : (a b d : Bool) → (a || (b || d)) ≡ true → a ≡ false → b ≡ false → d ≡ true
-last-begins true b d is none other = absurd (false≢true (sym none))
-last-begins false true d is none other = absurd (false≢true (sym other))
-last-begins false false d is none other = is
+pub last-begins : (a d : Bool) → (a || d) ≡ true → a ≡ false → d ≡ true
+last-begins true d is none = absurd (false≢true (sym none))
+last-begins false d is none = is

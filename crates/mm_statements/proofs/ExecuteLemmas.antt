@@ -1,5 +1,5 @@
 -- Executing: what comes of the resolved command of a statement.
-use Rattle.std.proofs.Common.{◌≡◌, ◌≢◌, ℕ, map, length, sym, ap, ◌∙◌, subst, refl, ⊎_elim, [], Option, Some, None, Result, Ok, Err}
+use Rattle.std.proofs.Common.{◌≡◌, ℕ, map, sym, ap, ◌∙◌, subst, ⊎_elim, [], Some, None, Result, Ok, Err}
 use Rattle.std.specs.Prelude.{IfSome, OnErr}
 use Rattle.std.specs.List.{All}
 use Rattle.std.specs.Option.{option_map}
@@ -10,7 +10,6 @@ use Rattle.plain_tables.specs.Effects.{Effect, refused}
 use Rattle.plain_tables.specs.ResolvedLaws.{HasWidth, IsMeant, emptied}
 use Rattle.plain_tables.specs.declared.command.Limits.{Limits}
 use Rattle.plain_tables.specs.declared.refusal.Refusal.{Refusal}
-use Rattle.plain_tables.specs.declared.refusal.Refusal.TheVariants.{NoMemory}
 use Rattle.plain_tables.specs.declared.resolved.Resolved.{Resolved}
 use Rattle.plain_tables.proofs.ResolvedLemmas.{resolved_are_meant}
 use Rattle.plain_statements.specs.declared.resolution.Resolution.{Resolution}
@@ -22,7 +21,7 @@ use Rattle.plain_statements.specs.StatementSpelling.{SpellsStatement}
 use Rattle.mm_session.specs.Changing.{HasChanged, HasDeclined, IsChange}
 use Rattle.mm_session.specs.OneRequest.{StaysInStream}
 use Rattle.mm_session.specs.Sessions.{State}
-use Rattle.mm_statements.specs.Databases.{IsUnchanged, SameStatements, statement_at}
+use Rattle.mm_statements.specs.Databases.{IsUnchanged}
 use Rattle.mm_statements.specs.Executing.{IsDeclined, IsEffectOf}
 use Rattle.mm_statements.specs.Kept.{SameSeen, named, seen}
 use Rattle.mm_statements.specs.Resolving.{IsFinished, IsUnfinished, IsUnmeant}

@@ -1,8 +1,7 @@
 -- Finished: what a resolution with values is, and what comes of it.
-use Rattle.std.proofs.Common.{◌≡◌, ◌≢◌, Bool, true, false, List, [], ap, subst, sym, ◌∙◌, refl, Option, Some, None, Result, Ok, Err}
+use Rattle.std.proofs.Common.{◌≡◌, ◌≢◌, Bool, true, false, List, subst, refl, Option, Some, None, Ok, Err}
 use Rattle.std.specs.Prelude.{if◌then◌else◌}
 use Rattle.std.specs.List.{list_any}
-use Rattle.plain_tables.specs.Databases.{Database}
 use Rattle.plain_tables.specs.declared.value.Value.{Value}
 use Rattle.plain_tables.specs.declared.refusal.Refusal.{Refusal}
 use Rattle.plain_tables.specs.declared.refusal.Refusal.TheVariants.{WrongType, TextTooLong}

@@ -1,5 +1,5 @@
 -- Given: a statement that a line spells, with values of 64 bits, is a command as a line can give it.
-use Rattle.std.proofs.Common.{◌≡◌, ℕ, ◌<◌, ◌≤◌, List, length, ⊎_elim, subst, sym, get_or}
+use Rattle.std.proofs.Common.{ℕ, List, length, ⊎_elim, subst, sym}
 use Rattle.std.specs.List.{All}
 use Rattle.std.proofs.lemmas.Bool.{cases_lt}
 use Rattle.std.proofs.lemmas.List.{get_or_past}

@@ -1,6 +1,5 @@
 -- Preparing: what is kept of a line that spells a statement, and why nothing is.
 use Rattle.std.proofs.Common.{◌≡◌, ◌≢◌, ℕ, List, length, replicate, refl, sym, ap, ◌∙◌, Some}
-use Rattle.std.specs.List.{range_with_len}
 use Rattle.std.proofs.lemmas.List.{length-replicate}
 use Rattle.std.proofs.lemmas.List.FromFn.{length-range_with_len}
 use Rattle.plain_tables.specs.Databases.{Database}

@@ -1,40 +1,119 @@
--- Requests: an answer to a request of a command on rows leaves the names and columns of tables.
-use Rattle.std.proofs.Common.{◌≡◌, ℕ, List, map, true, refl}
-use Rattle.plain_tables.specs.CommandLaws.{is_on_rows, table_of}
-use Rattle.plain_tables.specs.Databases.{Database}
-use Rattle.plain_tables.specs.Effects.{Effect}
+-- Requests: an answer to a request whose line declares and drops no table leaves the names and columns of tables.
+use Rattle.std.proofs.Common.{◌≡◌, ◌∙◌, ℕ, zero, suc, Bool, List, [], ◌∷◌, map, set, slice_get, true, false, refl, sym, ap, subst, inl, inr, Option, Some, None, Ok, Err}
+use Rattle.std.specs.Option.{option_map_or}
+use Rattle.std.proofs.lemmas.Bool.{cases_Bool, false≢true}
+use Rattle.plain_tables.specs.CommandLaws.{table_of}
+use Rattle.plain_tables.specs.Databases.{Database, table_named}
+use Rattle.plain_tables.specs.Doing.{done, with_index, without_index}
+use Rattle.plain_tables.specs.Effects.{Check, Effect}
+use Rattle.plain_tables.specs.Queries.{place_meant}
 use Rattle.plain_tables.specs.ResolvedLaws.{emptied}
-use Rattle.plain_tables.specs.Resolving.{number_of}
+use Rattle.plain_tables.specs.Resolving.{drop_index_checks, index_checks, meaning, number_of, own_columns, resolved_of}
 use Rattle.plain_tables.specs.Spelling.{Spells}
+use Rattle.plain_tables.specs.Tables.{Table}
+use Rattle.plain_tables.specs.CsvReading.{Record}
 use Rattle.plain_tables.specs.declared.command.Command.{Command}
+use Rattle.plain_tables.specs.declared.command.Command.TheVariants as command
 use Rattle.plain_tables.specs.declared.command.Limits.{Limits}
+use Rattle.plain_tables.specs.declared.numbers.ColumnNumber.{ColumnNumber}
+use Rattle.plain_tables.specs.declared.numbers.Place.{Place}
+use Rattle.plain_tables.specs.declared.refusal.Refusal.TheVariants.{NoSuchColumn, NoSuchTable}
+use Rattle.plain_tables.specs.declared.resolved.Resolved.{Resolved}
+use Rattle.plain_tables.specs.declared.resolved.Resolved.TheVariants as resolved
 use Rattle.plain_tables.proofs.ChangeLemmas.{own_rows_change}
-use Rattle.plain_tables.proofs.EffectLemmas.{effect_satisfies}
-use Rattle.plain_tables.proofs.ResolvedLemmas.{own_rows}
+use Rattle.plain_tables.proofs.EffectLemmas.{effect_satisfies, of_table_satisfies}
+use Rattle.plain_tables.proofs.ResolvedLemmas.{checked_satisfies, own_rows}
 use Rattle.mm_csv.specs.BlockReading.{block_records}
-use Rattle.plain_streams.specs.Requests.{Request}
+use Rattle.plain_streams.specs.Requests.{Request, without_return}
 use Rattle.plain_streams.specs.Runs.{Answers, IsEffect, line_of}
 use Rattle.plain_streams.specs.Runs as runs
+use Rattle.mm_statements.specs.Declaring.{IsOfTables, declares}
+use Rattle.mm_statements.specs.Right.{AreRight}
+use Rattle.mm_statements.specs.declared.kept.Statements.{Statements}
 use Rattle.mm_statements.proofs.ChangeLemmas.{same_schemas}
+use Rattle.mm_statements.proofs.RightLemmas.{stays-right}
 
--- the line of the request spells commands on rows alone
-abbrev pub IsOnRows : Request → Type 0
-IsOnRows request = (c : Command) → Spells (line_of request) c → is_on_rows c ≡ true
+-- the tables have the same names and columns
+abbrev SameSchemas : Database → Database → Type 0
+SameSchemas old new = map emptied new ≡ map emptied old
+
+-- ---- indexes
+
+set-alike : {X Y : Type 0} (f : X → Y) (xs : List X) (n : ℕ) (old new : X) → slice_get xs n ≡ Some old → f new ≡ f old
+    → map f (set xs n new) ≡ map f xs
+set-alike f [] n old new there same = refl
+set-alike f (x ∷ xs) zero old new there same = let here : x ≡ old = cc in rw (same, here) refl
+set-alike f (x ∷ xs) (suc n) old new there same = ap (λ ys. f x ∷ ys) (set-alike f xs n old new there same)
+
+-- what holds of a command on each column holds of what one on a column of a name means
+column-means : (P : Resolved → Type 0) (found : Option Table) (place : Table → Option Place) (checks : Table → ColumnNumber → List Check)
+    (gives : ColumnNumber → Resolved) (r : Resolved)
+    → option_map_or (λ table. option_map_or (λ p. meaning (checks table p.column) (gives p.column)) (place table) (Err NoSuchColumn)) found (Err NoSuchTable) ≡ Ok r
+    → ((c : ColumnNumber) → P (gives c)) → P r
+column-means P None place checks gives r is holds = cc
+column-means P (Some table) place checks gives r is holds = by-place (place table) is
+  where
+    by-place : (o : Option Place) → option_map_or (λ p. meaning (checks table p.column) (gives p.column)) o (Err NoSuchColumn) ≡ Ok r → P r
+    by-place None same = cc
+    by-place (Some p) same = checked_satisfies P (checks table p.column) (gives p.column) r same (λ passed. holds p.column)
+
+-- ---- commands
+
+resolved-schemas : (records : List Record) (limits : Limits) (tables : Database) (c : Command) (r : Resolved) → declares c ≡ false
+    → resolved_of records tables c ≡ Ok r → SameSchemas tables (done limits tables r).database
+resolved-schemas records limits tables (command.Table name schema) r not is = absurd (false≢true (sym not))
+resolved-schemas records limits tables (command.DropTable name) r not is = absurd (false≢true (sym not))
+resolved-schemas records limits tables (command.Index name column k) r not is =
+    column-means (λ q. SameSchemas tables (done limits tables q).database) (table_named name tables)
+    (λ table. place_meant (own_columns table) (record { table = None; column = column })) (λ table c. index_checks table c k)
+    (λ c. resolved.Index (number_of name tables) c k) r is
+    (λ c. of_table_satisfies (λ e. SameSchemas tables e.database) (number_of name tables) tables _ (λ why. refl)
+    (λ table there. set-alike emptied tables (number_of name tables).0 table (with_index c k table) there refl))
+resolved-schemas records limits tables (command.DropIndex name column k) r not is =
+    column-means (λ q. SameSchemas tables (done limits tables q).database) (table_named name tables)
+    (λ table. place_meant (own_columns table) (record { table = None; column = column })) (λ table c. drop_index_checks table c k)
+    (λ c. resolved.DropIndex (number_of name tables) c k) r is
+    (λ c. of_table_satisfies (λ e. SameSchemas tables e.database) (number_of name tables) tables _ (λ why. refl)
+    (λ table there. set-alike emptied tables (number_of name tables).0 table (without_index c k table) there refl))
+resolved-schemas records limits tables command.Tables r not is =
+    let same : resolved.Tables ≡ r = cc in subst (λ q. SameSchemas tables (done limits tables q).database) same refl
+resolved-schemas records limits tables c r not is =
+    same_schemas tables _ (own_rows_change limits tables r (number_of (table_of c) tables) (own_rows records tables c r refl is)).all_but_rows
+
+-- ---- requests
+
+-- the line of the request declares and drops no table
+abbrev pub DeclaresNone : Request → Type 0
+DeclaresNone request = (c : Command) → Spells (line_of request) c → declares c ≡ false
 
 effect-schemas : (limits : Limits) (tables : Database) (request : Request) (e : Effect) → IsEffect limits tables request e
-    → IsOnRows request → map emptied e.database ≡ map emptied tables
-effect-schemas limits tables request e (runs.too_long long) rows = refl
-effect-schemas limits tables request e (runs.not_utf8 short bad) rows = refl
-effect-schemas limits tables request e (runs.not_a_command readable heard none) rows = refl
-effect-schemas limits tables request e (runs.block_too_long n asks long) rows = refl
-effect-schemas limits tables request e (runs.block_cut_short n asks within short) rows = refl
-effect-schemas limits tables request e (runs.command c readable heard spells has) rows =
-    effect_satisfies (λ e. map emptied e.database ≡ map emptied tables) (block_records request.block) limits tables c (λ why. refl)
-    (λ r h. same_schemas tables _
-    (own_rows_change limits tables r (number_of (table_of c) tables) (own_rows (block_records request.block) tables c r (rows c spells) h)).all_but_rows)
+    → DeclaresNone request → SameSchemas tables e.database
+effect-schemas limits tables request e (runs.too_long long) none = refl
+effect-schemas limits tables request e (runs.not_utf8 short bad) none = refl
+effect-schemas limits tables request e (runs.not_a_command readable heard other) none = refl
+effect-schemas limits tables request e (runs.block_too_long n asks long) none = refl
+effect-schemas limits tables request e (runs.block_cut_short n asks within short) none = refl
+effect-schemas limits tables request e (runs.command c readable heard spells has) none =
+    effect_satisfies (λ e. SameSchemas tables e.database) (block_records request.block) limits tables c (λ why. refl)
+    (λ r is. resolved-schemas (block_records request.block) limits tables c r (none c spells) is)
 
-pub answers-schemas : (limits : Limits) (before : Database) (request : Request) (answer : List ℕ) (after : Database)
-    → Answers limits before request answer after → IsOnRows request → map emptied after ≡ map emptied before
-answers-schemas limits before request answer after (runs.silent readable is) rows = refl
-answers-schemas limits before request answer after (runs.effect e is) rows = effect-schemas limits before request e is rows
-answers-schemas limits before request answer after (runs.no_memory readable heard has) rows = refl
+answers-schemas : (limits : Limits) (before : Database) (request : Request) (answer : List ℕ) (after : Database)
+    → Answers limits before request answer after → DeclaresNone request → SameSchemas before after
+answers-schemas limits before request answer after (runs.silent readable is) none = refl
+answers-schemas limits before request answer after (runs.effect e is) none = effect-schemas limits before request e is none
+answers-schemas limits before request answer after (runs.no_memory readable heard has) none = refl
+
+-- a line that begins as no other does declares and drops no table
+pub declares-none : (line block : List ℕ) (may : Bool) → (IsOfTables (without_return line) → may ≡ true) → may ≡ false
+    → DeclaresNone (record { line = line; block = block })
+declares-none line block may says other c spells =
+    elim (cases_Bool (declares c)) [
+      | inl of ↦ absurd (false≢true (sym other ∙ says (c, spells, of)))
+      | inr none ↦ none
+    ]
+
+-- Statements stay right over such a request.
+pub answered-right : (limits : Limits) (before : Database) (request : Request) (answer : List ℕ) (after : Database) (statements : Statements)
+    → Answers limits before request answer after → DeclaresNone request → AreRight before statements → AreRight after statements
+answered-right limits before request answer after statements answers none right =
+    stays-right before after statements (sym (answers-schemas limits before request answer after answers none)) right

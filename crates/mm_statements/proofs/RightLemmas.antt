@@ -1,5 +1,5 @@
 -- Right: what keeps statements right by the tables.
-use Rattle.std.proofs.Common.{◌≡◌, ◌≢◌, ℕ, map, length, sym, ap, ◌∙◌, subst, refl, inl, inr, ◌⊎◌, Option, Some, None}
+use Rattle.std.proofs.Common.{◌≡◌, ◌≢◌, ℕ, map, sym, ap, ◌∙◌, subst, refl, inl, inr, ◌⊎◌, Option, Some, None}
 use Rattle.std.specs.Prelude.{IfSome, OnErr, OnOk, Result, Ok, Err, slice_set}
 use Rattle.std.specs.Option.{option_map}
 use Rattle.std.proofs.lemmas.Bool.{cases_eq}

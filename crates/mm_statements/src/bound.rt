@@ -52,8 +52,8 @@ impl Bound {
         self.values.as_slice()
     }
 
-    /// What memory for the values is taken from.
-    pub fn allocator(&self) -> Global {
+    // What memory for the values is taken from.
+    pub(crate) fn allocator(&self) -> Global {
         *self.values.allocator()
     }
 

@@ -1,6 +1,7 @@
 //! A database with statements: a session, and the statements that are kept of its tables.
 
 use crate::cell::Cell;
+use crate::declaring::may_declare;
 use crate::declined::Declined;
 use crate::faults::{ExecuteFault, PrepareFault};
 use crate::kept::Statements;
@@ -86,6 +87,8 @@ impl Database {
 
     /// Answers one request by itself, beside the stream: a line without its line feed, and the block behind it, which is empty
     /// for a line that asks for none. The stream goes on as if the request had not been there.
+    ///
+    /// What is known of the statements' meaning is kept where the line can't change the names and columns of tables.
     pub fn answer_request(
         &mut self,
         line: &[u8],
@@ -107,7 +110,9 @@ impl Database {
         ensures statements { SameStatements self.old self.new }
     {
         self.session.answer_request(line, block, answer)?;
-        self.statements.forget();
+        if may_declare(line) {
+            self.statements.forget();
+        }
         Ok(())
     }
 
@@ -158,6 +163,8 @@ impl Database {
     }
 
     /// Keeps the statement that a line spells, under a number that named none. Each of its holes has a null until a value is bound.
+    ///
+    /// A carriage return at the line's end is no part of it.
     pub fn prepare(&mut self, alloc: Global, line: &[u8]) -> Result<Numbered, PrepareFault>
         ensures prepared { IfOk result (λ n. IsPrepared self.old.session.database (without_return line.now) n.places) }
         ensures fresh { IfOk result (λ n. statement_at self.old n.statement ≡ None) }

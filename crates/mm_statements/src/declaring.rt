@@ -1,7 +1,7 @@
 //! Which lines may change the names and columns of tables.
 ghost use Rattle.std.specs.Prelude.{◌≡◌, IsTrue};
 ghost use Rattle.plain_streams.specs.Requests.{without_return};
-ghost use Rattle.mm_statements.specs.Declaring.{IsBesideRows, behind_blanks};
+ghost use Rattle.mm_statements.specs.Declaring.{IsOfTables, behind_blanks};
 
 // The line from its first character on that is no blank.
 fn trim_blanks(line: &[u8]) -> &[u8]
@@ -15,10 +15,10 @@ fn trim_blanks(line: &[u8]) -> &[u8]
     &[]
 }
 
-/// Whether a line begins as those do whose commands are not on the rows of a table. Any other leaves the names and columns of tables.
+/// Whether a line begins as those do that declare or drop a table. Any other leaves the names and columns of tables.
 pub fn may_declare(line: &[u8]) -> bool
-    ensures { IsBesideRows (without_return line.now) → IsTrue result }
+    ensures { IsOfTables (without_return line.now) → IsTrue result }
 {
     let text = trim_blanks(line);
-    text.starts_with(b"table") || text.starts_with(b"drop") || text.starts_with(b"index")
+    text.starts_with(b"table") || text.starts_with(b"drop")
 }

@@ -1,13 +1,19 @@
-//! Statements that are kept: each under its number, with the values that are bound to its holes and with what it means of the tables.
+//! Databases with statements: a session, and the statements that are kept of its tables, each under its number.
 //!
 //! ```text
-//!  number ──▶ line, values bound by place, resolution ──▶ the resolved command that these values make of it, or a refusal
+//!  line with ? ──▶ statement ──▶ number: line, values bound by place, and what it means of the tables
+//!                                   │
+//!                                   ▼
+//!                   the resolved command that these values make of it ──▶ its effect, or a refusal
 //! ```
 //!
-//! It does not care how a line is read as a statement, how a statement is resolved, nor what is done by a resolved command.
+//! It does not care how a line is read as a statement, how a statement is resolved, nor how a resolved command is done: mm_lang,
+//! mm_catalog and mm_session say that. It promises that an execution does and answers what the command with these values does.
 //!
 //! - A number names one statement from the call that gives it to the one that frees it.
 //! - A statement has as many values as holes, each null until one is bound, and it stays until another is.
+//! - What is known of a statement's meaning is right by the tables as they are. Where their names or columns may have changed it is
+//!   forgotten, and worked out anew from the line when the statement is executed next.
 //! - What is declined changes nothing.
 #![tactic(auto)]
 

@@ -41,6 +41,7 @@ pub fn command_of(
     let line = Line::new(prepared.line.as_str());
     let resolution = meaning(alloc, session.catalog(), &line)?;
     let command = finish(alloc, values, &resolution);
+    // The number names a statement, so this is never declined.
     let _ = statements.set_resolution(number, resolution);
     Ok(command?)
 }

@@ -1,9 +1,8 @@
-use Rattle.std.proofs.Common.{◌≡◌, ◌∙◌, sym, subst, Some, Ok, Err}
+use Rattle.std.proofs.Common.{◌≡◌, sym, subst, Some, Ok, Err}
 use Rattle.std.proofs.lemmas.Result.{err_from_is_err_and}
 use Rattle.std.specs.List.{Contains}
-use Rattle.plain_statements.specs.Finishing.{finished}
 use Rattle.mm_statements.specs.Kept.{named}
-use Rattle.mm_statements.specs.Resolving.{IsUnmeant, LineMeans}
+use Rattle.mm_statements.specs.Resolving.{LineMeans}
 use Rattle.mm_statements.specs.Right.{IsRight}
 use Rattle.mm_statements.proofs.ExecuteLemmas.{is-finished, is-meant, known-resolves, unmeant-finished}
 use Rattle.mm_statements.proofs.MarkLemmas.{spelled-unbroken}

@@ -1,11 +1,10 @@
-use Rattle.std.proofs.Common.{◌≡◌, ◌∙◌, ap, sym, subst, refl, Some, Ok, Err}
+use Rattle.std.proofs.Common.{◌≡◌, ap, refl, Ok, Err}
 use Rattle.std.proofs.lemmas.Result.{err_from_is_err_and}
 use Rattle.plain_tables.specs.Doing.{done}
 use Rattle.plain_tables.specs.declared.resolved.Resolved.TheVariants as resolved
 use Rattle.mm_statements.specs.Resolving.{IsFinished}
-use Rattle.mm_statements.specs.Right.{AreRight}
 use Rattle.mm_statements.specs.declared.faults.ExecuteFault.TheVariants as fault
-use Rattle.mm_statements.proofs.ExecuteLemmas.{change-declined, changed-right, effect-of, on-err, same-session, there-named, unchanged, unfinished-declined}
+use Rattle.mm_statements.proofs.ExecuteLemmas.{change-declined, changed-right, effect-of, on-err, same-session, unchanged, unfinished-declined}
 use Rattle.mm_statements.proofs.FinishedLemmas.{rows-change}
 use Rattle.mm_statements.proofs.SeenLemmas.{same-seen, statement-none}
 use Rattle.mm_statements.proofs.database.Database.execute.Goals as goal
