@@ -8,3 +8,4 @@ pub mod PrepareLemmas
 pub mod RequestLemmas
 pub mod RightLemmas
 pub mod SeenLemmas
+mod ColumnLemmas

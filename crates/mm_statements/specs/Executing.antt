@@ -1,6 +1,13 @@
 -- Executing: what comes of the statement of a number.
-use Rattle.std.specs.Prelude.{◌≡◌, ◌≢◌, ℕ, ◌<◌, List, [], Some, None}
+use Rattle.std.specs.Prelude.{◌≡◌, ◌≢◌, ℕ, ◌<◌, List, [], Some, None, Result, Ok, Err}
+use Rattle.plain_tables.specs.Databases.{Database}
 use Rattle.plain_tables.specs.Effects.{Effect, refused}
+use Rattle.plain_tables.specs.Resolving.{resolved_of}
+use Rattle.plain_tables.specs.declared.resolved.Resolved.{Resolved}
+use Rattle.plain_tables.specs.declared.resolved.Resolved.TheVariants as resolved
+use Rattle.plain_tables.specs.declared.refusal.Refusal.{Refusal}
+use Rattle.plain_statements.specs.Filling.{filled}
+use Rattle.mm_session.specs.Columns.{columns_told}
 use Rattle.plain_tables.specs.declared.value.Value.{Value}
 use Rattle.plain_tables.specs.declared.refusal.Refusal.TheVariants.{NoMemory}
 use Rattle.plain_statements.specs.declared.statement.Statement.{Statement}
@@ -33,3 +40,26 @@ abbrev pub IsDeclined : DatabaseState → ℕ → ExecuteFault → Type 0
 IsDeclined database number fault.NoSuchStatement = statement_at database number ≡ None
 IsDeclined database number (fault.Refused why) =
     why ≢ NoMemory → IsEffectOf database number (refused database.session.database why)
+
+-- The number names a statement, which with the values that are bound means this of the tables, before a row is looked at.
+pub record IsMeaningOf (database : DatabaseState) (number : ℕ) (command : Result Resolved Refusal) : Type 0 where
+  pub kept : KeptStatement
+  pub there : statement_at database number ≡ Some kept
+  pub statement : Statement
+  pub spelled : SpellsStatement kept.line statement
+  pub is : resolved_of [] database.session.database (filled kept.values statement) ≡ command
+
+-- the columns of what a resolved command shows of these tables
+abbrev pub columns_of : Database → Resolved → List Value
+columns_of tables (resolved.Select query) = columns_told tables query
+columns_of tables command = []
+
+-- the values are the columns of what the statement of a number shows
+abbrev pub TellsColumns : DatabaseState → ℕ → List Value → Type 0
+TellsColumns database number values =
+    (command : Resolved) × IsMeaningOf database number (Ok command) × (values ≡ columns_of database.session.database command)
+
+-- The number names no statement; or the statement is refused so before a row is looked at, unless there was no memory.
+abbrev pub IsUntold : DatabaseState → ℕ → ExecuteFault → Type 0
+IsUntold database number fault.NoSuchStatement = statement_at database number ≡ None
+IsUntold database number (fault.Refused why) = why ≢ NoMemory → IsMeaningOf database number (Err why)

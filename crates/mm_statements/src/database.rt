@@ -60,7 +60,7 @@ impl Database {
     ghost use Rattle.mm_session.specs.Sessions.{BreaksOff, Feeds, Finishes, Gains, new_session};
     ghost use Rattle.mm_statements.specs.Cells.{cell_value};
     ghost use Rattle.mm_statements.specs.Databases.{KeptStatement, statement_at, IsUnchanged, NowNames, SameStatements};
-    ghost use Rattle.mm_statements.specs.Executing.{HasGiven, IsDeclined, IsEffectOf};
+    ghost use Rattle.mm_statements.specs.Executing.{HasGiven, IsDeclined, IsEffectOf, IsUntold, TellsColumns};
     ghost use Rattle.mm_statements.specs.Preparing.{IsPrepared, IsUnpreparedFor};
     ghost use Rattle.mm_statements.specs.declared.declined.Declined.TheVariants as declined;
     ghost use Rattle.mm_statements.specs.declared.faults.ExecuteFault.TheVariants as fault;
@@ -226,5 +226,21 @@ impl Database {
         }
         let count = self.session.change(command)?;
         Ok(Executed::Changed(count))
+    }
+
+    /// Makes the cells the columns of the rows that the statement of a number shows with the values that are bound: of each its name,
+    /// behind its table's, and then the number of the kind of its values: 1 of integers, 2 of texts. There are none where it shows no
+    /// rows; where it fails they may be any. It is refused as an execution would be before a row is looked at.
+    pub fn columns(&mut self, number: usize, cells: &mut Cells) -> Result<(), ExecuteFault>
+        ensures told { OnOk result (TellsColumns self.old number cells.new) }
+        ensures missing { statement_at self.old number ≡ None → result ≡ Err fault.NoSuchStatement }
+        ensures declined { IfErr result (IsUntold self.old number) }
+        ensures unchanged { IsUnchanged self.old self.new }
+    {
+        cells.clear();
+        if let Resolved::Select(query) = command_of(&self.session, &mut self.statements, number)? {
+            self.session.columns(&query, cells)?;
+        }
+        Ok(())
     }
 }

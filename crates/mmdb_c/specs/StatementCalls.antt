@@ -9,7 +9,8 @@ use Rattle.plain_tables.specs.declared.value.Value.TheVariants as value
 use Rattle.plain_streams.specs.Requests.{without_return}
 use Rattle.mm_session.specs.OneRequest.{StaysInStream}
 use Rattle.mm_statements.specs.Databases.{KeptStatement, IsUnchanged, NowNames, SameStatements, statement_at}
-use Rattle.mm_statements.specs.Executing.{HasGiven, IsDeclined, IsEffectOf}
+use Rattle.mm_statements.specs.Executing.{HasGiven, IsDeclined, IsEffectOf, TellsColumns}
+use Rattle.mm_statements.specs.Executing as executing
 use Rattle.mm_statements.specs.Preparing.{IsPrepared}
 use Rattle.mm_statements.specs.Preparing as preparing
 use Rattle.mm_statements.specs.declared.database.Executed.{Executed}
@@ -100,3 +101,14 @@ Tells cells (gives.Rows columns) told = (told.changed ≡ 0) × (told.rows ≡ l
 abbrev pub HasColumns : Executed → Type 0
 HasColumns (gives.Changed count) = Unit {0}
 HasColumns (gives.Rows columns) = 0 < columns
+
+-- The columns of what the statement shows are kept, and the answer is empty.
+pub record KeepsColumns (number : ℕ) (old new : Database) : Type 0 where
+  pub told : TellsColumns old.inner number new.columns
+  pub answer : new.answer ≡ []
+
+-- The statement is refused before a row is looked at, or there was no memory; that is the answer.
+pub record IsUntold (number : ℕ) (old new : Database) : Type 0 where
+  pub why : Refusal
+  pub untold : executing.IsUntold old.inner number (fault.Refused why)
+  pub answer : new.answer ≡ refusal_text why

@@ -10,13 +10,15 @@ use plain_tables::{Limits, NoMemory};
 use plan_chooser::Policy;
 use std::alloc::Global;
 
-/// A database, the answers to the last call, the values that each of its statements has shown, and the reason that was last asked for.
+/// A database, the answers to the last call, the reason that was last asked for, the values that each of its statements has shown, by
+/// their numbers, and the columns that were last asked for.
 #[derive(Drop)]
 pub struct Database {
     pub inner: mm_statements::Database,
     pub answer: Answer,
     pub reason: Answer,
     pub shown: Vec<Cells>,
+    pub columns: Cells,
 }
 
 impl Database {
@@ -32,6 +34,7 @@ impl Database {
             answer: Answer::new(alloc)?,
             reason: Answer::new(alloc)?,
             shown: Vec::new(alloc),
+            columns: Cells::new(alloc),
         })
     }
 

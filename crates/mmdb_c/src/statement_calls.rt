@@ -5,8 +5,9 @@ ghost use Rattle.std.specs.Str.{IsUtf8};
 ghost use Rattle.plain_tables.specs.declared.value.Value.TheVariants as value;
 ghost use Rattle.mm_statements.specs.Cells.{cell_value};
 ghost use Rattle.mm_statements.specs.declared.database.Executed.{Executed};
+ghost use Rattle.mm_statements.specs.declared.database.Executed.TheVariants as gives;
 ghost use Rattle.mmdb_c.specs.Calls.{Becomes};
-ghost use Rattle.mmdb_c.specs.StatementCalls.{Prepares, IsUnprepared, KeepsAll, IsMissing, IsPast, Binds, Finalizes, Executes, IsUnexecuted, Tells, shown_by};
+ghost use Rattle.mmdb_c.specs.StatementCalls.{Prepares, IsUnprepared, KeepsAll, IsMissing, IsPast, Binds, Finalizes, Executes, IsUnexecuted, IsUntold, KeepsColumns, Tells, shown_by};
 
 use crate::handle::Handle;
 use crate::rows::Rows;
@@ -14,7 +15,7 @@ use crate::statements::{Statement, Unexecuted, Unprepared};
 use crate::{
     DONE, NO_LINE, NO_MEMORY, NO_SUCH_PLACE, NO_SUCH_STATEMENT, NOT_OPEN, NOT_UTF8, REFUSED,
 };
-use mm_statements::{Cell, Declined};
+use mm_statements::{Cell, Declined, Executed};
 use std::alloc::Global;
 
 /// Prepares the statement that a line spells, and tells its number and how many places it has.
@@ -172,6 +173,37 @@ pub extern "C" fn mmdb_execute(
     handle.put(alloc, database);
     match executed {
         Ok(_) => DONE,
+        Err(Unexecuted::NoSuchStatement) => NO_SUCH_STATEMENT,
+        Err(Unexecuted::Refused) => REFUSED,
+    }
+}
+
+/// Tells the columns of what a statement shows with the values that are bound: a row for each, of its name and its kind.
+#[unsafe(no_mangle)]
+pub extern "C" fn mmdb_columns(
+    alloc: Global,
+    handle: &mut Handle,
+    statement: u32,
+    columns: &mut Rows,
+) -> u32
+    ensures not_open { (result ≡ NOT_OPEN) ↔ IsNone handle.old.database }
+    ensures no_such_statement { (result ≡ NO_SUCH_STATEMENT) ↔ IsSomeAnd handle.old.database (IsMissing statement) }
+    ensures done { result ≡ DONE → Becomes handle.old.database handle.new.database (λ old new. KeepsColumns statement old new × Tells new.columns (gives.Rows 2) columns.new) }
+    ensures refused { result ≡ REFUSED → Becomes handle.old.database handle.new.database (IsUntold statement) }
+    ensures kept { IsSome handle.old.database → Becomes handle.old.database handle.new.database KeepsAll }
+    ensures others { IsSome handle.old.database → (result ≡ DONE) ⊎ ((result ≡ NO_SUCH_STATEMENT) ⊎ (result ≡ REFUSED)) }
+    ensures untold { result ≢ DONE → columns.new ≡ columns.old }
+{
+    let Some(mut database) = handle.take(alloc) else {
+        return NOT_OPEN;
+    };
+    let found = database.find_columns(statement);
+    if found.is_ok() {
+        columns.tell(Executed::Rows { columns: 2 }, &database.columns);
+    }
+    handle.put(alloc, database);
+    match found {
+        Ok(()) => DONE,
         Err(Unexecuted::NoSuchStatement) => NO_SUCH_STATEMENT,
         Err(Unexecuted::Refused) => REFUSED,
     }

@@ -36,7 +36,7 @@ pub enum Unexecuted {
 }
 
 impl Database {
-    ghost use Rattle.mmdb_c.specs.StatementCalls.{Prepares, IsUnprepared, KeepsAll, IsMissing, IsPast, IsUnbound, Binds, Finalizes, HasExecuted, Executes, IsUnexecuted};
+    ghost use Rattle.mmdb_c.specs.StatementCalls.{Prepares, IsUnprepared, KeepsAll, IsMissing, IsPast, IsUnbound, Binds, Finalizes, HasExecuted, Executes, IsUnexecuted, IsUntold, KeepsColumns};
     ghost use Rattle.mm_statements.specs.Executing.{IsDeclined};
 
     /// Keeps the statement that a line spells. Where it is refused, that is the answer, and else the answer is empty.
@@ -132,6 +132,26 @@ impl Database {
         }
         match self.execute_there(number) {
             Ok(executed) => Ok(executed),
+            Err(ExecuteFault::NoSuchStatement) => Err(Unexecuted::NoSuchStatement),
+            Err(ExecuteFault::Refused(why)) => {
+                self.answer.refuse(why);
+                Err(Unexecuted::Refused)
+            }
+        }
+    }
+
+    /// Keeps the columns of what a statement shows with the values that are bound. Where it is refused, that is the answer, and else
+    /// the answer is empty.
+    pub fn find_columns(&mut self, number: u32) -> Result<(), Unexecuted>
+        ensures told { OnOk result (KeepsColumns number self.old self.new) }
+        ensures missing { IsMissing number self.old → result ≡ Err unexecuted.NoSuchStatement }
+        ensures none { result ≡ Err unexecuted.NoSuchStatement → IsMissing number self.old }
+        ensures refused { IsErrOf result unexecuted.Refused → IsUntold number self.old self.new }
+        ensures unchanged { KeepsAll self.old self.new }
+    {
+        self.answer.clear();
+        match self.inner.columns(number as usize, &mut self.columns) {
+            Ok(()) => Ok(()),
             Err(ExecuteFault::NoSuchStatement) => Err(Unexecuted::NoSuchStatement),
             Err(ExecuteFault::Refused(why)) => {
                 self.answer.refuse(why);
