@@ -12,6 +12,8 @@ import preloading
 MOMENT = re.compile(r"\[held (\d+), most \d+\]\nheld: (.+)")
 BOOKS = 1_000
 ENTRY = 12
+SLOTS = 256
+COUNT = 8
 
 
 def moments_of(counter, binary, name):
@@ -65,3 +67,28 @@ class GivenBack(unittest.TestCase):
         plain = self.held["plain_indexes_are_given_back"]["emptied"]
         self.assertEqual(self.held["t_tree_nodes_are_given_back"]["emptied"], plain)
         self.assertLess(self.held["hash_nodes_are_given_back"]["emptied"], plain + BOOKS * ENTRY)
+
+
+class Forgotten(unittest.TestCase):
+    """A store of one partition keeps counts, forgets them, and gives its partition back."""
+
+    @classmethod
+    def setUpClass(cls):
+        counter = preloading.Library("count_held")
+        cls.addClassCleanup(counter.close)
+        tests = list(harness.crate_tests("_are_forgotten"))
+        cls.held = [moments_of(counter, binary, name) for binary, name in tests]
+
+    def test_there_is_one(self):
+        self.assertEqual(len(self.held), 1, "no crate's tests were built")
+
+    def test_counts_are_held_where_they_are_kept_alone(self):
+        for held in self.held:
+            kept = held["counted"] - held["uncounted"]
+            self.assertGreaterEqual(kept, SLOTS * COUNT)
+            self.assertLess(kept, 2 * SLOTS * COUNT)
+
+    def test_they_are_given_back(self):
+        for held in self.held:
+            self.assertEqual(held["forgotten"], held["uncounted"])
+            self.assertEqual(held["released"], held["nothing"])

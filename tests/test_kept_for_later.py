@@ -131,8 +131,18 @@ class Rows(Counted):
         of_a_column = takes[2] - takes[1]
         self.assertEqual(of_a_column % self.COUNT, 0, takes)
         self.assertEqual([takes[3] - takes[1], takes[16] - takes[1]], [2 * of_a_column, 15 * of_a_column])
-        # Beside its cells a row takes a count of 8 bytes, 6 in the tree where keys rise, and less than one of what tells its slot.
-        self.assertLess(takes[1] - of_a_column, self.COUNT * 15)
+        # Beside its cells a row takes 6 bytes in the tree where keys rise, and less than one of what tells its slot.
+        self.assertLess(takes[1] - of_a_column, self.COUNT * 7)
+
+    def test_links_are_counted_only_where_a_column_refers_to_the_table(self):
+        """A row takes a count of 8 bytes there, whether the column was declared before the row came in or after."""
+        tables, refers = b"table marks (id int)\ntable t (c0 int)\n", b"table u (c0 int, c1 ref t)\n"
+        first, second = self.rows(1, range(self.COUNT)), self.rows(1, range(self.COUNT, 2 * self.COUNT))
+        (alone,), (referred,) = self.held(tables + first, second), self.held(tables + refers + first, second)
+        (over_none,), (over_rows,) = self.held(tables, refers), self.held(tables + first, refers)
+        for counts in referred - alone, over_rows - over_none:
+            self.assertGreaterEqual(counts, self.COUNT * 8)
+            self.assertLess(counts, self.COUNT * 9)
 
     def test_a_text_takes_a_block_only_while_it_is_long(self):
         """Its bytes and a box, where it is longer than a cell has room for, and nothing where it is not."""

@@ -66,7 +66,7 @@ leads names tables d n same (Some name) h t e =
     ]
 
 -- where the links of a column lead, by the column that is there
-target_there : (names : List (List ℕ)) (columns : List Column) (column : ℕ) (t : ℕ) → target_at (map (target_of names) columns) column ≡ Some t → (c : Column) × (slice_get columns column ≡ Some c) × (target_of names c ≡ Some t)
+pub target_there : (names : List (List ℕ)) (columns : List Column) (column : ℕ) (t : ℕ) → target_at (map (target_of names) columns) column ≡ Some t → (c : Column) × (slice_get columns column ≡ Some c) × (target_of names c ≡ Some t)
 target_there names [] column t e = absurd (none-some t e)
 target_there names (c ∷ cs) zero t e = (c, refl, e)
 target_there names (c ∷ cs) (suc column) t e = target_there names cs column t e

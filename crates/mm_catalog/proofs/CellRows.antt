@@ -19,7 +19,7 @@ use Rattle.mm_relation.specs.Reading.{Keys, cell_value, row_value, key_at, link_
 use Rattle.mm_relation.specs.State.{RelationState, IsReadable, linked_keys}
 use Rattle.mm_catalog.specs.Seen.{or_null, row_values}
 use Rattle.mm_catalog.specs.Linked.{target_at, link_at, row_links, HasLinksOrNulls}
-use Rattle.mm_catalog.specs.Counted.{IsHeldIn}
+use Rattle.mm_catalog.specs.Counted.{IsHeldIn, LeadIntoCounted}
 use Rattle.mm_catalog.specs.Cells.{target_in, read_in, IsCellOf, NamesNone, AreFirstCells, AreCellsOf}
 use Rattle.mm_catalog.proofs.Lists.{same_by_get}
 use Rattle.mm_catalog.proofs.RowLinks.{All-filter_map, link_parts}
@@ -138,8 +138,8 @@ module _ (relations : List RelationState) (targets : List (Option ℕ)) (key : V
       let same : cell.0 ≡ Held value = same_Some cell.0 (Held value) (sym cell.1 ∙ at) in
       cell.2.linked value leads same
 
-  held_link : (column table : ℕ) (to : TupleRef) → target_at targets column ≡ Some table → link_in column row ≡ Some to → IsHeldIn relations (table, to)
-  held_link column table to leads links =
+  held_link : LeadIntoCounted relations targets → (column table : ℕ) (to : TupleRef) → target_at targets column ≡ Some table → link_in column row ≡ Some to → IsHeldIn relations (table, to)
+  held_link counted column table to leads links =
       elim (cases_eq column 0) [
         | inl first ↦ absurd (none-some to (ap (λ n. link_in n row) (sym first) ∙ links))
         | inr other ↦
@@ -163,11 +163,11 @@ module _ (relations : List RelationState) (targets : List (Option ℕ)) (key : V
 
       held_by : (o : Option RelationState) → slice_get relations table ≡ o → (v : Value) → option_and_then (λ s. key_at s.rows to) o ≡ Some v → IsHeldIn relations (table, to)
       held_by None e v f = absurd (none-some v f)
-      held_by (Some s) e v f = (s, e, held_row (get s.rows to) v f)
+      held_by (Some s) e v f = (s, e, held_row (get s.rows to) v f, counted column table s leads e)
 
   -- the rows that its links name are there
-  pub cells_held : All (IsHeldIn relations) (row_links targets row)
+  pub cells_held : LeadIntoCounted relations targets → All (IsHeldIn relations) (row_links targets row)
   unfolding row_links
-  cells_held =
+  cells_held counted =
       All-filter_map (IsHeldIn relations) (link_at targets row) (range_with_len 0 (length targets))
-      (λ column link _ e. let parts = link_parts targets row column link e in held_link column link.0 link.1 parts.0 parts.1)
+      (λ column link _ e. let parts = link_parts targets row column link e in held_link counted column link.0 link.1 parts.0 parts.1)

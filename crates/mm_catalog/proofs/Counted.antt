@@ -100,7 +100,8 @@ held_still old new link h was =
     let t = slice_get-inside new link.0 (omega (arith, h.count, slice_get_within old link.0 was.0 was.1)) in
     let found = held_tuple was.0.rows link.1 was.2 in
     let now = recounted_held was.0 t.0 link.1 found.0 (h.each link.0 was.0 t.0 was.1 t.1) found.1 in
-    (t.0, t.1, ap is_some now.1)
+    let kept = ap (λ (s : RelationState). s.counted) (h.each link.0 was.0 t.0 was.1 t.1).same in
+    (t.0, t.1, ap is_some now.1, kept ∙ was.3)
 
 pub all_held_still : (old new : List RelationState) (links : List Linked) → AreRecounted old new → All (IsHeldIn old) links → All (IsHeldIn new) links
 all_held_still old new links h all = All-weaker (IsHeldIn old) (IsHeldIn new) (λ link. held_still old new link h) links all

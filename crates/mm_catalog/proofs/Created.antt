@@ -1,5 +1,5 @@
 -- A catalog of one table more.
-use Rattle.std.proofs.Common.{◌≡◌, ℕ, suc, ◌+◌, Bool, true, false, List, [], ◌∷◌, ◌++◌, Option, Some, None, is_some, refl, sym, ap, ◌∙◌, subst, arith, length, map, take, get_or, append-nil, length-append, inl, inr}
+use Rattle.std.proofs.Common.{◌≡◌, ℕ, suc, ◌+◌, ◌<◌, Bool, true, false, List, [], ◌∷◌, ◌++◌, Option, Some, None, is_some, refl, sym, ap, ◌∙◌, subst, arith, length, map, take, get_or, append-nil, length-append, inl, inr}
 use Rattle.std.specs.List.{All, slice_get, list_any, position, flat_map, zip, count_by}
 use Rattle.std.specs.Option.{option_and_then, option_map_or}
 use Rattle.std.specs.Str.{bytes_eq}
@@ -12,6 +12,7 @@ use Rattle.std.proofs.lemmas.Bool.{cases_lt}
 use Rattle.std.proofs.lemmas.Grind.{flat_map-append}
 use Rattle.std.proofs.lemmas.List.{map-append, take-append-le}
 use Rattle.std.proofs.lemmas.List.Elements.{All-push}
+use Rattle.std.proofs.lemmas.List.Quantifiers.{position-Some}
 use Rattle.std.proofs.lemmas.Option.{none-some, slice_get_within, slice_get-get_or}
 use Rattle.common_lemmas.proofs.Tests.{list_any-map}
 use Rattle.common_lemmas.proofs.Places.{zip-push, slice_get-front, slice_get-last}
@@ -28,14 +29,15 @@ use Rattle.mm_relation.specs.Rows.{Row}
 use Rattle.mm_relation.specs.State.{RelationState, IsKept, IsCurrent, linked_keys}
 use Rattle.mm_catalog.specs.State.{CatalogState}
 use Rattle.mm_catalog.specs.Seen.{database_of, table_of, rows_of, plain_index}
-use Rattle.mm_catalog.specs.Linked.{target_of, relation_links, links, links_to, is_link_to}
+use Rattle.mm_catalog.specs.Linked.{target_at, target_of, relation_links, links, links_to, is_link_to}
+use Rattle.mm_catalog.specs.Counted.{LeadIntoCounted}
 use Rattle.mm_catalog.specs.Created.{aimed_relation}
 use Rattle.mm_catalog.specs.Consistent.{IsAmong, IsConsistent, AreCounted}
 use Rattle.mm_catalog.specs.Changes.{IsDone}
 use Rattle.plain_tables.specs.ResolvedLaws.{IsDeclarable}
 use Rattle.mm_catalog.proofs.Lists.{map-zip}
 use Rattle.mm_catalog.proofs.Outlines.{keys_before}
-use Rattle.mm_catalog.proofs.Back.{RefersInto, names-database, refers_before, lead_back}
+use Rattle.mm_catalog.proofs.Back.{RefersInto, names-database, refers_before, target_there, lead_back}
 use Rattle.mm_catalog.proofs.Finding.{is_some-find, found-front, position-found}
 use Rattle.plain_tables.proofs.SoundLemmas.{done_keeps_sound}
 
@@ -43,6 +45,16 @@ use Rattle.plain_tables.proofs.SoundLemmas.{done_keeps_sound}
 refers-more : (found : Option (List ℕ)) (front tables : Database) → ((name : List ℕ) → is_some (table_named name front) ≡ true → is_some (table_named name tables) ≡ true) → option_map_or (λ name. is_some (table_named name front)) found true ≡ true → option_map_or (λ name. is_some (table_named name tables)) found true ≡ true
 refers-more None front tables more h = refl
 refers-more (Some name) front tables more h = more name h
+
+found_within : (names : List (List ℕ)) (found : Option (List ℕ)) (t : ℕ) → option_and_then (λ name. position (λ n. bytes_eq n name) names) found ≡ Some t → t < length names
+found_within names None t e = absurd (none-some t e)
+found_within names (Some name) t e = (position-Some (λ n. bytes_eq n name) names t [] e).0
+
+-- the links of a new table lead into those that have names
+pub leads_before : (names : List (List ℕ)) (schema : Schema) (column table : ℕ) → target_at (aimed_relation names schema).targets column ≡ Some table → table < length names
+leads_before names schema column table e =
+    let col = target_there names schema.columns column table e in
+    found_within names (referred col.0.kind) table col.2
 
 module _ (c : CatalogState) (ok : IsConsistent c) where
   -- whether there is a table of a name is told by the names
@@ -90,10 +102,18 @@ module _ (c : CatalogState) (ok : IsConsistent c) where
         sym (keys_before s.targets now n back) ∙ ap (linked_keys s.targets) (take-append-le n c.relations (new ∷ []) (omega (arith, within)))
         ∙ keys_before s.targets c.relations n back
 
+    -- a table before the last
+    there_before : (n column table : ℕ) (s t : RelationState) → slice_get c.relations n ≡ Some s → target_at s.targets column ≡ Some table → slice_get now table ≡ Some t → slice_get c.relations table ≡ Some t
+    there_before n column table s t there e at =
+        let below = lead_back c ok n s there column table e in
+        let within = slice_get_within c.relations n s there in
+        sym (slice_get-front c.relations (new ∷ []) table (omega (arith, below, within))) ∙ at
+
     among_old : (n : ℕ) (s : RelationState) → slice_get c.relations n ≡ Some s → IsAmong c.names c.relations s → IsAmong (c.names ++ name ∷ []) now s
     among_old n s there a = record {
       kept = a.kept;
       targets = a.targets ∙ targets-more (name ∷ []) s.schema.columns (refers_there n s there);
+      counted = λ column table t e at. a.counted column table t e (there_before n column table s t there e at);
       linked = a.linked;
       current = subst (λ keys. IsCurrent keys s) (sym (keys_more n s there)) a.current;
     }
@@ -101,10 +121,11 @@ module _ (c : CatalogState) (ok : IsConsistent c) where
     no_row : (r : TupleRef) (row : Row) → finite.get new.rows r ≡ Some row → ⊥
     no_row r row e = none-some row (sym (get-empty ref_cmp r) ∙ e)
 
-    among_new : IsKept new → All (RefersInto (database_of c)) schema.columns → IsAmong (c.names ++ name ∷ []) now new
-    among_new kept refers = record {
+    among_new : IsKept new → All (RefersInto (database_of c)) schema.columns → LeadIntoCounted c.relations new.targets → IsAmong (c.names ++ name ∷ []) now new
+    among_new kept refers counted = record {
       kept = kept;
       targets = targets-more (name ∷ []) schema.columns refers;
+      counted = λ column table t e at. counted column table t e (sym (slice_get-front c.relations (new ∷ []) table (omega (arith, leads_before c.names schema column table e, ok.named))) ∙ at);
       linked = λ r row e. absurd (no_row r row e);
       current = record {
         readable = λ r row e. absurd (no_row r row e);
@@ -138,7 +159,7 @@ module _ (c : CatalogState) (ok : IsConsistent c) where
         (map-zip (λ (t : List ℕ × RelationState). table_of c.relations t.0 t.1) (λ (t : List ℕ × RelationState). table_of now t.0 t.1) c.names c.relations
         (λ i a t named found j. record { name = a; columns = t.schema.columns; indexes = map plain_index t.declared; rows = rows_of (keys_more i t found j) t }))
 
-    module _ (kept : IsKept new) (meant : IsDeclarable c.limits (database_of c) name schema) where
+    module _ (kept : IsKept new) (meant : IsDeclarable c.limits (database_of c) name schema) (counts : LeadIntoCounted c.relations new.targets) where
       sound_more : IsSound c.limits (database_of grown)
       sound_more = subst (IsSound c.limits) (sym database_more) (done_keeps_sound c.limits (database_of c) (resolved.Table name schema) ok.sound meant)
 
@@ -147,7 +168,7 @@ module _ (c : CatalogState) (ok : IsConsistent c) where
         named = length-append c.names (name ∷ []) ∙ ap (λ n. n + 1) ok.named ∙ sym (length-append c.relations (new ∷ []));
         rows = ok.rows;
         sound = sound_more;
-        each = All-push (IsAmong (c.names ++ name ∷ []) now) c.relations new (λ k d l. among_old k _ (slice_get-get_or c.relations k d l) (ok.each k d l)) (among_new kept meant.refers_back);
+        each = All-push (IsAmong (c.names ++ name ∷ []) now) c.relations new (λ k d l. among_old k _ (slice_get-get_or c.relations k d l) (ok.each k d l)) (among_new kept meant.refers_back counts);
         counted = counted_more;
       }
 

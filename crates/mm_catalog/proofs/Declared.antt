@@ -1,15 +1,15 @@
 -- A catalog of which a table's declared indexes change and nothing else.
-use Rattle.std.proofs.Common.{◌≡◌, ◌≢◌, ℕ, zero, suc, ◌<◌, Bool, true, false, not, cond, ◌&&◌, ◌==◌, List, [], ◌∷◌, ◌++◌, Some, refl, sym, ap, ◌∙◌, subst, arith, length, map, set, take, filter, get_or, length-set}
+use Rattle.std.proofs.Common.{◌≡◌, ◌≢◌, ℕ, zero, suc, ◌<◌, Bool, true, false, not, cond, ◌&&◌, ◌==◌, List, [], ◌∷◌, ◌++◌, Some, refl, sym, ap, ◌∙◌, subst, arith, length, map, set, take, filter, get_or, length-set, inl, inr}
 use Rattle.std.specs.List.{AllPairs, slice_get, count_by}
 use Rattle.std.specs.Option.{option_map}
 use Rattle.std.specs.Prelude.{Result, Ok, Err, OnOk, OnErr}
 use Rattle.std.specs.FinMap as finite
 use Rattle.std.proofs.Math.Seq.{map-set_same}
-use Rattle.std.proofs.lemmas.Bool.{and_parts, eqb-true}
+use Rattle.std.proofs.lemmas.Bool.{and_parts, eqb-true, cases_eq}
 use Rattle.std.proofs.lemmas.List.{map-append}
 use Rattle.std.proofs.lemmas.List.Elements.{All-set}
 use Rattle.std.proofs.lemmas.Option.{slice_get-map, slice_get_within, get_or_from_slice_get, same_Some, none-some}
-use Rattle.common_lemmas.proofs.Places.{slice_get-inside}
+use Rattle.common_lemmas.proofs.Places.{slice_get-inside, slice_get_set, slice_get-set_other}
 use Rattle.common_lemmas.proofs.Elements.{All-at}
 use Rattle.part_raw.specs.declared.tuple_ref.TupleRef.{TupleRef}
 use Rattle.plain_tables.specs.Tables.{Table}
@@ -31,7 +31,7 @@ use Rattle.mm_relation.specs.State.{RelationState, IsKept, IsCurrent, linked_key
 use Rattle.mm_relation.proofs.Dropping.{without_first-map}
 use Rattle.mm_catalog.specs.State.{CatalogState}
 use Rattle.mm_catalog.specs.Seen.{database_of, table_of, rows_of, values_of, plain_index}
-use Rattle.mm_catalog.specs.Linked.{target_of, links_to, is_link_to, HasLinksOrNulls}
+use Rattle.mm_catalog.specs.Linked.{target_of, links_to, is_link_to, HasLinksOrNulls, target_at}
 use Rattle.mm_catalog.specs.Consistent.{IsAmong, IsConsistent, AreCounted}
 use Rattle.mm_catalog.specs.Changes.{IsChangedAt, IsCurrentAt, IsDone}
 use Rattle.plain_tables.specs.ResolvedLaws.{IsMeant}
@@ -72,6 +72,7 @@ module _ (c : CatalogState) (ok : IsConsistent c) where
 
 pub record KeepsOutline (old new : RelationState) : Type 0 where
   pub schema : new.schema ≡ old.schema
+  pub counted : new.counted ≡ old.counted
   pub outline : outline new ≡ outline old
 
 -- a relation with this outline
@@ -80,7 +81,7 @@ with_outline [] i o at = absurd (none-some o at)
 with_outline (s ∷ relations) zero o at = (s, refl, same_Some (outline s) o at)
 with_outline (s ∷ relations) (suc i) o at = with_outline relations i o at
 
-same_counts : (now relations : List RelationState) → outlines now ≡ outlines relations → (table : ℕ) (r : TupleRef) → links_to now table r ≡ links_to relations table r
+pub same_counts : (now relations : List RelationState) → outlines now ≡ outlines relations → (table : ℕ) (r : TupleRef) → links_to now table r ≡ links_to relations table r
 unfolding links_to
 same_counts now relations e table r = ap (count_by (is_link_to table r)) (same_links now relations e)
 
@@ -92,10 +93,20 @@ module _ (c : CatalogState) (ok : IsConsistent c) (n : ℕ) (s new : RelationSta
   same_outlines =
       map-set_same outline c.relations n new s (keeps.outline ∙ ap outline (sym (get_or_from_slice_get c.relations n s s there)))
 
+  -- what kept numbers of referrers keeps them
+  counted_at : (table : ℕ) (t : RelationState) → slice_get now table ≡ Some t → (u : RelationState) × (slice_get c.relations table ≡ Some u) × (t.counted ≡ u.counted)
+  counted_at table t at = elim (cases_eq table n) [
+    | inl e ↦
+        let same : new ≡ t = same_Some new t (sym (slice_get_set c.relations n new (slice_get_within c.relations n s there)) ∙ ap (slice_get now) (sym e) ∙ at) in
+        (s, ap (slice_get c.relations) e ∙ there, ap (λ (r : RelationState). r.counted) (sym same) ∙ keeps.counted)
+    | inr other ↦ (t, sym (slice_get-set_other c.relations n table new other) ∙ at, refl)
+  ]
+
   among_old : (t : RelationState) → IsAmong c.names c.relations t → IsAmong c.names now t
   among_old t a = record {
     kept = a.kept;
     targets = a.targets;
+    counted = λ column table u e at. let was = counted_at table u at in was.2 ∙ a.counted column table was.0 e was.1;
     linked = a.linked;
     current = subst (λ keys. IsCurrent keys t) (sym (same_keys t.targets now c.relations same_outlines)) a.current;
   }
@@ -113,6 +124,9 @@ module _ (c : CatalogState) (ok : IsConsistent c) (n : ℕ) (s new : RelationSta
       record {
         kept = kept;
         targets = targets ∙ a.targets ∙ ap (λ (columns : List _). map (target_of c.names) columns) (ap (λ schema. schema.columns) (sym keeps.schema));
+        counted = λ column table u e at.
+            let was = counted_at table u at in
+            was.2 ∙ a.counted column table was.0 (ap (λ ts. target_at ts column) (sym targets) ∙ e) was.1;
         linked = λ r row e. subst (λ t. HasLinksOrNulls t row) (sym targets) (a.linked r row (ap (λ tuples. finite.get tuples r) (sym rows) ∙ e));
         current = subst (λ keys. IsCurrent keys new) new_keys current;
       }
@@ -146,8 +160,8 @@ module _ (c : CatalogState) (ok : IsConsistent c) (n : ℕ) (s new : RelationSta
 -- ---- an index more
 
 declared_keeps : (k : IndexKind) (column : ColumnNumber) (old new : RelationState) → IsDeclaredOf k column old new → KeepsOutline old new × (new.declared ≡ old.declared ++ declaration column k ∷ [])
-declared_keeps Tree column old new h = (record { schema = ap (λ s. s.schema) h.1; outline = ap outline h.1 }, ap (λ s. s.declared) h.1)
-declared_keeps Hash column old new h = (record { schema = ap (λ s. s.schema) h.1; outline = ap outline h.1 }, ap (λ s. s.declared) h.1)
+declared_keeps Tree column old new h = (record { schema = ap (λ s. s.schema) h.1; counted = ap (λ s. s.counted) h.1; outline = ap outline h.1 }, ap (λ s. s.declared) h.1)
+declared_keeps Hash column old new h = (record { schema = ap (λ s. s.schema) h.1; counted = ap (λ s. s.counted) h.1; outline = ap outline h.1 }, ap (λ s. s.declared) h.1)
 
 -- the effect on the database where the table is there
 done_index : (limits : Limits) (tables : Database) (n : TableNumber) (column : ColumnNumber) (k : IndexKind) (table : Table) → slice_get tables n.0 ≡ Some table → (done limits tables (resolved.Index n column k)).database ≡ set tables n.0 (with_index column k table)
@@ -196,8 +210,8 @@ module _ (c : CatalogState) (ok : IsConsistent c) (n : TableNumber) (column : Co
 -- ---- an index less
 
 dropped_keeps : (k : IndexKind) (column : ℕ) (s : RelationState) (others : List DeclaredIndex) → KeepsOutline s (without_of k column (record s { declared = others })) × ((without_of k column (record s { declared = others })).declared ≡ others)
-dropped_keeps Tree column s others = (record { schema = refl; outline = refl }, refl)
-dropped_keeps Hash column s others = (record { schema = refl; outline = refl }, refl)
+dropped_keeps Tree column s others = (record { schema = refl; counted = refl; outline = refl }, refl)
+dropped_keeps Hash column s others = (record { schema = refl; counted = refl; outline = refl }, refl)
 
 same_kind : (k l : IndexKind) → plain.is_kind k l ≡ relation.is_kind k l
 same_kind Tree Tree = refl

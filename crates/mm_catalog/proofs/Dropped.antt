@@ -29,7 +29,7 @@ use Rattle.mm_catalog.specs.Dropped.{moved_up, renumbered}
 use Rattle.mm_catalog.proofs.Tables.{database-get}
 use Rattle.mm_catalog.proofs.Recounting.{row_before, current_recounted, rows_recounted, links_recounted}
 use Rattle.mm_catalog.proofs.Removing.{recounted_keys}
-use Rattle.mm_catalog.proofs.Gone.{moved_back, moved_back-other, moved_up-back, get-removed, position-remove}
+use Rattle.mm_catalog.proofs.Gone.{moved_back, moved_back-other, moved_up-back, moved_up-injective, get-removed, position-remove}
 use Rattle.mm_catalog.proofs.Renumbered.{less_one, LeadElsewhere, target_at-map, keys_renumbered, kept_renumbered, current_renumbered, links_less_one, database-dropped}
 use Rattle.mm_catalog.proofs.Declared.{among_at}
 
@@ -43,7 +43,7 @@ same_flat (x ∷ xs) (y ∷ ys) e same =
     ap (λ ls. ls ++ flat_map relation_links ys) (same 0 x y refl refl)
     ∙ ap (λ ls. relation_links x ++ ls) (same_flat xs ys (omega arith) (λ k. same (suc k)))
 
-same_zip : {A : Type 0} (f g : List ℕ × RelationState → A) (names : List (List ℕ)) (xs ys : List RelationState) → length ys ≡ length xs → ((k : ℕ) (name : List ℕ) (s t : RelationState) → slice_get xs k ≡ Some s → slice_get ys k ≡ Some t → g (name, t) ≡ f (name, s)) → map g (zip names ys) ≡ map f (zip names xs)
+pub same_zip : {A : Type 0} (f g : List ℕ × RelationState → A) (names : List (List ℕ)) (xs ys : List RelationState) → length ys ≡ length xs → ((k : ℕ) (name : List ℕ) (s t : RelationState) → slice_get xs k ≡ Some s → slice_get ys k ≡ Some t → g (name, t) ≡ f (name, s)) → map g (zip names ys) ≡ map f (zip names xs)
 same_zip f g [] xs ys e same = refl
 same_zip f g (name ∷ names) [] [] e same = refl
 same_zip f g (name ∷ names) [] (y ∷ ys) e same = absurd (omega arith)
@@ -172,6 +172,14 @@ module _ (c : CatalogState) (ok : IsConsistent c) (n : ℕ) (gone : List ℕ) (c
           targets = ap (map (option_map (moved_up n))) (targets ∙ a.targets)
               ∙ sym (targets_less c.names n gone u.0.schema.columns called (none_refer k u.0 u.1))
               ∙ ap (map (target_of (remove c.names n))) (sym columns);
+          counted = λ column table v e here.
+              let old = option_map_some (moved_up n) (target_at t.targets column) table (sym (target_at-map (moved_up n) t.targets column) ∙ e) in
+              let from = option_map_some (renumbered n) (slice_get counted (moved_back n table)) v
+              (sym (slice_get-map (renumbered n) (remove counted n) table ∙ ap (option_map (renumbered n)) (get-removed counted n table)) ∙ here) in
+              let same : moved_back n table ≡ old.0 = moved_up-injective n (moved_back n table) old.0 (moved_back-other n table) (elsewhere_still k t at column old.0 old.1) (moved_up-back n table ∙ sym old.2) in
+              let was = before old.0 from.0 (ap (slice_get counted) (sym same) ∙ from.1) in
+              ap (λ (r : RelationState). r.counted) (sym from.2) ∙ ap (λ (r : RelationState). r.counted) was.2.same
+              ∙ a.counted column old.0 was.0 (ap (λ ts. target_at ts column) (sym targets) ∙ old.1) was.1;
           linked = linked_left k t at;
           current = current_renumbered n (linked_keys (map (option_map (moved_up n)) t.targets) less) t
               (subst (λ ks. IsCurrent ks t) (sym keys) (current_recounted u.0 t u.2 (linked_keys u.0.targets c.relations) a.current));

@@ -302,6 +302,17 @@ module _ (c : CatalogState) (ok : IsConsistent c) (n : ℕ) (new : List Relation
   current_beside_old current =
       current_beside_new (subst (λ keys. IsCurrent keys a) (keys_before b.targets c.relations n back_before ∙ sym (keys_in_front b.targets back_before) ∙ sym (keys_before b.targets new n back_before)) current)
 
+  -- what kept numbers of referrers keeps them
+  counted_at : (table : ℕ) (t : RelationState) → slice_get new table ≡ Some t → (u : RelationState) × (slice_get c.relations table ≡ Some u) × (t.counted ≡ u.counted)
+  counted_at table t at = elim (cases_eq table n) [
+    | inl e ↦
+        let same : a ≡ t = same_Some a t (sym h.here ∙ ap (slice_get new) (sym e) ∙ at) in
+        (b, ap (slice_get c.relations) e ∙ h.there, ap (λ (r : RelationState). r.counted) (sym same) ∙ h.keeps.counted)
+    | inr other ↦
+        let u = old_at table t at in
+        (u.0, u.1, ap (λ (r : RelationState). r.counted) (h.others table u.0 t other u.1 at).same)
+  ]
+
   among_other : (k : ℕ) (s t : RelationState) → slice_get c.relations k ≡ Some s → IsRecounted s t → IsKept t → IsAmong c.names new t
   among_other k s t at counts kept =
       let old = among_at c ok k s at in
@@ -309,6 +320,9 @@ module _ (c : CatalogState) (ok : IsConsistent c) (n : ℕ) (new : List Relation
       record {
         kept = kept;
         targets = targets ∙ old.targets ∙ ap (λ (r : RelationState). map (target_of c.names) r.schema.columns) (sym counts.same);
+        counted = λ column table u e at.
+            let was = counted_at table u at in
+            was.2 ∙ old.counted column table was.0 (ap (λ ts. target_at ts column) (sym targets) ∙ e) was.1;
         linked = λ r row e column value behind leads cell.
             let was = row_before s t counts r row e in
             old.linked r was.0 was.1 column value behind (subst (λ ts. IsSome (target_at ts column)) targets leads)
@@ -321,6 +335,9 @@ module _ (c : CatalogState) (ok : IsConsistent c) (n : ℕ) (new : List Relation
   among_here kept current linked = record {
     kept = kept;
     targets = h.keeps.targets ∙ (among_at c ok n b h.there).targets ∙ ap (λ (schema : Schema). map (target_of c.names) schema.columns) (sym h.keeps.schema);
+    counted = λ column table u e at.
+        let was = counted_at table u at in
+        was.2 ∙ (among_at c ok n b h.there).counted column table was.0 (ap (λ ts. target_at ts column) (sym h.keeps.targets) ∙ e) was.1;
     linked = linked;
     current = subst (λ keys. IsCurrent keys a) (keys_before a.targets new n back_after) (current a h.here);
   }

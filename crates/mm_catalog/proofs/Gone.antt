@@ -40,7 +40,7 @@ moved_back-before zero n h = absurd (omega arith)
 moved_back-before (suc gone) zero h = refl
 moved_back-before (suc gone) (suc n) h = ap suc (moved_back-before gone n (omega arith))
 
-moved_up-injective : (gone a b : ℕ) → a ≢ gone → b ≢ gone → moved_up gone a ≡ moved_up gone b → a ≡ b
+pub moved_up-injective : (gone a b : ℕ) → a ≢ gone → b ≢ gone → moved_up gone a ≡ moved_up gone b → a ≡ b
 moved_up-injective zero zero b p q e = absurd (p refl)
 moved_up-injective zero (suc a) zero p q e = absurd (q refl)
 moved_up-injective zero (suc a) (suc b) p q e = ap suc e

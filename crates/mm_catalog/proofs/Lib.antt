@@ -6,6 +6,7 @@ pub mod Declared
 pub mod Empty
 pub mod Finding
 pub mod Created
+pub mod Gaining
 pub mod Aimed
 pub mod Rising
 pub mod Keyed

@@ -37,6 +37,7 @@ rewritten_then old mid new n b m a h l keys = record {
     schema = l.keeps.schema ∙ h.keeps.schema;
     targets = l.keeps.targets ∙ h.keeps.targets;
     declared = l.keeps.declared ∙ h.keeps.declared;
+    counted = l.keeps.counted ∙ h.keeps.counted;
   };
   keys = λ r row found some. keys r row found;
 }
@@ -52,7 +53,7 @@ more_none c n s there = record {
     here = there;
     count = refl;
     others = λ k t u other at now. (AreRecounted-refl c.relations).each k t u at now;
-    keeps = record { schema = refl; targets = refl; declared = refl };
+    keeps = record { schema = refl; targets = refl; declared = refl; counted = refl };
     keys = λ r row found some. refl;
   };
   same = refl;

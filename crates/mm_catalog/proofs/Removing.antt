@@ -23,13 +23,14 @@ use Rattle.mm_relation.proofs.KeyOrder.{key_readable}
 use Rattle.mm_relation.proofs.Setting.{not_before}
 use Rattle.mm_catalog.specs.Linked.{links, Linked, target_at, link_at, row_links, relation_links, is_link_to}
 use Rattle.mm_catalog.specs.Recounted.{AreRecounted}
-use Rattle.mm_catalog.specs.Counted.{IsHeldIn, HaveAtLeast, AreCountedBy, naming, none}
+use Rattle.mm_catalog.specs.Counted.{IsHeldIn, HaveAtLeast, AreCountedBy, naming, none, LeadIntoCounted}
 use Rattle.mm_catalog.specs.Deleted.{AreRemoved, AreUnlinked}
 use Rattle.mm_catalog.proofs.Keyed.{keys_removed}
 use Rattle.mm_catalog.proofs.LinksHeld.{linked_value, target_within}
 use Rattle.mm_catalog.proofs.RowLinks.{All-filter_map, link_parts}
 use Rattle.mm_catalog.proofs.Counted.{counted_none, down_then, enough_left}
 use Rattle.mm_catalog.proofs.Recounting.{key_recounted}
+use Rattle.std.specs.Prelude.{IsTrue}
 
 -- ---- the links of a relation, row by row
 
@@ -106,7 +107,7 @@ pub AreRemoved-none : (s : RelationState) → AreRemoved s s []
 AreRemoved-none s = record {
   gone = λ r h. absurd (omega (arith, h.1));
   others = λ r h. refl;
-  keeps = record { schema = refl; targets = refl; declared = refl };
+  keeps = record { schema = refl; targets = refl; declared = refl; counted = refl };
 }
 
 pub AreRemoved-more : (s t u : RelationState) (refs : List TupleRef) (i : ℕ) (r : TupleRef) → i < length refs → get_or refs i r ≡ r → AreRemoved s t (take i refs) → IsRemoved t u r → AreRemoved s u (take (i + 1) refs)
@@ -130,6 +131,7 @@ AreRemoved-more s t u refs i r within is so_far removed =
         schema = removed.keeps.schema ∙ so_far.keeps.schema;
         targets = removed.keeps.targets ∙ so_far.keeps.targets;
         declared = removed.keeps.declared ∙ so_far.keeps.declared;
+        counted = removed.keeps.counted ∙ so_far.keeps.counted;
       };
     })
 
@@ -180,24 +182,24 @@ held_from_key rows to h = some_from (get rows to) h
     some_from None h = h
     some_from (Some row) h = refl
 
-named_at : (relations : List RelationState) (to : TupleRef) (n : ℕ) → IsSome (option_and_then (λ s. key_at s.rows to) (slice_get relations n)) → IsHeldIn relations (n, to)
-named_at relations to n h = at (slice_get relations n) refl h
+named_at : (relations : List RelationState) (to : TupleRef) (n : ℕ) → ((s : RelationState) → slice_get relations n ≡ Some s → IsTrue s.counted) → IsSome (option_and_then (λ s. key_at s.rows to) (slice_get relations n)) → IsHeldIn relations (n, to)
+named_at relations to n counted h = at (slice_get relations n) refl h
   where
     at : (o : Option RelationState) → slice_get relations n ≡ o → IsSome (option_and_then (λ s. key_at s.rows to) o) → IsHeldIn relations (n, to)
     at None e h = absurd (cc)
-    at (Some s) e h = (s, e, held_from_key s.rows to h)
+    at (Some s) e h = (s, e, held_from_key s.rows to h, counted s e)
 
 -- each link of a row of a relation that is current names a row that is held
-pub link_held_at : (relations : List RelationState) (s : RelationState) (r : TupleRef) (row : Row) → IsCurrent (linked_keys s.targets relations) s → get s.rows r ≡ Some row → (column : ℕ) (link : Linked) → link_at s.targets row column ≡ Some link → IsHeldIn relations link
-link_held_at relations s r row current at column link e =
+pub link_held_at : (relations : List RelationState) (s : RelationState) (r : TupleRef) (row : Row) → IsCurrent (linked_keys s.targets relations) s → LeadIntoCounted relations s.targets → get s.rows r ≡ Some row → (column : ℕ) (link : Linked) → link_at s.targets row column ≡ Some link → IsHeldIn relations link
+link_held_at relations s r row current counted at column link e =
     let parts = link_parts s.targets row column link e in
     let read : IsSome (row_value (linked_keys s.targets relations) column row) = current.readable r row at column (target_within s.targets column link.0 parts.0) in
     let key : IsSome (linked_keys s.targets relations column link.1) = subst IsSome (linked_value (linked_keys s.targets relations) column row link.1 parts.1) read in
-    named_at relations link.1 link.0 (subst (λ o. IsSome (option_and_then (λ t. key_at t.rows link.1) (option_and_then (slice_get relations) o))) parts.0 key)
+    named_at relations link.1 link.0 (λ t. counted column link.0 t parts.0) (subst (λ o. IsSome (option_and_then (λ t. key_at t.rows link.1) (option_and_then (slice_get relations) o))) parts.0 key)
 
-pub links_held : (relations : List RelationState) (s : RelationState) (r : TupleRef) (row : Row) → IsCurrent (linked_keys s.targets relations) s → get s.rows r ≡ Some row → All (IsHeldIn relations) (row_links s.targets row)
+pub links_held : (relations : List RelationState) (s : RelationState) (r : TupleRef) (row : Row) → IsCurrent (linked_keys s.targets relations) s → LeadIntoCounted relations s.targets → get s.rows r ≡ Some row → All (IsHeldIn relations) (row_links s.targets row)
 unfolding row_links
-links_held relations s r row current at = All-filter_map (IsHeldIn relations) (link_at s.targets row) (range_with_len 0 (length s.targets)) (λ column link _. link_held_at relations s r row current at column link)
+links_held relations s r row current counted at = All-filter_map (IsHeldIn relations) (link_at s.targets row) (range_with_len 0 (length s.targets)) (λ column link _. link_held_at relations s r row current counted at column link)
 
 -- the keys that are read beside relations whose numbers of referrers change twice
 pub keys_still : (s t : RelationState) (old mid new : List RelationState) → t.targets ≡ s.targets → AreRecounted old mid → AreRecounted mid new → linked_keys t.targets new ≡ linked_keys s.targets old

@@ -12,7 +12,7 @@ use Rattle.mm_catalog.specs.Linked.{is_link_to, links_to, relation_links}
 use Rattle.mm_catalog.specs.Standing.{Stands}
 use Rattle.mm_catalog.proofs.Back.{lead_back}
 use Rattle.mm_catalog.proofs.Bounded.{few_links, few_columns}
-use Rattle.mm_catalog.proofs.Declared.{current_at}
+use Rattle.mm_catalog.proofs.Declared.{among_at, current_at}
 use Rattle.mm_catalog.proofs.Lists.{get-take}
 use Rattle.mm_catalog.proofs.Removing.{links_within}
 
@@ -43,6 +43,9 @@ module _ (c : CatalogState) (ok : IsConsistent c) where
     kept = All-take IsKept n c.relations (λ i d l. (ok.each i d l).kept);
     back = λ column table e. omega (arith, lead_back c ok n s there column table e, slice_get_within c.relations n s there, length-take n c.relations);
     current = current_at c ok n s there;
+    counted = λ column table t e at.
+        let below : table < n = omega (arith, slice_get_within (take n c.relations) table t at, length-take n c.relations) in
+        (among_at c ok n s there).counted column table t e (sym (get-take c.relations n table below) ∙ at);
     enough = enough_before n s there;
     room = room_for_links n s there;
   }

@@ -70,6 +70,7 @@ module _ (c : CatalogState) (ok : IsConsistent c) (d e : CatalogState) (n : ℕ)
     schema = removed.keeps.schema ∙ h.rewritten.keeps.schema;
     targets = removed.keeps.targets ∙ h.rewritten.keeps.targets;
     declared = removed.keeps.declared ∙ h.rewritten.keeps.declared;
+    counted = removed.keeps.counted ∙ h.rewritten.keeps.counted;
   }
 
   step : IsRewritten d.relations e.relations n m z

@@ -3,7 +3,7 @@ use Rattle.std.proofs.Common.{◌≡◌, ◌≢◌, ℕ, zero, suc, ◌+◌, ◌
 use Rattle.std.specs.Bool.{Decides}
 use Rattle.std.specs.List.{All, AllPairs, Contains, count_by, range_with_len, slice_get}
 use Rattle.std.specs.Option.{option_and_then, option_map, option_map_or}
-use Rattle.std.specs.Prelude.{nat_eq}
+use Rattle.std.specs.Prelude.{nat_eq, IsTrue}
 use Rattle.std.specs.FinMap.{get}
 use Rattle.std.proofs.Math.Nat.{mul-le-mul}
 use Rattle.std.proofs.lemmas.Bool.{eq-eqb, eqb-true}
@@ -31,7 +31,7 @@ use Rattle.mm_catalog.specs.Assigned.{AreSetBy, AreToColumns, CellSet, IsUpdated
 use Rattle.mm_catalog.specs.Cells.{read_in, target_in}
 use Rattle.mm_catalog.specs.Consistent.{IsConsistent}
 use Rattle.mm_catalog.specs.Linked.{Linked, is_link_to, link_at, links_to, relation_links, target_at}
-use Rattle.mm_catalog.specs.Counted.{AreCountedBy, HaveAtLeast, HaveRoom, IsHeldIn, linked_of, naming, none}
+use Rattle.mm_catalog.specs.Counted.{AreCountedBy, HaveAtLeast, HaveRoom, IsHeldIn, linked_of, naming, none, LeadIntoCounted}
 use Rattle.mm_catalog.specs.Recounted.{AreRecounted, HaveReferrers, IsRewritten}
 use Rattle.mm_catalog.specs.State.{CatalogState}
 use Rattle.mm_catalog.proofs.Back.{lead_back}
@@ -73,13 +73,14 @@ then_some f None y e = absurd (none-some y e)
 then_some f (Some x) y e = (x, refl, e)
 
 -- a cell that links, and can be read, names a row
-named_by : (relations : List RelationState) (target : Option ℕ) (cell : Cell) (table : ℕ) (to : TupleRef) → target ≡ Some table → link_of cell ≡ Some to → IsSome (read_in relations target cell) → IsHeldIn relations (table, to)
-named_by relations target (Held value) table to e f read = absurd (none-some to f)
-named_by relations target (Named q) table to e f read =
+named_by : (relations : List RelationState) (target : Option ℕ) (cell : Cell) (table : ℕ) (to : TupleRef) → target ≡ Some table → link_of cell ≡ Some to → IsSome (read_in relations target cell) → ((s : RelationState) → slice_get relations table ≡ Some s → IsTrue s.counted) → IsHeldIn relations (table, to)
+named_by relations target (Held value) table to e f read counted = absurd (none-some to f)
+named_by relations target (Named q) table to e f read counted =
     let same : q ≡ to = same_Some q to f in
     let found = and_then-Some (λ (s : RelationState). key_at s.rows q) (target_in relations target) read in
     let row = and_then-Some (λ (t : Row). Some t.key) (get found.0.rows q) found.2 in
-    (found.0, sym (ap (target_in relations) e) ∙ found.1, subst (λ p. IsSome (get found.0.rows p)) same (ap is_some row.1))
+    let at = sym (ap (target_in relations) e) ∙ found.1 in
+    (found.0, at, subst (λ p. IsSome (get found.0.rows p)) same (ap is_some row.1), counted found.0 at)
 
 -- ---- the relations that an update is among
 
@@ -101,6 +102,9 @@ module _ (k : CatalogState) (ok : IsConsistent k) (n : ℕ) (b : RelationState) 
   front_at table s at =
       let below : table < n = omega (arith, slice_get_within front table s at, front_long) in
       sym (get-take k.relations n table below) ∙ ap (λ rs. slice_get rs table) (sym same) ∙ at
+
+  pub keeps_front : LeadIntoCounted front b.targets
+  keeps_front column table s e at = (among_at k ok n b there).counted column table s e (front_at table s at)
 
   pub counted_front : HaveReferrers front (links_to k.relations)
   counted_front table s r row at held = ok.counted table s r row (front_at table s at) held
@@ -143,7 +147,7 @@ module _ (k : CatalogState) (ok : IsConsistent k) (n : ℕ) (b : RelationState) 
         let found = then_some (λ (table : ℕ). option_map (λ (q : TupleRef). (table, q)) (link_of s.1)) (target_at b.targets s.0.0) link e in
         let q = option_map_some (λ (p : TupleRef). (found.0, p)) (link_of s.1) link found.2 in
         let read = All-contains (λ x. IsSome (cell_value (linked_keys b.targets front) x.0.0 x.1)) sets s sets_readable among in
-        subst (IsHeldIn front) q.2 (named_by front (target_at b.targets s.0.0) s.1 found.0 q.0 found.1 q.1 (subst IsSome (read_value front b.targets s.0.0 s.1) read)))
+        subst (IsHeldIn front) q.2 (named_by front (target_at b.targets s.0.0) s.1 found.0 q.0 found.1 q.1 (subst IsSome (read_value front b.targets s.0.0 s.1) read) (λ t. keeps_front s.0.0 found.0 t found.1)))
 
     few_sets : length sets ≤ 16
     few_sets =
@@ -184,7 +188,7 @@ module _ (k : CatalogState) (ok : IsConsistent k) (n : ℕ) (b : RelationState) 
           let row = held_tuple b.rows r (All-contains (λ q. IsSome (get b.rows q)) rs r held among) in
           subst (λ o. All (IsHeldIn front) (option_map_or (row_links_at b.targets sets) o [])) (sym row.1)
           (All-filter_map (IsHeldIn front) (λ (s : CellSet). link_at b.targets row.0 s.0.0) sets
-          (λ s link here e. link_held_at front b r row.0 current_front row.1 s.0.0 link e)))
+          (λ s link here e. link_held_at front b r row.0 current_front keeps_front row.1 s.0.0 link e)))
 
       -- ---- what it leaves
 

@@ -9,12 +9,15 @@ use Rattle.mm_relation.specs.State.{RelationState, IsKept, IsCurrent, linked_key
 use Rattle.mm_catalog.specs.State.{CatalogState}
 use Rattle.mm_catalog.specs.Seen.{database_of}
 use Rattle.mm_catalog.specs.Linked.{target_of, links_to, HasLinksOrNulls}
+use Rattle.mm_catalog.specs.Counted.{LeadIntoCounted}
 
 -- A relation among the others, under these names: it keeps what a relation keeps, its links lead into the tables that
--- its columns refer to, its rows have links or nulls there, and it is current under the keys that they lead to.
+-- its columns refer to, which keep the numbers of their rows' referrers, its rows have links or nulls there, and it is current
+-- under the keys that they lead to.
 pub record IsAmong (names : List (List ℕ)) (relations : List RelationState) (s : RelationState) : Type 0 where
   pub kept : IsKept s
   pub targets : s.targets ≡ map (target_of names) s.schema.columns
+  pub counted : LeadIntoCounted relations s.targets
   pub linked : (r : TupleRef) (row : Row) → finite.get s.rows r ≡ Some row → HasLinksOrNulls s.targets row
   pub current : IsCurrent (linked_keys s.targets relations) s
 

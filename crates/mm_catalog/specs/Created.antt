@@ -1,11 +1,11 @@
--- A relation as it is made for a new table.
-use Rattle.std.specs.Prelude.{◌≡◌, ℕ, ◌<◌, ◌≤◌, List, Option, Some, None, length, map, slice_get}
+-- A relation as it is made for a new table, and what becomes of those that its links lead into.
+use Rattle.std.specs.Prelude.{◌≡◌, ℕ, ◌<◌, ◌≤◌, List, Option, Some, None, IsTrue, length, map, slice_get}
 use Rattle.std.specs.Option.{option_and_then}
 use Rattle.plain_tables.specs.declared.schema.Schema.{Schema}
 use Rattle.plain_tables.specs.declared.schema.Column.{Column}
 use Rattle.mm_relation.specs.Declaring.{new_relation, with_target}
 use Rattle.mm_relation.specs.State.{RelationState}
-use Rattle.mm_catalog.specs.Linked.{target_of}
+use Rattle.mm_catalog.specs.Linked.{target_at, target_of}
 
 -- these columns and nothing else, with links that lead into the tables of these names that the columns refer to
 abbrev pub aimed_relation : List (List ℕ) → Schema → RelationState
@@ -26,3 +26,18 @@ pub record IsAimedUpTo (names : List (List ℕ)) (schema : Schema) (i : ℕ) (s 
   pub wide : length s.targets ≡ length schema.columns
   pub aimed : (k : ℕ) (c : Column) → k < i → slice_get schema.columns k ≡ Some c → slice_get s.targets k ≡ Some (target_of names c)
   pub rest : (k : ℕ) → i ≤ k → k < length schema.columns → slice_get s.targets k ≡ Some None
+
+-- the relation is as it was, but that it may keep the numbers of its rows' referrers now
+pub record GainsCounts (old new : RelationState) : Type 0 where
+  pub same : new ≡ record old { counted = new.counted }
+  pub still : IsTrue old.counted → IsTrue new.counted
+
+-- as many relations, each as it was but for that
+pub record GainCounts (old new : List RelationState) : Type 0 where
+  pub count : length new ≡ length old
+  pub each : (k : ℕ) (s t : RelationState) → slice_get old k ≡ Some s → slice_get new k ≡ Some t → GainsCounts s t
+
+-- the tables that the links of the columns from this one on lead into keep them
+abbrev pub LeadIntoCountedFrom : ℕ → List RelationState → List (Option ℕ) → Type 0
+LeadIntoCountedFrom first relations targets =
+    (column table : ℕ) (s : RelationState) → first ≤ column → target_at targets column ≡ Some table → slice_get relations table ≡ Some s → IsTrue s.counted

@@ -4,7 +4,7 @@ ghost use Rattle.std.specs.List.{AllPairs};
 ghost use Rattle.std.specs.Option.{option_map};
 
 use crate::by_key;
-use crate::create::{aimed, any_refers_to};
+use crate::create::{aimed, any_refers_to, count_targets};
 use crate::declare::{declare, undeclare};
 use crate::delete::{delete, take_out};
 use crate::insert::insert;
@@ -147,7 +147,8 @@ impl Catalog {
         Some(relation.tree_shape(column))
     }
 
-    /// Declares a table, which stands last. Its links lead into the tables that its columns refer to.
+    /// Declares a table, which stands last. Its links lead into the tables that its columns refer to, which count them from
+    /// then on.
     pub fn create(&mut self, name: Text, schema: Schema) -> Result<(), NoMemory>
         requires { IsMeant self.old.limits (database_of self.old) (resolved.Table name schema) }
         ensures done { OnOk result (IsDone self.old self.new (resolved.Table name schema)) }
@@ -156,7 +157,12 @@ impl Catalog {
         self.relations.reserve(1)?;
         let alloc = *self.relations.allocator();
         let relation = aimed(alloc, schema, &self.names)?;
-        self.names.insert(String::from_str(alloc, name.as_str())?)?;
+        let name = String::from_str(alloc, name.as_str())?;
+        self.names.reserve(1)?;
+        count_targets(self.relations.as_mut_slice(), &relation, ColumnNumber(0))?;
+        let Ok(_) = self.names.insert(name) else {
+            unreachable!();
+        };
         self.relations.push_reserved(relation);
         Ok(())
     }

@@ -1,12 +1,13 @@
-//! A relation whose links lead into the tables that its columns refer to.
-ghost use Rattle.std.specs.Prelude.{◌≡◌, ◌<◌, IfOk, length, map, option_copied};
+//! A relation whose links lead into the tables that its columns refer to, and those tables, which count them.
+ghost use Rattle.std.specs.Prelude.{◌≡◌, ◌<◌, ℕ, Some, IfOk, OnErr, OnOk, length, map, option_copied};
 ghost use Rattle.std.specs.List.{list_any};
 ghost use Rattle.std.specs.String.{string_bytes};
 ghost use Rattle.plain_tables.specs.References as plain;
 ghost use Rattle.mm_relation.specs.State.{IsKept};
-ghost use Rattle.mm_catalog.specs.Linked.{target_of};
-ghost use Rattle.mm_catalog.specs.Created.{aimed_relation, with_leads, leads_at};
+ghost use Rattle.mm_catalog.specs.Linked.{target_at, target_of};
+ghost use Rattle.mm_catalog.specs.Created.{aimed_relation, with_leads, leads_at, GainCounts, LeadIntoCountedFrom};
 
+use crate::references::link::target_number;
 use indexmap::IndexSet;
 use mm_relation::Relation;
 use mm_relation::laws::a_relation_is_kept;
@@ -74,4 +75,33 @@ pub fn aimed(alloc: Global, schema: Schema, names: &IndexSet<String>) -> Result<
     }
     a_relation_is_kept(&relation);
     Ok(relation)
+}
+
+/// Makes memory for the numbers of referrers in the tables that the links of a relation lead into, from this column on. Where
+/// there is none, each relation is as it was.
+pub fn count_targets(
+    relations: &mut [Relation],
+    relation: &Relation,
+    column: ColumnNumber,
+) -> Result<(), NoMemory>
+    requires within { (k table : ℕ) → target_at relation.now.targets k ≡ Some table → table < length relations.old }
+    ensures gained { OnOk result (GainCounts relations.old relations.new) }
+    ensures counted { OnOk result (LeadIntoCountedFrom column.0 relations.new relation.now.targets) }
+    ensures unchanged { OnErr result (relations.new ≡ relations.old) }
+{
+    a_relation_is_kept(relation);
+    if column.0 >= relation.schema().columns.len() {
+        return Ok(());
+    }
+    let next = ColumnNumber(column.0 + 1);
+    let Some(table) = target_number(relation, column) else {
+        return count_targets(relations, relation, next);
+    };
+    let was_counted = relations[table].is_counted();
+    relations[table].keep_counts()?;
+    let counted = count_targets(relations, relation, next);
+    if counted.is_err() && !was_counted {
+        relations[table].forget_counts();
+    }
+    counted
 }

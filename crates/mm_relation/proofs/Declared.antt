@@ -38,11 +38,11 @@ pushed_of f p all new on e =
 first_gone : {A B : Type 0} (f : A → B) (at : B → Bool) (kind : A → Bool) (xs : List A) → map f (filter kind (without_first (λ x. at (f x) && kind x) xs)) ≡ without_first at (map f (filter kind xs))
 first_gone f at kind xs = ap (map f) (filter-without_first (λ x. at (f x)) kind xs) ∙ sym (without_first-map at f (filter kind xs))
 
-module _ (schema : Schema) (targets : List (Option ℕ)) (declared : List DeclaredIndex) (rows : Tuples Row) (tree : RowTree) (all : Indexes) (kept : IsKept (state schema targets declared rows tree all)) where
-  pub current_with : (keys : Keys) (others : List DeclaredIndex) (new : Indexes) → IsCurrent keys (state schema targets declared rows tree all) → Serve keys rows (tree_list tree) new → IsCurrent keys (state schema targets others rows tree new)
+module _ (counted : Bool) (schema : Schema) (targets : List (Option ℕ)) (declared : List DeclaredIndex) (rows : Tuples Row) (tree : RowTree) (all : Indexes) (kept : IsKept (state counted schema targets declared rows tree all)) where
+  pub current_with : (keys : Keys) (others : List DeclaredIndex) (new : Indexes) → IsCurrent keys (state counted schema targets declared rows tree all) → Serve keys rows (tree_list tree) new → IsCurrent keys (state counted schema targets others rows tree new)
   current_with keys others new current serves = record { readable = current.readable; trees = trees_served keys rows (tree_list tree) (map seen new) serves; hashes = hashes_served keys rows (tree_list tree) (map seen new) serves }
 
-  pub declared_added : (kind : IndexKind) (column : ColumnNumber) (new : Indexes) → IsAdded (declaration column kind) all new → IsDeclaredOf kind column (state schema targets declared rows tree all) (state schema targets (declared ++ declaration column kind ∷ []) rows tree new)
+  pub declared_added : (kind : IndexKind) (column : ColumnNumber) (new : Indexes) → IsAdded (declaration column kind) all new → IsDeclaredOf kind column (state counted schema targets declared rows tree all) (state counted schema targets (declared ++ declaration column kind ∷ []) rows tree new)
   declared_added Tree column new (on, same, e) =
       let trees : trees_of (map seen new) ≡ trees_of (map seen all) ++ (column.0, tree_in on.index) ∷ [] =
       pushed_of (λ (s : SeenIndex). (s.declaration.column.0, s.tree)) (λ s. is_tree s.declaration.kind) all new on e
@@ -50,7 +50,7 @@ module _ (schema : Schema) (targets : List (Option ℕ)) (declared : List Declar
       let hashes : hashes_of (map seen new) ≡ hashes_of (map seen all) =
       pushed_of (λ (s : SeenIndex). (s.declaration.column.0, s.entries)) (λ s. not (is_tree s.declaration.kind)) all new on e
       ∙ (λ i. hashes_of (map seen all) ++ hashes_of (record { declaration = same i; tree = tree_in on.index; entries = entries_in on.index } ∷ [])) ∙ append-nil _ in
-      (tree_in on.index, λ i. record (state schema targets (declared ++ declaration column Tree ∷ []) rows tree all) { trees = trees i; hashes = hashes i })
+      (tree_in on.index, λ i. record (state counted schema targets (declared ++ declaration column Tree ∷ []) rows tree all) { trees = trees i; hashes = hashes i })
   declared_added Hash column new (on, same, e) =
       let trees : trees_of (map seen new) ≡ trees_of (map seen all) =
       pushed_of (λ (s : SeenIndex). (s.declaration.column.0, s.tree)) (λ s. is_tree s.declaration.kind) all new on e
@@ -58,7 +58,7 @@ module _ (schema : Schema) (targets : List (Option ℕ)) (declared : List Declar
       let hashes : hashes_of (map seen new) ≡ hashes_of (map seen all) ++ (column.0, entries_in on.index) ∷ [] =
       pushed_of (λ (s : SeenIndex). (s.declaration.column.0, s.entries)) (λ s. not (is_tree s.declaration.kind)) all new on e
       ∙ (λ i. hashes_of (map seen all) ++ hashes_of (record { declaration = same i; tree = tree_in on.index; entries = entries_in on.index } ∷ [])) in
-      (entries_in on.index, λ i. record (state schema targets (declared ++ declaration column Hash ∷ []) rows tree all) { trees = trees i; hashes = hashes i })
+      (entries_in on.index, λ i. record (state counted schema targets (declared ++ declaration column Hash ∷ []) rows tree all) { trees = trees i; hashes = hashes i })
 
   -- an index fewer
   abbrev without : DeclaredIndex → Indexes
@@ -74,7 +74,7 @@ module _ (schema : Schema) (targets : List (Option ℕ)) (declared : List Declar
   no_tree_like : (column : ColumnNumber) (d : DeclaredIndex) → is_index (declaration column Hash) d ≡ true → is_tree d.kind ≡ false
   no_tree_like column d e = not-true (is_tree d.kind) (and_parts (d.column.0 == column.0) (not (is_tree d.kind)) e).1
 
-  pub kept_without : (kind : IndexKind) (column : ColumnNumber) → IsKept (state schema targets (without_first (is_index (declaration column kind)) declared) rows tree (without (declaration column kind)))
+  pub kept_without : (kind : IndexKind) (column : ColumnNumber) → IsKept (state counted schema targets (without_first (is_index (declaration column kind)) declared) rows tree (without (declaration column kind)))
   kept_without Tree column = record {
     keyed = kept.keyed;
     few = kept.few;
@@ -104,23 +104,23 @@ module _ (schema : Schema) (targets : List (Option ℕ)) (declared : List Declar
     within = All-without_first (λ d. d.column.0 < length targets) (is_index (declaration column Hash)) declared kept.within;
   }
 
-  pub state_without : (kind : IndexKind) (column : ColumnNumber) (others : List DeclaredIndex) → state schema targets others rows tree (without (declaration column kind)) ≡ without_of kind column.0 (state schema targets others rows tree all)
+  pub state_without : (kind : IndexKind) (column : ColumnNumber) (others : List DeclaredIndex) → state counted schema targets others rows tree (without (declaration column kind)) ≡ without_of kind column.0 (state counted schema targets others rows tree all)
   state_without Tree column others =
       let less : map seen (without (declaration column Tree)) ≡ without_first (λ s. is_index (declaration column Tree) s.declaration) (map seen all) = sym (without_first-map (λ (s : SeenIndex). is_index (declaration column Tree) s.declaration) seen all) in
       let trees : trees_of (map seen (without (declaration column Tree))) ≡ without_first (λ t. t.0 == column.0) (trees_of (map seen all)) =
       ap trees_of less ∙ first_gone (λ (s : SeenIndex). (s.declaration.column.0, s.tree)) (λ t. t.0 == column.0) (λ s. is_tree s.declaration.kind) (map seen all) in
       let hashes : hashes_of (map seen (without (declaration column Tree))) ≡ hashes_of (map seen all) =
       ap hashes_of less ∙ ap (map (λ (s : SeenIndex). (s.declaration.column.0, s.entries))) (filter-without_other (λ (s : SeenIndex). is_index (declaration column Tree) s.declaration) (λ s. not (is_tree s.declaration.kind)) (map seen all) (λ s e. no_hash_like column s.declaration e)) in
-      λ i. record (state schema targets others rows tree all) { trees = trees i; hashes = hashes i }
+      λ i. record (state counted schema targets others rows tree all) { trees = trees i; hashes = hashes i }
   state_without Hash column others =
       let less : map seen (without (declaration column Hash)) ≡ without_first (λ s. is_index (declaration column Hash) s.declaration) (map seen all) = sym (without_first-map (λ (s : SeenIndex). is_index (declaration column Hash) s.declaration) seen all) in
       let trees : trees_of (map seen (without (declaration column Hash))) ≡ trees_of (map seen all) =
       ap trees_of less ∙ ap (map (λ (s : SeenIndex). (s.declaration.column.0, s.tree))) (filter-without_other (λ (s : SeenIndex). is_index (declaration column Hash) s.declaration) (λ s. is_tree s.declaration.kind) (map seen all) (λ s e. no_tree_like column s.declaration e)) in
       let hashes : hashes_of (map seen (without (declaration column Hash))) ≡ without_first (λ h. h.0 == column.0) (hashes_of (map seen all)) =
       ap hashes_of less ∙ first_gone (λ (s : SeenIndex). (s.declaration.column.0, s.entries)) (λ h. h.0 == column.0) (λ s. not (is_tree s.declaration.kind)) (map seen all) in
-      λ i. record (state schema targets others rows tree all) { trees = trees i; hashes = hashes i }
+      λ i. record (state counted schema targets others rows tree all) { trees = trees i; hashes = hashes i }
 
-  pub current_without : (kind : IndexKind) (column : ColumnNumber) (others : List DeclaredIndex) (keys : Keys) → IsCurrent keys (state schema targets declared rows tree all) → IsCurrent keys (without_of kind column.0 (state schema targets others rows tree all))
+  pub current_without : (kind : IndexKind) (column : ColumnNumber) (others : List DeclaredIndex) (keys : Keys) → IsCurrent keys (state counted schema targets declared rows tree all) → IsCurrent keys (without_of kind column.0 (state counted schema targets others rows tree all))
   current_without Tree column others keys current = record {
     readable = current.readable;
     trees = All-without_first (TreeServes keys rows (tree_list tree)) (λ (t : ℕ × RowTree). t.0 == column.0) (trees_of (map seen all)) current.trees;
@@ -139,11 +139,11 @@ any_of f at kind (x ∷ xs) = elim (kind x) as (λ b. ((at (f x) && b) || list_a
   | false ↦ ap (λ b. b || list_any (λ y. at (f y) && kind y) xs) (and_false (at (f x))) ∙ any_of f at kind xs
 ]
 
-pub any_declared : (schema : Schema) (targets : List (Option ℕ)) (declared : List DeclaredIndex) (rows : Tuples Row) (tree : RowTree) (all : Indexes) (column : ColumnNumber) (kind : IndexKind) → list_any (λ on. is_index (declaration column kind) (declaration_of on)) all ≡ has_declared_on (state schema targets declared rows tree all) column.0 kind
-any_declared schema targets declared rows tree all column Tree =
+pub any_declared : (counted : Bool) (schema : Schema) (targets : List (Option ℕ)) (declared : List DeclaredIndex) (rows : Tuples Row) (tree : RowTree) (all : Indexes) (column : ColumnNumber) (kind : IndexKind) → list_any (λ on. is_index (declaration column kind) (declaration_of on)) all ≡ has_declared_on (state counted schema targets declared rows tree all) column.0 kind
+any_declared counted schema targets declared rows tree all column Tree =
     sym (list_any-map (λ (s : SeenIndex). is_index (declaration column Tree) s.declaration) seen all)
     ∙ any_of (λ (s : SeenIndex). (s.declaration.column.0, s.tree)) (λ t. t.0 == column.0) (λ s. is_tree s.declaration.kind) (map seen all)
-any_declared schema targets declared rows tree all column Hash =
+any_declared counted schema targets declared rows tree all column Hash =
     sym (list_any-map (λ (s : SeenIndex). is_index (declaration column Hash) s.declaration) seen all)
     ∙ any_of (λ (s : SeenIndex). (s.declaration.column.0, s.entries)) (λ h. h.0 == column.0) (λ s. not (is_tree s.declaration.kind)) (map seen all)
 
@@ -153,8 +153,8 @@ none_held q h =
     let none : is_some (get (empty {X = Row} {R = ref_cmp}) q) ≡ false = ap is_some (held_at_first q) in
     absurd (cc)
 
-pub kept_new : (schema : Schema) (targets : List (Option ℕ)) (declared : List DeclaredIndex) (rows : Tuples Row) (tree : RowTree) (all : Indexes) → length targets ≡ length schema.columns → declared ≡ [] → rows ≡ empty → tree ≡ leafless → all ≡ [] → IsKept (state schema targets declared rows tree all)
-kept_new schema targets declared rows tree all width no_index no_row no_list no_all = rw (no_index, no_row, no_list, no_all) (record {
+pub kept_new : (counted : Bool) (schema : Schema) (targets : List (Option ℕ)) (declared : List DeclaredIndex) (rows : Tuples Row) (tree : RowTree) (all : Indexes) → length targets ≡ length schema.columns → declared ≡ [] → rows ≡ empty → tree ≡ leafless → all ≡ [] → IsKept (state counted schema targets declared rows tree all)
+kept_new counted schema targets declared rows tree all width no_index no_row no_list no_all = rw (no_index, no_row, no_list, no_all) (record {
   keyed = record {
     keys_differ = record { apart = λ a b p q e. absurd (none_held a p) };
     lists = record { held = λ k d l. absurd (omega (arith, l)); count = sym (len-empty ref_cmp Row); listed = λ r h. absurd (none_held r h) };
@@ -168,8 +168,8 @@ kept_new schema targets declared rows tree all width no_index no_row no_list no_
 })
 
 -- with no rows there is nothing to serve
-pub current_new : (schema : Schema) (targets : List (Option ℕ)) (declared : List DeclaredIndex) (rows : Tuples Row) (tree : RowTree) (all : Indexes) → rows ≡ empty → all ≡ [] → (keys : Keys) → IsCurrent keys (state schema targets declared rows tree all)
-current_new schema targets declared rows tree all no_row no_all keys = rw (no_row, no_all) (record {
+pub current_new : (counted : Bool) (schema : Schema) (targets : List (Option ℕ)) (declared : List DeclaredIndex) (rows : Tuples Row) (tree : RowTree) (all : Indexes) → rows ≡ empty → all ≡ [] → (keys : Keys) → IsCurrent keys (state counted schema targets declared rows tree all)
+current_new counted schema targets declared rows tree all no_row no_all keys = rw (no_row, no_all) (record {
   readable = λ r t e. absurd (none_held r (ap is_some e));
   trees = λ k d l. absurd (omega (arith, l));
   hashes = λ k d l. absurd (omega (arith, l));

@@ -1,5 +1,5 @@
 -- A row whose number of referrers changes: each column has the value that it had.
-use Rattle.std.proofs.Common.{◌≡◌, ℕ, List, Option, Some, IsSome, is_some, refl, sym, ap, ◌∙◌, arith, subst, length, inl, inr}
+use Rattle.std.proofs.Common.{◌≡◌, ℕ, Bool, List, Option, Some, IsSome, is_some, refl, sym, ap, ◌∙◌, arith, subst, length, inl, inr}
 use Rattle.std.specs.Option.{option_and_then}
 use Rattle.std.specs.FinMap.{get, insert, len}
 use Rattle.part_raw.specs.declared.tuple_ref.TupleRef.{TupleRef}
@@ -30,8 +30,8 @@ module _ (rows : Tuples Row) (r : TupleRef) (t : Row) (n : ℕ) (found : get row
     | inr other ↦ before q u (sym (get-insert_other rows r q (with_referrers n t) other) ∙ e) c l
   ]
 
-  module _ (schema : Schema) (targets : List (Option ℕ)) (declared : List DeclaredIndex) (tree : RowTree) (all : Indexes) where
-    pub kept_referred : IsKept (state schema targets declared rows tree all) → IsKept (state schema targets declared (insert rows r (with_referrers n t)) tree all)
+  module _ (counted still : Bool) (schema : Schema) (targets : List (Option ℕ)) (declared : List DeclaredIndex) (tree : RowTree) (all : Indexes) where
+    pub kept_referred : IsKept (state counted schema targets declared rows tree all) → IsKept (state still schema targets declared (insert rows r (with_referrers n t)) tree all)
     kept_referred kept = record {
       keyed = keyed_again rows (tree_list tree) r t (with_referrers n t) kept.keyed found refl;
       few = let same : len (insert rows r (with_referrers n t)) ≡ len rows = len-insert_held rows r (with_referrers n t) (ap is_some found) in omega (arith, same, kept.few);
@@ -41,7 +41,7 @@ module _ (rows : Tuples Row) (r : TupleRef) (t : Row) (n : ℕ) (found : get row
       within = kept.within;
     }
 
-    pub current_referred : (keys : Keys) → IsCurrent keys (state schema targets declared rows tree all) → IsCurrent keys (state schema targets declared (insert rows r (with_referrers n t)) tree all)
+    pub current_referred : (keys : Keys) → IsCurrent keys (state counted schema targets declared rows tree all) → IsCurrent keys (state still schema targets declared (insert rows r (with_referrers n t)) tree all)
     current_referred keys current = record {
       readable = readable_same keys (length targets) current.readable;
       trees = λ k d l. tree_agrees keys rows (insert rows r (with_referrers n t)) (tree_list tree) (λ c q _. value_same keys c q) _ (current.trees k d l);
@@ -49,12 +49,12 @@ module _ (rows : Tuples Row) (r : TupleRef) (t : Row) (n : ℕ) (found : get row
     }
 
 -- the same, told of whatever the row was
-pub kept_after : (rows now : Tuples Row) (r : TupleRef) (count : ℕ → ℕ) → IsSome (get rows r) → ((t : Row) → get rows r ≡ Some t → now ≡ insert rows r (with_referrers (count t.referrers) t)) → (schema : Schema) (targets : List (Option ℕ)) (declared : List DeclaredIndex) (tree : RowTree) (all : Indexes) → IsKept (state schema targets declared rows tree all) → IsKept (state schema targets declared now tree all)
-kept_after rows now r count held changed schema targets declared tree all kept =
+pub kept_after : (rows now : Tuples Row) (r : TupleRef) (count : ℕ → ℕ) → IsSome (get rows r) → ((t : Row) → get rows r ≡ Some t → now ≡ insert rows r (with_referrers (count t.referrers) t)) → (counted still : Bool) (schema : Schema) (targets : List (Option ℕ)) (declared : List DeclaredIndex) (tree : RowTree) (all : Indexes) → IsKept (state counted schema targets declared rows tree all) → IsKept (state still schema targets declared now tree all)
+kept_after rows now r count held changed counted still schema targets declared tree all kept =
     let found = held_tuple rows r held in
-    rw (changed found.0 found.1) (kept_referred rows r found.0 (count found.0.referrers) found.1 schema targets declared tree all kept)
+    rw (changed found.0 found.1) (kept_referred rows r found.0 (count found.0.referrers) found.1 counted still schema targets declared tree all kept)
 
-pub current_after : (rows now : Tuples Row) (r : TupleRef) (count : ℕ → ℕ) → IsSome (get rows r) → ((t : Row) → get rows r ≡ Some t → now ≡ insert rows r (with_referrers (count t.referrers) t)) → (schema : Schema) (targets : List (Option ℕ)) (declared : List DeclaredIndex) (tree : RowTree) (all : Indexes) (keys : Keys) → IsCurrent keys (state schema targets declared rows tree all) → IsCurrent keys (state schema targets declared now tree all)
-current_after rows now r count held changed schema targets declared tree all keys current =
+pub current_after : (rows now : Tuples Row) (r : TupleRef) (count : ℕ → ℕ) → IsSome (get rows r) → ((t : Row) → get rows r ≡ Some t → now ≡ insert rows r (with_referrers (count t.referrers) t)) → (counted still : Bool) (schema : Schema) (targets : List (Option ℕ)) (declared : List DeclaredIndex) (tree : RowTree) (all : Indexes) (keys : Keys) → IsCurrent keys (state counted schema targets declared rows tree all) → IsCurrent keys (state still schema targets declared now tree all)
+current_after rows now r count held changed counted still schema targets declared tree all keys current =
     let found = held_tuple rows r held in
-    rw (changed found.0 found.1) (current_referred rows r found.0 (count found.0.referrers) found.1 schema targets declared tree all keys current)
+    rw (changed found.0 found.1) (current_referred rows r found.0 (count found.0.referrers) found.1 counted still schema targets declared tree all keys current)

@@ -1,5 +1,5 @@
 -- The rows that a store of cells holds, as contracts see them.
-use Rattle.std.proofs.Common.{◌≡◌, ℕ, zero, suc, ◌+◌, ◌-◌, ◌<◌, ◌≤◌, List, [], ◌∷◌, length, get_or, Option, Some, None, IsSome, is_some, IfSome, refl, sym, ap, ◌∙◌, subst, arith, inl, inr}
+use Rattle.std.proofs.Common.{◌≡◌, ℕ, zero, suc, true, ◌+◌, ◌-◌, ◌<◌, ◌≤◌, List, [], ◌∷◌, length, get_or, Option, Some, None, IsSome, is_some, IfSome, refl, sym, ap, ◌∙◌, subst, arith, inl, inr}
 use Rattle.std.specs.Prelude.{if◌then◌else◌, Result, Ok, Err, OnOk, OnErr, slice_get, slice_set}
 use Rattle.std.proofs.Math.Dec.{eqb-suc-zero}
 use Rattle.std.specs.Option.{option_map, option_and_then}
@@ -16,7 +16,7 @@ use Rattle.part_raw.proofs.Tuples.{get-insert_same, get-insert_other, get-remove
 use Rattle.plain_tables.specs.declared.value.Value.{Value}
 use Rattle.mm_relation.specs.declared.row.Cell.{Cell}
 use Rattle.mm_relation.specs.declared.row.Cell.TheVariants.{Held}
-use Rattle.mm_relation.specs.Rows.{Row, row_of, row_in, key_in, StartsWithKey}
+use Rattle.mm_relation.specs.Rows.{HaveNoReferrers, Row, row_of, row_in, key_in, StartsWithKey}
 use Rattle.mm_relation.specs.Changes.{with_referrers}
 use Rattle.mm_relation.specs.Reading.{Keys, cell_value, row_value, value_at, key_at}
 use Rattle.mm_relation.specs.Order.{held_from_value}
@@ -176,6 +176,11 @@ pub same_tuples_reserved : {E : Type 0} (before now : Store Cell) (result : Resu
 same_tuples_reserved before now (Ok x) free ok err whole = subst (λ (s : Store Cell). AreWhole s.width s.tuples) (sym ok) whole
 same_tuples_reserved before now (Err e) free ok err whole = subst (λ (s : Store Cell). AreWhole s.width s.tuples) (sym err) whole
 
+-- and so does one that keeps counts from then on
+pub same_tuples_counted : {E : Type 0} (before now : Store Cell) (result : Result (Unit {0}) E) → OnOk result (now ≡ record before { counted = true }) → OnErr result (now ≡ before) → AreWhole before.width before.tuples → AreWhole now.width now.tuples
+same_tuples_counted before now (Ok x) ok err whole = subst (λ (s : Store Cell). AreWhole s.width s.tuples) (sym ok) whole
+same_tuples_counted before now (Err e) ok err whole = subst (λ (s : Store Cell). AreWhole s.width s.tuples) (sym err) whole
+
 -- a tuple of which one thing changes
 module _ (before now : Store Cell) (r : TupleRef) (whole : AreWhole before.width before.tuples) where
   module _ (n : ℕ) (told : IfSome (get before.tuples r) (λ t. now ≡ with_tuple before r (tuple t.cells n))) where
@@ -189,6 +194,11 @@ module _ (before now : Store Cell) (r : TupleRef) (whole : AreWhole before.width
     count_set-width held =
         let found = tuple_under before.tuples r held in
         ap (λ (s : Store Cell). s.width) (subst (λ (o : Option (Tuple Cell)). IfSome o (λ t. now ≡ with_tuple before r (tuple t.cells n))) found.1 told)
+
+    pub count_set-counted : IsSome (get (mapped row_in before.tuples) r) → now.counted ≡ before.counted
+    count_set-counted held =
+        let found = tuple_under before.tuples r held in
+        ap (λ (s : Store Cell). s.counted) (subst (λ (o : Option (Tuple Cell)). IfSome o (λ t. now ≡ with_tuple before r (tuple t.cells n))) found.1 told)
 
     pub count_set-row : (row : Row) → get (mapped row_in before.tuples) r ≡ Some row → mapped row_in now.tuples ≡ insert (mapped row_in before.tuples) r (with_referrers n row)
     count_set-row row held =
@@ -210,6 +220,11 @@ module _ (before now : Store Cell) (r : TupleRef) (whole : AreWhole before.width
     cell_set-width held =
         let found = tuple_under before.tuples r held in
         ap (λ (s : Store Cell). s.width) (subst (λ (o : Option (Tuple Cell)). IfSome o (λ t. now ≡ with_tuple before r (tuple (slice_set t.cells column cell) t.count))) found.1 told)
+
+    pub cell_set-counted : IsSome (get (mapped row_in before.tuples) r) → now.counted ≡ before.counted
+    cell_set-counted held =
+        let found = tuple_under before.tuples r held in
+        ap (λ (s : Store Cell). s.counted) (subst (λ (o : Option (Tuple Cell)). IfSome o (λ t. now ≡ with_tuple before r (tuple (slice_set t.cells column cell) t.count))) found.1 told)
 
     pub cell_set-row : (row : Row) → get (mapped row_in before.tuples) r ≡ Some row
         → mapped row_in now.tuples ≡ insert (mapped row_in before.tuples) r (record row { cells = slice_set row.cells (column - 1) cell })
@@ -245,3 +260,12 @@ module _ {T : Type 0} (tuples : Tuples T) (r : TupleRef) where
     | inl same ↦ ap (get tuples) same ∙ found ∙ sym (get-insert_same tuples r x) ∙ ap (get (insert tuples r x)) (sym same)
     | inr other ↦ sym (get-insert_other tuples r q x other)
   ])
+
+-- no link names a row where each count is 0, and each is 0 where no link names a row
+pub none_named : (tuples : Tuples (Tuple Cell)) → ((r : TupleRef) (t : Tuple Cell) → get tuples r ≡ Some t → t.count ≡ 0) → HaveNoReferrers (mapped row_in tuples)
+none_named tuples zeros r row held =
+    let found = tuple_under tuples r (ap is_some held) in
+    ap (λ (x : Row). x.referrers) (sym (is_row tuples r found.0 row found.1 held)) ∙ referrers_of found.0.cells found.0.count ∙ zeros r found.0 found.1
+
+pub none_counted : (tuples : Tuples (Tuple Cell)) → HaveNoReferrers (mapped row_in tuples) → (r : TupleRef) (t : Tuple Cell) → get tuples r ≡ Some t → t.count ≡ 0
+none_counted tuples none r t found = sym (referrers_of t.cells t.count) ∙ none r (row_in t) (row_under tuples r t found)

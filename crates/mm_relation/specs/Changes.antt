@@ -19,6 +19,7 @@ pub record KeepsSchema (old new : RelationState) : Type 0 where
   pub schema : new.schema ≡ old.schema
   pub targets : new.targets ≡ old.targets
   pub declared : new.declared ≡ old.declared
+  pub counted : new.counted ≡ old.counted
 
 -- one row more, under a reference that was free
 pub record IsInserted (old new : RelationState) (r : TupleRef) (row : Row) : Type 0 where

@@ -1,5 +1,5 @@
 -- What it does to a relation to be made, to have an index declared or dropped, and to be told where links lead.
-use Rattle.std.specs.Prelude.{Bool, not, ◌&&◌, ◌≡◌, ℕ, ◌==◌, if◌then◌else◌, [], ◌∷◌, ◌++◌, List, Some, None, length, replicate, slice_set}
+use Rattle.std.specs.Prelude.{Bool, false, not, ◌&&◌, ◌≡◌, ℕ, ◌==◌, if◌then◌else◌, [], ◌∷◌, ◌++◌, List, Some, None, length, replicate, slice_set}
 use Rattle.std.specs.FinMap as finite
 use Rattle.part_raw.specs.declared.tuple_ref.TupleRef.{TupleRef}
 use Rattle.ttree.specs.Held.{empty}
@@ -16,7 +16,7 @@ use Rattle.mm_relation.specs.State.{RelationState, RowTree, is_tree}
 -- these columns and nothing else: no row, no declared index, no column whose links lead anywhere
 abbrev pub new_relation : Schema → RelationState
 new_relation schema =
-    record { schema = schema; targets = replicate (length schema.columns) None; declared = []; rows = finite.empty; by_key = empty; trees = []; hashes = [] }
+    record { schema = schema; targets = replicate (length schema.columns) None; declared = []; rows = finite.empty; by_key = empty; trees = []; hashes = []; counted = false }
 
 -- the declaration of an index
 abbrev pub declaration : ColumnNumber → IndexKind → DeclaredIndex

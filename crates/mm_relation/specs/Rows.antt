@@ -1,7 +1,7 @@
 -- Rows: what contracts see of one, and what the store holds for it: its cells side by side, the key's the first, with the
 -- number of links that name it beside them.
-use Rattle.std.specs.Prelude.{◌≡◌, ℕ, List, [], ◌∷◌, Some, length, refl}
-use Rattle.std.specs.Coded.{Coded, code_by, coded×, coded_list, coded_ℕ}
+use Rattle.std.specs.Prelude.{◌≡◌, ℕ, Bool, List, [], ◌∷◌, Some, length, refl}
+use Rattle.std.specs.Coded.{Coded, code_by, coded×, coded_bool, coded_list, coded_ℕ}
 use Rattle.std.specs.FinMap as finite
 use Rattle.part_raw.specs.TupleRefs.{ref_code}
 use Rattle.part_raw.specs.declared.tuple_ref.TupleRef.{TupleRef}
@@ -40,21 +40,28 @@ row_of (first ∷ rest) n = record { key = key_in first; cells = rest; referrers
 abbrev pub row_in : Tuple Cell → Row
 row_in t = row_of t.cells t.count
 
--- how many columns the rows have, the rows, and how many more can be put with no memory
+-- no link names any of the rows
+abbrev pub HaveNoReferrers : Tuples Row → Type 0
+HaveNoReferrers rows = (r : TupleRef) (row : Row) → finite.get rows r ≡ Some row → row.referrers ≡ 0
+
+-- how many columns the rows have, the rows, how many more can be put with no memory, and whether their referrers are counted
 pub record RowStore : Type 0 where
   pub width : ℕ
   pub tuples : Tuples Row
   pub free : ℕ
+  pub counted : Bool
 
 abbrev pub row_store_code : Coded Row → Coded RowStore
-row_store_code row = code_by (ℕ × (Tuples Row × ℕ)) (coded× coded_ℕ (coded× (finite.code ref_code row) coded_ℕ)) (λ s. (s.width, (s.tuples, s.free))) (λ p. record { width = p.0; tuples = p.1.0; free = p.1.1 }) (λ _. refl)
+row_store_code row =
+    code_by (ℕ × (Tuples Row × (ℕ × Bool))) (coded× coded_ℕ (coded× (finite.code ref_code row) (coded× coded_ℕ coded_bool)))
+    (λ s. (s.width, (s.tuples, (s.free, s.counted)))) (λ p. record { width = p.0; tuples = p.1.0; free = p.1.1.0; counted = p.1.1.1 }) (λ _. refl)
 
-abbrev pub row_store : ℕ → Tuples Row → ℕ → RowStore
-row_store width tuples free = record { width = width; tuples = tuples; free = free }
+abbrev pub row_store : ℕ → Tuples Row → ℕ → Bool → RowStore
+row_store width tuples free counted = record { width = width; tuples = tuples; free = free; counted = counted }
 
 -- the rows of a store of cells
 abbrev pub rows_of : Store Cell → RowStore
-rows_of s = row_store s.width (mapped row_in s.tuples) s.free
+rows_of s = row_store s.width (mapped row_in s.tuples) s.free s.counted
 
 -- each tuple of the store has a cell for each column, and the first holds the row's key
 abbrev pub AreRows : Store Cell → Type 0

@@ -94,6 +94,7 @@ fn write_cells(
     requires ready { IsPiled sets.now copies.old.items }
     ensures row { (t : Row) → finite.get rows.old.tuples r ≡ Some t → rows.new.tuples ≡ finite.insert rows.old.tuples r (with_cells sets.now t) }
     ensures width { rows.new.width ≡ rows.old.width }
+    ensures counted { rows.new.counted ≡ rows.old.counted }
     ensures left { (under : List Cell) → copies.old.items ≡ piled sets.now under → copies.new.items ≡ under }
 {
     let Some(((column, _), rest)) = sets.split_first() else {
@@ -126,6 +127,7 @@ fn change_row<R: LinkedKeys>(
     ensures declared { map declaration_of indexes.new ≡ map declaration_of indexes.old }
     ensures room { (n : ℕ) → HaveRoom (n + 1) indexes.old → HaveRoom n indexes.new }
     ensures width { rows.new.width ≡ rows.old.width }
+    ensures counted { rows.new.counted ≡ rows.old.counted }
     ensures left { (under : List Cell) → copies.old.items ≡ piled sets.now under → copies.new.items ≡ under }
 {
     remove_set(indexes, rows, links, r, sets);
@@ -152,6 +154,7 @@ pub fn change_each<R: LinkedKeys>(
     requires served { (list : List TupleRef) × IsKeyed rows.old.tuples list × Serve (R.keys links.now) rows.old.tuples list indexes.old }
     ensures rows { CellsSet rows.old.tuples rows.new.tuples rs.now sets.now }
     ensures width { rows.new.width ≡ rows.old.width }
+    ensures counted { rows.new.counted ≡ rows.old.counted }
     ensures served { (list : List TupleRef) → IsKeyed rows.old.tuples list → Serve (R.keys links.now) rows.old.tuples list indexes.old
         → IsKeyed rows.new.tuples list × Serve (R.keys links.now) rows.new.tuples list indexes.new }
     ensures declared { map declaration_of indexes.new ≡ map declaration_of indexes.old }

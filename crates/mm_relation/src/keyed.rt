@@ -34,6 +34,7 @@ pub fn put_row(rows: &mut Rows, by_key: &mut Tree, row: &mut Vec<StoredCell>) ->
     ensures kept { IfNone result (rows.new.tuples ≡ rows.old.tuples) }
     ensures kept_tree { IfNone result (by_key.new ≡ by_key.old) }
     ensures width { rows.new.width ≡ rows.old.width }
+    ensures counted { rows.new.counted ≡ rows.old.counted }
     ensures moved { row.new.items ≡ [] }
 {
     let r = rows.put(row);
@@ -58,6 +59,7 @@ pub fn take_row(rows: &mut Rows, by_key: &mut Tree, r: TupleRef)
     ensures taken { rows.new.tuples ≡ finite.remove rows.old.tuples r }
     ensures unlisted { IsSameBag (items_of_tree by_key.old) (r ∷ (items_of_tree by_key.new)) }
     ensures width { rows.new.width ≡ rows.old.width }
+    ensures counted { rows.new.counted ≡ rows.old.counted }
 {
     by_key.remove(&mut OrderProbe::new(&KeyOrder { rows }, r));
     rows.remove(r);

@@ -29,6 +29,7 @@ pub fn make_room(
     requires few { finite.len rows.old.tuples < 16777216 }
     ensures rows { rows.new.tuples ≡ rows.old.tuples }
     ensures width { rows.new.width ≡ rows.old.width }
+    ensures counted { rows.new.counted ≡ rows.old.counted }
     ensures by_key { by_key.new.tree ≡ by_key.old.tree }
     ensures same { map seen indexes.new ≡ map seen indexes.old }
     ensures free { OnOk result (0 < rows.new.free) }
@@ -75,6 +76,7 @@ pub fn place<R: LinkedKeys>(
     ensures kept_tree { IfNone result (by_key.new ≡ by_key.old) }
     ensures kept_indexes { IfNone result (indexes.new ≡ indexes.old) }
     ensures width { rows.new.width ≡ rows.old.width }
+    ensures counted { rows.new.counted ≡ rows.old.counted }
 {
     let r = put_row(rows, by_key, row)?;
     insert(indexes, rows, links, r);
@@ -96,6 +98,7 @@ pub fn displace<R: LinkedKeys>(
     requires serve { Serve (R.keys links.now) rows.old.tuples (items_of_tree by_key.old) indexes.old }
     ensures taken { rows.new.tuples ≡ finite.remove rows.old.tuples r }
     ensures width { rows.new.width ≡ rows.old.width }
+    ensures counted { rows.new.counted ≡ rows.old.counted }
     ensures keyed { IsKeyed rows.new.tuples (items_of_tree by_key.new) }
     ensures serve { Serve (R.keys links.now) rows.new.tuples (items_of_tree by_key.new) indexes.new }
     ensures declared { map declaration_of indexes.new ≡ map declaration_of indexes.old }

@@ -1,5 +1,5 @@
 //! The rows of one table.
-ghost use Rattle.std.specs.Prelude.{◌≡◌, ◌≢◌, ◌+◌, ◌∷◌, ◌++◌, ◌-◌, ◌^◌, Contains, ◌<◌, ◌≤◌, All, Some, IsSome, IfSome, IfNone, IfOk, OnOk, OnErr, length};
+ghost use Rattle.std.specs.Prelude.{◌≡◌, ◌≢◌, ◌+◌, ◌∷◌, ◌++◌, ◌-◌, ◌^◌, Contains, ◌<◌, ◌≤◌, All, true, false, Some, IsOk, IsSome, IsTrue, IfSome, IfNone, IfOk, OnOk, OnErr, length};
 ghost use Rattle.mm_relation.specs.declared.row.Cell.TheVariants.{Held};
 
 use crate::change::{change_each, copies_for};
@@ -69,16 +69,16 @@ impl Model for Relation {
 
     ghost coded = { state_code schema_row.coded index_row.coded (row_code value_row.coded cell_row.coded) };
 
-    ghost view = { λ r. state r.schema r.targets.items r.declared.items r.rows.tuples r.by_key.tree r.indexes };
+    ghost view = { λ r. state r.rows.counted r.schema r.targets.items r.declared.items r.rows.tuples r.by_key.tree r.indexes };
 
     // The store has a cell in a row for each column.
-    ghost invariant = { λ r. IsKept (state r.schema r.targets.items r.declared.items r.rows.tuples r.by_key.tree r.indexes) × (r.rows.width ≡ length r.schema.columns) };
+    ghost invariant = { λ r. IsKept (state r.rows.counted r.schema r.targets.items r.declared.items r.rows.tuples r.by_key.tree r.indexes) × (r.rows.width ≡ length r.schema.columns) };
 }
 
 impl Relation {
     ghost use Rattle.std.specs.FinMap as finite;
     ghost use Rattle.std.specs.List.{AllPairs};
-    ghost use Rattle.mm_relation.specs.Rows.{Row};
+    ghost use Rattle.mm_relation.specs.Rows.{HaveNoReferrers, Row};
     ghost use Rattle.std.specs.Option.{option_cmp};
     ghost use Rattle.plain_tables.specs.Values.{value_cmp};
     ghost use Rattle.mm_relation.specs.Reading.{Keys, key_at, value_at, cell_value};
@@ -382,9 +382,36 @@ impl Relation {
         );
     }
 
-    /// So many links more name a row. It takes no memory.
+    /// Whether the numbers of links that name its rows are kept. Where they are not, no link names a row.
+    pub fn is_counted(&self) -> bool
+        ensures value { result ≡ self.now.counted }
+        ensures none { result ≡ false → HaveNoReferrers self.now.rows }
+    {
+        self.rows.is_counted()
+    }
+
+    /// Makes memory for the numbers of links that name its rows, also for rows to come. Where they are kept already, nothing
+    /// is done.
+    pub fn keep_counts(&mut self) -> Result<(), NoMemory>
+        ensures ok { OnOk result (self.new ≡ record self.old { counted = true }) }
+        ensures err { OnErr result (self.new ≡ self.old) }
+        ensures had { IsTrue self.old.counted → IsOk result }
+    {
+        self.rows.keep_counts()
+    }
+
+    /// Gives the memory of these numbers back, each of which is 0. It takes no memory.
+    pub fn forget_counts(&mut self)
+        requires { HaveNoReferrers self.old.rows }
+        ensures { self.new ≡ record self.old { counted = false } }
+    {
+        self.rows.forget_counts();
+    }
+
+    /// So many links more name a row, where these numbers are kept. It takes no memory.
     pub fn add_referrers(&mut self, r: TupleRef, n: u64)
         requires held { IsSome (finite.get self.old.rows r) }
+        requires counted { IsTrue self.old.counted }
         requires room { (row : Row) → finite.get self.old.rows r ≡ Some row → row.referrers + n < 2 ^ 64 }
         ensures added { Refers self.old self.new r (λ count. count + n) }
         ensures current { (keys : Keys) → IsCurrent keys self.old → IsCurrent keys self.new }
@@ -392,9 +419,10 @@ impl Relation {
         count_up(&mut self.rows, r, n);
     }
 
-    /// So many links fewer name a row. It takes no memory.
+    /// So many links fewer name a row, where these numbers are kept. It takes no memory.
     pub fn sub_referrers(&mut self, r: TupleRef, n: u64)
         requires held { IsSome (finite.get self.old.rows r) }
+        requires counted { IsTrue self.old.counted }
         requires enough { (row : Row) → finite.get self.old.rows r ≡ Some row → n ≤ row.referrers }
         ensures taken { Refers self.old self.new r (λ count. count - n) }
         ensures current { (keys : Keys) → IsCurrent keys self.old → IsCurrent keys self.new }

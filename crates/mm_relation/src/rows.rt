@@ -1,10 +1,10 @@
 //! The rows of a relation in their store. A row's cells stand side by side, the key's the first, and the number of links
 //! that name the row stands beside them.
-ghost use Rattle.std.specs.Prelude.{◌≡◌, ◌+◌, ◌-◌, ◌<◌, ◌≤◌, [], Some, None, IsSome, IfOk, OnOk, length, slice_set};
+ghost use Rattle.std.specs.Prelude.{◌≡◌, ◌+◌, ◌-◌, ◌<◌, ◌≤◌, [], true, false, Some, None, IsOk, IsSome, IsTrue, IfOk, OnErr, OnOk, length, slice_set};
 ghost use Rattle.std.specs.FinMap as finite;
 ghost use Rattle.mm_relation.specs.Changes.{with_referrers};
 ghost use Rattle.mm_relation.specs.Reading.{key_at};
-ghost use Rattle.mm_relation.specs.Rows.{Row, StartsWithKey, row_of, row_store};
+ghost use Rattle.mm_relation.specs.Rows.{HaveNoReferrers, Row, StartsWithKey, row_of, row_store};
 
 use crate::stored_cell::{SeenCell, StoredCell};
 use no_memory::NoMemory;
@@ -36,7 +36,7 @@ impl Model for Rows {
 impl Rows {
     // No row, in a store for rows of so many columns. It takes no memory.
     pub fn new(alloc: Global, width: usize) -> Result<Rows, NoMemory>
-        ensures { IfOk result (λ rows. rows ≡ row_store width finite.empty 0) }
+        ensures { IfOk result (λ rows. rows ≡ row_store width finite.empty 0 false) }
     {
         let store = Partitions::new(alloc, width)?;
         Ok(Rows { store })
@@ -60,6 +60,7 @@ impl Rows {
     pub fn reserve(&mut self) -> Result<(), NoMemory>
         requires { finite.len self.old.tuples < 16777216 }
         ensures width { self.new.width ≡ self.old.width }
+        ensures counted { self.new.counted ≡ self.old.counted }
         ensures tuples { self.new.tuples ≡ self.old.tuples }
         ensures free { OnOk result (0 < self.new.free) }
     {
@@ -70,6 +71,7 @@ impl Rows {
     pub fn release_spares(&mut self)
         ensures tuples { self.new.tuples ≡ self.old.tuples }
         ensures width { self.new.width ≡ self.old.width }
+        ensures counted { self.new.counted ≡ self.old.counted }
     {
         self.store.release_spares();
     }
@@ -82,6 +84,7 @@ impl Rows {
         ensures fresh { finite.get self.old.tuples result ≡ None }
         ensures tuples { self.new.tuples ≡ finite.insert self.old.tuples result (row_of row.old.items 0) }
         ensures width { self.new.width ≡ self.old.width }
+        ensures counted { self.new.counted ≡ self.old.counted }
         ensures moved { row.new.items ≡ [] }
     {
         self.store.put(row)
@@ -130,10 +133,37 @@ impl Rows {
         self.store.count(r)
     }
 
-    // Sets how many links name a row.
+    // Whether the store has memory for the numbers of links that name its rows. Where it has none, no link names a row.
+    pub fn is_counted(&self) -> bool
+        ensures value { result ≡ self.now.counted }
+        ensures none { result ≡ false → HaveNoReferrers self.now.tuples }
+    {
+        self.store.is_counted()
+    }
+
+    // Makes memory for those numbers.
+    pub fn keep_counts(&mut self) -> Result<(), NoMemory>
+        ensures ok { OnOk result (self.new ≡ record self.old { counted = true }) }
+        ensures err { OnErr result (self.new ≡ self.old) }
+        ensures had { IsTrue self.old.counted → IsOk result }
+    {
+        self.store.keep_counts()
+    }
+
+    // Gives the memory of those numbers back, each of which is 0. It takes no memory.
+    pub fn forget_counts(&mut self)
+        requires { HaveNoReferrers self.old.tuples }
+        ensures { self.new ≡ record self.old { counted = false } }
+    {
+        self.store.forget_counts();
+    }
+
+    // Sets how many links name a row, where these numbers are kept.
     pub fn set_referrers(&mut self, r: TupleRef, n: u64)
-        requires { IsSome (finite.get self.old.tuples r) }
+        requires held { IsSome (finite.get self.old.tuples r) }
+        requires counted { IsTrue self.old.counted }
         ensures width { self.new.width ≡ self.old.width }
+        ensures counted { self.new.counted ≡ self.old.counted }
         ensures row { (t : Row) → finite.get self.old.tuples r ≡ Some t → self.new.tuples ≡ finite.insert self.old.tuples r (with_referrers n t) }
     {
         self.store.set_count(r, n);
@@ -144,6 +174,7 @@ impl Rows {
         requires held { IsSome (finite.get self.old.tuples r) }
         requires column { (t : Row) → finite.get self.old.tuples r ≡ Some t → (0 < column.0) × (column.0 ≤ length t.cells) }
         ensures width { self.new.width ≡ self.old.width }
+        ensures counted { self.new.counted ≡ self.old.counted }
         ensures row { (t : Row) → finite.get self.old.tuples r ≡ Some t → self.new.tuples ≡ finite.insert self.old.tuples r (record t { cells = slice_set t.cells (column.0 - 1) cell }) }
     {
         drop(self.store.replace(r, column.0, cell));
@@ -153,6 +184,7 @@ impl Rows {
     pub fn remove(&mut self, r: TupleRef)
         requires { IsSome (finite.get self.old.tuples r) }
         ensures width { self.new.width ≡ self.old.width }
+        ensures counted { self.new.counted ≡ self.old.counted }
         ensures rows { self.new.tuples ≡ finite.remove self.old.tuples r }
     {
         self.store.remove(r);

@@ -31,6 +31,7 @@ const MOST_NODES_AN_ENTRY: usize = 4;
 pub fn shed_rows(rows: &mut Rows)
     ensures tuples { rows.new.tuples ≡ rows.old.tuples }
     ensures width { rows.new.width ≡ rows.old.width }
+    ensures counted { rows.new.counted ≡ rows.old.counted }
     ensures kept { rows.old.free ≤ 1024 → rows.new ≡ rows.old }
 {
     if rows.free() > FEW_SLOTS.max(rows.len() / ROWS_A_FREE_SLOT) {

@@ -7,8 +7,13 @@ pub mod Lending
 pub mod SlotSteps
 pub mod Lookup
 pub mod Rows
-pub mod Counts
+pub mod WithCounts
 pub mod Shelves
+pub mod Beside
+pub mod Stocked
+pub mod Filled
+pub mod Dropped
+pub mod Uncounted
 pub mod Slots
 pub mod Bitmaps
 pub mod Sound

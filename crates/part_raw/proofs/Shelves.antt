@@ -4,9 +4,9 @@ use Rattle.std.proofs.Math.ListN.{replicate}
 use Rattle.part_raw.specs.Store.{Tuple, tuple}
 use Rattle.part_raw.specs.Rows.{rows_in, put_run, clear_run, IsLaid}
 use Rattle.part_raw.specs.Counted.{with_count, counted}
-use Rattle.part_raw.specs.Layout.{IsVacant}
+use Rattle.part_raw.specs.Layout.{IsPartition, IsVacant, vacancies}
 use Rattle.part_raw.proofs.Rows.{put-changes, clear-changes, exchange-changes, rows-changed, laid-changed, length-rows_of, slot_within, laid-empty, empty-laid}
-use Rattle.part_raw.proofs.Counts.{length-counted, counted-get, counted-set_row, counted-set_count, counted-put, with_count-is, row_held, row_free}
+use Rattle.part_raw.proofs.WithCounts.{length-counted, counted-get, counted-set_row, counted-set_count, counted-put, vacancies-counted, with_count-is, row_held, row_free}
 
 module _ {T : Type 0} (width : ℕ) (places : List (Option T)) (counts : List ℕ) where
   abbrev pub shown : List (Option (Tuple T))
@@ -28,25 +28,34 @@ module _ {T : Type 0} (width : ℕ) (places : List (Option T)) (counts : List �
   pub free_cells : (slot : ℕ) → get_or shown slot None ≡ None → get_or (rows_in width places) slot None ≡ None
   free_cells slot free = row_free _ (get_or counts slot 0) (sym (counted-get (rows_in width places) counts slot) ∙ free)
 
-  pub shown-cleared : (slot : ℕ) → 0 < width → slot < 256 → IsLaid width places
-      → IsLaid width (clear_run places (slot * width) width) × (counted (rows_in width (clear_run places (slot * width) width)) counts ≡ set shown slot None)
-  shown-cleared slot wide in_range laid =
-      let c = clear-changes width slot places wide in_range laid in (
-        laid-changed width slot places _ None in_range laid c,
-        ap (λ rows. counted rows counts) (rows-changed width slot places _ None in_range laid c) ∙ counted-set_row (rows_in width places) counts slot None,
-      )
+  -- a slot is free where it holds no row
+  pub bits-shown : (words : List ℕ) → IsPartition words (rows_in width places) → IsPartition words shown
+  bits-shown words is = record {
+    count = length-shown;
+    bits = λ slot within. is.bits slot within ∙ sym (ap is_some (counted-get (rows_in width places) counts slot) ∙ row_held _ (get_or counts slot 0));
+  }
 
-  pub shown-exchanged : (slot column : ℕ) (t : Tuple T) (x : T) → column < width → IsLaid width places → get_or shown slot None ≡ Some t
-      → IsLaid width (set (set places (slot * width + column) None) (slot * width + column) (Some x))
-      × (counted (rows_in width (set (set places (slot * width + column) None) (slot * width + column) (Some x))) counts ≡ set shown slot (Some (tuple (set t.cells column x) t.count)))
-  shown-exchanged slot column t x small laid held =
-      let is = cells_of slot t held in
-      let in_range = slot_within width slot places (ap is_some is.0) in
-      let c = exchange-changes width slot column places t.cells x in_range small laid is.0 in (
-        laid-changed width slot places _ _ in_range laid c,
-        ap (λ rows. counted rows counts) (rows-changed width slot places _ _ in_range laid c) ∙ counted-set_row (rows_in width places) counts slot (Some (set t.cells column x))
-            ∙ ap (λ n. set shown slot (Some (tuple (set t.cells column x) n))) is.1,
-      )
+  pub bits-rows : (words : List ℕ) → IsPartition words shown → IsPartition words (rows_in width places)
+  bits-rows words is = record {
+    count = length-rows_of width 256 places;
+    bits = λ slot within. is.bits slot within ∙ ap is_some (counted-get (rows_in width places) counts slot) ∙ row_held _ (get_or counts slot 0);
+  }
+
+  pub vacancies-shown : vacancies shown ≡ vacancies (rows_in width places)
+  vacancies-shown = vacancies-counted (rows_in width places) counts
+
+  -- a row goes, and another comes in the place of one
+  pub shown-freed : (places' : List (Option T)) (slot : ℕ) → rows_in width places' ≡ set (rows_in width places) slot None → counted (rows_in width places') counts ≡ set shown slot None
+  shown-freed places' slot is = ap (λ rows. counted rows counts) is ∙ counted-set_row (rows_in width places) counts slot None
+
+  pub shown-exchanged : (places' : List (Option T)) (slot : ℕ) (t : Tuple T) (cells : List T) → get_or shown slot None ≡ Some t → rows_in width places' ≡ set (rows_in width places) slot (Some cells)
+      → counted (rows_in width places') counts ≡ set shown slot (Some (tuple cells t.count))
+  shown-exchanged places' slot t cells held is =
+      ap (λ rows. counted rows counts) is ∙ counted-set_row (rows_in width places) counts slot (Some cells) ∙ ap (λ n. set shown slot (Some (tuple cells n))) (cells_of slot t held).1
+
+  pub shown-put : (places' : List (Option T)) (slot : ℕ) (cells : List T) → rows_in width places' ≡ set (rows_in width places) slot (Some cells)
+      → counted (rows_in width places') (set counts slot 0) ≡ set shown slot (Some (tuple cells 0))
+  shown-put places' slot cells is = ap (λ rows. counted rows (set counts slot 0)) is ∙ counted-put (rows_in width places) counts slot cells
 
   pub shown-counted : (slot n : ℕ) (t : Tuple T) → slot < length counts → get_or shown slot None ≡ Some t → counted (rows_in width places) (set counts slot n) ≡ set shown slot (Some (tuple t.cells n))
   shown-counted slot n t within held =
@@ -60,11 +69,24 @@ module _ {T : Type 0} (width : ℕ) (places : List (Option T)) (counts : List �
   pub empty-shown : 0 < width → IsLaid width places → IsVacant shown → places ≡ replicate (256 * width) None
   empty-shown wide laid vacant = empty-laid width places wide laid (record { count = length-rows_of width 256 places; empty = λ slot. free_cells slot (vacant.empty slot) })
 
-pub shown-put : {T : Type 0} (places : List (Option T)) (counts : List ℕ) (slot n : ℕ) (cells : List T) → slot < 256 → slot < length counts → IsLaid (length cells) places
-    → IsLaid (length cells) (put_run places (slot * length cells) cells) × (counted (rows_in (length cells) (put_run places (slot * length cells) cells)) (set counts slot n) ≡ set (shown (length cells) places counts) slot (Some (tuple cells n)))
-shown-put places counts slot n cells in_range within laid =
-    let c = put-changes slot places cells in_range laid in (
-      laid-changed (length cells) slot places _ _ in_range laid c,
-      ap (λ rows. counted rows (set counts slot n)) (rows-changed (length cells) slot places _ _ in_range laid c)
-          ∙ counted-put (rows_in (length cells) places) counts slot n cells within (omega (arith, in_range, length-rows_of (length cells) 256 places)),
-    )
+-- the rows of the places, as those of one slot change
+pub rows-cleared : {T : Type 0} (width : ℕ) (places : List (Option T)) (slot : ℕ) → 0 < width → slot < 256 → IsLaid width places
+    → IsLaid width (clear_run places (slot * width) width) × (rows_in width (clear_run places (slot * width) width) ≡ set (rows_in width places) slot None)
+rows-cleared width places slot wide in_range laid =
+    let c = clear-changes width slot places wide in_range laid in (laid-changed width slot places _ None in_range laid c, rows-changed width slot places _ None in_range laid c)
+
+pub rows-exchanged : {T : Type 0} (width : ℕ) (places : List (Option T)) (slot column : ℕ) (cells : List T) (x : T) → column < width → IsLaid width places → get_or (rows_in width places) slot None ≡ Some cells
+    → IsLaid width (set (set places (slot * width + column) None) (slot * width + column) (Some x))
+    × (rows_in width (set (set places (slot * width + column) None) (slot * width + column) (Some x)) ≡ set (rows_in width places) slot (Some (set cells column x)))
+rows-exchanged width places slot column cells x small laid held =
+    let in_range = slot_within width slot places (ap is_some held) in
+    let c = exchange-changes width slot column places cells x in_range small laid held in (laid-changed width slot places _ _ in_range laid c, rows-changed width slot places _ _ in_range laid c)
+
+pub rows-put : {T : Type 0} (places : List (Option T)) (slot : ℕ) (cells : List T) → slot < 256 → IsLaid (length cells) places
+    → IsLaid (length cells) (put_run places (slot * length cells) cells) × (rows_in (length cells) (put_run places (slot * length cells) cells) ≡ set (rows_in (length cells) places) slot (Some cells))
+rows-put places slot cells in_range laid =
+    let c = put-changes slot places cells in_range laid in (laid-changed (length cells) slot places _ _ in_range laid c, rows-changed (length cells) slot places _ _ in_range laid c)
+
+-- a partition's places are empty where no slot holds a row
+pub empty-rows : {T : Type 0} (width : ℕ) (places : List (Option T)) → 0 < width → IsLaid width places → IsVacant (rows_in width places) → places ≡ replicate (256 * width) None
+empty-rows width places wide laid vacant = empty-laid width places wide laid vacant

@@ -5,8 +5,7 @@ use Rattle.std.proofs.lemmas.List.Sums.{sum_by-cons, sum_by-append}
 use Rattle.std.proofs.Math.ListN.{replicate}
 use Rattle.std.specs.FinMap.{get, len}
 use Rattle.part_raw.specs.declared.store.Occupancy.{Occupancy}
-use Rattle.part_raw.specs.declared.shelf.Shelf.{Shelf}
-use Rattle.part_raw.specs.Counted.{tuples_in}
+use Rattle.part_raw.specs.Counted.{Shelf, tuples_in}
 use Rattle.part_raw.specs.TupleRefs.{ref_to, slot_of}
 use Rattle.part_raw.specs.Layout.{is_set, tuples_of, vacancies, IsVacant, IsPartition}
 use Rattle.part_raw.specs.Open.{words_at, slots_at, next_at, open_at, tables, below, IsOpenList, HaveBitmaps, AreKept, IsTable}
@@ -32,7 +31,7 @@ module _ {T : Type 0} (width : ℕ) (wide : 0 < width) (blocks : List (Shelf T))
   spare-vacant = vacant_of_bits _ _ (last_bits width blocks block occupancies o kept.laid kept.mapped) its_bits
 
   pub spare-empty : block.block ≡ replicate (256 * width) None
-  spare-empty = empty-shown width block.block block.counts.value wide (last_laid width blocks block occupancies o kept.laid kept.mapped) spare-vacant
+  spare-empty = empty-shown width block.block block.counts wide (last_laid width blocks block occupancies o kept.laid kept.mapped) spare-vacant
 
   pub front_kept : AreKept width blocks occupancies
   front_kept = record {

@@ -6,10 +6,9 @@ use Rattle.std.proofs.Math.ListN.{replicate}
 use Rattle.std.specs.FinMap.{get, insert, remove, len}
 use Rattle.part_raw.specs.declared.tuple_ref.TupleRef.{TupleRef}
 use Rattle.part_raw.specs.declared.store.Occupancy.{Occupancy}
-use Rattle.part_raw.specs.declared.shelf.Shelf.{Shelf}
 use Rattle.part_raw.specs.Store.{Tuple}
 use Rattle.part_raw.specs.Rows.{IsLaid}
-use Rattle.part_raw.specs.Counted.{tuples_in}
+use Rattle.part_raw.specs.Counted.{Shelf, tuples_in}
 use Rattle.part_raw.specs.TupleRefs.{ref_to, part_of, slot_of}
 use Rattle.part_raw.specs.Layout.{is_set, vacancies, tuples_of, IsPartition}
 use Rattle.part_raw.specs.Open.{words_at, tables, HaveBitmaps, IsStore, IsTable}
@@ -25,7 +24,7 @@ use Rattle.part_raw.proofs.Sound.{Step, first_within, first_open, IsStore-put_fu
 -- no shelf has more slots than references tell apart
 pub small_tables : {T : Type 0} (width : ℕ) (blocks : List (Shelf T)) → AreSmall (tables width blocks)
 small_tables width [] part within = absurd (omega (arith, within))
-small_tables width (block ∷ rest) zero within = omega (arith, length-shown width block.block block.counts.value)
+small_tables width (block ∷ rest) zero within = omega (arith, length-shown width block.block block.counts)
 small_tables width (block ∷ rest) (suc part) within = small_tables width rest part (omega (arith, within))
 
 module _ {T : Type 0} (width : ℕ) (blocks : List (Shelf T)) where
@@ -94,7 +93,7 @@ module _ {T : Type 0} where
     small = small_tables width blocks;
     within = omega (arith, within, length-tables width blocks);
     read = rows_read width blocks part block within read;
-    in_slots = omega (arith, in_range, length-shown width block.block block.counts.value);
+    in_slots = omega (arith, in_range, length-shown width block.block block.counts);
     is = slots;
   }
 
@@ -183,7 +182,7 @@ module _ {T : Type 0} where
       → IsTable width blocks occupancies 0 first → new.block ≡ replicate (256 * width) None → ((slot : ℕ) → slot < 256 → is_set o.held.words slot ≡ false) → o.next_open ≡ first → part ≡ length blocks
       → len (tuples_of (tables width blocks)) < 2 ^ 32 → IsTable width (blocks ++ new ∷ []) (occupancies ++ o ∷ []) 256 (Some part)
   table-pushed width blocks occupancies new o first part is empty clear next at room =
-      let both = shown-empty width new.block new.counts.value is.wide empty in
+      let both = shown-empty width new.block new.counts is.wide empty in
       IsTable-push width blocks occupancies 0 first is new (occupancies ++ o ∷ []) 256 (Some part) both.0
       (IsStore-push (tables width blocks) occupancies (tuples_in width new) o first part is.store both.1 (IsPartition-vacant _ _ clear both.1) next (omega (arith, at, length-tables width blocks)) room)
 
@@ -191,7 +190,7 @@ module _ {T : Type 0} where
       → tuples_of (tables width pushed) ≡ tuples_of (tables width blocks)
   rows-pushed width blocks grown pushed new wide same is empty =
       ap (λ (xs : List (Shelf T)). tuples_of (tables width xs)) (is ∙ ap (λ (xs : List (Shelf T)). xs ++ new ∷ []) same) ∙ ap tuples_of (map-append (tuples_in width) blocks (new ∷ []))
-      ∙ tuples-push (tables width blocks) (tuples_in width new) (small_tables width blocks) (shown-empty width new.block new.counts.value wide empty).1
+      ∙ tuples-push (tables width blocks) (tuples_in width new) (small_tables width blocks) (shown-empty width new.block new.counts wide empty).1
 
   -- ---- a row is written over
 
@@ -199,7 +198,7 @@ module _ {T : Type 0} where
       → (block new : Shelf T) (part slot : ℕ) (old row : Tuple T) → part < length blocks → block ≡ get_or blocks part block → IsLaid width new.block
       → get_or (tuples_in width block) slot None ≡ Some old → tuples_in width new ≡ set (tuples_in width block) slot (Some row) → IsTable width (set blocks part new) occupancies free first
   table-exchanged width blocks occupancies free first is block new part slot old row within read laid held slots =
-      let in_range = slot_within width slot block.block (held_cells width block.block block.counts.value slot (ap is_some held)) in
+      let in_range = slot_within width slot block.block (held_cells width block.block block.counts slot (ap is_some held)) in
       let writes = writes_of width blocks block new part slot (Some row) within read in_range slots in
       let bits = bits_in (tables width blocks) occupancies (tuples_in width block) part is.store.mapped (omega (arith, within, length-tables width blocks)) (rows_read width blocks part block within read) in
       IsTable-set width blocks occupancies free first is new occupancies free part first within laid
@@ -210,7 +209,7 @@ module _ {T : Type 0} where
       → part < length blocks → block ≡ get_or blocks part block → get_or (tuples_in width block) slot None ≡ Some old → tuples_in width new ≡ set (tuples_in width block) slot (Some row)
       → tuples_of (tables width (set blocks part new)) ≡ insert (tuples_of (tables width blocks)) r row
   rows-exchanged width blocks block new r part slot old row names names_slot within read held slots =
-      let in_range = slot_within width slot block.block (held_cells width block.block block.counts.value slot (ap is_some held)) in
+      let in_range = slot_within width slot block.block (held_cells width block.block block.counts slot (ap is_some held)) in
       ap tuples_of (map-set (tuples_in width) blocks part new)
       ∙ tuples-written (tables width blocks) (tuples_in width block) (tuples_in width new) part slot row (writes_of width blocks block new part slot (Some row) within read in_range slots)
       ∙ ap (λ q. insert (tuples_of (tables width blocks)) q row) (ref_to-names r part slot names names_slot)

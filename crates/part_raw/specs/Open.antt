@@ -1,12 +1,11 @@
 -- How a store keeps its partitions: their blocks, which slots hold a tuple, and the list of the partitions with a free
 -- slot. No public clause cites this module.
-use Rattle.std.specs.Prelude.{◌≡◌, ℕ, zero, suc, ◌+◌, ◌*◌, ◌^◌, ◌<◌, ◌≤◌, ◌↔◌, Bool, true, false, cond, List, [], map, length, Option, Some, None, count_by, sum_by, slice_index_or, nat_lt}
+use Rattle.std.specs.Prelude.{◌≡◌, ℕ, zero, suc, ◌+◌, ◌*◌, ◌^◌, ◌<◌, ◌≤◌, ◌↔◌, Bool, true, false, cond, if◌then◌else◌, List, [], map, length, Option, Some, None, count_by, sum_by, slice_index_or, nat_lt}
 use Rattle.std.specs.FinMap.{len}
 use Rattle.part_raw.specs.declared.TheConstants.{SLOTS, MAX_WIDTH}
 use Rattle.part_raw.specs.Rows.{IsLaid}
 use Rattle.part_raw.specs.Store.{Tuple}
-use Rattle.part_raw.specs.Counted.{tuples_in}
-use Rattle.part_raw.specs.declared.shelf.Shelf.{Shelf}
+use Rattle.part_raw.specs.Counted.{Shelf, shelves_of, tuples_in}
 use Rattle.part_raw.specs.Layout.{is_set, IsPartition, vacancies, tuples_of}
 use Rattle.part_raw.specs.declared.store.Occupancy.{Occupancy}
 
@@ -78,3 +77,8 @@ module _ {T : Type 0} where
     pub fits : width ≤ MAX_WIDTH
     pub laid : (part : ℕ) (shelf : Shelf T) → part < length shelves → shelf ≡ slice_index_or shelves part shelf → IsLaid width shelf.block
     pub store : IsStore (tables width shelves) occupancies free first_open
+
+  -- the blocks with the counts beside them: of each where counts are kept, and else of none
+  pub record IsStocked (counted : Bool) (width : ℕ) (blocks : List (List (Option T))) (counts : List (List ℕ)) (occupancies : List Occupancy) (free : ℕ) (first_open : Option ℕ) : Type 0 where
+    pub beside : length counts ≡ (if counted then length blocks else 0)
+    pub table : IsTable width (shelves_of blocks counts) occupancies free first_open

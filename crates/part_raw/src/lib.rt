@@ -1,5 +1,5 @@
 //! A store of tuples that do not move, each named by a reference: a partition and a slot in it. A tuple is a run of
-//! cells, as many as the store was made for, with a count beside them.
+//! cells, as many as the store was made for, with a count beside them, where the store keeps counts.
 //!
 //! A store is a finite map from references to tuples, with a number of free slots. It does not care what a cell is,
 //! which cell is a key, or in what order tuples are looked for: it gives out a reference for a tuple, and the tuple
@@ -7,13 +7,15 @@
 //!
 //! ```text
 //! Partitions<T>, for tuples of three cells
-//!   shelves      ──▶ ┌ Shelf ─────────┐ ┌ Shelf ┐ ..  16 bytes each, all that `get` reads
-//!                    │ block   counts ┼─┼───────┼──▶ 256 numbers, one for each slot
-//!                    └───┼────────────┘ └───┼───┘
+//!   blocks       ──▶ ┌ Block ┐ ┌ Block ┐ ..  8 bytes each, all that `get` reads
+//!                    └───┼───┘ └───┼───┘
 //!                        └──▶ ┌──────┬──────┬──────┬──────┬──────┬──────┬─ .. ─┐
 //!                             │ cell │ cell │ cell │ cell │ cell │ cell │      │  one block of memory, 256 slots,
 //!                             └──────┴──────┴──────┴──────┴──────┴──────┴─ .. ─┘  each as long as three cells
 //!                              slot 0               slot 1
+//!   counts       ──▶ ┌ Counts ┐ ┌ Counts ┐ ..  where counts are kept, and else none
+//!                    └───┼────┘ └───┼────┘
+//!                        └──▶ 256 numbers, one for each slot
 //!   occupancies  ──▶ ┌ Occupancy ──────┐ ┌ Occupancy ──────┐ ..
 //!                    │ held: 256 bits  │ │                 │   which slots of the block hold a tuple
 //!                    │ next_open ──────┼─┼─▶ ..            │   the next partition with a free slot
@@ -27,6 +29,7 @@
 //!   read. Making a partition writes nothing to its places.
 //! - The list from `first_open` on has each partition with a free slot once, and no other.
 //! - Each slot is free or holds a tuple, so `len` is told by the number of partitions and `free`.
+//! - There are as many counts as blocks where counts are kept, and else none; then the count of each tuple is 0.
 //! - After `release_spares` the last partition holds a tuple, where there is a partition.
 //! - A block can't be let go, nor can a cell in it: it is given back to the allocator once, and only with all its places
 //!   empty.
@@ -36,10 +39,10 @@
 
 mod bitmap;
 mod block;
+mod counts;
 mod partition;
 mod raw;
 mod row;
-mod shelf;
 mod store;
 mod tuple_ref;
 

@@ -1,15 +1,17 @@
 //! All partitions of a store, and the list of those with a free slot. A look-up reads the blocks alone; a put and a take
 //! keep the bitmaps, the count of free slots and the list in step with them.
-ghost use Rattle.std.specs.Prelude.{◌≡◌, ◌↔◌, ℕ, Bool, ◌+◌, ◌-◌, ◌*◌, ◌<◌, ◌≤◌, [], true, false, None, Some, IfSome, IfOk, IsOk, OnErr, OnOk, length, map, sum_by, slice_index_or, slice_set};
+ghost use Rattle.std.specs.Prelude.{◌≡◌, ◌↔◌, ℕ, Bool, ◌+◌, ◌-◌, ◌*◌, ◌<◌, ◌≤◌, [], true, false, None, Some, IfSome, IfOk, IsOk, IsSome, IsTrue, OnErr, OnOk, ◌++◌, is_some, length, map, option_to_list, sum_by, slice_index_or, slice_set, take};
 ghost use Rattle.std.specs.FinMap as finite;
-ghost use Rattle.std.specs.Vec.{vec_capacity};
-ghost use Rattle.part_raw.specs.Store.{store, tuple, tuple_at, with_tuple, IsHeld, EndsHeld, free_reserved};
+ghost use Rattle.std.specs.Vec.{vec_len, vec_capacity};
+ghost use Rattle.part_raw.specs.Store.{store, tuple, tuple_at, with_tuple, IsHeld, HasNoCounts, EndsHeld, free_reserved};
+ghost use Rattle.part_raw.specs.Counted.{shelves_of};
 ghost use Rattle.part_raw.specs.Layout.{is_set, tuples_of, vacancies};
 ghost use Rattle.part_raw.specs.Open.{AreKept, IsOpenList, Tells, below, next_at, tables, words_at};
 
 use crate::bitmap::Bitmap;
-use crate::partition::{discard, empty, exchange, fill, give_back, new_shelf, vacate};
-use crate::shelf::Shelf;
+use crate::block::Block;
+use crate::counts::{Counts, count_at, new_counts, set_count_at};
+use crate::partition::{discard, empty, exchange, fill, vacate};
 use crate::{MAX_TUPLES, MAX_WIDTH, SLOTS, TupleRef};
 use no_memory::NoMemory;
 use std::alloc::Global;
@@ -26,15 +28,20 @@ struct Occupancy {
 /// Tuples that do not move, each under a reference that is its own while it is held.
 ///
 /// A store grows by partitions of `SLOTS` slots. `release_spares` gives back those at the end that hold no tuple.
+///
+/// It keeps no counts at first: the count of each tuple is 0. `keep_counts` gives it memory for them.
 pub struct Partitions<T> {
     alloc: Global,
     // How many cells a tuple has.
     width: usize,
-    // A look-up of a tuple reads this alone, so the shelves stand apart from what only `put`, `take` and `holds` read.
-    shelves: Vec<Shelf<T>>,
+    // A look-up of a tuple reads this alone, so the blocks stand apart from what only `put`, `take` and `holds` read.
+    blocks: Vec<Block<T>>,
+    // Those of each partition where counts are kept, and else none.
+    counts: Vec<Counts>,
     occupancies: Vec<Occupancy>,
     free: u64,
     first_open: Option<u32>,
+    counted: bool,
 }
 
 impl<T> Model for Partitions<T> {
@@ -45,11 +52,12 @@ impl<T> Model for Partitions<T> {
     ghost coded = { store_code T.code };
 
     ghost use Rattle.part_raw.specs.Layout.{tuples_of};
-    ghost use Rattle.part_raw.specs.Open.{tables, IsTable};
+    ghost use Rattle.part_raw.specs.Counted.{shelves_of};
+    ghost use Rattle.part_raw.specs.Open.{tables, IsStocked};
 
-    ghost view = { λ s. store s.width (tuples_of (tables s.width s.shelves.items)) s.free };
+    ghost view = { λ s. store s.width (tuples_of (tables s.width (shelves_of s.blocks.items s.counts.items))) s.free s.counted };
 
-    ghost invariant = { λ s. IsTable s.width s.shelves.items s.occupancies.items s.free s.first_open };
+    ghost invariant = { λ s. IsStocked s.counted s.width s.blocks.items s.counts.items s.occupancies.items s.free s.first_open };
 }
 
 /// Each tuple that is held is dropped, and each block is freed.
@@ -58,26 +66,28 @@ impl<T: Drop> Drop for Partitions<T> {
         let Partitions {
             alloc: _,
             width,
-            mut shelves,
+            mut blocks,
+            counts: _,
             mut occupancies,
             free: _,
             first_open: _,
+            counted: _,
         } = self;
-        while let Some(shelf) = shelves.pop() {
+        while let Some(block) = blocks.pop() {
             match occupancies.pop() {
-                Some(occupancy) => discard(occupancy.held, shelf, width),
+                Some(occupancy) => discard(occupancy.held, block, width),
                 None => unreachable!(),
             }
         }
-        shelves.destroy_empty();
+        blocks.destroy_empty();
     }
 }
 
 impl<T> Partitions<T> {
-    /// An empty store of tuples of so many cells. It takes no memory. Refused is a tuple of no cell, and one of more cells
-    /// than a store can address.
+    /// An empty store of tuples of so many cells, which keeps no counts. It takes no memory. Refused is a tuple of no cell,
+    /// and one of more cells than a store can address.
     pub fn new(alloc: Global, width: usize) -> Result<Partitions<T>, NoMemory>
-        ensures made { IfOk result (λ made. made ≡ store width finite.empty 0) }
+        ensures made { IfOk result (λ made. made ≡ store width finite.empty 0 false) }
         ensures told { IsOk result ↔ ((0 < width) × (width ≤ MAX_WIDTH)) }
     {
         if width == 0 || width > MAX_WIDTH {
@@ -86,10 +96,12 @@ impl<T> Partitions<T> {
         Ok(Partitions {
             alloc,
             width,
-            shelves: Vec::new(alloc),
+            blocks: Vec::new(alloc),
+            counts: Vec::new(alloc),
             occupancies: Vec::new(alloc),
             free: 0,
             first_open: None,
+            counted: false,
         })
     }
 
@@ -114,7 +126,7 @@ impl<T> Partitions<T> {
         ensures value { result ≡ finite.len self.now.tuples }
         ensures within { finite.len self.now.tuples + self.now.free ≤ MAX_TUPLES }
     {
-        self.shelves.len() as u64 * SLOTS as u64 - self.free
+        self.blocks.len() as u64 * SLOTS as u64 - self.free
     }
 
     /// The number of slots, free or not. The number of each reference under which a tuple is held is below it.
@@ -123,7 +135,7 @@ impl<T> Partitions<T> {
         ensures most { result ≤ MAX_TUPLES }
         ensures within { (r : TupleRef) → IsHeld self.now r → r.number < result }
     {
-        self.shelves.len() as u64 * SLOTS as u64
+        self.blocks.len() as u64 * SLOTS as u64
     }
 
     /// Makes sure of one free slot: a store with none gets a partition of `SLOTS` more.
@@ -136,11 +148,13 @@ impl<T> Partitions<T> {
         if self.free > 0 {
             return Ok(());
         }
-        self.shelves.reserve(1)?;
+        self.blocks.reserve(1)?;
         self.occupancies.reserve(1)?;
-        let shelf = new_shelf(self.alloc, self.width)?;
-        let part = self.shelves.len() as u32;
-        self.shelves.push_reserved(shelf);
+        let counts = next_counts(&mut self.counts, self.alloc, self.counted)?;
+        let block = Block::new(self.alloc, SLOTS as usize * self.width)?;
+        let part = self.blocks.len() as u32;
+        self.blocks.push_reserved(block);
+        push_next(&mut self.counts, counts);
         self.occupancies.push_reserved(Occupancy {
             held: Bitmap::new(),
             next_open: self.first_open,
@@ -158,6 +172,7 @@ impl<T> Partitions<T> {
         ensures tuples { self.new.tuples ≡ finite.insert self.old.tuples result (tuple cells.old.items 0) }
         ensures free { self.new.free + 1 ≡ self.old.free }
         ensures width { self.new.width ≡ self.old.width }
+        ensures counted { self.new.counted ≡ self.old.counted }
         ensures moved { cells.new.items ≡ [] }
         ensures capacity { vec_capacity cells.new ≡ vec_capacity cells.old }
     {
@@ -167,8 +182,9 @@ impl<T> Partitions<T> {
         };
         self.free -= 1;
         let occupancy = &mut self.occupancies[part as usize];
-        let shelf = &mut self.shelves[part as usize];
-        let slot = fill(&mut occupancy.held, shelf, cells);
+        let block = &mut self.blocks[part as usize];
+        let slot = fill(&mut occupancy.held, block, cells);
+        set_count_at(&mut self.counts, part, slot, 0);
         let r = TupleRef::to(part, slot);
         if occupancy.held.is_full() {
             self.first_open = occupancy.next_open;
@@ -192,9 +208,38 @@ impl<T> Partitions<T> {
     {
         let part = r.part();
         let slot = r.slot();
-        self.shelves[part as usize]
-            .block
-            .run(slot as usize * self.width, self.width)
+        self.blocks[part as usize].run(slot as usize * self.width, self.width)
+    }
+
+    /// Whether counts are kept. Where they are not, the count of each tuple is 0.
+    pub fn is_counted(&self) -> bool
+        ensures value { result ≡ self.now.counted }
+        ensures none { result ≡ false → HasNoCounts self.now }
+    {
+        self.counted
+    }
+
+    /// Makes memory for a count of each slot, also of those to come. Where counts are kept already, nothing is done.
+    pub fn keep_counts(&mut self) -> Result<(), NoMemory>
+        ensures ok { OnOk result (self.new ≡ record self.old { counted = true }) }
+        ensures err { OnErr result (self.new ≡ self.old) }
+        ensures had { IsTrue self.old.counted → IsOk result }
+    {
+        if self.counted {
+            return Ok(());
+        }
+        self.counts = new_counts(self.alloc, self.blocks.len())?;
+        self.counted = true;
+        Ok(())
+    }
+
+    /// Gives the memory of the counts back, each of which is 0. It takes no memory.
+    pub fn forget_counts(&mut self)
+        requires { HasNoCounts self.old }
+        ensures { self.new ≡ record self.old { counted = false } }
+    {
+        self.counts = Vec::new(self.alloc);
+        self.counted = false;
     }
 
     /// The count of the tuple under this reference. It is read where it is asked for.
@@ -202,19 +247,16 @@ impl<T> Partitions<T> {
         requires { IsHeld self.now r }
         ensures { IfSome (tuple_at self.now r) (λ t. t.count ≡ result.now) }
     {
-        let part = r.part();
-        let slot = r.slot();
-        &self.shelves[part as usize].counts[slot as usize]
+        count_at(&self.counts, r.part(), r.slot())
     }
 
-    /// Sets the count of the tuple under this reference.
+    /// Sets the count of the tuple under this reference, where counts are kept.
     pub fn set_count(&mut self, r: TupleRef, n: u64)
-        requires { IsHeld self.old r }
+        requires held { IsHeld self.old r }
+        requires counted { IsTrue self.old.counted }
         ensures { IfSome (tuple_at self.old r) (λ t. self.new ≡ with_tuple self.old r (tuple t.cells n)) }
     {
-        let part = r.part();
-        let slot = r.slot();
-        self.shelves[part as usize].counts[slot as usize] = n;
+        set_count_at(&mut self.counts, r.part(), r.slot(), n);
     }
 
     /// Puts a value in the place of a cell, and gives the one that was there.
@@ -227,7 +269,7 @@ impl<T> Partitions<T> {
         let part = r.part();
         let slot = r.slot();
         exchange(
-            &mut self.shelves[part as usize],
+            &mut self.blocks[part as usize],
             slot,
             self.width,
             column,
@@ -245,15 +287,17 @@ impl<T> Partitions<T> {
         ensures tuples { self.new.tuples ≡ finite.remove self.old.tuples r }
         ensures free { self.new.free ≡ self.old.free + 1 }
         ensures width { self.new.width ≡ self.old.width }
+        ensures counted { self.new.counted ≡ self.old.counted }
         ensures capacity { vec_capacity cells.new ≡ vec_capacity cells.old }
     {
         self.free += 1;
         let part = r.part();
         let slot = r.slot();
         let occupancy = &mut self.occupancies[part as usize];
-        let shelf = &mut self.shelves[part as usize];
+        let block = &mut self.blocks[part as usize];
         let was_full = occupancy.held.is_full();
-        let count = vacate(&mut occupancy.held, shelf, slot, self.width, cells);
+        vacate(&mut occupancy.held, block, slot, self.width, cells);
+        let count = *count_at(&self.counts, part, slot);
         if was_full {
             occupancy.next_open = self.first_open;
             self.first_open = Some(part);
@@ -269,14 +313,15 @@ impl<T> Partitions<T> {
         ensures tuples { self.new.tuples ≡ finite.remove self.old.tuples r }
         ensures free { self.new.free ≡ self.old.free + 1 }
         ensures width { self.new.width ≡ self.old.width }
+        ensures counted { self.new.counted ≡ self.old.counted }
     {
         self.free += 1;
         let part = r.part();
         let slot = r.slot();
         let occupancy = &mut self.occupancies[part as usize];
-        let shelf = &mut self.shelves[part as usize];
+        let block = &mut self.blocks[part as usize];
         let was_full = occupancy.held.is_full();
-        empty(&mut occupancy.held, shelf, slot, self.width);
+        empty(&mut occupancy.held, block, slot, self.width);
         if was_full {
             occupancy.next_open = self.first_open;
             self.first_open = Some(part);
@@ -289,15 +334,21 @@ impl<T> Partitions<T> {
         ensures tuples { self.new.tuples ≡ self.old.tuples }
         ensures width { self.new.width ≡ self.old.width }
         ensures free { self.new.free ≤ self.old.free }
+        ensures counted { self.new.counted ≡ self.old.counted }
         ensures last { EndsHeld self.new }
     {
         if !ends_spare(&self.occupancies) {
             return;
         }
         let len = self.len();
-        pop_spares(&mut self.shelves, &mut self.occupancies, self.width);
+        pop_spares(
+            &mut self.blocks,
+            &mut self.counts,
+            &mut self.occupancies,
+            self.width,
+        );
         self.first_open = relink(&mut self.occupancies);
-        self.free = self.shelves.len() as u64 * SLOTS as u64 - len;
+        self.free = self.blocks.len() as u64 * SLOTS as u64 - len;
     }
 }
 
@@ -311,23 +362,60 @@ fn ends_spare(occupancies: &Vec<Occupancy>) -> bool
     n > 0 && occupancies[n - 1].held.first_set().is_none()
 }
 
+// Room for the counts of one partition more, where counts are kept, and these, each 0.
+fn next_counts(
+    counts: &mut Vec<Counts>,
+    alloc: Global,
+    counted: bool,
+) -> Result<Option<Counts>, NoMemory>
+    ensures items { counts.new.items ≡ counts.old.items }
+    ensures made { IfOk result (λ next. is_some next ≡ counted) }
+    ensures room { IfOk result (λ next. IsSome next → vec_len counts.new < vec_capacity counts.new) }
+{
+    if !counted {
+        return Ok(None);
+    }
+    counts.reserve(1)?;
+    let next = Counts::new(alloc)?;
+    Ok(Some(next))
+}
+
+// Puts the counts of one partition more behind the others, if there are any.
+fn push_next(counts: &mut Vec<Counts>, next: Option<Counts>)
+    requires { IsSome next → vec_len counts.old < vec_capacity counts.old }
+    ensures { counts.new.items ≡ counts.old.items ++ option_to_list next }
+{
+    if let Some(next) = next {
+        counts.push_reserved(next);
+    }
+}
+
 // Gives each partition back that lies behind the last tuple.
-fn pop_spares<T>(shelves: &mut Vec<Shelf<T>>, occupancies: &mut Vec<Occupancy>, width: usize)
+fn pop_spares<T>(
+    blocks: &mut Vec<Block<T>>,
+    counts: &mut Vec<Counts>,
+    occupancies: &mut Vec<Occupancy>,
+    width: usize,
+)
     requires wide { (0 < width) × (width ≤ MAX_WIDTH) }
-    requires kept { AreKept width shelves.old.items occupancies.old.items }
-    ensures kept { AreKept width shelves.new.items occupancies.new.items }
-    ensures tuples { tuples_of (tables width shelves.new.items) ≡ tuples_of (tables width shelves.old.items) }
-    ensures fewer { length shelves.new.items ≤ length shelves.old.items }
-    ensures freed { sum_by vacancies (tables width shelves.new.items) + SLOTS * length shelves.old.items ≡ sum_by vacancies (tables width shelves.old.items) + SLOTS * length shelves.new.items }
+    requires kept { AreKept width (shelves_of blocks.old.items counts.old.items) occupancies.old.items }
+    ensures kept { AreKept width (shelves_of blocks.new.items counts.new.items) occupancies.new.items }
+    ensures tuples { tuples_of (tables width (shelves_of blocks.new.items counts.new.items)) ≡ tuples_of (tables width (shelves_of blocks.old.items counts.old.items)) }
+    ensures fewer { length blocks.new.items ≤ length blocks.old.items }
+    ensures counts { counts.new.items ≡ take (length blocks.new.items) counts.old.items }
+    ensures freed { sum_by vacancies (tables width (shelves_of blocks.new.items counts.new.items)) + SLOTS * length blocks.old.items
+        ≡ sum_by vacancies (tables width (shelves_of blocks.old.items counts.old.items)) + SLOTS * length blocks.new.items }
     ensures last { 0 < length occupancies.new.items → (slot : ℕ) × (slot < SLOTS) × (is_set (words_at occupancies.new.items (length occupancies.new.items - 1)) slot ≡ true) }
 {
     while ends_spare(occupancies) {
-        match (shelves.pop(), occupancies.pop()) {
-            (Some(shelf), Some(_)) => give_back(shelf, width),
+        match (blocks.pop(), occupancies.pop()) {
+            (Some(block), Some(_)) => block.free(SLOTS as usize * width),
             _ => unreachable!(),
         }
     }
-    shelves.shrink_to_fit();
+    counts.truncate(blocks.len());
+    blocks.shrink_to_fit();
+    counts.shrink_to_fit();
     occupancies.shrink_to_fit();
 }
 

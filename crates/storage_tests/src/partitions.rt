@@ -1,9 +1,11 @@
 //! A store on worked tuples: how many slots are free, what is given back, and how often a cell is dropped.
 
+use no_memory::NoMemory;
 use part_raw::{MAX_TUPLES, MAX_WIDTH, Partitions, TupleRef};
 use std::alloc::Global;
 use std::cell::Cell;
 use std::process::Abort;
+use std::test::Fail;
 
 /// A cell with a number, which counts its drops.
 struct Counted<'a> {
@@ -139,12 +141,62 @@ fn a_count_stands_beside_the_cells(rt: HostRuntime) {
     let mut store = store_of(&rt, rt.alloc(), 3);
     let refs = fill(&rt, rt.alloc(), &mut store, &drops, 2);
     let r = *refs.as_slice().get(1).expect(&rt, "a reference");
-    assert!(&rt; store.holds(r));
+    assert!(&rt; store.holds(r) && !store.is_counted());
+    assert!(&rt; *store.count(r) == 0);
+    assert!(&rt; store.keep_counts().is_ok());
+    assert!(&rt; store.holds(r) && store.is_counted());
     assert!(&rt; *store.count(r) == 0);
     store.set_count(r, 5);
     assert!(&rt; has(&store, r, &[1, 1, 1]));
     assert!(&rt; store.holds(r));
     assert!(&rt; *store.count(r) == 5);
+    let later = fill(&rt, rt.alloc(), &mut store, &drops, 300);
+    let last = *later.as_slice().last().expect(&rt, "a reference");
+    assert!(&rt; store.holds(last) && store.is_counted());
+    store.set_count(last, 7);
+    assert!(&rt; store.holds(r) && *store.count(r) == 5);
+    assert!(&rt; store.holds(last) && *store.count(last) == 7);
+}
+
+/// Counts are kept of 300 tuples, or of none where that is refused.
+fn keep_counts_of_300(rt: &impl Abort, alloc: Global) -> Result<(), NoMemory> {
+    let mut store = Partitions::new(alloc, 1)?;
+    let mut cells = Vec::new(alloc);
+    for number in 0u64..300 {
+        if store.len() >= MAX_TUPLES || store.width() != 1 {
+            return Err(NoMemory);
+        }
+        cells.push(number)?;
+        store.reserve()?;
+        store.put(&mut cells);
+    }
+    let kept = store.keep_counts().is_ok();
+    assert!(rt; store.is_counted() == kept);
+    assert!(rt; store.len() == 300 && store.free() == 212);
+    Ok(())
+}
+
+#[test]
+fn counting_under_refusal(rt: HostRuntime) {
+    let _ = keep_counts_of_300(&rt, rt.alloc());
+}
+
+/// It names the moments at which `tests/test_given_back.py` compares what is held.
+#[test]
+fn counts_are_forgotten(rt: HostRuntime) -> Result<(), Fail> {
+    let mut store = Partitions::<u64>::new(rt.alloc(), 1)?;
+    println!(rt; "held: nothing")?;
+    assert!(&rt; store.len() < MAX_TUPLES);
+    store.reserve()?;
+    println!(rt; "held: uncounted")?;
+    assert!(&rt; !store.is_counted());
+    store.keep_counts()?;
+    println!(rt; "held: counted")?;
+    store.forget_counts();
+    println!(rt; "held: forgotten")?;
+    store.release_spares();
+    println!(rt; "held: released")?;
+    Ok(())
 }
 
 #[test]

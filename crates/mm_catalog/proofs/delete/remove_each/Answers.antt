@@ -5,6 +5,7 @@ use Rattle.part_raw.proofs.Tuples.{held_tuple}
 use Rattle.mm_relation.specs.State.{IsCurrent, linked_keys}
 use Rattle.mm_catalog.proofs.Removing.{AreRemoved-none, AreRemoved-more, AreUnlinked-none, AreUnlinked-more, still_there, links_held, enough_for_row, keys_still}
 use Rattle.mm_catalog.specs.Linked.{row_links}
+use Rattle.mm_catalog.specs.Counted.{LeadIntoCounted}
 use Rattle.mm_catalog.proofs.Counted.{all_held_still}
 use Rattle.mm_catalog.proofs.delete.remove_each.Goals as goal
 
@@ -28,8 +29,9 @@ count_down_links-requires-clause-named c row at =
     let r = get_or c.args.rows.now c.loop-r.r-index (record { number = 0 }) in
     let current : IsCurrent (linked_keys c.loop-r.relation.targets c.args.before.now) c.loop-r.relation =
     subst (λ targets. IsCurrent (linked_keys targets c.args.before.now) c.loop-r.relation) (sym c.loop-r.invariant.removed.keeps.targets) c.loop-r.invariant.current in
+    let counted : LeadIntoCounted c.args.before.now c.loop-r.relation.targets = subst (LeadIntoCounted c.args.before.now) (sym c.loop-r.invariant.removed.keeps.targets) c.requires.stands.counted in
     all_held_still c.args.before.now c.loop-r.before (row_links c.loop-r.relation.targets row) c.loop-r.invariant.unlinked.counted.recounted
-    (links_held c.args.before.now c.loop-r.relation r row current at)
+    (links_held c.args.before.now c.loop-r.relation r row current counted at)
 
 pub count_down_links-requires-clause-enough : goal.count_down_links-requires-clause-enough
 count_down_links-requires-clause-enough c row at =

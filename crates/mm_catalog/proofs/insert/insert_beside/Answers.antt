@@ -17,7 +17,7 @@ take_in-requires-clause-readable c =
 
 pub take_in-requires-clause-links : goal.take_in-requires-clause-links
 take_in-requires-clause-links c =
-    cells_held c.args.before.now c.args.relation.now.targets c.args.key c.args.values.items c.in_ok-cells.cells c.in_ok-cells.ensures.cells (sym c.requires.width)
+    cells_held c.args.before.now c.args.relation.now.targets c.args.key c.args.values.items c.in_ok-cells.cells c.in_ok-cells.ensures.cells (sym c.requires.width) c.requires.stands.counted
 
 pub returns-clause-refused : goal.returns-clause-refused
 returns-clause-refused c =

@@ -22,7 +22,7 @@ count_down_links-requires-clause-held c =
 pub count_down_links-requires-clause-named : goal.count_down_links-requires-clause-named
 count_down_links-requires-clause-named c = λ row at.
     all_held_still c.args.before.now c.loop-r.before (row_links c.args.relation.now.targets row) c.loop-r.invariant.counted.recounted
-    (links_held c.args.before.now c.args.relation.now c.in-Some.r row c.requires.current at)
+    (links_held c.args.before.now c.args.relation.now c.in-Some.r row c.requires.current c.requires.counted at)
 
 pub count_down_links-requires-clause-enough : goal.count_down_links-requires-clause-enough
 count_down_links-requires-clause-enough c = λ row at.

@@ -45,6 +45,7 @@ loop-r-init g c =
       declared = refl;
       room = subst (λ n. HaveRoom n c.args.indexes.now) all c.requires.room;
       width = refl;
+      counted = refl;
       copies = c.requires.ready ∙ ap (λ n. pile n c.args.sets.now) all;
     }
 
@@ -56,6 +57,7 @@ loop-r-preserved g c = record {
   declared = c.change_row.ensures.declared ∙ c.loop-r.invariant.declared;
   room = room_next (length c.args.rs.now) c.loop-r.r-index c.loop-r.indexes c.change_row.new.indexes (omega arith) c.change_row.ensures.room c.loop-r.invariant.room;
   width = c.change_row.ensures.width ∙ c.loop-r.invariant.width;
+  counted = c.change_row.ensures.counted ∙ c.loop-r.invariant.counted;
   copies = c.change_row.ensures.left _ (c.loop-r.invariant.copies ∙ pile_split (length c.args.rs.now) c.loop-r.r-index c.args.sets.now (omega arith));
 }
 

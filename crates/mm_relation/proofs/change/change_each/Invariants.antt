@@ -12,5 +12,6 @@ invariant-loop-r g l = record {
   declared : map declaration_of l.indexes ≡ map declaration_of l.fn.indexes;
   room : HaveRoom (length l.rs - l.r-index) l.indexes;
   width : l.rows.width ≡ l.fn.rows.width;
+  counted : l.rows.counted ≡ l.fn.rows.counted;
   copies : l.copies.items ≡ pile (length l.rs - l.r-index) l.sets;
 }

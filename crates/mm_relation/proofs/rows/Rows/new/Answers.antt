@@ -1,4 +1,4 @@
-use Rattle.std.proofs.Common.{ap}
+use Rattle.std.proofs.Common.{ap, false}
 use Rattle.part_raw.proofs.Mapped.{mapped-empty}
 use Rattle.mm_relation.specs.Rows.{row_in, row_store}
 use Rattle.mm_relation.proofs.Stored.{whole_none}
@@ -8,4 +8,4 @@ pub invariant_of-result : goal.invariant_of-result
 invariant_of-result c = rw c.in_ok-store.ensures.made (whole_none c.args.width)
 
 pub returns : goal.returns
-returns c = rw c.in_ok-store.ensures.made (ap (λ tuples. row_store c.args.width tuples 0) (mapped-empty row_in))
+returns c = rw c.in_ok-store.ensures.made (ap (λ tuples. row_store c.args.width tuples 0 false) (mapped-empty row_in))

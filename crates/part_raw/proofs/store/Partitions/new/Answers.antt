@@ -1,13 +1,16 @@
-use Rattle.std.proofs.Common.{ap, arith, ◌∙◌}
+use Rattle.std.proofs.Common.{ap, arith, false, ◌∙◌}
 use Rattle.part_raw.specs.Store.{store}
+use Rattle.part_raw.specs.Counted.{shelves_of}
 use Rattle.part_raw.specs.Layout.{tuples_of}
 use Rattle.part_raw.proofs.Parts.{tuples_of-none}
 use Rattle.part_raw.specs.Open.{tables}
-use Rattle.part_raw.proofs.Tables.{IsTable-empty}
+use Rattle.part_raw.proofs.Filled.{stocked_empty, shelves_of-none}
 use Rattle.part_raw.proofs.store.Partitions.new.Goals as goal
 
 pub invariant_of-result : goal.invariant_of-result
-invariant_of-result g c = rw (c.new.ensures.items, c.new-2.ensures.items) (IsTable-empty c.args.width (omega (arith, c.if-width-eq0.false)) (omega (arith, c.if-width-gt-MAX_WIDTH.false)))
+invariant_of-result g c = rw (c.new.ensures.items, c.new-2.ensures.items, c.new-3.ensures.items) (stocked_empty c.args.width (omega (arith, c.if-width-eq0.false)) (omega (arith, c.if-width-gt-MAX_WIDTH.false)))
 
 pub returns-clause-made : goal.returns-clause-made
-returns-clause-made g c = ap (λ blocks. store c.args.width (tuples_of (tables c.args.width blocks)) 0) c.new.ensures.items ∙ ap (λ tuples. store c.args.width tuples 0) tuples_of-none
+returns-clause-made g c =
+    ap (λ blocks. store c.args.width (tuples_of (tables c.args.width (shelves_of blocks c.new-2.result.items))) 0 false) c.new.ensures.items
+    ∙ ap (λ shelves. store c.args.width (tuples_of (tables c.args.width shelves)) 0 false) (shelves_of-none c.new-2.result.items) ∙ ap (λ tuples. store c.args.width tuples 0 false) tuples_of-none

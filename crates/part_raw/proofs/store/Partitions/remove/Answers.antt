@@ -1,107 +1,51 @@
-use Rattle.std.proofs.Common.{arith, subst, IsSome, is_some, ap, None, refl, sym, ◌∙◌}
+use Rattle.std.proofs.Common.{arith, None, refl, sym, ◌∙◌}
 use Rattle.std.proofs.lemmas.Bool.{true≢false}
-use Rattle.common_lemmas.proofs.Options.{is_some-Some}
-use Rattle.part_raw.proofs.Rows.{slot_within}
-use Rattle.part_raw.proofs.Shelves.{held_cells}
-use Rattle.part_raw.proofs.Tables.{length-tables, table_within, found_row, laid_at, bits_of_table, take_full, take_open, rows-taken}
+use Rattle.part_raw.proofs.Stocked.{as_many, part_within, laid_here, bits_here, held_here, stocked_full, stocked_open, freed_tuples}
 use Rattle.part_raw.proofs.store.Partitions.remove.Goals as goal
 
 pub index_mut-occupancy-requires : goal.index_mut-occupancy-requires
 index_mut-occupancy-requires g c =
-    omega (
-      arith,
-      table_within c.self.inside.width c.self.inside.shelves.items c.args.r c.part-part.result c.part-part.ensures.value (rw (← c.self.view_is) at c.requires),
-      length-tables c.self.inside.width c.self.inside.shelves.items,
-      c.self.invariant.store.mapped.as_many,
-      c.self.inside.occupancies.ok,
-    )
+    let held = rw (← c.self.view_is) at c.requires in
+    omega (arith, part_within _ _ _ _ _ _ _ c.self.invariant c.args.r c.part-part.result c.slot-slot.result c.part-part.ensures.value c.slot-slot.ensures.value held, as_many _ _ _ _ _ _ _ c.self.invariant, c.self.inside.occupancies.ok)
 
-pub index_mut-shelf-requires : goal.index_mut-shelf-requires
-index_mut-shelf-requires g c = omega (arith, table_within c.self.inside.width c.self.inside.shelves.items c.args.r c.part-part.result c.part-part.ensures.value (rw (← c.self.view_is) at c.requires), c.self.inside.shelves.ok)
+pub index_mut-block-requires : goal.index_mut-block-requires
+index_mut-block-requires g c =
+    let held = rw (← c.self.view_is) at c.requires in
+    omega (arith, part_within _ _ _ _ _ _ _ c.self.invariant c.args.r c.part-part.result c.slot-slot.result c.part-part.ensures.value c.slot-slot.ensures.value held, c.self.inside.blocks.ok)
 
 pub empty-requires-clause-laid : goal.empty-requires-clause-laid
 empty-requires-clause-laid g c =
     let held = rw (← c.self.view_is) at c.requires in
-    laid_at _ _ _ _ _ c.self.invariant c.part-part.result c.index_mut-shelf.result.now (table_within _ _ c.args.r c.part-part.result c.part-part.ensures.value held) c.index_mut-shelf.ensures.value
+    laid_here _ _ _ _ _ _ _ c.self.invariant c.part-part.result c.index_mut-block.result.now (part_within _ _ _ _ _ _ _ c.self.invariant c.args.r c.part-part.result c.slot-slot.result c.part-part.ensures.value c.slot-slot.ensures.value held) c.index_mut-block.ensures.value
 
 pub empty-requires-clause-bits : goal.empty-requires-clause-bits
 empty-requires-clause-bits g c =
     let held = rw (← c.self.view_is) at c.requires in
-    bits_of_table _ _ _ _ _ c.self.invariant c.part-part.result c.index_mut-shelf.result.now c.index_mut-occupancy.result.now (table_within _ _ c.args.r c.part-part.result c.part-part.ensures.value held) c.index_mut-shelf.ensures.value c.index_mut-occupancy.ensures.value
+    bits_here _ _ _ _ _ _ _ c.self.invariant c.part-part.result c.index_mut-block.result.now c.index_mut-occupancy.result.now (part_within _ _ _ _ _ _ _ c.self.invariant c.args.r c.part-part.result c.slot-slot.result c.part-part.ensures.value c.slot-slot.ensures.value held)
+    c.index_mut-block.ensures.value c.index_mut-occupancy.ensures.value
 
 pub empty-requires-clause-held : goal.empty-requires-clause-held
-empty-requires-clause-held g c =
-    let held = rw (← c.self.view_is) at c.requires in
-    subst IsSome (found_row c.self.inside.width c.self.inside.shelves.items c.args.r c.part-part.result c.slot-slot.result c.index_mut-shelf.result.now c.part-part.ensures.value c.slot-slot.ensures.value held c.index_mut-shelf.ensures.value) held
+empty-requires-clause-held g c = held_here _ _ _ _ _ _ _ c.self.invariant c.args.r c.part-part.result c.slot-slot.result c.part-part.ensures.value c.slot-slot.ensures.value (rw (← c.self.view_is) at c.requires) c.index_mut-block.result.now c.index_mut-block.ensures.value
 
 pub invariant_of-self : goal.invariant_of-self
 invariant_of-self g c =
-    let held = rw (← c.self.view_is) at c.requires in
-    let within = table_within _ _ c.args.r c.part-part.result c.part-part.ensures.value held in
-    let found = found_row c.self.inside.width c.self.inside.shelves.items c.args.r c.part-part.result c.slot-slot.result c.index_mut-shelf.result.now c.part-part.ensures.value c.slot-slot.ensures.value held c.index_mut-shelf.ensures.value in
-    let row = is_some-Some _ held in
-    take_full c.self.inside.width c.self.inside.shelves.items c.self.inside.occupancies.items c.index_mut-shelf.result.now _ c.index_mut-occupancy.result.now _ c.part-part.result c.slot-slot.result
-    c.self.inside.free c.self.inside.first_open row.0 c.self.invariant
-    (record {
-      within = within;
-      read = c.index_mut-shelf.ensures.value;
-      read_bits = c.index_mut-occupancy.ensures.value;
-      laid = c.empty.ensures.laid;
-      bits = c.empty.ensures.bits;
-      in_range = slot_within c.self.inside.width c.slot-slot.result c.index_mut-shelf.result.now.block (held_cells c.self.inside.width c.index_mut-shelf.result.now.block c.index_mut-shelf.result.now.counts.value c.slot-slot.result (sym (ap is_some found) ∙ held));
-      slots = c.empty.ensures.slots;
-    })
-    (bits_of_table _ _ _ _ _ c.self.invariant c.part-part.result c.index_mut-shelf.result.now c.index_mut-occupancy.result.now within c.index_mut-shelf.ensures.value c.index_mut-occupancy.ensures.value)
-    (sym found ∙ row.1) (c.is_full-was_full.ensures.0 c.if-was_full.true) refl
+    stocked_full _ _ _ _ _ _ _ c.self.invariant c.args.r c.part-part.result c.slot-slot.result c.part-part.ensures.value c.slot-slot.ensures.value (rw (← c.self.view_is) at c.requires) c.index_mut-block.result.now c.empty.new.block c.index_mut-occupancy.result.now _
+    c.index_mut-block.ensures.value c.index_mut-occupancy.ensures.value c.empty.ensures.laid c.empty.ensures.bits c.empty.ensures.slots (c.is_full-was_full.ensures.0 c.if-was_full.true) refl
 
 pub invariant_of-self-else-was_full : goal.invariant_of-self-else-was_full
 invariant_of-self-else-was_full g c =
-    let held = rw (← c.self.view_is) at c.requires in
-    let within = table_within _ _ c.args.r c.part-part.result c.part-part.ensures.value held in
-    let found = found_row c.self.inside.width c.self.inside.shelves.items c.args.r c.part-part.result c.slot-slot.result c.index_mut-shelf.result.now c.part-part.ensures.value c.slot-slot.ensures.value held c.index_mut-shelf.ensures.value in
-    let row = is_some-Some _ held in
-    take_open c.self.inside.width c.self.inside.shelves.items c.self.inside.occupancies.items c.index_mut-shelf.result.now _ c.index_mut-occupancy.result.now _ c.part-part.result c.slot-slot.result
-    c.self.inside.free c.self.inside.first_open row.0 c.self.invariant
-    (record {
-      within = within;
-      read = c.index_mut-shelf.ensures.value;
-      read_bits = c.index_mut-occupancy.ensures.value;
-      laid = c.empty.ensures.laid;
-      bits = c.empty.ensures.bits;
-      in_range = slot_within c.self.inside.width c.slot-slot.result c.index_mut-shelf.result.now.block (held_cells c.self.inside.width c.index_mut-shelf.result.now.block c.index_mut-shelf.result.now.counts.value c.slot-slot.result (sym (ap is_some found) ∙ held));
-      slots = c.empty.ensures.slots;
-    })
-    (bits_of_table _ _ _ _ _ c.self.invariant c.part-part.result c.index_mut-shelf.result.now c.index_mut-occupancy.result.now within c.index_mut-shelf.ensures.value c.index_mut-occupancy.ensures.value)
-    (sym found ∙ row.1) (λ full. true≢false (sym (c.is_full-was_full.ensures.1 full) ∙ c.if-was_full.false)) refl
+    stocked_open _ _ _ _ _ _ _ c.self.invariant c.args.r c.part-part.result c.slot-slot.result c.part-part.ensures.value c.slot-slot.ensures.value (rw (← c.self.view_is) at c.requires) c.index_mut-block.result.now c.empty.new.block c.index_mut-occupancy.result.now _
+    c.index_mut-block.ensures.value c.index_mut-occupancy.ensures.value c.empty.ensures.laid c.empty.ensures.bits c.empty.ensures.slots
+    (λ full. true≢false (sym (c.is_full-was_full.ensures.1 full) ∙ c.if-was_full.false)) refl
 
 pub returns-then-was_full-clause-tuples : goal.returns-then-was_full-clause-tuples
 returns-then-was_full-clause-tuples g c =
-    let held = rw (← c.self.view_is) at c.requires in
-    let found = found_row c.self.inside.width c.self.inside.shelves.items c.args.r c.part-part.result c.slot-slot.result c.index_mut-shelf.result.now c.part-part.ensures.value c.slot-slot.ensures.value held c.index_mut-shelf.ensures.value in
     rw (← c.self.view_is)
-    (rows-taken c.self.inside.width c.self.inside.shelves.items c.self.inside.occupancies.items c.index_mut-shelf.result.now _ c.index_mut-occupancy.result.now (record { held = c.empty.new.held; next_open = None }) c.part-part.result c.slot-slot.result c.args.r c.part-part.ensures.value c.slot-slot.ensures.value
-    (record {
-      within = table_within _ _ c.args.r c.part-part.result c.part-part.ensures.value held;
-      read = c.index_mut-shelf.ensures.value;
-      read_bits = c.index_mut-occupancy.ensures.value;
-      laid = c.empty.ensures.laid;
-      bits = c.empty.ensures.bits;
-      in_range = slot_within c.self.inside.width c.slot-slot.result c.index_mut-shelf.result.now.block (held_cells c.self.inside.width c.index_mut-shelf.result.now.block c.index_mut-shelf.result.now.counts.value c.slot-slot.result (sym (ap is_some found) ∙ held));
-      slots = c.empty.ensures.slots;
-    }))
+    (freed_tuples _ _ _ _ _ _ _ c.self.invariant c.args.r c.part-part.result c.slot-slot.result c.part-part.ensures.value c.slot-slot.ensures.value (rw (← c.self.view_is) at c.requires) c.index_mut-block.result.now c.empty.new.block c.index_mut-occupancy.result.now (record { held = c.empty.new.held; next_open = None })
+    c.index_mut-block.ensures.value c.index_mut-occupancy.ensures.value c.empty.ensures.laid c.empty.ensures.bits c.empty.ensures.slots)
 
 pub returns-else-was_full-clause-tuples : goal.returns-else-was_full-clause-tuples
 returns-else-was_full-clause-tuples g c =
-    let held = rw (← c.self.view_is) at c.requires in
-    let found = found_row c.self.inside.width c.self.inside.shelves.items c.args.r c.part-part.result c.slot-slot.result c.index_mut-shelf.result.now c.part-part.ensures.value c.slot-slot.ensures.value held c.index_mut-shelf.ensures.value in
     rw (← c.self.view_is)
-    (rows-taken c.self.inside.width c.self.inside.shelves.items c.self.inside.occupancies.items c.index_mut-shelf.result.now _ c.index_mut-occupancy.result.now (record { held = c.empty.new.held; next_open = None }) c.part-part.result c.slot-slot.result c.args.r c.part-part.ensures.value c.slot-slot.ensures.value
-    (record {
-      within = table_within _ _ c.args.r c.part-part.result c.part-part.ensures.value held;
-      read = c.index_mut-shelf.ensures.value;
-      read_bits = c.index_mut-occupancy.ensures.value;
-      laid = c.empty.ensures.laid;
-      bits = c.empty.ensures.bits;
-      in_range = slot_within c.self.inside.width c.slot-slot.result c.index_mut-shelf.result.now.block (held_cells c.self.inside.width c.index_mut-shelf.result.now.block c.index_mut-shelf.result.now.counts.value c.slot-slot.result (sym (ap is_some found) ∙ held));
-      slots = c.empty.ensures.slots;
-    }))
+    (freed_tuples _ _ _ _ _ _ _ c.self.invariant c.args.r c.part-part.result c.slot-slot.result c.part-part.ensures.value c.slot-slot.ensures.value (rw (← c.self.view_is) at c.requires) c.index_mut-block.result.now c.empty.new.block c.index_mut-occupancy.result.now (record { held = c.empty.new.held; next_open = None })
+    c.index_mut-block.ensures.value c.index_mut-occupancy.ensures.value c.empty.ensures.laid c.empty.ensures.bits c.empty.ensures.slots)

@@ -1,44 +1,46 @@
-use Rattle.std.proofs.Common.{arith, subst, IsSome, ap, sym, ◌∙◌}
+use Rattle.std.proofs.Common.{arith, ap}
 use Rattle.part_raw.specs.Store.{store}
 use Rattle.common_lemmas.proofs.Options.{is_some-Some}
-use Rattle.part_raw.proofs.Tables.{table_within, found_row, laid_at, table-exchanged, rows-exchanged}
+use Rattle.part_raw.proofs.Stocked.{part_within, laid_here, held_here, row_here, exchanged_stocked, exchanged_tuples}
 use Rattle.part_raw.proofs.store.Partitions.replace.Goals as goal
 
 pub index_mut-requires : goal.index_mut-requires
-index_mut-requires g c = omega (arith, table_within c.self.inside.width c.self.inside.shelves.items c.args.r c.part-part.result c.part-part.ensures.value (rw (← c.self.view_is) at c.requires.held), c.self.inside.shelves.ok)
+index_mut-requires g c =
+    let held = rw (← c.self.view_is) at c.requires.held in
+    omega (arith, part_within _ _ _ _ _ _ _ c.self.invariant c.args.r c.part-part.result c.slot-slot.result c.part-part.ensures.value c.slot-slot.ensures.value held, c.self.inside.blocks.ok)
 
 pub exchange-requires-clause-laid : goal.exchange-requires-clause-laid
 exchange-requires-clause-laid g c =
     let held = rw (← c.self.view_is) at c.requires.held in
-    laid_at _ _ _ _ _ c.self.invariant c.part-part.result c.index_mut.result.now (table_within _ _ c.args.r c.part-part.result c.part-part.ensures.value held) c.index_mut.ensures.value
+    let within = part_within _ _ _ _ _ _ _ c.self.invariant c.args.r c.part-part.result c.slot-slot.result c.part-part.ensures.value c.slot-slot.ensures.value held in
+    laid_here _ _ _ _ _ _ _ c.self.invariant c.part-part.result c.index_mut.result.now within c.index_mut.ensures.value
 
 pub exchange-requires-clause-held : goal.exchange-requires-clause-held
 exchange-requires-clause-held g c =
-    let held = rw (← c.self.view_is) at c.requires.held in
-    subst IsSome (found_row c.self.inside.width c.self.inside.shelves.items c.args.r c.part-part.result c.slot-slot.result c.index_mut.result.now c.part-part.ensures.value c.slot-slot.ensures.value held c.index_mut.ensures.value) held
+    held_here _ _ _ _ _ _ _ c.self.invariant c.args.r c.part-part.result c.slot-slot.result c.part-part.ensures.value c.slot-slot.ensures.value (rw (← c.self.view_is) at c.requires.held) c.index_mut.result.now c.index_mut.ensures.value
 
 pub invariant_of-self : goal.invariant_of-self
 invariant_of-self g c =
     let held = rw (← c.self.view_is) at c.requires.held in
-    let found = found_row c.self.inside.width c.self.inside.shelves.items c.args.r c.part-part.result c.slot-slot.result c.index_mut.result.now c.part-part.ensures.value c.slot-slot.ensures.value held c.index_mut.ensures.value in
-    let row = is_some-Some _ held in
-    table-exchanged c.self.inside.width c.self.inside.shelves.items c.self.inside.occupancies.items c.self.inside.free c.self.inside.first_open c.self.invariant c.index_mut.result.now _ c.part-part.result c.slot-slot.result row.0 _
-    (table_within _ _ c.args.r c.part-part.result c.part-part.ensures.value held) c.index_mut.ensures.value c.exchange.ensures.laid (sym found ∙ row.1) (c.exchange.ensures.slots row.0.cells row.0.count (sym found ∙ row.1))
+    let t = is_some-Some _ held in
+    let row = (row_here _ _ _ _ _ _ _ c.self.invariant c.args.r c.part-part.result c.slot-slot.result c.part-part.ensures.value c.slot-slot.ensures.value held c.index_mut.result.now t.0 c.index_mut.ensures.value t.1).0 in
+    exchanged_stocked _ _ _ _ _ _ _ c.self.invariant c.args.r c.part-part.result c.slot-slot.result c.part-part.ensures.value c.slot-slot.ensures.value held c.index_mut.result.now c.exchange.new.block t.0 _ c.index_mut.ensures.value t.1
+    c.exchange.ensures.laid (c.exchange.ensures.slots t.0.cells row)
 
 pub returns-clause-value : goal.returns-clause-value
 returns-clause-value g c =
     let held = rw (← c.self.view_is) at c.requires.held in
-    let found = found_row c.self.inside.width c.self.inside.shelves.items c.args.r c.part-part.result c.slot-slot.result c.index_mut.result.now c.part-part.ensures.value c.slot-slot.ensures.value held c.index_mut.ensures.value in
-    let row = is_some-Some _ held in
-    rw (← c.self.view_is) (rw row.1 (c.exchange.ensures.value row.0.cells row.0.count (sym found ∙ row.1)))
+    let t = is_some-Some _ held in
+    let row = (row_here _ _ _ _ _ _ _ c.self.invariant c.args.r c.part-part.result c.slot-slot.result c.part-part.ensures.value c.slot-slot.ensures.value held c.index_mut.result.now t.0 c.index_mut.ensures.value t.1).0 in
+    rw (← c.self.view_is) (rw t.1 (c.exchange.ensures.value t.0.cells row))
 
 pub returns-clause-tuples : goal.returns-clause-tuples
 returns-clause-tuples g c =
     let held = rw (← c.self.view_is) at c.requires.held in
-    let found = found_row c.self.inside.width c.self.inside.shelves.items c.args.r c.part-part.result c.slot-slot.result c.index_mut.result.now c.part-part.ensures.value c.slot-slot.ensures.value held c.index_mut.ensures.value in
-    let row = is_some-Some _ held in
+    let t = is_some-Some _ held in
+    let row = (row_here _ _ _ _ _ _ _ c.self.invariant c.args.r c.part-part.result c.slot-slot.result c.part-part.ensures.value c.slot-slot.ensures.value held c.index_mut.result.now t.0 c.index_mut.ensures.value t.1).0 in
     rw (← c.self.view_is)
-    (rw row.1
-    (ap (λ tuples. store c.self.inside.width tuples c.self.inside.free)
-    (rows-exchanged c.self.inside.width c.self.inside.shelves.items c.index_mut.result.now _ c.args.r c.part-part.result c.slot-slot.result row.0 _ c.part-part.ensures.value c.slot-slot.ensures.value
-    (table_within _ _ c.args.r c.part-part.result c.part-part.ensures.value held) c.index_mut.ensures.value (sym found ∙ row.1) (c.exchange.ensures.slots row.0.cells row.0.count (sym found ∙ row.1)))))
+    (rw t.1
+    (ap (λ tuples. store c.self.inside.width tuples c.self.inside.free c.self.inside.counted)
+    (exchanged_tuples _ _ _ _ _ _ _ c.self.invariant c.args.r c.part-part.result c.slot-slot.result c.part-part.ensures.value c.slot-slot.ensures.value held c.index_mut.result.now c.exchange.new.block t.0 _ c.index_mut.ensures.value t.1
+    c.exchange.ensures.laid (c.exchange.ensures.slots t.0.cells row))))

@@ -1,119 +1,67 @@
-use Rattle.std.proofs.Common.{arith, subst, IsSome, is_some, ap, None, refl, sym, ◌∙◌}
+use Rattle.std.proofs.Common.{[], get_or, arith, ap, None, Some, refl, sym, ◌∙◌}
 use Rattle.std.proofs.lemmas.Bool.{true≢false}
-use Rattle.common_lemmas.proofs.Options.{is_some-Some}
-use Rattle.part_raw.proofs.Rows.{slot_within}
-use Rattle.part_raw.proofs.Shelves.{held_cells}
-use Rattle.part_raw.proofs.Tables.{length-tables, table_within, found_row, laid_at, bits_of_table, take_full, take_open, rows-taken}
+use Rattle.part_raw.proofs.Stocked.{as_many, part_within, laid_here, bits_here, held_here, stocked_full, stocked_open, freed_tuples, found_here}
+use Rattle.part_raw.specs.Store.{tuple}
+use Rattle.part_raw.specs.Counted.{with_count}
 use Rattle.part_raw.proofs.store.Partitions.take.Goals as goal
 
 pub index_mut-occupancy-requires : goal.index_mut-occupancy-requires
 index_mut-occupancy-requires g c =
-    omega (
-      arith,
-      table_within c.self.inside.width c.self.inside.shelves.items c.args.r c.part-part.result c.part-part.ensures.value (rw (← c.self.view_is) at c.requires.held),
-      length-tables c.self.inside.width c.self.inside.shelves.items,
-      c.self.invariant.store.mapped.as_many,
-      c.self.inside.occupancies.ok,
-    )
-
-pub index_mut-shelf-requires : goal.index_mut-shelf-requires
-index_mut-shelf-requires g c = omega (arith, table_within c.self.inside.width c.self.inside.shelves.items c.args.r c.part-part.result c.part-part.ensures.value (rw (← c.self.view_is) at c.requires.held), c.self.inside.shelves.ok)
-
-pub vacate-count-requires-clause-laid : goal.vacate-count-requires-clause-laid
-vacate-count-requires-clause-laid g c =
     let held = rw (← c.self.view_is) at c.requires.held in
-    laid_at _ _ _ _ _ c.self.invariant c.part-part.result c.index_mut-shelf.result.now (table_within _ _ c.args.r c.part-part.result c.part-part.ensures.value held) c.index_mut-shelf.ensures.value
+    omega (arith, part_within _ _ _ _ _ _ _ c.self.invariant c.args.r c.part-part.result c.slot-slot.result c.part-part.ensures.value c.slot-slot.ensures.value held, as_many _ _ _ _ _ _ _ c.self.invariant, c.self.inside.occupancies.ok)
 
-pub vacate-count-requires-clause-bits : goal.vacate-count-requires-clause-bits
-vacate-count-requires-clause-bits g c =
+pub index_mut-block-requires : goal.index_mut-block-requires
+index_mut-block-requires g c =
     let held = rw (← c.self.view_is) at c.requires.held in
-    bits_of_table _ _ _ _ _ c.self.invariant c.part-part.result c.index_mut-shelf.result.now c.index_mut-occupancy.result.now (table_within _ _ c.args.r c.part-part.result c.part-part.ensures.value held) c.index_mut-shelf.ensures.value c.index_mut-occupancy.ensures.value
+    omega (arith, part_within _ _ _ _ _ _ _ c.self.invariant c.args.r c.part-part.result c.slot-slot.result c.part-part.ensures.value c.slot-slot.ensures.value held, c.self.inside.blocks.ok)
 
-pub vacate-count-requires-clause-held : goal.vacate-count-requires-clause-held
-vacate-count-requires-clause-held g c =
+pub vacate-requires-clause-laid : goal.vacate-requires-clause-laid
+vacate-requires-clause-laid g c =
     let held = rw (← c.self.view_is) at c.requires.held in
-    subst IsSome (found_row c.self.inside.width c.self.inside.shelves.items c.args.r c.part-part.result c.slot-slot.result c.index_mut-shelf.result.now c.part-part.ensures.value c.slot-slot.ensures.value held c.index_mut-shelf.ensures.value) held
+    laid_here _ _ _ _ _ _ _ c.self.invariant c.part-part.result c.index_mut-block.result.now (part_within _ _ _ _ _ _ _ c.self.invariant c.args.r c.part-part.result c.slot-slot.result c.part-part.ensures.value c.slot-slot.ensures.value held) c.index_mut-block.ensures.value
+
+pub vacate-requires-clause-bits : goal.vacate-requires-clause-bits
+vacate-requires-clause-bits g c =
+    let held = rw (← c.self.view_is) at c.requires.held in
+    bits_here _ _ _ _ _ _ _ c.self.invariant c.part-part.result c.index_mut-block.result.now c.index_mut-occupancy.result.now (part_within _ _ _ _ _ _ _ c.self.invariant c.args.r c.part-part.result c.slot-slot.result c.part-part.ensures.value c.slot-slot.ensures.value held)
+    c.index_mut-block.ensures.value c.index_mut-occupancy.ensures.value
+
+pub vacate-requires-clause-held : goal.vacate-requires-clause-held
+vacate-requires-clause-held g c = held_here _ _ _ _ _ _ _ c.self.invariant c.args.r c.part-part.result c.slot-slot.result c.part-part.ensures.value c.slot-slot.ensures.value (rw (← c.self.view_is) at c.requires.held) c.index_mut-block.result.now c.index_mut-block.ensures.value
 
 pub invariant_of-self : goal.invariant_of-self
 invariant_of-self g c =
-    let held = rw (← c.self.view_is) at c.requires.held in
-    let within = table_within _ _ c.args.r c.part-part.result c.part-part.ensures.value held in
-    let found = found_row c.self.inside.width c.self.inside.shelves.items c.args.r c.part-part.result c.slot-slot.result c.index_mut-shelf.result.now c.part-part.ensures.value c.slot-slot.ensures.value held c.index_mut-shelf.ensures.value in
-    let row = is_some-Some _ held in
-    take_full c.self.inside.width c.self.inside.shelves.items c.self.inside.occupancies.items c.index_mut-shelf.result.now _ c.index_mut-occupancy.result.now _ c.part-part.result c.slot-slot.result
-    c.self.inside.free c.self.inside.first_open row.0 c.self.invariant
-    (record {
-      within = within;
-      read = c.index_mut-shelf.ensures.value;
-      read_bits = c.index_mut-occupancy.ensures.value;
-      laid = c.vacate-count.ensures.laid;
-      bits = c.vacate-count.ensures.bits;
-      in_range = slot_within c.self.inside.width c.slot-slot.result c.index_mut-shelf.result.now.block (held_cells c.self.inside.width c.index_mut-shelf.result.now.block c.index_mut-shelf.result.now.counts.value c.slot-slot.result (sym (ap is_some found) ∙ held));
-      slots = c.vacate-count.ensures.slots;
-    })
-    (bits_of_table _ _ _ _ _ c.self.invariant c.part-part.result c.index_mut-shelf.result.now c.index_mut-occupancy.result.now within c.index_mut-shelf.ensures.value c.index_mut-occupancy.ensures.value)
-    (sym found ∙ row.1) (c.is_full-was_full.ensures.0 c.if-was_full.true) refl
+    stocked_full _ _ _ _ _ _ _ c.self.invariant c.args.r c.part-part.result c.slot-slot.result c.part-part.ensures.value c.slot-slot.ensures.value (rw (← c.self.view_is) at c.requires.held) c.index_mut-block.result.now c.vacate.new.block c.index_mut-occupancy.result.now _
+    c.index_mut-block.ensures.value c.index_mut-occupancy.ensures.value c.vacate.ensures.laid c.vacate.ensures.bits c.vacate.ensures.slots (c.is_full-was_full.ensures.0 c.if-was_full.true) refl
 
 pub invariant_of-self-else-was_full : goal.invariant_of-self-else-was_full
 invariant_of-self-else-was_full g c =
-    let held = rw (← c.self.view_is) at c.requires.held in
-    let within = table_within _ _ c.args.r c.part-part.result c.part-part.ensures.value held in
-    let found = found_row c.self.inside.width c.self.inside.shelves.items c.args.r c.part-part.result c.slot-slot.result c.index_mut-shelf.result.now c.part-part.ensures.value c.slot-slot.ensures.value held c.index_mut-shelf.ensures.value in
-    let row = is_some-Some _ held in
-    take_open c.self.inside.width c.self.inside.shelves.items c.self.inside.occupancies.items c.index_mut-shelf.result.now _ c.index_mut-occupancy.result.now _ c.part-part.result c.slot-slot.result
-    c.self.inside.free c.self.inside.first_open row.0 c.self.invariant
-    (record {
-      within = within;
-      read = c.index_mut-shelf.ensures.value;
-      read_bits = c.index_mut-occupancy.ensures.value;
-      laid = c.vacate-count.ensures.laid;
-      bits = c.vacate-count.ensures.bits;
-      in_range = slot_within c.self.inside.width c.slot-slot.result c.index_mut-shelf.result.now.block (held_cells c.self.inside.width c.index_mut-shelf.result.now.block c.index_mut-shelf.result.now.counts.value c.slot-slot.result (sym (ap is_some found) ∙ held));
-      slots = c.vacate-count.ensures.slots;
-    })
-    (bits_of_table _ _ _ _ _ c.self.invariant c.part-part.result c.index_mut-shelf.result.now c.index_mut-occupancy.result.now within c.index_mut-shelf.ensures.value c.index_mut-occupancy.ensures.value)
-    (sym found ∙ row.1) (λ full. true≢false (sym (c.is_full-was_full.ensures.1 full) ∙ c.if-was_full.false)) refl
+    stocked_open _ _ _ _ _ _ _ c.self.invariant c.args.r c.part-part.result c.slot-slot.result c.part-part.ensures.value c.slot-slot.ensures.value (rw (← c.self.view_is) at c.requires.held) c.index_mut-block.result.now c.vacate.new.block c.index_mut-occupancy.result.now _
+    c.index_mut-block.ensures.value c.index_mut-occupancy.ensures.value c.vacate.ensures.laid c.vacate.ensures.bits c.vacate.ensures.slots
+    (λ full. true≢false (sym (c.is_full-was_full.ensures.1 full) ∙ c.if-was_full.false)) refl
 
 pub returns-then-was_full-clause-tuples : goal.returns-then-was_full-clause-tuples
 returns-then-was_full-clause-tuples g c =
-    let held = rw (← c.self.view_is) at c.requires.held in
-    let found = found_row c.self.inside.width c.self.inside.shelves.items c.args.r c.part-part.result c.slot-slot.result c.index_mut-shelf.result.now c.part-part.ensures.value c.slot-slot.ensures.value held c.index_mut-shelf.ensures.value in
     rw (← c.self.view_is)
-    (rows-taken c.self.inside.width c.self.inside.shelves.items c.self.inside.occupancies.items c.index_mut-shelf.result.now _ c.index_mut-occupancy.result.now (record { held = c.vacate-count.new.held; next_open = None }) c.part-part.result c.slot-slot.result c.args.r c.part-part.ensures.value c.slot-slot.ensures.value
-    (record {
-      within = table_within _ _ c.args.r c.part-part.result c.part-part.ensures.value held;
-      read = c.index_mut-shelf.ensures.value;
-      read_bits = c.index_mut-occupancy.ensures.value;
-      laid = c.vacate-count.ensures.laid;
-      bits = c.vacate-count.ensures.bits;
-      in_range = slot_within c.self.inside.width c.slot-slot.result c.index_mut-shelf.result.now.block (held_cells c.self.inside.width c.index_mut-shelf.result.now.block c.index_mut-shelf.result.now.counts.value c.slot-slot.result (sym (ap is_some found) ∙ held));
-      slots = c.vacate-count.ensures.slots;
-    }))
-
-pub returns-then-was_full-clause-tuple : goal.returns-then-was_full-clause-tuple
-returns-then-was_full-clause-tuple g c =
-    let held = rw (← c.self.view_is) at c.requires.held in
-    let found = found_row c.self.inside.width c.self.inside.shelves.items c.args.r c.part-part.result c.slot-slot.result c.index_mut-shelf.result.now c.part-part.ensures.value c.slot-slot.ensures.value held c.index_mut-shelf.ensures.value in
-    rw (← c.self.view_is) (found ∙ c.vacate-count.ensures.tuple)
+    (freed_tuples _ _ _ _ _ _ _ c.self.invariant c.args.r c.part-part.result c.slot-slot.result c.part-part.ensures.value c.slot-slot.ensures.value (rw (← c.self.view_is) at c.requires.held) c.index_mut-block.result.now c.vacate.new.block c.index_mut-occupancy.result.now (record { held = c.vacate.new.held; next_open = None })
+    c.index_mut-block.ensures.value c.index_mut-occupancy.ensures.value c.vacate.ensures.laid c.vacate.ensures.bits c.vacate.ensures.slots)
 
 pub returns-else-was_full-clause-tuples : goal.returns-else-was_full-clause-tuples
 returns-else-was_full-clause-tuples g c =
-    let held = rw (← c.self.view_is) at c.requires.held in
-    let found = found_row c.self.inside.width c.self.inside.shelves.items c.args.r c.part-part.result c.slot-slot.result c.index_mut-shelf.result.now c.part-part.ensures.value c.slot-slot.ensures.value held c.index_mut-shelf.ensures.value in
     rw (← c.self.view_is)
-    (rows-taken c.self.inside.width c.self.inside.shelves.items c.self.inside.occupancies.items c.index_mut-shelf.result.now _ c.index_mut-occupancy.result.now (record { held = c.vacate-count.new.held; next_open = None }) c.part-part.result c.slot-slot.result c.args.r c.part-part.ensures.value c.slot-slot.ensures.value
-    (record {
-      within = table_within _ _ c.args.r c.part-part.result c.part-part.ensures.value held;
-      read = c.index_mut-shelf.ensures.value;
-      read_bits = c.index_mut-occupancy.ensures.value;
-      laid = c.vacate-count.ensures.laid;
-      bits = c.vacate-count.ensures.bits;
-      in_range = slot_within c.self.inside.width c.slot-slot.result c.index_mut-shelf.result.now.block (held_cells c.self.inside.width c.index_mut-shelf.result.now.block c.index_mut-shelf.result.now.counts.value c.slot-slot.result (sym (ap is_some found) ∙ held));
-      slots = c.vacate-count.ensures.slots;
-    }))
+    (freed_tuples _ _ _ _ _ _ _ c.self.invariant c.args.r c.part-part.result c.slot-slot.result c.part-part.ensures.value c.slot-slot.ensures.value (rw (← c.self.view_is) at c.requires.held) c.index_mut-block.result.now c.vacate.new.block c.index_mut-occupancy.result.now (record { held = c.vacate.new.held; next_open = None })
+    c.index_mut-block.ensures.value c.index_mut-occupancy.ensures.value c.vacate.ensures.laid c.vacate.ensures.bits c.vacate.ensures.slots)
+
+pub returns-then-was_full-clause-tuple : goal.returns-then-was_full-clause-tuple
+returns-then-was_full-clause-tuple g c =
+    rw (← c.self.view_is)
+    (found_here _ _ _ _ _ _ _ c.self.invariant c.args.r c.part-part.result c.slot-slot.result c.part-part.ensures.value c.slot-slot.ensures.value (rw (← c.self.view_is) at c.requires.held) c.index_mut-block.result.now c.index_mut-block.ensures.value
+    ∙ ap (λ row. with_count row (get_or (get_or c.self.inside.counts.items c.part-part.result []) c.slot-slot.result 0)) c.vacate.ensures.row
+    ∙ ap (λ n. Some (tuple c.vacate.new.cells.items n)) (sym c.count_at-count.ensures))
 
 pub returns-else-was_full-clause-tuple : goal.returns-else-was_full-clause-tuple
 returns-else-was_full-clause-tuple g c =
-    let held = rw (← c.self.view_is) at c.requires.held in
-    let found = found_row c.self.inside.width c.self.inside.shelves.items c.args.r c.part-part.result c.slot-slot.result c.index_mut-shelf.result.now c.part-part.ensures.value c.slot-slot.ensures.value held c.index_mut-shelf.ensures.value in
-    rw (← c.self.view_is) (found ∙ c.vacate-count.ensures.tuple)
+    rw (← c.self.view_is)
+    (found_here _ _ _ _ _ _ _ c.self.invariant c.args.r c.part-part.result c.slot-slot.result c.part-part.ensures.value c.slot-slot.ensures.value (rw (← c.self.view_is) at c.requires.held) c.index_mut-block.result.now c.index_mut-block.ensures.value
+    ∙ ap (λ row. with_count row (get_or (get_or c.self.inside.counts.items c.part-part.result []) c.slot-slot.result 0)) c.vacate.ensures.row
+    ∙ ap (λ n. Some (tuple c.vacate.new.cells.items n)) (sym c.count_at-count.ensures))

@@ -1,0 +1,38 @@
+-- The blocks of a store that is dropped, with their bitmaps, the last first.
+use Rattle.std.proofs.Common.{◌≡◌, ℕ, ◌<◌, Bool, List, [], ◌∷◌, ◌++◌, map, length, get_or, Option, refl, sym, ◌∙◌, arith, subst}
+use Rattle.std.proofs.lemmas.List.{length-map, length_push, get_or-map, get_or_push, map-append}
+use Rattle.part_raw.specs.declared.store.Occupancy.{Occupancy}
+use Rattle.part_raw.specs.Rows.{IsLaid, rows_in}
+use Rattle.part_raw.specs.Layout.{IsPartition}
+use Rattle.part_raw.specs.Counted.{shelf}
+use Rattle.part_raw.specs.Open.{words_at, slots_at, HaveBitmaps, IsStocked}
+use Rattle.part_raw.proofs.Bitmaps.{bits_in, bits_of_last, HaveBitmaps-front, get_or-push_other}
+use Rattle.part_raw.proofs.Parts.{Blocks}
+use Rattle.part_raw.proofs.Shelves.{bits-rows}
+use Rattle.part_raw.proofs.Stocked.{as_many, bits_here_at}
+
+module _ {T : Type 0} (counted : Bool) (width : ℕ) (blocks : List (List (Option T))) (counts : List (List ℕ)) (occupancies : List Occupancy) (free : ℕ) (first : Option ℕ)
+    (is : IsStocked counted width blocks counts occupancies free first) where
+  -- each block's rows have their bitmap, whatever is counted
+  pub row_bitmaps : HaveBitmaps (map (rows_in width) blocks) occupancies
+  row_bitmaps = record {
+    as_many = as_many counted width blocks counts occupancies free first is ∙ sym (length-map blocks (rows_in width));
+    bits = λ part within. bits_here_at counted width blocks counts occupancies free first is part (omega (arith, within, length-map blocks (rows_in width)));
+  }
+
+module _ {T : Type 0} (width : ℕ) (blocks : List (List (Option T))) (block : List (Option T)) (occupancies : List Occupancy) (o : Occupancy)
+    (laid : (part : ℕ) (b : List (Option T)) → part < length (blocks ++ block ∷ []) → b ≡ get_or (blocks ++ block ∷ []) part b → IsLaid width b) (mapped : HaveBitmaps (map (rows_in width) (blocks ++ block ∷ [])) (occupancies ++ o ∷ [])) where
+  split : HaveBitmaps (map (rows_in width) blocks ++ rows_in width block ∷ []) (occupancies ++ o ∷ [])
+  split = subst (λ (rows : Blocks (List T)). HaveBitmaps rows (occupancies ++ o ∷ [])) (map-append (rows_in width) blocks (block ∷ [])) mapped
+
+  pub last_laid : IsLaid width block
+  last_laid = laid (length blocks) block (omega (arith, length_push blocks block)) (sym (get_or_push blocks block block (length blocks) refl))
+
+  pub last_bits : IsPartition o.held.words (rows_in width block)
+  last_bits = bits_of_last (map (rows_in width) blocks) occupancies (rows_in width block) o split
+
+  pub front_laid : (part : ℕ) (b : List (Option T)) → part < length blocks → b ≡ get_or blocks part b → IsLaid width b
+  front_laid part b below read = laid part b (omega (arith, below, length_push blocks block)) (read ∙ sym (get_or-push_other blocks part block b (λ e. omega (arith, e, below))))
+
+  pub front_mapped : HaveBitmaps (map (rows_in width) blocks) occupancies
+  front_mapped = HaveBitmaps-front (map (rows_in width) blocks) occupancies (rows_in width block) o split

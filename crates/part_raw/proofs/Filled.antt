@@ -1,0 +1,127 @@
+-- A store with its counts beside it, as a free slot is filled, and as a partition comes.
+use Rattle.std.proofs.Common.{◌≡◌, ℕ, ◌+◌, ◌-◌, ◌*◌, ◌^◌, ◌<◌, ◌≤◌, zero, suc, Bool, true, false, if◌then◌else◌, List, [], ◌∷◌, ◌++◌, map, length, get_or, set, take, Option, Some, None, is_some, IsSome, refl, sym, ap, ◌∙◌, arith, subst}
+use Rattle.std.proofs.lemmas.List.{length-set, length-map, length-append, length-take, length_push, map-append, get_or-map}
+use Rattle.std.proofs.Math.ListN.{replicate}
+use Rattle.std.specs.Prelude.{option_to_list}
+use Rattle.std.specs.FinMap.{get, insert, remove, len}
+use Rattle.common_lemmas.proofs.Options.{is_some-Some}
+use Rattle.part_raw.specs.declared.tuple_ref.TupleRef.{TupleRef}
+use Rattle.part_raw.specs.declared.store.Occupancy.{Occupancy}
+use Rattle.part_raw.specs.Store.{Tuple, tuple}
+use Rattle.part_raw.specs.Rows.{IsLaid, rows_in}
+use Rattle.part_raw.specs.Counted.{Shelf, shelf, shelves_of, tuples_in, with_count}
+use Rattle.part_raw.specs.TupleRefs.{ref_to, part_of, slot_of}
+use Rattle.part_raw.specs.Layout.{is_set, vacancies, tuples_of, IsPartition}
+use Rattle.part_raw.specs.Open.{tables, HaveBitmaps, IsTable, IsStocked}
+use Rattle.part_raw.proofs.Refs.{slot_of-within}
+use Rattle.part_raw.proofs.WithCounts.{counted-get, with_count-is, row_held, row_free}
+use Rattle.part_raw.proofs.Shelves.{bits-shown, bits-rows, vacancies-shown, shown-freed, shown-exchanged, shown-put, shown-counted, shown-empty}
+use Rattle.part_raw.proofs.Beside.{length-shelves_of, shelves_of-get, shelves_of-set, shelves_of-set_both, shelves_of-set_counts, shelves_of-push, shelves_of-grown}
+use Rattle.part_raw.proofs.Stocked.{read_here}
+use Rattle.part_raw.proofs.Tables.{Changes, length-tables, table_within, found_row, laid_at, bits_of_table, open_within, open_has_slot, fresh-put, put_full, put_open, rows-put, take_full, take_open, rows-taken, table-pushed, rows-pushed, IsTable-empty}
+
+-- ---- a free slot of the first partition that has one is filled
+
+module _ {T : Type 0} (counted : Bool) (width : ℕ) (blocks : List (List (Option T))) (counts : List (List ℕ)) (occupancies : List Occupancy) (free part : ℕ)
+    (is : IsStocked counted width blocks counts occupancies free (Some part)) where
+  pub first_within : part < length blocks
+  first_within = omega (arith, open_within width (shelves_of blocks counts) occupancies free part is.table, length-shelves_of blocks counts)
+
+  pub first_has_slot : (block : List (Option T)) → block ≡ get_or blocks part block → 0 < vacancies (rows_in width block)
+  first_has_slot block read =
+      omega (arith, vacancies-shown width block (get_or counts part []), open_has_slot width (shelves_of blocks counts) occupancies free part is.table (shelf block (get_or counts part [])) (read_here counted width blocks counts occupancies free (Some part) is part block first_within read))
+
+  module _ (block new : List (Option T)) (o o' : Occupancy) (slot : ℕ) (cells : List T) (counts' : List (List ℕ)) (wide : length cells ≡ width) (read : block ≡ get_or blocks part block) (read_bits : o ≡ get_or occupancies part o)
+      (laid : IsLaid (length cells) new) (bits : IsPartition o'.held.words (rows_in (length cells) new)) (in_range : slot < 256) (fresh : get_or (rows_in (length cells) block) slot None ≡ None)
+      (slots : rows_in (length cells) new ≡ set (rows_in (length cells) block) slot (Some cells)) (set_is : counts' ≡ set counts part (set (get_or counts part []) slot 0)) where
+    abbrev shelves : List (Shelf T)
+    shelves = shelves_of blocks counts
+
+    abbrev was_here : Shelf T
+    was_here = shelf block (get_or counts part [])
+
+    abbrev is_here : Shelf T
+    is_here = shelf new (set (get_or counts part []) slot 0)
+
+    filling : Changes width shelves occupancies was_here is_here o o' part slot (Some (tuple cells 0))
+    filling = record {
+      within = omega (arith, first_within, length-shelves_of blocks counts);
+      read = read_here counted width blocks counts occupancies free (Some part) is part block first_within read;
+      read_bits = read_bits;
+      laid = subst (λ (n : ℕ). IsLaid n new) wide laid;
+      bits = bits-shown width new (set (get_or counts part []) slot 0) o'.held.words (subst (λ (n : ℕ). IsPartition o'.held.words (rows_in n new)) wide bits);
+      in_range = in_range;
+      slots = shown-put width block (get_or counts part []) new slot cells (subst (λ (n : ℕ). rows_in n new ≡ set (rows_in n block) slot (Some cells)) wide slots);
+    }
+
+    was_free : get_or (tuples_in width was_here) slot None ≡ None
+    was_free =
+        counted-get (rows_in width block) (get_or counts part []) slot
+        ∙ ap (λ row. with_count row (get_or (get_or counts part []) slot 0)) (subst (λ (n : ℕ). get_or (rows_in n block) slot None ≡ None) wide fresh)
+
+    same_shelves : shelves_of (set blocks part new) counts' ≡ set shelves part is_here
+    same_shelves = ap (shelves_of (set blocks part new)) set_is ∙ shelves_of-set_both blocks counts part slot 0 new
+
+    stock : (occupancies' : List Occupancy) (free' : ℕ) (first' : Option ℕ) → IsTable width (set shelves part is_here) occupancies' free' first' → IsStocked counted width (set blocks part new) counts' occupancies' free' first'
+    stock occupancies' free' first' table = record {
+      beside = ap length set_is ∙ length-set counts part (set (get_or counts part []) slot 0) ∙ is.beside ∙ ap (λ (n : ℕ). if counted then n else 0) (sym (length-set blocks part new));
+      table = subst (λ (s : List (Shelf T)). IsTable width s occupancies' free' first') (sym same_shelves) table;
+    }
+
+    pub filled_full : 0 < free → ((slot : ℕ) → slot < 256 → is_set o'.held.words slot ≡ true) → IsStocked counted width (set blocks part new) counts' (set occupancies part o') (free - 1) o.next_open
+    filled_full some full =
+        stock (set occupancies part o') (free - 1) o.next_open (put_full width shelves occupancies was_here is_here o o' part slot free (tuple cells 0) is.table filling was_free some full)
+
+    pub filled_open : 0 < free → (((slot : ℕ) → slot < 256 → is_set o'.held.words slot ≡ true) → ⊥) → o'.next_open ≡ o.next_open
+        → IsStocked counted width (set blocks part new) counts' (set occupancies part o') (free - 1) (Some part)
+    filled_open some still next =
+        stock (set occupancies part o') (free - 1) (Some part) (put_open width shelves occupancies was_here is_here o o' part slot free (tuple cells 0) is.table filling was_free some still next)
+
+    pub filled_fresh : get (tuples_of (tables width shelves)) (ref_to part slot) ≡ None
+    filled_fresh = fresh-put width shelves occupancies was_here is_here o o' part slot (tuple cells 0) filling was_free
+
+    pub filled_tuples : tuples_of (tables width (shelves_of (set blocks part new) counts')) ≡ insert (tuples_of (tables width shelves)) (ref_to part slot) (tuple cells 0)
+    filled_tuples =
+        ap (λ (s : List (Shelf T)). tuples_of (tables width s)) same_shelves
+        ∙ rows-put width shelves occupancies was_here is_here o o' part slot (tuple cells 0) filling
+
+-- ---- a partition more
+
+module _ {T : Type 0} (counted : Bool) (width : ℕ) (blocks : List (List (Option T))) (counts : List (List ℕ)) (occupancies : List Occupancy) (first : Option ℕ)
+    (is : IsStocked counted width blocks counts occupancies 0 first) (new : List (Option T)) (next : Option (List ℕ)) (empty : new ≡ replicate (256 * width) None) (made : is_some next ≡ counted) where
+  abbrev pushed : List (Shelf T)
+  pushed = shelves_of blocks counts ++ shelf new (get_or (counts ++ option_to_list next) (length blocks) []) ∷ []
+
+  same_pushed : shelves_of (blocks ++ new ∷ []) (counts ++ option_to_list next) ≡ pushed
+  same_pushed =
+      shelves_of-push blocks (counts ++ option_to_list next) new
+      ∙ ap (λ (s : List (Shelf T)). s ++ shelf new (get_or (counts ++ option_to_list next) (length blocks) []) ∷ []) (shelves_of-grown counted blocks counts next is.beside made)
+
+  pub pushed_stocked : (o : Occupancy) (part : ℕ) → ((slot : ℕ) → slot < 256 → is_set o.held.words slot ≡ false) → o.next_open ≡ first → part ≡ length blocks
+      → len (tuples_of (tables width (shelves_of blocks counts))) < 2 ^ 32 → IsStocked counted width (blocks ++ new ∷ []) (counts ++ option_to_list next) (occupancies ++ o ∷ []) 256 (Some part)
+  pushed_stocked o part clear next_is at room = record {
+    beside = grown counted next is.beside made;
+    table = subst (λ (s : List (Shelf T)). IsTable width s (occupancies ++ o ∷ []) 256 (Some part)) (sym same_pushed)
+        (table-pushed width (shelves_of blocks counts) occupancies (shelf new (get_or (counts ++ option_to_list next) (length blocks) [])) o first part is.table empty clear next_is
+        (at ∙ sym (length-shelves_of blocks counts)) room);
+  }
+    where
+      grown : (b : Bool) (n : Option (List ℕ)) → length counts ≡ (if b then length blocks else 0) → is_some n ≡ b → length (counts ++ option_to_list n) ≡ (if b then length (blocks ++ new ∷ []) else 0)
+      grown true (Some n) beside made = omega (arith, beside, length-append counts (n ∷ []), length_push blocks new)
+      grown true None beside made = absurd (cc)
+      grown false (Some n) beside made = absurd (cc)
+      grown false None beside made = let none : List (List ℕ) = [] in omega (arith, beside, length-append counts none)
+
+  pub pushed_tuples : tuples_of (tables width (shelves_of (blocks ++ new ∷ []) (counts ++ option_to_list next))) ≡ tuples_of (tables width (shelves_of blocks counts))
+  pushed_tuples =
+      ap (λ (s : List (Shelf T)). tuples_of (tables width s)) same_pushed
+      ∙ rows-pushed width (shelves_of blocks counts) (shelves_of blocks counts) pushed (shelf new (get_or (counts ++ option_to_list next) (length blocks) [])) is.table.wide refl refl empty
+
+-- ---- a store with no partition
+
+pub shelves_of-none : {T : Type 0} (counts : List (List ℕ)) → shelves_of {T = T} [] counts ≡ []
+unfolding shelves_of
+shelves_of-none counts = refl
+
+pub stocked_empty : {T : Type 0} (width : ℕ) → 0 < width → width ≤ 65536 → IsStocked {T = T} false width [] [] [] 0 None
+stocked_empty {T} width wide fits = record { beside = refl; table = subst (λ (s : List (Shelf T)). IsTable width s [] 0 None) (sym (shelves_of-none [])) (IsTable-empty width wide fits) }
