@@ -163,11 +163,10 @@ fn keep_counts_of_300(rt: &impl Abort, alloc: Global) -> Result<(), NoMemory> {
     let mut store = Partitions::new(alloc, 1)?;
     let mut cells = Vec::new(alloc);
     for number in 0u64..300 {
-        if store.len() >= MAX_TUPLES || store.width() != 1 {
-            return Err(NoMemory);
-        }
+        assert!(rt; store.len() < MAX_TUPLES);
         cells.push(number)?;
         store.reserve()?;
+        assert!(rt; cells.len() == store.width());
         store.put(&mut cells);
     }
     let kept = store.keep_counts().is_ok();
