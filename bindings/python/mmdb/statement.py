@@ -1,0 +1,85 @@
+"""Statements that are prepared once and done many times."""
+
+from __future__ import annotations
+
+import re
+from typing import TYPE_CHECKING, Any, Iterable, Mapping, Tuple, Union
+
+from .errors import WrongUse
+from .handles import Handle, Prepared
+from .lines import STATEMENTS, check_kind, placed
+from .rows import Rows
+from .values import Value
+
+if TYPE_CHECKING:
+    from .database import Parameters
+
+
+class Statement(Prepared):
+    """An insert, an update, a delete or a select that is prepared once, to be done many times.
+
+    `Database.prepare` gives one. Used as a context manager, it is closed at the end, and so it is with its database.
+    Each call of a closed one but `close` raises ValueError.
+    """
+
+    def __init__(self, database: Handle, line: str) -> None:
+        check_kind("prepare", line, *STATEMENTS)
+        #: The line that it was made of.
+        self.line = line
+        self._database = database
+        self._placed = placed(line)
+        super().__init__(database, self._placed)
+
+    if TYPE_CHECKING:
+        # (this is that of the handle, so that what goes well doesn't come by here)
+
+        def execute(self, /, *parameters: Any, **named: Value) -> Union[Rows, int]:
+            """Does it with these parameters, and gives its rows, or how many rows it was about.
+
+            Raises what `Database.execute` raises.
+            """
+
+    def executemany(self, rows: Iterable[Parameters]) -> int:
+        """Does an insert, an update or a delete with each row of parameters, and gives how many rows all were about.
+
+        It is as `Database.executemany` is.
+        """
+        check_kind("executemany", self.line, "insert", "update", "delete")
+        self._check()
+        count: int = self._done_many(self._placed.fitting_rows(rows))
+        return count
+
+    @property
+    def names(self) -> Tuple[str, ...]:
+        """The names of the columns that a select gives, as `table.column`. Of another statement there are none.
+
+        Raises `Refused` where it is refused whatever its parameters are.
+        """
+        self._check()
+        if not self._placed.is_select:
+            return ()
+        # (what it is asked for hangs on no condition, and so on no parameter)
+        asked = Prepared(self._database, placed(re.split(r"\bwhere\b", self.line, 1, re.ASCII)[0]))
+        try:
+            return asked._names()
+        finally:
+            asked.close()
+
+    def __enter__(self) -> Statement:
+        return self
+
+    def __exit__(self, *_: object) -> None:
+        self.close()
+
+    def __reduce__(self) -> Any:
+        raise TypeError("mmdb: a Statement has no copies")
+
+    def _perform(self, parameters: Tuple[Any, ...], named: Mapping[str, Any]) -> Any:
+        """Does it with parameters that have to be put in order, or don't fit."""
+        self._check()
+        return self._done(self._placed.fitting(parameters, named))
+
+    def _check(self) -> None:
+        """Raises WrongUse where it is closed."""
+        if self.closed:
+            raise WrongUse("mmdb: the statement is closed")
