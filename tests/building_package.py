@@ -9,10 +9,10 @@ import sys
 import tempfile
 import zipfile
 
-import binding
 import harness
 import library
 
+FOLDER = harness.ROOT / "bindings" / "python"
 BROUGHT = {"libmmdb.so", "LICENSE-APACHE", "LICENSE-MIT", "THIRD-PARTY"}
 BUILT_OF = {"libmmdb.a", "mmdb.h"}
 SOURCE = "_mmdb.c"
@@ -46,7 +46,7 @@ def has_extension(python=sys.executable):
 def copy_of_sources(top):
     """Makes a copy of what a build reads, and gives the folder of the package's sources there."""
     sources = top / "bindings" / "python"
-    shutil.copytree(binding.FOLDER, sources, ignore=shutil.ignore_patterns("__pycache__", EXTENSION, *BROUGHT))
+    shutil.copytree(FOLDER, sources, ignore=shutil.ignore_patterns("__pycache__", EXTENSION, *BROUGHT))
     (top / "release").mkdir()
     for name in ("LICENSE-MIT", "LICENSE-APACHE", "release/THIRD-PARTY"):
         shutil.copy(harness.ROOT / name, top / name)

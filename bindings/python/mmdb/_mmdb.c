@@ -272,7 +272,10 @@ static int prepare(Handle *handle, Statement *statement, PyObject *const *values
         return refused(handle, statement, status, values, count);
     statement->is_prepared = 1;
     Py_CLEAR(statement->shape);
-    return statement->given.places == (size_t)statement->places ? 0 : failed(handle, MMDB_NO_SUCH_PLACE);
+    if (statement->given.places == (size_t)statement->places)
+        return 0;
+    finalize(handle, statement);
+    return failed(handle, MMDB_NO_SUCH_PLACE);
 }
 
 /* Binds all values. Gives MMDB_DONE, NO_VALUE where one is none, or RAISED. */

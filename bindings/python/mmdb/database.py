@@ -107,7 +107,7 @@ class Database(Handle):
         at = placed(line)
         given = at.fitting_rows(rows)
         if at.is_statement and given:
-            count: int = self._done_many(line, at, given)
+            count: int = self._done_many(str.__str__(line), at, given)
             return count
         check_rows(given)
         with self._turn:
@@ -203,7 +203,7 @@ class Database(Handle):
         at = placed(line)
         values = at.fitting(parameters, named)
         if at.is_statement:
-            return self._done(line, at, values)
+            return self._done(str.__str__(line), at, values)
         sent = encoded(at.filled(values))
         with self._turn:
             return _outcome(line, self._accepted(sent))

@@ -10,7 +10,8 @@ import ctypes.util
 import os
 import struct
 import threading
-from typing import Any, Dict, List, Optional, Sequence, Tuple
+from collections import OrderedDict
+from typing import Any, List, Optional, Sequence, Tuple
 
 from .errors import WrongUse
 from .lines import Placed
@@ -149,7 +150,7 @@ class Handle:
         self._cells = _Cells()
         self._cells_at = ctypes.addressof(self._cells)
         #: The statements that are kept by their lines, that which was used last at the end.
-        self._kept: Dict[str, _Statement] = {}
+        self._kept: OrderedDict[str, _Statement] = OrderedDict()
         #: The numbers of statements that were let go while another call had its turn.
         self._let_go: List[int] = []
         #: How many declarations there were: what is known of the columns is of one of these numbers.
@@ -197,12 +198,12 @@ class Handle:
 
     def _statement(self, line: str, placed: Placed) -> _Statement:
         """The statement that is kept by this line. The longest unused one goes where they are too many."""
-        statement = self._kept.pop(line, None)
+        statement = self._kept.get(line)
         if statement is None:
-            statement = _Statement(placed)
             if len(self._kept) >= _KEPT:
-                self._kept.pop(next(iter(self._kept))).finalize(self)
-        self._kept[line] = statement
+                self._kept.popitem(last=False)[1].finalize(self)
+            statement = self._kept[line] = _Statement(placed)
+        self._kept.move_to_end(line)
         return statement
 
     # The calls below want their turn held.
@@ -294,6 +295,7 @@ class _Statement:
             self.failed(handle, status, values)
         self.number, self.shape = given.number, None
         if given.places != self.placed.places:
+            self.finalize(handle)
             handle._failed(_NO_SUCH_PLACE)
 
     def bind(self, handle: Handle, values: Tuple[Any, ...]) -> int:
@@ -452,7 +454,8 @@ class Prepared:
         with handle._turn:
             self._statement.prepare(handle, (None,) * self._statement.placed.places)
             self._statement.know_shape(handle)
-            return self._statement.shape and self._statement.shape.names
+            shape = self._statement.shape
+            return None if shape is None else shape.names
 
     def _open_handle(self) -> Handle:
         if self._handle is None:

@@ -89,7 +89,8 @@ def placed(line: str) -> Placed:
     """A line, and where its parameters stand. Raises WrongUse where it has a line feed, or places of both kinds."""
     if "\n" in line:
         raise WrongUse("mmdb: a line has no line feed")
-    pieces, marks = [line], []
+    pieces: List[str] = [line]
+    marks: List[Optional[str]] = []
     if "?" in line or ":" in line:
         pieces, marks = _cut(line)
     names = tuple([name for name in marks if name is not None])
@@ -137,7 +138,7 @@ def _joined(pieces: List[str]) -> str:
     template = pieces[0]
     for before, behind in zip(pieces, pieces[1:]):
         template += "%s" if before[-1:] in _APART_BEFORE else " %s"
-        template += behind if behind[:1] in _APART_BEHIND else f" {behind}"
+        template += behind if not behind or behind[0] in _APART_BEHIND else f" {behind}"
     return template
 
 

@@ -14,6 +14,9 @@ from .values import Value
 if TYPE_CHECKING:
     from .database import Parameters
 
+# Where the conditions of a select begin, in front of which there are no texts.
+_WHERE = re.compile(r"\bwhere\b", re.ASCII)
+
 
 class Statement(Prepared):
     """An insert, an update, a delete or a select that is prepared once, to be done many times.
@@ -58,10 +61,11 @@ class Statement(Prepared):
         self._check()
         if not self._placed.is_select:
             return ()
-        # (what it is asked for hangs on no condition, and so on no parameter)
-        asked = Prepared(self._database, placed(re.split(r"\bwhere\b", self.line, 1, re.ASCII)[0]))
+        # (they hang on no condition, and so on no parameter)
+        asked = Prepared(self._database, placed(_WHERE.split(self.line, maxsplit=1)[0]))
         try:
-            return asked._names()
+            names: Tuple[str, ...] = asked._names() or asked._done(()).names
+            return names
         finally:
             asked.close()
 
