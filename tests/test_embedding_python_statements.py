@@ -140,6 +140,7 @@ class Statements(binding.WithDatabase):
             (20, "selct * from emp", "selct * from emp", "selct is no command"),
             (20, "select * from emp where id ? 1", "select * from emp where id null 1", "column 28"),
             (20, "select ? from emp", "select null from emp", "column 8"),
+            (20, "select * from emp\r\r", "select * from emp\r\r", "column 18"),
             (30, "select * from nowhere where id = ?", "select * from nowhere where id = null", "nowhere is no table"),
             (32, "delete emp where salary = ?", "delete emp where salary = null", "salary is no column of emp"),
             (35, "insert emp ('1', ?, ?)", "insert emp ('1', null, null)", "'1' is a text"),

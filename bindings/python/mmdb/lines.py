@@ -97,16 +97,18 @@ def placed(line: str) -> Placed:
     if names and len(names) < len(marks):
         raise WrongUse("mmdb: the line has places of both kinds, ? and :name")
     marked = "?".join(pieces)
+    # (the return that a line may end in is dropped here; one of several makes it no command, as in any other line)
+    is_refused = marked.endswith("\r\r")
     found = _BEGINNING.match(line)
     word = found[1] if found else None
     return Placed(
-        encoded(marked[:-1] if marked.endswith("\r") else marked),
+        encoded(marked[:-1] if marked.endswith("\r") and not is_refused else marked),
         _joined(pieces),
         len(marks),
         names,
         len(set(names)) if names else len(marks),
         word == "select",
-        word in STATEMENTS,
+        word in STATEMENTS and not is_refused,
     )
 
 
