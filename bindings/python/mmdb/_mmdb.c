@@ -4,11 +4,13 @@
    made of the one here, by the methods `_perform`, `_check_values`, `_check_rows`, `_shaped`, `_refuse` and `_failed` of
    database.py and statement.py.
 
-   Each call has its turn, so that they come one after another. Where no Python code runs, the interpreter's lock alone
-   would do; a refusal asks for its words by Python code, and nothing may come between. */
+   Each call has its turn, so that they come one after another: the interpreter's lock alone wouldn't do, since a refusal
+   asks for its words by Python code, and nothing may come between. It is held but for lines and loads, which may last. */
 #define PY_SSIZE_T_CLEAN
 #define Py_LIMITED_API 0x030A0000
 #include <Python.h>
+
+#include <string.h>
 
 #include "mmdb.h"
 
@@ -18,6 +20,9 @@
 
 /* How many values are put in order without asking for memory. No command that is accepted has as many places. */
 #define MOST_VALUES 64
+
+/* How many bytes a line has at most. Longer ones are refused, and not kept. */
+#define LONGEST_LINE 8192
 
 /* After how many rows it is asked whether the user wants an end. */
 #define ROWS_BETWEEN_SIGNALS 1024
@@ -111,9 +116,9 @@ static PyType_Spec turn_spec = {
 
 /* A statement. It is prepared where it wasn't yet, or was let go since. */
 typedef struct {
-    PyObject *placed;  /* the line, and where its parameters stand, which is a tuple: Placed of lines.py */
-    PyObject *line;    /* of these the bytes with a ? at each place */
-    PyObject *names;   /* and the names of the places */
+    PyObject *placed;  /* the line, and where its parameters stand: Placed of lines.py, or a str where it has no places */
+    PyObject *line;    /* of these the bytes with a ? at each place, or that str */
+    PyObject *names;   /* and the names of the places, or null where there are none */
     Py_ssize_t places; /* how many there are */
     Py_ssize_t wanted; /* how many values it wants, each name counted once */
     int is_select;
@@ -122,13 +127,14 @@ typedef struct {
     PyObject *shape;       /* of the columns, or null, which is a tuple: Shape of rows.py */
     size_t columns;        /* how many these are */
     uint64_t declarations; /* how many declarations there were when they were asked for */
-    uint64_t used;         /* when it was used last */
 } Statement;
 
-/* A statement that is kept by its line. */
-typedef struct {
+/* A statement that is kept by its line, and those that were used before it and after it. */
+typedef struct Kept {
     PyObject_HEAD
     Statement statement;
+    PyObject *line;
+    struct Kept *older, *newer;
 } Kept;
 
 static PyTypeObject *kept_type;
@@ -138,7 +144,7 @@ typedef struct {
     mmdb db;
     Turn *turn;
     PyObject *kept;        /* by each line its Kept */
-    uint64_t uses;         /* how many statements were used by their lines */
+    Kept *oldest, *newest; /* of these, by their last use */
     uint64_t declarations; /* what is known of columns is known as of one of these numbers */
     uint32_t *let_go;      /* the numbers of statements that were let go while another call had its turn */
     size_t let_go_count;
@@ -166,7 +172,7 @@ static int take_placed(Statement *statement, PyObject *placed)
     clear_statement(statement);
     statement->placed = Py_NewRef(placed);
     statement->line = Py_NewRef(line);
-    statement->names = Py_NewRef(names);
+    statement->names = PyTuple_Size(names) > 0 ? Py_NewRef(names) : NULL;
     statement->places = places;
     statement->wanted = wanted;
     statement->is_select = is_select;
@@ -256,16 +262,25 @@ static int bind(Handle *handle, uint32_t number, uint32_t place, PyObject *value
     return NO_VALUE;
 }
 
+/* The bytes of a line that is bytes or a str. Gives null, and why is raised, where that has none. */
+static const char *bytes_of(PyObject *line, Py_ssize_t *length)
+{
+    char *bytes;
+    if (PyUnicode_Check(line))
+        return PyUnicode_AsUTF8AndSize(line, length);
+    return PyBytes_AsStringAndSize(line, &bytes, length) < 0 ? NULL : bytes;
+}
+
 /* Prepares a statement where it isn't. The values are for the words of a refusal. */
 static int prepare(Handle *handle, Statement *statement, PyObject *const *values, Py_ssize_t count)
 {
-    char *line;
     Py_ssize_t length;
     if (statement->is_prepared)
         return 0;
     while (handle->let_go_count > 0)
         mmdb_finalize(&handle->db, handle->let_go[--handle->let_go_count]);
-    if (PyBytes_AsStringAndSize(statement->line, &line, &length) < 0)
+    const char *line = bytes_of(statement->line, &length);
+    if (line == NULL)
         return -1;
     uint32_t status = mmdb_prepare(&handle->db, line, (size_t)length, &statement->given);
     if (status != MMDB_DONE)
@@ -305,14 +320,23 @@ static PyObject *value_of(const mmdb_rows *rows, const mmdb_cell *cell)
     Py_RETURN_NONE;
 }
 
-/* An empty list of a type that is made of list. */
-static PyObject *empty_list(PyObject *type)
+/* How empty lists are made of a type that is made of list. */
+typedef struct {
+    PyTypeObject *type;
+    newfunc make;
+} Maker;
+
+/* No arguments. */
+static PyObject *nothing;
+
+static Maker maker_of(PyObject *type)
 {
-    newfunc make = (newfunc)PyType_GetSlot((PyTypeObject *)type, Py_tp_new);
-    PyObject *nothing = PyTuple_New(0);
-    PyObject *list = nothing == NULL ? NULL : make((PyTypeObject *)type, nothing, NULL);
-    Py_XDECREF(nothing);
-    return list;
+    return (Maker){ (PyTypeObject *)type, (newfunc)PyType_GetSlot((PyTypeObject *)type, Py_tp_new) };
+}
+
+static PyObject *empty_list(Maker maker)
+{
+    return maker.make(maker.type, nothing, NULL);
 }
 
 /* Puts a value at the end of a list, and lets go of it. */
@@ -324,9 +348,9 @@ static int push(PyObject *list, PyObject *value)
 }
 
 /* A row, whose bytes in the library are added to the size. */
-static PyObject *row_of(PyObject *type, const mmdb_rows *rows, size_t number, size_t *size)
+static PyObject *row_of(Maker maker, const mmdb_rows *rows, size_t number, size_t *size)
 {
-    PyObject *row = empty_list(type);
+    PyObject *row = empty_list(maker);
     for (size_t column = 0; row != NULL && column < rows->columns; column++) {
         const mmdb_cell *cell = mmdb_cell_at(rows, number, column);
         *size += sizeof *cell + (cell->kind == MMDB_TEXT ? cell->length : 0);
@@ -341,13 +365,13 @@ static PyObject *names_word, *types_word;
 
 static PyObject *list_of_rows(const Statement *statement, const mmdb_rows *rows, size_t *size)
 {
-    PyObject *type = PyTuple_GetItem(statement->shape, 3);
-    PyObject *list = empty_list(PyTuple_GetItem(statement->shape, 0));
+    Maker maker = maker_of(PyTuple_GetItem(statement->shape, 3));
+    PyObject *list = empty_list(maker_of(PyTuple_GetItem(statement->shape, 0)));
     if (list != NULL && (PyObject_SetAttr(list, names_word, PyTuple_GetItem(statement->shape, 1)) < 0 ||
                          PyObject_SetAttr(list, types_word, PyTuple_GetItem(statement->shape, 2)) < 0))
         Py_CLEAR(list);
     for (size_t number = 0; list != NULL && number < rows->rows; number++)
-        if (push(list, row_of(type, rows, number, size)) < 0)
+        if (push(list, row_of(maker, rows, number, size)) < 0)
             Py_CLEAR(list);
     return list;
 }
@@ -542,7 +566,7 @@ static PyObject *const *ordered(const Statement *statement, PyObject *const *val
                                 PyObject **room)
 {
     Py_ssize_t named = keywords == NULL ? 0 : PyTuple_Size(keywords);
-    if (PyTuple_Size(statement->names) == 0)
+    if (statement->names == NULL)
         return named == 0 && count == statement->places ? values : NULL;
     if (count != 0 || named != statement->wanted || statement->places > MOST_VALUES)
         return NULL;
@@ -584,6 +608,7 @@ static PyObject *named_of(PyObject *const *values, PyObject *keywords)
 static void kept_dealloc(PyObject *self)
 {
     clear_statement(&((Kept *)self)->statement);
+    Py_CLEAR(((Kept *)self)->line);
     free_object(self);
 }
 
@@ -600,53 +625,115 @@ static PyType_Spec kept_spec = {
     .slots = kept_slots,
 };
 
+/* Takes one out of the order of uses. */
+static void unlink_kept(Handle *handle, Kept *kept)
+{
+    *(kept->older == NULL ? &handle->oldest : &kept->older->newer) = kept->newer;
+    *(kept->newer == NULL ? &handle->newest : &kept->newer->older) = kept->older;
+}
+
+/* Puts one to the end of the order of uses. */
+static void link_kept(Handle *handle, Kept *kept)
+{
+    kept->newer = NULL;
+    kept->older = handle->newest;
+    *(handle->newest == NULL ? &handle->oldest : &handle->newest->newer) = kept;
+    handle->newest = kept;
+}
+
 /* Lets the longest unused statement go. */
 static int forget_one(Handle *handle)
 {
-    PyObject *line, *kept, *oldest_line = NULL;
-    Statement *oldest = NULL;
-    Py_ssize_t at = 0;
-    while (PyDict_Next(handle->kept, &at, &line, &kept)) {
-        Statement *statement = &((Kept *)kept)->statement;
-        if (oldest == NULL || statement->used < oldest->used) {
-            oldest = statement;
-            oldest_line = line;
-        }
-    }
+    Kept *oldest = handle->oldest;
     if (oldest == NULL)
         return 0;
-    finalize(handle, oldest);
-    Py_INCREF(oldest_line);
-    int status = PyDict_DelItem(handle->kept, oldest_line);
-    Py_DECREF(oldest_line);
+    PyObject *line = Py_NewRef(oldest->line);
+    finalize(handle, &oldest->statement);
+    unlink_kept(handle, oldest);
+    int status = PyDict_DelItem(handle->kept, line);
+    Py_DECREF(line);
     return status;
+}
+
+static void forget_all(Handle *handle)
+{
+    handle->oldest = handle->newest = NULL;
+    PyDict_Clear(handle->kept);
 }
 
 /* The statement that is kept by a line, which is noted as used; null where there is none, or something was raised. */
 static Statement *kept_by(Handle *handle, PyObject *line)
 {
-    PyObject *kept = PyDict_GetItemWithError(handle->kept, line);
+    Kept *kept = (Kept *)PyDict_GetItemWithError(handle->kept, line);
     if (kept == NULL)
         return NULL;
-    Statement *statement = &((Kept *)kept)->statement;
-    statement->used = ++handle->uses;
+    if (handle->newest != kept) {
+        unlink_kept(handle, kept);
+        link_kept(handle, kept);
+    }
+    return &kept->statement;
+}
+
+/* A statement that is kept by a line from now on, whose fields are yet to be filled in. */
+static Statement *keep_new(Handle *handle, PyObject *line)
+{
+    if (PyDict_Size(handle->kept) >= KEPT && forget_one(handle) < 0)
+        return NULL;
+    Kept *kept = (Kept *)PyType_GenericAlloc(kept_type, 0);
+    if (kept == NULL)
+        return NULL;
+    kept->line = Py_NewRef(line);
+    int status = PyDict_SetItem(handle->kept, line, (PyObject *)kept);
+    if (status == 0)
+        link_kept(handle, kept);
+    Py_DECREF(kept);
+    return status == 0 ? &kept->statement : NULL;
+}
+
+/* The statement that is kept by a line, where its parameters stand. */
+static Statement *keep(Handle *handle, PyObject *line, PyObject *placed)
+{
+    Statement *statement = kept_by(handle, line), made = { .placed = NULL };
+    if (statement != NULL || PyErr_Occurred() || take_placed(&made, placed) < 0)
+        return statement;
+    statement = keep_new(handle, line);
+    if (statement == NULL)
+        clear_statement(&made);
+    else
+        *statement = made;
     return statement;
 }
 
-/* The same, which is kept from now on where it wasn't. */
-static Statement *keep(Handle *handle, PyObject *line, PyObject *placed)
+/* Whether a line is a statement without places at the first look: what is left out here is looked at by Python. */
+static int is_plain(const char *line, Py_ssize_t length)
 {
-    Statement *statement = kept_by(handle, line);
-    if (statement != NULL || PyErr_Occurred())
-        return statement;
-    if (PyDict_Size(handle->kept) >= KEPT && forget_one(handle) < 0)
+    static const char *const words[] = { "select ", "insert ", "update ", "delete " };
+    const size_t front = 7;
+    int is_statement = 0;
+    if (line == NULL || (size_t)length <= front || length > LONGEST_LINE || line[length - 1] == '\r')
+        return 0;
+    for (size_t at = 0; at < sizeof words / sizeof *words; at++)
+        is_statement |= memcmp(line, words[at], front) == 0;
+    return is_statement && !memchr(line, '?', (size_t)length) && !memchr(line, ':', (size_t)length) &&
+           !memchr(line, '\n', (size_t)length);
+}
+
+/* The statement of a line that isn't kept yet, where it has no places; null where that isn't so, or something was
+   raised. */
+static Statement *keep_plain(Handle *handle, PyObject *line)
+{
+    Py_ssize_t length;
+    const char *bytes = bytes_of(line, &length);
+    if (bytes == NULL && PyErr_ExceptionMatches(PyExc_UnicodeEncodeError))
+        PyErr_Clear();
+    if (!is_plain(bytes, length))
         return NULL;
-    PyObject *kept = PyType_GenericAlloc(kept_type, 0);
-    if (kept == NULL)
+    Statement *statement = keep_new(handle, line);
+    if (statement == NULL)
         return NULL;
-    if (take_placed(&((Kept *)kept)->statement, placed) == 0 && PyDict_SetItem(handle->kept, line, kept) == 0)
-        statement = kept_by(handle, line);
-    Py_DECREF(kept);
+    statement->placed = Py_NewRef(line);
+    statement->line = Py_NewRef(line);
+    statement->is_select = *bytes == 's';
     return statement;
 }
 
@@ -698,7 +785,7 @@ static PyObject *handle_close(PyObject *self, PyObject *Py_UNUSED(none))
 {
     Handle *handle = (Handle *)self;
     take(handle->turn);
-    PyDict_Clear(handle->kept);
+    forget_all(handle);
     handle->let_go_count = 0;
     mmdb_close(&handle->db);
     give(handle->turn);
@@ -727,6 +814,8 @@ static PyObject *do_line(PyObject *self, const char *call, int is_select, PyObje
         PyObject *told = NULL;
         take(handle->turn);
         Statement *statement = kept_by(handle, given[0]);
+        if (statement == NULL && !PyErr_Occurred() && count == 1 && keywords == NULL)
+            statement = keep_plain(handle, given[0]);
         if (statement != NULL && (is_select < 0 || is_select == statement->is_select))
             told = done_by(handle, statement, given + 1, count - 1, keywords);
         give(handle->turn);
@@ -797,7 +886,10 @@ static PyObject *handle_command(PyObject *self, PyObject *given)
     mmdb_bytes answer;
     if (!PyArg_ParseTuple(given, "y#", &line, &length))
         return NULL;
-    uint32_t status = mmdb_command(&handle->db, line, (size_t)length, &answer);
+    uint32_t status;
+    Py_BEGIN_ALLOW_THREADS
+    status = mmdb_command(&handle->db, line, (size_t)length, &answer);
+    Py_END_ALLOW_THREADS
     return told(handle, status, answer);
 }
 
@@ -809,7 +901,10 @@ static PyObject *handle_load(PyObject *self, PyObject *given)
     mmdb_bytes answer;
     if (!PyArg_ParseTuple(given, "y#y#", &line, &length, &block, &block_length))
         return NULL;
-    uint32_t status = mmdb_load(&handle->db, line, (size_t)length, block, (size_t)block_length, &answer);
+    uint32_t status;
+    Py_BEGIN_ALLOW_THREADS
+    status = mmdb_load(&handle->db, line, (size_t)length, block, (size_t)block_length, &answer);
+    Py_END_ALLOW_THREADS
     return told(handle, status, answer);
 }
 
@@ -1143,7 +1238,8 @@ PyMODINIT_FUNC PyInit__mmdb(void)
     PyObject *made = PyModule_Create(&module);
     names_word = PyUnicode_InternFromString("names");
     types_word = PyUnicode_InternFromString("types");
-    if (made != NULL && (names_word == NULL || types_word == NULL || add_type(made, &turn_type, &turn_spec, NULL) < 0 ||
+    nothing = PyTuple_New(0);
+    if (made != NULL && (names_word == NULL || types_word == NULL || nothing == NULL || add_type(made, &turn_type, &turn_spec, NULL) < 0 ||
                          add_type(made, &kept_type, &kept_spec, NULL) < 0 ||
                          add_type(made, &handle_type, &handle_spec, "Handle") < 0 ||
                          add_type(made, &prepared_type, &prepared_spec, "Prepared") < 0))

@@ -220,9 +220,9 @@ class Database(Handle):
         """What rows with these columns are made of."""
         return shape_of(names, kinds)
 
-    def _refuse(self, at: Placed, values: Sequence[Any], answer: bytes) -> NoReturn:
-        """Raises the refusal that the library has just answered to a statement with these values."""
-        line = at.filled(values)
+    def _refuse(self, at: Union[Placed, str], values: Sequence[Any], answer: bytes) -> NoReturn:
+        """Raises the refusal that the library has just answered to a statement with these values, or to a line."""
+        line = at if isinstance(at, str) else at.filled(values)
         sent = encoded(line)
         # (a line with a line feed is none that there is a reason of)
         raise refusal_of(answer, sent, None if "\n" in line else self._reason(sent, b""))

@@ -20,6 +20,9 @@ _APART_BEHIND = frozenset(" \t),")
 _BEGINNING = re.compile(r"[ \t]*(?:([A-Za-z_]\w*)|(#|\r?\Z))", re.ASCII)
 _COMMANDS = frozenset(("table", "drop", "index", "insert", "update", "delete", "select", "load", "dump", "tables"))
 
+# How many bytes a line has at most, with the return that it may end in.
+_LONGEST = 8192 + 1
+
 #: The commands that change rows, and all that can be prepared.
 CHANGES = ("insert", "update", "delete")
 STATEMENTS = (*CHANGES, "select")
@@ -96,13 +99,13 @@ def placed(line: str) -> Placed:
     names = tuple([name for name in marks if name is not None])
     if names and len(names) < len(marks):
         raise WrongUse("mmdb: the line has places of both kinds, ? and :name")
-    marked = "?".join(pieces)
-    # (the return that a line may end in is dropped here; one of several makes it no command, as in any other line)
-    is_refused = marked.endswith("\r\r")
+    marked = encoded("?".join(pieces))
     found = _BEGINNING.match(line)
     word = found[1] if found else None
+    # (of the returns at its end one is dropped, as of any line, and with more it is no command)
+    is_refused = len(marked) > _LONGEST or marked.endswith(b"\r\r")
     return Placed(
-        encoded(marked[:-1] if marked.endswith("\r") and not is_refused else marked),
+        marked[:-1] if marked.endswith(b"\r") and not is_refused else marked,
         _joined(pieces),
         len(marks),
         names,
