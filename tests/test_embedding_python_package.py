@@ -66,7 +66,7 @@ class Builds(unittest.TestCase):
         package = self.room / "installed" / "mmdb"
         names = {path.name for path in package.iterdir()} - {"__pycache__"}
         extension = {building_package.EXTENSION} if has_extension else set()
-        sources = {path.name for path in (self.sources / "mmdb").iterdir()} - {building_package.SOURCE}
+        sources = {path.name for path in (self.sources / "mmdb").iterdir()} - building_package.SOURCES
         self.assertEqual(names, sources | building_package.BROUGHT | extension)
         self.assertTrue({"py.typed", "_mmdb.pyi"} < names)
         self.assertEqual((package / "libmmdb.so").read_bytes(), (library.folder() / "libmmdb.so").read_bytes())

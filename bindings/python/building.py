@@ -28,7 +28,8 @@ PACKAGE = HERE / "mmdb"
 BROUGHT = ("release/libmmdb.so", "release/THIRD-PARTY", "LICENSE-MIT", "LICENSE-APACHE")
 # What the extension is built of, beside its own source.
 BUILT_OF = ("release/libmmdb.a", "release/mmdb.h")
-SOURCE = PACKAGE / "_mmdb.c"
+SOURCES = ("_mmdb.c", "_kept.c", "_statement.c")
+HEADER = "_mmdb.h"
 EXTENSION = "_mmdb.abi3.so"
 # (what the archive has stays in the extension, which needs no more of it than its calls)
 HOW = ("-std=c99", "-O2", "-fPIC", "-fvisibility=hidden", "-shared", "-s", "-Wl,--exclude-libs,ALL")
@@ -75,7 +76,8 @@ def build_editable(wheel_directory, config_settings=None, metadata_directory=Non
 
 def build_sdist(sdist_directory, config_settings=None):
     """Packs the sources with the library, and gives the name of what it made."""
-    files = {f"mmdb/{path.name}": path for path in [*_modules(), SOURCE, *_brought(BROUGHT), *_brought(BUILT_OF)]}
+    sources = [PACKAGE / name for name in (*SOURCES, HEADER)]
+    files = {f"mmdb/{path.name}": path for path in [*_modules(), *sources, *_brought(BROUGHT), *_brought(BUILT_OF)]}
     files.update((name, HERE / name) for name in ("README.md", "building.py", "pyproject.toml"))
     with tarfile.open(pathlib.Path(sdist_directory, f"{NAME}.tar.gz"), "w:gz", format=tarfile.PAX_FORMAT) as sdist:
         for name, path in files.items():
@@ -95,7 +97,8 @@ def _extension():
     archive, header = _brought(BUILT_OF)
     with tempfile.TemporaryDirectory() as folder:
         built = pathlib.Path(folder, EXTENSION)
-        words = [*compiler, *HOW, f"-I{headers}", f"-I{header.parent}", SOURCE, archive, "-o", built]
+        sources = [PACKAGE / name for name in SOURCES]
+        words = [*compiler, *HOW, f"-I{headers}", f"-I{header.parent}", *sources, archive, "-o", built]
         try:
             ran = subprocess.run(words, cwd=folder, capture_output=True, text=True, check=False)
         except OSError as why:
