@@ -56,13 +56,13 @@ static void turn_dealloc(PyObject *self)
 static PyObject *turn_enter(PyObject *self, PyObject *Py_UNUSED(none))
 {
     take((Turn *)self);
-    Py_RETURN_NONE;
+    return none();
 }
 
 static PyObject *turn_exit(PyObject *self, PyObject *Py_UNUSED(why))
 {
     give((Turn *)self);
-    Py_RETURN_NONE;
+    return none();
 }
 
 static PyMethodDef turn_methods[] = {
@@ -139,7 +139,7 @@ static PyObject *handle_close(PyObject *self, PyObject *Py_UNUSED(none))
     handle->let_go_count = 0;
     mmdb_close(&handle->db);
     give(handle->turn);
-    Py_RETURN_NONE;
+    return none();
 }
 
 /* Does what a line says that came to one of the calls, and is no statement that is kept, or doesn't fit it. */
@@ -228,17 +228,27 @@ static PyObject *told(Handle *handle, uint32_t status, mmdb_bytes answer)
     return PyBytes_FromStringAndSize((const char *)answer.at, (Py_ssize_t)answer.length);
 }
 
+/* The bytes of an object, whose type was looked at. */
+static mmdb_bytes content_of(PyObject *bytes)
+{
+    char *at = NULL;
+    Py_ssize_t length = 0;
+    PyBytes_AsStringAndSize(bytes, &at, &length);
+    return (mmdb_bytes){ (const unsigned char *)at, (size_t)length };
+}
+
 static PyObject *handle_command(PyObject *self, PyObject *given)
 {
     Handle *handle = (Handle *)self;
-    const char *line;
-    Py_ssize_t length;
+    PyObject *line;
     mmdb_bytes answer;
-    if (!PyArg_ParseTuple(given, "y#", &line, &length))
-        return NULL;
     uint32_t status;
+    /* (of the formats none with # would do in each version of Python) */
+    if (!PyArg_ParseTuple(given, "S", &line))
+        return NULL;
+    mmdb_bytes request = content_of(line);
     Py_BEGIN_ALLOW_THREADS
-    status = mmdb_command(&handle->db, line, (size_t)length, &answer);
+    status = mmdb_command(&handle->db, request.at, request.length, &answer);
     Py_END_ALLOW_THREADS
     return told(handle, status, answer);
 }
@@ -246,14 +256,14 @@ static PyObject *handle_command(PyObject *self, PyObject *given)
 static PyObject *handle_load(PyObject *self, PyObject *given)
 {
     Handle *handle = (Handle *)self;
-    const char *line, *block;
-    Py_ssize_t length, block_length;
+    PyObject *line, *block;
     mmdb_bytes answer;
-    if (!PyArg_ParseTuple(given, "y#y#", &line, &length, &block, &block_length))
-        return NULL;
     uint32_t status;
+    if (!PyArg_ParseTuple(given, "SS", &line, &block))
+        return NULL;
+    mmdb_bytes request = content_of(line), rows = content_of(block);
     Py_BEGIN_ALLOW_THREADS
-    status = mmdb_load(&handle->db, line, (size_t)length, block, (size_t)block_length, &answer);
+    status = mmdb_load(&handle->db, request.at, request.length, rows.at, rows.length, &answer);
     Py_END_ALLOW_THREADS
     return told(handle, status, answer);
 }
@@ -261,40 +271,37 @@ static PyObject *handle_load(PyObject *self, PyObject *given)
 static PyObject *handle_indexes(PyObject *self, PyObject *given)
 {
     Handle *handle = (Handle *)self;
-    const char *table;
-    Py_ssize_t length;
+    PyObject *table;
     mmdb_bytes answer;
-    if (!PyArg_ParseTuple(given, "y#", &table, &length))
+    if (!PyArg_ParseTuple(given, "S", &table))
         return NULL;
-    uint32_t status = mmdb_indexes(&handle->db, table, (size_t)length, &answer);
+    mmdb_bytes name = content_of(table);
+    uint32_t status = mmdb_indexes(&handle->db, name.at, name.length, &answer);
     return told(handle, status, answer);
 }
 
 static PyObject *handle_reason(PyObject *self, PyObject *given)
 {
     Handle *handle = (Handle *)self;
-    const char *line, *block;
-    Py_ssize_t length, block_length;
+    PyObject *line, *block;
     mmdb_bytes words;
-    if (!PyArg_ParseTuple(given, "y#y#", &line, &length, &block, &block_length))
+    if (!PyArg_ParseTuple(given, "SS", &line, &block))
         return NULL;
-    uint32_t status = mmdb_reason(&handle->db, line, (size_t)length, block, (size_t)block_length, &words);
-    if (status == MMDB_NO_MEMORY || (status == MMDB_DONE && words.length == 0))
-        Py_RETURN_NONE;
-    PyObject *bytes = told(handle, status, words);
-    PyObject *text = bytes == NULL ? NULL : PyUnicode_FromEncodedObject(bytes, "utf-8", "strict");
-    Py_XDECREF(bytes);
-    if (text != NULL && status != MMDB_DONE) {
-        Py_DECREF(text);
-        Py_RETURN_NONE;
-    }
-    return text;
+    mmdb_bytes request = content_of(line), rows = content_of(block);
+    uint32_t status = mmdb_reason(&handle->db, request.at, request.length, rows.at, rows.length, &words);
+    PyObject *bytes = status == MMDB_NO_MEMORY ? Py_NewRef(Py_None) : told(handle, status, words);
+    if (bytes == NULL || bytes == Py_None)
+        return bytes;
+    Py_DECREF(bytes);
+    if (words.length == 0)
+        return none();
+    return PyUnicode_DecodeUTF8((const char *)words.at, (Py_ssize_t)words.length, "strict");
 }
 
 static PyObject *handle_forget(PyObject *self, PyObject *Py_UNUSED(none))
 {
     ((Handle *)self)->declarations++;
-    Py_RETURN_NONE;
+    return none();
 }
 
 #define FAST(function) ((PyCFunction)(void (*)(void))(function))
@@ -459,7 +466,7 @@ static PyObject *prepared_close(PyObject *self, PyObject *Py_UNUSED(none))
         Py_CLEAR(prepared->handle);
         end_turn(handle);
     }
-    Py_RETURN_NONE;
+    return none();
 }
 
 static PyObject *prepared_execute(PyObject *self, PyObject *const *given, Py_ssize_t count, PyObject *keywords)

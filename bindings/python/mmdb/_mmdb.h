@@ -16,6 +16,12 @@
 
 #include "mmdb.h"
 
+/* None. (Py_RETURN_NONE of later headers is wrong for earlier versions, where None is counted as any object is.) */
+static inline PyObject *none(void)
+{
+    return Py_NewRef(Py_None);
+}
+
 /* A statement. It is prepared where it wasn't yet, or was let go since. */
 typedef struct {
     PyObject *placed;  /* the line, and where its parameters stand: Placed of lines.py; or a str without places */

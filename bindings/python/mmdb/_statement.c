@@ -173,7 +173,7 @@ static PyObject *value_of(const mmdb_rows *rows, const mmdb_cell *cell)
         mmdb_bytes text = mmdb_text(rows, cell);
         return PyUnicode_DecodeUTF8((const char *)text.at, (Py_ssize_t)text.length, "strict");
     }
-    Py_RETURN_NONE;
+    return none();
 }
 
 /* How empty lists are made of a type that is made of list. */
