@@ -6,6 +6,7 @@ import gc
 import itertools
 import pickle
 import random
+import signal
 import threading
 import unittest
 import weakref
@@ -258,6 +259,14 @@ class Statements(binding.WithDatabase):
         self.assertEqual((seen[0](), seen[1](), len(self.db.select("select * from emp"))), (None, None, 3))
 
 
+    def test_ones_that_are_never_closed(self):
+        line = "db = mmdb.Database(); db.execute('table t (id int)'); kept = [db.prepare('select * from t') for _ in range(3)]; "
+        for program in (line + "print(kept[0].execute())", line + "db.kept = kept; del kept", line + "import sys; sys.kept = kept; del db"):
+            with self.subTest(program=program):
+                ended = binding.run_python("-W", "error", "-c", f"import mmdb; {program}")
+                self.assertEqual((ended.err, ended.status), ("", 0))
+
+
 class Kept(binding.WithDatabase):
     """Statements that are kept by their lines, as they come to `execute`, `select` and `change`."""
 
@@ -365,6 +374,44 @@ class Kept(binding.WithDatabase):
         for thread in threads:
             thread.join()
         self.assertEqual((wrong, len(self.db.dump("t"))), ([], 800))
+
+
+    def test_threads_load_and_select(self):
+        self.db.execute("table t (id int, s text)")
+        wrong = []
+
+        def load(first):
+            for begin in range(first, first + 20_000, 1_000):
+                self.db.load("t", [(number, "x") for number in range(begin, begin + 1_000)])
+
+        def select():
+            while any(thread.is_alive() for thread in loads):
+                found = self.db.select("select s from t where id >= ? and id < ?", 19_000, 21_000)
+                wrong.extend([] if len(found) % 1_000 == 0 else [len(found)])
+
+        loads = [threading.Thread(target=load, args=(first,)) for first in (0, 20_000)]
+        threads = [*loads, *(threading.Thread(target=select) for _ in range(2))]
+        for thread in threads:
+            thread.start()
+        for thread in threads:
+            thread.join()
+        self.assertEqual((wrong, len(self.db.dump("t"))), ([], 40_000))
+
+    def test_an_interrupt(self):
+        """Ctrl-C ends the rows of a call, and others go on."""
+        self.db.execute("table t (id int)")
+        rows = [(1,)] * 3_000_000
+
+        def interrupt(*_):
+            raise KeyboardInterrupt
+
+        before = signal.signal(signal.SIGALRM, interrupt)
+        self.addCleanup(signal.signal, signal.SIGALRM, before)
+        for call in (lambda: self.db.executemany("delete t where id <> ?", rows), lambda: self.db.prepare("delete t where id = ?").executemany(rows)):
+            signal.setitimer(signal.ITIMER_REAL, 0.1)
+            with self.assertRaises(KeyboardInterrupt):
+                call()
+            self.assertEqual(self.db.change("delete t where id <> ?", 1), 0)
 
 
 class Stub(binding.WithDatabase):

@@ -36,7 +36,7 @@ class Database(Handle):
     number of bytes of a block of a load or a dump, up to `MOST`. Used as a context manager, it is closed at the end.
     Each call of a closed one but `close` raises ValueError.
 
-    Threads may share it: their calls come one after another. A signal handler must not use it.
+    Threads may share it: their calls come one after another. A signal handler and a `__del__` must not use it.
     """
 
     def __init__(self, policy: str = "auto", rows: int = MOST, block: int = MOST) -> None:

@@ -3,12 +3,11 @@
 from __future__ import annotations
 
 import re
-from typing import TYPE_CHECKING, Any, Iterable, Mapping, Tuple, Union
+from typing import TYPE_CHECKING, Any, Iterable, Mapping, Tuple
 
 from .errors import WrongUse
 from .handles import Handle, Prepared
-from .lines import STATEMENTS, check_kind, placed
-from .rows import Rows
+from .lines import CHANGES, STATEMENTS, check_kind, placed
 from .values import Value
 
 if TYPE_CHECKING:
@@ -36,7 +35,7 @@ class Statement(Prepared):
     if TYPE_CHECKING:
         # (this is that of the handle, so that what goes well doesn't come by here)
 
-        def execute(self, /, *parameters: Any, **named: Value) -> Union[Rows, int]:
+        def execute(self, /, *parameters: Any, **named: Value) -> Any:
             """Does it with these parameters, and gives its rows, or how many rows it was about.
 
             Raises what `Database.execute` raises.
@@ -47,7 +46,7 @@ class Statement(Prepared):
 
         It is as `Database.executemany` is.
         """
-        check_kind("executemany", self.line, "insert", "update", "delete")
+        check_kind("executemany", self.line, *CHANGES)
         self._check()
         count: int = self._done_many(self._placed.fitting_rows(rows))
         return count
