@@ -114,7 +114,7 @@ static int is_plain(const char *line, Py_ssize_t length)
     static const char *const words[] = { "select ", "insert ", "update ", "delete " };
     const size_t front = 7;
     int is_statement = 0;
-    if (line == NULL || (size_t)length <= front || length > LONGEST_LINE || line[length - 1] == '\r')
+    if (line == NULL || (size_t)length <= front || length > LONGEST_LINE)
         return 0;
     for (size_t at = 0; at < sizeof words / sizeof *words; at++)
         is_statement |= memcmp(line, words[at], front) == 0;

@@ -20,7 +20,7 @@ _APART_BEHIND = frozenset(" \t),")
 _BEGINNING = re.compile(r"[ \t]*(?:([A-Za-z_]\w*)|(#|\r?\Z))", re.ASCII)
 _COMMANDS = frozenset(("table", "drop", "index", "insert", "update", "delete", "select", "load", "dump", "tables"))
 
-# How many bytes a line has at most, with the return that it may end in.
+# How many bytes a line has at most, with the return that it may end in. Longer ones are refused, and not kept.
 _LONGEST = 8192 + 1
 
 #: The commands that change rows, and all that can be prepared.
@@ -42,7 +42,7 @@ class Placed(NamedTuple):
     #: How many values it wants, each name counted once.
     wanted: int
     is_select: bool
-    #: Whether it is an insert, an update, a delete or a select, by its first word.
+    #: Whether it is an insert, an update, a delete or a select, by its first word, and not too long.
     is_statement: bool
 
     def filled(self, values: Iterable[Any]) -> str:
@@ -102,16 +102,14 @@ def placed(line: str) -> Placed:
     marked = encoded("?".join(pieces))
     found = _BEGINNING.match(line)
     word = found[1] if found else None
-    # (of the returns at its end one is dropped, as of any line, and with more it is no command)
-    is_refused = len(marked) > _LONGEST or marked.endswith(b"\r\r")
     return Placed(
-        marked[:-1] if marked.endswith(b"\r") and not is_refused else marked,
+        marked,
         _joined(pieces),
         len(marks),
         names,
         len(set(names)) if names else len(marks),
         word == "select",
-        word in STATEMENTS and not is_refused,
+        word in STATEMENTS and len(marked) <= _LONGEST,
     )
 
 
