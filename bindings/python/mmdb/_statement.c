@@ -89,20 +89,33 @@ static int refused(Handle *handle, Statement *statement, uint32_t status, PyObje
 
 /* ---- values in */
 
-/* What bind and check give beside an mmdb_status: no value, or something was raised. */
+/* What is given in the place of a kind or of an mmdb_status: that it is no value, or that something was raised. */
 enum { NO_VALUE = -1, RAISED = -2 };
 
-/* Binds a value into a place, or looks at it alone where there is no handle, and adds how long a text is. */
+/* The mmdb_kind of a value, or NO_VALUE. A bool is none, though it is an int. */
+static int kind_of(PyObject *value)
+{
+    if (PyLong_CheckExact(value))
+        return MMDB_INTEGER;
+    if (PyUnicode_CheckExact(value) || PyUnicode_Check(value))
+        return MMDB_TEXT;
+    if (value == Py_None)
+        return MMDB_NULL;
+    return PyLong_Check(value) && !PyBool_Check(value) ? MMDB_INTEGER : NO_VALUE;
+}
+
+/* Binds a value into a place, or looks at it alone where there is no handle, and adds how long a text is. Gives an
+   mmdb_status, NO_VALUE or RAISED. */
 static int bind(Handle *handle, uint32_t number, uint32_t place, PyObject *value, size_t *size)
 {
-    if (PyLong_Check(value) && !PyBool_Check(value)) {
-        int is_past = 0;
+    int kind = kind_of(value), is_past = 0;
+    if (kind == MMDB_INTEGER) {
         long long integer = PyLong_AsLongLongAndOverflow(value, &is_past);
         if (is_past)
             return NO_VALUE;
         return handle == NULL ? MMDB_DONE : (int)mmdb_bind_integer(&handle->db, number, place, integer);
     }
-    if (PyUnicode_Check(value)) {
+    if (kind == MMDB_TEXT) {
         Py_ssize_t length;
         const char *text = PyUnicode_AsUTF8AndSize(value, &length);
         if (text == NULL) {
@@ -114,7 +127,7 @@ static int bind(Handle *handle, uint32_t number, uint32_t place, PyObject *value
         *size += (size_t)length;
         return handle == NULL ? MMDB_DONE : (int)mmdb_bind_text(&handle->db, number, place, text, (size_t)length);
     }
-    if (value == Py_None)
+    if (kind == MMDB_NULL)
         return handle == NULL ? MMDB_DONE : (int)mmdb_bind_null(&handle->db, number, place);
     return NO_VALUE;
 }
