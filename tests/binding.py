@@ -10,12 +10,21 @@ import library
 import model
 
 FOLDER = harness.ROOT / "bindings" / "python"
-WHERE = {"MMDB_LIBRARY": str(library.folder()), "PYTHONPATH": str(FOLDER), "PYTHONDONTWRITEBYTECODE": "1"}
+# The folder with a package whose extension was built, where that is to be tested. Else it goes by ctypes.
+EXTENDED = os.environ.get("MMDB_EXTENDED")
+WHERE = {
+    "MMDB_LIBRARY": "" if EXTENDED else str(library.folder()),
+    "PYTHONPATH": EXTENDED or str(FOLDER),
+    "PYTHONDONTWRITEBYTECODE": "1",
+}
 
+library.folder()
 os.environ["MMDB_LIBRARY"] = WHERE["MMDB_LIBRARY"]
-sys.path.insert(0, str(FOLDER))
+sys.path.insert(0, WHERE["PYTHONPATH"])
 
 import mmdb
+
+assert mmdb.implementation == ("extension" if EXTENDED else "ctypes"), mmdb.implementation
 
 
 def run_python(*words, python=sys.executable, **variables):
@@ -34,10 +43,21 @@ class WithDatabase(unittest.TestCase):
 
     def refused(self, number, call, *given, **named):
         """The refusal of that number, which a call raises."""
+        why = self.refused_somehow(number, call, *given, **named)
+        self.assertEqual(str(why), f"error {number} {why.text}: {why.reason}")
+        return why
+
+    def refused_without_reason(self, number, call, *given, **named):
+        """The same where nothing can be told of why."""
+        why = self.refused_somehow(number, call, *given, **named)
+        self.assertEqual((str(why), why.reason), (f"error {number} {why.text}", None))
+        return why
+
+    def refused_somehow(self, number, call, *given, **named):
+        """The same, whether something is told of why or not."""
         with self.assertRaises(mmdb.Refused) as raised:
             call(*given, **named)
         why = raised.exception
         self.assertEqual((why.number, why.text.split(" (")[0]), (number, model.TEXTS[number]))
-        self.assertEqual(str(why), f"error {number} {why.text}: {why.reason}")
         self.assertEqual(repr(why), f"{type(why).__name__}{(number, why.text, why.line, why.reason)!r}")
         return why

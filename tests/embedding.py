@@ -8,7 +8,8 @@ import harness
 MARKS = ["'", "''", '"', "?", ":", ":s", "\\", "\\'", "%", "%s", "\0", "\r", "\t", ",", "(", ")", "#", "--", ";", " ", ""]
 WORDS = ["null", "1", "-7", "007", "a", "B", "é", "ß", "€", "\u2028", "\x85", "\ufeff", "\ufffd", "😀", "\U0010ffff"]
 BREAKS = ["') ", "); delete t", "' or id <> '"]
-UNSPEAKABLE = ["\n", "\r\n", "\n\n", "'\ndelete t\n"]
+# What no line can hold, and a parameter can.
+LINE_FEEDS = ["\n", "\r\n", "\n\n", "'\ndelete t\n"]
 
 
 def text(draw):

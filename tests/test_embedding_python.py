@@ -55,7 +55,7 @@ class Programs(unittest.TestCase):
         self.assertEqual((ended.err, ended.out, ended.status), ("", printed, 0))
 
     def test_the_programs_of_each_page(self):
-        for page, count in (("README.md", 1), ("docs/python.md", 3)):
+        for page, count in (("README.md", 1), ("docs/python.md", 4)):
             found = embedding.programs(page, "python")
             self.assertEqual(len(found), count)
             for program, printed in found:
@@ -98,8 +98,8 @@ class Programs(unittest.TestCase):
 
     def test_a_library_beside_the_package(self):
         with tempfile.TemporaryDirectory() as folder:
-            shutil.copytree(binding.FOLDER / "mmdb", f"{folder}/mmdb", ignore=shutil.ignore_patterns("libmmdb.so"))
-            shutil.copy(f"{binding.WHERE['MMDB_LIBRARY']}/libmmdb.so", folder)
+            shutil.copytree(binding.FOLDER / "mmdb", f"{folder}/mmdb", ignore=shutil.ignore_patterns("*.so"))
+            shutil.copy(library.folder() / "libmmdb.so", folder)
             program = "import mmdb; print(mmdb.__path__, mmdb.Database().execute('tables'))"
             ended = binding.run_python("-c", program, MMDB_LIBRARY="", PYTHONPATH=folder)
         self.assertEqual((ended.err, ended.out), ("", f"['{folder}/mmdb'] \n"))
@@ -211,8 +211,8 @@ class Calls(binding.WithDatabase):
         for wrong, row, why in (
             (ValueError, (2,), "2 places for 1 parameters .row 2."),
             (ValueError, {"id": 2}, "no place :id .row 2."),
-            (ValueError, (2, "\n"), "line feed .* .row 2."),
             (ValueError, (2, "\ud800"), "surrogate.* .row 2."),
+            (ValueError, (2**63, "b"), "64 bits .row 2."),
             (TypeError, (2, 2.5), "not float .row 2."),
             (TypeError, "ab", "not str .row 2."),
             (TypeError, {1, 2}, "not set .row 2."),
@@ -379,19 +379,45 @@ class Parameters(binding.WithDatabase):
         self.assertEqual(self.db.dump("t"), [[number, text] for number, text in expected.items()])
         self.assertEqual(self.db.execute("tables"), "table t (id int, s text)\n")
 
-    def test_texts_that_cannot_stand_in_a_line(self):
+    def test_texts_that_are_none(self):
         draw = random.Random(SEED)
         self.db.execute("insert t (1, 'a')")
         for _ in range(200):
-            odd = draw.choice([*embedding.UNSPEAKABLE, "\ud800", "\udfff", "\udc80"])
-            text = embedding.text(draw) + odd + embedding.text(draw)
+            text = embedding.text(draw) + draw.choice(["\ud800", "\udfff", "\udc80"]) + embedding.text(draw)
             with self.subTest(text=text):
-                for line in ("insert t (2, ?)", "delete t where s <> ?", "select * from t where s = ?"):
-                    with self.assertRaises(ValueError):
+                for line in ("insert t (2, ?)", "delete t where s <> ?", "select * from t where s = ?", "drop table ?"):
+                    with self.assertRaisesRegex(ValueError, "lone surrogate"):
                         self.db.execute(line, text)
-                    with self.assertRaises(ValueError):
+                    with self.assertRaisesRegex(ValueError, "lone surrogate"):
                         self.db.execute(line.replace("?", ":s"), s=text)
         self.assertEqual(self.db.dump("t"), [[1, "a"]])
+
+    def test_texts_with_line_feeds_are_inserted(self):
+        draw = random.Random(SEED)
+        texts = [embedding.text(draw) + draw.choice(embedding.LINE_FEEDS) + embedding.text(draw) for _ in range(200)]
+        for number, text in enumerate(texts):
+            with self.subTest(text=text):
+                self.assertEqual(self.db.execute("insert t (?, ?)", number, text), 1)
+                self.assertEqual(self.db.select("select s from t where id = :id", id=number), [[text]])
+        self.assertEqual(self.db.dump("t"), [list(row) for row in enumerate(texts)])
+        why = self.refused_without_reason(41, self.db.execute, "insert t (?, ?)", 1, "b\nc")
+        self.assertEqual(why.line, "insert t (1, 'b\nc')")
+
+    def test_texts_with_line_feeds_are_found_and_set(self):
+        draw = random.Random(SEED)
+        self.db.execute("insert t (1, '')")
+        for _ in range(200):
+            text = embedding.text(draw) + draw.choice(embedding.LINE_FEEDS) + embedding.text(draw)
+            with self.subTest(text=text):
+                self.assertEqual(self.db.change("update t set s = ? where s <> ?", text, text), 1)
+                self.assertEqual(self.db.select("select * from t where s = ?", text), [[1, text]])
+                self.assertEqual(self.db.change("delete t where s < :s", s=text), 0)
+                self.assertEqual(self.db.change("update t set s = '' where s = :s", s=text), 1)
+
+    def test_no_other_command_takes_a_line_feed(self):
+        for line in ("drop table ?", "tables ?", "? t"):
+            with self.subTest(line=line), self.assertRaisesRegex(ValueError, "line feed"):
+                self.db.execute(line, "a\nb")
 
     def test_a_parameter_runs_into_nothing_beside_it(self):
         for line, *given in (
@@ -561,16 +587,16 @@ class Types(binding.WithDatabase):
         self.assertEqual(self.db.dump("t"), [[text] for text in texts])
         self.assertEqual(self.db.execute("select * from t where s = ''"), [[""]])
 
-    def test_an_empty_field_of_two_meanings(self):
+    def test_null_and_the_empty_text(self):
         rows = self.fill(random.Random(SEED), ["", "a"])
         self.assertTrue(any(row[2] == "" for row in rows) and any(row[2] is None for row in rows))
+        self.assertEqual(self.db.execute("select * from e"), rows)
         self.assertEqual(self.db.dump("e"), rows)
         self.assertEqual(self.db.execute("select id, v, w from e"), [[row[0], row[3], row[4]] for row in rows])
-        with self.assertRaisesRegex(ValueError, "e.u is null or the empty text"):
-            self.db.execute("select * from e")
         for value in (None, ""):
             found = self.db.execute(f"select id from e where u = {'null' if value is None else repr(value)}")
             self.assertEqual(found, [[row[0]] for row in rows if row[2] == value])
+            self.assertEqual(self.db.execute("select id from e where u = ?", value), found)
         with self.assertRaisesRegex(ValueError, "empty text as null"):
             self.db.load("e", [(100, "", "", None, "")])
         self.assertEqual(self.db.dump("e"), rows)

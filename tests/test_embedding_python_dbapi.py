@@ -77,7 +77,8 @@ class Errors(unittest.TestCase):
                 ((mmdb.ProgrammingError, ValueError), lambda: db.execute("insert t (?, ?)", 1)),
                 ((mmdb.ProgrammingError, TypeError), lambda: db.execute("insert t (1, ?)", 1.5)),
                 ((mmdb.ProgrammingError, TypeError), lambda: db.select("tables")),
-                ((mmdb.DataError, ValueError), lambda: db.execute("insert t (1, ?)", "\n")),
+                ((mmdb.ProgrammingError, ValueError), lambda: db.execute("drop table ?", "\n")),
+                ((mmdb.ProgrammingError, ValueError), lambda: db.prepare("delete t").executemany([(1,)])),
                 ((mmdb.DataError, ValueError), lambda: db.execute("insert t (1, ?)", "\ud800")),
                 ((mmdb.DataError, ValueError), lambda: db.execute("insert t (?, '')", 2**63)),
             ):

@@ -4,28 +4,21 @@ import functools
 import os
 import pathlib
 import shutil
-import subprocess
 import sys
 import tempfile
 import unittest
 
 import binding
+import building_package
 import embedding
 import harness
 import library
+from building_package import ran
 
-BROUGHT = {"libmmdb.so", "LICENSE-APACHE", "LICENSE-MIT", "THIRD-PARTY"}
 # (the package wants pip 20.0, and these tests one that installs into another Python)
 ASKS = "import pip; assert tuple(map(int, pip.__version__.split('.')[:2])) >= (22, 3)"
-# (pip reads these; nothing is to be sought in a network, and nothing kept)
-QUIETLY = {"PIP_NO_INDEX": "1", "PIP_NO_CACHE_DIR": "1", "PIP_DISABLE_PIP_VERSION_CHECK": "1", "PIP_ROOT_USER_ACTION": "ignore"}
-
-
-def ran(*words, cwd, **variables):
-    """How a command ended, without the variables by which these tests find the binding."""
-    how = {name: value for name, value in os.environ.items() if name not in ("MMDB_LIBRARY", "PYTHONPATH")}
-    how.update(PYTHONDONTWRITEBYTECODE="1", **QUIETLY, **variables)
-    return subprocess.run(words, cwd=cwd, env=how, capture_output=True, text=True, timeout=harness.SECONDS, check=False)
+TAGS = {True: "cp310-abi3-linux_x86_64", False: "py3-none-linux_x86_64"}
+HOW = {True: "extension", False: "ctypes"}
 
 
 def python_that_does(program):
@@ -57,41 +50,56 @@ class Builds(unittest.TestCase):
         self.addCleanup(room.cleanup)
         self.room = pathlib.Path(room.name)
         self.top = self.room / "copy"
-        self.sources = self.top / "bindings" / "python"
-        no_builds = shutil.ignore_patterns("__pycache__", *BROUGHT)
-        shutil.copytree(binding.FOLDER, self.sources, ignore=no_builds)
-        (self.top / "release").mkdir()
-        for name in ("LICENSE-MIT", "LICENSE-APACHE", "release/THIRD-PARTY"):
-            shutil.copy(harness.ROOT / name, self.top / name)
-        shutil.copy(library.folder() / "libmmdb.so", self.top / "release")
+        self.sources = building_package.copy_of_sources(self.top)
 
-    def install(self, what):
+    def install(self, what, **variables):
         """How pip's installation of a folder or an sdist ended, into a folder of its own."""
-        return ran(builder(), "-m", "pip", "install", "--target", self.room / "installed", what, cwd=self.room)
+        return ran(builder(), "-m", "pip", "install", "--target", self.room / "installed", what, cwd=self.room, **variables)
 
     def sdist(self):
         (self.room / "sdist").mkdir()
         program = f"import building; print(building.build_sdist({str(self.room / 'sdist')!r}))"
         return ran(sys.executable, "-c", program, cwd=self.sources)
 
-    def check_installed(self):
+    def check_installed(self, has_extension):
         """The package is whole, and finds its library by itself."""
         package = self.room / "installed" / "mmdb"
         names = {path.name for path in package.iterdir()} - {"__pycache__"}
-        self.assertEqual(names, {path.name for path in (self.sources / "mmdb").iterdir()} | BROUGHT)
-        self.assertIn("py.typed", names)
+        extension = {building_package.EXTENSION} if has_extension else set()
+        sources = {path.name for path in (self.sources / "mmdb").iterdir()} - building_package.SOURCES
+        self.assertEqual(names, sources | building_package.BROUGHT | extension)
+        self.assertTrue({"py.typed", "_mmdb.pyi"} < names)
         self.assertEqual((package / "libmmdb.so").read_bytes(), (library.folder() / "libmmdb.so").read_bytes())
         (about,) = (self.room / "installed").glob("mmdb-*.dist-info")
         self.assertEqual(about.name, f"mmdb-{harness.VERSION}.dist-info")
-        self.assertRegex((about / "WHEEL").read_text(), r"(?m)^Tag: py3-none-linux_x86_64$")
+        self.assertIn(f"\nTag: {TAGS[has_extension]}\n", (about / "WHEEL").read_text())
         program, printed = embedding.first_program("docs/python.md", "python")
-        used = ran(sys.executable, "-c", program, cwd=self.room, PYTHONPATH=str(package.parent))
-        self.assertEqual((used.stderr, used.stdout), ("", printed))
+        program += "print(mmdb.implementation)\n"
+        for variables, how in (({}, HOW[has_extension]), ({"MMDB_PURE": "1"}, "ctypes")):
+            used = ran(sys.executable, "-c", program, cwd=self.room, PYTHONPATH=str(package.parent), **variables)
+            self.assertEqual((used.stderr, used.stdout), ("", f"{printed}{how}\n"))
 
     def test_by_pip(self):
         ended = self.install(self.sources)
         self.assertEqual(ended.returncode, 0, ended.stdout + ended.stderr)
-        self.check_installed()
+        self.check_installed(building_package.has_extension(builder()))
+
+    def test_without_a_compiler(self):
+        for variables, told in (({"CC": "/nowhere/cc"}, "mmdb: the extension can't be built, .*/nowhere/cc"), ({"MMDB_PURE": "1"}, None)):
+            with self.subTest(variables=variables):
+                shutil.rmtree(self.room / "installed", ignore_errors=True)
+                ended = self.install(self.sources, PIP_VERBOSE="1", **variables)
+                self.assertEqual(ended.returncode, 0, ended.stdout + ended.stderr)
+                if told and building_package.has_extension(builder()):
+                    self.assertRegex(ended.stdout + ended.stderr, told)
+                self.check_installed(False)
+
+    def test_without_what_a_compiler_wants(self):
+        (self.top / "release" / "mmdb.h").write_text("#error this is no header\n")
+        ended = building_package.wheel(self.sources, self.room)
+        self.assertEqual((ended.returncode, ended.stdout), (0, f"mmdb-{harness.VERSION}-{TAGS[False]}.whl\n"))
+        if building_package.has_extension():
+            self.assertRegex(ended.stderr, "(?s)mmdb: the extension can't be built, .*this is no header")
 
     def test_by_an_sdist(self):
         ended = self.sdist()
@@ -101,7 +109,8 @@ class Builds(unittest.TestCase):
         self.assertEqual(f"{packed.name}\n", ended.stdout)
         ended = self.install(packed)
         self.assertEqual(ended.returncode, 0, ended.stdout + ended.stderr)
-        self.check_installed()
+        shutil.rmtree(self.top / "release")
+        self.check_installed(building_package.has_extension(builder()))
 
     def test_without_the_library(self):
         missing = self.top / "release" / "libmmdb.so"
@@ -115,8 +124,7 @@ class Builds(unittest.TestCase):
     def test_the_same_sources_give_the_same_wheel(self):
         for name in ("one", "other"):
             (self.room / name).mkdir()
-            program = f"import building; building.build_wheel({str(self.room / name)!r})"
-            ended = ran(sys.executable, "-c", program, cwd=self.sources)
+            ended = building_package.wheel(self.sources, self.room / name)
             self.assertEqual((ended.returncode, ended.stderr), (0, ""))
         ((one,), (other,)) = [list((self.room / name).iterdir()) for name in ("one", "other")]
         self.assertEqual((one.name, one.read_bytes()), (other.name, other.read_bytes()))
@@ -130,9 +138,10 @@ class Builds(unittest.TestCase):
         for words, package in (((), self.room / "env"), (("--editable",), self.sources)):
             ended = ran(*pip, "install", *words, self.sources, cwd=self.room)
             self.assertEqual(ended.returncode, 0, ended.stdout + ended.stderr)
-            told = ran(python, "-c", "import mmdb; print(mmdb.__file__, mmdb.Database().execute('tables'))", cwd=self.room)
+            told = ran(python, "-c", "import mmdb; print(mmdb.__file__, mmdb.implementation, mmdb.Database().closed)", cwd=self.room)
             self.assertEqual(told.stderr, "")
             self.assertTrue(told.stdout.startswith(f"{package}/"), told.stdout)
+            self.assertIn(f" {HOW[building_package.has_extension(python)]} False\n", told.stdout)
             ended = ran(*pip, "uninstall", "--yes", "mmdb", cwd=self.room)
             self.assertEqual(ended.returncode, 0, ended.stdout + ended.stderr)
             self.assertNotEqual(ran(python, "-c", "import mmdb", cwd=self.room).returncode, 0)

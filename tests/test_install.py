@@ -17,7 +17,7 @@ import harness
 import library
 
 # The package for Python, as it stands in the repository.
-MODULES = [path.name for path in (harness.ROOT / "bindings" / "python" / "mmdb").iterdir() if path.suffix in (".py", ".typed")]
+MODULES = [path.name for path in (harness.ROOT / "bindings" / "python" / "mmdb").iterdir() if path.suffix in (".py", ".pyi", ".typed")]
 FILES = {
     "bin/mmdb",
     "bin/mmdb-shell",

@@ -125,7 +125,7 @@ class Shell:
             rows: mmdb.Rows = self.db.execute(line.decode())
             return rows
         except ValueError as why:
-            # What isn't UTF-8 or has a place for a parameter is refused as such; else a field has two meanings.
+            # (what isn't UTF-8, or has a place for a parameter, is refused as such)
             answer(self.db, line)
             raise Trouble(str(why).replace("mmdb: ", "")) from why
 

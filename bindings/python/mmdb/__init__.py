@@ -6,8 +6,9 @@
         for book in db.select("select * from book where id < :most", most=10):
             print(book.id, book.title)
 
-The shared library `libmmdb.so` is taken from the folder that the environment variable MMDB_LIBRARY names, else from
-this package or beside it, else from where the system keeps libraries.
+The library is part of the extension `_mmdb`, where that was built. Else, and where the environment variable MMDB_PURE
+or MMDB_LIBRARY is set, it is `libmmdb.so`, by ctypes: from the folder that MMDB_LIBRARY names, else from this package
+or beside it, else from where the system keeps libraries.
 """
 
 from .database import MOST, POLICIES, Database, Parameters
@@ -26,8 +27,10 @@ from .errors import (
     Refused,
     Warning,  # pylint: disable=redefined-builtin
 )
+from .handles import implementation
 from .indexes import Index
 from .rows import Row, Rows
+from .statement import Statement
 from .values import Value
 
 __all__ = [
@@ -53,10 +56,12 @@ __all__ = [
     "Refused",
     "Row",
     "Rows",
+    "Statement",
     "Value",
     "Warning",
     "apilevel",
     "connect",
+    "implementation",
     "paramstyle",
     "threadsafety",
 ]

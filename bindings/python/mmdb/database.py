@@ -1,17 +1,17 @@
-"""A database, by lines."""
+"""A database, by lines and by statements."""
 
 from __future__ import annotations
 
-import threading
-from typing import Any, Iterable, List, Mapping, Optional, Sequence, Tuple, Union
+from typing import TYPE_CHECKING, Any, Dict, Iterable, List, Mapping, NoReturn, Optional, Sequence, Tuple, Union
 
-from .errors import WrongType, WrongUse, WrongValue, refusal_of
+from .errors import NoMemory, WrongUse, refusal_of
+from .handles import Handle
 from .indexes import Index, indexes_of
-from .library import Handle
-from .lines import bound, check_kind, check_line, has_place
-from .reading import Reader
-from .rows import Rows
-from .values import Value, as_bytes, block_of, encoded, row_of, rows_of, rows_of_dicts
+from .lines import CHANGES, Placed, check_kind, check_line, placed
+from .reading import dumped, keys_of
+from .rows import Rows, Shape, shape_of
+from .statement import Statement
+from .values import Column, Value, as_bytes, block_of, check_rows, check_values, columns_of, encoded, rows_of, rows_of_dicts
 
 #: How plans are chosen. No policy changes an answer.
 POLICIES = ("auto", "scan", "hash", "tree", "merge")
@@ -22,18 +22,21 @@ MOST = 1 << 24
 #: The parameters of one line: values in their order, or by name.
 Parameters = Union[Sequence[Value], Mapping[str, Value]]
 
-_CHANGES = ("insert", "update", "delete")
-_CHANGES_WITH_BLANK = tuple(f"{word} " for word in _CHANGES)
+# What lines the calls take that don't take all.
+_TAKEN = {"select": ("select",), "change": CHANGES}
+
+# What the library answers to a call that isn't done, of mmdb.h.
+_NOT_OPEN, _NOT_ONE_REQUEST, _NO_MEMORY, _NO_SUCH_STATEMENT = 1, 6, 7, 9
 
 
-class Database:
+class Database(Handle):
     """A database in main memory, without tables at first.
 
     `policy` is one of `POLICIES`. `rows` is the greatest number of rows of a table, 1 to `MOST`; `block` the greatest
     number of bytes of a block of a load or a dump, up to `MOST`. Used as a context manager, it is closed at the end.
     Each call of a closed one but `close` raises ValueError.
 
-    Threads may share it: their calls come one after another. A signal handler must not use it.
+    Threads may share it: their calls come one after another. A signal handler and a `__del__` must not use it.
     """
 
     def __init__(self, policy: str = "auto", rows: int = MOST, block: int = MOST) -> None:
@@ -41,19 +44,8 @@ class Database:
             raise WrongUse(f"mmdb: a policy is one of {', '.join(POLICIES)}, not {policy!r}")
         if not 1 <= rows <= MOST or not 0 <= block <= MOST:
             raise WrongUse(f"mmdb: rows lie from 1 to {MOST}, and block from 0 to {MOST}")
-        self._lock = threading.Lock()
-        self._handle = Handle(POLICIES.index(policy), rows, block)
-        self._reader = Reader(self._handle)
-
-    @property
-    def closed(self) -> bool:
-        """Whether it is closed."""
-        return self._handle.closed
-
-    def close(self) -> None:
-        """Gives all memory of the database back. A second call does nothing."""
-        with self._lock:
-            self._handle.close()
+        self._declared: Optional[Dict[str, List[Column]]] = None
+        super().__init__(POLICIES.index(policy), rows, block)
 
     def __enter__(self) -> Database:
         return self
@@ -64,67 +56,62 @@ class Database:
     def __reduce__(self) -> Any:
         raise TypeError("mmdb: a Database has no copies")
 
-    def execute(self, line: str, /, *parameters: Any, **named: Value) -> Any:
-        """Does what a command says, and gives what it answers.
+    if TYPE_CHECKING:
+        # (these are those of the handle, so that what goes well doesn't come by here)
 
-        Each `?` of the line that stands in no text is the place of a parameter, an int, a str or None, which is null.
-        Where the places are of the form `:name`, the parameters are given as keywords, or as a mapping.
+        def execute(self, line: str, /, *parameters: Any, **named: Value) -> Any:
+            """Does what a command says, and gives what it answers.
 
-        A select gives its `Rows`; `insert`, `update` and `delete` give how many rows they were about; `tables` gives
-        the text of the declarations, each with a line feed, and `dump` the text of the load that it answers. All other
-        commands give None, and so do comments and blank lines.
+            Each `?` of the line that stands in no text is the place of a parameter, an int, a str or None, which is
+            null. Where the places are of the form `:name`, the parameters are given as keywords, or as a mapping.
 
-        Raises `Refused` where the answer is a refusal. Raises ValueError where the parameters don't fit the places, a
-        text has a line feed or a lone surrogate, an integer has more than 64 bits, the line has a line feed or is a
-        load with a block, or an empty field of the answer could be null or a text. Raises TypeError where a parameter
-        is of any other type, bool among them.
+            A select gives its `Rows`; `insert`, `update` and `delete` give how many rows they were about; `tables`
+            gives the text of the declarations, each with a line feed, and `dump` the text of the load that it answers.
+            All other commands give None, and so do comments and blank lines.
+
+            Raises `Refused` where it is refused. Raises ValueError where the parameters don't fit the places, a text
+            has a lone surrogate, an integer has more than 64 bits, or the line has a line feed or is a load with a
+            block. Raises TypeError where a parameter is of any other type, bool among them.
+            """
+
+        def select(self, line: str, /, *parameters: Any, **named: Value) -> Rows:
+            """Does a select, and gives its rows.
+
+            Raises what `execute` raises, and TypeError for a line that begins with the word of another command.
+            """
+
+        def change(self, line: str, /, *parameters: Any, **named: Value) -> int:
+            """Does an insert, an update or a delete, and gives how many rows it was about.
+
+            Raises what `execute` raises, and TypeError for a line that begins with the word of another command.
+            """
+
+    def prepare(self, line: str) -> Statement:
+        """An insert, an update, a delete or a select that is prepared once, to be done many times.
+
+        Raises `Refused` where it is refused whatever its parameters are. Raises TypeError for a line that begins with
+        the word of another command.
         """
-        if type(line) is not str:
-            check_line(line)
-        if parameters or named or "?" in line or (":" in line and has_place(line)):
-            line = bound(line, parameters, named)
-        sent = encoded(line)
-        with self._lock:
-            answer = self._answered(sent)
-            if answer.startswith(b"error "):
-                raise self._handle.refusal(answer, sent)
-            if answer.startswith(b"rows "):
-                return self._reader.selected(answer.decode())
-        return _outcome(line, answer)
-
-    def select(self, line: str, /, *parameters: Any, **named: Value) -> Rows:
-        """Does a select, and gives its rows.
-
-        Raises what `execute` raises, and TypeError for a line that begins with the word of another command.
-        """
-        if type(line) is not str or not line.startswith("select "):
-            check_kind("select", line, "select")
-        rows: Rows = self.execute(line, *parameters, **named)
-        return rows
-
-    def change(self, line: str, /, *parameters: Any, **named: Value) -> int:
-        """Does an insert, an update or a delete, and gives how many rows it was about.
-
-        Raises what `execute` raises, and TypeError for a line that begins with the word of another command.
-        """
-        if type(line) is not str or not line.startswith(_CHANGES_WITH_BLANK):
-            check_kind("change", line, *_CHANGES)
-        count: int = self.execute(line, *parameters, **named)
-        return count
+        return Statement(self, line)
 
     def executemany(self, line: str, rows: Iterable[Parameters]) -> int:
         """Does an insert, an update or a delete with each row of parameters, and gives how many rows all were about.
 
-        Each row is a tuple or list of values, or a mapping of names to values. All lines are made before the first is
-        sent, so where that raises nothing is done. Where one is refused, those before it are done, and `Refused.line`
-        tells which it was. No call of another thread comes between.
+        Each row is a tuple or list of values, or a mapping of names to values. All are looked at before the first is
+        done, so where one doesn't fit nothing is done. Where one is refused, those before it are done, and
+        `Refused.line` tells which it was. No call of another thread comes between.
 
         Raises what `change` raises.
         """
-        check_kind("executemany", line, *_CHANGES)
-        lines = [_made(line, row, number) for number, row in enumerate(rows, 1)]
-        with self._lock:
-            return sum(map(self._counted, lines))
+        check_kind("executemany", line, *CHANGES)
+        at = placed(line)
+        given = at.fitting_rows(rows)
+        if at.is_statement and given:
+            count: int = self._done_many(str.__str__(line), at, given)
+            return count
+        check_rows(given)
+        with self._turn:
+            return sum(self._counted(encoded(at.filled(values))) for values in given)
 
     def load(self, table: str, rows: Iterable[Iterable[Value]]) -> int:
         """Puts these rows into a table, all of them or none, and gives how many they are.
@@ -137,8 +124,8 @@ class Database:
         is a str, a dict or no row at all.
         """
         given = rows_of(rows)
-        with self._lock:
-            columns = self._reader.columns(table)
+        with self._turn:
+            columns = self._columns(table)
             return self._loaded(table, block_of(columns, given) if columns else b"")
 
     def load_dicts(self, table: str, dicts: Iterable[Mapping[str, Value]]) -> int:
@@ -147,8 +134,8 @@ class Database:
         Raises what `load` raises, and ValueError where a dict lacks a column or has a key that is none.
         """
         given = list(dicts)
-        with self._lock:
-            columns = self._reader.columns(table)
+        with self._turn:
+            columns = self._columns(table)
             return self._loaded(table, block_of(columns, rows_of_dicts(table, columns, given)) if columns else b"")
 
     def load_csv(self, table: str, block: Union[str, bytes]) -> int:
@@ -156,7 +143,7 @@ class Database:
 
         The first record has the names of all columns, in their order. Raises `Refused` as the language says.
         """
-        with self._lock:
+        with self._turn:
             return self._loaded(table, as_bytes(block))
 
     def dump(self, table: str) -> Rows:
@@ -165,11 +152,15 @@ class Database:
         Raises `Refused` as the language says.
         """
         line = encoded(f"dump {table}")
-        with self._lock:
-            answer = self._answered(line)
-            if answer.startswith(b"error "):
-                raise self._handle.refusal(answer, line)
-            return self._reader.dumped(answer.decode())
+        with self._turn:
+            first, _, records = self._accepted(line).decode().split("\n", 2)
+            name = first.split(" ")[1]
+            columns = self._columns(name)
+            rows = dumped(name, columns, records)
+            for place, column in enumerate(columns):
+                if column.takes_null and column.kind is str:
+                    self._put_nulls(name, columns, rows, place)
+            return rows
 
     def indexes(self, table: str) -> List[Index]:
         """How the indexes of a table stand: that of its key, and then the declared ones in their order.
@@ -177,11 +168,11 @@ class Database:
         Raises `Refused` where there is no such table; its line is the name.
         """
         name = encoded(table)
-        with self._lock:
-            answer = self._handle.indexes(name)
+        with self._turn:
+            answer = self._indexes(name)
             if answer.startswith(b"error "):
                 # (a dump is refused for the same reason)
-                raise refusal_of(answer, name, self._handle.reason(b"dump " + name, b""))
+                raise refusal_of(answer, name, self._reason(b"dump " + name, b""))
             return indexes_of(answer.decode())
 
     def answer(self, line: Union[str, bytes], block: Optional[bytes] = None) -> bytes:
@@ -190,8 +181,8 @@ class Database:
         `block` is the block of a load. Raises ValueError where the line has a line feed, and where it asks for a block
         of another length than the one given.
         """
-        with self._lock:
-            return self._answered(as_bytes(line), None if block is None else as_bytes(block))
+        with self._turn:
+            return self._answer(as_bytes(line), None if block is None else as_bytes(block))
 
     def reason(self, line: Union[str, bytes], block: Optional[bytes] = None) -> Optional[str]:
         """Why `answer` was a refusal of this line with its block, in a line of words for people.
@@ -199,55 +190,110 @@ class Database:
         It is asked right behind that call, with nothing between, while the tables are as they were. It is None where
         that was no refusal, and where no memory is found for the words.
         """
-        with self._lock:
-            return self._handle.reason(as_bytes(line), b"" if block is None else as_bytes(block))
+        with self._turn:
+            return self._reason(as_bytes(line), b"" if block is None else as_bytes(block))
 
-    # The calls below want the lock held.
+    # What a handle asks for, where it has no way of its own.
 
-    def _answered(self, line: bytes, block: Optional[bytes] = None) -> bytes:
+    def _perform(self, call: str, line: Any, parameters: Tuple[Any, ...], named: Mapping[str, Any]) -> Any:
+        """Does what a line says that came to one of the calls."""
+        if call in _TAKEN:
+            check_kind(call, line, *_TAKEN[call])
+        check_line(line)
+        at = placed(line)
+        values = at.fitting(parameters, named)
+        if at.is_statement:
+            return self._done(str.__str__(line), at, values)
+        sent = encoded(at.filled(values))
+        with self._turn:
+            return _outcome(line, self._accepted(sent))
+
+    def _check_values(self, values: Sequence[Any]) -> None:
+        """Raises what is wrong with these values."""
+        check_values(values)
+
+    def _check_rows(self, rows: Sequence[Sequence[Any]]) -> None:
+        """Raises what is wrong with these rows of values."""
+        check_rows(rows)
+
+    def _shaped(self, names: Tuple[str, ...], kinds: Tuple[int, ...]) -> Shape:
+        """What rows with these columns are made of."""
+        return shape_of(names, kinds)
+
+    def _refuse(self, at: Union[Placed, str], values: Sequence[Any], answer: bytes) -> NoReturn:
+        """Raises the refusal that the library has just answered to a statement with these values, or to a line."""
+        line = at if isinstance(at, str) else at.filled(values)
+        sent = encoded(line)
+        # (a line with a line feed is none that there is a reason of)
+        raise refusal_of(answer, sent, None if "\n" in line else self._reason(sent, b""))
+
+    def _failed(self, status: int) -> NoReturn:
+        """Raises what a call says that the library didn't do."""
+        if status == _NO_MEMORY:
+            raise NoMemory(90, "no memory")
+        if status == _NOT_OPEN or self.closed:
+            raise WrongUse("mmdb: the database is closed")
+        if status == _NO_SUCH_STATEMENT:
+            raise WrongUse("mmdb: the statement is closed")
+        if status == _NOT_ONE_REQUEST:
+            raise WrongUse("mmdb: a line has no line feed, and a load has a block as long as it says")
+        raise WrongUse(f"mmdb: the library answers {status}")
+
+    # The calls below want their turn held.
+
+    def _answer(self, line: bytes, block: Optional[bytes] = None) -> bytes:
         """What is answered. After a declaration, and a call that was interrupted, the columns are known no longer."""
         try:
-            answer = self._handle.command(line) if block is None else self._handle.load(line, block)
+            answer = self._command(line) if block is None else self._load(line, block)
             # (a declaration and a drop answer `ok`, and nothing else is answered so shortly)
             if len(answer) == 3:
-                self._reader.forget()
+                self._forget_columns()
             return answer
         except BaseException:
-            self._reader.forget()
+            self._forget_columns()
             raise
 
-    def _counted(self, line: bytes, block: Optional[bytes] = None) -> int:
-        """How many rows an insert, an update, a delete or a load was about. Raises the refusal of it."""
-        answer = self._answered(line, block)
+    def _accepted(self, line: bytes, block: Optional[bytes] = None) -> bytes:
+        """What is answered. Raises the refusal where it is one."""
+        answer = self._answer(line, block)
         if answer.startswith(b"error "):
-            raise self._handle.refusal(answer, line, block or b"")
-        return int(answer[3:])
+            raise refusal_of(answer, line, self._reason(line, block or b""))
+        return answer
+
+    def _counted(self, line: bytes, block: Optional[bytes] = None) -> int:
+        """How many rows an insert, an update, a delete or a load was about."""
+        return int(self._accepted(line, block)[3:])
 
     def _loaded(self, table: str, block: bytes) -> int:
         """Loads a block. Of a table that isn't there it is empty, and the library tells what is wrong."""
         return self._counted(encoded(f"load {table} {len(block)}"), block)
 
+    def _forget_columns(self) -> None:
+        """Forgets what is known of the columns, which may have been declared anew."""
+        self._declared = None
+        self._forget()
+
+    def _columns(self, table: str) -> List[Column]:
+        """The columns of a table, for which the library is asked once. None where there is no such table."""
+        if self._declared is None:
+            self._declared = columns_of(self._accepted(b"tables").decode())
+        return self._declared.get(table, [])
+
+    def _put_nulls(self, table: str, columns: List[Column], rows: Rows, place: int) -> None:
+        """Makes those empty fields of a dump nulls which are nulls: in a reference by texts both look alike."""
+        if all(row[place] for row in rows):
+            return
+        line = f"select {columns[0].name} from {table} where {columns[place].name} = null"
+        nulls = keys_of(columns[0], self._accepted(line.encode()).decode().split("\n", 2)[2])
+        for row in rows:
+            if row[0] in nulls:
+                row[place] = None
+
 
 def _outcome(line: str, answer: bytes) -> Any:
-    """What a command gives that selects nothing."""
+    """What a command gives that is no statement."""
     if answer == b"ok\n" or not answer:
         return None
     if line.lstrip(" \t").startswith("tables"):
         return answer[: answer.rindex(b"ok ")].decode()
     return int(answer[3:]) if answer.startswith(b"ok ") else answer.decode()
-
-
-def _made(line: str, row: Any, number: int) -> bytes:
-    """A line with the parameters of one of several rows."""
-    parameters: Tuple[Any, ...] = ()
-    named: Mapping[str, Any] = {}
-    if type(row) is tuple:
-        parameters = row
-    elif isinstance(row, Mapping):
-        named = row
-    else:
-        parameters = row_of(row, number)
-    try:
-        return encoded(bound(line, parameters, named))
-    except (WrongType, WrongUse, WrongValue) as why:
-        raise type(why)(f"{why} (row {number})") from None

@@ -1,4 +1,7 @@
-"""The shared library: where it is, and its calls on one database."""
+"""The shared library by ctypes: where it is, and its calls on one database.
+
+The extension `_mmdb` has the same classes, and is taken in the place of this where it was built.
+"""
 
 from __future__ import annotations
 
@@ -6,20 +9,51 @@ import ctypes
 import ctypes.util
 import os
 import struct
-from typing import Any, Optional
+import threading
+from collections import OrderedDict
+from typing import Any, List, Optional, Sequence, Tuple
 
-from .errors import NoMemory, Refused, WrongUse, refusal_of
+from .errors import WrongUse
+from .lines import Placed
+from .rows import Rows, Shape, shape_of
+from .values import check_rows, check_values
 
 _NAME = "libmmdb.so"
 
 # What a call answers, of mmdb.h.
-_NOT_OPEN, _NO_LINE, _NOT_ONE_REQUEST, _NO_MEMORY = 1, 5, 6, 7
+_NOT_OPEN, _NO_LINE, _NO_MEMORY, _NO_SUCH_STATEMENT, _NO_SUCH_PLACE, _REFUSED = 1, 5, 7, 9, 10, 12
+
+# How many statements are kept by their lines, and how many bytes a statement that waits may hold, beside texts of rows.
+_KEPT = 128
+_HELD = 1 << 14
+
+# A cell, of mmdb.h: an integer, where a text begins and how long it is, and which of the kinds it is of.
+_CELL = struct.Struct("=qIHH")
+_NULL, _INTEGER, _TEXT = 0, 1, 2
 
 
 class _Bytes(ctypes.Structure):
     """Bytes that the library keeps."""
 
     _fields_ = [("at", ctypes.c_void_p), ("length", ctypes.c_size_t)]
+
+
+class _Cells(ctypes.Structure):
+    """Rows that the library keeps."""
+
+    _fields_ = [
+        ("cells", ctypes.c_void_p),
+        ("texts", ctypes.c_void_p),
+        ("rows", ctypes.c_size_t),
+        ("columns", ctypes.c_size_t),
+        ("changed", ctypes.c_uint64),
+    ]
+
+
+class _Number(ctypes.Structure):
+    """A statement: its number, and how many places it has."""
+
+    _fields_ = [("number", ctypes.c_uint32), ("places", ctypes.c_uint32)]
 
 
 def _path() -> str:
@@ -81,63 +115,115 @@ _OPEN = _call(_LIBRARY, "mmdb_open", _NUMBER, _ADDRESS, _NUMBER, _NUMBER, _NUMBE
 _COMMAND = _call(_LIBRARY, "mmdb_command", _NUMBER, _ADDRESS, _ADDRESS, _SIZE, _ADDRESS)
 _LOAD = _call(_LIBRARY, "mmdb_load", _NUMBER, _ADDRESS, _ADDRESS, _SIZE, _ADDRESS, _SIZE, _ADDRESS)
 _INDEXES = _call(_LIBRARY, "mmdb_indexes", _NUMBER, _ADDRESS, _ADDRESS, _SIZE, _ADDRESS)
+_ANSWER = _call(_LIBRARY, "mmdb_answer", _NUMBER, _ADDRESS, _ADDRESS)
 _REASON = _call(_LIBRARY, "mmdb_reason", _NUMBER, _ADDRESS, _ADDRESS, _SIZE, _ADDRESS, _SIZE, _ADDRESS)
 _CLOSE = _call(_LIBRARY, "mmdb_close", None, _ADDRESS)
+_PREPARE = _call(_LIBRARY, "mmdb_prepare", _NUMBER, _ADDRESS, _ADDRESS, _SIZE, _ADDRESS)
+_BIND_INTEGER = _call(_LIBRARY, "mmdb_bind_integer", _NUMBER, _ADDRESS, _NUMBER, _NUMBER, ctypes.c_int64)
+_BIND_TEXT = _call(_LIBRARY, "mmdb_bind_text", _NUMBER, _ADDRESS, _NUMBER, _NUMBER, _ADDRESS, _SIZE)
+_BIND_NULL = _call(_LIBRARY, "mmdb_bind_null", _NUMBER, _ADDRESS, _NUMBER, _NUMBER)
+_EXECUTE = _call(_LIBRARY, "mmdb_execute", _NUMBER, _ADDRESS, _NUMBER, _ADDRESS)
+_COLUMNS = _call(_LIBRARY, "mmdb_columns", _NUMBER, _ADDRESS, _NUMBER, _ADDRESS)
+_FINALIZE = _call(_LIBRARY, "mmdb_finalize", _NUMBER, _ADDRESS, _NUMBER)
 
 
 class Handle:
-    """An open database. Its calls come one after another, which the caller sees to."""
+    """An open database, of which `mmdb.Database` is made.
+
+    Each of its calls has its turn, so that they come one after another. Those that say so want it held, by
+    `with self._turn`.
+    """
+
+    # What the calls of here want of the database that is made of it.
+    _perform: Any
+    _refuse: Any
+    _failed: Any
 
     def __init__(self, policy: int, rows: int, block: int) -> None:
+        self._turn = threading.Lock()
         self._inside = ctypes.c_void_p(None)
         self._at = ctypes.addressof(self._inside)
         self._told = _Bytes(None, 0)
         self._told_at = ctypes.addressof(self._told)
         # The pointer of what is told, seen as one to characters: a slice of it is a copy of the answer.
         self._characters: Any = ctypes.POINTER(ctypes.c_char).from_address(self._told_at)
+        self._cells = _Cells()
+        self._cells_at = ctypes.addressof(self._cells)
+        #: The statements that are kept by their lines, that which was used last at the end.
+        self._kept: OrderedDict[str, _Statement] = OrderedDict()
+        #: The numbers of statements that were let go while another call had its turn.
+        self._let_go: List[int] = []
+        #: How many declarations there were: what is known of the columns is of one of these numbers.
+        self._declarations = 0
         status = _OPEN(self._at, policy, rows, block)
-        if status == _NO_MEMORY:
-            raise NoMemory(90, "no memory")
         if status:
-            raise WrongUse(f"mmdb: the library answers {status} to mmdb_open")
+            self._failed(status)
 
     @property
     def closed(self) -> bool:
+        """Whether it is closed."""
         return not self._inside
 
     def close(self) -> None:
-        """Gives all memory back. A second call does nothing."""
-        _CLOSE(self._at)
+        """Gives all memory of the database back. A second call does nothing."""
+        with self._turn:
+            self._kept.clear()
+            _CLOSE(self._at)
 
     def __del__(self) -> None:
         if hasattr(self, "_at"):
-            self.close()
+            _CLOSE(self._at)
 
-    def command(self, line: bytes) -> bytes:
+    def execute(self, line: str, /, *parameters: Any, **named: Any) -> Any:
+        """Does what a command says, and gives what it answers."""
+        return self._perform("execute", line, parameters, named)
+
+    def select(self, line: str, /, *parameters: Any, **named: Any) -> Any:
+        """Does a select, and gives its rows."""
+        return self._perform("select", line, parameters, named)
+
+    def change(self, line: str, /, *parameters: Any, **named: Any) -> Any:
+        """Does an insert, an update or a delete, and gives how many rows it was about."""
+        return self._perform("change", line, parameters, named)
+
+    def _done(self, line: str, placed: Placed, values: Tuple[Any, ...]) -> Any:
+        """Does a statement, which is kept by its line, with these values."""
+        with self._turn:
+            return self._statement(line, placed).done(self, values)
+
+    def _done_many(self, line: str, placed: Placed, rows: List[Tuple[Any, ...]]) -> int:
+        """Does a statement, which is kept by its line, with each of these rows of values."""
+        with self._turn:
+            return self._statement(line, placed).done_many(self, rows)
+
+    def _statement(self, line: str, placed: Placed) -> _Statement:
+        """The statement that is kept by this line. The longest unused one goes where they are too many."""
+        statement = self._kept.get(line)
+        if statement is None:
+            if len(self._kept) >= _KEPT:
+                self._kept.popitem(last=False)[1].finalize(self)
+            statement = self._kept[line] = _Statement(placed)
+        self._kept.move_to_end(line)
+        return statement
+
+    # The calls below want their turn held.
+
+    def _command(self, line: bytes) -> bytes:
         """What is answered to a line. It is empty for comments and blank lines."""
         status = _COMMAND(self._at, line, len(line), self._told_at)
-        if status:
-            return self._answered(status)
-        answer: bytes = self._characters[: self._told.length]
-        return answer
+        return self._unanswered(status) if status else self._told_bytes()
 
-    def load(self, line: bytes, block: bytes) -> bytes:
+    def _load(self, line: bytes, block: bytes) -> bytes:
         """What is answered to a line with its block."""
         status = _LOAD(self._at, line, len(line), block, len(block), self._told_at)
-        if status:
-            return self._answered(status)
-        answer: bytes = self._characters[: self._told.length]
-        return answer
+        return self._unanswered(status) if status else self._told_bytes()
 
-    def indexes(self, table: bytes) -> bytes:
+    def _indexes(self, table: bytes) -> bytes:
         """What is answered to who asks how the indexes of a table stand."""
         status = _INDEXES(self._at, table, len(table), self._told_at)
-        if status:
-            return self._answered(status)
-        answer: bytes = self._characters[: self._told.length]
-        return answer
+        return self._unanswered(status) if status else self._told_bytes()
 
-    def reason(self, line: bytes, block: bytes) -> Optional[str]:
+    def _reason(self, line: bytes, block: bytes) -> Optional[str]:
         """Why the line that was just answered was refused, with its block. None where it wasn't, or for want of memory.
 
         It is asked right behind the answer, while the tables are as they were.
@@ -145,19 +231,233 @@ class Handle:
         status = _REASON(self._at, line, len(line), block, len(block), self._told_at)
         if status == _NO_MEMORY:
             return None
-        words: bytes = self._answered(status) if status else self._characters[: self._told.length]
+        words = self._unanswered(status) if status else self._told_bytes()
         return words.decode() or None
 
-    def refusal(self, answer: bytes, line: bytes, block: bytes = b"") -> Refused:
-        """The refusal that the answer is which was just given to a line with its block."""
-        return refusal_of(answer, line, self.reason(line, block))
+    def _forget(self) -> None:
+        """Forgets what is known of the columns of statements, which may have been declared anew."""
+        self._declarations += 1
 
-    def _answered(self, status: int) -> bytes:
+    def _told_bytes(self) -> bytes:
+        told: bytes = self._characters[: self._told.length]
+        return told
+
+    def _unanswered(self, status: int) -> bytes:
         """The answer to a call that wasn't done, or why it wasn't."""
-        if status == _NOT_OPEN or self.closed:
-            raise WrongUse("mmdb: the database is closed")
-        if status == _NO_LINE:
+        if status == _NO_LINE and not self.closed:
             return b""
-        if status == _NOT_ONE_REQUEST:
-            raise WrongUse("mmdb: a line has no line feed, and a load has a block as long as it says")
-        raise WrongUse(f"mmdb: the library answers {status}")
+        self._failed(status)
+        return b""
+
+
+class _Statement:
+    """A statement. It is prepared where it wasn't yet, or was let go since. Its calls want the turn of its handle."""
+
+    def __init__(self, placed: Placed) -> None:
+        self.placed = placed
+        self.number: Optional[int] = None
+        self.shape: Optional[Shape] = None
+        #: The number of declarations at which the shape was asked for.
+        self.declarations = 0
+
+    def done(self, handle: Handle, values: Tuple[Any, ...]) -> Any:
+        """Does it with these values, and gives its rows, or how many rows it was about."""
+        self.prepare(handle, values)
+        size = self.bind(handle, values)
+        if self.placed.is_select:
+            self.know_shape(handle)
+        self.execute(handle, values)
+        found = self.rows(handle, values) if self.placed.is_select else handle._cells.changed
+        if size + handle._cells.rows * handle._cells.columns * _CELL.size > _HELD:
+            self.finalize(handle)
+        return found
+
+    def done_many(self, handle: Handle, rows: List[Tuple[Any, ...]]) -> int:
+        """Does it with each of these rows of values, and gives how many rows all were about."""
+        check_rows(rows)
+        count: int = 0
+        for values in rows:
+            self.prepare(handle, values)
+            self.bind(handle, values)
+            self.execute(handle, values)
+            count += handle._cells.changed
+        return count
+
+    def prepare(self, handle: Handle, values: Sequence[Any]) -> None:
+        """Prepares it where it isn't. The values are for the words of a refusal."""
+        if self.number is not None:
+            return
+        while handle._let_go:
+            _FINALIZE(handle._at, handle._let_go.pop())
+        given, line = _Number(), self.placed.prepared
+        status = _PREPARE(handle._at, line, len(line), ctypes.addressof(given))
+        if status:
+            self.failed(handle, status, values)
+        self.number, self.shape = given.number, None
+        if given.places != self.placed.places:
+            self.finalize(handle)
+            handle._failed(_NO_SUCH_PLACE)
+
+    def bind(self, handle: Handle, values: Tuple[Any, ...]) -> int:
+        """Binds these values, and gives how many bytes their texts are."""
+        at, number, size = handle._at, self.number, 0
+        for place, value in enumerate(values):
+            kind = type(value)
+            if kind is int and -(1 << 63) <= value < 1 << 63:
+                status = _BIND_INTEGER(at, number, place, value)
+            elif value is None:
+                status = _BIND_NULL(at, number, place)
+            else:
+                check_values((value,))
+                if isinstance(value, str):
+                    text = str.encode(value)
+                    size += len(text)
+                    status = _BIND_TEXT(at, number, place, text, len(text))
+                else:
+                    status = _BIND_INTEGER(at, number, place, value)
+            if status:
+                self.failed(handle, status, values)
+        return size
+
+    def know_shape(self, handle: Handle) -> None:
+        """Asks for the columns where they aren't known. It is asked once the values are bound."""
+        if self.shape is not None and self.declarations == handle._declarations:
+            return
+        self.shape, self.declarations = None, handle._declarations
+        status = _COLUMNS(handle._at, self.number, handle._cells_at)
+        # (where it is refused, the execution is too, and tells why)
+        if not status:
+            self.shape = shape_of(*map(tuple, _columns_of(handle._cells)))
+
+    def execute(self, handle: Handle, values: Tuple[Any, ...]) -> None:
+        status = _EXECUTE(handle._at, self.number, handle._cells_at)
+        if status:
+            self.failed(handle, status, values)
+
+    def rows(self, handle: Handle, values: Tuple[Any, ...]) -> Rows:
+        """The rows that the execution found. It is done once more where the columns that are known aren't theirs."""
+        if self.shape is None or handle._cells.columns != len(self.shape.names):
+            self.shape = None
+            self.know_shape(handle)
+            self.execute(handle, values)
+        if self.shape is None:
+            handle._failed(_REFUSED)
+        assert self.shape is not None
+        return self.shape.rows(_columns_of(handle._cells))
+
+    def finalize(self, handle: Handle) -> None:
+        """Lets it go, with all that it holds. It may be prepared again."""
+        if self.number is not None:
+            number, self.number = self.number, None
+            _FINALIZE(handle._at, number)
+
+    def failed(self, handle: Handle, status: int, values: Sequence[Any]) -> None:
+        """Raises what a status says."""
+        if status == _NO_MEMORY:
+            handle._refuse(self.placed, values, b"error 90 no memory\n")
+        if status == _REFUSED:
+            _ANSWER(handle._at, handle._told_at)
+            handle._refuse(self.placed, values, handle._told_bytes())
+        handle._failed(status)
+
+
+def _columns_of(cells: _Cells) -> List[List[Any]]:
+    """The values of each column of rows."""
+    count, width = cells.rows, cells.columns
+    content = ctypes.string_at(cells.cells, count * width * _CELL.size) if count else b""
+    if count == 1:
+        return [[_value_of(cells.texts, *cell)] for cell in _CELL.iter_unpack(content)]
+    view = memoryview(content)
+    integers, words, shorts = view.cast("q"), view.cast("I"), view.cast("H")
+    columns = []
+    for at in range(width):
+        numbers, kinds = integers[2 * at :: 2 * width].tolist(), shorts[8 * at + 7 :: 8 * width].tolist()
+        if kinds.count(_INTEGER) < count:
+            places = words[4 * at + 2 :: 4 * width].tolist(), shorts[8 * at + 6 :: 8 * width].tolist()
+            numbers = _mixed(cells.texts, kinds, numbers, *places)
+        columns.append(numbers)
+    return columns
+
+
+def _value_of(texts: int, integer: int, at: int, length: int, kind: int) -> Any:
+    """The value that stands in a cell."""
+    if kind == _TEXT:
+        return ctypes.string_at(texts + at, length).decode()
+    return integer if kind == _INTEGER else None
+
+
+def _mixed(texts: int, kinds: List[int], integers: List[int], begins: List[int], lengths: List[int]) -> List[Any]:
+    """The values of a column that aren't integers alone."""
+    ends = [begin + length for begin, length, kind in zip(begins, lengths, kinds) if kind == _TEXT]
+    held = ctypes.string_at(texts, max(ends)) if ends else b""
+    return [
+        held[begin : begin + length].decode() if kind == _TEXT else integer if kind == _INTEGER else None
+        for kind, integer, begin, length in zip(kinds, integers, begins, lengths)
+    ]
+
+
+class Prepared:
+    """A statement of a database that is prepared once and done many times, of which `mmdb.Statement` is made."""
+
+    # What the calls of here want of the statement that is made of it.
+    _perform: Any
+
+    def __init__(self, handle: Handle, placed: Placed) -> None:
+        self._statement = _Statement(placed)
+        self._handle: Optional[Handle] = None
+        with handle._turn:
+            self._statement.prepare(handle, (None,) * placed.places)
+        self._handle = handle
+
+    @property
+    def closed(self) -> bool:
+        """Whether it is closed."""
+        return self._handle is None
+
+    def close(self) -> None:
+        """Lets the statement go. A second call does nothing."""
+        handle, self._handle = self._handle, None
+        if handle is not None:
+            with handle._turn:
+                self._statement.finalize(handle)
+
+    def __del__(self) -> None:
+        handle = getattr(self, "_handle", None)
+        if handle is None or self._statement.number is None:
+            return
+        # (it is let go at any time, where waiting for its turn could last for ever)
+        if not handle._turn.acquire(blocking=False):
+            handle._let_go.append(self._statement.number)
+            return
+        self._statement.finalize(handle)
+        handle._turn.release()
+
+    def execute(self, /, *parameters: Any, **named: Any) -> Any:
+        """Does it with these parameters, and gives its rows, or how many rows it was about."""
+        return self._perform(parameters, named)
+
+    def _done(self, values: Tuple[Any, ...]) -> Any:
+        """Does it with these values."""
+        handle = self._open_handle()
+        with handle._turn:
+            return self._statement.done(handle, values)
+
+    def _done_many(self, rows: List[Tuple[Any, ...]]) -> int:
+        """Does it with each of these rows of values."""
+        handle = self._open_handle()
+        with handle._turn:
+            return self._statement.done_many(handle, rows)
+
+    def _names(self) -> Optional[Tuple[str, ...]]:
+        """The names of its columns, with the values that are bound. None where it is refused with these."""
+        handle = self._open_handle()
+        with handle._turn:
+            self._statement.prepare(handle, (None,) * self._statement.placed.places)
+            self._statement.know_shape(handle)
+            shape = self._statement.shape
+            return None if shape is None else shape.names
+
+    def _open_handle(self) -> Handle:
+        if self._handle is None:
+            raise WrongUse("mmdb: the statement is closed")
+        return self._handle

@@ -1,4 +1,4 @@
-"""Lines: what kind of command one is, and how parameters come into their places."""
+"""Lines: what kind of command one is, and where its parameters stand."""
 
 from __future__ import annotations
 
@@ -7,13 +7,10 @@ import re
 from typing import Any, Iterable, List, Mapping, NamedTuple, Optional, Tuple
 
 from .errors import WrongType, WrongUse
-from .values import spelled
+from .values import encoded, row_of, spelled
 
 # A text, which has no places; or a place, with its name where it has one.
 _TEXT_OR_PLACE = re.compile(r"'[^']*(?:'|\Z)|\?|:([^\W\d]\w*)")
-
-#: Whether a line has what may be a place.
-has_place = re.compile(r"\?|:[^\W\d]").search
 
 # Where nothing has to stand between a place and what is before it, or behind it, to keep the two apart.
 _APART_BEFORE = frozenset(" \t(,=<>")
@@ -23,19 +20,101 @@ _APART_BEHIND = frozenset(" \t),")
 _BEGINNING = re.compile(r"[ \t]*(?:([A-Za-z_]\w*)|(#|\r?\Z))", re.ASCII)
 _COMMANDS = frozenset(("table", "drop", "index", "insert", "update", "delete", "select", "load", "dump", "tables"))
 
+# How many bytes a line has at most, with the return that it may end in. Longer ones are refused, and not kept.
+_LONGEST = 8192 + 1
 
-class _Template(NamedTuple):
-    """A line that is to be filled in by the operator %."""
+#: The commands that change rows, and all that can be prepared.
+CHANGES = ("insert", "update", "delete")
+STATEMENTS = (*CHANGES, "select")
 
+
+class Placed(NamedTuple):
+    """A line, and where its parameters stand. (The extension reads its fields by their order.)"""
+
+    #: The bytes of the line with a `?` at each place, which can be prepared.
+    prepared: bytes
+    #: The line with its values still to be filled in, by the operator %.
     text: str
-    #: How many values it wants, each name counted once.
-    wanted: int
+    #: How many places it has.
+    places: int
     #: The names of its places in their order; none where they are marked by `?`.
     names: Tuple[str, ...]
+    #: How many values it wants, each name counted once.
+    wanted: int
+    is_select: bool
+    #: Whether it is an insert, an update, a delete or a select, by its first word, and not too long.
+    is_statement: bool
+
+    def filled(self, values: Iterable[Any]) -> str:
+        """The line with values in its places, as literals."""
+        return self.text % tuple(map(spelled, values))
+
+    def fitting(self, parameters: Tuple[Any, ...], named: Mapping[str, Any]) -> Tuple[Any, ...]:
+        """The parameters in the order of the places: those of `named`, or of a mapping that is the one parameter, by
+        name. Raises WrongUse where they don't fit the places, and WrongType where a list stands for its values."""
+        if not named and not self.names and len(parameters) == self.places:
+            return parameters
+        only = parameters[0] if len(parameters) == 1 else None
+        if isinstance(only, Mapping) and not named:
+            parameters, named = (), only
+        if parameters and (self.names or named):
+            raise WrongUse("mmdb: a place ? takes a parameter by its order, and a place :name one by its name")
+        if isinstance(only, (tuple, list)):
+            raise WrongType(f"mmdb: parameters are passed one by one: pass *values, not a {type(only).__name__}")
+        unknown = [name for name in named if name not in self.names]
+        if unknown:
+            raise WrongUse(f"mmdb: the line has no place {_listed(unknown)}")
+        missing = [name for name in dict.fromkeys(self.names) if name not in named]
+        if missing:
+            raise WrongUse(f"mmdb: no parameter is given for {_listed(missing)}")
+        if not self.names and len(parameters) != self.places:
+            raise WrongUse(f"mmdb: the line has {self.places} places for {len(parameters)} parameters")
+        return tuple([named[name] for name in self.names]) if self.names else parameters
+
+    def fitting_rows(self, rows: Iterable[Any]) -> List[Tuple[Any, ...]]:
+        """Several rows of parameters, each in the order of the places."""
+        taken = list(rows)
+        if not self.names and set(map(type, taken)) == {tuple} and set(map(len, taken)) == {self.places}:
+            return taken
+        return [self._fitting_row(row, number) for number, row in enumerate(taken, 1)]
+
+    def _fitting_row(self, row: Any, number: int) -> Tuple[Any, ...]:
+        named = row if isinstance(row, Mapping) else {}
+        parameters = () if isinstance(row, Mapping) else row_of(row, number)
+        try:
+            return self.fitting(parameters, named)
+        except (WrongType, WrongUse) as why:
+            raise type(why)(f"{why} (row {number})") from None
 
 
 @functools.lru_cache(maxsize=512)
-def _template(line: str) -> _Template:
+def placed(line: str) -> Placed:
+    """A line, and where its parameters stand. Raises WrongUse where it has a line feed, or places of both kinds."""
+    if "\n" in line:
+        raise WrongUse("mmdb: a line has no line feed")
+    pieces: List[str] = [line]
+    marks: List[Optional[str]] = []
+    if "?" in line or ":" in line:
+        pieces, marks = _cut(line)
+    names = tuple([name for name in marks if name is not None])
+    if names and len(names) < len(marks):
+        raise WrongUse("mmdb: the line has places of both kinds, ? and :name")
+    marked = encoded("?".join(pieces))
+    found = _BEGINNING.match(line)
+    word = found[1] if found else None
+    return Placed(
+        marked,
+        _joined(pieces),
+        len(marks),
+        names,
+        len(set(names)) if names else len(marks),
+        word == "select",
+        word in STATEMENTS and len(marked) <= _LONGEST,
+    )
+
+
+def _cut(line: str) -> Tuple[List[str], List[Optional[str]]]:
+    """What stands before, between and behind the places of a line, and their names, which places by `?` don't have."""
     pieces: List[str] = [""]
     names: List[Optional[str]] = []
     at = 0
@@ -48,10 +127,7 @@ def _template(line: str) -> _Template:
             pieces.append("")
             names.append(found[1])
     pieces[-1] += line[at:]
-    named = tuple(name for name in names if name is not None)
-    if named and len(named) < len(names):
-        raise WrongUse("mmdb: the line has places of both kinds, ? and :name")
-    return _Template(_joined(pieces), len(set(named)) if named else len(names), named)
+    return pieces, names
 
 
 def _texts_and_places(line: str) -> Iterable[re.Match[str]]:
@@ -65,41 +141,8 @@ def _joined(pieces: List[str]) -> str:
     template = pieces[0]
     for before, behind in zip(pieces, pieces[1:]):
         template += "%s" if before[-1:] in _APART_BEFORE else " %s"
-        template += behind if behind[:1] in _APART_BEHIND else f" {behind}"
+        template += behind if not behind or behind[0] in _APART_BEHIND else f" {behind}"
     return template
-
-
-def bound(line: str, parameters: Tuple[Any, ...], named: Mapping[str, Any]) -> str:
-    """A line with its parameters in their places: those of `named`, or of a mapping that is the one parameter, by name.
-
-    Raises WrongUse where they don't fit the places, WrongType where a parameter is no value, and WrongValue where it
-    is one that can't stand in a line.
-    """
-    text, wanted, names = _template(line)
-    if named or names or len(parameters) != wanted:
-        parameters = _fitting(line, parameters, named)
-    return text % tuple(map(spelled, parameters))
-
-
-def _fitting(line: str, parameters: Tuple[Any, ...], named: Mapping[str, Any]) -> Tuple[Any, ...]:
-    """The parameters in the order of the places."""
-    _, wanted, names = _template(line)
-    only = parameters[0] if len(parameters) == 1 else None
-    if isinstance(only, Mapping) and not named:
-        parameters, named = (), only
-    if parameters and (names or named):
-        raise WrongUse("mmdb: a place ? takes a parameter by its order, and a place :name one by its name")
-    if isinstance(only, (tuple, list)):
-        raise WrongType(f"mmdb: parameters are passed one by one: pass *values, not a {type(only).__name__}")
-    unknown = [name for name in named if name not in names]
-    if unknown:
-        raise WrongUse(f"mmdb: the line has no place {_listed(unknown)}")
-    missing = [name for name in dict.fromkeys(names) if name not in named]
-    if missing:
-        raise WrongUse(f"mmdb: no parameter is given for {_listed(missing)}")
-    if not names and len(parameters) != wanted:
-        raise WrongUse(f"mmdb: the line has {wanted} places for {len(parameters)} parameters")
-    return tuple(named[name] for name in names) if names else parameters
 
 
 def _listed(names: Iterable[str]) -> str:

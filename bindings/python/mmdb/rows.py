@@ -1,16 +1,10 @@
-"""Rows: what is read from the records of an answer."""
+"""Rows, and the names by which their values are had."""
 
 from __future__ import annotations
 
 import collections
 import functools
-import re
-from typing import TYPE_CHECKING, Any, Callable, ClassVar, Dict, List, Sequence, Tuple, Type
-
-from .values import Column
-
-# A field of CSV, and what ends it. In a record a field is either wholly quoted or has no mark.
-_FIELD = re.compile('(?:"([^"]*(?:""[^"]*)*)"|([^",\n]*))[,\n]')
+from typing import TYPE_CHECKING, Any, Callable, ClassVar, Dict, Iterable, List, NamedTuple, Sequence, Tuple, Type
 
 _item: Callable[[List[Any], Any], Any] = list.__getitem__
 
@@ -117,51 +111,22 @@ class Rows(_ListOfRows):
         return [dict(zip(keys, row)) for row in self]
 
 
-class Shape:
-    """What the columns of records are, by which their fields are read. `full` are the names with their tables."""
+class Shape(NamedTuple):
+    """What rows with some columns are made of. (The extension reads its fields by their order.)"""
 
-    def __init__(self, names: Tuple[str, ...], full: Tuple[str, ...], columns: List[Column]) -> None:
-        places = range(len(columns))
-        self.names = names
-        self.columns = columns
-        self.types = tuple(column.kind for column in columns)
-        self.row = row_type(full)
-        self.integers = [at for at in places if columns[at].kind is int and not columns[at].takes_null]
-        self.integers_or_null = [at for at in places if columns[at].kind is int and columns[at].takes_null]
-        self.texts_or_null = [at for at in places if columns[at].kind is str and columns[at].takes_null]
+    all: Type[Rows]
+    names: Tuple[str, ...]
+    types: Tuple[type, ...]
+    row: Type[Row]
 
-    def rows(self, records: str) -> Rows:
-        """The rows that the records say. An empty field of `texts_or_null` stays one."""
-        fields = _fields_of(records)
-        width = len(self.columns)
-        if len(fields) == width:
-            rows = Rows((self._one(fields),))
-        else:
-            for place in self.integers:
-                fields[place::width] = map(int, fields[place::width])
-            for place in self.integers_or_null:
-                fields[place::width] = map(_integer_or_null, fields[place::width])
-            rows = Rows(map(self.row, zip(*[iter(fields)] * width)))
+    def rows(self, columns: Iterable[Iterable[Any]]) -> Rows:
+        """Rows that have these values in their columns."""
+        rows = self.all(map(self.row, zip(*columns)))
         rows.names, rows.types = self.names, self.types
         return rows
 
-    def _one(self, fields: List[Any]) -> Row:
-        """The row that the fields of one record say."""
-        for place in self.integers:
-            fields[place] = int(fields[place])
-        for place in self.integers_or_null:
-            fields[place] = _integer_or_null(fields[place])
-        return self.row(fields)
 
-
-def _integer_or_null(field: str) -> Any:
-    return int(field) if field else None
-
-
-def _fields_of(records: str) -> List[Any]:
-    """The fields of all records, one behind the other."""
-    if '"' in records:
-        return [quoted.replace('""', '"') if quoted else plain for quoted, plain in _FIELD.findall(records)]
-    fields = records.replace("\n", ",").split(",")
-    fields.pop()
-    return fields
+@functools.lru_cache(maxsize=512)
+def shape_of(names: Tuple[str, ...], kinds: Tuple[int, ...]) -> Shape:
+    """The shape of columns that have these names, and kinds by the numbers of mmdb.h: 1 of integers, 2 of texts."""
+    return Shape(Rows, names, tuple(str if kind == 2 else int for kind in kinds), row_type(names))

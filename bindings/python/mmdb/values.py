@@ -50,18 +50,31 @@ def _digits(value: int) -> str:
 
 
 def spelled(value: Any) -> str:
-    """A value as it stands in a line."""
+    """A value as it stands in a line. (A text with a line feed stands in none.)"""
     if value is None:
         return "null"
     if isinstance(value, str):
         doubled = str.replace(value, "'", "''")
-        if "\n" in doubled:
-            raise WrongValue("mmdb: a text with a line feed cannot stand in a line; a load takes it")
         return f"'{doubled}'"
     if isinstance(value, int) and not isinstance(value, bool):
         return _digits(value)
     hint = "; pass *values" if isinstance(value, (tuple, list)) else ""
     raise WrongType(f"mmdb: a value is an int, a str or None, not {type(value).__name__}{hint}")
+
+
+def check_values(values: Iterable[Any]) -> None:
+    """Raises WrongType where one of these is no value, and WrongValue where it is none that can be sent."""
+    for value in values:
+        encoded(spelled(value))
+
+
+def check_rows(rows: Iterable[Iterable[Any]]) -> None:
+    """The same of several rows, counted from 1."""
+    for number, row in enumerate(rows, 1):
+        try:
+            check_values(row)
+        except (WrongType, WrongValue) as why:
+            raise type(why)(f"{why} (row {number})") from None
 
 
 def encoded(text: str) -> bytes:

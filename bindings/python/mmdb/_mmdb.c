@@ -1,0 +1,590 @@
+/* The types of the extension: the turn of a call, an open database, and a statement that is prepared by name. */
+#include "_mmdb.h"
+
+/* ---- turns */
+
+typedef struct Turn {
+    PyObject_HEAD
+    PyThread_type_lock lock;
+} Turn;
+
+static PyTypeObject *turn_type;
+
+static void take(Turn *turn)
+{
+    if (PyThread_acquire_lock(turn->lock, NOWAIT_LOCK))
+        return;
+    Py_BEGIN_ALLOW_THREADS
+    PyThread_acquire_lock(turn->lock, WAIT_LOCK);
+    Py_END_ALLOW_THREADS
+}
+
+static void give(Turn *turn)
+{
+    PyThread_release_lock(turn->lock);
+}
+
+static PyObject *new_turn(void)
+{
+    Turn *turn = (Turn *)PyType_GenericAlloc(turn_type, 0);
+    if (turn == NULL)
+        return NULL;
+    turn->lock = PyThread_allocate_lock();
+    if (turn->lock == NULL) {
+        Py_DECREF(turn);
+        return PyErr_NoMemory();
+    }
+    return (PyObject *)turn;
+}
+
+void free_object(PyObject *self)
+{
+    PyTypeObject *type = Py_TYPE(self);
+    freefunc release = (freefunc)PyType_GetSlot(type, Py_tp_free);
+    release(self);
+    Py_DECREF(type);
+}
+
+static void turn_dealloc(PyObject *self)
+{
+    Turn *turn = (Turn *)self;
+    if (turn->lock != NULL)
+        PyThread_free_lock(turn->lock);
+    free_object(self);
+}
+
+static PyObject *turn_enter(PyObject *self, PyObject *Py_UNUSED(none))
+{
+    take((Turn *)self);
+    return none();
+}
+
+static PyObject *turn_exit(PyObject *self, PyObject *Py_UNUSED(why))
+{
+    give((Turn *)self);
+    return none();
+}
+
+static PyMethodDef turn_methods[] = {
+    { "__enter__", turn_enter, METH_NOARGS, "Waits for its turn." },
+    { "__exit__", turn_exit, METH_VARARGS, "Ends it." },
+    { NULL, NULL, 0, NULL },
+};
+
+static PyType_Slot turn_slots[] = {
+    { Py_tp_doc, (void *)"The turn of one call, while which no other is done." },
+    { Py_tp_dealloc, turn_dealloc },
+    { Py_tp_methods, turn_methods },
+    { 0, NULL },
+};
+
+static PyType_Spec turn_spec = {
+    .name = "mmdb._mmdb.Turn",
+    .basicsize = sizeof(Turn),
+    .flags = Py_TPFLAGS_DEFAULT | Py_TPFLAGS_DISALLOW_INSTANTIATION,
+    .slots = turn_slots,
+};
+
+/* ---- a database */
+
+static PyTypeObject *handle_type;
+
+static PyObject *handle_new(PyTypeObject *type, PyObject *Py_UNUSED(given), PyObject *Py_UNUSED(named))
+{
+    Handle *handle = (Handle *)PyType_GenericAlloc(type, 0);
+    if (handle == NULL)
+        return NULL;
+    handle->turn = (Turn *)new_turn();
+    handle->kept = PyDict_New();
+    if (handle->turn == NULL || handle->kept == NULL)
+        Py_CLEAR(handle);
+    return (PyObject *)handle;
+}
+
+static int handle_init(PyObject *self, PyObject *given, PyObject *Py_UNUSED(named))
+{
+    Handle *handle = (Handle *)self;
+    unsigned int policy, rows, block;
+    if (!PyArg_ParseTuple(given, "III", &policy, &rows, &block))
+        return -1;
+    uint32_t status = mmdb_open(&handle->db, policy, rows, block);
+    return status == MMDB_DONE ? 0 : handle_failed(handle, status);
+}
+
+static void handle_dealloc(PyObject *self)
+{
+    Handle *handle = (Handle *)self;
+    mmdb_close(&handle->db);
+    PyMem_Free(handle->let_go);
+    Py_CLEAR(handle->kept);
+    Py_CLEAR(handle->turn);
+    free_object(self);
+}
+
+static PyObject *handle_turn(PyObject *self, void *Py_UNUSED(none))
+{
+    return Py_NewRef((PyObject *)((Handle *)self)->turn);
+}
+
+static PyObject *handle_closed(PyObject *self, void *Py_UNUSED(none))
+{
+    return PyBool_FromLong(((Handle *)self)->db.inside == NULL);
+}
+
+static PyObject *handle_close(PyObject *self, PyObject *Py_UNUSED(none))
+{
+    Handle *handle = (Handle *)self;
+    take(handle->turn);
+    kept_forget_all(handle);
+    handle->let_go_count = 0;
+    mmdb_close(&handle->db);
+    give(handle->turn);
+    return none();
+}
+
+/* Does what a line says that came to one of the calls, and is no statement that is kept, or doesn't fit it. */
+static PyObject *perform(Handle *handle, const char *call, PyObject *const *given, Py_ssize_t count, PyObject *keywords)
+{
+    PyObject *told = NULL, *parameters = tuple_of(given + 1, count - 1), *named = named_of(given + count, keywords);
+    if (parameters != NULL && named != NULL)
+        told = PyObject_CallMethod((PyObject *)handle, "_perform", "sOOO", call, given[0], parameters, named);
+    Py_XDECREF(parameters);
+    Py_XDECREF(named);
+    return told;
+}
+
+/* Does what a line says that came to one of the calls. `is_select` is 1 or 0 where it takes these alone, else -1. */
+static PyObject *do_line(PyObject *self, const char *call, int is_select, PyObject *const *given, Py_ssize_t count,
+                         PyObject *keywords)
+{
+    Handle *handle = (Handle *)self;
+    if (count < 1)
+        return PyErr_Format(PyExc_TypeError, "%s() wants a line", call);
+    if (PyUnicode_CheckExact(given[0])) {
+        PyObject *told = NULL;
+        take(handle->turn);
+        Statement *statement = kept_by(handle, given[0]);
+        if (statement == NULL && !PyErr_Occurred() && count == 1 && keywords == NULL)
+            statement = kept_plain(handle, given[0]);
+        if (statement != NULL && (is_select < 0 || is_select == statement->is_select))
+            told = statement_done_by(handle, statement, given + 1, count - 1, keywords);
+        give(handle->turn);
+        if (told != NULL || PyErr_Occurred())
+            return told;
+    }
+    return perform(handle, call, given, count, keywords);
+}
+
+static PyObject *handle_execute(PyObject *self, PyObject *const *given, Py_ssize_t count, PyObject *keywords)
+{
+    return do_line(self, "execute", -1, given, count, keywords);
+}
+
+static PyObject *handle_select(PyObject *self, PyObject *const *given, Py_ssize_t count, PyObject *keywords)
+{
+    return do_line(self, "select", 1, given, count, keywords);
+}
+
+static PyObject *handle_change(PyObject *self, PyObject *const *given, Py_ssize_t count, PyObject *keywords)
+{
+    return do_line(self, "change", 0, given, count, keywords);
+}
+
+static PyObject *handle_done(PyObject *self, PyObject *given)
+{
+    Handle *handle = (Handle *)self;
+    PyObject *line, *placed, *values, *told = NULL;
+    if (!PyArg_ParseTuple(given, "OO!O!", &line, &PyTuple_Type, &placed, &PyTuple_Type, &values))
+        return NULL;
+    take(handle->turn);
+    Statement *statement = kept_anyway(handle, line, placed);
+    if (statement != NULL)
+        told = statement_done(handle, statement, values);
+    give(handle->turn);
+    return told;
+}
+
+static PyObject *handle_done_many(PyObject *self, PyObject *given)
+{
+    Handle *handle = (Handle *)self;
+    PyObject *line, *placed, *rows, *told = NULL;
+    if (!PyArg_ParseTuple(given, "OO!O!", &line, &PyTuple_Type, &placed, &PyList_Type, &rows))
+        return NULL;
+    take(handle->turn);
+    Statement *statement = kept_anyway(handle, line, placed);
+    if (statement != NULL)
+        told = statement_done_many(handle, statement, rows);
+    give(handle->turn);
+    return told;
+}
+
+/* The bytes of an answer, or none of an empty line; or null, and what a status says is raised. */
+static PyObject *told(Handle *handle, uint32_t status, mmdb_bytes answer)
+{
+    if (status != MMDB_DONE && (status != MMDB_NO_LINE || handle->db.inside == NULL)) {
+        handle_failed(handle, status);
+        return NULL;
+    }
+    return PyBytes_FromStringAndSize((const char *)answer.at, (Py_ssize_t)answer.length);
+}
+
+/* The bytes of an object, whose type was looked at. */
+static mmdb_bytes content_of(PyObject *bytes)
+{
+    char *at = NULL;
+    Py_ssize_t length = 0;
+    PyBytes_AsStringAndSize(bytes, &at, &length);
+    return (mmdb_bytes){ (const unsigned char *)at, (size_t)length };
+}
+
+static PyObject *handle_command(PyObject *self, PyObject *given)
+{
+    Handle *handle = (Handle *)self;
+    PyObject *line;
+    mmdb_bytes answer;
+    uint32_t status;
+    /* (of the formats none with # would do in each version of Python) */
+    if (!PyArg_ParseTuple(given, "S", &line))
+        return NULL;
+    mmdb_bytes request = content_of(line);
+    Py_BEGIN_ALLOW_THREADS
+    status = mmdb_command(&handle->db, request.at, request.length, &answer);
+    Py_END_ALLOW_THREADS
+    return told(handle, status, answer);
+}
+
+static PyObject *handle_load(PyObject *self, PyObject *given)
+{
+    Handle *handle = (Handle *)self;
+    PyObject *line, *block;
+    mmdb_bytes answer;
+    uint32_t status;
+    if (!PyArg_ParseTuple(given, "SS", &line, &block))
+        return NULL;
+    mmdb_bytes request = content_of(line), rows = content_of(block);
+    Py_BEGIN_ALLOW_THREADS
+    status = mmdb_load(&handle->db, request.at, request.length, rows.at, rows.length, &answer);
+    Py_END_ALLOW_THREADS
+    return told(handle, status, answer);
+}
+
+static PyObject *handle_indexes(PyObject *self, PyObject *given)
+{
+    Handle *handle = (Handle *)self;
+    PyObject *table;
+    mmdb_bytes answer;
+    if (!PyArg_ParseTuple(given, "S", &table))
+        return NULL;
+    mmdb_bytes name = content_of(table);
+    uint32_t status = mmdb_indexes(&handle->db, name.at, name.length, &answer);
+    return told(handle, status, answer);
+}
+
+static PyObject *handle_reason(PyObject *self, PyObject *given)
+{
+    Handle *handle = (Handle *)self;
+    PyObject *line, *block;
+    mmdb_bytes words;
+    if (!PyArg_ParseTuple(given, "SS", &line, &block))
+        return NULL;
+    mmdb_bytes request = content_of(line), rows = content_of(block);
+    uint32_t status = mmdb_reason(&handle->db, request.at, request.length, rows.at, rows.length, &words);
+    PyObject *bytes = status == MMDB_NO_MEMORY ? Py_NewRef(Py_None) : told(handle, status, words);
+    if (bytes == NULL || bytes == Py_None)
+        return bytes;
+    Py_DECREF(bytes);
+    if (words.length == 0)
+        return none();
+    return PyUnicode_DecodeUTF8((const char *)words.at, (Py_ssize_t)words.length, "strict");
+}
+
+static PyObject *handle_forget(PyObject *self, PyObject *Py_UNUSED(none))
+{
+    ((Handle *)self)->declarations++;
+    return none();
+}
+
+#define FAST(function) ((PyCFunction)(void (*)(void))(function))
+
+static PyMethodDef handle_methods[] = {
+    { "close", handle_close, METH_NOARGS,
+      "close($self, /)\n--\n\nGives all memory of the database back. A second call does nothing." },
+    { "execute", FAST(handle_execute), METH_FASTCALL | METH_KEYWORDS,
+      "execute($self, line, /, *parameters, **named)\n--\n\nDoes what a command says, and gives what it answers." },
+    { "select", FAST(handle_select), METH_FASTCALL | METH_KEYWORDS,
+      "select($self, line, /, *parameters, **named)\n--\n\nDoes a select, and gives its rows." },
+    { "change", FAST(handle_change), METH_FASTCALL | METH_KEYWORDS,
+      "change($self, line, /, *parameters, **named)\n--\n\n"
+      "Does an insert, an update or a delete, and gives how many rows it was about." },
+    { "_done", handle_done, METH_VARARGS, "Does a statement, which is kept by its line, with these values." },
+    { "_done_many", handle_done_many, METH_VARARGS,
+      "Does a statement, which is kept by its line, with each of these rows of values." },
+    { "_command", handle_command, METH_VARARGS, "What is answered to a line." },
+    { "_load", handle_load, METH_VARARGS, "What is answered to a line with its block." },
+    { "_indexes", handle_indexes, METH_VARARGS, "What is answered to who asks how the indexes of a table stand." },
+    { "_reason", handle_reason, METH_VARARGS, "Why the line that was just answered was refused, with its block." },
+    { "_forget", handle_forget, METH_NOARGS, "Forgets what is known of the columns of statements." },
+    { NULL, NULL, 0, NULL },
+};
+
+static PyGetSetDef handle_members[] = {
+    { "closed", handle_closed, NULL, "Whether it is closed.", NULL },
+    { "_turn", handle_turn, NULL, "The turn of its calls.", NULL },
+    { NULL, NULL, NULL, NULL, NULL },
+};
+
+static PyType_Slot handle_slots[] = {
+    { Py_tp_doc, (void *)"An open database, of which `mmdb.Database` is made." },
+    { Py_tp_new, handle_new },
+    { Py_tp_init, handle_init },
+    { Py_tp_dealloc, handle_dealloc },
+    { Py_tp_methods, handle_methods },
+    { Py_tp_getset, handle_members },
+    { 0, NULL },
+};
+
+static PyType_Spec handle_spec = {
+    .name = "mmdb._mmdb.Handle",
+    .basicsize = sizeof(Handle),
+    .flags = Py_TPFLAGS_DEFAULT | Py_TPFLAGS_BASETYPE,
+    .slots = handle_slots,
+};
+
+/* ---- statements that are prepared by name */
+
+typedef struct {
+    PyObject_HEAD
+    Handle *handle; /* null where it is closed */
+    Statement statement;
+} Prepared;
+
+static PyTypeObject *prepared_type;
+
+static int prepared_init(PyObject *self, PyObject *given, PyObject *Py_UNUSED(named))
+{
+    Prepared *prepared = (Prepared *)self;
+    PyObject *handle, *placed;
+    if (!PyArg_ParseTuple(given, "O!O!", handle_type, &handle, &PyTuple_Type, &placed))
+        return -1;
+    if (prepared->handle != NULL) {
+        PyErr_SetString(PyExc_TypeError, "mmdb: a statement is prepared once");
+        return -1;
+    }
+    Statement *statement = &prepared->statement;
+    if (statement_take(statement, placed) < 0)
+        return -1;
+    take(((Handle *)handle)->turn);
+    int status = statement_prepare((Handle *)handle, statement);
+    give(((Handle *)handle)->turn);
+    if (status == 0)
+        prepared->handle = (Handle *)Py_NewRef(handle);
+    return status;
+}
+
+/* Lets the statement go at any time, where waiting for its turn could last for ever. */
+static void let_go(Prepared *prepared)
+{
+    Handle *handle = prepared->handle;
+    if (handle == NULL)
+        return;
+    prepared->handle = NULL;
+    if (PyThread_acquire_lock(handle->turn->lock, NOWAIT_LOCK)) {
+        statement_finalize(handle, &prepared->statement);
+        give(handle->turn);
+    } else if (prepared->statement.is_prepared) {
+        size_t count = handle->let_go_count;
+        uint32_t *more = PyMem_Realloc(handle->let_go, (count + 1) * sizeof *more);
+        /* (where there is no memory for that, it is let go with the database) */
+        if (more != NULL) {
+            more[count] = prepared->statement.given.number;
+            handle->let_go = more;
+            handle->let_go_count = count + 1;
+        }
+    }
+    Py_DECREF(handle);
+}
+
+static int prepared_traverse(PyObject *self, visitproc visit, void *arg)
+{
+    Py_VISIT(Py_TYPE(self));
+    Py_VISIT(((Prepared *)self)->handle);
+    return 0;
+}
+
+static int prepared_clear(PyObject *self)
+{
+    let_go((Prepared *)self);
+    return 0;
+}
+
+static void prepared_dealloc(PyObject *self)
+{
+    PyObject_GC_UnTrack(self);
+    let_go((Prepared *)self);
+    statement_clear(&((Prepared *)self)->statement);
+    free_object(self);
+}
+
+static PyObject *prepared_closed(PyObject *self, void *Py_UNUSED(none))
+{
+    return PyBool_FromLong(((Prepared *)self)->handle == NULL);
+}
+
+/* Waits for the turn of its database, which is given; or gives null, and nothing is raised, where it is closed. */
+static Handle *turn_of(Prepared *prepared)
+{
+    Handle *handle = prepared->handle;
+    if (handle == NULL)
+        return NULL;
+    Py_INCREF(handle);
+    take(handle->turn);
+    if (prepared->handle != NULL)
+        return handle;
+    give(handle->turn);
+    Py_DECREF(handle);
+    return NULL;
+}
+
+static void end_turn(Handle *handle)
+{
+    give(handle->turn);
+    Py_DECREF(handle);
+}
+
+static PyObject *is_closed(void)
+{
+    PyErr_SetString(PyExc_ValueError, "mmdb: the statement is closed");
+    return NULL;
+}
+
+static PyObject *prepared_close(PyObject *self, PyObject *Py_UNUSED(none))
+{
+    Prepared *prepared = (Prepared *)self;
+    Handle *handle = turn_of(prepared);
+    if (handle != NULL) {
+        statement_finalize(handle, &prepared->statement);
+        Py_CLEAR(prepared->handle);
+        end_turn(handle);
+    }
+    return none();
+}
+
+static PyObject *prepared_execute(PyObject *self, PyObject *const *given, Py_ssize_t count, PyObject *keywords)
+{
+    Prepared *prepared = (Prepared *)self;
+    Handle *handle = turn_of(prepared);
+    PyObject *found = NULL, *parameters, *named;
+    if (handle != NULL) {
+        found = statement_done_by(handle, &prepared->statement, given, count, keywords);
+        end_turn(handle);
+    }
+    if (found != NULL || PyErr_Occurred())
+        return found;
+    parameters = tuple_of(given, count);
+    named = named_of(given + count, keywords);
+    if (parameters != NULL && named != NULL)
+        found = PyObject_CallMethod(self, "_perform", "OO", parameters, named);
+    Py_XDECREF(parameters);
+    Py_XDECREF(named);
+    return found;
+}
+
+static PyObject *prepared_done(PyObject *self, PyObject *values)
+{
+    Prepared *prepared = (Prepared *)self;
+    Handle *handle = turn_of(prepared);
+    if (handle == NULL)
+        return is_closed();
+    PyObject *found = statement_done(handle, &prepared->statement, values);
+    end_turn(handle);
+    return found;
+}
+
+static PyObject *prepared_done_many(PyObject *self, PyObject *rows)
+{
+    Prepared *prepared = (Prepared *)self;
+    Handle *handle = turn_of(prepared);
+    if (handle == NULL)
+        return is_closed();
+    PyObject *changed = statement_done_many(handle, &prepared->statement, rows);
+    end_turn(handle);
+    return changed;
+}
+
+static PyObject *prepared_names(PyObject *self, PyObject *Py_UNUSED(none))
+{
+    Prepared *prepared = (Prepared *)self;
+    Statement *statement = &prepared->statement;
+    Handle *handle = turn_of(prepared);
+    PyObject *names = NULL;
+    if (handle == NULL)
+        return is_closed();
+    if (statement_prepare(handle, statement) == 0 && statement_know_shape(handle, statement) == 0)
+        names = Py_NewRef(statement->shape == NULL ? Py_None : PyTuple_GetItem(statement->shape, 1));
+    end_turn(handle);
+    return names;
+}
+
+static PyMethodDef prepared_methods[] = {
+    { "close", prepared_close, METH_NOARGS,
+      "close($self, /)\n--\n\nLets the statement go. A second call does nothing." },
+    { "execute", FAST(prepared_execute), METH_FASTCALL | METH_KEYWORDS,
+      "execute($self, /, *parameters, **named)\n--\n\n"
+      "Does it with these parameters, and gives its rows, or how many rows it was about." },
+    { "_done", prepared_done, METH_O, "Does it with these values." },
+    { "_done_many", prepared_done_many, METH_O, "Does it with each of these rows of values." },
+    { "_names", prepared_names, METH_NOARGS, "The names of its columns, with the values that are bound." },
+    { NULL, NULL, 0, NULL },
+};
+
+static PyGetSetDef prepared_members[] = {
+    { "closed", prepared_closed, NULL, "Whether it is closed.", NULL },
+    { NULL, NULL, NULL, NULL, NULL },
+};
+
+static PyType_Slot prepared_slots[] = {
+    { Py_tp_doc, (void *)"A statement that is prepared once, of which `mmdb.Statement` is made." },
+    { Py_tp_init, prepared_init },
+    { Py_tp_dealloc, prepared_dealloc },
+    { Py_tp_traverse, prepared_traverse },
+    { Py_tp_clear, prepared_clear },
+    { Py_tp_methods, prepared_methods },
+    { Py_tp_getset, prepared_members },
+    { 0, NULL },
+};
+
+static PyType_Spec prepared_spec = {
+    .name = "mmdb._mmdb.Prepared",
+    .basicsize = sizeof(Prepared),
+    .flags = Py_TPFLAGS_DEFAULT | Py_TPFLAGS_BASETYPE | Py_TPFLAGS_HAVE_GC,
+    .slots = prepared_slots,
+};
+
+/* ---- the module */
+
+static struct PyModuleDef module = {
+    PyModuleDef_HEAD_INIT,
+    .m_name = "_mmdb",
+    .m_doc = "The library, as the package mmdb wants it.",
+    .m_size = -1,
+};
+
+/* Makes a type, and puts it into the module where it is to be had there. */
+static int add_type(PyObject *into, PyTypeObject **type, PyType_Spec *spec, const char *name)
+{
+    *type = (PyTypeObject *)PyType_FromSpec(spec);
+    if (*type == NULL)
+        return -1;
+    return name == NULL ? 0 : PyModule_AddObjectRef(into, name, (PyObject *)*type);
+}
+
+PyMODINIT_FUNC PyInit__mmdb(void)
+{
+    PyObject *made = PyModule_Create(&module);
+    if (made != NULL && (statement_begin() < 0 || kept_begin() < 0 ||
+                         add_type(made, &turn_type, &turn_spec, NULL) < 0 ||
+                         add_type(made, &handle_type, &handle_spec, "Handle") < 0 ||
+                         add_type(made, &prepared_type, &prepared_spec, "Prepared") < 0))
+        Py_CLEAR(made);
+    return made;
+}

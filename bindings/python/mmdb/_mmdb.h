@@ -1,0 +1,121 @@
+/* What the parts of the extension share: statements, those that are kept by their lines, and databases.
+
+   The extension does what library.py does by ctypes, over the library's archive. What goes well is done in it. What
+   wants to be put in order, doesn't fit, or is refused is handed to the Python class that is made of the one here, by
+   its methods `_perform`, `_check_values`, `_check_rows`, `_shaped`, `_refuse` and `_failed`.
+
+   Each call has its turn, so that they come one after another. The interpreter's lock is held too, but for lines and
+   loads, which may last; it alone wouldn't do, since a refusal asks for its words by Python code, and nothing may come
+   between. */
+#ifndef MMDB_EXTENSION_H
+#define MMDB_EXTENSION_H
+
+#define PY_SSIZE_T_CLEAN
+#define Py_LIMITED_API 0x030A0000
+#include <Python.h>
+
+#include "mmdb.h"
+
+/* None. (Py_RETURN_NONE of later headers is wrong for earlier versions, where None is counted as any object is.) */
+static inline PyObject *none(void)
+{
+    return Py_NewRef(Py_None);
+}
+
+/* A statement. It is prepared where it wasn't yet, or was let go since. */
+typedef struct {
+    PyObject *placed;  /* the line, and where its parameters stand: Placed of lines.py; or a str without places */
+    PyObject *line;    /* of these the bytes with a ? at each place, or that str */
+    PyObject *names;   /* and the names of the places, or null where there are none */
+    Py_ssize_t places; /* how many there are */
+    Py_ssize_t wanted; /* how many values it wants, each name counted once */
+    int is_select;
+    int is_prepared;
+    mmdb_statement given;
+    PyObject *shape;       /* of the columns, or null, which is a tuple: Shape of rows.py */
+    size_t columns;        /* how many these are */
+    uint64_t declarations; /* how many declarations there were when they were asked for */
+} Statement;
+
+/* A statement that is kept by its line, and those that were used before it and after it. */
+typedef struct Kept {
+    PyObject_HEAD
+    Statement statement;
+    PyObject *line;
+    struct Kept *older, *newer;
+} Kept;
+
+typedef struct {
+    PyObject_HEAD
+    mmdb db;
+    struct Turn *turn;
+    PyObject *kept;        /* by each line its Kept */
+    Kept *oldest, *newest; /* of these, by their last use */
+    uint64_t declarations; /* what is known of columns is known as of one of these numbers */
+    uint32_t *let_go;      /* the numbers of statements that were let go while another call had its turn */
+    size_t let_go_count;
+} Handle;
+
+/* Of a call that gives int or a pointer, -1 or null says that something was raised, where nothing else is told. Those
+   that take a handle want its turn. */
+
+/* What _statement.c has: what is done with one statement. */
+
+/* Makes what the statements share. */
+int statement_begin(void);
+
+/* Takes the fields of Placed, by their order. */
+int statement_take(Statement *statement, PyObject *placed);
+
+void statement_clear(Statement *statement);
+
+/* Prepares a statement where it isn't. What refuses it tells why of a line whose places have nulls. */
+int statement_prepare(Handle *handle, Statement *statement);
+
+/* Lets a statement go, which may be prepared again. */
+void statement_finalize(Handle *handle, Statement *statement);
+
+/* Asks for the columns where they aren't known, once the values are bound. Where it is refused, they stay unknown, and
+   the execution is refused too. */
+int statement_know_shape(Handle *handle, Statement *statement);
+
+/* Does a statement with the values of a tuple. Gives its rows, or how many rows it was about. */
+PyObject *statement_done(Handle *handle, Statement *statement, PyObject *values);
+
+/* Does it with the parameters of a call. Gives null, and nothing is raised, where they don't fit at the first look. */
+PyObject *statement_done_by(Handle *handle, Statement *statement, PyObject *const *parameters, Py_ssize_t count,
+                            PyObject *keywords);
+
+/* Does an insert, an update or a delete with each row of a list of tuples, and gives how many rows all were about. */
+PyObject *statement_done_many(Handle *handle, Statement *statement, PyObject *rows);
+
+/* Raises what a status says of a call. Gives -1. */
+int handle_failed(Handle *handle, uint32_t status);
+
+/* Values as a tuple; and the keywords of a call, with their values, as a dict. */
+PyObject *tuple_of(PyObject *const *values, Py_ssize_t count);
+PyObject *named_of(PyObject *const *values, PyObject *keywords);
+
+/* The bytes of a line that is bytes or a str. Gives null, and why is raised, where that has none. */
+const char *bytes_of(PyObject *line, Py_ssize_t *length);
+
+/* What _kept.c has: statements that are kept by their lines, of which the longest unused go. */
+
+/* Makes the type of them. */
+int kept_begin(void);
+
+/* The statement that is kept by a line, which is noted as used. Gives null also where there is none. */
+Statement *kept_by(Handle *handle, PyObject *line);
+
+/* The same, which is kept from now on where it wasn't. */
+Statement *kept_anyway(Handle *handle, PyObject *line, PyObject *placed);
+
+/* The statement of a line that isn't kept yet, where it has no places at the first look. Gives null also if it has. */
+Statement *kept_plain(Handle *handle, PyObject *line);
+
+void kept_forget_all(Handle *handle);
+
+/* Gives the memory of an object of one of the types here back. */
+void free_object(PyObject *self);
+
+#endif

@@ -1,0 +1,490 @@
+/* What is done with one statement: values in, rows out, and what is raised. */
+#include "_mmdb.h"
+
+/* How many bytes a statement that waits may hold. */
+#define HELD ((size_t)1 << 16)
+
+/* How many values are put in order without asking for memory. No command that is accepted has as many places. */
+#define MOST_VALUES 64
+
+/* After how many rows it is asked whether the user wants an end. */
+#define ROWS_BETWEEN_SIGNALS 1024
+
+void statement_clear(Statement *statement)
+{
+    Py_CLEAR(statement->placed);
+    Py_CLEAR(statement->line);
+    Py_CLEAR(statement->names);
+    Py_CLEAR(statement->shape);
+}
+
+int statement_take(Statement *statement, PyObject *placed)
+{
+    PyObject *line, *names;
+    Py_ssize_t places, wanted;
+    int is_select, is_statement;
+    if (!PyArg_ParseTuple(placed, "SOnO!npp", &line, &(PyObject *){ NULL }, &places, &PyTuple_Type, &names, &wanted,
+                          &is_select, &is_statement))
+        return -1;
+    statement_clear(statement);
+    statement->placed = Py_NewRef(placed);
+    statement->line = Py_NewRef(line);
+    statement->names = PyTuple_Size(names) > 0 ? Py_NewRef(names) : NULL;
+    statement->places = places;
+    statement->wanted = wanted;
+    statement->is_select = is_select;
+    return 0;
+}
+
+void statement_finalize(Handle *handle, Statement *statement)
+{
+    if (statement->is_prepared) {
+        statement->is_prepared = 0;
+        mmdb_finalize(&handle->db, statement->given.number);
+    }
+}
+
+/* ---- what isn't done */
+
+/* Calls a method that is there to raise. */
+static int raised(PyObject *given)
+{
+    if (given != NULL) {
+        Py_DECREF(given);
+        PyErr_SetString(PyExc_SystemError, "mmdb: nothing was raised");
+    }
+    return -1;
+}
+
+int handle_failed(Handle *handle, uint32_t status)
+{
+    return raised(PyObject_CallMethod((PyObject *)handle, "_failed", "I", (unsigned int)status));
+}
+
+PyObject *tuple_of(PyObject *const *values, Py_ssize_t count)
+{
+    PyObject *tuple = PyTuple_New(count);
+    for (Py_ssize_t at = 0; tuple != NULL && at < count; at++)
+        PyTuple_SetItem(tuple, at, Py_NewRef(values[at]));
+    return tuple;
+}
+
+/* Raises what a status says of a statement with these values. */
+static int refused(Handle *handle, Statement *statement, uint32_t status, PyObject *const *values, Py_ssize_t count)
+{
+    static const char no_memory[] = "error 90 no memory\n";
+    mmdb_bytes answer = { (const unsigned char *)no_memory, sizeof no_memory - 1 };
+    if (status != MMDB_REFUSED && status != MMDB_NO_MEMORY)
+        return handle_failed(handle, status);
+    if (status == MMDB_REFUSED)
+        mmdb_answer(&handle->db, &answer);
+    PyObject *told = PyBytes_FromStringAndSize((const char *)answer.at, (Py_ssize_t)answer.length);
+    PyObject *given = tuple_of(values, count);
+    if (told != NULL && given != NULL)
+        raised(PyObject_CallMethod((PyObject *)handle, "_refuse", "OOO", statement->placed, given, told));
+    Py_XDECREF(told);
+    Py_XDECREF(given);
+    return -1;
+}
+
+/* ---- values in */
+
+/* What is given in the place of a kind or of an mmdb_status: that it is no value, or that something was raised. */
+enum { NO_VALUE = -1, RAISED = -2 };
+
+/* The mmdb_kind of a value, or NO_VALUE. A bool is none, though it is an int. */
+static int kind_of(PyObject *value)
+{
+    if (PyLong_CheckExact(value))
+        return MMDB_INTEGER;
+    if (PyUnicode_CheckExact(value) || PyUnicode_Check(value))
+        return MMDB_TEXT;
+    if (value == Py_None)
+        return MMDB_NULL;
+    return PyLong_Check(value) && !PyBool_Check(value) ? MMDB_INTEGER : NO_VALUE;
+}
+
+/* Binds a value into a place, or looks at it alone where there is no handle, and adds how long a text is. Gives an
+   mmdb_status, NO_VALUE or RAISED. */
+static int bind(Handle *handle, uint32_t number, uint32_t place, PyObject *value, size_t *size)
+{
+    int kind = kind_of(value), is_past = 0;
+    if (kind == MMDB_INTEGER) {
+        long long integer = PyLong_AsLongLongAndOverflow(value, &is_past);
+        if (is_past)
+            return NO_VALUE;
+        return handle == NULL ? MMDB_DONE : (int)mmdb_bind_integer(&handle->db, number, place, integer);
+    }
+    if (kind == MMDB_TEXT) {
+        Py_ssize_t length;
+        const char *text = PyUnicode_AsUTF8AndSize(value, &length);
+        if (text == NULL) {
+            if (!PyErr_ExceptionMatches(PyExc_UnicodeEncodeError))
+                return RAISED;
+            PyErr_Clear();
+            return NO_VALUE;
+        }
+        *size += (size_t)length;
+        return handle == NULL ? MMDB_DONE : (int)mmdb_bind_text(&handle->db, number, place, text, (size_t)length);
+    }
+    if (kind == MMDB_NULL)
+        return handle == NULL ? MMDB_DONE : (int)mmdb_bind_null(&handle->db, number, place);
+    return NO_VALUE;
+}
+
+const char *bytes_of(PyObject *line, Py_ssize_t *length)
+{
+    char *bytes;
+    if (PyUnicode_Check(line))
+        return PyUnicode_AsUTF8AndSize(line, length);
+    return PyBytes_AsStringAndSize(line, &bytes, length) < 0 ? NULL : bytes;
+}
+
+/* Prepares a statement where it isn't. The values are for the words of a refusal. */
+static int prepare(Handle *handle, Statement *statement, PyObject *const *values, Py_ssize_t count)
+{
+    Py_ssize_t length;
+    if (statement->is_prepared)
+        return 0;
+    while (handle->let_go_count > 0)
+        mmdb_finalize(&handle->db, handle->let_go[--handle->let_go_count]);
+    const char *line = bytes_of(statement->line, &length);
+    if (line == NULL)
+        return -1;
+    uint32_t status = mmdb_prepare(&handle->db, line, (size_t)length, &statement->given);
+    if (status != MMDB_DONE)
+        return refused(handle, statement, status, values, count);
+    statement->is_prepared = 1;
+    Py_CLEAR(statement->shape);
+    if (statement->given.places == (size_t)statement->places)
+        return 0;
+    statement_finalize(handle, statement);
+    return handle_failed(handle, MMDB_NO_SUCH_PLACE);
+}
+
+/* Binds all values. Gives MMDB_DONE, NO_VALUE where one is none, or RAISED. */
+static int bind_all(Handle *handle, Statement *statement, PyObject *const *values, Py_ssize_t count, size_t *size)
+{
+    for (Py_ssize_t place = 0; place < count; place++) {
+        int status = bind(handle, statement->given.number, (uint32_t)place, values[place], size);
+        if (status == MMDB_DONE)
+            continue;
+        if (status > 0)
+            refused(handle, statement, (uint32_t)status, values, count);
+        return status > 0 ? RAISED : status;
+    }
+    return MMDB_DONE;
+}
+
+/* ---- rows out */
+
+static PyObject *value_of(const mmdb_rows *rows, const mmdb_cell *cell)
+{
+    if (cell->kind == MMDB_INTEGER)
+        return PyLong_FromLongLong(cell->integer);
+    if (cell->kind == MMDB_TEXT) {
+        mmdb_bytes text = mmdb_text(rows, cell);
+        return PyUnicode_DecodeUTF8((const char *)text.at, (Py_ssize_t)text.length, "strict");
+    }
+    return none();
+}
+
+/* How empty lists are made of a type that is made of list. */
+typedef struct {
+    PyTypeObject *type;
+    newfunc make;
+} Maker;
+
+/* No arguments. */
+static PyObject *nothing;
+
+static Maker maker_of(PyObject *type)
+{
+    return (Maker){ (PyTypeObject *)type, (newfunc)PyType_GetSlot((PyTypeObject *)type, Py_tp_new) };
+}
+
+static PyObject *empty_list(Maker maker)
+{
+    return maker.make(maker.type, nothing, NULL);
+}
+
+/* Puts a value at the end of a list, and lets go of it. */
+static int push(PyObject *list, PyObject *value)
+{
+    int status = value == NULL ? -1 : PyList_Append(list, value);
+    Py_XDECREF(value);
+    return status;
+}
+
+/* A row, whose bytes in the library are added to the size. */
+static PyObject *row_of(Maker maker, const mmdb_rows *rows, size_t number, size_t *size)
+{
+    PyObject *row = empty_list(maker);
+    for (size_t column = 0; row != NULL && column < rows->columns; column++) {
+        const mmdb_cell *cell = mmdb_cell_at(rows, number, column);
+        *size += sizeof *cell + (cell->kind == MMDB_TEXT ? cell->length : 0);
+        if (push(row, value_of(rows, cell)) < 0)
+            Py_CLEAR(row);
+    }
+    return row;
+}
+
+/* The names under which rows have their columns' names and types. */
+static PyObject *names_word, *types_word;
+
+static PyObject *list_of_rows(const Statement *statement, const mmdb_rows *rows, size_t *size)
+{
+    Maker maker = maker_of(PyTuple_GetItem(statement->shape, 3));
+    PyObject *list = empty_list(maker_of(PyTuple_GetItem(statement->shape, 0)));
+    if (list != NULL && (PyObject_SetAttr(list, names_word, PyTuple_GetItem(statement->shape, 1)) < 0 ||
+                         PyObject_SetAttr(list, types_word, PyTuple_GetItem(statement->shape, 2)) < 0))
+        Py_CLEAR(list);
+    for (size_t number = 0; list != NULL && number < rows->rows; number++)
+        if (push(list, row_of(maker, rows, number, size)) < 0)
+            Py_CLEAR(list);
+    return list;
+}
+
+/* The rows, whose cells are good until the statement is done again. What the collector ends could do so, and waits. */
+static PyObject *rows_of(const Statement *statement, const mmdb_rows *rows, size_t *size)
+{
+    int is_collecting = PyGC_Disable();
+    PyObject *list = list_of_rows(statement, rows, size);
+    if (is_collecting)
+        PyGC_Enable();
+    return list;
+}
+
+/* The values of a column, as a tuple. */
+static PyObject *column_of(const mmdb_rows *rows, size_t column)
+{
+    PyObject *tuple = PyTuple_New((Py_ssize_t)rows->rows);
+    for (size_t number = 0; tuple != NULL && number < rows->rows; number++) {
+        PyObject *value = value_of(rows, mmdb_cell_at(rows, number, column));
+        if (value == NULL)
+            Py_CLEAR(tuple);
+        else
+            PyTuple_SetItem(tuple, (Py_ssize_t)number, value);
+    }
+    return tuple;
+}
+
+int statement_know_shape(Handle *handle, Statement *statement)
+{
+    mmdb_rows columns;
+    if (statement->shape != NULL && statement->declarations == handle->declarations)
+        return 0;
+    Py_CLEAR(statement->shape);
+    statement->declarations = handle->declarations;
+    if (mmdb_columns(&handle->db, statement->given.number, &columns) != MMDB_DONE || columns.columns < 2)
+        return 0;
+    PyObject *names = column_of(&columns, 0), *kinds = column_of(&columns, 1);
+    if (names != NULL && kinds != NULL)
+        statement->shape = PyObject_CallMethod((PyObject *)handle, "_shaped", "OO", names, kinds);
+    statement->columns = columns.rows;
+    Py_XDECREF(names);
+    Py_XDECREF(kinds);
+    return statement->shape == NULL ? -1 : 0;
+}
+
+/* ---- doing */
+
+static int execute(Handle *handle, Statement *statement, PyObject *const *values, Py_ssize_t count, mmdb_rows *rows)
+{
+    uint32_t status = mmdb_execute(&handle->db, statement->given.number, rows);
+    return status == MMDB_DONE ? 0 : refused(handle, statement, status, values, count);
+}
+
+/* Does a select whose values are bound. It is done once more where its rows have other columns than those known. */
+static PyObject *selected(Handle *handle, Statement *statement, PyObject *const *values, Py_ssize_t count, size_t *size)
+{
+    mmdb_rows rows;
+    for (int tries = 0; tries < 2; tries++) {
+        if (statement_know_shape(handle, statement) < 0 || execute(handle, statement, values, count, &rows) < 0)
+            return NULL;
+        if (statement->shape != NULL && statement->columns == rows.columns)
+            return rows_of(statement, &rows, size);
+        Py_CLEAR(statement->shape);
+    }
+    handle_failed(handle, MMDB_REFUSED);
+    return NULL;
+}
+
+/* Does a statement with these values. Gives its rows, or how many rows it was about; or null, where something was
+   raised, or, and then `fits` is 0, one of them is no value. */
+static PyObject *done(Handle *handle, Statement *statement, PyObject *const *values, Py_ssize_t count, int *fits)
+{
+    mmdb_rows rows;
+    size_t size = 0;
+    PyObject *given;
+    *fits = 1;
+    if (prepare(handle, statement, values, count) < 0)
+        return NULL;
+    int status = bind_all(handle, statement, values, count, &size);
+    *fits = status != NO_VALUE;
+    if (status != MMDB_DONE)
+        return NULL;
+    if (statement->is_select)
+        given = selected(handle, statement, values, count, &size);
+    else if (execute(handle, statement, values, count, &rows) < 0)
+        given = NULL;
+    else
+        given = PyLong_FromUnsignedLongLong(rows.changed);
+    if (size > HELD)
+        statement_finalize(handle, statement);
+    return given;
+}
+
+/* The values of a tuple: in `room` where they have room there, else in memory that is to be freed. */
+static PyObject **values_of(PyObject *tuple, PyObject **room, Py_ssize_t *count)
+{
+    *count = PyTuple_Size(tuple);
+    if (*count < 0)
+        return NULL;
+    PyObject **values = *count <= MOST_VALUES ? room : PyMem_Malloc((size_t)*count * sizeof *values);
+    if (values == NULL) {
+        PyErr_NoMemory();
+        return NULL;
+    }
+    for (Py_ssize_t at = 0; at < *count; at++)
+        values[at] = PyTuple_GetItem(tuple, at);
+    return values;
+}
+
+int statement_prepare(Handle *handle, Statement *statement)
+{
+    PyObject *room[MOST_VALUES], *nulls = PyTuple_New(statement->places);
+    Py_ssize_t count;
+    for (Py_ssize_t at = 0; nulls != NULL && at < statement->places; at++)
+        PyTuple_SetItem(nulls, at, Py_NewRef(Py_None));
+    PyObject **values = nulls == NULL ? NULL : values_of(nulls, room, &count);
+    int status = values == NULL ? -1 : prepare(handle, statement, values, count);
+    if (values != room)
+        PyMem_Free(values);
+    Py_XDECREF(nulls);
+    return status;
+}
+
+PyObject *statement_done(Handle *handle, Statement *statement, PyObject *tuple)
+{
+    PyObject *room[MOST_VALUES];
+    Py_ssize_t count;
+    int fits;
+    PyObject **values = values_of(tuple, room, &count);
+    if (values == NULL)
+        return NULL;
+    PyObject *given = done(handle, statement, values, count, &fits);
+    if (given == NULL && !fits)
+        raised(PyObject_CallMethod((PyObject *)handle, "_check_values", "(O)", tuple));
+    if (values != room)
+        PyMem_Free(values);
+    return given;
+}
+
+/* Looks at all values of rows: gives MMDB_DONE, NO_VALUE or RAISED. */
+static int check_rows(PyObject *rows)
+{
+    size_t size = 0;
+    Py_ssize_t count = PyList_Size(rows);
+    for (Py_ssize_t number = 0; number < count; number++) {
+        PyObject *row = PyList_GetItem(rows, number);
+        Py_ssize_t width = PyTuple_Size(row);
+        if (width < 0)
+            return RAISED;
+        for (Py_ssize_t place = 0; place < width; place++) {
+            int status = bind(NULL, 0, 0, PyTuple_GetItem(row, place), &size);
+            if (status != MMDB_DONE)
+                return status;
+        }
+    }
+    return MMDB_DONE;
+}
+
+/* Does a statement with one of several rows, and adds how many rows it was about. */
+static int add_row(Handle *handle, Statement *statement, PyObject *row, uint64_t *changed)
+{
+    PyObject *room[MOST_VALUES];
+    Py_ssize_t count;
+    size_t size = 0;
+    mmdb_rows rows;
+    PyObject **values = values_of(row, room, &count);
+    if (values == NULL)
+        return -1;
+    int status = prepare(handle, statement, values, count);
+    if (status == 0)
+        status = bind_all(handle, statement, values, count, &size) == MMDB_DONE ? 0 : -1;
+    if (status == 0)
+        status = execute(handle, statement, values, count, &rows);
+    if (status == 0)
+        *changed += rows.changed;
+    if (size > HELD)
+        statement_finalize(handle, statement);
+    if (values != room)
+        PyMem_Free(values);
+    return status;
+}
+
+PyObject *statement_done_many(Handle *handle, Statement *statement, PyObject *rows)
+{
+    uint64_t changed = 0;
+    int checked = check_rows(rows);
+    if (checked == NO_VALUE)
+        raised(PyObject_CallMethod((PyObject *)handle, "_check_rows", "(O)", rows));
+    if (checked != MMDB_DONE)
+        return NULL;
+    for (Py_ssize_t number = 0; number < PyList_Size(rows); number++) {
+        if (number % ROWS_BETWEEN_SIGNALS == ROWS_BETWEEN_SIGNALS - 1 && PyErr_CheckSignals() < 0)
+            return NULL;
+        if (add_row(handle, statement, PyList_GetItem(rows, number), &changed) < 0)
+            return NULL;
+    }
+    return PyLong_FromUnsignedLongLong(changed);
+}
+
+/* Puts the values of a call into the order of the places. Gives null where that is no matter of a look. */
+static PyObject *const *ordered(const Statement *statement, PyObject *const *values, Py_ssize_t count,
+                                PyObject *keywords, PyObject **room)
+{
+    Py_ssize_t named = keywords == NULL ? 0 : PyTuple_Size(keywords);
+    if (statement->names == NULL)
+        return named == 0 && count == statement->places ? values : NULL;
+    if (count != 0 || named != statement->wanted || statement->places > MOST_VALUES)
+        return NULL;
+    for (Py_ssize_t place = 0; place < statement->places; place++) {
+        PyObject *name = PyTuple_GetItem(statement->names, place);
+        Py_ssize_t at = 0;
+        while (at < named && PyUnicode_Compare(name, PyTuple_GetItem(keywords, at)) != 0)
+            at++;
+        if (at == named)
+            return NULL;
+        room[place] = values[at];
+    }
+    return room;
+}
+
+PyObject *statement_done_by(Handle *handle, Statement *statement, PyObject *const *parameters, Py_ssize_t count,
+                            PyObject *keywords)
+{
+    PyObject *room[MOST_VALUES];
+    int fits;
+    PyObject *const *values = ordered(statement, parameters, count, keywords, room);
+    return values == NULL ? NULL : done(handle, statement, values, statement->places, &fits);
+}
+
+PyObject *named_of(PyObject *const *values, PyObject *keywords)
+{
+    PyObject *named = PyDict_New();
+    Py_ssize_t count = keywords == NULL ? 0 : PyTuple_Size(keywords);
+    for (Py_ssize_t at = 0; named != NULL && at < count; at++)
+        if (PyDict_SetItem(named, PyTuple_GetItem(keywords, at), values[at]) < 0)
+            Py_CLEAR(named);
+    return named;
+}
+
+int statement_begin(void)
+{
+    names_word = PyUnicode_InternFromString("names");
+    types_word = PyUnicode_InternFromString("types");
+    nothing = PyTuple_New(0);
+    return names_word == NULL || types_word == NULL || nothing == NULL ? -1 : 0;
+}

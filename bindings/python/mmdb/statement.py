@@ -1,0 +1,88 @@
+"""Statements that are prepared once and done many times."""
+
+from __future__ import annotations
+
+import re
+from typing import TYPE_CHECKING, Any, Iterable, Mapping, Tuple
+
+from .errors import WrongUse
+from .handles import Handle, Prepared
+from .lines import CHANGES, STATEMENTS, check_kind, placed
+from .values import Value
+
+if TYPE_CHECKING:
+    from .database import Parameters
+
+# Where the conditions of a select begin, in front of which there are no texts.
+_WHERE = re.compile(r"\bwhere\b", re.ASCII)
+
+
+class Statement(Prepared):
+    """An insert, an update, a delete or a select that is prepared once, to be done many times.
+
+    `Database.prepare` gives one. Used as a context manager, it is closed at the end, and so it is with its database.
+    Each call of a closed one but `close` raises ValueError.
+    """
+
+    def __init__(self, database: Handle, line: str) -> None:
+        check_kind("prepare", line, *STATEMENTS)
+        #: The line that it was made of.
+        self.line = line
+        self._database = database
+        self._placed = placed(line)
+        super().__init__(database, self._placed)
+
+    if TYPE_CHECKING:
+        # (this is that of the handle, so that what goes well doesn't come by here)
+
+        def execute(self, /, *parameters: Any, **named: Value) -> Any:
+            """Does it with these parameters, and gives its rows, or how many rows it was about.
+
+            Raises what `Database.execute` raises.
+            """
+
+    def executemany(self, rows: Iterable[Parameters]) -> int:
+        """Does an insert, an update or a delete with each row of parameters, and gives how many rows all were about.
+
+        It is as `Database.executemany` is.
+        """
+        check_kind("executemany", self.line, *CHANGES)
+        self._check()
+        count: int = self._done_many(self._placed.fitting_rows(rows))
+        return count
+
+    @property
+    def names(self) -> Tuple[str, ...]:
+        """The names of the columns that a select gives, as `table.column`. Of another statement there are none.
+
+        Raises `Refused` where it is refused whatever its parameters are.
+        """
+        self._check()
+        if not self._placed.is_select:
+            return ()
+        # (they hang on no condition, and so on no parameter)
+        asked = Prepared(self._database, placed(_WHERE.split(self.line, maxsplit=1)[0]))
+        try:
+            names: Tuple[str, ...] = asked._names() or asked._done(()).names
+            return names
+        finally:
+            asked.close()
+
+    def __enter__(self) -> Statement:
+        return self
+
+    def __exit__(self, *_: object) -> None:
+        self.close()
+
+    def __reduce__(self) -> Any:
+        raise TypeError("mmdb: a Statement has no copies")
+
+    def _perform(self, parameters: Tuple[Any, ...], named: Mapping[str, Any]) -> Any:
+        """Does it with parameters that have to be put in order, or don't fit."""
+        self._check()
+        return self._done(self._placed.fitting(parameters, named))
+
+    def _check(self) -> None:
+        """Raises WrongUse where it is closed."""
+        if self.closed:
+            raise WrongUse("mmdb: the statement is closed")
