@@ -1,10 +1,13 @@
 -- Columns: what is told of a statement that was finished, and of one that wasn't.
-use Rattle.std.proofs.Common.{◌≡◌, ◌≢◌, ℕ, sym, ap, ◌∙◌, Option, Some, None, Result, Ok, Err}
+use Rattle.std.proofs.Common.{◌≡◌, ◌≢◌, ℕ, [], refl, sym, ap, ◌∙◌, Option, Some, None, Result, Ok, Err}
 use Rattle.std.specs.Option.{option_map}
+use Rattle.plain_tables.specs.Databases.{Database}
 use Rattle.plain_tables.specs.declared.refusal.Refusal.{Refusal}
+use Rattle.plain_tables.specs.declared.resolved.Query.{Query}
+use Rattle.plain_tables.specs.declared.resolved.Resolved.TheVariants as resolved
 use Rattle.plain_tables.specs.declared.resolved.Resolved.{Resolved}
 use Rattle.mm_session.specs.Sessions.{State}
-use Rattle.mm_statements.specs.Executing.{IsMeaningOf, IsUntold}
+use Rattle.mm_statements.specs.Executing.{IsMeaningOf, IsUntold, columns_of}
 use Rattle.mm_statements.specs.Kept.{seen}
 use Rattle.mm_statements.specs.Resolving.{IsFinished, IsUnfinished}
 use Rattle.mm_statements.specs.declared.faults.ExecuteFault.{ExecuteFault}
@@ -22,6 +25,11 @@ meaning-of session statements number m f = record {
   spelled = f.spelled;
   is = f.means;
 }
+
+-- a command that is no select shows no columns
+pub none-shown : (tables : Database) (c : Resolved) → ((query : Query) → c ≢ resolved.Select query) → columns_of tables c ≡ []
+none-shown tables (resolved.Select query) other = absurd (other query refl)
+none-shown tables c other = refl
 
 -- a statement that could not be finished is refused so
 pub unfinished-untold : (session : State) (statements : Statements) (number : ℕ) (e : ExecuteFault)

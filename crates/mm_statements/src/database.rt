@@ -238,8 +238,10 @@ impl Database {
         ensures unchanged { IsUnchanged self.old self.new }
     {
         cells.clear();
-        if let Resolved::Select(query) = command_of(&self.session, &mut self.statements, number)? {
-            self.session.columns(&query, cells)?;
+        let command = command_of(&self.session, &mut self.statements, number)?;
+        if let Resolved::Select(query) = &command {
+            self.session.columns(query, cells)?;
+            return Ok(());
         }
         Ok(())
     }
