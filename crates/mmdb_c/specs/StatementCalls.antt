@@ -77,20 +77,9 @@ shown_by d number = slice_index_or d.shown.items number []
 pub record HasExecuted (number : ℕ) (old new : Database) (given : Executed) : Type 0 where
   pub effect : Effect
   pub is : IsEffectOf old.inner number effect
-  pub given : HasGiven new.inner.session effect given (shown_by new number)
+  pub gave : HasGiven new.inner.session effect given (shown_by new number)
   pub stream : StaysInStream old.inner.session new.inner.session
   pub statements : SameStatements old.inner new.inner
-
--- so it is, and the answer is empty
-pub record Executes (number : ℕ) (old new : Database) (given : Executed) : Type 0 where
-  pub executed : HasExecuted number old new given
-  pub answer : new.answer ≡ []
-
--- The statement is refused, or there was no memory; that is the answer.
-pub record IsUnexecuted (number : ℕ) (old new : Database) : Type 0 where
-  pub why : Refusal
-  pub declined : IsDeclined old.inner number (fault.Refused why)
-  pub answer : new.answer ≡ refusal_text why
 
 -- What C is told of what an execution gave: how many rows it changed; or how many rows there are, and of how many columns.
 abbrev pub Tells : List Value → Executed → Rows → Type 0
@@ -101,6 +90,21 @@ Tells cells (gives.Rows columns) told = (told.changed ≡ 0) × (told.rows ≡ l
 abbrev pub HasColumns : Executed → Type 0
 HasColumns (gives.Changed count) = Unit {0}
 HasColumns (gives.Rows columns) = 0 < columns
+
+-- The effect of the statement came about, and C is told what it gave.
+abbrev pub HasTold : ℕ → Database → Database → Rows → Type 0
+HasTold number old new told = (given : Executed) × HasExecuted number old new given × Tells (shown_by new number) given told
+
+-- So it is, and the answer is empty.
+pub record Executes (number : ℕ) (old new : Database) (told : Rows) : Type 0 where
+  pub done : HasTold number old new told
+  pub answer : new.answer ≡ []
+
+-- The statement is refused, or there was no memory; that is the answer.
+pub record IsUnexecuted (number : ℕ) (old new : Database) : Type 0 where
+  pub why : Refusal
+  pub declined : IsDeclined old.inner number (fault.Refused why)
+  pub answer : new.answer ≡ refusal_text why
 
 -- The columns of what the statement shows are kept, and the answer is empty.
 pub record KeepsColumns (number : ℕ) (old new : Database) : Type 0 where

@@ -7,7 +7,7 @@
 //! - After each status but `DONE` the tables are as they were, unless a piece found no room for its answers.
 #![tactic(auto)]
 
-ghost use Rattle.std.specs.Prelude.{◌≡◌, ◌≢◌, ◌↔◌, ◌<◌, ◌≤◌, ◌⊎◌, [], Some, None, IfSome, IsSome, IsNone, IsSomeAnd, IsTrue, length, false};
+ghost use Rattle.std.specs.Prelude.{◌≡◌, ◌≢◌, ◌↔◌, ◌<◌, ◌≤◌, ◌⊎◌, [], Some, None, IfOk, IfSome, IsSome, IsNone, IsSomeAnd, IsTrue, length, false};
 ghost use Rattle.std.specs.Vec.{vec_ptr, vec_len};
 ghost use Rattle.plain_streams.specs.Division.{IsWhole};
 ghost use Rattle.mm_session.specs.Refused.{TellsRefusal};
@@ -16,12 +16,13 @@ ghost use Rattle.mmdb_c.specs.Calls.{AreLimits, IsNew, request, Becomes, Answers
 mod database;
 mod handle;
 mod rows;
-mod statements;
 pub mod statement_calls;
+mod statements;
 
 use crate::database::Database;
 use crate::handle::Handle;
 use mm_session::SessionFault;
+use no_memory::NoMemory;
 use plain_tables::{LONGEST_BLOCK, Limits, MOST_ROWS};
 use plan_chooser::Policy;
 use std::alloc::Global;
@@ -60,6 +61,15 @@ pub struct Bytes {
     pub length: usize,
 }
 
+// A database with no tables and no statements, in a place of its own.
+fn new_database(alloc: Global, policy: Policy, limits: Limits) -> Result<Box<Database>, NoMemory>
+    requires { limits.rows ≤ 16777216 }
+    ensures { IfOk result (λ database. IsNew limits database.value) }
+{
+    let database = Database::new(alloc, policy, limits)?;
+    Ok(Box::new(alloc, database)?)
+}
+
 /// Opens a database with no tables.
 #[unsafe(no_mangle)]
 pub extern "C" fn mmdb_open(
@@ -86,10 +96,7 @@ pub extern "C" fn mmdb_open(
     if rows == 0 || rows > MOST_ROWS || block > LONGEST_BLOCK {
         return LIMIT_OUT_OF_RANGE;
     }
-    let Ok(database) = Database::new(alloc, policy, Limits { rows, block }) else {
-        return NO_MEMORY;
-    };
-    let Ok(database) = Box::new(alloc, database) else {
+    let Ok(database) = new_database(alloc, policy, Limits { rows, block }) else {
         return NO_MEMORY;
     };
     handle.put(alloc, database);

@@ -4,10 +4,9 @@ ghost use Rattle.std.specs.Prelude.{◌≡◌, ◌≢◌, ◌↔◌, ◌⊎◌, 
 ghost use Rattle.std.specs.Str.{IsUtf8};
 ghost use Rattle.plain_tables.specs.declared.value.Value.TheVariants as value;
 ghost use Rattle.mm_statements.specs.Cells.{cell_value};
-ghost use Rattle.mm_statements.specs.declared.database.Executed.{Executed};
 ghost use Rattle.mm_statements.specs.declared.database.Executed.TheVariants as gives;
 ghost use Rattle.mmdb_c.specs.Calls.{Becomes};
-ghost use Rattle.mmdb_c.specs.StatementCalls.{Prepares, IsUnprepared, KeepsAll, IsMissing, IsPast, Binds, Finalizes, Executes, IsUnexecuted, IsUntold, KeepsColumns, Tells, shown_by};
+ghost use Rattle.mmdb_c.specs.StatementCalls.{Prepares, IsUnprepared, KeepsAll, IsMissing, IsPast, Binds, Finalizes, Executes, IsUnexecuted, IsUntold, KeepsColumns, Tells};
 
 use crate::handle::Handle;
 use crate::rows::Rows;
@@ -157,7 +156,7 @@ pub extern "C" fn mmdb_execute(
 ) -> u32
     ensures not_open { (result ≡ NOT_OPEN) ↔ IsNone handle.old.database }
     ensures no_such_statement { (result ≡ NO_SUCH_STATEMENT) ↔ IsSomeAnd handle.old.database (IsMissing statement) }
-    ensures done { result ≡ DONE → Becomes handle.old.database handle.new.database (λ old new. (given : Executed) × Executes statement old new given × Tells (shown_by new statement) given rows.new) }
+    ensures done { result ≡ DONE → Becomes handle.old.database handle.new.database (λ old new. Executes statement old new rows.new) }
     ensures refused { result ≡ REFUSED → Becomes handle.old.database handle.new.database (IsUnexecuted statement) }
     ensures kept { result ≢ DONE → IsSome handle.old.database → Becomes handle.old.database handle.new.database KeepsAll }
     ensures others { IsSome handle.old.database → (result ≡ DONE) ⊎ ((result ≡ NO_SUCH_STATEMENT) ⊎ (result ≡ REFUSED)) }
@@ -166,13 +165,10 @@ pub extern "C" fn mmdb_execute(
     let Some(mut database) = handle.take(alloc) else {
         return NOT_OPEN;
     };
-    let executed = database.execute(statement);
-    if let Ok(given) = executed {
-        rows.tell(given, &database.shown[statement as usize]);
-    }
+    let executed = database.execute(statement, rows);
     handle.put(alloc, database);
     match executed {
-        Ok(_) => DONE,
+        Ok(()) => DONE,
         Err(Unexecuted::NoSuchStatement) => NO_SUCH_STATEMENT,
         Err(Unexecuted::Refused) => REFUSED,
     }

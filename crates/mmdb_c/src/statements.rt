@@ -7,8 +7,9 @@ ghost use Rattle.mmdb_c.specs.declared.statements.Unprepared.TheVariants as unpr
 ghost use Rattle.mmdb_c.specs.declared.statements.Unexecuted.TheVariants as unexecuted;
 
 use crate::database::Database;
+use crate::rows::Rows;
 use mm_cells::Cells;
-use mm_statements::{Cell, Declined, ExecuteFault, Executed, PrepareFault};
+use mm_statements::{Cell, Declined, ExecuteFault, PrepareFault};
 use no_memory::NoMemory;
 use plain_tables::Refusal;
 use std::alloc::Global;
@@ -35,8 +36,19 @@ pub enum Unexecuted {
     Refused,
 }
 
+// Makes sure of cells for the values that the statement of a number shows.
+fn make_room(shown: &mut Vec<Cells>, number: usize) -> Result<(), NoMemory>
+    ensures { OnOk result (number < length shown.new.items) }
+{
+    while shown.len() <= number {
+        let cells = Cells::new(*shown.allocator());
+        shown.push(cells)?;
+    }
+    Ok(())
+}
+
 impl Database {
-    ghost use Rattle.mmdb_c.specs.StatementCalls.{Prepares, IsUnprepared, KeepsAll, IsMissing, IsPast, IsUnbound, Binds, Finalizes, HasExecuted, Executes, IsUnexecuted, IsUntold, KeepsColumns};
+    ghost use Rattle.mmdb_c.specs.StatementCalls.{Prepares, IsUnprepared, KeepsAll, IsMissing, IsPast, IsUnbound, Binds, Finalizes, HasTold, Executes, IsUnexecuted, IsUntold, KeepsColumns};
     ghost use Rattle.mm_statements.specs.Executing.{IsDeclined};
 
     /// Keeps the statement that a line spells. Where it is refused, that is the answer, and else the answer is empty.
@@ -54,7 +66,10 @@ impl Database {
             }
             Err(PrepareFault::NoMemory) => return Err(Unprepared::NoMemory),
         };
-        let (Ok(number), Ok(places)) = (u32::try_from(numbered.statement), u32::try_from(numbered.places)) else {
+        let (Ok(number), Ok(places)) = (
+            u32::try_from(numbered.statement),
+            u32::try_from(numbered.places),
+        ) else {
             let _ = self.inner.finalize(numbered.statement);
             return Err(Unprepared::NoMemory);
         };
@@ -89,49 +104,41 @@ impl Database {
         Ok(())
     }
 
-    // Makes sure of cells for the values that the statement of a number shows.
-    fn room_for(&mut self, number: usize) -> Result<(), NoMemory>
-        ensures room { OnOk result (number < length self.new.shown.items) }
-        ensures kept { KeepsAll self.old self.new }
+    // Does what a statement that is there does, with room for what it shows, and tells what that gave.
+    fn execute_there(&mut self, number: usize, rows: &mut Rows) -> Result<(), ExecuteFault>
+        requires { number < length self.old.shown.items }
+        ensures done { OnOk result (HasTold number self.old self.new rows.new) }
+        ensures declined { IfErr result (IsDeclined self.old.inner number) }
+        ensures unchanged { OnErr result (KeepsAll self.old self.new) }
         ensures answer { self.new.answer ≡ self.old.answer }
+        ensures untold { OnErr result (rows.new ≡ rows.old) }
     {
-        let alloc = *self.shown.allocator();
-        while self.shown.len() <= number {
-            self.shown.push(Cells::new(alloc))?;
-        }
+        let given = self.inner.execute(number, &mut self.shown[number])?;
+        rows.tell(given, &self.shown[number]);
         Ok(())
     }
 
-    // Does what a statement that is there does, with room for what it shows.
-    fn execute_there(&mut self, number: usize) -> Result<Executed, ExecuteFault>
-        requires { number < length self.old.shown.items }
-        ensures done { IfOk result (HasExecuted number self.old self.new) }
-        ensures declined { IfErr result (IsDeclined self.old.inner number) }
-        ensures unchanged { OnErr result (KeepsAll self.old self.new) }
-    {
-        self.inner.execute(number, &mut self.shown[number])
-    }
-
-    /// Does what a statement does with the values that are bound. The values that it shows are its cells; where it is refused, that
-    /// is the answer, and else the answer is empty.
-    pub fn execute(&mut self, number: u32) -> Result<Executed, Unexecuted>
-        ensures done { IfOk result (Executes number self.old self.new) }
+    /// Does what a statement does with the values that are bound, and tells what that gave. The values that it shows are its cells;
+    /// where it is refused, that is the answer, and else the answer is empty.
+    pub fn execute(&mut self, number: u32, rows: &mut Rows) -> Result<(), Unexecuted>
+        ensures done { OnOk result (Executes number self.old self.new rows.new) }
         ensures missing { IsMissing number self.old → result ≡ Err unexecuted.NoSuchStatement }
         ensures none { result ≡ Err unexecuted.NoSuchStatement → IsMissing number self.old }
         ensures refused { IsErrOf result unexecuted.Refused → IsUnexecuted number self.old self.new }
         ensures unchanged { OnErr result (KeepsAll self.old self.new) }
+        ensures untold { OnErr result (rows.new ≡ rows.old) }
     {
         let number = number as usize;
         self.answer.clear();
         if !self.inner.has(number) {
             return Err(Unexecuted::NoSuchStatement);
         }
-        if self.room_for(number).is_err() {
+        if make_room(&mut self.shown, number).is_err() {
             self.answer.refuse(Refusal::NoMemory);
             return Err(Unexecuted::Refused);
         }
-        match self.execute_there(number) {
-            Ok(executed) => Ok(executed),
+        match self.execute_there(number, rows) {
+            Ok(()) => Ok(()),
             Err(ExecuteFault::NoSuchStatement) => Err(Unexecuted::NoSuchStatement),
             Err(ExecuteFault::Refused(why)) => {
                 self.answer.refuse(why);

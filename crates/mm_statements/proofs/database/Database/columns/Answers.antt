@@ -49,9 +49,11 @@ pub returns-clause-told : goal.returns-clause-told
 returns-clause-told c =
     let s = c.self.inside.session in
     let command = c.in_ok-command.command in
-    rw (← c.self.view_is)
-    (command, meaning-of s c.self.inside.statements c.args.number (Ok command) c.in_ok-command.ensures.finished,
-    c.clear.ensures ∙ sym (none-shown s.database command c.in_default.not-Select))
+    rw (← c.self.view_is) (
+      command,
+      meaning-of s c.self.inside.statements c.args.number (Ok command) c.in_ok-command.ensures.finished,
+      c.clear.ensures ∙ sym (none-shown s.database command c.in_default.not-Select),
+    )
 
 pub returns-clause-unchanged : goal.returns-clause-unchanged
 returns-clause-unchanged c =

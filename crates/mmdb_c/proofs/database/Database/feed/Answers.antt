@@ -13,4 +13,5 @@ returns-clause-write c is = record {
   breaks_off = gained_all _ _ _ c.clear.ensures (c.feed.ensures.write is);
   over = c.feed.ensures.over is;
   limits = c.feed.ensures.limits;
+  statements = c.feed.ensures.statements;
 }
