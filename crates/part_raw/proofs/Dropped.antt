@@ -1,14 +1,12 @@
 -- The blocks of a store that is dropped, with their bitmaps, the last first.
 use Rattle.std.proofs.Common.{◌≡◌, ℕ, ◌<◌, Bool, List, [], ◌∷◌, ◌++◌, map, length, get_or, Option, refl, sym, ◌∙◌, arith, subst}
-use Rattle.std.proofs.lemmas.List.{length-map, length_push, get_or-map, get_or_push, map-append}
+use Rattle.std.proofs.lemmas.List.{length-map, length_push, get_or_push, map-append}
 use Rattle.part_raw.specs.declared.store.Occupancy.{Occupancy}
 use Rattle.part_raw.specs.Rows.{IsLaid, rows_in}
 use Rattle.part_raw.specs.Layout.{IsPartition}
-use Rattle.part_raw.specs.Counted.{shelf}
-use Rattle.part_raw.specs.Open.{words_at, slots_at, HaveBitmaps, IsStocked}
-use Rattle.part_raw.proofs.Bitmaps.{bits_in, bits_of_last, HaveBitmaps-front, get_or-push_other}
+use Rattle.part_raw.specs.Open.{HaveBitmaps, IsStocked}
+use Rattle.part_raw.proofs.Bitmaps.{bits_of_last, HaveBitmaps-front, get_or-push_other}
 use Rattle.part_raw.proofs.Parts.{Blocks}
-use Rattle.part_raw.proofs.Shelves.{bits-rows}
 use Rattle.part_raw.proofs.Stocked.{as_many, bits_here_at}
 
 module _ {T : Type 0} (counted : Bool) (width : ℕ) (blocks : List (List (Option T))) (counts : List (List ℕ)) (occupancies : List Occupancy) (free : ℕ) (first : Option ℕ)

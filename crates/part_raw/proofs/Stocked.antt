@@ -1,8 +1,6 @@
 -- A store with its counts beside it: what is read of a slot, and a store that stays one where a slot, its count or a partition changes.
-use Rattle.std.proofs.Common.{◌≡◌, ℕ, ◌+◌, ◌-◌, ◌*◌, ◌^◌, ◌<◌, ◌≤◌, zero, suc, Bool, true, false, if◌then◌else◌, List, [], ◌∷◌, ◌++◌, map, length, get_or, set, take, Option, Some, None, is_some, IsSome, refl, sym, ap, ◌∙◌, arith, subst}
-use Rattle.std.proofs.lemmas.List.{length-set, length-map, length-append, length-take, length_push, map-append, get_or-map}
-use Rattle.std.proofs.Math.ListN.{replicate}
-use Rattle.std.specs.Prelude.{option_to_list}
+use Rattle.std.proofs.Common.{◌≡◌, ℕ, ◌+◌, ◌*◌, ◌^◌, ◌<◌, ◌≤◌, zero, suc, Bool, true, if◌then◌else◌, List, [], ◌∷◌, map, length, get_or, set, Option, Some, None, is_some, IsSome, refl, sym, ap, ◌∙◌, arith, subst}
+use Rattle.std.proofs.lemmas.List.{length-set}
 use Rattle.std.specs.FinMap.{get, insert, remove, len}
 use Rattle.common_lemmas.proofs.Options.{is_some-Some}
 use Rattle.part_raw.specs.declared.tuple_ref.TupleRef.{TupleRef}
@@ -10,15 +8,15 @@ use Rattle.part_raw.specs.declared.store.Occupancy.{Occupancy}
 use Rattle.part_raw.specs.Store.{Tuple, tuple}
 use Rattle.part_raw.specs.Rows.{IsLaid, rows_in}
 use Rattle.part_raw.specs.Counted.{Shelf, shelf, shelves_of, tuples_in, with_count}
-use Rattle.part_raw.specs.TupleRefs.{ref_to, part_of, slot_of}
-use Rattle.part_raw.specs.Layout.{is_set, vacancies, tuples_of, IsPartition}
-use Rattle.part_raw.specs.Open.{words_at, slots_at, tables, HaveBitmaps, IsTable, IsStocked}
+use Rattle.part_raw.specs.TupleRefs.{part_of, slot_of}
+use Rattle.part_raw.specs.Layout.{is_set, tuples_of, IsPartition}
+use Rattle.part_raw.specs.Open.{words_at, slots_at, tables, IsTable, IsStocked}
 use Rattle.part_raw.proofs.Bitmaps.{mapped-read, bits_in}
 use Rattle.part_raw.proofs.Refs.{slot_of-within}
-use Rattle.part_raw.proofs.WithCounts.{counted-get, with_count-is, row_held, row_free}
-use Rattle.part_raw.proofs.Shelves.{bits-shown, bits-rows, vacancies-shown, shown-freed, shown-exchanged, shown-put, shown-counted, shown-empty}
-use Rattle.part_raw.proofs.Beside.{length-shelves_of, shelves_of-get, shelves_of-set, shelves_of-set_both, shelves_of-set_counts, shelves_of-push, shelves_of-grown}
-use Rattle.part_raw.proofs.Tables.{rows_read, Changes, length-tables, table_within, found_row, laid_at, bits_of_table, open_within, open_has_slot, fresh-put, put_full, put_open, rows-put, take_full, take_open, rows-taken, table-pushed, rows-pushed, table-exchanged, rows-exchanged}
+use Rattle.part_raw.proofs.WithCounts.{counted-get, with_count-is, row_held}
+use Rattle.part_raw.proofs.Shelves.{bits-shown, bits-rows, shown-freed, shown-exchanged, shown-counted}
+use Rattle.part_raw.proofs.Beside.{length-shelves_of, shelves_of-get, shelves_of-set, shelves_of-set_counts}
+use Rattle.part_raw.proofs.Tables.{rows_read, Changes, length-tables, table_within, found_row, laid_at, bits_of_table, take_full, take_open, rows-taken, table-exchanged, rows-exchanged}
 
 -- what is read with any default
 pub default_read : {A : Type 0} (l : List (List A)) (k : ℕ) → k < length l → get_or l k [] ≡ get_or l k (get_or l k [])

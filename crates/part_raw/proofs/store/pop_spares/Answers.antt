@@ -1,4 +1,4 @@
-use Rattle.std.proofs.Common.{◌∙◌, ◌≡◌, ap, length, sym, arith, rules, take}
+use Rattle.std.proofs.Common.{◌∙◌, ◌≡◌, ap, length, arith, rules, take}
 use Rattle.std.proofs.lemmas.List.{length_push}
 use Rattle.part_raw.specs.Counted.{shelves_of}
 use Rattle.part_raw.proofs.Beside.{length-shelves_of, shelves_of-push, shelves_of-take}

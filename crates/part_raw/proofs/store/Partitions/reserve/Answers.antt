@@ -1,5 +1,4 @@
-use Rattle.std.proofs.Common.{◌≡◌, ℕ, ap, arith, refl, subst, ◌++◌, ◌∙◌}
-use Rattle.std.specs.Prelude.{option_to_list}
+use Rattle.std.proofs.Common.{◌≡◌, ℕ, arith, refl, subst}
 use Rattle.part_raw.specs.Store.{store}
 use Rattle.part_raw.specs.Open.{IsStocked}
 use Rattle.part_raw.proofs.Stocked.{few_here}

@@ -1,4 +1,4 @@
-use Rattle.std.proofs.Common.{ap, set, get_or, ◌∙◌}
+use Rattle.std.proofs.Common.{ap, ◌∙◌}
 use Rattle.part_raw.specs.Store.{store}
 use Rattle.common_lemmas.proofs.Options.{is_some-Some}
 use Rattle.part_raw.specs.Counted.{shelves_of}
