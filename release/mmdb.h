@@ -20,8 +20,18 @@
    pointers of a call points into what another of them points to.
 
    A null pointer means the same wherever it stands: a null handle is a closed one; null with the length 0 is no
-   bytes; null in the place of an answer says that the answer isn't wanted. Null with any other length is
-   MMDB_NO_LINE.
+   bytes; null in the place of an answer, of a statement or of rows says that these aren't wanted. Null with any other
+   length is MMDB_NO_LINE.
+
+   What is done more than once, or with values that come from elsewhere, is best done by a statement: it is prepared
+   once, its values are bound and not written into a line, and its rows are cells and not text to be read.
+
+       mmdb_statement insert;
+       mmdb_rows rows;
+       if (mmdb_prepare(&db, "insert t (?)", 12, &insert) == MMDB_DONE &&
+           mmdb_bind_integer(&db, insert.number, 0, 7) == MMDB_DONE &&
+           mmdb_execute(&db, insert.number, &rows) == MMDB_DONE)
+           printf("%d\n", (int)rows.changed);
 
    What lines there are and how they are answered is told by docs/language.md, the calls at length by docs/c.md. */
 #ifndef MMDB_H
@@ -53,9 +63,39 @@ typedef struct mmdb_bytes {
     size_t length;
 } mmdb_bytes;
 
-/* What a call gives. After each but MMDB_DONE an answer has no bytes, and the tables are as they were, save where a
-   piece found no room for its answers. MMDB_DONE says that a line was judged and answered; whether it was refused is
-   told by the answer, and by mmdb_refusal. */
+/* What stands in a cell. */
+typedef enum mmdb_kind { MMDB_NULL = 0, MMDB_INTEGER = 1, MMDB_TEXT = 2 } mmdb_kind;
+
+/* A value: a null; an integer; or a text, by where it begins among the bytes of the texts of its rows, and how long it
+   is. It has 16 bytes. */
+typedef struct mmdb_cell {
+    int64_t integer;
+    uint32_t at;
+    uint16_t length;
+    uint16_t kind;
+} mmdb_cell;
+
+/* The cells of rows, one row behind the other: mmdb_cell_at finds one, and mmdb_text the bytes of its text. `changed`
+   is how many rows an insert, an update or a delete was about. The cells and the texts are the library's. Neither
+   pointer is ever null. */
+typedef struct mmdb_rows {
+    const mmdb_cell *cells;
+    const unsigned char *texts;
+    size_t rows;
+    size_t columns;
+    uint64_t changed;
+} mmdb_rows;
+
+/* A statement that was prepared: its number, by which the calls take it, and how many places it has. */
+typedef struct mmdb_statement {
+    uint32_t number;
+    uint32_t places;
+} mmdb_statement;
+
+/* What a call gives. After each but MMDB_DONE an answer has no bytes, save that of MMDB_REFUSED, and the tables are as
+   they were, save where a piece found no room for its answers. Of mmdb_command and mmdb_load MMDB_DONE says that a line
+   was judged and answered; whether it was refused is told by the answer, and by mmdb_refusal. Of a statement MMDB_DONE
+   says that it was done. */
 typedef enum mmdb_status {
     MMDB_DONE = 0,
     MMDB_NOT_OPEN = 1,           /* the handle is closed, or null */
@@ -65,9 +105,14 @@ typedef enum mmdb_status {
     MMDB_NO_LINE = 5,            /* a line that is null or has no bytes; a block, a piece or a name that is null and has
                                     some */
     MMDB_NOT_ONE_REQUEST = 6,    /* a line feed in a line; a line that asks for a block of another length than given */
-    MMDB_NO_MEMORY = 7,          /* mmdb_open, mmdb_reason: none was found. mmdb_feed: none for the answers; the stream
-                                    is over */
-    MMDB_ENDED = 8               /* mmdb_feed of a stream that is over; mmdb_command and mmdb_load go on */
+    MMDB_NO_MEMORY = 7,          /* mmdb_open, mmdb_reason, mmdb_prepare, mmdb_bind_text: none was found. mmdb_feed:
+                                    none for the answers; the stream is over */
+    MMDB_ENDED = 8,              /* mmdb_feed of a stream that is over; the other calls go on */
+    MMDB_NO_SUCH_STATEMENT = 9,  /* the number names no statement, or one that was finalised */
+    MMDB_NO_SUCH_PLACE = 10,     /* the statement has no place of that number */
+    MMDB_NOT_UTF8 = 11,          /* mmdb_bind_text of bytes that are not UTF-8 */
+    MMDB_REFUSED = 12            /* mmdb_prepare, mmdb_execute, mmdb_columns: refused. mmdb_answer and mmdb_refusal tell
+                                    why, as `error 41 key exists` and a line feed; nothing changed */
 } mmdb_status;
 
 /* How plans are chosen. No policy changes an answer, only what it costs. MMDB_AUTO is the one to take. */
@@ -101,6 +146,41 @@ uint32_t mmdb_command(mmdb *db, const void *line, size_t length, mmdb_bytes *ans
 uint32_t mmdb_load(mmdb *db, const void *line, size_t length, const void *block, size_t block_length,
                    mmdb_bytes *answer);
 
+/* Prepares an insert, an update, a delete or a select in which each ? that stands in no text is the place of a value.
+   Places are numbered from 0 as they stand. One carriage return at the line's end is dropped. The statement is kept
+   until mmdb_finalize or mmdb_close, whatever becomes of the tables.
+   Gives MMDB_DONE and the statement, whose places have nulls. Or gives MMDB_NOT_OPEN, MMDB_NO_LINE or MMDB_NO_MEMORY;
+   or MMDB_REFUSED by 10, 11 or 20, the last also for a line feed, blanks, comments and all other commands, or by what
+   the names and the given values are refused by (30, 32, 33, 34, 35, 45). Then there is no statement. */
+uint32_t mmdb_prepare(mmdb *db, const void *line, size_t length, mmdb_statement *statement);
+
+/* Puts a value into a place of a statement, by their numbers. It stays until another is bound there, also while the
+   statement is executed. A text is copied; it may hold line feeds, as no line can, and each byte that UTF-8 lets it.
+   Gives MMDB_DONE; or MMDB_NOT_OPEN, MMDB_NO_SUCH_STATEMENT or MMDB_NO_SUCH_PLACE; of a text also MMDB_NO_LINE where it
+   is null and has a length, MMDB_NOT_UTF8 or MMDB_NO_MEMORY. After any but MMDB_DONE all is as it was. The answers are
+   left as they are. */
+uint32_t mmdb_bind_integer(mmdb *db, uint32_t statement, uint32_t place, int64_t value);
+uint32_t mmdb_bind_text(mmdb *db, uint32_t statement, uint32_t place, const void *text, size_t length);
+uint32_t mmdb_bind_null(mmdb *db, uint32_t statement, uint32_t place);
+
+/* Does what the command with the bound values does.
+   Gives MMDB_DONE: and of a select its rows, which are good until this statement is executed again or finalised, or the
+   handle is closed; of the others `changed`, and no rows. Or gives MMDB_REFUSED as the line with these values would be,
+   in the same order, and by 90 where no memory is found; or MMDB_NOT_OPEN or MMDB_NO_SUCH_STATEMENT. */
+uint32_t mmdb_execute(mmdb *db, uint32_t statement, mmdb_rows *rows);
+
+/* The columns that the rows of a select have: a row for each, of two cells, its name as T.c and its kind, which is the
+   integer MMDB_INTEGER or MMDB_TEXT. Of another statement there are no rows. They are good until the next call on this
+   handle.
+   Gives MMDB_DONE and the columns; or MMDB_REFUSED as the execution with the bound values would be before it looks at
+   rows; or MMDB_NOT_OPEN or MMDB_NO_SUCH_STATEMENT. */
+uint32_t mmdb_columns(mmdb *db, uint32_t statement, mmdb_rows *columns);
+
+/* Frees a statement: its rows are good no longer, and its number may be given to another. The answers are left as they
+   are.
+   Gives MMDB_DONE; or MMDB_NOT_OPEN or MMDB_NO_SUCH_STATEMENT. */
+uint32_t mmdb_finalize(mmdb *db, uint32_t statement);
+
 /* Takes the next bytes of a stream of lines and blocks, cut wherever it may be, and answers each request that ends in
    them, at its line feed or with the last byte of its block; mmdb_answer gives these answers. A request whose end is
    yet to come waits for the next piece. mmdb_command and mmdb_load stand beside the stream and leave what waits.
@@ -118,7 +198,8 @@ uint32_t mmdb_feed(mmdb *db, const void *piece, size_t length);
 uint32_t mmdb_indexes(mmdb *db, const void *table, size_t length, mmdb_bytes *answer);
 
 /* The answers of the last call that was done, one behind the other: of the piece that was fed, or of the line. Of a
-   piece whose answers found no room it is a front of them.
+   piece whose answers found no room it is a front of them. Where a statement was prepared, executed or asked for its
+   columns they are its refusal, or no bytes.
    Gives MMDB_DONE, and bytes that are good until the next call but this one, mmdb_refusal and mmdb_reason; or
    MMDB_NOT_OPEN. */
 uint32_t mmdb_answer(mmdb *db, mmdb_bytes *answer);
@@ -129,8 +210,9 @@ uint32_t mmdb_refusal(mmdb *db);
 
 /* Why a line was refused, with the block that it asks for, in one line of English: for people, who are told what stands
    at which column, or which name, column, value or row it was. It is asked right behind the mmdb_command or mmdb_load
-   that was refused, while the tables are as they were, and changes neither them nor the answers. What the words are may
-   change from version to version; the number of the refusal doesn't.
+   that was refused, while the tables are as they were, and changes neither them nor the answers. Of a statement the line
+   is that with the values in their places. What the words are may change from version to version; the number of the
+   refusal doesn't.
    Gives MMDB_DONE and the words, which are good until the next call on this handle: no bytes where the last answers
    begin with no refusal, or it is none of this line. Or gives MMDB_NOT_OPEN, MMDB_NO_LINE, or MMDB_NO_MEMORY where none
    was found for the words. */
@@ -140,6 +222,19 @@ uint32_t mmdb_reason(mmdb *db, const void *line, size_t length, const void *bloc
 /* Closes a handle and gives back all that it holds; its answers are good no longer. It is MMDB_CLOSED then, and may be
    opened again. Of a closed handle and of null nothing is done. */
 void mmdb_close(mmdb *db);
+
+/* The cell of a row and a column, both numbered from 0. Neither is past the last: that isn't checked. */
+static inline const mmdb_cell *mmdb_cell_at(const mmdb_rows *rows, size_t row, size_t column)
+{
+    return rows->cells + row * rows->columns + column;
+}
+
+/* The bytes of a cell's text, which are good as long as the rows are. */
+static inline mmdb_bytes mmdb_text(const mmdb_rows *rows, const mmdb_cell *cell)
+{
+    mmdb_bytes text = { rows->texts + cell->at, cell->length };
+    return text;
+}
 
 /* Words for a status, which stay good. */
 static inline const char *mmdb_status_text(uint32_t status)
@@ -163,6 +258,14 @@ static inline const char *mmdb_status_text(uint32_t status)
         return "no memory";
     case MMDB_ENDED:
         return "the stream is over";
+    case MMDB_NO_SUCH_STATEMENT:
+        return "no such statement";
+    case MMDB_NO_SUCH_PLACE:
+        return "the statement has no such place";
+    case MMDB_NOT_UTF8:
+        return "the text is not UTF-8";
+    case MMDB_REFUSED:
+        return "refused, as the answer tells";
     default:
         return "no such status";
     }
@@ -188,6 +291,28 @@ static inline mmdb_bytes *mmdb_checked_answer_at(mmdb_bytes *answer, mmdb_bytes 
     mmdb_bytes *to = answer == NULL ? unwanted : answer;
     to->at = (const unsigned char *)"";
     to->length = 0;
+    return to;
+}
+
+/* Where rows go: as answers do. There are none at first. */
+static inline mmdb_rows *mmdb_checked_rows_at(mmdb_rows *rows, mmdb_rows *unwanted)
+{
+    static const mmdb_cell no_cell = { 0, 0, 0, MMDB_NULL };
+    mmdb_rows *to = rows == NULL ? unwanted : rows;
+    to->cells = &no_cell;
+    to->texts = (const unsigned char *)"";
+    to->rows = 0;
+    to->columns = 0;
+    to->changed = 0;
+    return to;
+}
+
+/* Where a statement goes: as answers do. At first its number names none. */
+static inline mmdb_statement *mmdb_checked_statement_at(mmdb_statement *statement, mmdb_statement *unwanted)
+{
+    mmdb_statement *to = statement == NULL ? unwanted : statement;
+    to->number = UINT32_MAX;
+    to->places = 0;
     return to;
 }
 
@@ -217,6 +342,56 @@ static inline mmdb_status mmdb_checked_load(mmdb *db, const void *line, size_t l
     if (line == NULL || (block == NULL && block_length != 0))
         return MMDB_NO_LINE;
     return (mmdb_status)mmdb_load(db, line, length, mmdb_checked_bytes(block), block_length, to);
+}
+
+static inline mmdb_status mmdb_checked_prepare(mmdb *db, const void *line, size_t length, mmdb_statement *statement)
+{
+    mmdb_statement unwanted;
+    mmdb_statement *to = mmdb_checked_statement_at(statement, &unwanted);
+    if (mmdb_checked_is_closed(db))
+        return MMDB_NOT_OPEN;
+    if (line == NULL)
+        return MMDB_NO_LINE;
+    return (mmdb_status)mmdb_prepare(db, line, length, to);
+}
+
+static inline mmdb_status mmdb_checked_bind_integer(mmdb *db, uint32_t statement, uint32_t place, int64_t value)
+{
+    return mmdb_checked_is_closed(db) ? MMDB_NOT_OPEN : (mmdb_status)mmdb_bind_integer(db, statement, place, value);
+}
+
+static inline mmdb_status mmdb_checked_bind_text(mmdb *db, uint32_t statement, uint32_t place, const void *text,
+                                                 size_t length)
+{
+    if (mmdb_checked_is_closed(db))
+        return MMDB_NOT_OPEN;
+    if (text == NULL && length != 0)
+        return MMDB_NO_LINE;
+    return (mmdb_status)mmdb_bind_text(db, statement, place, mmdb_checked_bytes(text), length);
+}
+
+static inline mmdb_status mmdb_checked_bind_null(mmdb *db, uint32_t statement, uint32_t place)
+{
+    return mmdb_checked_is_closed(db) ? MMDB_NOT_OPEN : (mmdb_status)mmdb_bind_null(db, statement, place);
+}
+
+static inline mmdb_status mmdb_checked_execute(mmdb *db, uint32_t statement, mmdb_rows *rows)
+{
+    mmdb_rows unwanted;
+    mmdb_rows *to = mmdb_checked_rows_at(rows, &unwanted);
+    return mmdb_checked_is_closed(db) ? MMDB_NOT_OPEN : (mmdb_status)mmdb_execute(db, statement, to);
+}
+
+static inline mmdb_status mmdb_checked_columns(mmdb *db, uint32_t statement, mmdb_rows *columns)
+{
+    mmdb_rows unwanted;
+    mmdb_rows *to = mmdb_checked_rows_at(columns, &unwanted);
+    return mmdb_checked_is_closed(db) ? MMDB_NOT_OPEN : (mmdb_status)mmdb_columns(db, statement, to);
+}
+
+static inline mmdb_status mmdb_checked_finalize(mmdb *db, uint32_t statement)
+{
+    return mmdb_checked_is_closed(db) ? MMDB_NOT_OPEN : (mmdb_status)mmdb_finalize(db, statement);
 }
 
 static inline mmdb_status mmdb_checked_feed(mmdb *db, const void *piece, size_t length)
@@ -272,6 +447,13 @@ static inline void mmdb_checked_close(mmdb *db)
 #define mmdb_open mmdb_checked_open
 #define mmdb_command mmdb_checked_command
 #define mmdb_load mmdb_checked_load
+#define mmdb_prepare mmdb_checked_prepare
+#define mmdb_bind_integer mmdb_checked_bind_integer
+#define mmdb_bind_text mmdb_checked_bind_text
+#define mmdb_bind_null mmdb_checked_bind_null
+#define mmdb_execute mmdb_checked_execute
+#define mmdb_columns mmdb_checked_columns
+#define mmdb_finalize mmdb_checked_finalize
 #define mmdb_feed mmdb_checked_feed
 #define mmdb_indexes mmdb_checked_indexes
 #define mmdb_answer mmdb_checked_answer

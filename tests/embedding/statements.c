@@ -512,6 +512,9 @@ static void columns_give_each_status(mmdb *db)
     CHECK(is_text(&columns, 3, 0, "u.k") && is_integer(&columns, 3, 1, MMDB_TEXT));
     GIVES(mmdb_columns(db, few.number, &columns), MMDB_DONE);
     CHECK(columns.rows == 2 && is_text(&columns, 0, 0, "t.c") && is_text(&columns, 1, 0, "t.id"));
+    GIVES(mmdb_columns(db, insert.number, &columns), MMDB_REFUSED);
+    CHECK(is_refused_by(db, "error 35 wrong type\n"));
+    GIVES(mmdb_bind_text(db, insert.number, 0, "a", 1), MMDB_DONE);
     GIVES(mmdb_columns(db, insert.number, &columns), MMDB_DONE);
     CHECK(columns.rows == 0);
 }
