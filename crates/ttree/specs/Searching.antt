@@ -1,13 +1,18 @@
 -- Where a search of a tree ends, and how often it asks.
-use Rattle.std.specs.Prelude.{◌≡◌, ℕ, ◌+◌, ◌<◌, ◌≤◌, List, ◌++◌, ◌∷◌, length, slice_index_or, All, Bool, true, false, IfOk, IfErr}
+use Rattle.std.specs.Prelude.{◌≡◌, ℕ, ◌+◌, ◌<◌, ◌≤◌, List, ◌++◌, ◌∷◌, length, slice_index_or, All, Bool, true, false, Option, None, Some, IfOk, IfErr}
 use Rattle.std.specs.List.{AllWithin}
 use Rattle.std.specs.declared.cmp.Ordering.{Ordering}
 use Rattle.std.specs.declared.cmp.Ordering.TheVariants.{Less, Equal, Greater}
-use Rattle.ttree_node.specs.Tree.{Zipper, Label, items_of, has_left, has_right, list_until, list_from}
+use Rattle.part_raw.specs.declared.tuple_ref.TupleRef.{TupleRef}
+use Rattle.ttree_node.specs.Tree.{Zipper, Label, whole, items_of, has_left, has_right, list_until, list_from, list_behind}
+use Rattle.ttree_node.specs.Look.{position}
+use Rattle.ttree_node.specs.declared.look.Look.{Look}
 use Rattle.mm_index.specs.Asking.{IsOnlyAsked}
 use Rattle.ttree.specs.Shape.{binary_digits}
 use Rattle.ttree.specs.declared.turn.Seek.{Seek}
 use Rattle.ttree.specs.declared.turn.Seek.TheVariants.{Any, First}
+use Rattle.ttree.specs.declared.search.Descent.{Descent}
+use Rattle.ttree.specs.declared.search.Descent.TheVariants.{Hit, End}
 use Rattle.ttree.specs.declared.turn.Turn.{Turn}
 use Rattle.ttree.specs.declared.turn.Turn.TheVariants.{Left, Right, Here}
 
@@ -76,3 +81,19 @@ module _ {I : Type 0} where
     -- no tree hangs where the gap is
     pub left_open : i ≡ 0 → has_left z.here ≡ false
     pub right_open : i ≡ length (items_of z.here) → has_right z.here ≡ false
+
+-- ---- the way down by the least item of each node
+module _ {MAX : ℕ} (place : TupleRef → Ordering) (end : Look MAX) where
+  -- the place is behind the least item of the node at `last`; where all of that node's items stand below the range and a right child hangs there, it is before those of the node at the end
+  pub record IsBehind (last : Look MAX) : Type 0 where
+    pub nodes : last.nodes ≡ end.nodes
+    pub whole : whole (position last) ≡ whole (position end)
+    pub cut : IsCut place (items_of (position last).here) 1 (length (items_of (position last).here))
+    pub above : All (λ r. place r ≡ Greater) (list_behind (position last))
+    pub next : has_right (position last).here ≡ true → All (λ r. place r ≡ Less) (items_of (position last).here) → IsGap place (position end) 0
+
+  -- what the end of the way tells
+  abbrev pub IsDescent : Descent MAX → Type 0
+  IsDescent Hit = IsHitIn place (items_of (position end).here) 0
+  IsDescent (End None) = IsGap place (position end) 0
+  IsDescent (End (Some last)) = IsBehind last

@@ -6,13 +6,63 @@ ghost use Rattle.ttree_node.specs.Tree.{whole, list, items_of, is_node, is_root,
 ghost use Rattle.ttree_node.specs.Look.{position};
 ghost use Rattle.ttree_node.specs.Editor.{position as edited, tree_at, spares_at};
 ghost use Rattle.ttree.specs.Shape.{HasItemsInEach, binary_digits};
-ghost use Rattle.ttree.specs.Searching.{taken, IsAskedAtMost, IsHitIn, IsGap};
+ghost use Rattle.ttree.specs.Searching.{taken, IsAskedAtMost, IsHitIn, IsGap, IsDescent};
 
-use crate::turn::{Seek, Turn, turn_at};
+use crate::turn::{Seek, Turn, ask, search_between, turn_at};
 use mm_index::Probe;
+use std::cmp::Ordering;
 use ttree_node::{Editor, Look};
 
-// Goes to the node of an item in the range, and answers its index, or to where it would be.
+// How a way down ends that asks about the least item of each node alone.
+pub(crate) enum Descent<'a, const MAX: usize> {
+    // At a node whose least item is in the range.
+    Hit,
+    // Where no child hangs on the side it would go. The last node on it whose least item stands below the range goes with
+    // it, if there is one.
+    End(Option<Look<'a, MAX>>),
+}
+
+// Goes down from the root: to the left where the least item stands above the range, and to the right where it stands below.
+fn descend<'a, P: Probe, const MAX: usize>(
+    look: &mut Look<'a, MAX>,
+    probe: &mut P,
+    seek: Seek,
+) -> Descent<'a, MAX>
+    requires root { is_root (position look.old).above ≡ true }
+    requires node { is_node (position look.old).here ≡ true }
+    requires some { HasItemsInEach MAX (whole (position look.old)) }
+    requires sound { P.is_sound probe.old }
+    requires placed { All (P.can_place probe.old) (list (whole (position look.old))) }
+    requires in_order { NeverFalls (λ r. taken seek (P.place probe.old r)) (list (whole (position look.old))) }
+    ensures nodes { look.new.nodes ≡ look.old.nodes }
+    ensures whole { whole (position look.new) ≡ whole (position look.old) }
+    ensures end { IsDescent (λ r. taken seek (P.place probe.old r)) look.new result }
+    ensures probe { IsAskedAtMost (height (whole (position look.old))) P.is_sound P.can_place P.place P.asked probe.old probe.new }
+    ensures asks { counted (P.asked probe.old) ≤ P.asked probe.new }
+{
+    let mut last = None;
+    loop {
+        match ask(probe, look.items()[0], seek) {
+            Ordering::Equal => return Descent::Hit,
+            Ordering::Greater => {
+                if !look.has_left() {
+                    return Descent::End(last);
+                }
+                look.down_left();
+            }
+            Ordering::Less => {
+                last = Some(*look);
+                if !look.has_right() {
+                    return Descent::End(last);
+                }
+                look.down_right();
+            }
+        }
+    }
+}
+
+// Goes to the node of an item in the range, and answers its index, or to where it would be. It asks once at each level, and
+// then among the items of the last node whose least item stands below the range.
 pub(crate) fn locate<P: Probe, const MAX: usize>(
     look: &mut Look<'_, MAX>,
     probe: &mut P,
@@ -28,15 +78,22 @@ pub(crate) fn locate<P: Probe, const MAX: usize>(
     ensures whole { whole (position look.new) ≡ whole (position look.old) }
     ensures hit { IfOk result (IsHitIn (λ r. taken seek (P.place probe.old r)) (items_of (position look.new).here)) }
     ensures gap { IfErr result (IsGap (λ r. taken seek (P.place probe.old r)) (position look.new)) }
-    ensures probe { IsAskedAtMost (2 * height (whole (position look.old)) + binary_digits MAX) P.is_sound P.can_place P.place P.asked probe.old probe.new }
+    ensures probe { IsAskedAtMost (height (whole (position look.old)) + binary_digits MAX) P.is_sound P.can_place P.place P.asked probe.old probe.new }
     ensures asks { counted (P.asked probe.old) ≤ P.asked probe.new }
 {
-    loop {
-        let (has_left, has_right) = (look.has_left(), look.has_right());
-        match turn_at(look.items(), has_left, has_right, probe, seek) {
-            Turn::Left => look.down_left(),
-            Turn::Right => look.down_right(),
-            Turn::Here(found) => return found,
+    match descend(look, probe, seek) {
+        Descent::Hit => Ok(0),
+        Descent::End(None) => Err(0),
+        Descent::End(Some(last)) => {
+            let count = last.items().len();
+            match search_between(last.items(), 1, count, probe, seek) {
+                // Behind its items, and so before those of the node at the end, where a right child hangs there.
+                Err(index) if index == count && last.has_right() => Err(0),
+                found => {
+                    *look = last;
+                    found
+                }
+            }
         }
     }
 }

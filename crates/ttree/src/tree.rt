@@ -100,8 +100,8 @@ impl<const MIN: usize, const MAX: usize> TTree<MIN, MAX> {
         ensures none { IfNone result (All (λ r. P.place probe.old r ≢ Ordering.Equal) (items_of_tree self.now)) }
         ensures probe { IsOnlyAsked P.is_sound P.can_place P.place P.asked probe.old probe.new }
         ensures asks { 0 < length (items_of_tree self.now) → counted (P.asked probe.old) ≤ P.asked probe.new }
-        // Each level asks at most twice, and the last one once more for each binary digit of the number of its items.
-        ensures most_asked { P.asked probe.new ≤ P.asked probe.old + (2 * height self.now.tree + binary_digits MAX) }
+        // Each level asks once at most, and one of them once more for each binary digit of the number of its items.
+        ensures most_asked { P.asked probe.new ≤ P.asked probe.old + (height self.now.tree + binary_digits MAX) }
         ensures bound { fib (height self.now.tree + 2) ≤ 1 + length (items_of_tree self.now) }
     {
         let (look, found) = self.search(probe, Seek::Any);
@@ -158,7 +158,7 @@ impl<const MIN: usize, const MAX: usize> TTree<MIN, MAX> {
         ensures rest { rest_of result ≡ from_range (P.place probe.old) (items_of_tree self.now) }
         ensures probe { IsOnlyAsked P.is_sound P.can_place P.place P.asked probe.old probe.new }
         ensures asks { 0 < length (items_of_tree self.now) → counted (P.asked probe.old) ≤ P.asked probe.new }
-        ensures most_asked { P.asked probe.new ≤ P.asked probe.old + (2 * height self.now.tree + binary_digits MAX) }
+        ensures most_asked { P.asked probe.new ≤ P.asked probe.old + (height self.now.tree + binary_digits MAX) }
         ensures bound { fib (height self.now.tree + 2) ≤ 1 + length (items_of_tree self.now) }
     {
         let (look, found) = self.search(probe, Seek::First);
@@ -177,7 +177,7 @@ impl<const MIN: usize, const MAX: usize> TTree<MIN, MAX> {
         ensures whole { whole (position result.0) ≡ self.now.tree }
         ensures hit { IfOk result.1 (IsHitIn (λ r. taken seek (P.place probe.old r)) (items_of (position result.0).here)) }
         ensures gap { IfErr result.1 (IsGap (λ r. taken seek (P.place probe.old r)) (position result.0)) }
-        ensures probe { IsAskedAtMost (2 * height self.now.tree + binary_digits MAX) P.is_sound P.can_place P.place P.asked probe.old probe.new }
+        ensures probe { IsAskedAtMost (height self.now.tree + binary_digits MAX) P.is_sound P.can_place P.place P.asked probe.old probe.new }
         ensures asks { 0 < length (items_of_tree self.now) → counted (P.asked probe.old) ≤ P.asked probe.new }
         ensures bound { fib (height self.now.tree + 2) ≤ 1 + length (items_of_tree self.now) }
     {

@@ -29,7 +29,7 @@ pub(crate) enum Turn {
 }
 
 // One answer of the probe, as the search takes it.
-fn ask<P: Probe>(probe: &mut P, r: TupleRef, seek: Seek) -> Ordering
+pub(crate) fn ask<P: Probe>(probe: &mut P, r: TupleRef, seek: Seek) -> Ordering
     requires sound { P.is_sound probe.old }
     requires may_ask { P.can_place probe.old r }
     ensures value { result ≡ taken seek (P.place probe.old r) }
@@ -43,7 +43,7 @@ fn ask<P: Probe>(probe: &mut P, r: TupleRef, seek: Seek) -> Ordering
 }
 
 // Where an item is in the range, or where it would be, from `from` on and before `to`.
-fn search_between<P: Probe>(
+pub(crate) fn search_between<P: Probe>(
     items: &[TupleRef],
     from: usize,
     to: usize,

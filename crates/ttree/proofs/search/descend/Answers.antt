@@ -1,0 +1,117 @@
+use Rattle.std.proofs.Common.{◌≡◌, ◌+◌, ◌<◌, ◌≤◌, List, length, get_or, All, true, false, refl, sym, ap, subst, ◌∙◌, arith, Ordering}
+use Rattle.std.specs.declared.cmp.Ordering.TheVariants.{Less, Equal, Greater}
+use Rattle.std.proofs.lemmas.Option.{IfSome_then}
+use Rattle.std.proofs.lemmas.List.{get_or_default}
+use Rattle.part_raw.specs.declared.tuple_ref.TupleRef.{TupleRef}
+use Rattle.mm_index.specs.Range.{NeverFalls}
+use Rattle.mm_index.proofs.Asked.{IsOnlyAsked-refl, IsOnlyAsked-trans, counted-mono}
+use Rattle.ttree_node.specs.Tree.{Tree, Zipper, Label, whole, left_of, right_of, items_of, has_left, has_right, is_node, height, list_before}
+use Rattle.ttree_node.specs.Look.{position}
+use Rattle.ttree.specs.Searching.{taken, IsCut, IsGap, IsBehind}
+use Rattle.ttree.proofs.Descent.{root_whole, left_lower, right_lower, left_here, right_here, some_here, All-here, NeverFalls-here}
+use Rattle.ttree.proofs.Least.{IsAhead, IsLast, ahead-root, ahead-left, ahead-right, first-root, first-left, last-left, last-right, end-first, end-above, end-next, end-here, least-below, if_none, is_descent}
+use Rattle.ttree.proofs.search.descend.Goals as goal
+
+abbrev none : TupleRef
+none = record { number = 0 }
+
+pub bounds-items-0 : goal.bounds-items-0
+bounds-items-0 g c =
+    rw c.items.ensures (some_here g.row.MAX (whole (position c.args.look.now)) (position c.loop-look.look) c.loop-look.invariant.ahead.same c.requires.some c.loop-look.invariant.node)
+
+pub ask-requires-clause-may_ask : goal.ask-requires-clause-may_ask
+ask-requires-clause-may_ask g c =
+    let z : Zipper (Label TupleRef) = position c.loop-look.look in
+    let some : 0 < length (items_of z.here) = some_here g.row.MAX (whole (position c.args.look.now)) z c.loop-look.invariant.ahead.same c.requires.some c.loop-look.invariant.node in
+    let held : All (g.P.Probe.can_place c.args.probe.now) (items_of z.here) =
+    All-here g.row.MAX (whole (position c.args.look.now)) z c.loop-look.invariant.ahead.same (g.P.Probe.can_place c.args.probe.now) c.requires.placed in
+    c.loop-look.invariant.only.may_ask _ (subst (λ (xs : List TupleRef). g.P.Probe.can_place c.args.probe.now (get_or xs 0 none)) (sym c.items.ensures) (held 0 none some))
+
+pub returns-in-Equal-clause-end : goal.returns-in-Equal-clause-end
+returns-in-Equal-clause-end g c =
+    let f : TupleRef → Ordering = λ r. taken c.args.seek (g.P.Probe.place c.args.probe.now r) in
+    let z : Zipper (Label TupleRef) = position c.loop-look.look in
+    let kept = c.loop-look.invariant in
+    let some : 0 < length (items_of z.here) = some_here g.row.MAX (whole (position c.args.look.now)) z kept.ahead.same c.requires.some kept.node in
+    let least : f (get_or (items_of z.here) 0 none) ≡ Equal = sym (rw (c.items.ensures, kept.only.answers) at c.in-Equal.ensures.value) in
+    record { index = some; equal = λ d. ap f (get_or_default (items_of z.here) 0 d none some) ∙ least }
+
+pub returns-then-not-has_left-clause-end : goal.returns-then-not-has_left-clause-end
+returns-then-not-has_left-clause-end g c =
+    let f : TupleRef → Ordering = λ r. taken c.args.seek (g.P.Probe.place c.args.probe.now r) in
+    let t : Tree (Label TupleRef) = whole (position c.args.look.now) in
+    let z : Zipper (Label TupleRef) = position c.loop-look.look in
+    let kept = c.loop-look.invariant in
+    let some : 0 < length (items_of z.here) = some_here g.row.MAX t z kept.ahead.same c.requires.some kept.node in
+    let least : f (get_or (items_of z.here) 0 none) ≡ Greater = sym (rw (c.items.ensures, kept.only.answers) at c.in-Greater.ensures.value) in
+    let alone : has_left z.here ≡ false = sym c.has_left.ensures ∙ c.if-not-has_left.true in
+    is_descent f c.loop-look.look c.loop-look.last
+    (if_none c.loop-look.last _ _ (end-first f t c.requires.in_order z none some kept.ahead.same least alone) kept.first)
+    (IfSome_then c.loop-look.last kept.behind (λ r b. record {
+      nodes = b.0 ∙ sym kept.nodes;
+      whole = b.1.same ∙ sym kept.ahead.same;
+      cut = b.1.cut;
+      above = end-above f t c.requires.in_order z none some kept.ahead.same least alone (position r) b.1;
+      next = λ _. end-next f t c.requires.in_order z none some kept.ahead.same least alone (position r) b.1;
+    }))
+
+pub loop-look-preserved-in-Greater : goal.loop-look-preserved-in-Greater
+loop-look-preserved-in-Greater g c =
+    let f : TupleRef → Ordering = λ r. taken c.args.seek (g.P.Probe.place c.args.probe.now r) in
+    let t : Tree (Label TupleRef) = whole (position c.args.look.now) in
+    let z : Zipper (Label TupleRef) = position c.loop-look.look in
+    let kept = c.loop-look.invariant in
+    let some : 0 < length (items_of z.here) = some_here g.row.MAX t z kept.ahead.same c.requires.some kept.node in
+    let least : f (get_or (items_of z.here) 0 none) ≡ Greater = sym (rw (c.items.ensures, kept.only.answers) at c.in-Greater.ensures.value) in
+    let child : has_left z.here ≡ true = sym c.has_left.ensures ∙ c.if-not-has_left.false in
+    let moved = c.down_left.ensures.moved in
+    let lower = left_lower z.here child in
+    let low : height (position c.down_left.new.self).here ≡ height (left_of z.here) =
+    (λ i. height (moved i).here) ∙ ap (λ (u : Tree (Label TupleRef)). height u) (left_here z) in record {
+      ahead = subst (λ (y : Zipper (Label TupleRef)). IsAhead f t y) (sym moved) (ahead-left f t c.requires.in_order z none some kept.ahead least child);
+      first = if_none c.loop-look.last _ _ (λ h. (λ i. list_before (moved i).above) ∙ first-left z h) kept.first;
+      behind = IfSome_then c.loop-look.last kept.behind (λ r b. (b.0, subst (λ (y : Zipper (Label TupleRef)). IsLast f t y (position r)) (sym moved) (last-left f t z (position r) b.1)));
+      node = (λ i. is_node (moved i).here) ∙ ap (λ (u : Tree (Label TupleRef)). is_node u) (left_here z) ∙ child;
+      only = IsOnlyAsked-trans _ _ _ _ _ _ _ kept.only c.ask.ensures.probe.only;
+      most = omega (arith, low, lower, kept.most, c.ask.ensures.probe.most);
+      nodes = c.down_left.ensures.nodes ∙ kept.nodes;
+    }
+
+pub returns-then-not-has_right-clause-end : goal.returns-then-not-has_right-clause-end
+returns-then-not-has_right-clause-end g c =
+    let f : TupleRef → Ordering = λ r. taken c.args.seek (g.P.Probe.place c.args.probe.now r) in
+    let t : Tree (Label TupleRef) = whole (position c.args.look.now) in
+    let z : Zipper (Label TupleRef) = position c.loop-look.look in
+    let kept = c.loop-look.invariant in
+    let some : 0 < length (items_of z.here) = some_here g.row.MAX t z kept.ahead.same c.requires.some kept.node in
+    let least : f (get_or (items_of z.here) 0 none) ≡ Less = sym (rw (c.items.ensures, kept.only.answers) at c.in-Less.ensures.value) in
+    let alone : has_right z.here ≡ false = sym c.has_right.ensures ∙ c.if-not-has_right.true in record {
+      nodes = refl;
+      whole = refl;
+      cut = least-below f (items_of z.here) (NeverFalls-here g.row.MAX t z kept.ahead.same f c.requires.in_order) some none least;
+      above = end-here f t z kept.ahead alone;
+      next = λ h. absurd (cc);
+    }
+
+pub loop-look-preserved : goal.loop-look-preserved
+loop-look-preserved g c =
+    let f : TupleRef → Ordering = λ r. taken c.args.seek (g.P.Probe.place c.args.probe.now r) in
+    let t : Tree (Label TupleRef) = whole (position c.args.look.now) in
+    let z : Zipper (Label TupleRef) = position c.loop-look.look in
+    let kept = c.loop-look.invariant in
+    let some : 0 < length (items_of z.here) = some_here g.row.MAX t z kept.ahead.same c.requires.some kept.node in
+    let least : f (get_or (items_of z.here) 0 none) ≡ Less = sym (rw (c.items.ensures, kept.only.answers) at c.in-Less.ensures.value) in
+    let child : has_right z.here ≡ true = sym c.has_right.ensures ∙ c.if-not-has_right.false in
+    let moved = c.down_right.ensures.moved in
+    let lower = right_lower z.here child in
+    let low : height (position c.down_right.new.self).here ≡ height (right_of z.here) =
+    (λ i. height (moved i).here) ∙ ap (λ (u : Tree (Label TupleRef)). height u) (right_here z) in
+    let cut : IsCut f (items_of z.here) 1 (length (items_of z.here)) = least-below f (items_of z.here) (NeverFalls-here g.row.MAX t z kept.ahead.same f c.requires.in_order) some none least in record {
+      ahead = subst (λ (y : Zipper (Label TupleRef)). IsAhead f t y) (sym moved) (ahead-right f t z kept.ahead);
+      first = tt;
+      behind = (kept.nodes, subst (λ (y : Zipper (Label TupleRef)). IsLast f t y z) (sym moved) (last-right f t z kept.ahead.same cut child));
+      node = (λ i. is_node (moved i).here) ∙ ap (λ (u : Tree (Label TupleRef)). is_node u) (right_here z) ∙ child;
+      only = IsOnlyAsked-trans _ _ _ _ _ _ _ kept.only c.ask.ensures.probe.only;
+      most = omega (arith, low, lower, kept.most, c.ask.ensures.probe.most);
+      nodes = c.down_right.ensures.nodes ∙ kept.nodes;
+    }

@@ -1,0 +1,23 @@
+use Rattle.std.proofs.Common.{◌≡◌, ◌+◌, ◌≤◌, true, []}
+use Rattle.std.specs.Option.{IfSome, IfNone}
+use Rattle.mm_index.specs.Asking.{IsOnlyAsked}
+use Rattle.ttree_node.specs.Tree.{whole, height, is_node, list_before}
+use Rattle.ttree_node.specs.Look.{position}
+use Rattle.ttree.specs.Searching.{taken}
+use Rattle.ttree.proofs.Least.{IsAhead, IsLast}
+use Rattle.ttree.proofs.search.descend.Given as goal
+
+-- each level asks once
+abbrev pub invariant-loop-look : goal.invariant-loop-look
+invariant-loop-look g l = record {
+  ahead : IsAhead (λ r. taken l.seek (g.P.Probe.place l.fn.probe r)) (whole (position l.fn.look)) (position l.look);
+  first : IfNone l.last (list_before (position l.look).above ≡ []);
+  behind : IfSome l.last (λ r. (r.nodes ≡ l.fn.look.nodes) × IsLast (λ q. taken l.seek (g.P.Probe.place l.fn.probe q)) (whole (position l.fn.look)) (position l.look) (position r));
+  node : is_node (position l.look).here ≡ true;
+  only : IsOnlyAsked g.P.Probe.is_sound g.P.Probe.can_place g.P.Probe.place g.P.Probe.asked l.fn.probe l.probe;
+  most : g.P.Probe.asked l.probe + height (position l.look).here ≤ g.P.Probe.asked l.fn.probe + height (whole (position l.fn.look));
+  nodes : l.look.nodes ≡ l.fn.look.nodes;
+}
+
+abbrev pub decreases-loop-look : goal.decreases-loop-look
+decreases-loop-look g l = height (position l.look).here
