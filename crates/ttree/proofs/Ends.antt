@@ -9,8 +9,8 @@ use Rattle.mm_index.proofs.Ranged.{from_range_split}
 use Rattle.ttree_node.specs.Tree.{Tree, Zipper, Label, whole, list, items_of, list_until, list_from}
 use Rattle.ttree.specs.Shape.{IsFit, IsTTree, HasItems, HasItemsInEach}
 use Rattle.ttree.specs.Searching.{taken, IsGap}
-use Rattle.ttree.specs.declared.turn.Seek.{Seek}
-use Rattle.ttree.specs.declared.turn.Seek.TheVariants.{Any, First}
+use Rattle.ttree.specs.declared.asking.Seek.{Seek}
+use Rattle.ttree.specs.declared.asking.Seek.TheVariants.{Any, First}
 use Rattle.ttree.proofs.EachNode.{each_map}
 use Rattle.ttree.proofs.Cuts.{list_around, list_cut, front, back}
 

@@ -13,7 +13,6 @@ pub mod Fullness
 pub mod HeightBound
 pub mod Heights
 pub mod Leaning
-pub mod Least
 pub mod Losing
 pub mod Narrowing
 pub mod Occupancy

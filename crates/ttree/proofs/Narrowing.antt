@@ -1,11 +1,10 @@
 -- A search among the items of a node narrows down.
-use Rattle.std.proofs.Common.{◌≡◌, ℕ, ◌+◌, ◌<◌, ◌≤◌, Result, Ok, Err, List, length, get_or, arith, Ordering}
+use Rattle.std.proofs.Common.{◌≡◌, ℕ, ◌+◌, ◌<◌, ◌≤◌, List, length, get_or, arith, Ordering}
 use Rattle.std.specs.List.{AllWithin}
 use Rattle.std.specs.declared.cmp.Ordering.TheVariants.{Less, Greater}
 use Rattle.std.proofs.lemmas.List.{get_or_default}
 use Rattle.common_lemmas.proofs.Orders.{Less-below, Greater-above}
 use Rattle.mm_index.specs.Range.{NeverFalls}
-use Rattle.std.specs.Result.{IfErr}
 use Rattle.ttree.specs.Searching.{IsCut}
 
 module _ {A : Type 0} (place : A → Ordering) (xs : List A) (in_order : NeverFalls place xs) (m : ℕ) (within : m < length xs) (c : A) where
@@ -23,7 +22,3 @@ module _ {A : Type 0} (place : A → Ordering) (xs : List A) (in_order : NeverFa
 
     pub IsCut-high : low ≤ m → place (get_or xs m c) ≡ Greater → IsCut place xs low m
     IsCut-high l e = record { ordered = l; within = omega arith; below = cut.below; above = above_at e }
-
-pub if_err : {A : Type 0} (found : Result A ℕ) (P Q : ℕ → Type 0) → ((i : ℕ) → P i → Q i) → IfErr found P → IfErr found Q
-if_err (Ok a) P Q f h = h
-if_err (Err i) P Q f h = f i h

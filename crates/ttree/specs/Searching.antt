@@ -1,20 +1,17 @@
 -- Where a search of a tree ends, and how often it asks.
-use Rattle.std.specs.Prelude.{◌≡◌, ℕ, ◌+◌, ◌<◌, ◌≤◌, List, ◌++◌, ◌∷◌, length, slice_index_or, All, Bool, true, false, Option, None, Some, IfOk, IfErr}
+use Rattle.std.specs.Prelude.{◌≡◌, ℕ, ◌+◌, ◌<◌, ◌≤◌, List, ◌++◌, ◌∷◌, length, slice_index_or, All, true, false, None, Some}
 use Rattle.std.specs.List.{AllWithin}
 use Rattle.std.specs.declared.cmp.Ordering.{Ordering}
 use Rattle.std.specs.declared.cmp.Ordering.TheVariants.{Less, Equal, Greater}
 use Rattle.part_raw.specs.declared.tuple_ref.TupleRef.{TupleRef}
-use Rattle.ttree_node.specs.Tree.{Zipper, Label, whole, items_of, has_left, has_right, list_until, list_from, list_behind}
+use Rattle.ttree_node.specs.Tree.{Zipper, Label, whole, is_node, items_of, has_left, has_right, list_until, list_from, list_behind}
 use Rattle.ttree_node.specs.Look.{position}
 use Rattle.ttree_node.specs.declared.look.Look.{Look}
 use Rattle.mm_index.specs.Asking.{IsOnlyAsked}
-use Rattle.ttree.specs.Shape.{binary_digits}
-use Rattle.ttree.specs.declared.turn.Seek.{Seek}
-use Rattle.ttree.specs.declared.turn.Seek.TheVariants.{Any, First}
+use Rattle.ttree.specs.declared.asking.Seek.{Seek}
+use Rattle.ttree.specs.declared.asking.Seek.TheVariants.{Any, First}
 use Rattle.ttree.specs.declared.search.Descent.{Descent}
 use Rattle.ttree.specs.declared.search.Descent.TheVariants.{Hit, End}
-use Rattle.ttree.specs.declared.turn.Turn.{Turn}
-use Rattle.ttree.specs.declared.turn.Turn.TheVariants.{Left, Right, Here}
 
 -- how a search takes an answer: one for the first reference in the range goes on at those in it as at those above it
 abbrev pub taken : Seek → Ordering → Ordering
@@ -27,12 +24,6 @@ taken First Greater = Greater
 pub record IsAskedAtMost (n : ℕ) {P R : Type 0} (is_sound : P → Type 0) (can_place : P → R → Type 0) (place : P → R → Ordering) (asked : P → ℕ) (old new : P) : Type 0 where
   pub only : IsOnlyAsked is_sound can_place place asked old new
   pub most : asked new ≤ asked old + n
-
--- how often it asks at a node once it is known not to go left: once, and where it ends there as often again as the number of items has binary digits
-abbrev pub most_from : Turn → ℕ → ℕ
-most_from Left n = 1
-most_from Right n = 1
-most_from (Here found) n = 1 + binary_digits n
 
 module _ {I : Type 0} where
   -- ---- in one node
@@ -48,24 +39,6 @@ module _ {I : Type 0} where
     pub within : high ≤ length items
     pub below : AllWithin (λ r. place r ≡ Less) items 0 low
     pub above : AllWithin (λ r. place r ≡ Greater) items high (length items)
-
-  -- what stands before item i is below the range and the rest above it, and no child hangs where that is
-  pub record IsGapIn (place : I → Ordering) (has_left has_right : Bool) (items : List I) (i : ℕ) : Type 0 where
-    pub cut : IsCut place items i i
-    pub left_open : i ≡ 0 → has_left ≡ false
-    pub right_open : i ≡ length items → has_right ≡ false
-
-  -- where a search goes on from a node with these children and items
-  abbrev pub IsTurn : (I → Ordering) → Bool → Bool → List I → Turn → Type 0
-  IsTurn place has_left has_right items Left = (has_left ≡ true) × All (λ r. place r ≡ Greater) items
-  IsTurn place has_left has_right items Right = (has_right ≡ true) × All (λ r. place r ≡ Less) items
-  IsTurn place has_left has_right items (Here found) = IfOk found (IsHitIn place items) × IfErr found (IsGapIn place has_left has_right items)
-
-  -- the same, where the search is known not to end before item `from` nor to go left
-  abbrev pub IsTurnFrom : (I → Ordering) → ℕ → Bool → List I → Turn → Type 0
-  IsTurnFrom place from has_right items Left = ⊥
-  IsTurnFrom place from has_right items Right = (has_right ≡ true) × All (λ r. place r ≡ Less) items
-  IsTurnFrom place from has_right items (Here found) = IfOk found (IsHitIn place items) × IfErr found (λ i. IsCut place items i i × (from ≤ i) × (i ≡ length items → has_right ≡ false))
 
   -- ---- in a tree
 
@@ -87,6 +60,7 @@ module _ {MAX : ℕ} (place : TupleRef → Ordering) (end : Look MAX) where
   -- the place is behind the least item of the node at `last`; where all of that node's items stand below the range and a right child hangs there, it is before those of the node at the end
   pub record IsBehind (last : Look MAX) : Type 0 where
     pub nodes : last.nodes ≡ end.nodes
+    pub node : is_node (position last).here ≡ true
     pub whole : whole (position last) ≡ whole (position end)
     pub cut : IsCut place (items_of (position last).here) 1 (length (items_of (position last).here))
     pub above : All (λ r. place r ≡ Greater) (list_behind (position last))

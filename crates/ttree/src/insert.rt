@@ -43,7 +43,7 @@ pub(crate) fn insert_unless_found<P: Probe, const MIN: usize, const MAX: usize>(
     ensures one { IfNone result (length (list (tree_of nodes.new)) ≡ length (list (tree_of nodes.old)) + 1) }
     ensures nodes { nodes_of (shown nodes.new) ≡ nodes_of (shown nodes.old) }
     ensures spares { spares_of nodes.old ≤ spares_of nodes.new + 1 }
-    ensures probe { IsAskedAtMost (2 * height (tree_of nodes.old) + binary_digits MAX) P.is_sound P.can_place P.place P.asked probe.old probe.new }
+    ensures probe { IsAskedAtMost (height (tree_of nodes.old) + binary_digits MAX) P.is_sound P.can_place P.place P.asked probe.old probe.new }
     ensures asks { 0 < length (list (tree_of nodes.old)) → counted (P.asked probe.old) ≤ P.asked probe.new }
 {
     let mut editor = nodes.edit();

@@ -12,6 +12,7 @@
 //! - the references are counted, and so are all nodes, those of the tree and the spare ones.
 #![tactic(auto)]
 
+mod asking;
 mod balance;
 mod build;
 mod index;
@@ -23,7 +24,6 @@ mod settle;
 mod shape;
 mod steps;
 mod tree;
-mod turn;
 
 pub use shape::{LEAST_ITEMS, MOST_ITEMS, TableTree, TreeShape, table_tree_shape};
 pub use tree::TTree;

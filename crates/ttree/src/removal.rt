@@ -164,7 +164,7 @@ pub(crate) fn remove<O: TupleOrder, const MIN: usize, const MAX: usize>(
     ensures one { length (list (tree_of nodes.new)) + 1 ≡ length (list (tree_of nodes.old)) }
     ensures nodes { nodes_of (shown nodes.new) ≡ nodes_of (shown nodes.old) }
     ensures spares { spares_of nodes.old ≤ spares_of nodes.new }
-    ensures most_asked { probe.new.asked ≤ probe.old.asked + (2 * height (tree_of nodes.old) + binary_digits MAX) }
+    ensures most_asked { probe.new.asked ≤ probe.old.asked + (height (tree_of nodes.old) + binary_digits MAX) }
 {
     let mut editor = nodes.edit();
     match locate_to_edit(&mut editor, probe) {

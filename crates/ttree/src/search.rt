@@ -1,4 +1,5 @@
-//! The search of a tree from its root, to read it or to edit it there. One step at a node, `turn_at`, serves both.
+//! The search of a tree from its root, to read it or to edit it there. It asks about the least item of each node alone, and
+//! then among the items of one.
 ghost use Rattle.std.specs.Prelude.{◌≡◌, ◌+◌, ◌*◌, ◌≤◌, true, All, IfOk, IfErr};
 ghost use Rattle.mm_index.specs.Asking.{counted};
 ghost use Rattle.mm_index.specs.Range.{NeverFalls};
@@ -8,7 +9,7 @@ ghost use Rattle.ttree_node.specs.Editor.{position as edited, tree_at, spares_at
 ghost use Rattle.ttree.specs.Shape.{HasItemsInEach, binary_digits};
 ghost use Rattle.ttree.specs.Searching.{taken, IsAskedAtMost, IsHitIn, IsGap, IsDescent};
 
-use crate::turn::{Seek, Turn, ask, search_between, turn_at};
+use crate::asking::{Seek, ask, search_between};
 use mm_index::Probe;
 use std::cmp::Ordering;
 use ttree_node::{Editor, Look};
@@ -35,6 +36,7 @@ fn descend<'a, P: Probe, const MAX: usize>(
     requires placed { All (P.can_place probe.old) (list (whole (position look.old))) }
     requires in_order { NeverFalls (λ r. taken seek (P.place probe.old r)) (list (whole (position look.old))) }
     ensures nodes { look.new.nodes ≡ look.old.nodes }
+    ensures node { is_node (position look.new).here ≡ true }
     ensures whole { whole (position look.new) ≡ whole (position look.old) }
     ensures end { IsDescent (λ r. taken seek (P.place probe.old r)) look.new result }
     ensures probe { IsAskedAtMost (height (whole (position look.old))) P.is_sound P.can_place P.place P.asked probe.old probe.new }
@@ -75,6 +77,7 @@ pub(crate) fn locate<P: Probe, const MAX: usize>(
     requires placed { All (P.can_place probe.old) (list (whole (position look.old))) }
     requires in_order { NeverFalls (λ r. taken seek (P.place probe.old r)) (list (whole (position look.old))) }
     ensures nodes { look.new.nodes ≡ look.old.nodes }
+    ensures node { is_node (position look.new).here ≡ true }
     ensures whole { whole (position look.new) ≡ whole (position look.old) }
     ensures hit { IfOk result (IsHitIn (λ r. taken seek (P.place probe.old r)) (items_of (position look.new).here)) }
     ensures gap { IfErr result (IsGap (λ r. taken seek (P.place probe.old r)) (position look.new)) }
@@ -116,15 +119,12 @@ pub(crate) fn locate_to_edit<P: Probe, const MAX: usize>(
     ensures spares { spares_at editor.new ≡ spares_at editor.old }
     ensures hit { IfOk result (IsHitIn (P.place probe.old) (items_of (edited editor.new).here)) }
     ensures gap { IfErr result (IsGap (P.place probe.old) (edited editor.new)) }
-    ensures probe { IsAskedAtMost (2 * height (whole (edited editor.old)) + binary_digits MAX) P.is_sound P.can_place P.place P.asked probe.old probe.new }
+    ensures probe { IsAskedAtMost (height (whole (edited editor.old)) + binary_digits MAX) P.is_sound P.can_place P.place P.asked probe.old probe.new }
     ensures asks { counted (P.asked probe.old) ≤ P.asked probe.new }
 {
-    loop {
-        let (has_left, has_right) = (editor.has_left(), editor.has_right());
-        match turn_at(editor.items(), has_left, has_right, probe, Seek::Any) {
-            Turn::Left => editor.down_left(),
-            Turn::Right => editor.down_right(),
-            Turn::Here(found) => return found,
-        }
-    }
+    let mut look = editor.look();
+    let found = locate(&mut look, probe, Seek::Any);
+    let place = look.place();
+    editor.go_to(place);
+    found
 }

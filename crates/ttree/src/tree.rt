@@ -6,11 +6,11 @@ ghost use Rattle.mm_index.specs.Asking.{IsOnlyAsked, counted};
 ghost use Rattle.mm_index.specs.Order.{IsRising, insert_by, insert_placed, remove_by};
 ghost use Rattle.mm_index.specs.Range.{NeverFalls, in_range, from_range};
 
+use crate::asking::Seek;
 use crate::build::build;
 use crate::insert::insert_unless_found;
 use crate::removal::remove;
 use crate::search::locate;
-use crate::turn::Seek;
 use mm_index::{OrderProbe, Probe, TupleOrder};
 use no_memory::NoMemory;
 use part_raw::TupleRef;
@@ -267,7 +267,7 @@ impl<const MIN: usize, const MAX: usize> TTree<MIN, MAX> {
         ensures room { room_of MIN self.old ≤ room_of MIN self.new + 1 }
         // Where each node that has a child is full, it stays so: hence it is so after inserts alone into a new tree.
         ensures full { 2 ≤ MIN → ParentsAreFull MAX self.old.tree → ParentsAreFull MAX self.new.tree }
-        ensures most_asked { probe.new.asked ≤ probe.old.asked + (2 * height self.old.tree + binary_digits MAX) }
+        ensures most_asked { probe.new.asked ≤ probe.old.asked + (height self.old.tree + binary_digits MAX) }
     {
         let r = probe.sought();
         let found = self.insert_unless_found(probe, r);
@@ -296,7 +296,7 @@ impl<const MIN: usize, const MAX: usize> TTree<MIN, MAX> {
         ensures full { 2 ≤ MIN → ParentsAreFull MAX self.old.tree → ParentsAreFull MAX self.new.tree }
         ensures probe { IsOnlyAsked P.is_sound P.can_place P.place P.asked probe.old probe.new }
         ensures asks { 0 < length (items_of_tree self.old) → counted (P.asked probe.old) ≤ P.asked probe.new }
-        ensures most_asked { P.asked probe.new ≤ P.asked probe.old + (2 * height self.old.tree + binary_digits MAX) }
+        ensures most_asked { P.asked probe.new ≤ P.asked probe.old + (height self.old.tree + binary_digits MAX) }
         ensures bound { fib (height self.old.tree + 2) ≤ 1 + length (items_of_tree self.old) }
     {
         let found = insert_unless_found::<P, MIN, MAX>(self.tree.nodes_mut(), probe, r);
@@ -321,7 +321,7 @@ impl<const MIN: usize, const MAX: usize> TTree<MIN, MAX> {
         ensures nodes { nodes_of self.new ≡ nodes_of self.old }
         ensures spares { self.old.spares ≤ self.new.spares }
         ensures room { room_of MIN self.old ≤ room_of MIN self.new }
-        ensures most_asked { probe.new.asked ≤ probe.old.asked + (2 * height self.old.tree + binary_digits MAX) }
+        ensures most_asked { probe.new.asked ≤ probe.old.asked + (height self.old.tree + binary_digits MAX) }
     {
         remove::<O, MIN, MAX>(self.tree.nodes_mut(), probe);
         self.len -= 1;

@@ -4,10 +4,12 @@ ghost use Rattle.std.specs.Prelude.{◌≡◌, []};
 use crate::editor::Editor;
 use crate::linked_nodes::LinkedNodes;
 use crate::look::Look;
+use crate::nodes::NodePlace;
 
 impl<const MAX: usize> LinkedNodes<MAX> {
     ghost use Rattle.ttree_node.specs.Tree.{at};
-    ghost use Rattle.ttree_node.specs.Seen.{tree_of, spares_of};
+    ghost use Rattle.ttree_node.specs.Linked.{located, IsPlaceIn};
+    ghost use Rattle.ttree_node.specs.Seen.{tree_of, spares_of, position_at};
     ghost use Rattle.ttree_node.specs.Look.{position};
     ghost use Rattle.ttree_node.specs.Editor.{position as edited, tree_at, spares_at};
 
@@ -19,6 +21,18 @@ impl<const MAX: usize> LinkedNodes<MAX> {
         Look {
             nodes: self,
             at: self.root(),
+        }
+    }
+
+    // That place, to be read.
+    pub(crate) fn look_at(&self, place: Option<NodePlace>) -> Look<'_, MAX>
+        requires { IsPlaceIn (located self.now) place }
+        ensures nodes { result.nodes.now ≡ self.now }
+        ensures place { position result ≡ position_at self.now place }
+    {
+        Look {
+            nodes: self,
+            at: place,
         }
     }
 

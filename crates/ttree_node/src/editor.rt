@@ -3,6 +3,7 @@ ghost use Rattle.std.specs.Prelude.{◌≡◌, ◌+◌, ◌<◌, ◌≤◌, true
 ghost use Rattle.ttree_node.specs.Linked.{located, IsPlaceIn};
 
 use crate::linked_nodes::LinkedNodes;
+use crate::look::Look;
 use crate::node::{Side, Way};
 use crate::nodes::NodePlace;
 use part_raw::TupleRef;
@@ -18,6 +19,8 @@ pub struct Editor<'a, const MAX: usize> {
 impl<'a, const MAX: usize> Editor<'a, MAX> {
     ghost use Rattle.ttree_node.specs.Tree.{whole, list, is_node, is_leaf, is_root, has_left, has_right, left_of, right_of, down_left, down_right, up, to_root, items_of, stated, with_items, with_height, height_over, with_leaf, without_leaf, with_tree, rotated_left, rotated_right};
     ghost use Rattle.ttree_node.specs.Seen.{on_side, child, opposite, hangs_on_node, merged, giver, taker, slid};
+    ghost use Rattle.ttree_node.specs.Seen.{position_at};
+    ghost use Rattle.ttree_node.specs.Look.{position as look_position};
     ghost use Rattle.ttree_node.specs.Editor.{position, tree_at, spares_at};
 
     /// Whether a node is there.
@@ -75,6 +78,25 @@ impl<'a, const MAX: usize> Editor<'a, MAX> {
         ensures right { result.1 ≡ stated (right_of (position self.now).here) }
     {
         self.nodes.heights(self.at)
+    }
+
+    /// The same place, to be read.
+    pub fn look(&self) -> Look<'_, MAX>
+        ensures nodes { result.nodes.now ≡ self.now.nodes.now }
+        ensures place { look_position result ≡ position self.now }
+    {
+        self.nodes.look_at(self.at)
+    }
+
+    /// Goes to a place that a look at these nodes found.
+    pub fn go_to(&mut self, place: Option<NodePlace>)
+        requires { IsPlaceIn (located self.old.nodes.now) place }
+        ensures same_reference { self.new.nodes.ghost_name ≡ self.old.nodes.ghost_name }
+        ensures moved { position self.new ≡ position_at self.old.nodes.now place }
+        ensures tree { tree_at self.new ≡ tree_at self.old }
+        ensures spares { spares_at self.new ≡ spares_at self.old }
+    {
+        self.at = place;
     }
 
     /// Goes to the root.

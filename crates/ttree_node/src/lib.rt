@@ -54,4 +54,5 @@ pub use linked_nodes::LinkedNodes;
 pub use linked_tree::LinkedTree;
 pub use look::Look;
 pub use node::{Side, Way};
+pub use nodes::NodePlace;
 pub use walk::Walk;

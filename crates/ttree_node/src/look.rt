@@ -16,7 +16,16 @@ pub struct Look<'a, const MAX: usize> {
 
 impl<'a, const MAX: usize> Look<'a, MAX> {
     ghost use Rattle.ttree_node.specs.Tree.{is_node, is_root, has_left, has_right, left_of, right_of, down_left, down_right, up, to_root, items_of, stated};
+    ghost use Rattle.ttree_node.specs.Seen.{position_at};
     ghost use Rattle.ttree_node.specs.Look.{position};
+
+    /// The place, for an editor of the same nodes to go to.
+    pub fn place(&self) -> Option<NodePlace>
+        ensures placed { IsPlaceIn (located self.now.nodes.now) result }
+        ensures place { position_at self.now.nodes.now result ≡ position self.now }
+    {
+        self.at
+    }
 
     /// Whether a node is there.
     pub fn has_node(&self) -> bool

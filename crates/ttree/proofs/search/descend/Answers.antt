@@ -1,15 +1,13 @@
-use Rattle.std.proofs.Common.{◌≡◌, ◌+◌, ◌<◌, ◌≤◌, List, length, get_or, All, true, false, refl, sym, ap, subst, ◌∙◌, arith, Ordering}
+use Rattle.std.proofs.Common.{◌≡◌, ◌<◌, List, length, get_or, All, true, false, refl, sym, ap, subst, ◌∙◌, arith, Ordering}
 use Rattle.std.specs.declared.cmp.Ordering.TheVariants.{Less, Equal, Greater}
 use Rattle.std.proofs.lemmas.Option.{IfSome_then}
 use Rattle.std.proofs.lemmas.List.{get_or_default}
 use Rattle.part_raw.specs.declared.tuple_ref.TupleRef.{TupleRef}
-use Rattle.mm_index.specs.Range.{NeverFalls}
-use Rattle.mm_index.proofs.Asked.{IsOnlyAsked-refl, IsOnlyAsked-trans, counted-mono}
+use Rattle.mm_index.proofs.Asked.{IsOnlyAsked-trans}
 use Rattle.ttree_node.specs.Tree.{Tree, Zipper, Label, whole, left_of, right_of, items_of, has_left, has_right, is_node, height, list_before}
 use Rattle.ttree_node.specs.Look.{position}
-use Rattle.ttree.specs.Searching.{taken, IsCut, IsGap, IsBehind}
-use Rattle.ttree.proofs.Descent.{root_whole, left_lower, right_lower, left_here, right_here, some_here, All-here, NeverFalls-here}
-use Rattle.ttree.proofs.Least.{IsAhead, IsLast, ahead-root, ahead-left, ahead-right, first-root, first-left, last-left, last-right, end-first, end-above, end-next, end-here, least-below, if_none, is_descent}
+use Rattle.ttree.specs.Searching.{taken, IsCut}
+use Rattle.ttree.proofs.Descent.{left_lower, right_lower, left_here, right_here, some_node, some_here, All-here, NeverFalls-here, IsAhead, IsLast, ahead-left, ahead-right, first-left, last-left, last-right, end-first, end-above, end-next, end-here, least-below, if_none, is_descent}
 use Rattle.ttree.proofs.search.descend.Goals as goal
 
 abbrev none : TupleRef
@@ -49,6 +47,7 @@ returns-then-not-has_left-clause-end g c =
     (if_none c.loop-look.last _ _ (end-first f t c.requires.in_order z none some kept.ahead.same least alone) kept.first)
     (IfSome_then c.loop-look.last kept.behind (λ r b. record {
       nodes = b.0 ∙ sym kept.nodes;
+      node = some_node (position r).here b.1.cut.ordered;
       whole = b.1.same ∙ sym kept.ahead.same;
       cut = b.1.cut;
       above = end-above f t c.requires.in_order z none some kept.ahead.same least alone (position r) b.1;
@@ -87,6 +86,7 @@ returns-then-not-has_right-clause-end g c =
     let least : f (get_or (items_of z.here) 0 none) ≡ Less = sym (rw (c.items.ensures, kept.only.answers) at c.in-Less.ensures.value) in
     let alone : has_right z.here ≡ false = sym c.has_right.ensures ∙ c.if-not-has_right.true in record {
       nodes = refl;
+      node = kept.node;
       whole = refl;
       cut = least-below f (items_of z.here) (NeverFalls-here g.row.MAX t z kept.ahead.same f c.requires.in_order) some none least;
       above = end-here f t z kept.ahead alone;

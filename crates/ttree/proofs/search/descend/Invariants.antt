@@ -4,7 +4,7 @@ use Rattle.mm_index.specs.Asking.{IsOnlyAsked}
 use Rattle.ttree_node.specs.Tree.{whole, height, is_node, list_before}
 use Rattle.ttree_node.specs.Look.{position}
 use Rattle.ttree.specs.Searching.{taken}
-use Rattle.ttree.proofs.Least.{IsAhead, IsLast}
+use Rattle.ttree.proofs.Descent.{IsAhead, IsLast}
 use Rattle.ttree.proofs.search.descend.Given as goal
 
 -- each level asks once

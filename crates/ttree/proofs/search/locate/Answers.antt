@@ -1,12 +1,11 @@
-use Rattle.std.proofs.Common.{◌≡◌, ◌∙◌, ◌<◌, ◌≤◌, List, length, All, ap, subst, sym, arith, Ordering}
+use Rattle.std.proofs.Common.{◌≡◌, ◌∙◌, ◌≤◌, List, length, All, ap, subst, sym, arith, Ordering}
 use Rattle.part_raw.specs.declared.tuple_ref.TupleRef.{TupleRef}
 use Rattle.mm_index.specs.Range.{NeverFalls}
 use Rattle.ttree_node.specs.Tree.{Tree, Zipper, Label, whole, list, items_of, height}
 use Rattle.ttree_node.specs.Look.{position}
 use Rattle.ttree.specs.Searching.{taken, IsCut, IsBehind}
 use Rattle.ttree.proofs.Counting.{asked_among}
-use Rattle.ttree.proofs.Descent.{few_here, All-here, NeverFalls-here}
-use Rattle.ttree.proofs.Least.{gap-behind}
+use Rattle.ttree.proofs.Descent.{few_here, All-here, NeverFalls-here, gap-behind}
 use Rattle.ttree.proofs.search.locate.Goals as goal
 
 abbrev none : TupleRef

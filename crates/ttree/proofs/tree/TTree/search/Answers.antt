@@ -6,7 +6,7 @@ use Rattle.ttree_node.specs.Look.{position}
 use Rattle.ttree_node.specs.TreeWithSpares.{TreeWithSpares}
 use Rattle.ttree.specs.Shape.{IsTTree, HasItemsInEach}
 use Rattle.ttree.specs.Searching.{taken}
-use Rattle.ttree.proofs.Descent.{at_root, end_empty}
+use Rattle.ttree.proofs.Descent.{end-empty}
 use Rattle.ttree.proofs.Puts.{list_first}
 use Rattle.ttree.proofs.Ends.{items_in_each, NeverFalls-taken}
 use Rattle.ttree.proofs.Heights.{list_bound}
@@ -42,7 +42,7 @@ pub returns-then-not-has_node-clause-gap : goal.returns-then-not-has_node-clause
 returns-then-not-has_node-clause-gap g c =
     let f : TupleRef → Ordering = λ r. taken c.args.seek (g.P.Probe.place c.args.probe.now r) in
     let z : Zipper (Label TupleRef) = position c.look-look.result in
-    end_empty f (whole z) z (at_root f z (ap (λ (y : Zipper (Label TupleRef)). is_root y.above) c.look-look.ensures.root)) (sym c.has_node.ensures ∙ c.if-not-has_node.true)
+    end-empty f z (ap (λ (y : Zipper (Label TupleRef)). is_root y.above) c.look-look.ensures.root) (sym c.has_node.ensures ∙ c.if-not-has_node.true)
 
 pub returns-then-not-has_node-clause-asks : goal.returns-then-not-has_node-clause-asks
 returns-then-not-has_node-clause-asks g c =

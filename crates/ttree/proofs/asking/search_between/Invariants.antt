@@ -2,7 +2,7 @@ use Rattle.std.proofs.Common.{◌+◌, ◌-◌, ◌<◌, ◌≤◌}
 use Rattle.mm_index.specs.Asking.{IsOnlyAsked, counted}
 use Rattle.ttree.specs.Shape.{binary_digits}
 use Rattle.ttree.specs.Searching.{taken, IsCut}
-use Rattle.ttree.proofs.turn.search_between.Given as goal
+use Rattle.ttree.proofs.asking.search_between.Given as goal
 
 abbrev pub invariant-loop-low : goal.invariant-loop-low
 invariant-loop-low g l = record {

@@ -2,7 +2,7 @@ use Rattle.std.proofs.Common.{◌+◌, ◌-◌, ◌/◌, arith}
 use Rattle.mm_index.proofs.Asked.{IsOnlyAsked-trans, counted-mono}
 use Rattle.ttree.proofs.Digits.{digits-half}
 use Rattle.ttree.proofs.Narrowing.{IsCut-low, IsCut-high}
-use Rattle.ttree.proofs.turn.search_between.Goals as goal
+use Rattle.ttree.proofs.asking.search_between.Goals as goal
 
 pub loop-low-preserved-in-Less : goal.loop-low-preserved-in-Less
 loop-low-preserved-in-Less g c =
