@@ -1,6 +1,7 @@
 pub mod BlockLaws
 pub mod BlockLemmas
 pub mod CsvLemmas
+pub mod EndingLemmas
 pub mod FieldLemmas
 pub mod OutputLemmas
 pub mod PlainFields

@@ -22,8 +22,8 @@ pub fn write_row<W: Write + Drop>(output: &mut Output<W>, row: &[Value]) -> Resu
     output.put_end()
 }
 
-/// Values of rows, which are lent one by one, as a record. After an error a part of it may have been written.
-pub fn write_values<W: Write + Drop>(
+// Values of rows as a record, field by field. After an error a part of it may have been written.
+fn write_each<W: Write + Drop>(
     output: &mut Output<W>,
     values: &[&StoredValue],
 ) -> Result<(), NoMemory>
@@ -35,6 +35,20 @@ pub fn write_values<W: Write + Drop>(
         output.put_value(place, alone, &value.sought())?;
     }
     output.put_end()
+}
+
+/// Values of rows, which are lent one by one, as a record. After an error a part of it may have been written.
+pub fn write_values<W: Write + Drop>(
+    output: &mut Output<W>,
+    values: &[&StoredValue],
+) -> Result<(), NoMemory>
+    requires { 0 < length values.now }
+    ensures { OnOk result (Appends output.old output.new (row_record (map (λ v. v.now) values.now))) }
+{
+    if output.put_short(values)? {
+        return Ok(());
+    }
+    write_each(output, values)
 }
 
 /// Names as a record. After an error a part of it may have been written.

@@ -12,6 +12,7 @@
 
 mod block;
 mod csv_refusal;
+mod ending;
 mod field;
 mod fields;
 mod full_name;

@@ -1,17 +1,18 @@
 //! The fields of records, written straight to where they go.
 
-ghost use Rattle.std.specs.Prelude.{◌≡◌, Bool, ◌∷◌, [], OnOk};
+ghost use Rattle.std.specs.Prelude.{◌≡◌, ◌<◌, Bool, ◌∷◌, [], false, IsTrue, IfOk, OnOk, length, map};
 ghost use Rattle.std.specs.Fmt.{decimal, signed_decimal};
 ghost use Rattle.std.specs.Io.KnownBytes.{Appends, Keeps};
-ghost use Rattle.plain_tables.specs.Csv.{quoted, value_field};
+ghost use Rattle.plain_tables.specs.Csv.{quoted, row_record, value_field};
 ghost use Rattle.mm_csv.specs.Records.{AddsField, StandsInQuotes, comma};
 ghost use Rattle.mm_csv.specs.FullNames.{full_name_text};
 
 use crate::FullName;
+use crate::ending::Ending;
 use crate::plain::must_be_quoted;
 use crate::quotes::Quotes;
 use itoa::Buffer;
-use plain_tables::{NoMemory, SeenValue, SoughtValue};
+use plain_tables::{NoMemory, SeenValue, SoughtValue, StoredValue};
 use std::alloc::Global;
 use std::io::Write;
 use std::marker::Model;
@@ -25,6 +26,7 @@ pub struct Output<W: Write + Drop> {
     alloc: Global,
     to: W,
     quotes: Quotes,
+    ending: Ending,
 }
 
 impl<W: Write + Drop> Model for Output<W> {
@@ -44,6 +46,7 @@ impl<W: Write + Drop> Output<W> {
             alloc,
             to,
             quotes: Quotes::new(alloc),
+            ending: Ending::new(),
         }
     }
 
@@ -160,6 +163,22 @@ impl<W: Write + Drop> Output<W> {
         self.put(name.table.as_bytes())?;
         self.put(b".")?;
         self.put(name.column.as_bytes())
+    }
+
+    /// The record of values, if it is short and needs no quotes: made as a whole, so that room is made for it once. Else nothing
+    /// is written, and the answer is no.
+    pub fn put_short(&mut self, values: &[&StoredValue]) -> Result<bool, NoMemory>
+        requires { 0 < length values.now }
+        ensures written { IfOk result (λ is. IsTrue is → Appends self.old self.new (row_record (map (λ v. v.now) values.now))) }
+        ensures unchanged { IfOk result (λ is. is ≡ false → self.new ≡ self.old) }
+    {
+        let Some(record) = self.ending.record_of(values) else {
+            return Ok(false);
+        };
+        match self.to.write_all(record) {
+            Ok(()) => Ok(true),
+            Err(_) => Err(NoMemory),
+        }
     }
 
     /// The end of a record.

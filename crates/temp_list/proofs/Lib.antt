@@ -8,3 +8,4 @@ pub mod SlotLemmas
 pub mod SortLemmas
 pub mod SelectLemmas
 pub mod OneOrder
+pub mod LeadingLemmas

@@ -1,4 +1,5 @@
 pub mod Reading
+pub mod Leading
 pub mod Lists
 pub mod Seen
 pub mod Keyed

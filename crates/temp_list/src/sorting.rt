@@ -1,15 +1,16 @@
 //! Rows in the order of their keys.
-ghost use Rattle.std.specs.Prelude.{◌≡◌, ◌↔◌, ◌<◌, IsTrue, OnOk, OnErr, map};
+ghost use Rattle.std.specs.Prelude.{◌≡◌, ◌↔◌, ◌<◌, IsTrue, IfSome, OnOk, OnErr, map};
 ghost use Rattle.std.specs.List.Sorted.{IsPermutation, IsSorted};
+ghost use Rattle.temp_list.specs.Leading.{LeadsWith, AreLedByRising};
 ghost use Rattle.temp_list.specs.Lists.{keys_cmp};
 ghost use Rattle.temp_list.specs.Seen.{AreTables, listed_cmp, lists};
 
 use crate::keyed::{keyed_rows, sort_keyed};
 use crate::row::ListedRow;
-use mm_relation::Relations;
+use mm_relation::{Relation, Relations};
 use no_memory::NoMemory;
 use part_raw::TupleRef;
-use plain_tables::TableNumber;
+use plain_tables::{SeenValue, TableNumber};
 use std::cmp::Ordering;
 
 // Compares two rows by their keys, the first source's first.
@@ -39,8 +40,40 @@ pub fn compare_rows<R: Relations>(
     }
 }
 
-// Whether no row stands below the one before it.
-fn rises<R: Relations>(tables: &R, sources: &[TableNumber], rows: &[ListedRow]) -> bool
+// The key of a row's first source, where it is an integer.
+#[inline]
+fn leading_key(relation: &Relation, row: &[TupleRef]) -> Option<i64>
+    ensures { IfSome result (LeadsWith relation.now row.now) }
+{
+    let r = row.first()?;
+    match relation.key_if_held(*r)?.seen() {
+        SeenValue::Int(key) => Some(key),
+        _ => None,
+    }
+}
+
+// Whether the key of each row's first source stands above that of the row before, and all of them are integers. Each is read
+// once, in a short loop, so that the reads of rows that lie far apart go side by side.
+fn leading_keys_rise(relation: &Relation, rows: &[ListedRow]) -> bool
+    ensures { IsTrue result → AreLedByRising relation.now rows.now }
+{
+    let mut last = None;
+    for row in rows {
+        let Some(key) = leading_key(relation, row.as_slice()) else {
+            return false;
+        };
+        if let Some(before) = last {
+            if key <= before {
+                return false;
+            }
+        }
+        last = Some(key);
+    }
+    true
+}
+
+// Whether no row stands below the one before it, by the keys of all sources.
+fn all_keys_rise<R: Relations>(tables: &R, sources: &[TableNumber], rows: &[ListedRow]) -> bool
     requires { AreTables (R.tables tables.now) sources.now }
     ensures { IsTrue result ↔ IsSorted (listed_cmp (R.tables tables.now) sources.now) rows.now }
 {
@@ -49,6 +82,19 @@ fn rises<R: Relations>(tables: &R, sources: &[TableNumber], rows: &[ListedRow]) 
             requires { AreTables (R.tables tables.now) sources.now }
         { compare_rows(tables, sources, b.as_slice(), a.as_slice()).is_ge() },
     )
+}
+
+// Whether no row stands below the one before it. Mostly the first source tells.
+fn rises<R: Relations>(tables: &R, sources: &[TableNumber], rows: &[ListedRow]) -> bool
+    requires { AreTables (R.tables tables.now) sources.now }
+    ensures { IsTrue result ↔ IsSorted (listed_cmp (R.tables tables.now) sources.now) rows.now }
+{
+    if let Some(table) = sources.first() {
+        if leading_keys_rise(tables.at(*table), rows) {
+            return true;
+        }
+    }
+    all_keys_rise(tables, sources, rows)
 }
 
 // Puts rows into the order of their keys, which each comparison reads.

@@ -1,11 +1,9 @@
-use Rattle.std.proofs.Common.{rules}
-use Rattle.std.specs.Ordering.{is_ge}
-use Rattle.std.proofs.lemmas.Fn.{always_returns_same}
-use Rattle.temp_list.specs.Seen.{listed_cmp}
-use Rattle.temp_list.proofs.SortLemmas.{rise_told}
+use Rattle.std.proofs.Common.{rules, refl}
+use Rattle.temp_list.proofs.LeadingLemmas.{first_sorted}
 use Rattle.temp_list.proofs.sorting.rises.Goals as goal
 
-pub returns : goal.returns
-returns g c =
-    rise_told (listed_cmp (g.R.Relations.tables c.args.tables.now) c.args.sources.now) c.args.rows.now c.is_sorted_by.result
-    (c.is_sorted_by.ensures.cases (λ x y. is_ge (listed_cmp (g.R.Relations.tables c.args.tables.now) c.args.sources.now y x)) (always_returns_same _ _ _ (λ a r f' k. search rules)))
+pub returns-then-leading_keys_rise : goal.returns-then-leading_keys_rise
+returns-then-leading_keys_rise g c = (
+  λ told. first_sorted (g.R.Relations.tables c.args.tables.now) c.at.result.now c.args.sources.now c.in-Some.table.now c.args.rows.now (search rules) c.at.ensures (c.if-leading_keys_rise.ensures told),
+  λ s. refl,
+)

@@ -4,7 +4,7 @@ use Rattle.std.proofs.lemmas.List.{length-map, take_all}
 use Rattle.std.proofs.lemmas.Result.{on_ok_weaker}
 use Rattle.plain_tables.specs.Csv.{value_field}
 use Rattle.mm_csv.proofs.OutputLemmas.{record-ended}
-use Rattle.mm_csv.proofs.fields.write_values.Goals as goal
+use Rattle.mm_csv.proofs.fields.write_each.Goals as goal
 
 pub returns : goal.returns
 returns g c =
