@@ -226,6 +226,18 @@ class Statements(binding.WithDatabase):
                 call()
         self.assertEqual(len(self.db.dump("emp")), 3)
 
+    def test_one_that_is_closed_twice_frees_no_other(self):
+        """Its number may be that of another by then."""
+        closed = [self.db.prepare("select id from emp where id > ?") for _ in range(10)]
+        for statement in closed:
+            statement.close()
+        others = [self.db.prepare("select name from emp where id = ?") for _ in range(10)]
+        for statement in closed:
+            statement.close()
+            with self.assertRaisesRegex(ValueError, "the statement is closed"):
+                statement.execute(1)
+        self.assertEqual([other.execute(1) for other in others], [[["Ann"]]] * 10)
+
     def test_of_a_closed_database(self):
         statements = [self.db.prepare(line) for line in ("delete emp where id = ?", "select * from emp where id = ?")]
         statements[1].execute(1)

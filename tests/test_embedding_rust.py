@@ -21,14 +21,6 @@ SECONDS = sizes.size(600, 3_600)
 PASSED = re.compile(r"^test result: ok\. (\d+) passed; 0 failed; 0 ignored;", re.MULTILINE)
 LICENSES = ("LICENSE-MIT", "LICENSE-APACHE")
 PIECE = re.compile(r"^```rust\n(.*?)^```$", re.MULTILINE | re.DOTALL)
-MANIFEST = f"""[package]
-name = "{{name}}"
-version = "0.1.0"
-edition = "2021"
-
-[dependencies]
-mmdb = {{{{ path = "{CRATE}" }}}}
-"""
 
 
 class Cargo(unittest.TestCase):
@@ -70,16 +62,8 @@ class Cargo(unittest.TestCase):
         self.check_tests(EXAMPLE)
         self.check_run(EXAMPLE, (EXAMPLE / "expected.txt").read_text())
 
-    def crate(self, name, program):
-        """The folder of a crate with this program."""
-        crate = self.folder / name
-        (crate / "src").mkdir(parents=True)
-        (crate / "Cargo.toml").write_text(MANIFEST.format(name=name))
-        (crate / "src" / "main.rs").write_text(program)
-        return crate
-
     def check_program(self, name, program, printed):
-        self.check_run(self.crate(name, program), printed)
+        self.check_run(embedding.crate(self.folder, name, program), printed)
 
     def test_the_first_program_of_the_page(self):
         program, printed = embedding.first_program("docs/rust.md", "rust")
@@ -96,7 +80,7 @@ class Cargo(unittest.TestCase):
 
     def test_random_streams(self):
         """Their statements have the answers of the model, whether they are kept by their lines or prepared."""
-        crate = self.crate("by_statements", (compiling.EMBEDDING / "by_statements.rs").read_text())
+        crate = embedding.crate(self.folder, "by_statements", (compiling.EMBEDDING / "by_statements.rs").read_text())
         built = self.cargo(crate, "build")
         self.assertEqual(built.status, 0, built.err)
         self.assertNotIn("warning", built.err)
