@@ -4,6 +4,15 @@ import re
 
 import harness
 
+# A crate that uses the binding for Rust.
+MANIFEST = f"""[package]
+name = "{{name}}"
+version = "0.1.0"
+edition = "2021"
+
+[dependencies]
+mmdb = {{{{ path = "{harness.ROOT / 'bindings' / 'rust'}" }}}}
+"""
 # What a text is drawn from: what the language or a careless binding would read as more than a character.
 MARKS = ["'", "''", '"', "?", ":", ":s", "\\", "\\'", "%", "%s", "\0", "\r", "\t", ",", "(", ")", "#", "--", ";", " ", ""]
 WORDS = ["null", "1", "-7", "007", "a", "B", "é", "ß", "€", "\u2028", "\x85", "\ufeff", "\ufffd", "😀", "\U0010ffff"]
@@ -25,3 +34,12 @@ def programs(page, language):
 def first_program(page, language):
     """The first program of a page, and what the page says that it prints."""
     return programs(page, language)[0]
+
+
+def crate(folder, name, program):
+    """Puts a crate with this program into a folder, and gives its own."""
+    made = folder / name
+    (made / "src").mkdir(parents=True)
+    (made / "Cargo.toml").write_text(MANIFEST.format(name=name))
+    (made / "src" / "main.rs").write_text(program)
+    return made

@@ -1,5 +1,5 @@
-"""The examples over a library that counts its memory: whichever of its calls for memory is refused, it has given back
-all that it was given when the program ends."""
+"""The examples, and the bindings' statements, over a library that counts its memory: whichever of its calls for memory is
+refused, it has given back all that it was given when the program ends."""
 
 import itertools
 import os
@@ -8,6 +8,7 @@ import sys
 import unittest
 
 import compiling
+import embedding
 import harness
 import sizes
 
@@ -26,6 +27,36 @@ def setUpModule():
 
 def tearDownModule():
     ROOM.close()
+
+
+def built(crate, program, *words):
+    """The program of a crate, built with the library that counts."""
+    target = ROOM.path / "target"
+    how = {**os.environ, "MMDB_LIBRARY": str(ROOM.path), "CARGO_TARGET_DIR": str(target)}
+    subprocess.run(["cargo", "build", "--quiet", "--offline", *words], cwd=crate, check=True, env=how)
+    return target / "debug" / program
+
+
+class Statements(unittest.TestCase):
+    """Each call for memory of each call on a statement is refused in turn, and nothing has changed then. In C it is done by
+    tests/test_embedding_c.py."""
+
+    def check(self, *words):
+        how = {**os.environ, "MMDB_LIBRARY": str(ROOM.path), "PYTHONPATH": str(BINDING)}
+        ended = compiling.ran(list(words), env=how)
+        count = compiling.COUNT.fullmatch(ended.err)
+        self.assertIsNotNone(count, ended.err.decode(errors="replace"))
+        self.assertEqual((ended.status, count[1]), (0, count[2]))
+        refused = list(map(int, ended.out.split()))
+        self.assertGreater(len(refused), 5)
+        self.assertGreater(min(refused), 0)
+
+    def test_in_python(self):
+        self.check(sys.executable, compiling.EMBEDDING / "statements_refused.py")
+
+    def test_in_rust(self):
+        crate = embedding.crate(ROOM.path, "statements_refused", (compiling.EMBEDDING / "statements_refused.rs").read_text())
+        self.check(built(crate, "statements_refused"))
 
 
 class Examples(unittest.TestCase):
@@ -67,7 +98,4 @@ class Examples(unittest.TestCase):
         self.check([sys.executable, PYTHON], PYTHON.with_suffix(".txt").read_bytes(), APART)
 
     def test_in_rust(self):
-        target = ROOM.path / "target"
-        how = {**os.environ, "MMDB_LIBRARY": str(ROOM.path), "CARGO_TARGET_DIR": str(target)}
-        subprocess.run(["cargo", "build", "--quiet", "--offline", "--locked"], cwd=RUST, check=True, env=how)
-        self.check([target / "debug" / "lending"], (RUST / "expected.txt").read_bytes(), 1)
+        self.check([built(RUST, "lending", "--locked")], (RUST / "expected.txt").read_bytes(), 1)

@@ -231,7 +231,8 @@ class Calls(binding.WithDatabase):
             self.assertEqual(db.load("t", [(1,)]), 1)
             self.assertEqual(db.execute("insert t (2)"), 1)
             self.refused(43, db.execute, "insert t (3)")
-            self.refused(64, db.dump, "t")
+            self.refused(64, db.execute, "dump t")
+            self.assertEqual(db.dump("t"), [[1], [2]])
             self.refused(12, db.load, "t", [(3,), (4,), (5,)])
         for how in ({"rows": 0}, {"rows": mmdb.MOST + 1}, {"block": -1}, {"block": mmdb.MOST + 1}, {"rows": 2**32 + 1}):
             with self.assertRaises(ValueError):

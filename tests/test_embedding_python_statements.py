@@ -12,17 +12,13 @@ import unittest
 import weakref
 
 import binding
+import drawn
 import embedding
 import model
-import sizes
-import streams
-import test_model
 from binding import mmdb
 
 SEED = 20261126
-STREAMS = sizes.size(300, 10_000)
 STATEMENTS = 10_000
-BEGINNINGS = ("insert", "update", "delete", "select")
 
 
 class Statements(binding.WithDatabase):
@@ -229,6 +225,18 @@ class Statements(binding.WithDatabase):
             with self.assertRaisesRegex(ValueError, "the statement is closed"):
                 call()
         self.assertEqual(len(self.db.dump("emp")), 3)
+
+    def test_one_that_is_closed_twice_frees_no_other(self):
+        """Its number may be that of another by then."""
+        closed = [self.db.prepare("select id from emp where id > ?") for _ in range(10)]
+        for statement in closed:
+            statement.close()
+        others = [self.db.prepare("select name from emp where id = ?") for _ in range(10)]
+        for statement in closed:
+            statement.close()
+            with self.assertRaisesRegex(ValueError, "the statement is closed"):
+                statement.execute(1)
+        self.assertEqual([other.execute(1) for other in others], [[["Ann"]]] * 10)
 
     def test_of_a_closed_database(self):
         statements = [self.db.prepare(line) for line in ("delete emp where id = ?", "select * from emp where id = ?")]
@@ -437,52 +445,18 @@ class Streams(unittest.TestCase):
 
     def test_random_streams(self):
         draw = random.Random(SEED)
-        done = {word: 0 for word in BEGINNINGS}
-        for number in range(STREAMS):
-            stream, _ = test_model.stream_and_answers(draw)
-            tables = model.Tables(model.Limits())
+        done = {word: 0 for word in drawn.BEGINNINGS}
+        for number in range(drawn.STREAMS):
             with self.subTest(stream=number), mmdb.Database(draw.choice(mmdb.POLICIES)) as db:
-                for line, block in list(model.units_of(streams.whole_units_of(stream))):
-                    expected = tables.answer(line, block)
-                    statement = statement_of(draw, line)
+                for line, block, expected in list(drawn.requests(draw)):
+                    statement = drawn.statement_of(draw, line)
                     if statement is None:
                         answer = db.answer(line, block if model.block_length(line) else None)
                     else:
                         answer = answer_of(db, draw, *statement)
                         done[statement[0].split(" ")[0]] += not answer.startswith(b"error")
                     self.assertEqual(answer, expected, (line, statement))
-        self.assertGreater(min(done.values()), STREAMS // 10)
-
-
-def statement_of(draw, line):
-    """The line of an insert, an update, a delete or a select with places for some of its values, and these values; None
-    of any other line."""
-    text = model.text_of(model.without_return(line))
-    if text is None or len(line) > 4_000:
-        return None
-    try:
-        symbols = model.symbols_of(text)
-    except model.Refused:
-        return None
-    if not symbols or symbols[0] not in BEGINNINGS:
-        return None
-    values = []
-    for at, symbol in enumerate(symbols):
-        value = value_of(symbol)
-        if value and draw.random() < 0.7:
-            symbols[at] = "?"
-            values.extend(value)
-    return " ".join(symbols), values
-
-
-def value_of(symbol):
-    """A list of the value that a symbol spells, which has none where it spells none."""
-    if symbol == "null":
-        return [None]
-    if symbol.startswith("'"):
-        return [symbol[1:-1].replace("''", "'")]
-    integer = model.integer_of(symbol)
-    return [] if integer is None else [integer]
+        self.assertGreater(min(done.values()), drawn.STREAMS // 10)
 
 
 def answer_of(db, draw, line, values):

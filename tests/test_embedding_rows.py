@@ -9,6 +9,7 @@ import compiling
 import harness
 import model
 import streams
+from calls import asked, call, line_by_line
 
 PIECES = (1, 7, 4_096)
 AGAIN = re.compile(rb"(\d+) asked again\n")
@@ -19,30 +20,9 @@ def tearDownModule():
     ROOM.close()
 
 
-def call(name, first, second=None):
-    """A call as the programs of tests/embedding read it."""
-    if second is None:
-        return b"%s %d\n%s" % (name, len(first), first)
-    return b"%s %d %d\n%s%s" % (name, len(first), len(second), first, second)
-
-
-def asked(line, block):
-    """The call that asks a request, and none of a line without bytes."""
-    if model.block_length(line):
-        yield call(b"load", line, block)
-    elif line:
-        yield call(b"command", line)
-
-
 def fed(stream, size):
     """The calls that feed a stream in pieces of that size."""
     return [call(b"feed", piece) for piece in harness.pieces_of(stream, size)]
-
-
-def line_by_line(stream):
-    """The calls that ask each request of a stream."""
-    for unit in model.units_of(stream):
-        yield from asked(*unit)
 
 
 def fed_by_request(stream, size):

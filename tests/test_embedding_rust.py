@@ -7,6 +7,8 @@ import subprocess
 import tempfile
 import unittest
 
+import compiling
+import drawn
 import embedding
 import harness
 import library
@@ -14,18 +16,11 @@ import sizes
 
 CRATE = harness.ROOT / "bindings" / "rust"
 EXAMPLE = harness.ROOT / "examples" / "rust"
+SEED = 20261128
 SECONDS = sizes.size(600, 3_600)
 PASSED = re.compile(r"^test result: ok\. (\d+) passed; 0 failed; 0 ignored;", re.MULTILINE)
 LICENSES = ("LICENSE-MIT", "LICENSE-APACHE")
 PIECE = re.compile(r"^```rust\n(.*?)^```$", re.MULTILINE | re.DOTALL)
-MANIFEST = f"""[package]
-name = "of_page"
-version = "0.1.0"
-edition = "2021"
-
-[dependencies]
-mmdb = {{ path = "{CRATE}" }}
-"""
 
 
 class Cargo(unittest.TestCase):
@@ -68,11 +63,7 @@ class Cargo(unittest.TestCase):
         self.check_run(EXAMPLE, (EXAMPLE / "expected.txt").read_text())
 
     def check_program(self, name, program, printed):
-        crate = self.folder / name
-        (crate / "src").mkdir(parents=True)
-        (crate / "Cargo.toml").write_text(MANIFEST)
-        (crate / "src" / "main.rs").write_text(program)
-        self.check_run(crate, printed)
+        self.check_run(embedding.crate(self.folder, name, program), printed)
 
     def test_the_first_program_of_the_page(self):
         program, printed = embedding.first_program("docs/rust.md", "rust")
@@ -86,6 +77,14 @@ class Cargo(unittest.TestCase):
         program = f"#![allow(unused)]\nfn main() -> Result<(), mmdb::Error> {{\n{''.join(pieces)}Ok(())\n}}\n"
         refused = "error 42 no referenced row: dept has no row with the key 99, which column dept names"
         self.check_program("pieces", program, f"1 Ann Some(10)\n2 O'Hara None\n{refused}\n")
+
+    def test_random_streams(self):
+        """Their statements have the answers of the model, whether they are kept by their lines or prepared."""
+        crate = embedding.crate(self.folder, "by_statements", (compiling.EMBEDDING / "by_statements.rs").read_text())
+        built = self.cargo(crate, "build")
+        self.assertEqual(built.status, 0, built.err)
+        self.assertNotIn("warning", built.err)
+        drawn.check(self, self.folder / "target" / "debug" / "by_statements", SEED)
 
     def test_the_package(self):
         """It is made without a warning, and has the licences."""

@@ -1,13 +1,15 @@
-"""The rows through statements of the library: what is bound to the places of a line has the answer that the line with these
-values has."""
+"""The rows and random streams through statements of the library: what is bound to the places of a line has the answer that
+the line with these values has."""
 
 import unittest
 
 import compiling
+import drawn
 import harness
 import streams
-from test_embedding_rows import line_by_line
+from calls import line_by_line
 
+SEED = 20261127
 ROOM = compiling.Room()
 
 
@@ -34,6 +36,14 @@ class Given(Bound):
     """The same where the values stay in the lines."""
 
     VALUES_STAY = 1
+
+
+class Drawn(unittest.TestCase):
+    """Random streams, whose statements are told with some of their values in places, have the answers of the model."""
+
+    def test_random_streams(self):
+        words = [*compiling.C, *compiling.SANITIZED, "-DVALUES_STAY=0"]
+        drawn.check(self, ROOM.compiled("drawn", compiling.EMBEDDING / "by_statements.c", words), SEED)
 
 
 def row(words, stream, answers):

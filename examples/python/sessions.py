@@ -17,6 +17,11 @@ class Sessions:
         db.execute("table session (token text, user ref user, ends int)")
         db.execute("index session user hash")
         db.execute("index session ends tree")
+        # (what each request asks is prepared once; what is asked more seldom is kept by its line)
+        self.find_mail = db.prepare(
+            "select mail from session join user on session.user = user.name where token = :token and ends > :now"
+        )
+        self.set_end = db.prepare("update session set ends = ? where token = ?")
 
     def sign_up(self, name: str, mail: str) -> bool:
         """Takes a user in, if the name isn't taken."""
@@ -40,8 +45,7 @@ class Sessions:
 
     def mail_of(self, token: str, now: int) -> Optional[str]:
         """The mail of the user whose session a token is, if it hasn't ended. A stranger may have sent any text."""
-        line = "select mail from session join user on session.user = user.name where token = :token and ends > :now"
-        found = self.db.select(line, token=token, now=now)
+        found = self.find_mail.execute(token=token, now=now)
         mail: Optional[str] = found[0].mail if found else None
         return mail
 
@@ -50,7 +54,8 @@ class Sessions:
         return [(session.token, session.ends) for session in self.db.select("select * from session where user = ?", name)]
 
     def prolong(self, token: str, ends: int) -> bool:
-        return self.db.change("update session set ends = ? where token = ?", ends, token) == 1
+        changed: int = self.set_end.execute(ends, token)
+        return changed == 1
 
     def sign_out(self, name: str) -> int:
         """Ends all sessions of a user, and gives how many they were."""

@@ -1,7 +1,11 @@
 /* Makes the calls of standard input on one handle, and writes their answers. A line that begins as an insert, an update, a
    delete or a select is done by a statement, whose answer is put together from its rows. Where VALUES_STAY is 0, a ?
    stands in its line for each number, text and null, and these are bound. Statements are kept, so that they outlive
-   tables, and each is executed again where its line comes again. The program's words are the handle's limits. */
+   tables, and each is executed again where its line comes again. The program's words are the handle's limits.
+
+   A statement may also be told by calls of its own: `kept LENGTH` or `prepared LENGTH` with its line, for each place
+   `integer LENGTH`, `text LENGTH` or `null 0` with the value, and `execute 0`. One that is prepared is finalised behind
+   that. `open 1` with the digit of a policy begins anew, with no tables; lines stay lines from there on. */
 #include "calls.h"
 
 #include <errno.h>
@@ -11,6 +15,7 @@ enum { LONGEST_LINE = 8192, MOST_KEPT = 500 };
 
 /* A line with places, and the values that stood in them. */
 typedef struct written {
+    int is_kept;
     char line[LONGEST_LINE + 1];
     size_t length;
     size_t places;
@@ -32,6 +37,8 @@ static struct {
 } kept[MOST_KEPT];
 static size_t kept_count = 0;
 
+static int lines_stay = 0;
+
 static int is_of_word(unsigned char byte)
 {
     return (byte >= 'a' && byte <= 'z') || (byte >= 'A' && byte <= 'Z') || (byte >= '0' && byte <= '9') || byte == '_';
@@ -50,11 +57,16 @@ static int is_word(const unsigned char *at, size_t length, const char *word)
     return length == strlen(word) && memcmp(at, word, length) == 0;
 }
 
+static int is_call(call of, const char *name)
+{
+    return strcmp(of.name, name) == 0;
+}
+
 static int is_on_rows(call of)
 {
     const unsigned char *at = of.bytes, *end = of.bytes + of.length;
     size_t length;
-    if (strcmp(of.name, "command") != 0 || of.length > LONGEST_LINE)
+    if (lines_stay || !is_call(of, "command") || of.length > LONGEST_LINE)
         return 0;
     while (at < end && (*at == ' ' || *at == '\t'))
         at++;
@@ -69,10 +81,21 @@ static void put(written *to, const unsigned char *bytes, size_t length)
     to->length += length;
 }
 
-static void put_place(written *to, mmdb_kind kind, int64_t integer, const unsigned char *text, size_t length)
+static void begin(written *to, int is_kept)
+{
+    to->is_kept = is_kept;
+    to->length = to->places = to->texts_length = 0;
+}
+
+static void put_value(written *to, mmdb_kind kind, int64_t integer, const unsigned char *text, size_t length)
 {
     const struct value value = { kind, integer, text, length };
     to->values[to->places++] = value;
+}
+
+static void put_place(written *to, mmdb_kind kind, int64_t integer, const unsigned char *text, size_t length)
+{
+    put_value(to, kind, integer, text, length);
     to->line[to->length++] = '?';
 }
 
@@ -116,7 +139,7 @@ static const unsigned char *put_word(written *to, const unsigned char *at, const
 static int write_with_places(written *to, call of)
 {
     const unsigned char *at = of.bytes, *end = of.bytes + of.length;
-    to->length = to->places = to->texts_length = 0;
+    begin(to, 1);
     while (at != NULL && at < end) {
         if (*at == '?')
             return 0;
@@ -136,8 +159,36 @@ static int write_with_places(written *to, call of)
     return at != NULL;
 }
 
+/* Takes the value that a call tells of the next place. Gives 0 where it tells none. */
+static int put_told(written *to, call of)
+{
+    char digits[32];
+    if (is_call(of, "null")) {
+        put_value(to, MMDB_NULL, 0, NULL, 0);
+    } else if (is_call(of, "integer") && of.length < sizeof digits) {
+        memcpy(digits, of.bytes, of.length);
+        digits[of.length] = '\0';
+        put_value(to, MMDB_INTEGER, strtoll(digits, NULL, 10), NULL, 0);
+    } else if (is_call(of, "text") && of.length <= sizeof to->texts - to->texts_length) {
+        unsigned char *text = to->texts + to->texts_length;
+        memcpy(text, of.bytes, of.length);
+        to->texts_length += of.length;
+        put_value(to, MMDB_TEXT, 0, text, of.length);
+    } else {
+        return 0;
+    }
+    return 1;
+}
+
+static mmdb_status prepare(mmdb *db, const written *line, mmdb_statement *statement)
+{
+    const mmdb_status status = mmdb_prepare(db, line->line, line->length, statement);
+    CHECK(status != MMDB_DONE || statement->places == line->places);
+    return status;
+}
+
 /* The statement of a line, which is kept. */
-static mmdb_status statement_of(mmdb *db, const written *line, mmdb_statement *statement)
+static mmdb_status keep(mmdb *db, const written *line, mmdb_statement *statement)
 {
     mmdb_status status;
     for (size_t i = 0; i < kept_count; i++) {
@@ -146,17 +197,20 @@ static mmdb_status statement_of(mmdb *db, const written *line, mmdb_statement *s
             return MMDB_DONE;
         }
     }
-    status = mmdb_prepare(db, line->line, line->length, statement);
-    if (status != MMDB_DONE)
-        return status;
-    CHECK(statement->places == line->places);
-    if (kept_count < MOST_KEPT) {
+    status = prepare(db, line, statement);
+    if (status == MMDB_DONE && kept_count < MOST_KEPT) {
         kept[kept_count].line = (char *)malloc(line->length + 1);
         memcpy(kept[kept_count].line, line->line, line->length);
         kept[kept_count].length = line->length;
         kept[kept_count++].statement = *statement;
     }
-    return MMDB_DONE;
+    return status;
+}
+
+static void keep_none(void)
+{
+    while (kept_count > 0)
+        free(kept[--kept_count].line);
 }
 
 static mmdb_status bind(mmdb *db, uint32_t number, const written *line)
@@ -241,23 +295,20 @@ static void write_refusal(mmdb *db)
     fwrite(answer.at, 1, answer.length, stdout);
 }
 
-/* Does a line by a statement, and writes the answer that the line would have. */
-static void does(mmdb *db, const written *line)
+/* Executes a statement with the values of a line, and writes the answer that the line would have. */
+static void execute(mmdb *db, uint32_t number, const written *line)
 {
-    mmdb_statement statement;
     mmdb_rows rows, columns;
-    mmdb_status status = statement_of(db, line, &statement);
+    mmdb_status status = bind(db, number, line);
     if (status == MMDB_DONE)
-        status = bind(db, statement.number, line);
-    if (status == MMDB_DONE)
-        status = mmdb_columns(db, statement.number, &columns);
+        status = mmdb_columns(db, number, &columns);
     if (status == MMDB_NOT_UTF8) {
         fputs("error 11 not UTF-8\n", stdout);
         return;
     }
     if (status == MMDB_DONE) {
         write_header(&columns);
-        status = mmdb_execute(db, statement.number, &rows);
+        status = mmdb_execute(db, number, &rows);
     }
     if (status == MMDB_DONE && header_length > 0)
         write_rows(&rows);
@@ -269,29 +320,58 @@ static void does(mmdb *db, const written *line)
         GIVES(status, MMDB_DONE);
 }
 
-static void answers(mmdb *db, call of)
+/* Does a line by a statement. */
+static void does(mmdb *db, const written *line)
 {
-    static written line;
-    mmdb_bytes answer;
-    if (is_on_rows(of) && write_with_places(&line, of)) {
-        does(db, &line);
+    mmdb_statement statement;
+    const mmdb_status status = line->is_kept ? keep(db, line, &statement) : prepare(db, line, &statement);
+    if (status == MMDB_REFUSED) {
+        write_refusal(db);
         return;
     }
-    GIVES(answer_to(db, of, &answer), MMDB_DONE);
-    fwrite(answer.at, 1, answer.length, stdout);
+    GIVES(status, MMDB_DONE);
+    execute(db, statement.number, line);
+    if (!line->is_kept)
+        GIVES(mmdb_finalize(db, statement.number), MMDB_DONE);
+}
+
+static void begin_anew(mmdb *db, call of)
+{
+    const uint32_t policy = of.length == 1 ? (uint32_t)(of.bytes[0] - '0') : UINT32_MAX;
+    lines_stay = 1;
+    keep_none();
+    mmdb_close(db);
+    GIVES(mmdb_open(db, policy, MMDB_MOST, MMDB_MOST), MMDB_DONE);
+}
+
+/* Makes a call, or notes what it tells of a statement. */
+static void answers(mmdb *db, written *line, call of)
+{
+    mmdb_bytes answer;
+    if (is_call(of, "kept") || is_call(of, "prepared")) {
+        begin(line, is_call(of, "kept"));
+        put(line, of.bytes, of.length);
+    } else if (is_call(of, "execute") || (is_on_rows(of) && write_with_places(line, of))) {
+        does(db, line);
+    } else if (is_call(of, "open")) {
+        begin_anew(db, of);
+    } else if (!put_told(line, of)) {
+        GIVES(answer_to(db, of, &answer), MMDB_DONE);
+        fwrite(answer.at, 1, answer.length, stdout);
+    }
 }
 
 int main(int count, char **words)
 {
+    static written line;
     mmdb db = MMDB_CLOSED;
     call next;
     GIVES(open_by_words(&db, count, words), MMDB_DONE);
     while (read_call(&next)) {
-        answers(&db, next);
+        answers(&db, &line, next);
         free(next.bytes);
     }
     mmdb_close(&db);
-    for (size_t i = 0; i < kept_count; i++)
-        free(kept[i].line);
+    keep_none();
     return checks_failed != 0;
 }

@@ -4,6 +4,8 @@
 #include "allocations.h"
 #include "checking.h"
 
+enum { MANY = 20 };
+
 static const char LONG[] = "a text that is longer than a slot of few bytes, and than some more of them";
 
 /* A handle with rows, and statements whose values are bound. */
@@ -49,13 +51,17 @@ static void open_kept(kept *to)
     GIVES(mmdb_bind_text(db, to->join.number, 0, "a", 1), MMDB_DONE);
 }
 
-/* The calls, each of which can be made again where it wasn't done. */
+/* The calls, each of which can be made again where it wasn't done. So many statements are prepared that room is made for
+   them more than once. */
 static mmdb_status prepares(kept *of, mmdb_rows *rows)
 {
     static const char LINE[] = "select s, c from t where s = ? and id < ? and c <> 'a text that is given'";
     mmdb_statement statement;
+    mmdb_status status = MMDB_DONE;
     (void)rows;
-    return mmdb_prepare(&of->db, LINE, strlen(LINE), &statement);
+    for (int i = 0; i < MANY && status == MMDB_DONE; i++)
+        status = mmdb_prepare(&of->db, LINE, strlen(LINE), &statement);
+    return status;
 }
 
 static mmdb_status binds(kept *of, mmdb_rows *rows)

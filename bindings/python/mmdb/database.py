@@ -8,7 +8,6 @@ from .errors import NoMemory, WrongUse, refusal_of
 from .handles import Handle
 from .indexes import Index, indexes_of
 from .lines import CHANGES, Placed, check_kind, check_line, placed
-from .reading import dumped, keys_of
 from .rows import Rows, Shape, shape_of
 from .statement import Statement
 from .values import Column, Value, as_bytes, block_of, check_rows, check_values, columns_of, encoded, rows_of, rows_of_dicts
@@ -149,18 +148,17 @@ class Database(Handle):
     def dump(self, table: str) -> Rows:
         """All rows of a table by rising keys, with the bare names of its columns.
 
-        Raises `Refused` as the language says.
+        They are no block, whose bytes are limited. Raises `Refused` where there is no such table.
         """
-        line = encoded(f"dump {table}")
         with self._turn:
-            first, _, records = self._accepted(line).decode().split("\n", 2)
-            name = first.split(" ")[1]
-            columns = self._columns(name)
-            rows = dumped(name, columns, records)
-            for place, column in enumerate(columns):
-                if column.takes_null and column.kind is str:
-                    self._put_nulls(name, columns, rows, place)
-            return rows
+            columns = self._columns(table)
+            if not columns:
+                # (the library tells what is wrong, or that the name stands between blanks)
+                table = self._accepted(encoded(f"dump {table}")).decode().split(" ", 2)[1]
+        line = f"select * from {table}"
+        rows: Rows = self._done(line, placed(line), ())
+        rows.names = tuple(name.rpartition(".")[2] for name in rows.names)
+        return rows
 
     def indexes(self, table: str) -> List[Index]:
         """How the indexes of a table stand: that of its key, and then the declared ones in their order.
@@ -278,16 +276,6 @@ class Database(Handle):
         if self._declared is None:
             self._declared = columns_of(self._accepted(b"tables").decode())
         return self._declared.get(table, [])
-
-    def _put_nulls(self, table: str, columns: List[Column], rows: Rows, place: int) -> None:
-        """Makes those empty fields of a dump nulls which are nulls: in a reference by texts both look alike."""
-        if all(row[place] for row in rows):
-            return
-        line = f"select {columns[0].name} from {table} where {columns[place].name} = null"
-        nulls = keys_of(columns[0], self._accepted(line.encode()).decode().split("\n", 2)[2])
-        for row in rows:
-            if row[0] in nulls:
-                row[place] = None
 
 
 def _outcome(line: str, answer: bytes) -> Any:

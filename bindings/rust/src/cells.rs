@@ -5,7 +5,6 @@ use std::{slice, str};
 
 use crate::value::ValueRef;
 
-const NULL: u16 = 0;
 const INTEGER: u16 = 1;
 const TEXT: u16 = 2;
 
@@ -20,15 +19,6 @@ pub(crate) struct Cell {
 }
 
 impl Cell {
-    const fn null() -> Cell {
-        Cell {
-            integer: 0,
-            at: 0,
-            length: 0,
-            kind: NULL,
-        }
-    }
-
     /// Where its text ends among the texts.
     fn end(&self) -> usize {
         match self.kind {
@@ -120,41 +110,7 @@ pub(crate) struct OwnCells {
 
 impl OwnCells {
     pub(crate) fn lent(&self) -> Cells<'_> {
-        // SAFETY: both are lent, and each cell of a text was made, here or by the library, with the bytes of a text.
+        // SAFETY: both are lent, and each cell of a text was made by the library with the bytes of a text.
         unsafe { Cells::new(&self.cells, self.texts.as_ptr()) }
-    }
-
-    /// Takes room for texts of so many bytes.
-    pub(crate) fn reserve(&mut self, bytes: usize) {
-        self.texts.reserve(bytes);
-    }
-
-    pub(crate) fn push(&mut self, integer: Option<i64>) {
-        self.cells.push(match integer {
-            Some(integer) => Cell {
-                integer,
-                kind: INTEGER,
-                ..Cell::null()
-            },
-            None => Cell::null(),
-        });
-    }
-
-    /// Puts in a text, which is made of these pieces.
-    pub(crate) fn push_text<'t>(&mut self, pieces: impl Iterator<Item = &'t str>) {
-        let at = self.texts.len();
-        pieces.for_each(|piece| self.texts.extend_from_slice(piece.as_bytes()));
-        let length = self.texts.len() - at;
-        self.cells.push(Cell {
-            at: u32::try_from(at).expect("a dump has 16,777,216 bytes at most"),
-            length: u16::try_from(length).expect("a stored text has 1,024 bytes at most"),
-            kind: TEXT,
-            ..Cell::null()
-        });
-    }
-
-    /// Makes a cell null.
-    pub(crate) fn make_null(&mut self, at: usize) {
-        self.cells[at] = Cell::null();
     }
 }

@@ -1,7 +1,6 @@
 //! A database, and its calls.
 
 use std::fmt;
-use std::sync::Arc;
 
 use crate::columns::block_of;
 use crate::error::{Error, Result};
@@ -13,7 +12,6 @@ use crate::limits::{Limits, Policy};
 use crate::line::{first_word, has_places, is_change, is_select};
 use crate::outcome::{count_of, Outcome};
 use crate::params::{Params, Values};
-use crate::records::{header_and_records, Shape};
 use crate::row::Row;
 use crate::rows::{MappedRows, Rows, RowsRef};
 use crate::session::Session;
@@ -197,24 +195,15 @@ impl Database {
         Ok(count_of(answer).unwrap_or(0))
     }
 
-    /// All rows of a table by rising keys, with the bare names of its columns.
+    /// All rows of a table by rising keys, with the bare names of its columns. They are cells, and no block whose bytes
+    /// are limited.
     pub fn dump(&mut self, table: &str) -> Result<Rows> {
-        let line = format!("dump {table}");
-        let columns = match self.known.columns(table, &mut self.session)? {
-            Some(columns) => columns.to_vec(),
-            None => return Err(self.why_not(line)),
+        let names = match self.known.columns(table, &mut self.session)? {
+            Some(columns) => columns.iter().map(|column| column.name.clone()).collect(),
+            None => return Err(self.why_not(format!("dump {table}"))),
         };
-        let names = columns.iter().map(|column| column.name.clone()).collect();
-        let shape = Shape {
-            names: Arc::new(names),
-            columns,
-        };
-        let answer = self.session.send(&line, &[])?;
-        let mut rows = shape.rows(header_and_records(answer).1);
-        for place in shape.texts_or_null() {
-            self.put_nulls(table, &shape, &mut rows, place)?;
-        }
-        Ok(rows)
+        let mut all = self.prepare(&format!("select * from {table}"))?;
+        Ok(all.query([])?.to_rows().with_names(names))
     }
 
     /// How the indexes of a table stand: that of its key, and then the declared ones in their order.
@@ -336,17 +325,6 @@ impl Database {
     fn why_none<P: Params>(&mut self, line: &str, params: P, declined: Declined) -> Error {
         let why = why_not_prepared(&self.session.handle, line, declined);
         self.session.ask(line, params).err().unwrap_or(why)
-    }
-
-    /// Makes those empty fields of a dump nulls which are nulls: those of the rows that a select finds, by rising keys.
-    fn put_nulls(&mut self, table: &str, shape: &Shape, rows: &mut Rows, place: usize) -> Result<()> {
-        if !rows.has_empty_text(place) {
-            return Ok(());
-        }
-        let (key, name) = (&shape.names[0], &shape.names[place]);
-        let found = self.query(&format!("select {key} from {table} where {name} = null"), ())?;
-        rows.put_nulls(place, &found);
-        Ok(())
     }
 }
 

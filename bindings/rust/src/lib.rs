@@ -52,7 +52,6 @@ mod line;
 mod optional;
 mod outcome;
 mod params;
-mod records;
 mod row;
 mod rows;
 mod session;

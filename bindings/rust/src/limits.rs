@@ -24,7 +24,7 @@ pub enum Policy {
 pub struct Limits {
     /// The greatest number of rows of a table, 1 to [`MOST`].
     pub rows: u32,
-    /// The greatest number of bytes of a block of a load or a dump, up to [`MOST`].
+    /// The greatest number of bytes of the block of a load, or of the line `dump`, up to [`MOST`].
     pub block: u32,
 }
 

@@ -64,38 +64,16 @@ impl Rows {
         self.lent().to_vec()
     }
 
-    /// Rows of these columns, without a row.
-    pub(crate) fn of(names: &Arc<Vec<String>>) -> Rows {
+    /// The same rows, with other names of their columns.
+    pub(crate) fn with_names(self, names: Vec<String>) -> Rows {
         Rows {
-            names: Arc::clone(names),
-            cells: OwnCells::default(),
+            names: Arc::new(names),
+            ..self
         }
     }
 
     pub(crate) fn lent(&self) -> RowsRef<'_> {
         RowsRef::new(&self.names, self.cells.lent())
-    }
-
-    pub(crate) fn cells(&mut self) -> &mut OwnCells {
-        &mut self.cells
-    }
-
-    /// Whether a column has an empty text.
-    pub(crate) fn has_empty_text(&self, place: usize) -> bool {
-        self.iter().any(|row| row.value(place).is_empty_text())
-    }
-
-    /// Makes null what a column has in the rows with these keys. Both have their keys in front, and rise by them.
-    pub(crate) fn put_nulls(&mut self, place: usize, keys: &Rows) {
-        let mut keys = keys.iter().map(|row| row.value(0)).peekable();
-        let rows = self.iter().enumerate();
-        let found: Vec<usize> = rows
-            .filter_map(|(at, row)| keys.next_if_eq(&row.value(0)).map(|_| at))
-            .collect();
-        let width = self.lent().width();
-        for row in found {
-            self.cells.make_null(row * width + place);
-        }
     }
 }
 

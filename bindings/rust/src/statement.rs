@@ -43,6 +43,17 @@ use crate::rows::{MappedRowsRef, RowsRef};
 /// # Ok::<(), mmdb::Error>(())
 /// ```
 ///
+/// Nor is a statement used once it was dropped, or dropped twice:
+///
+/// ```compile_fail,E0382
+/// # let mut db = mmdb::Database::open_in_memory()?;
+/// # db.execute("table t (id int)", [])?;
+/// let all = db.prepare("select * from t")?;
+/// drop(all);
+/// drop(all);
+/// # Ok::<(), mmdb::Error>(())
+/// ```
+///
 /// And no table is declared while there are statements:
 ///
 /// ```compile_fail,E0502

@@ -55,12 +55,6 @@ pub enum ValueRef<'a> {
     Text(&'a str),
 }
 
-impl ValueRef<'_> {
-    pub(crate) fn is_empty_text(self) -> bool {
-        self == ValueRef::Text("")
-    }
-}
-
 impl<'a> From<&'a Value> for ValueRef<'a> {
     fn from(value: &'a Value) -> ValueRef<'a> {
         match value {

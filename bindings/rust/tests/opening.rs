@@ -12,7 +12,8 @@ fn limits() {
     assert_eq!(db.load("t", [[1]]), Ok(1));
     assert_eq!(db.execute("insert t (2)", []), Ok(1));
     assert_eq!(number(db.execute("insert t (3)", [])), Some(43));
-    assert_eq!(number(db.dump("t")), Some(64));
+    assert_eq!(number(db.command("dump t", [])), Some(64));
+    assert_eq!(db.dump("t").unwrap().len(), 2);
     assert_eq!(number(db.load("t", [[3], [4], [5]])), Some(12));
     for (rows, block) in [(0, 1), (MOST + 1, 1), (1, MOST + 1)] {
         let opened = Database::open(Policy::Auto, Limits { rows, block });

@@ -240,11 +240,70 @@ fn a_dropped_statement_is_none() {
         let mut find = db.prepare("select s from t where id = ?").unwrap();
         assert_eq!(find.query([id]).unwrap().len(), usize::from(id == 1 || id == 2));
     }
-    let mut kept: Vec<_> = (0..1_000)
-        .map(|_| db.prepare("select id from t where s = ?").unwrap())
-        .collect();
-    kept.retain_mut(|find| find.query(["a"]).unwrap().len() == 1);
-    assert_eq!(kept.len(), 1_000);
+}
+
+/// Half of them go, and numbers that they had are given to others.
+#[test]
+fn many_statements_are_there_at_once() {
+    let db = with_rows();
+    let prepared = |_| db.prepare("select id from t where s = ?").unwrap();
+    let mut kept: Vec<_> = (0..10_000).map(prepared).collect();
+    let mut is_even = false;
+    kept.retain_mut(|find| {
+        is_even = !is_even;
+        is_even && find.query(["a"]).unwrap().len() == 1
+    });
+    assert_eq!(kept.len(), 5_000);
+    let mut insert = db.prepare("insert t (?, 'a')").unwrap();
+    assert_eq!(insert.execute([3]), Ok(1));
+    kept.retain_mut(|find| find.query(["a"]).unwrap().len() == 2);
+    assert_eq!(kept.len(), 5_000);
+}
+
+#[test]
+fn a_value_of_another_type_is_refused() {
+    let mut db = with_rows();
+    let (null, one, a): (Value, Value, Value) = (Value::Null, 1.into(), "a".into());
+    for (line, wrong) in [
+        ("insert t (?, 'c')", vec![&null, &a]),
+        ("insert t (3, ?)", vec![&null, &one]),
+        ("update t set s = ? where id = 1", vec![&null, &one]),
+        ("update t set s = 'c' where id >= ?", vec![&null, &a]),
+        ("delete t where s <> ?", vec![&null, &one]),
+    ] {
+        let mut change = db.prepare(line).unwrap();
+        for value in wrong {
+            assert_eq!(number(change.execute([value])), Some(35), "{line}, {value:?}");
+        }
+    }
+    let mut select = db.prepare("select * from t where id > ? and s <> ?").unwrap();
+    for wrong in [[&null, &a], [&a, &a], [&one, &null], [&one, &one]] {
+        assert_eq!(number(select.query(wrong)), Some(35), "{wrong:?}");
+    }
+    drop(select);
+    assert_eq!(selected(&mut db, "select * from t", []), [row(1, "a"), row(2, "b")]);
+}
+
+/// What no line can hold, and what no row can.
+#[test]
+fn a_text_may_hold_anything_and_not_be_too_long() {
+    let mut db = with_table();
+    let texts = ["", "\0", "a\0b", "\n", "\r\n", "?", "'); delete t", "\u{10ffff}"];
+    let longest = "é".repeat(512);
+    {
+        let mut insert = db.prepare("insert t (?, ?)").unwrap();
+        let mut find = db.prepare("select * from t where s = ?").unwrap();
+        for (id, text) in (0..).zip(texts.into_iter().chain([longest.as_str()])) {
+            assert_eq!(insert.execute((id, text)), Ok(1), "{text:?}");
+            assert_eq!(find.query([text]).unwrap().to_vec(), [row(id, text)]);
+        }
+        for length in [1_025, 8_193, 100_000] {
+            let long = "x".repeat(length);
+            assert_eq!(number(insert.execute((100, &long))), Some(46));
+            assert!(find.query([&long]).unwrap().is_empty());
+        }
+    }
+    assert_eq!(db.dump("t").unwrap().len(), texts.len() + 1);
 }
 
 /// More lines than are kept, drawn so that some come again at once and some late.
