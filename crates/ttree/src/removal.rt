@@ -1,6 +1,6 @@
 //! The steps of a removal: the item goes out, and where an internal node then holds too few, the greatest item of its left
 //! subtree comes up. What is left to do is at the node that lost an item last.
-ghost use Rattle.std.specs.Prelude.{◌≡◌, ◌+◌, ◌*◌, ◌<◌, ◌≤◌, ◌^◌, ◌++◌, ◌∷◌, [], true, false, length, remove as removed, All, Contains};
+ghost use Rattle.std.specs.Prelude.{◌≡◌, ◌+◌, ◌<◌, ◌≤◌, ◌^◌, ◌++◌, ◌∷◌, [], true, false, length, remove as removed, All, Contains};
 ghost use Rattle.mm_index.specs.Order.{IsRising, remove_by};
 ghost use Rattle.ttree_node.specs.Tree.{list, size, height, whole, is_node, has_left, has_right, left_of, items_of, down_left, with_items, with_tree};
 ghost use Rattle.ttree_node.specs.Editor.{position, tree_at, spares_at};

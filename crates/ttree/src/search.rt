@@ -1,6 +1,6 @@
 //! The search of a tree from its root, to read it or to edit it there. It asks about the least item of each node alone, and
 //! then among the items of one.
-ghost use Rattle.std.specs.Prelude.{◌≡◌, ◌+◌, ◌*◌, ◌≤◌, true, All, IfOk, IfErr};
+ghost use Rattle.std.specs.Prelude.{◌≡◌, ◌+◌, ◌≤◌, true, All, IfOk, IfErr};
 ghost use Rattle.mm_index.specs.Asking.{counted};
 ghost use Rattle.mm_index.specs.Range.{NeverFalls};
 ghost use Rattle.ttree_node.specs.Tree.{whole, list, items_of, is_node, is_root, height};
