@@ -16,13 +16,17 @@ SEED = 20240229
 MOST = 2**63 - 1
 MOST_CALLS = 2**18
 NO_MEMORY = b"error 90 no memory\n"
-TABLES = b"table d (id int)\ntable m (id int, a int, s text)\ntable r (id int, d ref d null)\ntable t (id text, a int)\n"
+TABLES = b"table d (id int)\ntable e (id int)\ntable m (id int, a int, s text)\n"
+TABLES += b"table r (id int, d ref d null, e ref e)\ntable t (id text, a int)\n"
 INDEXES = b"index m a tree\nindex m s hash\n"
-NAMES = {b"d": b"id", b"m": b"id,a,s", b"r": b"id,d", b"t": b"id,a"}
+NAMES = {b"d": b"id", b"e": b"id", b"m": b"id,a,s", b"r": b"id,d,e", b"t": b"id,a"}
+# As many rows of d and e are named by those of r: few beside as many as r has.
+DEPTS = 40
+NAMED = 500
 # Rows are as many as from which their order counts, and one less.
 FEW = 1_000
 # How many lines answer what stands in front of a block.
-ANSWERS = 7
+ANSWERS = 8
 LOOKS = b"dump m\nselect id from m where a = 3\nselect id from m where s = 'row 77'\nselect * from m where id = 2000001\n"
 
 
@@ -77,6 +81,69 @@ def blocks_of_m(keys):
     yield "at last", some
 
 
+def records_of_r(rows):
+    """Rows of a key, a row of d or none, and a row of e."""
+    return [b"%d,%s,%d" % (key, b"" if dept is None else b"%d" % dept, other) for key, dept, other in rows]
+
+
+def rows_of_r(keys, block):
+    return [(key, None if key % 9 == 0 else key % DEPTS, keys.held[key % NAMED]) for key in block]
+
+
+def with_in(rows, places):
+    """The rows with other values in some columns of some rows: by place and column."""
+    rows = [list(row) for row in rows]
+    for (place, column), value in places.items():
+        rows[place][column] = value
+    return rows
+
+
+def blocks_of_r(keys):
+    """What is answered first, and blocks of rows that name others, where they are there."""
+    yield b"ok", rows_of_r(keys, keys.new())
+    yield b"ok", rows_of_r(keys, sorted(keys.new(), reverse=True))
+    yield b"ok", [(key, None, keys.held[0]) for key in keys.new()]
+    some, missing = rows_of_r(keys, keys.new()), keys.new(1)[0]
+    first, last = some[3][0], some[ROWS - 4][0]
+    yield b"error 42 ", with_in(some, {(ROWS // 2, 1): DEPTS})
+    yield b"error 42 ", with_in(some, {(0, 2): missing})
+    yield b"error 42 ", with_in(some, {(ROWS - 1, 2): missing, (ROWS - 2, 1): DEPTS})
+    yield b"error 42 ", with_in(some, {(2_000, 2): missing, (2_500, 0): first})
+    yield b"error 42 ", with_in(some, {(2_000, 1): -1, (2_500, 0): keys.held[5]})
+    yield b"error 41 ", with_in(some, {(2_000, 0): first, (2_500, 1): DEPTS})
+    yield b"error 41 ", with_in(some, {(2_000, 0): keys.held[5], (1_999, 0): keys.held[6], (2_500, 2): missing})
+    yield b"error 41 ", with_in(some, {(2_000, 0): last, (ROWS - 2, 2): missing})
+    yield b"error 41 ", with_in(some, {(2_000, 0): first, (2_000, 1): DEPTS, (2_000, 2): missing})
+    yield b"ok", some
+
+
+def texts_of_t(draw, count):
+    """Texts that begin alike or are the beginnings of others, of each length at which they are kept in another way, and others."""
+    fronts = [b"", b"k", b"a number", b"a number of", "é".encode(), "a lettré".encode(), b"x" * 13, b"x" * 14, b"x" * 1_000]
+    ends = [b"%d" % number for number in draw.sample(range(10**6), count)]
+    beginnings = [b"z" * length for length in range(1, 200)] + [b"%s " % (b"z" * length) for length in range(1, 200)]
+    return draw.sample([*beginnings, *(draw.choice(fronts) + end for end in ends)], count)
+
+
+def records_of_t(block):
+    return [b'"%s",%d' % (text, len(text)) for text in block]
+
+
+def blocks_of_t(held, new):
+    """What is answered first, and blocks of texts for keys."""
+    blocks = [new[at : at + ROWS] for at in range(0, len(new), ROWS)]
+    yield b"ok", blocks[0]
+    yield b"ok", sorted(blocks[1], reverse=True)
+    yield b"ok", sorted(blocks[2])
+    yield b"ok", blocks[3][:FEW]
+    some = blocks[4]
+    yield b"error 41 ", with_at(some, {2_800: some[5]})
+    yield b"error 41 ", with_at(some, {ROWS // 2: some[ROWS // 2 + 1]})
+    yield b"error 41 ", with_at(some, {ROWS - 1: held[9]})
+    yield b"error 41 ", with_at(some, {2_900: held[1], 2_500: some[2], 2_400: held[2], 2_700: some[3]})
+    yield b"ok", some
+
+
 class LoadsInOrder(unittest.TestCase):
     """Each stream is answered as by plain lists."""
 
@@ -98,16 +165,28 @@ class LoadsInOrder(unittest.TestCase):
         for name, answer in zip(names, answers):
             self.assertEqual(answer.startswith(b"error 41"), "twice" in name or "two" in name or "is held" in name, (name, answer))
 
-    def test_tables_with_references_and_with_texts_for_keys(self):
-        draw, some = random.Random(SEED + 1), self.keys.new(2 * ROWS)
-        held, more, depts = self.keys.held, some[:ROWS], range(40)
-        refs = [b"%d,%s" % (key, b"" if key % 9 == 0 else b"%d" % (key % 40)) for key in [*held, *more]]
-        texts = [b"k%d,%d" % (key, key % 7) for key in draw.sample([*held, *more], HELD + ROWS)]
-        wrong = with_at(refs[HELD:], {2_800: refs[HELD + 5], 2_000: b"8000001,40", 2_500: b"8000003,41"})
-        twice = with_at(texts[HELD:], {2_800: texts[HELD + 5], 2_000: texts[7]})
-        stream = TABLES + load(b"d", [b"%d" % key for key in depts]) + load(b"r", refs[:HELD]) + load(b"t", texts[:HELD])
-        stream += load(b"r", wrong) + load(b"r", refs[HELD:]) + load(b"t", twice) + load(b"t", texts[HELD:])
-        self.check(stream + b"dump r\ndump t\ndelete d where id = 3\n")
+    def check_blocks(self, front, looks, blocks):
+        """Loads blocks behind others, and tells apart those that are answered by a refusal."""
+        awaited, loads = zip(*blocks)
+        told = self.check(front + b"".join(loads) + looks).splitlines()[front.count(b"\ntable ") + front.count(b"\nload ") + 1 :]
+        for number, start in enumerate(awaited):
+            self.assertTrue(told[number].startswith(start), (number, start, told[number]))
+
+    def test_tables_with_references(self):
+        keys = self.keys
+        held = records_of_r(rows_of_r(keys, keys.held))
+        front = TABLES + load(b"d", [b"%d" % key for key in range(DEPTS)])
+        front += load(b"e", [b"%d" % key for key in keys.held[:NAMED]]) + load(b"r", held)
+        blocks = [(awaited, load(b"r", records_of_r(rows))) for awaited, rows in blocks_of_r(keys)]
+        looks = b"dump r\ndelete d where id = 3\ndelete r where d = 3\ndelete d where id = 3\ndelete e where id = %d\n" % keys.held[0]
+        self.check_blocks(front, looks, blocks)
+
+    def test_texts_for_keys(self):
+        draw = random.Random(SEED + 1)
+        texts = texts_of_t(draw, HELD + 5 * ROWS)
+        held, new = texts[:HELD], texts[HELD:]
+        blocks = [(awaited, load(b"t", records_of_t(block))) for awaited, block in blocks_of_t(held, new)]
+        self.check_blocks(TABLES + load(b"t", records_of_t(held)), b"dump t\nselect * from t where id = 'zz'\n", blocks)
 
     def test_want_of_memory(self):
         refuser = refusing.Refuser()

@@ -1,20 +1,19 @@
 -- Rows that all come in leave the same table in whatever order they do.
 use Rattle.std.proofs.Common.{◌≡◌, ℕ, ◌+◌, ◌≤◌, not, Bool, true, false, List, [], ◌∷◌, ◌⊎◌, Some, None, refl, sym, ap, ◌∙◌, subst, arith, length, set, get_or, inl, inr}
 use Rattle.std.specs.Prelude.{Ok, nat_le, if◌then◌else◌}
-use Rattle.std.specs.List.{All, Contains, count_by, filter, list_all, list_any, slice_get, cons_option}
+use Rattle.std.specs.List.{All, Contains, count_by, filter, list_all, list_any, slice_get}
 use Rattle.std.specs.List.Sorted.{IsPermutation}
 use Rattle.std.specs.Ordering.{is_eq, is_lt}
-use Rattle.std.proofs.lemmas.Bool.{false_from_ne_true, lt-leb, or_parts}
+use Rattle.std.proofs.lemmas.Bool.{and_from, and_parts, false_from_ne_true, false≢true, lt-leb, true_from_ne_false}
 use Rattle.std.proofs.lemmas.Cmp.{tied_itself}
 use Rattle.std.proofs.lemmas.List.{set-set}
-use Rattle.std.proofs.lemmas.List.Elements.{All-contains, All-contains_itself, All-head, All-tail, Contains-append_left, Contains-append_right}
+use Rattle.std.proofs.lemmas.List.Elements.{All-contains, All-contains_itself, All-head, All-tail, All-weaker, Contains-append_left, Contains-append_right}
 use Rattle.std.proofs.lemmas.List.Folds.{list_any_none}
 use Rattle.std.proofs.lemmas.List.Sorted.{All-permutation, Contains-permutation, IsPermutation-sym, length_permutation, sum_by-IsPermutation}
 use Rattle.std.proofs.lemmas.List.Sums.{sum_by-cons}
 use Rattle.std.proofs.lemmas.Option.{slice_get_within}
 use Rattle.common_lemmas.proofs.Counts.{one, count_by-member}
-use Rattle.common_lemmas.proofs.Elements.{Contains-cons, Contains-cons_cases, Contains-filter, Contains-head}
-use Rattle.common_lemmas.proofs.Options.{none_from_is_some}
+use Rattle.common_lemmas.proofs.Elements.{AllZip-set, Contains-cons, Contains-cons_cases, Contains-filter, Contains-head}
 use Rattle.common_lemmas.proofs.Orders.{is_eq-reverse}
 use Rattle.common_lemmas.proofs.Places.{set_itself, slice_get_set}
 use Rattle.common_lemmas.proofs.Tests.{fails_where_none}
@@ -22,15 +21,14 @@ use Rattle.plain_tables.specs.Tables.{Table, Row, AreRising, key_cmp, has_key_of
 use Rattle.plain_tables.specs.Databases.{Database}
 use Rattle.plain_tables.specs.Doing.{insert, left_with, goes_on, loaded, load_effect, load}
 use Rattle.plain_tables.specs.Effects.{Effect, Changed, Refused, grown_by}
-use Rattle.plain_tables.specs.References.{is_held, references}
+use Rattle.plain_tables.specs.References.{Reference, is_held, references}
 use Rattle.plain_tables.specs.declared.command.Limits.{Limits}
 use Rattle.plain_tables.specs.declared.numbers.TableNumber.{TableNumber}
 use Rattle.plain_tables.specs.declared.refusal.Refusal.{Refusal}
 use Rattle.plain_tables.specs.declared.refusal.Refusal.TheVariants.{KeyExists, NoReferencedRow, TableFull}
 use Rattle.plain_tables.specs.declared.schema.Column.{Column}
+use Rattle.plain_tables.proofs.HeldLemmas.{KeepsKey, keeps_itself, held_stays}
 use Rattle.plain_tables.proofs.RowLemmas.{key_cmp_total, apart_by_key, with_row-rises, length-with_row, All-with_row}
-use Rattle.mm_catalog.specs.LoadOrder.{refers}
-use Rattle.mm_catalog.proofs.Checked.{no_reference}
 use Rattle.mm_catalog.proofs.Rising.{rising_same}
 
 -- ---- keys
@@ -158,49 +156,74 @@ module _ (most : ℕ) (held rows others : List Row) (moved : IsPermutation rows 
 
 -- ---- loads of them
 
-no_references : (columns : List Column) (row : Row) → list_any refers columns ≡ false → references columns row ≡ []
-no_references [] row none = refl
-no_references (column ∷ columns) [] none = refl
-no_references (column ∷ columns) (v ∷ row) none =
-    let parts = or_parts (refers column) (list_any refers columns) none in
-    ap (λ o. cons_option o (references columns row)) (no_reference column v (none_from_is_some _ parts.0)) ∙ no_references columns row parts.1
+all_still : {X : Type 0} (p q : X → Bool) → ((x : X) → p x ≡ true → q x ≡ true) → (xs : List X) → list_all p xs ≡ true → list_all q xs ≡ true
+all_still p q still [] all = refl
+all_still p q still (x ∷ xs) all =
+    let parts = and_parts (p x) (list_all p xs) all in
+    and_from (q x) (list_all q xs) (still x parts.0) (all_still p q still xs parts.1)
+
+-- a row more takes no key away
+keeps_keys : (row : Row) (rows : List Row) (p : Row → Bool) → has_key_of row rows ≡ false → list_any p rows ≡ true → list_any p (with_row row rows) ≡ true
+keeps_keys row rows p fresh some =
+    true_from_ne_false (list_any p (with_row row rows)) (λ none.
+    let apart = fails_where_none (λ r. is_eq (key_cmp r row)) rows fresh in
+    let fails : All (λ r. p r ≡ false) rows = λ k d l.
+    All-contains (λ r. p r ≡ false) (with_row row rows) (get_or rows k d) (fails_where_none p (with_row row rows) none)
+    (other_with row rows (get_or rows k d) (All-contains_itself rows k d l) (apart k d l))
+    in
+    false≢true (sym (list_any_none p rows fails) ∙ some))
+
+-- the rows that each of these names are there
+abbrev pub AllHeld : Database → List Column → List Row → Type 0
+AllHeld tables columns rows = All (λ row. list_all (is_held tables) (references columns row) ≡ true) rows
 
 module _ (limits : Limits) (n : TableNumber) where
+  -- what is held is held with a row more
+  still_held : (tables : Database) (table : Table) (row : Row) → slice_get tables n.0 ≡ Some table → has_key_of row table.rows ≡ false
+      → (r : Reference) → is_held tables r ≡ true → is_held (set tables n.0 (grown_by row table)) r ≡ true
+  still_held tables table row there fresh r =
+      let keeps : KeepsKey r table (grown_by row table) = (refl, λ named held. keeps_keys row table.rows (λ s. is_eq (key_cmp s (r.1 ∷ []))) fresh held) in
+      held_stays r tables (set tables n.0 (grown_by row table)) (AllZip-set (KeepsKey r) (keeps_itself r) tables n.0 table (grown_by row table) there keeps)
+
   -- the row comes in
-  taken_in : (tables : Database) (table : Table) (row : Row) (rows : List Row) → slice_get tables n.0 ≡ Some table → list_any refers table.columns ≡ false
-      → AllNew limits.rows table.rows (row ∷ rows)
+  taken_in : (tables : Database) (table : Table) (row : Row) (rows : List Row) → slice_get tables n.0 ≡ Some table
+      → list_all (is_held tables) (references table.columns row) ≡ true → AllNew limits.rows table.rows (row ∷ rows)
       → insert limits tables n row ≡ record { database = set tables n.0 (grown_by row table); outcome = Changed 1 }
-  taken_in tables table row rows there alone new =
+  taken_in tables table row rows there held new =
       let refused : Refusal → Effect = λ why. record { database = tables; outcome = Refused why } in
       let grown : Effect = record { database = set tables n.0 (grown_by row table); outcome = Changed 1 } in
-      let by_checks : Bool → Bool → Bool → Effect = λ has held full.
-      if has then refused (KeyExists None) else (if not held then refused (NoReferencedRow None) else (if full then refused (TableFull None) else grown)) in
+      let by_checks : Bool → Bool → Bool → Effect = λ has all full.
+      if has then refused (KeyExists None) else (if not all then refused (NoReferencedRow None) else (if full then refused (TableFull None) else grown)) in
       let split : insert limits tables n row ≡ by_checks (has_key_of row table.rows) (list_all (is_held tables) (references table.columns row)) (nat_le limits.rows (length table.rows)) = rw there refl in
-      let held : list_all (is_held tables) (references table.columns row) ≡ true = ap (list_all (is_held tables)) (no_references table.columns row alone) in
       let under : nat_le limits.rows (length table.rows) ≡ false = lt-leb limits.rows (length table.rows) (omega (arith, new.room)) in
       split ∙ (λ i. by_checks (first_new limits.rows table.rows row rows new i) (held i) (under i))
 
-  pub all_taken_in : (tables : Database) (table : Table) (k : ℕ) (rows : List Row) → slice_get tables n.0 ≡ Some table → list_any refers table.columns ≡ false
+  pub all_taken_in : (tables : Database) (table : Table) (k : ℕ) (rows : List Row) → slice_get tables n.0 ≡ Some table → AllHeld tables table.columns rows
       → AllNew limits.rows table.rows rows
       → loaded limits tables n k rows ≡ Ok (set tables n.0 (record table { rows = put_in rows table.rows }))
   unfolding put_in
-  all_taken_in tables table k [] there alone new = ap Ok (sym (set_itself tables n.0 table there))
-  all_taken_in tables table k (row ∷ rows) there alone new =
+  all_taken_in tables table k [] there held new = ap Ok (sym (set_itself tables n.0 table there))
+  all_taken_in tables table k (row ∷ rows) there held new =
       let grown = grown_by row table in
       let next = set tables n.0 grown in
-      ap (λ (e : Effect). goes_on (λ d. loaded limits d n (k + 1) rows) (left_with k e.database e.outcome)) (taken_in tables table row rows there alone new)
-      ∙ all_taken_in next grown (k + 1) rows (slice_get_set tables n.0 grown (slice_get_within tables n.0 table there)) alone (rest_new limits.rows table.rows row rows new)
+      let IsHeldIn : Database → Row → Type 0 = λ d r. list_all (is_held d) (references table.columns r) ≡ true in
+      let still = still_held tables table row there (first_new limits.rows table.rows row rows new) in
+      let rest : AllHeld next table.columns rows = All-weaker (IsHeldIn tables) (IsHeldIn next) (λ r. all_still (is_held tables) (is_held next) still (references table.columns r)) rows
+      (All-tail (IsHeldIn tables) row rows held) in
+      ap (λ (e : Effect). goes_on (λ d. loaded limits d n (k + 1) rows) (left_with k e.database e.outcome)) (taken_in tables table row rows there (All-head (IsHeldIn tables) row rows held) new)
+      ∙ all_taken_in next grown (k + 1) rows (slice_get_set tables n.0 grown (slice_get_within tables n.0 table there)) rest (rest_new limits.rows table.rows row rows new)
       ∙ ap Ok (set-set tables n.0 grown (record table { rows = put_in rows (with_row row table.rows) }))
 
   -- so a load of them is one of them in any order
-  pub load_in_any_order : (tables : Database) (table : Table) (rows others : List Row) → slice_get tables n.0 ≡ Some table → list_any refers table.columns ≡ false
+  pub load_in_any_order : (tables : Database) (table : Table) (rows others : List Row) → slice_get tables n.0 ≡ Some table → AllHeld tables table.columns rows
       → AreRising table.rows → AllNew limits.rows table.rows rows → IsPermutation rows others
       → load limits tables n others ≡ load limits tables n rows
-  load_in_any_order tables table rows others there alone rise new moved =
-      let with_all : List Row → Database = λ held. set tables n.0 (record table { rows = held }) in
-      ap (load_effect tables others) (all_taken_in tables table 1 others there alone (others_new limits.rows table.rows rows others moved new))
+  load_in_any_order tables table rows others there held rise new moved =
+      let with_all : List Row → Database = λ all. set tables n.0 (record table { rows = all }) in
+      let others_held : AllHeld tables table.columns others = All-permutation (λ row. list_all (is_held tables) (references table.columns row) ≡ true) rows others moved held in
+      ap (load_effect tables others) (all_taken_in tables table 1 others there others_held (others_new limits.rows table.rows rows others moved new))
       ∙ (λ i. record {
         database = with_all (same_rows limits.rows table.rows rows others moved new rise i);
         outcome = Changed (length_permutation rows others moved i);
       })
-      ∙ sym (ap (load_effect tables rows) (all_taken_in tables table 1 rows there alone new))
+      ∙ sym (ap (load_effect tables rows) (all_taken_in tables table 1 rows there held new))

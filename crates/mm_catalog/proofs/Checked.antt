@@ -36,7 +36,7 @@ use Rattle.mm_catalog.proofs.Referenced.{key_shown, no_key_shown, some_column, t
 
 -- ---- the references of a row
 
-held_all : (tables : Database) (columns : List Column) (row : Row) → ((k : ℕ) (column : Column) (v : Value) (ref : Reference) → slice_get columns k ≡ Some column → slice_get row k ≡ Some v → reference_of column v ≡ Some ref → is_held tables ref ≡ true) → list_all (is_held tables) (references columns row) ≡ true
+pub held_all : (tables : Database) (columns : List Column) (row : Row) → ((k : ℕ) (column : Column) (v : Value) (ref : Reference) → slice_get columns k ≡ Some column → slice_get row k ≡ Some v → reference_of column v ≡ Some ref → is_held tables ref ≡ true) → list_all (is_held tables) (references columns row) ≡ true
 held_all tables [] row each = refl
 held_all tables (column ∷ columns) [] each = refl
 held_all tables (column ∷ columns) (v ∷ row) each =

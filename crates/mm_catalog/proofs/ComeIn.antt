@@ -1,6 +1,6 @@
 -- Rows that come into a relation whatever their order: that they do by their keys, and what a load of them leaves.
-use Rattle.std.proofs.Common.{◌≡◌, ℕ, ◌+◌, ◌≤◌, false, List, [], ◌∷◌, Some, refl, sym, ap, ◌∙◌, subst, arith, length, map, take, inl, inr}
-use Rattle.std.specs.List.{All, count_by, list_any, slice_get}
+use Rattle.std.proofs.Common.{◌≡◌, ℕ, ◌+◌, ◌≤◌, true, false, List, [], Some, sym, ap, ◌∙◌, subst, arith, length, map, take, get_or, inl, inr}
+use Rattle.std.specs.List.{All, list_all, list_any, slice_get}
 use Rattle.std.specs.List.Sorted.{IsPermutation}
 use Rattle.std.specs.Cmp.Lexicographic.{slice_cmp}
 use Rattle.std.specs.FinMap as finite
@@ -9,57 +9,50 @@ use Rattle.std.proofs.lemmas.List.{length-map}
 use Rattle.std.proofs.lemmas.List.Elements.{All-map, All-weaker}
 use Rattle.std.proofs.lemmas.List.Sorted.{All-permutation, IsPermutation-map, IsPermutation-sym, length_permutation, sum_by-IsPermutation}
 use Rattle.std.proofs.lemmas.Option.{slice_get_within}
-use Rattle.common_lemmas.proofs.Counts.{one, count_by-map}
-use Rattle.common_lemmas.proofs.Elements.{All-at, All-from_map}
+use Rattle.common_lemmas.proofs.Counts.{one}
+use Rattle.common_lemmas.proofs.Elements.{All-at}
 use Rattle.plain_tables.specs.Tables.{Table, Row, AreRising, has_key_of}
 use Rattle.plain_tables.specs.Values.{value_cmp}
 use Rattle.plain_tables.specs.Doing.{load}
-use Rattle.plain_tables.specs.References.{IsSoundTable}
+use Rattle.plain_tables.specs.References.{IsSoundTable, is_held, references}
 use Rattle.plain_tables.specs.ResolvedLaws.{IsInsertable, IsMeant}
 use Rattle.plain_tables.specs.declared.numbers.TableNumber.{TableNumber}
 use Rattle.plain_tables.specs.declared.resolved.Resolved.TheVariants as resolved
 use Rattle.plain_tables.specs.declared.value.Value.{Value}
-use Rattle.plain_tables.specs.declared.value.Value.TheVariants.{Int}
-use Rattle.mm_relation.specs.State.{RelationState, HasKey, linked_keys}
+use Rattle.mm_relation.specs.State.{RelationState, linked_keys}
+use Rattle.mm_catalog.specs.Cells.{IsCellOf}
 use Rattle.mm_catalog.specs.Consistent.{IsConsistent}
-use Rattle.mm_catalog.specs.LoadOrder.{KeyPlace, key_row, refers, IsNew, ComeInAnyOrder, MayGoInAs}
+use Rattle.mm_catalog.specs.Linked.{target_at, target_of}
+use Rattle.mm_catalog.specs.LoadOrder.{KeyPlace, row_at, IsNew, HasCell, HaveCells, ComeInAnyOrder, MayGoInAs}
 use Rattle.mm_catalog.specs.Seen.{database_of, table_of, rows_of}
 use Rattle.mm_catalog.specs.State.{CatalogState}
-use Rattle.mm_catalog.proofs.AnyOrder.{has_key, AllNew, load_in_any_order}
+use Rattle.mm_catalog.proofs.AnyOrder.{has_key, AllHeld, AllNew, load_in_any_order}
+use Rattle.mm_catalog.proofs.Checked.{held_all}
 use Rattle.mm_catalog.proofs.RisingKeys.{rising_apart}
 use Rattle.mm_catalog.proofs.Declared.{among_at, named_at}
-use Rattle.mm_catalog.proofs.Referenced.{no_key_shown, some_column}
+use Rattle.mm_catalog.proofs.Referenced.{no_key_shown, some_column, target_here, reference_held}
 use Rattle.mm_catalog.proofs.Tables.{database-get}
 
 -- ---- rows by their keys
 
--- a key is that of a row of the key alone
-key_alone : (row : Row) → take 1 (take 1 row) ≡ take 1 row
-key_alone [] = refl
-key_alone (v ∷ row) = refl
+module _ (before : List RelationState) (s : RelationState) (most : ℕ) (rows : List Row) (keys sorted : List KeyPlace) (each : map (row_at rows) keys ≡ rows) (moved : IsPermutation keys sorted) where
+  abbrev others : List Row
+  others = map (row_at rows) sorted
 
-module _ (s : RelationState) (most : ℕ) (rows : List Row) (keys sorted : List KeyPlace) (of_rows : map key_row keys ≡ map (take 1) rows) (moved : IsPermutation keys sorted) where
-  count_by_keys : (key : Row) → count_by (has_key key) rows ≡ count_by (has_key key) (map key_row sorted)
-  count_by_keys key =
-      (λ i. count_by (λ row. is_eq (slice_cmp value_cmp (sym (key_alone row) i) (take 1 key))) rows)
-      ∙ sym (count_by-map (has_key key) (take 1) rows) ∙ ap (count_by (has_key key)) (sym of_rows)
-      ∙ sym (sum_by-IsPermutation (one (has_key key)) (map key_row keys) (map key_row sorted) (IsPermutation-map key_row keys sorted moved))
+  rows_moved : IsPermutation rows others
+  rows_moved = subst (λ rs. IsPermutation rs others) each (IsPermutation-map (row_at rows) keys sorted moved)
 
-  pub all_come_in : list_any refers s.schema.columns ≡ false → finite.len s.rows + length rows ≤ most → AreRising (map key_row sorted)
-      → All (λ k. HasKey s.rows (Int k.0) → ⊥) sorted → ComeInAnyOrder s most rows
-  all_come_in alone room rise fresh = record {
-    alone = alone;
+  pub all_come_in : ((column : ℕ) → HaveCells before s.targets rows column) → finite.len s.rows + length rows ≤ most → AreRising others
+      → All (λ k. IsNew s (row_at rows k)) sorted → ComeInAnyOrder before s most rows
+  all_come_in named room rise fresh = record {
+    named = named;
     room = room;
-    apart = λ key. omega (arith, count_by_keys key, rising_apart key (map key_row sorted) rise);
-    new =
-        let New : Row → Type 0 = λ k. (key : Value) × (k ≡ key ∷ []) × (HasKey s.rows key → ⊥) in
-        let each = All-map New key_row sorted (All-weaker (λ k. HasKey s.rows (Int k.0) → ⊥) (λ k. New (key_row k)) (λ k absent. (Int k.0, refl, absent)) sorted fresh) in
-        All-from_map New (take 1) rows
-        (subst (All New) of_rows (All-permutation New (map key_row sorted) (map key_row keys) (IsPermutation-sym (map key_row keys) (map key_row sorted) (IsPermutation-map key_row keys sorted moved)) each));
+    apart = λ key. omega (arith, sum_by-IsPermutation (one (has_key key)) rows others rows_moved, rising_apart key others rise);
+    new = All-permutation (IsNew s) others rows (IsPermutation-sym rows others rows_moved) (All-map (IsNew s) (row_at rows) sorted fresh);
   }
 
   pub counted_alike : length sorted ≡ length rows
-  counted_alike = omega (arith, length_permutation keys sorted moved, ap length of_rows, length-map keys key_row, length-map rows (take 1))
+  counted_alike = omega (arith, length_permutation keys sorted moved, ap length each, length-map keys (row_at rows))
 
 -- ---- what a load of them leaves
 
@@ -77,10 +70,6 @@ module _ (c : CatalogState) (ok : IsConsistent c) (n : TableNumber) (s : Relatio
   table_rises : AreRising table.rows
   table_rises = (All-at (IsSoundTable c.limits) (database_of c) n.0 table ok.sound.each table_there).rows_rise
 
-  table_columns : table.columns ≡ s.schema.columns
-  unfolding table table_of
-  table_columns = refl
-
   table_count : length table.rows ≡ finite.len s.rows
   unfolding table table_of rows_of
   table_count = length-map _ _ ∙ (among_at c ok n.0 s there).kept.keyed.lists.count
@@ -91,8 +80,21 @@ module _ (c : CatalogState) (ok : IsConsistent c) (n : TableNumber) (s : Relatio
       ap (λ k. list_any (λ r. is_eq (slice_cmp value_cmp (take 1 r) k)) table.rows) is
       ∙ no_key_shown s (among_at c ok n.0 s there).kept (linked_keys s.targets c.relations) (some_column c ok n.0 s there) key [] absent
 
+  -- where each value of a row has a cell, the rows that it names are there
+  held_there : (row : Row) → ((column : ℕ) (v : Value) → slice_get row column ≡ Some v → HasCell (take n.0 c.relations) (target_at s.targets column) v)
+      → list_all (is_held (database_of c)) (references table.columns row) ≡ true
+  unfolding table table_of
+  held_there row cells =
+      held_all (database_of c) s.schema.columns row (λ k column v ref at e f.
+      let cell = cells k v e in
+      let is : IsCellOf (take n.0 c.relations) (target_of c.names column) v cell.0 = subst (λ o. IsCellOf (take n.0 c.relations) o v cell.0) (target_here c ok n.0 s there k column at v) cell.1 in
+      reference_held c ok n.0 s there k column at v cell.0 is ref f)
+
   module _ (rows others : List Row) where
-    all_new : ComeInAnyOrder s c.limits.rows rows → AllNew c.limits.rows table.rows rows
+    all_held : ComeInAnyOrder (take n.0 c.relations) s c.limits.rows rows → AllHeld (database_of c) table.columns rows
+    all_held come = λ k d l. held_there (get_or rows k d) (λ column v e. come.named column k d l v e)
+
+    all_new : ComeInAnyOrder (take n.0 c.relations) s c.limits.rows rows → AllNew c.limits.rows table.rows rows
     all_new come = record {
       room = omega (arith, table_count, come.room);
       apart = come.apart;
@@ -100,15 +102,15 @@ module _ (c : CatalogState) (ok : IsConsistent c) (n : TableNumber) (s : Relatio
     }
 
     -- a load of the rows is one of the others
-    pub load_as : MayGoInAs s c.limits.rows rows others → load c.limits (database_of c) n others ≡ load c.limits (database_of c) n rows
+    pub load_as : MayGoInAs (take n.0 c.relations) s c.limits.rows rows others → load c.limits (database_of c) n others ≡ load c.limits (database_of c) n rows
     load_as (inl same) = ap (load c.limits (database_of c) n) same
     load_as (inr (moved, come)) =
-        load_in_any_order c.limits n (database_of c) table rows others table_there (ap (list_any refers) table_columns ∙ come.alone) table_rises (all_new come) moved
+        load_in_any_order c.limits n (database_of c) table rows others table_there (all_held come) table_rises (all_new come) moved
 
-    pub meant_as : MayGoInAs s c.limits.rows rows others → IsMeant c.limits (database_of c) (resolved.Load n rows) → IsMeant c.limits (database_of c) (resolved.Load n others)
+    pub meant_as : MayGoInAs (take n.0 c.relations) s c.limits.rows rows others → IsMeant c.limits (database_of c) (resolved.Load n rows) → IsMeant c.limits (database_of c) (resolved.Load n others)
     meant_as (inl same) meant = subst (λ rs. IsMeant c.limits (database_of c) (resolved.Load n rs)) (sym same) meant
     meant_as (inr (moved, come)) (t, at, can) = (t, at, All-permutation (λ row. IsInsertable (database_of c) row t) rows others moved can)
 
-    pub length_as : MayGoInAs s c.limits.rows rows others → length others ≡ length rows
+    pub length_as : MayGoInAs (take n.0 c.relations) s c.limits.rows rows others → length others ≡ length rows
     length_as (inl same) = ap length same
     length_as (inr (moved, come)) = length_permutation rows others moved

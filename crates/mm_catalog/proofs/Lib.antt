@@ -64,4 +64,5 @@ pub mod Standing
 pub mod AnyOrder
 pub mod Arranging
 pub mod ComeIn
+pub mod NamedRows
 pub mod RisingKeys

@@ -1,68 +1,52 @@
 -- Keys that rise, and rows that rise by their keys.
-use Rattle.std.proofs.Common.{◌≡◌, suc, ◌+◌, ◌≤◌, ◌↔◌, Bool, true, false, List, [], ◌∷◌, refl, sym, ap, ◌∙◌, subst, arith, length, map, get_or, inl, inr}
-use Rattle.std.specs.Prelude.{IsTrue, pos}
+use Rattle.std.proofs.Common.{◌≡◌, suc, ◌+◌, ◌≤◌, Bool, true, false, List, [], ◌∷◌, refl, sym, ap, ◌∙◌, subst, arith, length, map, get_or, inl, inr}
+use Rattle.std.specs.Prelude.{IsTrue}
 use Rattle.std.specs.List.{All, AllPairs, AllAdjacentBelow, IsAllAdjacentAnswer, count_by}
-use Rattle.std.specs.Ordering.{int_cmp, is_eq, is_lt, ordering_reverse}
+use Rattle.std.specs.Ordering.{is_eq, is_lt, ordering_reverse}
 use Rattle.std.specs.declared.cmp.Ordering.TheVariants.{Less}
-use Rattle.std.proofs.Math.ListN.{get_or-map}
 use Rattle.std.proofs.lemmas.Bool.{cases_Bool, false≢true}
-use Rattle.std.proofs.lemmas.Cmp.{int_cmp_total}
-use Rattle.std.proofs.lemmas.List.{length-map}
 use Rattle.std.proofs.lemmas.List.Elements.{All-cons, All-head, All-nil, All-tail, All-weaker}
 use Rattle.std.proofs.lemmas.List.Kept.{AllPairs-cons}
 use Rattle.std.proofs.lemmas.List.Sums.{sum_by-cons}
 use Rattle.common_lemmas.proofs.Counts.{one}
-use Rattle.common_lemmas.proofs.Orders.{is_eq-Equal, is_lt-Less, then-Equal}
+use Rattle.common_lemmas.proofs.Orders.{is_eq-Equal, is_lt-Less}
 use Rattle.common_lemmas.proofs.Pairs.{AllPairs-head, AllPairs-map, AllPairs-nil, AllPairs-tail}
 use Rattle.plain_tables.specs.Tables.{Row, AreRising, key_cmp}
 use Rattle.plain_tables.proofs.RowLemmas.{key_cmp_total}
-use Rattle.mm_catalog.specs.LoadOrder.{KeyPlace, key_row}
+use Rattle.mm_catalog.specs.LoadOrder.{KeyPlace, row_at}
 use Rattle.mm_catalog.proofs.AnyOrder.{has_key}
 
 -- ---- keys that rise from each to the next
 
-abbrev IsBelow : KeyPlace → KeyPlace → Type 0
-IsBelow x y = int_cmp x.0 y.0 ≡ Less
+module _ (rows : List Row) where
+  abbrev IsBelow : KeyPlace → KeyPlace → Type 0
+  IsBelow x y = key_cmp (row_at rows x) (row_at rows y) ≡ Less
 
-next_below : (key : KeyPlace) (keys : List KeyPlace) → AllAdjacentBelow IsBelow (key ∷ keys) (length (key ∷ keys)) → AllAdjacentBelow IsBelow keys (length keys)
-next_below key keys below = λ i d h.
-    let more : suc i + 1 ≡ suc (i + 1) = omega arith in
-    subst (λ n. IsBelow (get_or keys i d) (get_or (key ∷ keys) n d)) more (below (suc i) d (omega (arith, h)))
+  next_below : (key : KeyPlace) (keys : List KeyPlace) → AllAdjacentBelow IsBelow (key ∷ keys) (length (key ∷ keys)) → AllAdjacentBelow IsBelow keys (length keys)
+  next_below key keys below = λ i d h.
+      let more : suc i + 1 ≡ suc (i + 1) = omega arith in
+      subst (λ n. IsBelow (get_or keys i d) (get_or (key ∷ keys) n d)) more (below (suc i) d (omega (arith, h)))
 
-pub all_below : (keys : List KeyPlace) → AllAdjacentBelow IsBelow keys (length keys) → AllPairs IsBelow keys
-all_below [] below = AllPairs-nil IsBelow
-all_below (key ∷ []) below = AllPairs-cons IsBelow key [] (All-nil (IsBelow key)) (AllPairs-nil IsBelow)
-all_below (key ∷ next ∷ keys) below =
-    let rest = all_below (next ∷ keys) (next_below key (next ∷ keys) below) in
-    let first : IsBelow key next = below 0 key (omega arith) in
-    AllPairs-cons IsBelow key (next ∷ keys)
-    (All-cons (IsBelow key) next keys first
-    (All-weaker (IsBelow next) (IsBelow key) (λ k h. int_cmp_total.trans key.0 next.0 k.0 first h) keys (AllPairs-head IsBelow next keys rest)))
-    rest
+  all_below : (keys : List KeyPlace) → AllAdjacentBelow IsBelow keys (length keys) → AllPairs IsBelow keys
+  all_below [] below = AllPairs-nil IsBelow
+  all_below (key ∷ []) below = AllPairs-cons IsBelow key [] (All-nil (IsBelow key)) (AllPairs-nil IsBelow)
+  all_below (key ∷ next ∷ keys) below =
+      let rest = all_below (next ∷ keys) (next_below key (next ∷ keys) below) in
+      let first : IsBelow key next = below 0 key (omega arith) in
+      AllPairs-cons IsBelow key (next ∷ keys)
+      (All-cons (IsBelow key) next keys first
+      (All-weaker (IsBelow next) (IsBelow key) (λ k h. key_cmp_total.trans (row_at rows key) (row_at rows next) (row_at rows k) first h) keys (AllPairs-head IsBelow next keys rest)))
+      rest
 
-abbrev pub is_below : KeyPlace → KeyPlace → Bool
-is_below x y = is_lt (int_cmp x.0 y.0)
+  abbrev pub is_below : KeyPlace → KeyPlace → Bool
+  is_below x y = is_lt (key_cmp (row_at rows x) (row_at rows y))
 
--- what a look at each two neighbours tells
-pub rise_told : (keys : List KeyPlace) (told : Bool) → IsAllAdjacentAnswer (λ x y b. b ≡ is_below x y) keys told → IsTrue told ↔ AreRising (map key_row keys)
-rise_told keys true each = (
-  λ yes.
-      AllPairs-map key_row IsBelow (λ r s. key_cmp r s ≡ Less) (λ x y h. then-Equal (int_cmp x.0 y.0) ∙ h) keys
-      (all_below keys (λ k d h. is_lt-Less (int_cmp (get_or keys k d).0 (get_or keys (k + 1) d).0) (sym (each k d h)))),
-  λ rise. refl,
-)
-rise_told keys false (k, within, apart) = (
-  λ no. absurd (false≢true no),
-  λ rise.
-      let d : KeyPlace = (pos 0, 0) in
-      let low : get_or (map key_row keys) k (key_row d) ≡ key_row (get_or keys k d) = get_or-map key_row keys k d in
-      let high : get_or (map key_row keys) (k + 1) (key_row d) ≡ key_row (get_or keys (k + 1) d) = get_or-map key_row keys (k + 1) d in
-      let less : key_cmp (key_row (get_or keys k d)) (key_row (get_or keys (k + 1) d)) ≡ Less =
-      subst (λ r. key_cmp r (key_row (get_or keys (k + 1) d)) ≡ Less) low
-      (subst (λ s. key_cmp (get_or (map key_row keys) k (key_row d)) s ≡ Less) high (rise k (k + 1) (key_row d) (omega arith) (omega (arith, within, length-map keys key_row)))) in
-      let below : is_below (get_or keys k d) (get_or keys (k + 1) d) ≡ true = ap is_lt (sym (then-Equal (int_cmp (get_or keys k d).0 (get_or keys (k + 1) d).0)) ∙ less) in
-      apart d ∙ below,
-)
+  -- what a look at each two neighbours tells
+  pub rise_told : (keys : List KeyPlace) (told : Bool) → IsAllAdjacentAnswer (λ x y b. b ≡ is_below x y) keys told → IsTrue told → AreRising (map (row_at rows) keys)
+  rise_told keys true each h =
+      AllPairs-map (row_at rows) IsBelow (λ r s. key_cmp r s ≡ Less) (λ x y h. h) keys
+      (all_below keys (λ k d h. is_lt-Less (key_cmp (row_at rows (get_or keys k d)) (row_at rows (get_or keys (k + 1) d))) (sym (each k d h))))
+  rise_told keys false each h = absurd (false≢true h)
 
 -- ---- rows that rise
 

@@ -2,19 +2,22 @@
 //!
 //! Each row that comes into a table has its key sought there. Where keys rise from row to row, neighbours' searches go by the
 //! same nodes and rows, which the caches then hold.
-ghost use Rattle.std.specs.Prelude.{◌≡◌, ◌↔◌, ◌+◌, ◌<◌, ◌≤◌, [], ◌∷◌, All, IfSome, IsFalse, IsTrue, length, map, take};
+ghost use Rattle.std.specs.Prelude.{◌≡◌, ◌⊎◌, ℕ, ◌+◌, ◌<◌, ◌≤◌, All, Some, IfSome, IsTrue, length, map, option_copied, slice_get};
 ghost use Rattle.std.specs.FinMap as finite;
-ghost use Rattle.std.specs.List.{list_any};
 ghost use Rattle.std.specs.List.Sorted.{IsPermutation};
-ghost use Rattle.plain_tables.specs.Tables.{AreRising};
+ghost use Rattle.plain_tables.specs.Tables.{AreRising, key_cmp};
+ghost use Rattle.plain_tables.specs.declared.value.Value.{Value};
 ghost use Rattle.plain_tables.specs.declared.value.Value.TheVariants as value;
 ghost use Rattle.mm_relation.specs.State.{HasKey};
-ghost use Rattle.mm_catalog.specs.LoadOrder.{key_row, refers, ComeInAnyOrder, MayGoInAs};
+ghost use Rattle.mm_catalog.specs.Linked.{target_at};
+ghost use Rattle.mm_catalog.specs.LoadOrder.{row_at, ComeInAnyOrder, HaveCells, IsNew, MayGoInAs};
 
-use crate::create::referred;
+use crate::references::link::target_number;
 use mm_relation::Relation;
-use plain_tables::{Column, Limits, Sequence, Value};
+use mm_relation::laws::a_relation_is_kept;
+use plain_tables::{ColumnNumber, Limits, Sequence, Text, Value};
 use std::alloc::Global;
+use std::cmp::Ordering;
 
 // A load of fewer rows goes in as it stands.
 const LEAST_ROWS: usize = 1_000;
@@ -22,101 +25,201 @@ const LEAST_ROWS: usize = 1_000;
 // So does one after which the table has fewer rows, which the caches hold.
 const LEAST_TABLE: u64 = 50_000;
 
-// The key of a row of a block, and the row's place.
+// A table that others refer to is small where it has at most this part of their rows. The rows of a larger one would be sought
+// twice at a cost that order does not spare.
+const SMALL_PART: u64 = 8;
+
+// How many bytes of a text its number tells.
+const LEADING: usize = 7;
+
+// A number that rises with the keys of rows, and the place of a row of a block. Rows of one number are told by their keys.
 type KeyPlace = (i64, usize);
 
-// The key of a row, where it is an integer.
-fn integer_key(row: &Sequence<Value>) -> Option<i64>
-    ensures { IfSome result (λ key. value.Int key ∷ [] ≡ take 1 row.now) }
-{
+// What a text begins with, as a number.
+fn beginning(text: &Text) -> i64 {
+    let bytes = text.as_bytes();
+    let mut number = 0;
+    for place in 0..LEADING {
+        let byte = bytes.get(place).copied().unwrap_or(0);
+        number = number << 8 | i64::from(byte);
+    }
+    number
+}
+
+// The number of a row's key.
+fn number_of(row: &Sequence<Value>) -> i64 {
     match row.as_slice() {
-        [Value::Int(key), ..] => Some(*key),
-        _ => None,
+        [Value::Int(key), ..] => *key,
+        [Value::Text(key), ..] => beginning(key),
+        _ => 0,
     }
 }
 
-// The key and the place of each row, in the order of the block. None where a key is no integer, and where no memory is found.
+// The number and the place of each row, in the order of the block. None where no memory is found.
 fn keys_of(alloc: Global, rows: &[Sequence<Value>]) -> Option<Vec<KeyPlace>>
-    ensures keys { IfSome result (λ keys. map key_row keys.items ≡ map (take 1) rows.now) }
+    ensures each { IfSome result (λ keys. map (row_at rows.now) keys.items ≡ rows.now) }
     ensures places { IfSome result (λ keys. All (λ k. k.1 < length rows.now) keys.items) }
 {
     let mut keys = Vec::with_capacity(alloc, rows.len()).ok()?;
     for (place, row) in rows.iter().enumerate() {
-        let key = integer_key(row)?;
-        keys.push_reserved((key, place));
+        keys.push_reserved((number_of(row), place));
     }
     Some(keys)
 }
 
-// Whether each key is above the one before it.
-fn rise(keys: &[KeyPlace]) -> bool
-    ensures { IsTrue result ↔ AreRising (map key_row keys.now) }
+// The key of the row at a place.
+fn key_at<'a>(rows: &'a [Sequence<Value>], place: &KeyPlace) -> Option<&'a Value>
+    ensures { option_copied result ≡ slice_get (row_at rows.now place.now) 0 }
 {
-    keys.is_sorted_by(|a, b| a.0.cmp(&b.0).is_lt())
+    rows.get(place.1)?.as_slice().first()
 }
 
-// Whether no row of the table has this key.
-fn is_new(relation: &Relation, key: &KeyPlace) -> bool
-    ensures { IsTrue result ↔ (HasKey relation.now.rows (value.Int key.now.0) → ⊥) }
+// How the keys of two rows stand to each other.
+fn compare_keys(rows: &[Sequence<Value>], a: &KeyPlace, b: &KeyPlace) -> Ordering
+    ensures { result ≡ key_cmp (row_at rows.now a.now) (row_at rows.now b.now) }
 {
-    relation.find_key(&Value::Int(key.0).sought()).is_none()
+    match (key_at(rows, a), key_at(rows, b)) {
+        (Some(key), Some(other)) => key.cmp(other),
+        (Some(_), None) => Ordering::Greater,
+        (None, Some(_)) => Ordering::Less,
+        (None, None) => Ordering::Equal,
+    }
 }
 
-// Whether no row of the table has one of these keys.
-fn are_new(relation: &Relation, keys: &[KeyPlace]) -> bool
-    ensures { IsTrue result ↔ All (λ k. HasKey relation.now.rows (value.Int k.0) → ⊥) keys.now }
+// The same, by their numbers first.
+fn compare(rows: &[Sequence<Value>], a: &KeyPlace, b: &KeyPlace) -> Ordering {
+    match a.0.cmp(&b.0) {
+        Ordering::Equal => compare_keys(rows, a, b),
+        apart => apart,
+    }
+}
+
+// Whether the key of each row is above that of the one before it.
+fn rise(rows: &[Sequence<Value>], keys: &[KeyPlace]) -> bool
+    ensures { IsTrue result → AreRising (map (row_at rows.now) keys.now) }
+{
+    keys.is_sorted_by(|a, b| compare_keys(rows, a, b).is_lt())
+}
+
+// Whether a row has a key that no row of the table has.
+fn is_new(relation: &Relation, rows: &[Sequence<Value>], place: &KeyPlace) -> bool
+    ensures { IsTrue result → IsNew relation.now (row_at rows.now place.now) }
+{
+    match key_at(rows, place) {
+        Some(key) => relation.find_key(&key.sought()).is_none(),
+        None => false,
+    }
+}
+
+// Whether each row has one.
+fn are_new(relation: &Relation, rows: &[Sequence<Value>], keys: &[KeyPlace]) -> bool
+    ensures { IsTrue result → All (λ k. IsNew relation.now (row_at rows.now k)) keys.now }
 {
     for key in keys {
-        if !is_new(relation, key) {
+        if !is_new(relation, rows, key) {
             return false;
         }
     }
     true
 }
 
-// Whether one of these columns refers to a table.
-fn any_refers(columns: &[Column]) -> bool
-    ensures { result ≡ list_any refers columns.now }
+// Whether a row has in a column no value, or null, or the key of a row of the relation that the column's links lead into.
+fn names_row(target: &Relation, row: &Sequence<Value>, column: ColumnNumber) -> bool
+    ensures { IsTrue result → (v : Value) → slice_get row.now column.0 ≡ Some v → (v ≡ value.Null) ⊎ HasKey target.now.rows v }
 {
-    columns.iter().any(|column| match referred(column) {
-        Some(_) => true,
-        None => false,
-    })
+    match row.as_slice().get(column.0) {
+        Some(Value::Null) | None => true,
+        Some(key) => target.find_key(&key.sought()).is_some(),
+    }
 }
 
-// Whether rows are so many, and the table has so many with them, that their order counts, there is room for all, and none
-// refers to another row.
-fn counts(relation: &Relation, limits: Limits, rows: usize) -> bool
-    ensures alone { IsTrue result → IsFalse (list_any refers relation.now.schema.columns) }
-    ensures room { IsTrue result → finite.len relation.now.rows + rows ≤ limits.rows }
+// Whether each row has a value with a cell in a column.
+fn have_cells_in(
+    before: &[Relation],
+    relation: &Relation,
+    column: ColumnNumber,
+    rows: &[Sequence<Value>],
+) -> bool
+    requires within { column.0 < length relation.now.targets }
+    requires back { (column : ℕ) (table : ℕ) → target_at relation.now.targets column ≡ Some table → table < length before.now }
+    ensures { IsTrue result → HaveCells before.now relation.now.targets rows.now column.0 }
+{
+    let Some(table) = target_number(relation, column) else {
+        return true;
+    };
+    for row in rows {
+        if !names_row(&before[table], row, column) {
+            return false;
+        }
+    }
+    true
+}
+
+// Whether each value of each row has a cell.
+fn have_cells(before: &[Relation], relation: &Relation, rows: &[Sequence<Value>]) -> bool
+    requires back { (column : ℕ) (table : ℕ) → target_at relation.now.targets column ≡ Some table → table < length before.now }
+    ensures { IsTrue result → (column : ℕ) → HaveCells before.now relation.now.targets rows.now column }
+{
+    a_relation_is_kept(relation);
+    for column in 0..relation.schema().columns.len() {
+        if !have_cells_in(before, relation, ColumnNumber(column), rows) {
+            return false;
+        }
+    }
+    true
+}
+
+// Whether a column refers to a table of more rows than these.
+fn refers_to_more(before: &[Relation], relation: &Relation, rows: u64) -> bool
+    requires back { (column : ℕ) (table : ℕ) → target_at relation.now.targets column ≡ Some table → table < length before.now }
+{
+    a_relation_is_kept(relation);
+    for column in 0..relation.schema().columns.len() {
+        if let Some(table) = target_number(relation, ColumnNumber(column)) {
+            if before[table].len() > rows {
+                return true;
+            }
+        }
+    }
+    false
+}
+
+// Whether rows are so many, and the table has so many with them, that their order counts, there is room for all, and the tables
+// that it refers to are small.
+fn counts(before: &[Relation], relation: &Relation, limits: Limits, rows: usize) -> bool
+    requires back { (column : ℕ) (table : ℕ) → target_at relation.now.targets column ≡ Some table → table < length before.now }
+    ensures { IsTrue result → finite.len relation.now.rows + rows ≤ limits.rows }
 {
     let room = u64::from(limits.rows).saturating_sub(relation.len());
-    rows >= LEAST_ROWS
-        && rows as u64 <= room
-        && relation.len() + rows as u64 >= LEAST_TABLE
-        && !any_refers(relation.schema().columns.as_slice())
+    if rows < LEAST_ROWS || rows as u64 > room {
+        return false;
+    }
+    let all = relation.len() + rows as u64;
+    all >= LEAST_TABLE && !refers_to_more(before, relation, all / SMALL_PART)
 }
 
-// The keys of rows by which they go in faster, in order, where it is known that all of them come in.
+// The places of rows in the order in which they go in faster, by their keys, where it is known that all of them come in.
 fn rising_keys(
     alloc: Global,
+    before: &[Relation],
     relation: &Relation,
     limits: Limits,
     rows: &[Sequence<Value>],
 ) -> Option<Vec<KeyPlace>>
-    ensures come_in { IfSome result (λ keys. ComeInAnyOrder relation.now limits.rows rows.now) }
+    requires back { (column : ℕ) (table : ℕ) → target_at relation.now.targets column ≡ Some table → table < length before.now }
+    ensures come_in { IfSome result (λ keys. ComeInAnyOrder before.now relation.now limits.rows rows.now) }
     ensures places { IfSome result (λ keys. All (λ k. k.1 < length rows.now) keys.items) }
     ensures each { IfSome result (λ keys. length keys.items ≡ length rows.now) }
 {
-    if !counts(relation, limits, rows.len()) {
+    if !counts(before, relation, limits, rows.len()) {
         return None;
     }
     let mut keys = keys_of(alloc, rows)?;
-    if rise(&keys) {
+    if keys.is_sorted_by(|a, b| compare(rows, a, b).is_lt()) {
         return None;
     }
-    keys.sort_unstable();
-    if rise(&keys) && are_new(relation, &keys) {
+    keys.sort_unstable_by(|a, b| compare(rows, a, b));
+    if rise(rows, &keys) && are_new(relation, rows, &keys) && have_cells(before, relation, rows) {
         Some(keys)
     } else {
         None
@@ -157,13 +260,15 @@ fn arrange(rows: &mut [Sequence<Value>], keys: &mut [KeyPlace])
 /// them, and it is known that all of them come in. Else they stay as they stand.
 pub fn in_best_order(
     alloc: Global,
+    before: &[Relation],
     relation: &Relation,
     limits: Limits,
     mut rows: Vec<Sequence<Value>>,
 ) -> Vec<Sequence<Value>>
-    ensures { MayGoInAs relation.now limits.rows rows.items result.items }
+    requires back { (column : ℕ) (table : ℕ) → target_at relation.now.targets column ≡ Some table → table < length before.now }
+    ensures { MayGoInAs before.now relation.now limits.rows rows.items result.items }
 {
-    if let Some(mut keys) = rising_keys(alloc, relation, limits, &rows) {
+    if let Some(mut keys) = rising_keys(alloc, before, relation, limits, &rows) {
         arrange(&mut rows, &mut keys);
     }
     rows

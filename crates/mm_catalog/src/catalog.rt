@@ -1,5 +1,5 @@
 //! The tables, and what they are called.
-ghost use Rattle.std.specs.Prelude.{◌≡◌, ◌≢◌, ◌<◌, ◌≤◌, ◌⊎◌, Bool, [], Some, IfSome, IfNone, IfErr, IfOk, OnOk, OnErr, length, map, position, slice_get};
+ghost use Rattle.std.specs.Prelude.{◌≡◌, ◌≢◌, ◌<◌, ◌≤◌, ◌⊎◌, Bool, [], Some, IfSome, IfNone, IfErr, IfOk, OnOk, OnErr, length, map, position, slice_get, take};
 ghost use Rattle.std.specs.List.{AllPairs};
 ghost use Rattle.std.specs.Option.{option_map};
 
@@ -266,6 +266,14 @@ impl Catalog {
         self.load_each(table, rows)
     }
 
+    // The relations before that of a table, which its links lead into.
+    fn relations_before(&self, table: TableNumber) -> &[Relation]
+        requires { table.0 ≤ length self.now.relations }
+        ensures { result.now ≡ take table.0 self.now.relations }
+    {
+        &self.relations[..table.0]
+    }
+
     // The rows of a load in the order in which they go in best. A load of them is that of the rows as they stand.
     fn in_best_order(&self, table: TableNumber, rows: Vec<Sequence<Value>>) -> Vec<Sequence<Value>>
         requires { IsMeant self.now.limits (database_of self.now) (resolved.Load table rows.items) }
@@ -274,7 +282,13 @@ impl Catalog {
         ensures each { length result.items ≡ length rows.items }
     {
         a_catalog_is_consistent(self);
-        by_key::in_best_order(self.allocator(), self.at(table), self.limits(), rows)
+        by_key::in_best_order(
+            self.allocator(),
+            self.relations_before(table),
+            self.at(table),
+            self.limits(),
+            rows,
+        )
     }
 
     // Puts rows into a table, one after the other. Where one of them cannot come in, those before it go out again.

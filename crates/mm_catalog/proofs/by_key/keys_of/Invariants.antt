@@ -1,12 +1,12 @@
 use Rattle.std.proofs.Common.{◌≡◌, ◌<◌, ◌≤◌, length, map, take, vec_capacity}
 use Rattle.std.specs.List.{All}
-use Rattle.mm_catalog.specs.LoadOrder.{key_row}
+use Rattle.mm_catalog.specs.LoadOrder.{row_at}
 use Rattle.mm_catalog.proofs.by_key.keys_of.Given as goal
 
 abbrev pub invariant-loop-place : goal.invariant-loop-place
 invariant-loop-place l = record {
   count : length l.keys.items ≡ l.place;
   room : length l.rows ≤ vec_capacity l.keys;
-  so_far : map key_row l.keys.items ≡ map (take 1) (take l.place l.rows);
+  so_far : map (row_at l.rows) l.keys.items ≡ take l.place l.rows;
   places : All (λ k. k.1 < length l.rows) l.keys.items;
 }
