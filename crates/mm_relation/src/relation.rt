@@ -4,7 +4,7 @@ ghost use Rattle.mm_relation.specs.declared.row.Cell.TheVariants.{Held};
 
 use crate::change::{change_each, copies_for};
 use crate::index::IndexOn;
-use crate::indexes::{hash_on, is_declared, reserve, tree_on};
+use crate::indexes::{hash_on, is_declared, reserve, shed_spares, tree_on};
 use crate::laws::a_relation_is_kept;
 use crate::numbers::DeclaredIndex;
 use crate::parts::{displace, make_room, place};
@@ -462,6 +462,7 @@ impl Relation {
             sets,
             &mut copies,
         );
+        shed_spares(&mut self.indexes);
         Ok(())
     }
 }

@@ -67,13 +67,23 @@ impl Rows {
         self.store.reserve()
     }
 
-    // Gives the partitions behind the last row back. No row moves. It takes no memory.
-    pub fn release_spares(&mut self)
+    // Gives the memory of the partitions with no row back where it is that of more than so many rows, and of more than a
+    // quarter as many as there are. No row moves. It takes no memory.
+    pub fn shed_spares(&mut self, few: u64)
         ensures tuples { self.new.tuples ≡ self.old.tuples }
         ensures width { self.new.width ≡ self.old.width }
         ensures counted { self.new.counted ≡ self.old.counted }
+        ensures kept { self.old.free ≤ few → self.new ≡ self.old }
     {
-        self.store.release_spares();
+        self.store.shed_spares(few);
+    }
+
+    // How many cells a row has.
+    pub fn width(&self) -> usize
+        ensures value { result ≡ self.now.width }
+        ensures within { 0 < result }
+    {
+        self.store.width()
     }
 
     // Moves the cells of a row in, with no links that name it. It takes no memory, and the vector keeps its own.

@@ -3,7 +3,7 @@
 //!
 //! A removal makes one node spare at most. So there are as many removals between two times as the second gives back nodes,
 //! but for those that were reserved for a change of rows, and a removal costs no more for it in the long run.
-ghost use Rattle.std.specs.Prelude.{◌≡◌, ◌≤◌, max};
+ghost use Rattle.std.specs.Prelude.{◌≡◌, ◌≤◌, ◌/◌, max};
 ghost use Rattle.ttree.specs.Held.{size};
 
 use crate::rows::Rows;
@@ -11,11 +11,8 @@ use crate::tree::Tree;
 use lin_hash::LinHash;
 use mm_index::ExactIndex;
 
-// A store keeps so few free slots, those of four partitions, however few rows there are.
-const FEW_SLOTS: u64 = 1_024;
-
-// And one for so many rows.
-const ROWS_A_FREE_SLOT: u64 = 4;
+// A store keeps partitions with no row that have so few cells in all, of 64 KiB, however few rows there are.
+const FEW_CELLS: u64 = 4_096;
 
 // A tree keeps so few spare nodes, however few are in use.
 const FEW_NODES: usize = 64;
@@ -26,17 +23,15 @@ const FEW_HASH_NODES: usize = 4_096;
 // And for so many an entry: so memory isn't given back and taken again as entries go and come.
 const MOST_NODES_AN_ENTRY: usize = 4;
 
-// Gives the partitions behind the last row back where more slots are free than a quarter as many as there are rows, and
-// more than a few. Each of them had to be filled before, so a removal costs no more for it in the long run.
+// Gives the memory of the partitions with no row back where it is that of more than a quarter as many rows as there are,
+// and of more than a few. Each of them had to lose its rows before, so a removal costs no more for it in the long run.
 pub fn shed_rows(rows: &mut Rows)
     ensures tuples { rows.new.tuples ≡ rows.old.tuples }
     ensures width { rows.new.width ≡ rows.old.width }
     ensures counted { rows.new.counted ≡ rows.old.counted }
-    ensures kept { rows.old.free ≤ 1024 → rows.new ≡ rows.old }
+    ensures kept { rows.old.free ≤ 4096 / rows.old.width → rows.new ≡ rows.old }
 {
-    if rows.free() > FEW_SLOTS.max(rows.len() / ROWS_A_FREE_SLOT) {
-        rows.release_spares();
-    }
+    rows.shed_spares(FEW_CELLS / rows.width() as u64);
 }
 
 // Gives the spare nodes of a tree back where they are more than those in use, and more than a few.

@@ -1,21 +1,26 @@
 -- A store with its counts beside it, as a free slot is filled, and as a partition comes.
-use Rattle.std.proofs.Common.{◌≡◌, ℕ, ◌-◌, ◌*◌, ◌^◌, ◌<◌, ◌≤◌, Bool, true, false, if◌then◌else◌, List, [], ◌∷◌, ◌++◌, length, get_or, set, Option, Some, None, is_some, refl, sym, ap, ◌∙◌, arith, subst}
-use Rattle.std.proofs.lemmas.List.{length-set, length-append, length_push}
+use Rattle.std.proofs.Common.{◌≡◌, ℕ, ◌+◌, sum_by, nat_lt, ◌-◌, ◌*◌, ◌^◌, ◌<◌, ◌≤◌, Bool, true, false, if◌then◌else◌, List, [], ◌∷◌, ◌++◌, length, get_or, set, Option, Some, None, is_some, refl, sym, ap, ◌∙◌, arith, subst}
+use Rattle.std.proofs.lemmas.List.{length-set, length-append, length_push, map-set, map-append}
+use Rattle.std.proofs.lemmas.List.Sums.{sum_by-cons, sum_by-append}
 use Rattle.std.proofs.Math.ListN.{replicate}
 use Rattle.std.specs.Prelude.{option_to_list}
-use Rattle.std.specs.FinMap.{get, insert, len}
+use Rattle.std.specs.FinMap.{get, insert}
 use Rattle.part_raw.specs.declared.store.Occupancy.{Occupancy}
-use Rattle.part_raw.specs.Store.{tuple}
+use Rattle.part_raw.specs.Store.{Tuple, tuple}
 use Rattle.part_raw.specs.Rows.{IsLaid, rows_in}
 use Rattle.part_raw.specs.Counted.{Shelf, shelf, shelves_of, tuples_in, with_count}
 use Rattle.part_raw.specs.TupleRefs.{ref_to}
-use Rattle.part_raw.specs.Layout.{is_set, vacancies, tuples_of, IsPartition}
-use Rattle.part_raw.specs.Open.{tables, IsTable, IsStocked}
+use Rattle.part_raw.specs.Layout.{is_set, vacancies, tuples_of, IsPartition, IsVacant}
+use Rattle.part_raw.specs.Open.{has_block_at, tables, AreLaid, IsStore, IsTable, IsStocked}
 use Rattle.part_raw.proofs.WithCounts.{counted-get}
-use Rattle.part_raw.proofs.Shelves.{bits-shown, vacancies-shown, shown-put}
-use Rattle.part_raw.proofs.Beside.{length-shelves_of, shelves_of-set_both, shelves_of-push, shelves_of-grown}
-use Rattle.part_raw.proofs.Stocked.{read_here}
-use Rattle.part_raw.proofs.Tables.{Changes, open_within, open_has_slot, fresh-put, put_full, put_open, rows-put, table-pushed, rows-pushed, IsTable-empty}
+use Rattle.part_raw.proofs.Shelves.{bits-shown, vacancies-shown, shown-put, shown-empty}
+use Rattle.part_raw.proofs.Beside.{length-shelves_of, shelves_of-set, shelves_of-set_both, shelves_of-push, shelves_of-grown}
+use Rattle.part_raw.proofs.Bitmaps.{mapped-read}
+use Rattle.part_raw.proofs.Sound.{IsStore-refill, refilled_tuples, refilled_lengths}
+use Rattle.std.proofs.lemmas.Bool.{lt-ltb, true≢false}
+use Rattle.part_raw.proofs.Rows.{rows_in-none}
+use Rattle.part_raw.proofs.Stocked.{default_read, read_here, told_here_at}
+use Rattle.part_raw.proofs.Tables.{Changes, open_within, open_has_slot, open_has_places, slots-changed, laid-set, length-tables, fresh-put, put_full, put_open, rows-put, table-pushed, rows-pushed, IsTable-empty}
 
 -- ---- a free slot of the first partition that has one is filled
 
@@ -28,7 +33,11 @@ module _ {T : Type 0} (counted : Bool) (width : ℕ) (blocks : List (List (Optio
   first_has_slot block read =
       omega (arith, vacancies-shown width block (get_or counts part []), open_has_slot width (shelves_of blocks counts) occupancies free part is.table (shelf block (get_or counts part [])) (read_here counted width blocks counts occupancies free (Some part) is part block first_within read))
 
-  module _ (block new : List (Option T)) (o o' : Occupancy) (slot : ℕ) (cells : List T) (counts' : List (List ℕ)) (wide : length cells ≡ width) (read : block ≡ get_or blocks part block) (read_bits : o ≡ get_or occupancies part o)
+  pub first_there : (block : List (Option T)) → block ≡ get_or blocks part block → 0 < length block
+  first_there block read =
+      open_has_places width (shelves_of blocks counts) occupancies free part is.table (shelf block (get_or counts part [])) (read_here counted width blocks counts occupancies free (Some part) is part block first_within read)
+
+  module _ (block new : List (Option T)) (o o' : Occupancy) (slot : ℕ) (cells : List T) (counts' : List (List ℕ)) (wide : length cells ≡ width) (read : block ≡ get_or blocks part block) (read_bits : o ≡ get_or occupancies part o) (same_block : o'.has_block ≡ o.has_block)
       (laid : IsLaid (length cells) new) (bits : IsPartition o'.held.words (rows_in (length cells) new)) (in_range : slot < 256) (fresh : get_or (rows_in (length cells) block) slot None ≡ None)
       (slots : rows_in (length cells) new ≡ set (rows_in (length cells) block) slot (Some cells)) (set_is : counts' ≡ set counts part (set (get_or counts part []) slot 0)) where
     abbrev shelves : List (Shelf T)
@@ -49,6 +58,8 @@ module _ {T : Type 0} (counted : Bool) (width : ℕ) (blocks : List (List (Optio
       bits = bits-shown width new (set (get_or counts part []) slot 0) o'.held.words (subst (λ (n : ℕ). IsPartition o'.held.words (rows_in n new)) wide bits);
       in_range = in_range;
       slots = shown-put width block (get_or counts part []) new slot cells (subst (λ (n : ℕ). rows_in n new ≡ set (rows_in n block) slot (Some cells)) wide slots);
+      some = first_there block read;
+      same_block = same_block;
     }
 
     was_free : get_or (tuples_in width was_here) slot None ≡ None
@@ -74,6 +85,9 @@ module _ {T : Type 0} (counted : Bool) (width : ℕ) (blocks : List (List (Optio
     filled_open some still next =
         stock (set occupancies part o') (free - 1) (Some part) (put_open width shelves occupancies was_here is_here o o' part slot free (tuple cells 0) is.table filling was_free some still next)
 
+    pub filled_slots : sum_by length (tables width (shelves_of (set blocks part new) counts')) ≡ sum_by length (tables width shelves)
+    filled_slots = ap (λ (s : List (Shelf T)). sum_by length (tables width s)) same_shelves ∙ slots-changed width shelves was_here is_here part slot (Some (tuple cells 0)) filling.within filling.read filling.slots
+
     pub filled_fresh : get (tuples_of (tables width shelves)) (ref_to part slot) ≡ None
     filled_fresh = fresh-put width shelves occupancies was_here is_here o o' part slot (tuple cells 0) filling was_free
 
@@ -94,13 +108,13 @@ module _ {T : Type 0} (counted : Bool) (width : ℕ) (blocks : List (List (Optio
       shelves_of-push blocks (counts ++ option_to_list next) new
       ∙ ap (λ (s : List (Shelf T)). s ++ shelf new (get_or (counts ++ option_to_list next) (length blocks) []) ∷ []) (shelves_of-grown counted blocks counts next is.beside made)
 
-  pub pushed_stocked : (o : Occupancy) (part : ℕ) → ((slot : ℕ) → slot < 256 → is_set o.held.words slot ≡ false) → o.next_open ≡ first → part ≡ length blocks
-      → len (tuples_of (tables width (shelves_of blocks counts))) < 2 ^ 32 → IsStocked counted width (blocks ++ new ∷ []) (counts ++ option_to_list next) (occupancies ++ o ∷ []) 256 (Some part)
-  pushed_stocked o part clear next_is at room = record {
+  pub pushed_stocked : (o : Occupancy) (part : ℕ) → ((slot : ℕ) → slot < 256 → is_set o.held.words slot ≡ false) → o.has_block ≡ true → o.next_open ≡ first → part ≡ length blocks
+      → length blocks < 2 ^ 24 → IsStocked counted width (blocks ++ new ∷ []) (counts ++ option_to_list next) (occupancies ++ o ∷ []) 256 (Some part)
+  pushed_stocked o part clear block next_is at room = record {
     beside = grown counted next is.beside made;
     table = subst (λ (s : List (Shelf T)). IsTable width s (occupancies ++ o ∷ []) 256 (Some part)) (sym same_pushed)
-        (table-pushed width (shelves_of blocks counts) occupancies (shelf new (get_or (counts ++ option_to_list next) (length blocks) [])) o first part is.table empty clear next_is
-        (at ∙ sym (length-shelves_of blocks counts)) room);
+        (table-pushed width (shelves_of blocks counts) occupancies (shelf new (get_or (counts ++ option_to_list next) (length blocks) [])) o first part is.table empty clear block next_is
+        (at ∙ sym (length-shelves_of blocks counts)) (omega (arith, room, length-shelves_of blocks counts)));
   }
     where
       grown : (b : Bool) (n : Option (List ℕ)) → length counts ≡ (if b then length blocks else 0) → is_some n ≡ b → length (counts ++ option_to_list n) ≡ (if b then length (blocks ++ new ∷ []) else 0)
@@ -113,6 +127,60 @@ module _ {T : Type 0} (counted : Bool) (width : ℕ) (blocks : List (List (Optio
   pushed_tuples =
       ap (λ (s : List (Shelf T)). tuples_of (tables width s)) same_pushed
       ∙ rows-pushed width (shelves_of blocks counts) (shelves_of blocks counts) pushed (shelf new (get_or (counts ++ option_to_list next) (length blocks) [])) is.table.wide refl refl empty
+
+  pub pushed_slots : sum_by length (tables width (shelves_of (blocks ++ new ∷ []) (counts ++ option_to_list next))) ≡ sum_by length (tables width (shelves_of blocks counts)) + 256
+  pushed_slots =
+      let it = shelf new (get_or (counts ++ option_to_list next) (length blocks) []) in
+      let both = shown-empty width new (get_or (counts ++ option_to_list next) (length blocks) []) is.table.wide empty in
+      ap (λ (s : List (Shelf T)). sum_by length (tables width s)) same_pushed ∙ ap (sum_by length) (map-append (tuples_in width) (shelves_of blocks counts) (it ∷ []))
+      ∙ omega (arith, sum_by-append length (tables width (shelves_of blocks counts)) (tuples_in width it ∷ []), sum_by-cons length (tuples_in width it) [], both.1.count)
+
+-- ---- a partition that gave its block back gets one again
+
+-- it has no places
+pub bare_block : {T : Type 0} (counted : Bool) (width : ℕ) (blocks : List (List (Option T))) (counts : List (List ℕ)) (occupancies : List Occupancy) (free : ℕ) (first : Option ℕ) → IsStocked counted width blocks counts occupancies free first
+    → (part : ℕ) → part < length blocks → has_block_at occupancies part ≡ false → get_or blocks part [] ≡ []
+bare_block counted width blocks counts occupancies free first is part within bare =
+    let block = get_or blocks part [] in
+    let rows = mapped-read (rows_in width) blocks part block [] within (default_read blocks part within) in
+    let told = told_here_at counted width blocks counts occupancies free first is part within in
+    rows_in-none width block (λ some. true≢false (sym (lt-ltb 0 (length (rows_in width block)) some) ∙ ap (λ l. nat_lt 0 (length l)) (sym rows) ∙ sym told ∙ bare))
+
+module _ {T : Type 0} (counted : Bool) (width : ℕ) (blocks : List (List (Option T))) (counts : List (List ℕ)) (occupancies : List Occupancy) (first : Option ℕ)
+    (is : IsStocked counted width blocks counts occupancies 0 first) (part : ℕ) (new : List (Option T)) (o o' : Occupancy) (within : part < length blocks) (read : o ≡ get_or occupancies part o) (bare : o.has_block ≡ false)
+    (empty : new ≡ replicate (256 * width) None) where
+  abbrev its : Shelf T
+  its = shelf new (get_or counts part [])
+
+  abbrev shown : List (Option (Tuple T))
+  shown = tuples_in width its
+
+  among : part < length (tables width (shelves_of blocks counts))
+  among = omega (arith, within, length-shelves_of blocks counts, length-tables width (shelves_of blocks counts))
+
+  vacant : IsLaid width new × IsVacant shown
+  vacant = shown-empty width new (get_or counts part []) is.table.wide empty
+
+  same_refilled : tables width (shelves_of (set blocks part new) counts) ≡ set (tables width (shelves_of blocks counts)) part shown
+  same_refilled = ap (tables width) (shelves_of-set blocks counts part new) ∙ map-set (tuples_in width) (shelves_of blocks counts) part its
+
+  pub refilled_stocked : o'.held.words ≡ o.held.words → o'.has_block ≡ true → o'.next_open ≡ first → IsStocked counted width (set blocks part new) counts (set occupancies part o') 256 (Some part)
+  refilled_stocked words block next = record {
+    beside = is.beside ∙ ap (λ (n : ℕ). if counted then n else 0) (sym (length-set blocks part new));
+    table = record {
+      wide = is.table.wide;
+      fits = is.table.fits;
+      laid = subst (λ (s : List (Shelf T)). AreLaid width s) (sym (shelves_of-set blocks counts part new)) (laid-set width (shelves_of blocks counts) its part (omega (arith, within, length-shelves_of blocks counts)) (λ some. vacant.0) is.table.laid);
+      store = subst (λ (t : List (List (Option (Tuple T)))). IsStore t (set occupancies part o') 256 (Some part)) (sym same_refilled)
+          (IsStore-refill (tables width (shelves_of blocks counts)) occupancies shown o o' first part is.table.store among read bare vacant.1 words block next);
+    };
+  }
+
+  pub refill_tuples : tuples_of (tables width (shelves_of (set blocks part new) counts)) ≡ tuples_of (tables width (shelves_of blocks counts))
+  refill_tuples = ap tuples_of same_refilled ∙ refilled_tuples (tables width (shelves_of blocks counts)) occupancies shown o o' first part is.table.store among read bare vacant.1
+
+  pub refill_slots : sum_by length (tables width (shelves_of (set blocks part new) counts)) ≡ sum_by length (tables width (shelves_of blocks counts)) + 256
+  refill_slots = ap (sum_by length) same_refilled ∙ refilled_lengths (tables width (shelves_of blocks counts)) occupancies shown o o' first part is.table.store among read bare vacant.1
 
 -- ---- a store with no partition
 

@@ -5,7 +5,7 @@ use Rattle.std.proofs.lemmas.List.{get_or-set_same, get_or-set_other, get_or_pas
 use Rattle.std.specs.FinMap.{get, insert, remove, empty}
 use Rattle.part_raw.specs.declared.tuple_ref.TupleRef.{TupleRef}
 use Rattle.part_raw.specs.TupleRefs.{ref_to, part_of, slot_of}
-use Rattle.part_raw.specs.Layout.{tuples_of, tuples_from, IsVacant}
+use Rattle.part_raw.specs.Layout.{tuples_of, tuples_from}
 use Rattle.part_raw.specs.Open.{HaveBitmaps}
 use Rattle.part_raw.specs.declared.store.Occupancy.{Occupancy}
 use Rattle.part_raw.proofs.Tuples.{same_tuples, get-insert_same, get-insert_other, get-remove_same, get-remove_other}
@@ -19,7 +19,10 @@ Blocks T = List (List (Option T))
 module _ {T : Type 0} where
   -- blocks that have bitmaps are no longer than these
   pub small_blocks : (blocks : Blocks T) (occupancies : List Occupancy) → HaveBitmaps blocks occupancies → AreSmall blocks
-  small_blocks blocks occupancies mapped part within = omega (arith, (mapped.bits part within).count)
+  small_blocks blocks occupancies mapped part within = elim (cases_eq (length (get_or blocks part [])) 0) [
+    | inl none ↦ omega (arith, none)
+    | inr some ↦ omega (arith, (mapped.bits part within).count (omega (arith, some)))
+  ]
 
   -- ---- what is found
 
@@ -131,20 +134,39 @@ module _ {T : Type 0} where
       ])
 
   -- a vacant block adds nothing
-  pub tuples-push : (blocks : Blocks T) (new : List (Option T)) → AreSmall blocks → IsVacant new → tuples_of (blocks ++ new ∷ []) ≡ tuples_of blocks
-  tuples-push blocks new small vacant = same_tuples _ _ (λ q. get-tuples_of (blocks ++ new ∷ []) q (small_pushed blocks small) ∙ pushed blocks (part_of q) (slot_of q) ∙ sym (get-tuples_of blocks q small))
+  pub tuples-push : (blocks : Blocks T) (new : List (Option T)) → AreSmall blocks → length new ≤ 256 → ((slot : ℕ) → get_or new slot None ≡ None) → tuples_of (blocks ++ new ∷ []) ≡ tuples_of blocks
+  tuples-push blocks new small few empty = same_tuples _ _ (λ q. get-tuples_of (blocks ++ new ∷ []) q (small_pushed blocks small) ∙ pushed blocks (part_of q) (slot_of q) ∙ sym (get-tuples_of blocks q small))
     where
       small_pushed : (blocks : Blocks T) → AreSmall blocks → AreSmall (blocks ++ new ∷ [])
-      small_pushed [] small zero within = omega (arith, vacant.count)
+      small_pushed [] small zero within = few
       small_pushed [] small (suc part) within = absurd (omega (arith, within))
       small_pushed (slots ∷ rest) small zero within = small 0 (omega arith)
       small_pushed (slots ∷ rest) small (suc part) within = small_pushed rest (λ k among. small (suc k) (omega (arith, among))) part (omega (arith, within))
 
       pushed : (blocks : Blocks T) (part slot : ℕ) → held_in (blocks ++ new ∷ []) part slot ≡ held_in blocks part slot
-      pushed [] zero slot = vacant.empty slot
+      pushed [] zero slot = empty slot
       pushed [] (suc part) slot = refl
       pushed (slots ∷ rest) zero slot = refl
       pushed (slots ∷ rest) (suc part) slot = pushed rest part slot
+
+  -- slots that hold nothing in the place of others that hold nothing
+  pub tuples-vacant : (blocks : Blocks T) (part : ℕ) (new : List (Option T)) → part < length blocks → AreSmall blocks → length new ≤ 256 → ((slot : ℕ) → get_or new slot None ≡ None)
+      → ((slot : ℕ) → get_or (get_or blocks part []) slot None ≡ None) → tuples_of (set blocks part new) ≡ tuples_of blocks
+  tuples-vacant blocks part new within small few empty was_empty = same_tuples _ _ (λ q. get-tuples_of (set blocks part new) q small_set ∙ same (part_of q) (slot_of q) ∙ sym (get-tuples_of blocks q small))
+    where
+      small_set : AreSmall (set blocks part new)
+      small_set k below = elim (cases_eq k part) [
+        | inl e ↦ subst (λ (xs : List (Option T)). length xs ≤ 256) (sym (ap (λ n. get_or (set blocks part new) n []) e ∙ get_or-set_same blocks part new [] within)) few
+        | inr other ↦ subst (λ (xs : List (Option T)). length xs ≤ 256) (sym (get_or-set_other blocks part k new [] other)) (small k (omega (arith, below, length-set blocks part new)))
+      ]
+
+      same : (k slot : ℕ) → held_in (set blocks part new) k slot ≡ held_in blocks k slot
+      same k slot = elim (cases_eq k part) [
+        | inl e ↦
+            ap (λ n. get_or (get_or (set blocks part new) n []) slot None) e ∙ ap (λ xs. get_or xs slot None) (get_or-set_same blocks part new [] within) ∙ empty slot
+            ∙ sym (ap (λ n. get_or (get_or blocks n []) slot None) e ∙ was_empty slot)
+        | inr other ↦ ap (λ xs. get_or xs slot None) (get_or-set_other blocks part k new [] other)
+      ]
 
   -- no block holds nothing
   pub tuples_of-none : tuples_of {T = T} [] ≡ empty

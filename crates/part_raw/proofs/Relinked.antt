@@ -1,14 +1,14 @@
 -- The list of the open partitions is made anew, from the last partition to the first.
-use Rattle.std.proofs.Common.{◌≡◌, ◌≢◌, ℕ, zero, suc, ◌+◌, ◌<◌, ◌≤◌, Bool, true, false, cond, List, [], map, length, get_or, take, Option, Some, refl, sym, ap, ◌∙◌, inl, inr, arith, subst, count_by, nat_lt}
-use Rattle.std.proofs.lemmas.Bool.{cases_eq, cases_lt, lt-ltb, le-ltb, true≢false}
+use Rattle.std.proofs.Common.{◌≡◌, ◌≢◌, ℕ, zero, suc, ◌+◌, ◌<◌, ◌≤◌, ◌↔◌, Bool, true, false, cond, List, [], map, length, get_or, take, Option, Some, refl, sym, ap, ◌∙◌, inl, inr, arith, subst, count_by, nat_lt}
+use Rattle.std.proofs.lemmas.Bool.{cases_eq, cases_lt, lt-ltb, le-ltb, ltb-true, true≢false}
 use Rattle.std.proofs.Math.Seq.{take-length}
 use Rattle.std.proofs.lemmas.List.Sums.{count_by_more_yes, count_by_more_no}
 use Rattle.part_raw.specs.declared.store.Occupancy.{Occupancy}
-use Rattle.part_raw.specs.Layout.{vacancies}
-use Rattle.part_raw.specs.Open.{IsOpenList, HaveBitmaps, Tells, below, has_vacancy, open_at, slots_at, words_at}
+use Rattle.part_raw.specs.Layout.{is_set, vacancies}
+use Rattle.part_raw.specs.Open.{IsOpenList, HaveBitmaps, Tells, has_block_at, below, has_vacancy, open_at, slots_at, words_at}
 use Rattle.part_raw.proofs.Bitmaps.{mapped-read}
 use Rattle.part_raw.proofs.Chain.{put_first}
-use Rattle.part_raw.proofs.Slots.{no_vacancy_of_bits, bits_of_no_vacancy}
+use Rattle.part_raw.proofs.Slots.{no_vacancy_of_bits, no_vacancy_of_none, bits_of_no_vacancy, partition_of}
 use Rattle.part_raw.proofs.Parts.{Blocks}
 
 -- the partitions from this one on that are open
@@ -64,9 +64,14 @@ module _ {T : Type 0} (blocks : Blocks T) where
   -- a partition has a free slot unless each of its bits is set
   pub tells : (occupancies : List Occupancy) → HaveBitmaps blocks occupancies → Tells (open_at blocks) occupancies
   tells occupancies is part within =
-      let bits = is.bits part (omega (arith, within, is.as_many)) in (
-        (λ shut. bits_of_no_vacancy _ _ bits (none_of (vacancies (slots_at blocks part)) shut)),
-        (λ full. le-ltb 0 (vacancies (slots_at blocks part)) (let none = no_vacancy_of_bits _ _ bits full in omega (arith, none))),
+      let at : part < length blocks = omega (arith, within, is.as_many) in
+      let told = is.told part at in (
+        (λ bare. le-ltb 0 (vacancies (slots_at blocks part)) (let none = no_vacancy_of_none (slots_at blocks part) (none_of (length (slots_at blocks part)) (sym told ∙ bare)) in omega (arith, none))),
+        (λ there.
+            let bits = partition_of _ _ (is.bits part at) (ltb-true 0 (length (slots_at blocks part)) (sym told ∙ there)) in (
+              (λ shut. bits_of_no_vacancy _ _ bits (none_of (vacancies (slots_at blocks part)) shut)),
+              (λ full. le-ltb 0 (vacancies (slots_at blocks part)) (let none = no_vacancy_of_bits _ _ bits full in omega (arith, none))),
+            )),
       )
     where
       none_of : (n : ℕ) → nat_lt 0 n ≡ false → n ≡ 0
@@ -79,3 +84,25 @@ module _ {T : Type 0} (blocks : Blocks T) where
 pub words_read : (occupancies first : List Occupancy) (i : ℕ) (o : Occupancy) → i < length occupancies → o ≡ get_or occupancies i o
     → map (λ (x : Occupancy). x.held.words) occupancies ≡ map (λ (x : Occupancy). x.held.words) first → words_at first i ≡ o.held.words
 words_read occupancies first i o within read same = ap (λ (l : List (List ℕ)). get_or l i []) (sym same) ∙ mapped-read (λ (x : Occupancy). x.held.words) occupancies i o [] within read
+
+-- whether it has a block likewise
+pub block_read : (occupancies first : List Occupancy) (i : ℕ) (o : Occupancy) → i < length occupancies → o ≡ get_or occupancies i o
+    → map (λ (x : Occupancy). x.has_block) occupancies ≡ map (λ (x : Occupancy). x.has_block) first → has_block_at first i ≡ o.has_block
+block_read occupancies first i o within read same = ap (λ (l : List Bool). get_or l i false) (sym same) ∙ mapped-read (λ (x : Occupancy). x.has_block) occupancies i o false within read
+
+same_bool : (a b : Bool) → (a ≡ false → b ≡ false) → (b ≡ false → a ≡ false) → a ≡ b
+same_bool true true there back = refl
+same_bool true false there back = back refl
+same_bool false b there back = sym (there refl)
+
+-- what is told of a partition that was read is whether it is open
+pub told_open : (is_open : ℕ → Bool) (first : List Occupancy) → Tells is_open first → (i : ℕ) (o : Occupancy) (result : Bool) → i < length first → words_at first i ≡ o.held.words → has_block_at first i ≡ o.has_block
+    → (o.has_block ≡ false → result ≡ false) → (o.has_block ≡ true → (result ≡ false) ↔ ((slot : ℕ) → slot < 256 → is_set o.held.words slot ≡ true)) → is_open i ≡ result
+told_open is_open first tells i o result within words block bare full = by_block o.has_block refl
+  where
+    by_block : (b : Bool) → o.has_block ≡ b → is_open i ≡ result
+    by_block false e = (tells i within).0 (block ∙ e) ∙ sym (bare e)
+    by_block true e =
+        let its = (tells i within).1 (block ∙ e) in
+        same_bool (is_open i) result (λ shut. (full e).1 (λ slot in_range. ap (λ w. is_set w slot) (sym words) ∙ its.0 shut slot in_range))
+        (λ shut. its.1 (λ slot in_range. ap (λ w. is_set w slot) words ∙ (full e).0 shut slot in_range))

@@ -6,8 +6,9 @@ use Rattle.std.proofs.lemmas.Nat.{row_fits, div-add-mod', div_below, mod_below}
 use Rattle.std.proofs.Math.ListN.{replicate}
 use Rattle.std.proofs.Math.Nat.{zero-mul, suc-mul, mul-le-mul_right}
 use Rattle.common_lemmas.proofs.Options.{none_from_is_some}
-use Rattle.part_raw.specs.Rows.{window, IsRun, put_before, row_of, rows_of, rows_in, put_run, clear_run, IsLaid}
+use Rattle.part_raw.specs.Rows.{window, IsRun, put_before, row_of, rows_of, slots_of, rows_in, put_run, clear_run, IsLaid}
 use Rattle.part_raw.specs.Layout.{IsVacant}
+use Rattle.part_raw.proofs.Slots.{held_within}
 
 -- a place of another slot lies before the places of this one or behind them
 pub apart : (width other slot i : ℕ) → other ≢ slot → i < width → (other * width + i < slot * width) ⊎ (slot * width + width ≤ other * width + i)
@@ -56,6 +57,35 @@ module _ {T : Type 0} where
       rows_of-get width count slot (drop width places) (omega arith)
       ∙ ap (λ l. row_of (take width l)) (drop-drop (slot * width) width places)
       ∙ ap (λ k. row_of (window k width places)) (let e = suc-mul slot width in omega (arith, e))
+
+  -- ---- a partition has all slots or none
+
+  slots_of-some : (places : List (Option T)) → 0 < length places → slots_of places ≡ 256
+  slots_of-some [] some = absurd (omega (arith, some))
+  slots_of-some (x ∷ places) some = refl
+
+  pub length-rows_in : (width : ℕ) (places : List (Option T)) → 0 < length places → length (rows_in width places) ≡ 256
+  length-rows_in width places some = length-rows_of width (slots_of places) places ∙ slots_of-some places some
+
+  pub most-rows_in : (width : ℕ) (places : List (Option T)) → length (rows_in width places) ≤ 256
+  most-rows_in width [] = let none : List (Option T) = [] in omega (arith, length-rows_of width 0 none)
+  most-rows_in width (x ∷ places) = omega (arith, length-rows_in width (x ∷ places) (omega arith))
+
+  pub rows_in-get : (width slot : ℕ) (places : List (Option T)) → 0 < length places → slot < 256 → get_or (rows_in width places) slot None ≡ row_of (window (slot * width) width places)
+  rows_in-get width slot places some within = rows_of-get width (slots_of places) slot places (omega (arith, slots_of-some places some, within))
+
+  -- what has a slot has places
+  pub rows_in-some : (width : ℕ) (places : List (Option T)) → 0 < length (rows_in width places) → 0 < length places
+  rows_in-some width [] some = let none : List (Option T) = [] in absurd (omega (arith, some, length-rows_of width 0 none))
+  rows_in-some width (x ∷ places) some = omega arith
+
+  pub rows_in-none : (width : ℕ) (places : List (Option T)) → (0 < length (rows_in width places) → ⊥) → places ≡ []
+  rows_in-none width [] without = refl
+  rows_in-none width (x ∷ places) without = absurd (without (omega (arith, length-rows_in width (x ∷ places) (omega arith))))
+
+  pub rows_in-held : (width slot : ℕ) (places : List (Option T)) → IsSome (get_or (rows_in width places) slot None) → 0 < length places
+  rows_in-held width slot [] held = rows_in-some width [] (omega (arith, held_within (rows_in width []) slot held))
+  rows_in-held width slot (x ∷ places) held = omega arith
 
   -- ---- windows
 
@@ -166,18 +196,21 @@ module _ {T : Type 0} where
     pub whole : (i : ℕ) → i < width → is_some (get_or new (slot * width + i) None) ≡ is_some row
 
   module _ (width slot : ℕ) (places new : List (Option T)) (row : Option (List T)) (in_range : slot < 256) (laid : IsLaid width places) (c : SlotChanges width slot places new row) where
+    some' : 0 < length new
+    some' = omega (arith, c.long, laid.some)
+
     other_row : (other : ℕ) → other < 256 → other ≢ slot → get_or (rows_in width new) other None ≡ get_or (rows_in width places) other None
     other_row other within differs =
-        rows_of-get width 256 other new within
+        rows_in-get width other new some' within
         ∙ ap row_of (window_same (other * width) width places new c.long (λ i small. c.outside (other * width + i) (apart width other slot i differs small)))
-        ∙ sym (rows_of-get width 256 other places within)
+        ∙ sym (rows_in-get width other places laid.some within)
 
     this_row : get_or (rows_in width new) slot None ≡ row
-    this_row = rows_of-get width 256 slot new in_range ∙ c.row_is
+    this_row = rows_in-get width slot new some' in_range ∙ c.row_is
 
     pub rows-changed : rows_in width new ≡ set (rows_in width places) slot row
     rows-changed =
-        let l = length-rows_of width 256 new in let l' = length-rows_of width 256 places in let s = length-set (rows_in width places) slot row in
+        let l = length-rows_in width new some' in let l' = length-rows_in width places laid.some in let s = length-set (rows_in width places) slot row in
         ext_get_or None (rows_in width new) (set (rows_in width places) slot row) (l ∙ sym (s ∙ l'))
         (λ k below.
         let within : k < 256 = omega (arith, l, below) in
@@ -190,6 +223,7 @@ module _ {T : Type 0} where
 
     pub laid-changed : IsLaid width new
     laid-changed = record {
+      some = some';
       count = c.long ∙ laid.count;
       whole = λ k i within small.
           elim (cases_eq k slot) [
@@ -242,7 +276,7 @@ module _ {T : Type 0} where
   exchange-changes width slot column places row x in_range small laid held =
       let at : ℕ = slot * width + column in
       let new : List (Option T) = set (set places (slot * width + column) None) (slot * width + column) (Some x) in
-      let was : window (slot * width) width places ≡ map Some row = somes-row_of _ row (sym (rows_of-get width 256 slot places in_range) ∙ held) in
+      let was : window (slot * width) width places ≡ map Some row = somes-row_of _ row (sym (rows_in-get width slot places laid.some in_range) ∙ held) in
       let fits = row_within width slot places laid in_range in
       let s = length-set (set places (slot * width + column) None) (slot * width + column) (Some x) in let s' = length-set places (slot * width + column) None in
       let long : length new ≡ length places = s ∙ s' in
@@ -282,18 +316,19 @@ module _ {T : Type 0} where
   pub laid-empty : (width : ℕ) (places : List (Option T)) → 0 < width → places ≡ replicate (256 * width) None → IsLaid width places × IsVacant (rows_in width places)
   laid-empty width places wide is =
       let long : length places ≡ 256 * width = ap length is ∙ length-replicate (256 * width) None in
+      let some : 0 < length places = omega (arith, long, wide) in
       let none : (k : ℕ) → get_or places k None ≡ None = λ k. ap (λ l. get_or l k None) is ∙ empty_at (256 * width) k in
       let rows : (slot : ℕ) → get_or (rows_in width places) slot None ≡ None = λ slot.
       elim (cases_lt slot 256) [
         | inl within ↦
             let m = row_fits slot width 256 width within (omega arith) in
             let l = length-take width (drop (slot * width) places) in let d = length-drop (slot * width) places in
-            rows_of-get width 256 slot places within ∙ row_of-none (window (slot * width) width places) (omega (arith, l, d, m, long, wide))
+            rows_in-get width slot places some within ∙ row_of-none (window (slot * width) width places) (omega (arith, l, d, m, long, wide))
             (window-get (slot * width) width 0 places wide ∙ none (slot * width + 0))
-        | inr past ↦ get_or_past (rows_in width places) slot None (omega (arith, past, length-rows_of width 256 places))
+        | inr past ↦ get_or_past (rows_in width places) slot None (omega (arith, past, length-rows_in width places some))
       ] in (
-        record { count = long; whole = λ slot i within small. ap is_some (none (slot * width + i)) ∙ sym (ap is_some (rows slot)) },
-        record { count = length-rows_of width 256 places; empty = rows },
+        record { some = some; count = long; whole = λ slot i within small. ap is_some (none (slot * width + i)) ∙ sym (ap is_some (rows slot)) },
+        record { count = length-rows_in width places some; empty = rows },
       )
     where
       empty_at : (n k : ℕ) → ◌≡◌ {A = Option T} (get_or (replicate n None) k None) None
@@ -371,24 +406,24 @@ module _ {T : Type 0} where
   slot_within width slot places held =
       elim (cases_lt slot 256) [
         | inl within ↦ within
-        | inr past ↦ absurd (true≢false (sym held ∙ ap is_some (get_or_past (rows_in width places) slot None (omega (arith, past, length-rows_of width 256 places)))))
+        | inr past ↦ absurd (true≢false (sym held ∙ ap is_some (get_or_past (rows_in width places) slot None (omega (arith, past, most-rows_in width places)))))
       ]
 
   pub held_row : (width slot : ℕ) (places : List (Option T)) → IsSome (get_or (rows_in width places) slot None) → IsSome (row_of (window (slot * width) width places))
-  held_row width slot places held = subst IsSome (rows_of-get width 256 slot places (slot_within width slot places held)) held
+  held_row width slot places held = subst IsSome (rows_in-get width slot places (rows_in-held width slot places held) (slot_within width slot places held)) held
 
   -- the places of a slot that holds a row are a run
   pub row_places : (width slot : ℕ) (places : List (Option T)) (row : List T) → get_or (rows_in width places) slot None ≡ Some row → window (slot * width) width places ≡ map Some row
   row_places width slot places row held =
-      somes-row_of _ row (sym (rows_of-get width 256 slot places (slot_within width slot places (ap is_some held))) ∙ held)
+      somes-row_of _ row (sym (rows_in-get width slot places (rows_in-held width slot places (ap is_some held)) (slot_within width slot places (ap is_some held))) ∙ held)
 
   pub run_of_row : (width slot : ℕ) (places : List (Option T)) (row : List T) → IsLaid width places → get_or (rows_in width places) slot None ≡ Some row → IsRun places (slot * width) width
   run_of_row width slot places row laid held =
       (row_within width slot places laid (slot_within width slot places (ap is_some held)), (row, row_places width slot places row held))
 
   -- what a run shows is the slot's row
-  pub row_of_run : (width slot : ℕ) (places : List (Option T)) (row : List T) → slot < 256 → window (slot * width) width places ≡ map Some row → get_or (rows_in width places) slot None ≡ Some row
-  row_of_run width slot places row in_range shown = rows_of-get width 256 slot places in_range ∙ ap row_of shown ∙ row_of-somes row
+  pub row_of_run : (width slot : ℕ) (places : List (Option T)) (row : List T) → 0 < length places → slot < 256 → window (slot * width) width places ≡ map Some row → get_or (rows_in width places) slot None ≡ Some row
+  row_of_run width slot places row some in_range shown = rows_in-get width slot places some in_range ∙ ap row_of shown ∙ row_of-somes row
 
   -- a row has a value for each place of its slot
   pub row_wide : (width slot : ℕ) (places : List (Option T)) (row : List T) → IsLaid width places → get_or (rows_in width places) slot None ≡ Some row → length row ≡ width

@@ -1,19 +1,45 @@
 -- The tuples of a shelf, as its places and its counts change.
-use Rattle.std.proofs.Common.{◌≡◌, ℕ, ◌+◌, ◌*◌, ◌<◌, List, length, get_or, set, Option, Some, None, is_some, IsSome, sym, ap, ◌∙◌}
+use Rattle.std.proofs.Common.{◌≡◌, ℕ, ◌+◌, ◌*◌, ◌<◌, ◌≤◌, List, [], ◌∷◌, length, get_or, set, Option, Some, None, is_some, IsSome, refl, sym, ap, ◌∙◌, inl, inr, arith}
+use Rattle.std.proofs.lemmas.Bool.{cases_eq}
 use Rattle.std.proofs.Math.ListN.{replicate}
 use Rattle.part_raw.specs.Store.{Tuple, tuple}
 use Rattle.part_raw.specs.Rows.{rows_in, put_run, clear_run, IsLaid}
 use Rattle.part_raw.specs.Counted.{with_count, counted}
-use Rattle.part_raw.specs.Layout.{IsPartition, IsVacant, vacancies}
-use Rattle.part_raw.proofs.Rows.{put-changes, clear-changes, exchange-changes, rows-changed, laid-changed, length-rows_of, slot_within, laid-empty, empty-laid}
+use Rattle.part_raw.specs.Layout.{IsPartition, IsPlace, IsVacant, vacancies}
+use Rattle.part_raw.proofs.Rows.{put-changes, clear-changes, exchange-changes, rows-changed, laid-changed, length-rows_in, most-rows_in, rows_in-some, slot_within, laid-empty, empty-laid}
 use Rattle.part_raw.proofs.WithCounts.{length-counted, counted-get, counted-set_row, counted-set_count, counted-put, vacancies-counted, with_count-is, row_held, row_free}
 
 module _ {T : Type 0} (width : ℕ) (places : List (Option T)) (counts : List ℕ) where
   abbrev pub shown : List (Option (Tuple T))
   shown = counted (rows_in width places) counts
 
-  pub length-shown : length shown ≡ 256
-  length-shown = length-counted (rows_in width places) counts ∙ length-rows_of width 256 places
+  pub as_long : length shown ≡ length (rows_in width places)
+  as_long = length-counted (rows_in width places) counts
+
+  pub length-shown : 0 < length places → length shown ≡ 256
+  length-shown some = as_long ∙ length-rows_in width places some
+
+  pub most-shown : length shown ≤ 256
+  most-shown = omega (arith, as_long, most-rows_in width places)
+
+  -- what has a slot has places, and what has places has all slots
+  pub shown-some : 0 < length shown → 0 < length places
+  shown-some some = rows_in-some width places (omega (arith, as_long, some))
+
+  -- what has no slots has no places
+  pub no_places : length shown ≡ 0 → places ≡ []
+  no_places none = nothing_there places (λ some. absurd (omega (arith, length-shown some, none)))
+    where
+      nothing_there : (l : List (Option T)) → (0 < length l → ⊥) → l ≡ []
+      nothing_there [] without = refl
+      nothing_there (x ∷ l) without = absurd (without (omega arith))
+
+  -- a partition with no places has no slots
+  pub shown-none : length places ≡ 0 → length shown ≡ 0
+  shown-none none = elim (cases_eq (length shown) 0) [
+    | inl e ↦ e
+    | inr differs ↦ absurd (let some = shown-some (omega (arith, differs)) in omega (arith, some, none))
+  ]
 
   -- a slot holds a tuple where it holds a row
   pub held_cells : (slot : ℕ) → IsSome (get_or shown slot None) → IsSome (get_or (rows_in width places) slot None)
@@ -31,13 +57,19 @@ module _ {T : Type 0} (width : ℕ) (places : List (Option T)) (counts : List �
   -- a slot is free where it holds no row
   pub bits-shown : (words : List ℕ) → IsPartition words (rows_in width places) → IsPartition words shown
   bits-shown words is = record {
-    count = length-shown;
+    count = as_long ∙ is.count;
     bits = λ slot within. is.bits slot within ∙ sym (ap is_some (counted-get (rows_in width places) counts slot) ∙ row_held _ (get_or counts slot 0));
   }
 
   pub bits-rows : (words : List ℕ) → IsPartition words shown → IsPartition words (rows_in width places)
   bits-rows words is = record {
-    count = length-rows_of width 256 places;
+    count = sym as_long ∙ is.count;
+    bits = λ slot within. is.bits slot within ∙ ap is_some (counted-get (rows_in width places) counts slot) ∙ row_held _ (get_or counts slot 0);
+  }
+
+  pub place-rows : (words : List ℕ) → IsPlace words shown → IsPlace words (rows_in width places)
+  place-rows words is = record {
+    count = λ some. sym as_long ∙ is.count (omega (arith, as_long, some));
     bits = λ slot within. is.bits slot within ∙ ap is_some (counted-get (rows_in width places) counts slot) ∙ row_held _ (get_or counts slot 0);
   }
 
@@ -64,10 +96,10 @@ module _ {T : Type 0} (width : ℕ) (places : List (Option T)) (counts : List �
   pub shown-empty : 0 < width → places ≡ replicate (256 * width) None → IsLaid width places × IsVacant shown
   shown-empty wide is =
       let both = laid-empty width places wide is in
-      (both.0, record { count = length-shown; empty = λ slot. counted-get (rows_in width places) counts slot ∙ ap (λ row. with_count row (get_or counts slot 0)) (both.1.empty slot) })
+      (both.0, record { count = length-shown both.0.some; empty = λ slot. counted-get (rows_in width places) counts slot ∙ ap (λ row. with_count row (get_or counts slot 0)) (both.1.empty slot) })
 
   pub empty-shown : 0 < width → IsLaid width places → IsVacant shown → places ≡ replicate (256 * width) None
-  empty-shown wide laid vacant = empty-laid width places wide laid (record { count = length-rows_of width 256 places; empty = λ slot. free_cells slot (vacant.empty slot) })
+  empty-shown wide laid vacant = empty-laid width places wide laid (record { count = length-rows_in width places laid.some; empty = λ slot. free_cells slot (vacant.empty slot) })
 
 -- the rows of the places, as those of one slot change
 pub rows-cleared : {T : Type 0} (width : ℕ) (places : List (Option T)) (slot : ℕ) → 0 < width → slot < 256 → IsLaid width places

@@ -4,8 +4,8 @@ use Rattle.std.proofs.lemmas.Bool.{cases_eq, cases_lt, true≢false}
 use Rattle.std.proofs.lemmas.List.{get_or-set_same, get_or-set_other, get_or_past, length-set}
 use Rattle.std.proofs.lemmas.List.Sums.{sum_by-cons, sum_by-set}
 use Rattle.std.specs.Option.{is_none}
-use Rattle.common_lemmas.proofs.Options.{none_from_is_some}
-use Rattle.part_raw.specs.Layout.{is_set, ChangesBit, IsPartition, IsVacant, vacancies}
+use Rattle.common_lemmas.proofs.Options.{none_from_is_some, is_some-Some}
+use Rattle.part_raw.specs.Layout.{is_set, ChangesBit, IsPartition, IsPlace, IsVacant, vacancies}
 
 module _ {T : Type 0} where
   abbrev one_if_free : Option T → ℕ
@@ -39,6 +39,12 @@ module _ {T : Type 0} where
       some_is_not_none : (tuple : T) → Some tuple ≡ None → ⊥
       some_is_not_none tuple e = cc
 
+  -- no more are free than there are
+  pub vacancies_most : (slots : List (Option T)) → vacancies slots ≤ length slots
+  vacancies_most [] = omega arith
+  vacancies_most (None ∷ rest) = omega (arith, sum_by-cons one_if_free None rest, vacancies_most rest)
+  vacancies_most (Some tuple ∷ rest) = omega (arith, sum_by-cons one_if_free (Some tuple) rest, vacancies_most rest)
+
   -- a slot that was free is filled
   pub vacancies-fill : (slots : List (Option T)) (slot : ℕ) (tuple : T) → slot < length slots → get_or slots slot None ≡ None → vacancies (set slots slot (Some tuple)) + 1 ≡ vacancies slots
   vacancies-fill slots slot tuple within free =
@@ -52,6 +58,12 @@ module _ {T : Type 0} where
       let counted = sum_by-set one_if_free slots slot None None within in
       let none : one_if_free (get_or slots slot None) ≡ 0 = ap one_if_free held in
       omega (arith, counted, none)
+
+  -- fewer are free where one holds a tuple
+  pub vacancies_fewer : (slots : List (Option T)) (slot : ℕ) → IsSome (get_or slots slot None) → vacancies slots < length slots
+  vacancies_fewer slots slot held =
+      let t = is_some-Some (get_or slots slot None) held in
+      omega (arith, vacancies-free slots slot t.0 (held_within slots slot held) t.1, vacancies_most (set slots slot None), length-set slots slot None)
 
   -- a slot that held a tuple holds another
   pub vacancies-rewrite : (slots : List (Option T)) (slot : ℕ) (old tuple : T) → slot < length slots → get_or slots slot None ≡ Some old → vacancies (set slots slot (Some tuple)) ≡ vacancies slots
@@ -77,13 +89,20 @@ module _ {T : Type 0} where
             ];
       }
 
+  -- no more slots than a partition has
+  pub place_small : (words : List ℕ) (slots : List (Option T)) → IsPlace words slots → length slots ≤ 256
+  place_small words slots is = elim (cases_eq (length slots) 0) [
+    | inl none ↦ omega (arith, none)
+    | inr some ↦ omega (arith, is.count (omega (arith, some)))
+  ]
+
   -- whether a slot holds a tuple is told by its bit; past the slots none does
-  pub held_by_bit : (words : List ℕ) (slots : List (Option T)) (slot : ℕ) (bit : Bool) → IsPartition words slots
+  pub held_by_bit : (words : List ℕ) (slots : List (Option T)) (slot : ℕ) (bit : Bool) → IsPlace words slots
       → (slot < 256 → bit ≡ is_set words slot) → (256 ≤ slot → bit ≡ false) → bit ≡ is_some (get_or slots slot None)
   held_by_bit words slots slot bit is within past =
       elim (cases_lt slot 256) [
         | inl in_range ↦ within in_range ∙ is.bits slot in_range
-        | inr beyond ↦ past beyond ∙ sym (ap is_some (get_or_past slots slot None (omega (arith, beyond, is.count))))
+        | inr beyond ↦ past beyond ∙ sym (ap is_some (get_or_past slots slot None (omega (arith, beyond, place_small words slots is))))
       ]
 
   -- a tuple that is written over leaves each bit right
@@ -119,3 +138,21 @@ module _ {T : Type 0} where
   pub IsPartition-vacant : (words : List ℕ) (slots : List (Option T)) → ((slot : ℕ) → slot < 256 → is_set words slot ≡ false) → IsVacant slots → IsPartition words slots
   IsPartition-vacant words slots clear is =
       record { count = is.count; bits = λ slot in_range. clear slot in_range ∙ sym (ap is_some (is.empty slot)) }
+
+  -- ---- a partition that may have no slot
+
+  pub place_of : (words : List ℕ) (slots : List (Option T)) → IsPartition words slots → IsPlace words slots
+  place_of words slots is = record { count = λ some. is.count; bits = is.bits }
+
+  pub partition_of : (words : List ℕ) (slots : List (Option T)) → IsPlace words slots → 0 < length slots → IsPartition words slots
+  partition_of words slots is some = record { count = is.count some; bits = is.bits }
+
+  -- where there is no slot none is free
+  pub no_vacancy_of_none : (slots : List (Option T)) → length slots ≡ 0 → vacancies slots ≡ 0
+  no_vacancy_of_none [] none = refl
+  no_vacancy_of_none (o ∷ rest) none = absurd (omega (arith, none))
+
+  -- what has a free slot has slots
+  pub some_of_vacancy : (slots : List (Option T)) → 0 < vacancies slots → 0 < length slots
+  some_of_vacancy [] some = absurd (omega (arith, some))
+  some_of_vacancy (o ∷ rest) some = omega arith

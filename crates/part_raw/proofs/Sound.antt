@@ -1,19 +1,20 @@
 -- A store stays a store: after a put, a take, a write and a new partition.
-use Rattle.std.proofs.Common.{◌≡◌, ◌≢◌, ℕ, zero, suc, ◌+◌, ◌-◌, ◌^◌, ◌<◌, ◌≤◌, Bool, true, false, cond, List, [], ◌∷◌, ◌++◌, length, get_or, set, Option, Some, None, is_some, refl, sym, ap, ◌∙◌, inl, inr, arith, subst, count_by, sum_by, nat_lt}
+use Rattle.std.proofs.Common.{◌≡◌, ◌≢◌, ℕ, zero, suc, ◌+◌, ◌-◌, ◌*◌, ◌^◌, ◌<◌, ◌≤◌, Bool, true, false, cond, List, [], ◌∷◌, ◌++◌, length, get_or, set, Option, Some, None, is_some, refl, sym, ap, ◌∙◌, inl, inr, arith, subst, count_by, sum_by, nat_lt}
 use Rattle.std.proofs.lemmas.Bool.{cases_eq, true≢false, ltb-true, lt-ltb, le-ltb}
-use Rattle.std.proofs.lemmas.List.{length-set, length_push, get_or-set_same, get_or-set_other, get_or_push}
+use Rattle.std.proofs.lemmas.List.{length-set, length_push, get_or-set_same, get_or-set_other, get_or_push, get_or_past, get_or_default}
 use Rattle.std.proofs.lemmas.List.Sums.{sum_by-cons, sum_by-append, sum_by-set}
 use Rattle.std.specs.FinMap.{len, len-empty}
 use Rattle.part_raw.specs.declared.store.Occupancy.{Occupancy}
 use Rattle.part_raw.specs.TupleRefs.{ref_cmp, ref_to}
 use Rattle.part_raw.specs.Store.{free_reserved}
-use Rattle.part_raw.specs.Layout.{vacancies, tuples_of, tuples_from, IsPartition, IsVacant}
-use Rattle.part_raw.specs.Open.{words_at, next_at, has_vacancy, open_at, IsOpenList, HaveBitmaps, IsStore}
+use Rattle.part_raw.specs.Layout.{is_set, vacancies, tuples_of, tuples_from, IsPartition, IsVacant}
+use Rattle.part_raw.specs.Open.{words_at, slots_at, next_at, has_vacancy, open_at, IsOpenList, HaveBitmaps, IsStore}
 use Rattle.part_raw.proofs.Tuples.{len-insert_fresh, len-insert_held, len-remove_held}
-use Rattle.part_raw.proofs.Slots.{vacancies-fill, vacancies-free, vacancies-rewrite, all_vacant}
+use Rattle.part_raw.proofs.Slots.{vacancies-fill, vacancies-free, vacancies-rewrite, all_vacant, place_of, no_vacancy_of_none, IsPartition-vacant}
+use Rattle.part_raw.proofs.Lookup.{AreSmall}
 use Rattle.part_raw.proofs.Chain.{none_first, first_of, SameBeside, keep_rest, keep_all, put_first}
-use Rattle.part_raw.proofs.Bitmaps.{mapped-read, mapped-set_same, mapped-set_other, mapped-push_same, mapped-push_other, get_or-push_other, HaveBitmaps-set, HaveBitmaps-write, HaveBitmaps-push}
-use Rattle.part_raw.proofs.Parts.{Blocks, Writes, read_block, small_blocks, found_before, tuples-written, tuples-freed, tuples-push}
+use Rattle.part_raw.proofs.Bitmaps.{mapped-read, mapped-set_same, mapped-set_other, mapped-push_same, mapped-push_other, get_or-push_other, bits_of, told_at, HaveBitmaps-set, HaveBitmaps-write, HaveBitmaps-push}
+use Rattle.part_raw.proofs.Parts.{Blocks, Writes, read_block, small_blocks, found_before, tuples-written, tuples-freed, tuples-push, tuples-vacant}
 
 -- where none is free a partition is made
 pub free_reserved_none : (free : ℕ) → free ≤ 0 → 256 ≡ free_reserved free
@@ -78,24 +79,35 @@ module _ {T : Type 0} where
     pub writes : Writes blocks slots new part slot tuple
     pub read : o ≡ get_or occupancies part o
     pub bits : IsPartition o'.held.words new
+    pub same_block : o'.has_block ≡ o.has_block
+
+  -- no partition has more than these
+  pub most_lengths : (blocks : Blocks T) → AreSmall blocks → sum_by length blocks ≤ 256 * length blocks
+  most_lengths [] small = omega arith
+  most_lengths (slots ∷ rest) small = omega (arith, sum_by-cons length slots rest, small 0 (omega arith), most_lengths rest (λ part within. small (suc part) (omega (arith, within))))
+
+  -- as many slots are there where a partition keeps its own
+  pub same_lengths : (blocks : Blocks T) (part : ℕ) (slots new : List (Option T)) → part < length blocks → slots ≡ get_or blocks part slots → length new ≡ length slots → sum_by length (set blocks part new) ≡ sum_by length blocks
+  same_lengths blocks part slots new within read long = let was : length (get_or blocks part slots) ≡ length slots = ap length (sym read) in omega (arith, sum_by-set length blocks part new slots within, was, long)
 
   IsStore-set : (blocks : Blocks T) (occupancies occupancies' : List Occupancy) (slots new : List (Option T)) (free free' part : ℕ) (first first' : Option ℕ) (count : ℕ)
       → (is : IsStore blocks occupancies free first) → part < length blocks → slots ≡ get_or blocks part slots
-      → HaveBitmaps (set blocks part new) occupancies'
+      → HaveBitmaps (set blocks part new) occupancies' → length new ≡ length slots
       → free' + vacancies slots ≡ free + vacancies new
       → len (tuples_of (set blocks part new)) + free' ≡ len (tuples_of blocks) + free
       → count + one_if_open slots ≡ is.open_count + one_if_open new
       → IsOpenList (open_at (set blocks part new)) (next_at occupancies') count first'
       → IsStore (set blocks part new) occupancies' free' first'
-  IsStore-set blocks occupancies occupancies' slots new free free' part first first' count is within read mapped freed total counted linked =
+  IsStore-set blocks occupancies occupancies' slots new free free' part first first' count is within read mapped long freed total counted linked =
       let sums = sum_by-set vacancies blocks part new slots within in
       let opens = sum_by-set one_if_open blocks part new slots within in
+      let lengths = same_lengths blocks part slots new within read long in
       let was : vacancies (get_or blocks part slots) ≡ vacancies slots = ap vacancies (sym read) in
       let was_open : one_if_open (get_or blocks part slots) ≡ one_if_open slots = ap one_if_open (sym read) in
       record {
         mapped = mapped;
         counted = omega (arith, sums, was, freed, is.counted);
-        total = omega (arith, total, is.total, length-set blocks part new);
+        total = omega (arith, total, is.total, lengths);
         open_count = count;
         all_open = omega (arith, opens, was_open, counted, is.all_open);
         linked = linked;
@@ -104,6 +116,14 @@ module _ {T : Type 0} where
 
   module _ (blocks : Blocks T) (occupancies : List Occupancy) (slots new : List (Option T)) (o o' : Occupancy) (free part slot : ℕ) (tuple : Option T)
       (as_many : length occupancies ≡ length blocks) (s : Step blocks occupancies slots new o o' part slot tuple) where
+    same_long : length new ≡ length slots
+    same_long = ap length s.writes.is ∙ length-set slots slot tuple
+
+    kept_bitmaps : (mapped : HaveBitmaps blocks occupancies) → HaveBitmaps (set blocks part new) (set occupancies part o')
+    kept_bitmaps mapped =
+        HaveBitmaps-set blocks occupancies new o' part mapped s.writes.within (place_of o'.held.words new s.bits)
+        (s.same_block ∙ told_at blocks occupancies slots o part mapped s.writes.within s.writes.read s.read ∙ ap (nat_lt 0) (sym same_long))
+
     has_map : part < length occupancies
     has_map = omega (arith, s.writes.within, as_many)
 
@@ -153,14 +173,14 @@ module _ {T : Type 0} where
         let opened : one_if_open slots ≡ 1 = ap (λ (b : Bool). cond b 1 0) (has_vacancy_yes slots (omega (arith, put_fills))) in
         let closed : one_if_open new ≡ 0 = ap (λ (b : Bool). cond b 1 0) (has_vacancy_no new full) in
         IsStore-set blocks occupancies (set occupancies part o') slots new free (free - 1) part (Some part) o.next_open first.0 is s.writes.within s.writes.read
-        (HaveBitmaps-set blocks occupancies new o' part is.mapped s.writes.within s.bits)
+        (kept_bitmaps blocks occupancies slots new o o' free part slot (Some tuple) is.mapped.as_many s is.mapped) (same_long blocks occupancies slots new o o' free part slot (Some tuple) is.mapped.as_many s)
         (omega (arith, put_fills, some)) (omega (arith, put_adds, some)) (omega (arith, first.1, opened, closed)) kept
 
     pub IsStore-put_open : vacancies new ≢ 0 → o'.next_open ≡ o.next_open → IsStore (set blocks part new) (set occupancies part o') (free - 1) (Some part)
     IsStore-put_open still next =
         let same : has_vacancy new ≡ has_vacancy slots = has_vacancy_yes new (omega arith) ∙ sym (has_vacancy_yes slots (omega (arith, put_fills))) in
         IsStore-set blocks occupancies (set occupancies part o') slots new free (free - 1) part (Some part) (Some part) is.open_count is s.writes.within s.writes.read
-        (HaveBitmaps-set blocks occupancies new o' part is.mapped s.writes.within s.bits)
+        (kept_bitmaps blocks occupancies slots new o o' free part slot (Some tuple) is.mapped.as_many s is.mapped) (same_long blocks occupancies slots new o o' free part slot (Some tuple) is.mapped.as_many s)
         (omega (arith, put_fills, some)) (omega (arith, put_adds, some)) (ap (λ (b : Bool). is.open_count + cond b 1 0) (sym same))
         (same_list blocks occupancies slots new o o' free part slot (Some tuple) is.mapped.as_many s is.open_count (Some part) same next is.linked)
 
@@ -188,14 +208,14 @@ module _ {T : Type 0} where
         (is_open blocks occupancies slots new o o' free part slot None is.mapped.as_many s ∙ opened)
         (is_next blocks occupancies slots new o o' free part slot None is.mapped.as_many s ∙ next) is.linked in
         IsStore-set blocks occupancies (set occupancies part o') slots new free (free + 1) part first (Some part) (suc is.open_count) is s.writes.within s.writes.read
-        (HaveBitmaps-set blocks occupancies new o' part is.mapped s.writes.within s.bits)
+        (kept_bitmaps blocks occupancies slots new o o' free part slot None is.mapped.as_many s is.mapped) (same_long blocks occupancies slots new o o' free part slot None is.mapped.as_many s)
         (omega (arith, take_frees)) (omega (arith, take_takes)) (omega (arith, was_closed, is_opened)) front
 
     pub IsStore-take_open : vacancies slots ≢ 0 → o'.next_open ≡ o.next_open → IsStore (set blocks part new) (set occupancies part o') (free + 1) first
     IsStore-take_open was next =
         let same : has_vacancy new ≡ has_vacancy slots = has_vacancy_yes new (omega (arith, take_frees)) ∙ sym (has_vacancy_yes slots (omega arith)) in
         IsStore-set blocks occupancies (set occupancies part o') slots new free (free + 1) part first first is.open_count is s.writes.within s.writes.read
-        (HaveBitmaps-set blocks occupancies new o' part is.mapped s.writes.within s.bits)
+        (kept_bitmaps blocks occupancies slots new o o' free part slot None is.mapped.as_many s is.mapped) (same_long blocks occupancies slots new o o' free part slot None is.mapped.as_many s)
         (omega (arith, take_frees)) (omega (arith, take_takes)) (ap (λ (b : Bool). is.open_count + cond b 1 0) (sym same))
         (same_list blocks occupancies slots new o o' free part slot None is.mapped.as_many s is.open_count first same next is.linked)
 
@@ -205,6 +225,7 @@ module _ {T : Type 0} where
       → IsStore blocks occupancies free first → Writes blocks slots new part slot (Some tuple) → get_or slots slot None ≡ Some old
       → IsPartition (words_at occupancies part) new → IsStore (set blocks part new) occupancies free first
   IsStore-write blocks occupancies slots new free part slot first old tuple is w held bits =
+      let long : length new ≡ length slots = ap length w.is ∙ length-set slots slot (Some tuple) in
       let kept : vacancies new ≡ vacancies slots = ap vacancies w.is ∙ vacancies-rewrite slots slot old tuple w.in_slots held in
       let found = found_before blocks slots new part slot (Some tuple) w ∙ held in
       let as_many = ap len (tuples-written blocks slots new part slot tuple w) ∙ len-insert_held (tuples_of blocks) (ref_to part slot) tuple (ap is_some found) in
@@ -214,7 +235,7 @@ module _ {T : Type 0} where
         nexts = λ other differs. refl;
       } in
       IsStore-set blocks occupancies occupancies slots new free free part first first is.open_count is w.within w.read
-      (HaveBitmaps-write blocks occupancies new part is.mapped w.within bits)
+      (HaveBitmaps-write blocks occupancies new part is.mapped w.within (place_of _ new bits) (long ∙ ap length (sym (read_block blocks slots part w.within w.read)))) long
       (omega (arith, kept)) (omega (arith, as_many)) (ap (λ (b : Bool). is.open_count + cond b 1 0) (sym same))
       (keep_all (open_at blocks) (open_at (set blocks part new)) (next_at occupancies) (next_at occupancies) part beside is.open_count first
       (ap has_vacancy (get_or-set_same blocks part new [] w.within) ∙ same ∙ sym (ap has_vacancy (read_block blocks slots part w.within w.read))) refl is.linked)
@@ -228,35 +249,83 @@ module _ {T : Type 0} where
   closed_past (slots ∷ rest) (suc part) e = closed_past rest part (omega (arith, e))
 
   pub IsStore-push : (blocks : Blocks T) (occupancies : List Occupancy) (new : List (Option T)) (o : Occupancy) (first : Option ℕ) (part : ℕ)
-      → IsStore blocks occupancies 0 first → IsVacant new → IsPartition o.held.words new → o.next_open ≡ first → part ≡ length blocks
-      → len (tuples_of blocks) < 2 ^ 32 → IsStore (blocks ++ new ∷ []) (occupancies ++ o ∷ []) 256 (Some part)
-  IsStore-push blocks occupancies new o first part is vacant bits next e room =
+      → IsStore blocks occupancies 0 first → IsVacant new → IsPartition o.held.words new → o.has_block ≡ true → o.next_open ≡ first → part ≡ length blocks
+      → length blocks < 2 ^ 24 → IsStore (blocks ++ new ∷ []) (occupancies ++ o ∷ []) 256 (Some part)
+  IsStore-push blocks occupancies new o first part is vacant bits block next e room =
       let blocks' = blocks ++ new ∷ [] in let occupancies' = occupancies ++ o ∷ [] in
       let e' : part ≡ length occupancies = omega (arith, e, is.mapped.as_many) in
       let free : vacancies new ≡ 256 = all_vacant new vacant.empty ∙ vacant.count in
       let opened = has_vacancy_yes new (omega (arith, free)) in
       let is_opened : one_if_open new ≡ 1 = ap (λ (b : Bool). cond b 1 0) opened in
-      let same = ap len (tuples-push blocks new (small_blocks blocks occupancies is.mapped) vacant) in
+      let same = ap len (tuples-push blocks new (small_blocks blocks occupancies is.mapped) (omega (arith, vacant.count)) vacant.empty) in
       let here : get_or blocks' part [] ≡ new = get_or_push blocks new [] part (sym e) in
       let beside : SameBeside (open_at blocks) (open_at blocks') (next_at occupancies) (next_at occupancies') part = record {
         opens = λ other differs. ap has_vacancy (get_or-push_other blocks other new [] (λ at. differs (omega (arith, at, e))));
         nexts = λ other differs. mapped-push_other next_of occupancies other o None (λ at. differs (omega (arith, at, e')));
       } in
       record {
-        mapped = HaveBitmaps-push blocks occupancies new o is.mapped bits;
+        mapped = HaveBitmaps-push blocks occupancies new o is.mapped (place_of o.held.words new bits) (block ∙ sym (lt-ltb 0 (length new) (omega (arith, vacant.count))));
         counted = omega (arith, is.counted, sum_by-append vacancies blocks (new ∷ []), sum_by-cons vacancies new [], free);
-        total = omega (arith, is.total, same, length_push blocks new);
+        total = omega (arith, is.total, same, sum_by-append length blocks (new ∷ []), sum_by-cons length new [], vacant.count);
         open_count = suc is.open_count;
         all_open = omega (arith, is.all_open, sum_by-append one_if_open blocks (new ∷ []), sum_by-cons one_if_open new [], is_opened);
         linked = put_first (open_at blocks) (open_at blocks') (next_at occupancies) (next_at occupancies') part beside is.open_count first
             (closed_past blocks part e) (ap has_vacancy here ∙ opened) (mapped-push_same next_of occupancies part o None e' ∙ next) is.linked;
-        numbered = omega (arith, is.total, length_push blocks new, room);
+        numbered = omega (arith, length_push blocks new, room);
       }
+
+  -- a partition with no block gets one
+  module _ (blocks : Blocks T) (occupancies : List Occupancy) (new : List (Option T)) (o o' : Occupancy) (first : Option ℕ) (part : ℕ) (is : IsStore blocks occupancies 0 first) (within : part < length blocks)
+      (read : o ≡ get_or occupancies part o) (bare : o.has_block ≡ false) (vacant : IsVacant new) where
+    pub no_slots : length (slots_at blocks part) ≡ 0
+    no_slots = elim (cases_eq (length (slots_at blocks part)) 0) [
+      | inl none ↦ none
+      | inr some ↦
+          let told = told_at blocks occupancies (slots_at blocks part) o part is.mapped within (sym (get_or_default blocks part (slots_at blocks part) [] within)) read in
+          absurd (true≢false (sym (lt-ltb 0 (length (slots_at blocks part)) (omega (arith, some))) ∙ sym told ∙ bare))
+    ]
+
+    was_vacant : (slot : ℕ) → get_or (slots_at blocks part) slot None ≡ None
+    was_vacant slot = get_or_past (slots_at blocks part) slot None (omega (arith, no_slots))
+
+    pub refilled_tuples : tuples_of (set blocks part new) ≡ tuples_of blocks
+    refilled_tuples = tuples-vacant blocks part new within (small_blocks blocks occupancies is.mapped) (omega (arith, vacant.count)) vacant.empty was_vacant
+
+    pub refilled_lengths : sum_by length (set blocks part new) ≡ sum_by length blocks + 256
+    refilled_lengths = omega (arith, sum_by-set length blocks part new [] within, no_slots, vacant.count)
+
+    clear : (slot : ℕ) → slot < 256 → is_set o.held.words slot ≡ false
+    clear slot in_range = (bits_of blocks occupancies o part is.mapped within read).bits slot in_range ∙ ap is_some (was_vacant slot)
+
+    pub IsStore-refill : o'.held.words ≡ o.held.words → o'.has_block ≡ true → o'.next_open ≡ first → IsStore (set blocks part new) (set occupancies part o') 256 (Some part)
+    IsStore-refill words block next =
+        let free : vacancies new ≡ 256 = all_vacant new vacant.empty ∙ vacant.count in
+        let was_free : vacancies (slots_at blocks part) ≡ 0 = no_vacancy_of_none (slots_at blocks part) no_slots in
+        let opened = has_vacancy_yes new (omega (arith, free)) in
+        let shut = has_vacancy_no (slots_at blocks part) was_free in
+        let is_opened : one_if_open new ≡ 1 = ap (λ (b : Bool). cond b 1 0) opened in
+        let was_shut : one_if_open (slots_at blocks part) ≡ 0 = ap (λ (b : Bool). cond b 1 0) shut in
+        let has_map : part < length occupancies = omega (arith, within, is.mapped.as_many) in
+        let beside : SameBeside (open_at blocks) (open_at (set blocks part new)) (next_at occupancies) (next_at (set occupancies part o')) part = record {
+          opens = λ other differs. ap has_vacancy (get_or-set_other blocks part other new [] differs);
+          nexts = λ other differs. mapped-set_other next_of occupancies part other o' None differs;
+        } in
+        record {
+          mapped = HaveBitmaps-set blocks occupancies new o' part is.mapped within
+              (place_of o'.held.words new (IsPartition-vacant o'.held.words new (λ slot in_range. ap (λ w. is_set w slot) words ∙ clear slot in_range) vacant)) (block ∙ sym (lt-ltb 0 (length new) (omega (arith, vacant.count))));
+          counted = omega (arith, is.counted, sum_by-set vacancies blocks part new [] within, was_free, free);
+          total = omega (arith, is.total, ap len refilled_tuples, refilled_lengths);
+          open_count = suc is.open_count;
+          all_open = omega (arith, is.all_open, sum_by-set one_if_open blocks part new [] within, was_shut, is_opened);
+          linked = put_first (open_at blocks) (open_at (set blocks part new)) (next_at occupancies) (next_at (set occupancies part o')) part beside is.open_count first
+              shut (ap has_vacancy (get_or-set_same blocks part new [] within) ∙ opened) (mapped-set_same next_of occupancies part o' None has_map ∙ next) is.linked;
+          numbered = omega (arith, is.numbered, length-set blocks part new);
+        }
 
   pub IsStore-empty : IsStore {T = T} [] [] 0 None
   unfolding tuples_from
   IsStore-empty = record {
-    mapped = record { as_many = refl; bits = λ part within. absurd (omega (arith, within)) };
+    mapped = record { as_many = refl; bits = λ part within. absurd (omega (arith, within)); told = λ part within. absurd (omega (arith, within)) };
     counted = refl;
     total = omega (arith, len-empty ref_cmp T);
     open_count = 0;

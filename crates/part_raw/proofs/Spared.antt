@@ -1,71 +1,165 @@
--- The partitions at the end that hold no tuple are given back.
-use Rattle.std.proofs.Common.{◌≡◌, ℕ, ◌+◌, ◌-◌, ◌*◌, ◌<◌, ◌≤◌, true, false, List, [], ◌∷◌, ◌++◌, map, length, get_or, Option, None, is_some, IsSome, refl, sym, ap, ◌∙◌, arith, subst, sum_by}
-use Rattle.std.proofs.lemmas.List.{length_push, map-append}
-use Rattle.std.proofs.lemmas.List.Sums.{sum_by-cons, sum_by-append}
+-- The memory of the partitions that hold no tuple is given back.
+use Rattle.std.proofs.Common.{◌≡◌, ◌≢◌, ℕ, suc, ◌+◌, ◌-◌, ◌*◌, ◌<◌, ◌≤◌, Bool, true, false, List, [], ◌∷◌, ◌++◌, map, length, get_or, set, Option, None, is_some, IsSome, refl, sym, ap, ◌∙◌, inl, inr, arith, subst, sum_by}
+use Rattle.std.proofs.lemmas.Bool.{cases_eq, true≢false, lt-ltb, ltb-true}
+use Rattle.std.proofs.lemmas.List.{length_push, map-append, map-set, get_or_past}
+use Rattle.std.proofs.lemmas.List.Sums.{sum_by-cons, sum_by-append, sum_by-set}
 use Rattle.std.proofs.Math.ListN.{replicate}
 use Rattle.std.specs.FinMap.{get, len}
 use Rattle.part_raw.specs.declared.store.Occupancy.{Occupancy}
-use Rattle.part_raw.specs.Counted.{Shelf, tuples_in}
+use Rattle.part_raw.specs.Rows.{rows_of}
+use Rattle.part_raw.specs.Counted.{Shelf, shelf, counted, tuples_in}
 use Rattle.part_raw.specs.TupleRefs.{ref_to, slot_of}
-use Rattle.part_raw.specs.Layout.{is_set, tuples_of, vacancies, IsVacant, IsPartition}
-use Rattle.part_raw.specs.Open.{words_at, slots_at, next_at, open_at, tables, below, IsOpenList, HaveBitmaps, AreKept, IsTable}
-use Rattle.part_raw.proofs.Bitmaps.{mapped-push_same}
+use Rattle.part_raw.specs.Layout.{is_set, tuples_of, vacancies, IsVacant, IsPlace}
+use Rattle.part_raw.specs.Open.{words_at, has_block_at, slots_at, next_at, open_at, tables, below, IsOpenList, HaveBitmaps, AreKept, IsTable, HoldsWhereBlock}
+use Rattle.part_raw.proofs.Bitmaps.{mapped-read, mapped-push_same, mapped-push_other, mapped-set_same, mapped-set_other, bits_at, told_at, HaveBitmaps-set}
 use Rattle.part_raw.proofs.Lookup.{held_in, get-tuples_of}
-use Rattle.part_raw.proofs.Parts.{tuples-push}
+use Rattle.part_raw.proofs.Parts.{Blocks, tuples-push, tuples-vacant}
 use Rattle.part_raw.proofs.Refs.{part_of-to, slot_of-to}
 use Rattle.part_raw.proofs.Relinked.{below-all}
-use Rattle.part_raw.proofs.Shelves.{empty-shown}
-use Rattle.part_raw.proofs.Slots.{all_vacant, vacant_of_bits}
-use Rattle.part_raw.proofs.Tables.{small_tables, length-tables, last_laid, last_bits, front_laid, front_mapped}
+use Rattle.part_raw.proofs.Shelves.{shown-some, empty-shown, no_places}
+use Rattle.part_raw.proofs.Slots.{all_vacant, vacant_of_bits, partition_of, no_vacancy_of_none, vacancies_fewer}
+use Rattle.part_raw.proofs.Tables.{small_tables, length-tables, rows_read, laid-set, last_told, front_laid, front_mapped}
 
--- the last partition holds no tuple
-module _ {T : Type 0} (width : ℕ) (wide : 0 < width) (blocks : List (Shelf T)) (block : Shelf T) (occupancies : List Occupancy) (o : Occupancy)
-    (kept : AreKept width (blocks ++ block ∷ []) (occupancies ++ o ∷ []))
-    (clear : (slot : ℕ) → slot < 256 → is_set (words_at (occupancies ++ o ∷ []) (length (occupancies ++ o ∷ []) - 1)) slot ≡ false) where
-  its_bits : (slot : ℕ) → slot < 256 → is_set o.held.words slot ≡ false
-  its_bits slot within =
-      let at : length (occupancies ++ o ∷ []) - 1 ≡ length occupancies = omega (arith, length_push occupancies o) in
-      ap (λ (words : List ℕ). is_set words slot) (sym (ap (words_at (occupancies ++ o ∷ [])) at ∙ mapped-push_same (λ (x : Occupancy). x.held.words) occupancies (length occupancies) o [] refl)) ∙ clear slot within
+-- ---- a partition with no places
 
-  pub spare-vacant : IsVacant (tuples_in width block)
-  spare-vacant = vacant_of_bits _ _ (last_bits width blocks block occupancies o kept.laid kept.mapped) its_bits
+-- it has no slots
+no_slots_of : {T : Type 0} (width : ℕ) (its : List ℕ) → tuples_in {T = T} width (shelf [] its) ≡ []
+unfolding rows_of counted
+no_slots_of width its = refl
 
-  pub spare-empty : block.block ≡ replicate (256 * width) None
-  spare-empty = empty-shown width block.block block.counts wide (last_laid width blocks block occupancies o kept.laid kept.mapped) spare-vacant
+-- a partition that holds no tuple gives its block back
+module _ {T : Type 0} (width : ℕ) (wide : 0 < width) (shelves : List (Shelf T)) (occupancies : List Occupancy) (kept : AreKept width shelves occupancies) (part : ℕ) (within : part < length shelves) (o o' : Occupancy)
+    (read : o ≡ get_or occupancies part o) (there : o.has_block ≡ true) (clear : (slot : ℕ) → slot < 256 → is_set o.held.words slot ≡ false) (its : Shelf T) (its_read : its ≡ get_or shelves part its) where
+  abbrev bare : Shelf T
+  bare = shelf [] its.counts
 
-  pub front_kept : AreKept width blocks occupancies
-  front_kept = record {
-    laid = front_laid width blocks block occupancies o kept.laid kept.mapped;
-    mapped = front_mapped width blocks block occupancies o kept.laid kept.mapped;
+  among : part < length (tables width shelves)
+  among = omega (arith, within, length-tables width shelves)
+
+  shown_read : tuples_in width its ≡ get_or (tables width shelves) part (tuples_in width its)
+  shown_read = rows_read width shelves part its within its_read
+
+  some_slots : 0 < length (tuples_in width its)
+  some_slots = ltb-true 0 (length (tuples_in width its)) (sym (told_at (tables width shelves) occupancies (tuples_in width its) o part kept.mapped among shown_read read) ∙ there)
+
+  spare-vacant : IsVacant (tuples_in width its)
+  spare-vacant = vacant_of_bits _ _ (partition_of _ _ (bits_at (tables width shelves) occupancies (tuples_in width its) o part kept.mapped among shown_read read) some_slots) clear
+
+  pub spare-empty : its.block ≡ replicate (256 * width) None
+  spare-empty = empty-shown width its.block its.counts wide (kept.laid part its within its_read (shown-some width its.block its.counts some_slots)) spare-vacant
+
+  as_set : tables width (set shelves part bare) ≡ set (tables width shelves) part []
+  as_set = map-set (tuples_in width) shelves part bare ∙ ap (set (tables width shelves) part) (no_slots_of width its.counts)
+
+  was_here : get_or (tables width shelves) part [] ≡ tuples_in width its
+  was_here = mapped-read (tuples_in width) shelves part its [] within its_read
+
+  pub released_kept : o'.held.words ≡ o.held.words → o'.has_block ≡ false → AreKept width (set shelves part bare) (set occupancies part o')
+  released_kept words gone = record {
+    laid = laid-set width shelves bare part within (λ some. absurd (omega (arith, some))) kept.laid;
+    mapped = subst (λ (t : Blocks _). HaveBitmaps t (set occupancies part o')) (sym as_set)
+        (HaveBitmaps-set (tables width shelves) occupancies [] o' part kept.mapped among
+        (record { count = λ some. absurd (omega (arith, some)); bits = λ slot in_range. ap (λ w. is_set w slot) words ∙ clear slot in_range }) gone);
   }
 
-  as_tables : tables width (blocks ++ block ∷ []) ≡ tables width blocks ++ tuples_in width block ∷ []
-  as_tables = map-append (tuples_in width) blocks (block ∷ [])
+  pub released_tuples : tuples_of (tables width (set shelves part bare)) ≡ tuples_of (tables width shelves)
+  released_tuples =
+      ap tuples_of as_set ∙ tuples-vacant (tables width shelves) part [] among (small_tables width shelves) (omega arith) (λ slot. refl)
+      (λ slot. ap (λ l. get_or l slot None) was_here ∙ spare-vacant.empty slot)
 
-  pub front_tuples : tuples_of (tables width blocks) ≡ tuples_of (tables width (blocks ++ block ∷ []))
-  front_tuples = sym (ap tuples_of as_tables ∙ tuples-push (tables width blocks) (tuples_in width block) (small_tables width blocks) spare-vacant)
+  pub released_free : sum_by vacancies (tables width (set shelves part bare)) + 256 ≡ sum_by vacancies (tables width shelves)
+  released_free =
+      let free : vacancies (tuples_in width its) ≡ 256 = all_vacant (tuples_in width its) spare-vacant.empty ∙ spare-vacant.count in
+      omega (arith, ap (sum_by vacancies) as_set, sum_by-set vacancies (tables width shelves) part [] [] among, ap vacancies was_here, free)
 
-  pub front_free : sum_by vacancies (tables width blocks) + 256 ≡ sum_by vacancies (tables width (blocks ++ block ∷ []))
+  pub released_slots : sum_by length (tables width (set shelves part bare)) + 256 ≡ sum_by length (tables width shelves)
+  released_slots = omega (arith, ap (sum_by length) as_set, sum_by-set length (tables width shelves) part [] [] among, ap length was_here, spare-vacant.count)
+
+-- ---- which partitions hold a tuple
+
+module _ (occupancies : List Occupancy) (part : ℕ) (o : Occupancy) (within : part < length occupancies) where
+  -- of one that was read
+  pub holds_read : o ≡ get_or occupancies part o → (o.has_block ≡ true → (slot : ℕ) × (slot < 256) × (is_set o.held.words slot ≡ true)) → HoldsWhereBlock occupancies part
+  holds_read read held there =
+      let its = held (sym (mapped-read (λ (x : Occupancy). x.has_block) occupancies part o false within read) ∙ there) in
+      (its.0, its.1, ap (λ w. is_set w its.0) (mapped-read (λ (x : Occupancy). x.held.words) occupancies part o [] within read) ∙ its.2)
+
+  -- of one that has no block from now on
+  pub holds_bare : o.has_block ≡ false → HoldsWhereBlock (set occupancies part o) part
+  holds_bare gone there = absurd (true≢false (sym there ∙ mapped-set_same (λ (x : Occupancy). x.has_block) occupancies part o false within ∙ gone))
+
+  -- of another
+  pub holds_other : (other : ℕ) → other ≢ part → HoldsWhereBlock occupancies other → HoldsWhereBlock (set occupancies part o) other
+  holds_other other differs held there =
+      let its = held (sym (mapped-set_other (λ (x : Occupancy). x.has_block) occupancies part other o false differs) ∙ there) in
+      (its.0, its.1, ap (λ w. is_set w its.0) (mapped-set_other (λ (x : Occupancy). x.held.words) occupancies part other o [] differs) ∙ its.2)
+
+-- of those before the last
+pub holds_front : (occupancies : List Occupancy) (o : Occupancy) (part : ℕ) → part < length occupancies → HoldsWhereBlock (occupancies ++ o ∷ []) part → HoldsWhereBlock occupancies part
+holds_front occupancies o part within held there =
+    let differs : part ≢ length occupancies = λ e. omega (arith, e, within) in
+    let its = held (mapped-push_other (λ (x : Occupancy). x.has_block) occupancies part o false differs ∙ there) in
+    (its.0, its.1, ap (λ w. is_set w its.0) (sym (mapped-push_other (λ (x : Occupancy). x.held.words) occupancies part o [] differs)) ∙ its.2)
+
+-- ---- the last partition has no block
+
+module _ {T : Type 0} (width : ℕ) (shelves : List (Shelf T)) (its : Shelf T) (occupancies : List Occupancy) (o : Occupancy)
+    (kept : AreKept width (shelves ++ its ∷ []) (occupancies ++ o ∷ []))
+    (bare : has_block_at (occupancies ++ o ∷ []) (length (occupancies ++ o ∷ []) - 1) ≡ false) where
+  no_block : o.has_block ≡ false
+  no_block =
+      let at : length (occupancies ++ o ∷ []) - 1 ≡ length occupancies = omega (arith, length_push occupancies o) in
+      sym (ap (has_block_at (occupancies ++ o ∷ [])) at ∙ mapped-push_same (λ (x : Occupancy). x.has_block) occupancies (length occupancies) o false refl) ∙ bare
+
+  none_there : length (tuples_in width its) ≡ 0
+  none_there = elim (cases_eq (length (tuples_in width its)) 0) [
+    | inl none ↦ none
+    | inr some ↦
+        absurd (true≢false (sym (lt-ltb 0 (length (tuples_in width its)) (omega (arith, some))) ∙ sym (last_told width shelves its occupancies o kept.laid kept.mapped) ∙ no_block))
+  ]
+
+  pub last-bare : its.block ≡ []
+  last-bare = no_places width its.block its.counts none_there
+
+  pub front_kept : AreKept width shelves occupancies
+  front_kept = record {
+    laid = front_laid width shelves its occupancies o kept.laid kept.mapped;
+    mapped = front_mapped width shelves its occupancies o kept.laid kept.mapped;
+  }
+
+  as_tables : tables width (shelves ++ its ∷ []) ≡ tables width shelves ++ tuples_in width its ∷ []
+  as_tables = map-append (tuples_in width) shelves (its ∷ [])
+
+  pub front_tuples : tuples_of (tables width shelves) ≡ tuples_of (tables width (shelves ++ its ∷ []))
+  front_tuples =
+      sym (ap tuples_of as_tables ∙ tuples-push (tables width shelves) (tuples_in width its) (small_tables width shelves) (omega (arith, none_there)) (λ slot. get_or_past (tuples_in width its) slot None (omega (arith, none_there))))
+
+  pub front_free : sum_by vacancies (tables width shelves) ≡ sum_by vacancies (tables width (shelves ++ its ∷ []))
   front_free =
-      let free : vacancies (tuples_in width block) ≡ 256 = all_vacant (tuples_in width block) spare-vacant.empty ∙ spare-vacant.count in
-      omega (arith, free, ap (sum_by vacancies) as_tables, sum_by-append vacancies (tables width blocks) (tuples_in width block ∷ []), sum_by-cons vacancies (tuples_in width block) [])
+      omega (arith, no_vacancy_of_none (tuples_in width its) none_there, ap (sum_by vacancies) as_tables, sum_by-append vacancies (tables width shelves) (tuples_in width its ∷ []), sum_by-cons vacancies (tuples_in width its) [])
 
--- a store whose partitions at the end were given back, and whose list was made anew
+  pub front_slots : sum_by length (tables width shelves) ≡ sum_by length (tables width (shelves ++ its ∷ []))
+  front_slots = omega (arith, none_there, ap (sum_by length) as_tables, sum_by-append length (tables width shelves) (tuples_in width its ∷ []), sum_by-cons length (tuples_in width its) [])
+
+-- ---- a store that gave back what is spare, and whose list was made anew
+
 module _ {T : Type 0} (width : ℕ) (blocks blocks' : List (Shelf T)) (occupancies occupancies' popped : List Occupancy) (free : ℕ) (first : Option ℕ)
     (is : IsTable width blocks occupancies free first) (kept : AreKept width blocks' popped)
-    (tuples : tuples_of (tables width blocks') ≡ tuples_of (tables width blocks)) (fewer : length blocks' ≤ length blocks)
-    (freed : sum_by vacancies (tables width blocks') + 256 * length blocks ≡ sum_by vacancies (tables width blocks) + 256 * length blocks')
-    (words : map (λ (o : Occupancy). o.held.words) occupancies' ≡ map (λ (o : Occupancy). o.held.words) popped) (as_many : length occupancies' ≡ length popped) where
-  pub bitmaps_kept : HaveBitmaps (tables width blocks') occupancies'
+    (tuples : tuples_of (tables width blocks') ≡ tuples_of (tables width blocks)) (fewer : length blocks' ≤ length blocks) (given : ℕ)
+    (freed : sum_by vacancies (tables width blocks') + given ≡ sum_by vacancies (tables width blocks)) (slots : sum_by length (tables width blocks') + given ≡ sum_by length (tables width blocks))
+    (words : map (λ (o : Occupancy). o.held.words) occupancies' ≡ map (λ (o : Occupancy). o.held.words) popped) (flags : map (λ (o : Occupancy). o.has_block) occupancies' ≡ map (λ (o : Occupancy). o.has_block) popped)
+    (as_many : length occupancies' ≡ length popped) where
+  bitmaps_kept : HaveBitmaps (tables width blocks') occupancies'
   bitmaps_kept = record {
     as_many = as_many ∙ kept.mapped.as_many;
-    bits = λ part within. subst (λ (w : List ℕ). IsPartition w (slots_at (tables width blocks') part)) (sym (ap (λ (l : List (List ℕ)). get_or l part []) words)) (kept.mapped.bits part within);
+    bits = λ part within. subst (λ (w : List ℕ). IsPlace w (slots_at (tables width blocks') part)) (sym (ap (λ (l : List (List ℕ)). get_or l part []) words)) (kept.mapped.bits part within);
+    told = λ part within. ap (λ (l : List Bool). get_or l part false) flags ∙ kept.mapped.told part within;
   }
 
-  pub slots_left : sum_by vacancies (tables width blocks') + len (tuples_of (tables width blocks)) ≡ 256 * length blocks'
-  slots_left = omega (arith, freed, is.store.total, is.store.counted, length-tables width blocks)
+  pub slots_left : sum_by vacancies (tables width blocks') + len (tuples_of (tables width blocks)) ≡ sum_by length (tables width blocks')
+  slots_left = omega (arith, freed, slots, is.store.total, is.store.counted)
 
-  pub IsTable-relinked : (free' : ℕ) (first' : Option ℕ) → free' ≡ 256 * length blocks' - len (tuples_of (tables width blocks))
+  pub IsTable-relinked : (free' : ℕ) (first' : Option ℕ) → free' ≡ sum_by length (tables width blocks') - len (tuples_of (tables width blocks))
       → IsOpenList (open_at (tables width blocks')) (next_at occupancies') (below (open_at (tables width blocks')) (length popped)) first' → IsTable width blocks' occupancies' free' first'
   IsTable-relinked free' first' e linked = record {
     wide = is.wide;
@@ -74,7 +168,7 @@ module _ {T : Type 0} (width : ℕ) (blocks blocks' : List (Shelf T)) (occupanci
     store = record {
       mapped = bitmaps_kept;
       counted = omega (arith, e, slots_left);
-      total = omega (arith, e, slots_left, ap len tuples, length-tables width blocks');
+      total = omega (arith, e, slots_left, ap len tuples);
       open_count = below (open_at (tables width blocks')) (length popped);
       all_open = ap (below (open_at (tables width blocks'))) kept.mapped.as_many ∙ below-all (tables width blocks');
       linked = linked;
@@ -85,7 +179,26 @@ module _ {T : Type 0} (width : ℕ) (blocks blocks' : List (Shelf T)) (occupanci
   -- a slot whose bit is set holds a tuple
   pub held_of_bit : (part slot : ℕ) → part < length blocks' → slot < 256 → is_set (words_at popped part) slot ≡ true → IsSome (get (tuples_of (tables width blocks')) (ref_to part slot))
   held_of_bit part slot within in_range bit =
-      let among : part < length (tables width blocks') = omega (arith, within, length-tables width blocks') in
+      let among' : part < length (tables width blocks') = omega (arith, within, length-tables width blocks') in
       ap is_some (get-tuples_of (tables width blocks') (ref_to part slot) (small_tables width blocks')
       ∙ ap (λ k. held_in (tables width blocks') k (slot_of (ref_to part slot))) (part_of-to part slot in_range) ∙ ap (held_in (tables width blocks') part) (slot_of-to part slot in_range))
-      ∙ sym ((kept.mapped.bits part among).bits slot in_range) ∙ bit
+      ∙ sym ((kept.mapped.bits part among').bits slot in_range) ∙ bit
+
+  -- where each partition with a block holds a tuple, there are so many free slots for each at most
+  module _ (held : (part : ℕ) → part < length popped → HoldsWhereBlock popped part) where
+    few_here : (part : ℕ) → part < length (tables width blocks') → 256 * vacancies (get_or (tables width blocks') part []) ≤ 255 * length (get_or (tables width blocks') part [])
+    few_here part within = elim (cases_eq (length (get_or (tables width blocks') part [])) 0) [
+      | inl none ↦ omega (arith, no_vacancy_of_none (get_or (tables width blocks') part []) none)
+      | inr differs ↦
+          let some : 0 < length (get_or (tables width blocks') part []) = omega (arith, differs) in
+          let its = kept.mapped.bits part within in
+          let slot = held part (omega (arith, within, kept.mapped.as_many)) (kept.mapped.told part within ∙ lt-ltb 0 (length (get_or (tables width blocks') part [])) some) in
+          omega (arith, its.count some, vacancies_fewer (get_or (tables width blocks') part []) slot.0 (sym (its.bits slot.0 slot.1) ∙ slot.2))
+    ]
+
+    few_all : {A : Type 0} (l : Blocks A) → ((part : ℕ) → part < length l → 256 * vacancies (get_or l part []) ≤ 255 * length (get_or l part [])) → 256 * sum_by vacancies l ≤ 255 * sum_by length l
+    few_all [] few = omega arith
+    few_all (x ∷ l) few = omega (arith, sum_by-cons vacancies x l, sum_by-cons length x l, few 0 (omega arith), few_all l (λ part within. few (suc part) (omega (arith, within))))
+
+    pub few_left : (free' : ℕ) → free' ≡ sum_by length (tables width blocks') - len (tuples_of (tables width blocks)) → free' ≤ 255 * len (tuples_of (tables width blocks'))
+    few_left free' e = omega (arith, e, slots_left, few_all (tables width blocks') few_here, ap len tuples)

@@ -1,5 +1,5 @@
 -- A store with its counts beside it: what is read of a slot, and a store that stays one where a slot, its count or a partition changes.
-use Rattle.std.proofs.Common.{◌≡◌, ℕ, ◌+◌, ◌*◌, ◌^◌, ◌<◌, ◌≤◌, zero, suc, Bool, true, if◌then◌else◌, List, [], ◌∷◌, map, length, get_or, set, Option, Some, None, is_some, IsSome, refl, sym, ap, ◌∙◌, arith, subst}
+use Rattle.std.proofs.Common.{◌≡◌, ℕ, ◌+◌, ◌*◌, ◌^◌, ◌<◌, ◌≤◌, zero, suc, sum_by, nat_lt, Bool, true, if◌then◌else◌, List, [], ◌∷◌, map, length, get_or, set, Option, Some, None, is_some, IsSome, refl, sym, ap, ◌∙◌, arith, subst}
 use Rattle.std.proofs.lemmas.List.{length-set}
 use Rattle.std.specs.FinMap.{get, insert, remove, len}
 use Rattle.common_lemmas.proofs.Options.{is_some-Some}
@@ -9,14 +9,16 @@ use Rattle.part_raw.specs.Store.{Tuple, tuple}
 use Rattle.part_raw.specs.Rows.{IsLaid, rows_in}
 use Rattle.part_raw.specs.Counted.{Shelf, shelf, shelves_of, tuples_in, with_count}
 use Rattle.part_raw.specs.TupleRefs.{part_of, slot_of}
-use Rattle.part_raw.specs.Layout.{is_set, tuples_of, IsPartition}
-use Rattle.part_raw.specs.Open.{words_at, slots_at, tables, IsTable, IsStocked}
+use Rattle.part_raw.specs.Layout.{is_set, tuples_of, IsPartition, IsPlace}
+use Rattle.part_raw.specs.Open.{words_at, has_block_at, slots_at, tables, IsTable, IsStocked}
 use Rattle.part_raw.proofs.Bitmaps.{mapped-read, bits_in}
 use Rattle.part_raw.proofs.Refs.{slot_of-within}
+use Rattle.part_raw.proofs.Rows.{rows_in-held}
+use Rattle.part_raw.proofs.Sound.{most_lengths}
 use Rattle.part_raw.proofs.WithCounts.{counted-get, with_count-is, row_held}
-use Rattle.part_raw.proofs.Shelves.{bits-shown, bits-rows, shown-freed, shown-exchanged, shown-counted}
+use Rattle.part_raw.proofs.Shelves.{as_long, place-rows, bits-shown, bits-rows, shown-freed, shown-exchanged, shown-counted}
 use Rattle.part_raw.proofs.Beside.{length-shelves_of, shelves_of-get, shelves_of-set, shelves_of-set_counts}
-use Rattle.part_raw.proofs.Tables.{rows_read, Changes, length-tables, table_within, found_row, laid_at, bits_of_table, take_full, take_open, rows-taken, table-exchanged, rows-exchanged}
+use Rattle.part_raw.proofs.Tables.{rows_read, Changes, length-tables, table_within, found_row, small_tables, small_tables, slots-changed, laid_at, bits_of_table, take_full, take_open, rows-taken, table-exchanged, rows-exchanged}
 
 -- what is read with any default
 pub default_read : {A : Type 0} (l : List (List A)) (k : ℕ) → k < length l → get_or l k [] ≡ get_or l k (get_or l k [])
@@ -39,31 +41,46 @@ module _ {T : Type 0} (counted : Bool) (width : ℕ) (blocks : List (List (Optio
   pub read_here : (part : ℕ) (block : List (Option T)) → part < length blocks → block ≡ get_or blocks part block → here part block ≡ get_or shelves part (here part block)
   read_here part block within read = shelves_of-get blocks counts part block (here part block) within read
 
-  pub laid_here : (part : ℕ) (block : List (Option T)) → part < length blocks → block ≡ get_or blocks part block → IsLaid width block
-  laid_here part block within read = laid_at width shelves occupancies free first is.table part (here part block) (among part within) (read_here part block within read)
+  pub laid_here : (part : ℕ) (block : List (Option T)) → part < length blocks → block ≡ get_or blocks part block → 0 < length block → IsLaid width block
+  laid_here part block within read some = laid_at width shelves occupancies free first is.table part (here part block) (among part within) (read_here part block within read) some
 
-  pub bits_here : (part : ℕ) (block : List (Option T)) (o : Occupancy) → part < length blocks → block ≡ get_or blocks part block → o ≡ get_or occupancies part o → IsPartition o.held.words (rows_in width block)
-  bits_here part block o within read read_bits =
+  pub bits_here : (part : ℕ) (block : List (Option T)) (o : Occupancy) → part < length blocks → block ≡ get_or blocks part block → o ≡ get_or occupancies part o → 0 < length block → IsPartition o.held.words (rows_in width block)
+  bits_here part block o within read read_bits some =
       bits-rows width block (get_or counts part []) o.held.words
-      (bits_of_table width shelves occupancies free first is.table part (here part block) o (among part within) (read_here part block within read) read_bits)
+      (bits_of_table width shelves occupancies free first is.table part (here part block) o (among part within) (read_here part block within read) read_bits some)
 
   -- the same of the bitmap and the rows of a number
-  pub bits_here_at : (part : ℕ) → part < length blocks → IsPartition (words_at occupancies part) (slots_at (map (rows_in width) blocks) part)
+  pub bits_here_at : (part : ℕ) → part < length blocks → IsPlace (words_at occupancies part) (slots_at (map (rows_in width) blocks) part)
   bits_here_at part within =
       let block = get_or blocks part [] in
       let read = default_read blocks part within in
       let among : part < length (tables width shelves) = omega (arith, within, length-tables width shelves, length-shelves_of blocks counts) in
       let rows : slots_at (map (rows_in width) blocks) part ≡ rows_in width block = mapped-read (rows_in width) blocks part block [] within read in
-      subst (λ (r : List (Option (List T))). IsPartition (words_at occupancies part) r) (sym rows)
-      (bits-rows width block (get_or counts part []) (words_at occupancies part)
+      subst (λ (r : List (Option (List T))). IsPlace (words_at occupancies part) r) (sym rows)
+      (place-rows width block (get_or counts part []) (words_at occupancies part)
       (bits_in (tables width shelves) occupancies (tuples_in width (here part block)) part is.table.store.mapped among (rows_read width shelves part (here part block) (omega (arith, within, length-shelves_of blocks counts)) (shelves_of-get blocks counts part block (here part block) within read))))
+
+  -- whether its block is there is told
+  pub told_here_at : (part : ℕ) → part < length blocks → has_block_at occupancies part ≡ nat_lt 0 (length (slots_at (map (rows_in width) blocks) part))
+  told_here_at part within =
+      let block = get_or blocks part [] in
+      let read = default_read blocks part within in
+      let its = here part block in
+      let among : part < length (tables width shelves) = omega (arith, within, length-tables width shelves, length-shelves_of blocks counts) in
+      let rows : slots_at (map (rows_in width) blocks) part ≡ rows_in width block = mapped-read (rows_in width) blocks part block [] within read in
+      let shown : slots_at (tables width shelves) part ≡ tuples_in width its =
+      mapped-read (tuples_in width) shelves part its [] (omega (arith, within, length-shelves_of blocks counts)) (shelves_of-get blocks counts part block its within read) in
+      is.table.store.mapped.told part among ∙ ap (nat_lt 0) (ap length shown ∙ as_long width block (get_or counts part []) ∙ ap length (sym rows))
 
   pub as_many : length occupancies ≡ length blocks
   as_many = is.table.store.mapped.as_many ∙ length-tables width shelves ∙ length-shelves_of blocks counts
 
   -- how many slots there are
-  pub slots_here : len (tuples_of (tables width shelves)) + free ≡ 256 * length blocks
-  slots_here = omega (arith, is.table.store.total, length-tables width shelves, length-shelves_of blocks counts)
+  pub slots_here : len (tuples_of (tables width shelves)) + free ≡ sum_by length (tables width shelves)
+  slots_here = is.table.store.total
+
+  pub most_slots : len (tuples_of (tables width shelves)) + free ≤ 256 * length blocks
+  most_slots = omega (arith, slots_here, most_lengths (tables width shelves) (small_tables width shelves), length-tables width shelves, length-shelves_of blocks counts)
 
   pub few_here : length blocks ≤ 2 ^ 24
   few_here = omega (arith, is.table.store.numbered, length-tables width shelves, length-shelves_of blocks counts)
@@ -85,6 +102,16 @@ module _ {T : Type 0} (counted : Bool) (width : ℕ) (blocks : List (List (Optio
         → (get_or (rows_in width block) slot None ≡ Some t.cells) × (get_or (get_or counts part []) slot 0 ≡ t.count)
     row_here block t read is_t = with_count-is _ _ t (sym (found_here block read) ∙ is_t)
 
+    -- the partition has its block
+    pub there_here : (block : List (Option T)) → block ≡ get_or blocks part block → 0 < length block
+    there_here block read = rows_in-held width slot block (sym (row_held _ (get_or (get_or counts part []) slot 0)) ∙ sym (ap is_some (found_here block read)) ∙ held)
+
+    pub laid_held : (block : List (Option T)) → block ≡ get_or blocks part block → IsLaid width block
+    laid_held block read = laid_here part block part_within read (there_here block read)
+
+    pub bits_held : (block : List (Option T)) (o : Occupancy) → block ≡ get_or blocks part block → o ≡ get_or occupancies part o → IsPartition o.held.words (rows_in width block)
+    bits_held block o read read_bits = bits_here part block o part_within read read_bits (there_here block read)
+
     pub held_here : (block : List (Option T)) → block ≡ get_or blocks part block → IsSome (get_or (rows_in width block) slot None)
     held_here block read = sym (row_held _ (get_or (get_or counts part []) slot 0)) ∙ sym (ap is_some (found_here block read)) ∙ held
 
@@ -94,7 +121,7 @@ module _ {T : Type 0} (counted : Bool) (width : ℕ) (blocks : List (List (Optio
 
     -- ---- a slot is freed
 
-    module _ (block new : List (Option T)) (o o' : Occupancy) (read : block ≡ get_or blocks part block) (read_bits : o ≡ get_or occupancies part o) (laid : IsLaid width new)
+    module _ (block new : List (Option T)) (o o' : Occupancy) (read : block ≡ get_or blocks part block) (read_bits : o ≡ get_or occupancies part o) (same_block : o'.has_block ≡ o.has_block) (laid : IsLaid width new)
         (bits : IsPartition o'.held.words (rows_in width new)) (slots : rows_in width new ≡ set (rows_in width block) slot None) where
       freeing : Changes width shelves occupancies (here part block) (here part new) o o' part slot None
       freeing = record {
@@ -105,6 +132,8 @@ module _ {T : Type 0} (counted : Bool) (width : ℕ) (blocks : List (List (Optio
         bits = bits-shown width new (get_or counts part []) o'.held.words bits;
         in_range = slot_in_range;
         slots = shown-freed width block (get_or counts part []) new slot slots;
+        some = there_here block read;
+        same_block = same_block;
       }
 
       stock : (occupancies' : List Occupancy) (free' : ℕ) (first' : Option ℕ) → IsTable width (set shelves part (here part new)) occupancies' free' first' → IsStocked counted width (set blocks part new) counts occupancies' free' first'
@@ -118,7 +147,7 @@ module _ {T : Type 0} (counted : Bool) (width : ℕ) (blocks : List (List (Optio
           let t = is_some-Some _ held in
           stock (set occupancies part o') (free + 1) (Some part)
           (take_full width shelves occupancies (here part block) (here part new) o o' part slot free first t.0 is.table freeing
-          (bits-shown width block (get_or counts part []) o.held.words (bits_here part block o part_within read read_bits))
+          (bits-shown width block (get_or counts part []) o.held.words (bits_held block o read read_bits))
           (counted-get (rows_in width block) (get_or counts part []) slot ∙ sym (found_here block read) ∙ t.1) full next)
 
       pub stocked_open : (((slot : ℕ) → slot < 256 → is_set o.held.words slot ≡ true) → ⊥) → o'.next_open ≡ o.next_open → IsStocked counted width (set blocks part new) counts (set occupancies part o') (free + 1) first
@@ -126,8 +155,13 @@ module _ {T : Type 0} (counted : Bool) (width : ℕ) (blocks : List (List (Optio
           let t = is_some-Some _ held in
           stock (set occupancies part o') (free + 1) first
           (take_open width shelves occupancies (here part block) (here part new) o o' part slot free first t.0 is.table freeing
-          (bits-shown width block (get_or counts part []) o.held.words (bits_here part block o part_within read read_bits))
+          (bits-shown width block (get_or counts part []) o.held.words (bits_held block o read read_bits))
           (counted-get (rows_in width block) (get_or counts part []) slot ∙ sym (found_here block read) ∙ t.1) still next)
+
+      pub freed_slots : sum_by length (tables width (shelves_of (set blocks part new) counts)) ≡ sum_by length (tables width shelves)
+      freed_slots =
+          ap (λ (s : List (Shelf T)). sum_by length (tables width s)) (shelves_of-set blocks counts part new)
+          ∙ slots-changed width shelves (here part block) (here part new) part slot None (among part part_within) (read_here part block part_within read) (shown-freed width block (get_or counts part []) new slot slots)
 
       pub freed_tuples : tuples_of (tables width (shelves_of (set blocks part new) counts)) ≡ remove (tuples_of (tables width shelves)) r
       freed_tuples =
@@ -148,6 +182,12 @@ module _ {T : Type 0} (counted : Bool) (width : ℕ) (blocks : List (List (Optio
             (table-exchanged width shelves occupancies free first is.table (here part block) (here part new) part slot t (tuple cells t.count) (among part part_within) (read_here part block part_within read) laid shown_was
             (shown-exchanged width block (get_or counts part []) new slot t cells shown_was slots));
       }
+
+      pub exchanged_slots : sum_by length (tables width (shelves_of (set blocks part new) counts)) ≡ sum_by length (tables width shelves)
+      exchanged_slots =
+          ap (λ (s : List (Shelf T)). sum_by length (tables width s)) (shelves_of-set blocks counts part new)
+          ∙ slots-changed width shelves (here part block) (here part new) part slot (Some (tuple cells t.count)) (among part part_within) (read_here part block part_within read)
+          (shown-exchanged width block (get_or counts part []) new slot t cells shown_was slots)
 
       pub exchanged_tuples : tuples_of (tables width (shelves_of (set blocks part new) counts)) ≡ insert (tuples_of (tables width shelves)) r (tuple cells t.count)
       exchanged_tuples =
@@ -183,8 +223,13 @@ module _ {T : Type 0} (counted : Bool) (width : ℕ) (blocks : List (List (Optio
         beside = length-set counts part its ∙ is.beside;
         table = subst (λ (s : List (Shelf T)). IsTable width s occupancies free first) (sym same_counted)
             (table-exchanged width shelves occupancies free first is.table (here part block) (shelf block its) part slot t (tuple t.cells n) (among part part_within) (read_here part block part_within block_read)
-            (laid_here part block part_within block_read) row_was row_is);
+            (laid_held block block_read) row_was row_is);
       }
+
+      pub recounted_slots : sum_by length (tables width (shelves_of blocks (set counts part its))) ≡ sum_by length (tables width shelves)
+      recounted_slots =
+          ap (λ (s : List (Shelf T)). sum_by length (tables width s)) same_counted
+          ∙ slots-changed width shelves (here part block) (shelf block its) part slot (Some (tuple t.cells n)) (among part part_within) (read_here part block part_within block_read) row_is
 
       pub recounted_tuples : tuples_of (tables width (shelves_of blocks (set counts part its))) ≡ insert (tuples_of (tables width shelves)) r (tuple t.cells n)
       recounted_tuples =

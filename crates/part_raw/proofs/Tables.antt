@@ -1,9 +1,9 @@
 -- The blocks of a store, and the rows that their places make: what is read of one, and a store that stays a store.
-use Rattle.std.proofs.Common.{◌≡◌, ℕ, ◌+◌, ◌-◌, ◌*◌, ◌^◌, ◌<◌, ◌≤◌, zero, suc, true, false, List, [], ◌∷◌, ◌++◌, length, get_or, set, Option, Some, None, is_some, IsSome, refl, sym, ap, ◌∙◌, inl, inr, arith, subst}
+use Rattle.std.proofs.Common.{◌≡◌, ℕ, ◌+◌, ◌-◌, ◌*◌, ◌^◌, ◌<◌, ◌≤◌, zero, suc, true, false, nat_lt, sum_by, List, [], ◌∷◌, ◌++◌, length, get_or, set, Option, Some, None, is_some, IsSome, sym, ap, ◌∙◌, inl, inr, arith, subst}
 use Rattle.std.proofs.lemmas.Bool.{cases_eq}
 use Rattle.std.proofs.lemmas.List.{length-map, length-set, length_push, get_or-set_same, get_or-set_other, get_or_push, map-set, map-append}
 use Rattle.std.proofs.Math.ListN.{replicate}
-use Rattle.std.specs.FinMap.{get, insert, remove, len}
+use Rattle.std.specs.FinMap.{get, insert, remove}
 use Rattle.part_raw.specs.declared.tuple_ref.TupleRef.{TupleRef}
 use Rattle.part_raw.specs.declared.store.Occupancy.{Occupancy}
 use Rattle.part_raw.specs.Store.{Tuple}
@@ -11,20 +11,20 @@ use Rattle.part_raw.specs.Rows.{IsLaid}
 use Rattle.part_raw.specs.Counted.{Shelf, tuples_in}
 use Rattle.part_raw.specs.TupleRefs.{ref_to, part_of, slot_of}
 use Rattle.part_raw.specs.Layout.{is_set, vacancies, tuples_of, IsPartition}
-use Rattle.part_raw.specs.Open.{words_at, tables, HaveBitmaps, IsStore, IsTable}
-use Rattle.part_raw.proofs.Bitmaps.{mapped-read, get_or-push_other, bits_at, bits_in, bits_of_last, HaveBitmaps-front}
+use Rattle.part_raw.specs.Open.{words_at, tables, AreLaid, HaveBitmaps, IsStore, IsTable}
+use Rattle.part_raw.proofs.Bitmaps.{mapped-read, get_or-push_other, bits_at, bits_in, told_of_last, HaveBitmaps-front}
 use Rattle.part_raw.proofs.Lookup.{AreSmall}
 use Rattle.part_raw.proofs.Parts.{Blocks, Writes, held_part, found_at, found_before, tuples-written, tuples-freed, tuples-push}
 use Rattle.part_raw.proofs.Refs.{ref_to-names}
-use Rattle.part_raw.proofs.Rows.{slot_within}
-use Rattle.part_raw.proofs.Shelves.{length-shown, shown-empty, held_cells}
-use Rattle.part_raw.proofs.Slots.{no_vacancy_of_bits, bits_of_no_vacancy, IsPartition-vacant, IsPartition-rewrite}
-use Rattle.part_raw.proofs.Sound.{Step, first_within, first_open, IsStore-put_full, IsStore-put_open, IsStore-take_full, IsStore-take_open, IsStore-empty, IsStore-push, IsStore-write}
+use Rattle.part_raw.proofs.Rows.{slot_within, rows_in-held}
+use Rattle.part_raw.proofs.Shelves.{most-shown, shown-some, length-shown, shown-empty, held_cells}
+use Rattle.part_raw.proofs.Slots.{no_vacancy_of_bits, bits_of_no_vacancy, IsPartition-vacant, IsPartition-rewrite, partition_of, some_of_vacancy}
+use Rattle.part_raw.proofs.Sound.{Step, same_lengths, first_within, first_open, IsStore-put_full, IsStore-put_open, IsStore-take_full, IsStore-take_open, IsStore-empty, IsStore-push, IsStore-write}
 
 -- no shelf has more slots than references tell apart
 pub small_tables : {T : Type 0} (width : ℕ) (blocks : List (Shelf T)) → AreSmall (tables width blocks)
 small_tables width [] part within = absurd (omega (arith, within))
-small_tables width (block ∷ rest) zero within = omega (arith, length-shown width block.block block.counts)
+small_tables width (block ∷ rest) zero within = most-shown width block.block block.counts
 small_tables width (block ∷ rest) (suc part) within = small_tables width rest part (omega (arith, within))
 
 module _ {T : Type 0} (width : ℕ) (blocks : List (Shelf T)) where
@@ -46,19 +46,25 @@ module _ {T : Type 0} (width : ℕ) (blocks : List (Shelf T)) where
       found_at (tables width blocks) (tuples_in width block) r (small_tables width blocks) (held_part (tables width blocks) r (small_tables width blocks) held) here
       ∙ ap (λ k. get_or (tuples_in width block) k None) (sym names_slot)
 
+-- each shelf with places is laid still where one is another
+pub laid-set : {T : Type 0} (width : ℕ) (blocks : List (Shelf T)) (new : Shelf T) (part : ℕ) → part < length blocks → (0 < length new.block → IsLaid width new.block) → AreLaid width blocks → AreLaid width (set blocks part new)
+laid-set {T} width blocks new part within laid is other shelf below read some = elim (cases_eq other part) [
+  | inl same ↦
+      let there : shelf ≡ new = read ∙ ap (λ k. get_or (set blocks part new) k shelf) same ∙ get_or-set_same blocks part new shelf within in
+      subst (λ (s : Shelf T). IsLaid width s.block) (sym there) (laid (subst (λ (s : Shelf T). 0 < length s.block) there some))
+  | inr differs ↦ is other shelf (omega (arith, below, length-set blocks part new)) (read ∙ get_or-set_other blocks part other new shelf differs) some
+]
+
 module _ {T : Type 0} (width : ℕ) (blocks : List (Shelf T)) (occupancies : List Occupancy) (free : ℕ) (first : Option ℕ) (is : IsTable width blocks occupancies free first) where
-  pub laid_at : (part : ℕ) (block : Shelf T) → part < length blocks → block ≡ get_or blocks part block → IsLaid width block.block
-  laid_at part block within read = is.laid part block within read
+  pub laid_at : (part : ℕ) (block : Shelf T) → part < length blocks → block ≡ get_or blocks part block → 0 < length block.block → IsLaid width block.block
+  laid_at part block within read some = is.laid part block within read some
 
   pub IsTable-set : (new : Shelf T) (occupancies' : List Occupancy) (free' part : ℕ) (first' : Option ℕ) → part < length blocks → IsLaid width new.block
       → IsStore (set (tables width blocks) part (tuples_in width new)) occupancies' free' first' → IsTable width (set blocks part new) occupancies' free' first'
   IsTable-set new occupancies' free' part first' within laid store = record {
     wide = is.wide;
     fits = is.fits;
-    laid = λ other shelf below read. elim (cases_eq other part) [
-      | inl same ↦ subst (λ (s : Shelf T). IsLaid width s.block) (sym (read ∙ ap (λ k. get_or (set blocks part new) k shelf) same ∙ get_or-set_same blocks part new shelf within)) laid
-      | inr differs ↦ is.laid other shelf (omega (arith, below, length-set blocks part new)) (read ∙ get_or-set_other blocks part other new shelf differs)
-    ];
+    laid = laid-set width blocks new part within (λ some. laid) is.laid;
     store = subst (λ (tables' : Blocks (Tuple T)). IsStore tables' occupancies' free' first') (sym (map-set (tuples_in width) blocks part new)) store;
   }
 
@@ -67,9 +73,9 @@ module _ {T : Type 0} (width : ℕ) (blocks : List (Shelf T)) (occupancies : Lis
   IsTable-push new occupancies' free' first' laid store = record {
     wide = is.wide;
     fits = is.fits;
-    laid = λ other shelf below read. elim (cases_eq other (length blocks)) [
+    laid = λ other shelf below read some. elim (cases_eq other (length blocks)) [
       | inl same ↦ subst (λ (s : Shelf T). IsLaid width s.block) (sym (read ∙ get_or_push blocks new shelf other (sym same))) laid
-      | inr differs ↦ is.laid other shelf (omega (arith, below, length_push blocks new, differs)) (read ∙ get_or-push_other blocks other new shelf differs)
+      | inr differs ↦ is.laid other shelf (omega (arith, below, length_push blocks new, differs)) (read ∙ get_or-push_other blocks other new shelf differs) some
     ];
     store = subst (λ (tables' : Blocks (Tuple T)). IsStore tables' occupancies' free' first') (sym (map-append (tuples_in width) blocks (new ∷ []))) store;
   }
@@ -86,21 +92,31 @@ module _ {T : Type 0} where
     pub bits : IsPartition o'.held.words (tuples_in width new)
     pub in_range : slot < 256
     pub slots : tuples_in width new ≡ set (tuples_in width block) slot row
+    pub some : 0 < length block.block
+    pub same_block : o'.has_block ≡ o.has_block
 
-  pub writes_of : (width : ℕ) (blocks : List (Shelf T)) (block new : Shelf T) (part slot : ℕ) (row : Option (Tuple T)) → part < length blocks → block ≡ get_or blocks part block → slot < 256
+  pub writes_of : (width : ℕ) (blocks : List (Shelf T)) (block new : Shelf T) (part slot : ℕ) (row : Option (Tuple T)) → part < length blocks → block ≡ get_or blocks part block → 0 < length block.block → slot < 256
       → tuples_in width new ≡ set (tuples_in width block) slot row → Writes (tables width blocks) (tuples_in width block) (tuples_in width new) part slot row
-  writes_of width blocks block new part slot row within read in_range slots = record {
+  writes_of width blocks block new part slot row within read some in_range slots = record {
     small = small_tables width blocks;
     within = omega (arith, within, length-tables width blocks);
     read = rows_read width blocks part block within read;
-    in_slots = omega (arith, in_range, length-shown width block.block block.counts);
+    in_slots = omega (arith, in_range, length-shown width block.block block.counts some);
     is = slots;
   }
+
+  -- as many slots are there as before
+  pub slots-changed : (width : ℕ) (blocks : List (Shelf T)) (block new : Shelf T) (part slot : ℕ) (row : Option (Tuple T)) → part < length blocks → block ≡ get_or blocks part block
+      → tuples_in width new ≡ set (tuples_in width block) slot row → sum_by length (tables width (set blocks part new)) ≡ sum_by length (tables width blocks)
+  slots-changed width blocks block new part slot row within read slots =
+      ap (sum_by length) (map-set (tuples_in width) blocks part new)
+      ∙ same_lengths (tables width blocks) part (tuples_in width block) (tuples_in width new) (omega (arith, within, length-tables width blocks)) (rows_read width blocks part block within read)
+      (ap length slots ∙ length-set (tuples_in width block) slot row)
 
   module _ (width : ℕ) (blocks : List (Shelf T)) (occupancies : List Occupancy) (block new : Shelf T) (o o' : Occupancy) (part slot : ℕ) where
     pub step_of : (row : Option (Tuple T)) → Changes width blocks occupancies block new o o' part slot row
         → Step (tables width blocks) occupancies (tuples_in width block) (tuples_in width new) o o' part slot row
-    step_of row c = record { writes = writes_of width blocks block new part slot row c.within c.read c.in_range c.slots; read = c.read_bits; bits = c.bits }
+    step_of row c = record { writes = writes_of width blocks block new part slot row c.within c.read c.some c.in_range c.slots; read = c.read_bits; bits = c.bits; same_block = c.same_block }
 
     -- nothing is found before where the slot is free
     pub fresh-put : (row : Tuple T) → Changes width blocks occupancies block new o o' part slot (Some row) → get_or (tuples_in width block) slot None ≡ None → get (tuples_of (tables width blocks)) (ref_to part slot) ≡ None
@@ -143,9 +159,9 @@ module _ {T : Type 0} where
 
   -- a partition's bitmap tells of its slots
   pub bits_of_table : (width : ℕ) (blocks : List (Shelf T)) (occupancies : List Occupancy) (free : ℕ) (first : Option ℕ) → IsTable width blocks occupancies free first
-      → (part : ℕ) (block : Shelf T) (o : Occupancy) → part < length blocks → block ≡ get_or blocks part block → o ≡ get_or occupancies part o → IsPartition o.held.words (tuples_in width block)
-  bits_of_table width blocks occupancies free first is part block o within read read_bits =
-      bits_at (tables width blocks) occupancies (tuples_in width block) o part is.store.mapped (omega (arith, within, length-tables width blocks)) (rows_read width blocks part block within read) read_bits
+      → (part : ℕ) (block : Shelf T) (o : Occupancy) → part < length blocks → block ≡ get_or blocks part block → o ≡ get_or occupancies part o → 0 < length block.block → IsPartition o.held.words (tuples_in width block)
+  bits_of_table width blocks occupancies free first is part block o within read read_bits some =
+      partition_of _ _ (bits_at (tables width blocks) occupancies (tuples_in width block) o part is.store.mapped (omega (arith, within, length-tables width blocks)) (rows_read width blocks part block within read) read_bits) (omega (arith, length-shown width block.block block.counts some))
 
   -- the first of the partitions with a free slot
   module _ (width : ℕ) (blocks : List (Shelf T)) (occupancies : List Occupancy) (free part : ℕ) (is : IsTable width blocks occupancies free (Some part)) where
@@ -155,23 +171,23 @@ module _ {T : Type 0} where
     pub open_has_slot : (block : Shelf T) → block ≡ get_or blocks part block → 0 < vacancies (tuples_in width block)
     open_has_slot block read = first_open (tables width blocks) occupancies free (tuples_in width block) part is.store (rows_read width blocks part block open_within read)
 
+    pub open_has_places : (block : Shelf T) → block ≡ get_or blocks part block → 0 < length block.block
+    open_has_places block read = shown-some width block.block block.counts (some_of_vacancy (tuples_in width block) (open_has_slot block read))
+
   pub IsTable-empty : (width : ℕ) → 0 < width → width ≤ 65536 → IsTable {T = T} width [] [] 0 None
-  IsTable-empty width wide fits = record { wide = wide; fits = fits; laid = λ part shelf below read. absurd (omega (arith, below)); store = IsStore-empty }
+  IsTable-empty width wide fits = record { wide = wide; fits = fits; laid = λ part shelf below read some. absurd (omega (arith, below)); store = IsStore-empty }
 
   -- the last block of those that are dropped
   module _ (width : ℕ) (blocks : List (Shelf T)) (block : Shelf T) (occupancies : List Occupancy) (o : Occupancy)
-      (laid : (part : ℕ) (shelf : Shelf T) → part < length (blocks ++ block ∷ []) → shelf ≡ get_or (blocks ++ block ∷ []) part shelf → IsLaid width shelf.block) (mapped : HaveBitmaps (tables width (blocks ++ block ∷ [])) (occupancies ++ o ∷ [])) where
+      (laid : AreLaid width (blocks ++ block ∷ [])) (mapped : HaveBitmaps (tables width (blocks ++ block ∷ [])) (occupancies ++ o ∷ [])) where
     split : HaveBitmaps (tables width blocks ++ tuples_in width block ∷ []) (occupancies ++ o ∷ [])
     split = subst (λ (rows : Blocks (Tuple T)). HaveBitmaps rows (occupancies ++ o ∷ [])) (map-append (tuples_in width) blocks (block ∷ [])) mapped
 
-    pub last_laid : IsLaid width block.block
-    last_laid = laid (length blocks) block (omega (arith, length_push blocks block)) (sym (get_or_push blocks block block (length blocks) refl))
+    pub last_told : o.has_block ≡ nat_lt 0 (length (tuples_in width block))
+    last_told = told_of_last (tables width blocks) occupancies (tuples_in width block) o split
 
-    pub last_bits : IsPartition o.held.words (tuples_in width block)
-    last_bits = bits_of_last (tables width blocks) occupancies (tuples_in width block) o split
-
-    pub front_laid : (part : ℕ) (shelf : Shelf T) → part < length blocks → shelf ≡ get_or blocks part shelf → IsLaid width shelf.block
-    front_laid part shelf below read = laid part shelf (omega (arith, below, length_push blocks block)) (read ∙ sym (get_or-push_other blocks part block shelf (λ e. omega (arith, e, below))))
+    pub front_laid : AreLaid width blocks
+    front_laid part shelf below read some = laid part shelf (omega (arith, below, length_push blocks block)) (read ∙ sym (get_or-push_other blocks part block shelf (λ e. omega (arith, e, below)))) some
 
     pub front_mapped : HaveBitmaps (tables width blocks) occupancies
     front_mapped = HaveBitmaps-front (tables width blocks) occupancies (tuples_in width block) o split
@@ -179,18 +195,18 @@ module _ {T : Type 0} where
   -- ---- a new partition
 
   pub table-pushed : (width : ℕ) (blocks : List (Shelf T)) (occupancies : List Occupancy) (new : Shelf T) (o : Occupancy) (first : Option ℕ) (part : ℕ)
-      → IsTable width blocks occupancies 0 first → new.block ≡ replicate (256 * width) None → ((slot : ℕ) → slot < 256 → is_set o.held.words slot ≡ false) → o.next_open ≡ first → part ≡ length blocks
-      → len (tuples_of (tables width blocks)) < 2 ^ 32 → IsTable width (blocks ++ new ∷ []) (occupancies ++ o ∷ []) 256 (Some part)
-  table-pushed width blocks occupancies new o first part is empty clear next at room =
+      → IsTable width blocks occupancies 0 first → new.block ≡ replicate (256 * width) None → ((slot : ℕ) → slot < 256 → is_set o.held.words slot ≡ false) → o.has_block ≡ true → o.next_open ≡ first → part ≡ length blocks
+      → length blocks < 2 ^ 24 → IsTable width (blocks ++ new ∷ []) (occupancies ++ o ∷ []) 256 (Some part)
+  table-pushed width blocks occupancies new o first part is empty clear block next at room =
       let both = shown-empty width new.block new.counts is.wide empty in
       IsTable-push width blocks occupancies 0 first is new (occupancies ++ o ∷ []) 256 (Some part) both.0
-      (IsStore-push (tables width blocks) occupancies (tuples_in width new) o first part is.store both.1 (IsPartition-vacant _ _ clear both.1) next (omega (arith, at, length-tables width blocks)) room)
+      (IsStore-push (tables width blocks) occupancies (tuples_in width new) o first part is.store both.1 (IsPartition-vacant _ _ clear both.1) block next (omega (arith, at, length-tables width blocks)) (omega (arith, room, length-tables width blocks)))
 
   pub rows-pushed : (width : ℕ) (blocks grown pushed : List (Shelf T)) (new : Shelf T) → 0 < width → grown ≡ blocks → pushed ≡ grown ++ new ∷ [] → new.block ≡ replicate (256 * width) None
       → tuples_of (tables width pushed) ≡ tuples_of (tables width blocks)
   rows-pushed width blocks grown pushed new wide same is empty =
       ap (λ (xs : List (Shelf T)). tuples_of (tables width xs)) (is ∙ ap (λ (xs : List (Shelf T)). xs ++ new ∷ []) same) ∙ ap tuples_of (map-append (tuples_in width) blocks (new ∷ []))
-      ∙ tuples-push (tables width blocks) (tuples_in width new) (small_tables width blocks) (shown-empty width new.block new.counts wide empty).1
+      ∙ (let vacant = (shown-empty width new.block new.counts wide empty).1 in tuples-push (tables width blocks) (tuples_in width new) (small_tables width blocks) (omega (arith, vacant.count)) vacant.empty)
 
   -- ---- a row is written over
 
@@ -199,8 +215,9 @@ module _ {T : Type 0} where
       → get_or (tuples_in width block) slot None ≡ Some old → tuples_in width new ≡ set (tuples_in width block) slot (Some row) → IsTable width (set blocks part new) occupancies free first
   table-exchanged width blocks occupancies free first is block new part slot old row within read laid held slots =
       let in_range = slot_within width slot block.block (held_cells width block.block block.counts slot (ap is_some held)) in
-      let writes = writes_of width blocks block new part slot (Some row) within read in_range slots in
-      let bits = bits_in (tables width blocks) occupancies (tuples_in width block) part is.store.mapped (omega (arith, within, length-tables width blocks)) (rows_read width blocks part block within read) in
+      let some = rows_in-held width slot block.block (held_cells width block.block block.counts slot (ap is_some held)) in
+      let writes = writes_of width blocks block new part slot (Some row) within read some in_range slots in
+      let bits = partition_of _ _ (bits_in (tables width blocks) occupancies (tuples_in width block) part is.store.mapped (omega (arith, within, length-tables width blocks)) (rows_read width blocks part block within read)) (omega (arith, length-shown width block.block block.counts some)) in
       IsTable-set width blocks occupancies free first is new occupancies free part first within laid
       (IsStore-write (tables width blocks) occupancies (tuples_in width block) (tuples_in width new) free part slot first old row is.store writes held
       (subst (λ (rows : List (Option (Tuple T))). IsPartition (words_at occupancies part) rows) (sym slots) (IsPartition-rewrite _ _ slot row (ap is_some held) bits)))
@@ -210,6 +227,7 @@ module _ {T : Type 0} where
       → tuples_of (tables width (set blocks part new)) ≡ insert (tuples_of (tables width blocks)) r row
   rows-exchanged width blocks block new r part slot old row names names_slot within read held slots =
       let in_range = slot_within width slot block.block (held_cells width block.block block.counts slot (ap is_some held)) in
+      let some = rows_in-held width slot block.block (held_cells width block.block block.counts slot (ap is_some held)) in
       ap tuples_of (map-set (tuples_in width) blocks part new)
-      ∙ tuples-written (tables width blocks) (tuples_in width block) (tuples_in width new) part slot row (writes_of width blocks block new part slot (Some row) within read in_range slots)
+      ∙ tuples-written (tables width blocks) (tuples_in width block) (tuples_in width new) part slot row (writes_of width blocks block new part slot (Some row) within read some in_range slots)
       ∙ ap (λ q. insert (tuples_of (tables width blocks)) q row) (ref_to-names r part slot names names_slot)

@@ -15,7 +15,7 @@ use Rattle.part_raw.proofs.Beside.{length-shelves_of, shelves_of-get, shelves_of
 use Rattle.part_raw.proofs.Bitmaps.{mapped-read}
 use Rattle.part_raw.proofs.Lookup.{held_in, get-tuples_of}
 use Rattle.part_raw.proofs.Refs.{part_of-to, slot_of-to}
-use Rattle.part_raw.proofs.Rows.{length-rows_of}
+use Rattle.part_raw.proofs.Rows.{most-rows_in}
 use Rattle.part_raw.proofs.Stocked.{default_read, laid_here, count_here}
 use Rattle.part_raw.proofs.Tables.{length-tables, small_tables}
 use Rattle.part_raw.proofs.WithCounts.{counted-none}
@@ -37,10 +37,10 @@ module _ {T : Type 0} (kept : Bool) (width : ℕ) (blocks : List (List (Option T
     table = record {
       wide = is.table.wide;
       fits = is.table.fits;
-      laid = λ part shelf' below read.
+      laid = λ part shelf' below read some.
           let within : part < length blocks = omega (arith, below, length-shelves_of blocks counts') in
           laid_here kept width blocks counts occupancies free first is part shelf'.block within
-          (sym (ap (λ (l : List (List (Option T))). get_or l part shelf'.block) (sym (shelves_of-blocks blocks counts')) ∙ mapped-read (λ (x : Shelf T). x.block) (shelves_of blocks counts') part shelf' shelf'.block below read));
+          (sym (ap (λ (l : List (List (Option T))). get_or l part shelf'.block) (sym (shelves_of-blocks blocks counts')) ∙ mapped-read (λ (x : Shelf T). x.block) (shelves_of blocks counts') part shelf' shelf'.block below read)) some;
       store = subst (λ (t : List (List (Option (Tuple T)))). IsStore t occupancies free first) (sym same) is.table.store;
     };
   }
@@ -70,7 +70,7 @@ module _ {T : Type 0} (kept : Bool) (width : ℕ) (blocks : List (List (Option T
 
     zero_at : (part : ℕ) → part < length blocks → (slot : ℕ) (t : Tuple T) → slot < length (rows_in width (get_or blocks part [])) → get_or (counted (rows_in width (get_or blocks part [])) (get_or counts part [])) slot None ≡ Some t → t.count ≡ 0
     zero_at part within slot t below held =
-        let in_range : slot < 256 = omega (arith, below, length-rows_of width 256 (get_or blocks part [])) in
+        let in_range : slot < 256 = omega (arith, below, most-rows_in width (get_or blocks part [])) in
         zeros (ref_to part slot) t
         (get-tuples_of now (ref_to part slot) (small_tables width (shelves_of blocks counts))
         ∙ ap (λ k. held_in now k (slot_of (ref_to part slot))) (part_of-to part slot in_range) ∙ ap (held_in now part) (slot_of-to part slot in_range)

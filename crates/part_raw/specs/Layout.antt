@@ -22,6 +22,11 @@ module _ {T : Type 0} where
     pub count : length slots ≡ SLOTS
     pub bits : (slot : ℕ) → slot < SLOTS → is_set words slot ≡ is_some (slice_index_or slots slot None)
 
+  -- the same of a partition that may have no slot
+  pub record IsPlace (words : List ℕ) (slots : List (Option T)) : Type 0 where
+    pub count : 0 < length slots → length slots ≡ SLOTS
+    pub bits : (slot : ℕ) → slot < SLOTS → is_set words slot ≡ is_some (slice_index_or slots slot None)
+
   -- none of the slots holds a tuple
   pub record IsVacant (slots : List (Option T)) : Type 0 where
     pub count : length slots ≡ SLOTS

@@ -1,12 +1,12 @@
 -- How a store keeps its partitions: their blocks, which slots hold a tuple, and the list of the partitions with a free
 -- slot. No public clause cites this module.
-use Rattle.std.specs.Prelude.{◌≡◌, ℕ, zero, suc, ◌+◌, ◌*◌, ◌^◌, ◌<◌, ◌≤◌, ◌↔◌, Bool, true, false, cond, if◌then◌else◌, List, [], map, length, Option, Some, None, count_by, sum_by, slice_index_or, nat_lt}
+use Rattle.std.specs.Prelude.{◌≡◌, ℕ, zero, suc, ◌+◌, ◌^◌, ◌<◌, ◌≤◌, ◌↔◌, Bool, true, false, cond, if◌then◌else◌, List, [], map, length, Option, Some, None, count_by, sum_by, slice_index_or, nat_lt}
 use Rattle.std.specs.FinMap.{len}
 use Rattle.part_raw.specs.declared.TheConstants.{SLOTS, MAX_WIDTH}
 use Rattle.part_raw.specs.Rows.{IsLaid}
 use Rattle.part_raw.specs.Store.{Tuple}
 use Rattle.part_raw.specs.Counted.{Shelf, shelves_of, tuples_in}
-use Rattle.part_raw.specs.Layout.{is_set, IsPartition, vacancies, tuples_of}
+use Rattle.part_raw.specs.Layout.{is_set, IsPlace, vacancies, tuples_of}
 use Rattle.part_raw.specs.declared.store.Occupancy.{Occupancy}
 
 -- from the first on, so many partitions are open and name the next, and the last names none
@@ -29,9 +29,22 @@ words_at occupancies part = slice_index_or (map (λ o. o.held.words) occupancies
 abbrev pub next_at : List Occupancy → ℕ → Option ℕ
 next_at occupancies part = slice_index_or (map (λ o. o.next_open) occupancies) part None
 
--- a partition is open unless each of its bits is set
+-- whether the partition has a block
+abbrev pub has_block_at : List Occupancy → ℕ → Bool
+has_block_at occupancies part = slice_index_or (map (λ o. o.has_block) occupancies) part false
+
+-- each of the partition's bits is set
+abbrev pub AllSet : List Occupancy → ℕ → Type 0
+AllSet occupancies part = (slot : ℕ) → slot < SLOTS → is_set (words_at occupancies part) slot ≡ true
+
+-- where the partition has a block, one of its bits is set
+abbrev pub HoldsWhereBlock : List Occupancy → ℕ → Type 0
+HoldsWhereBlock occupancies part = has_block_at occupancies part ≡ true → (slot : ℕ) × (slot < SLOTS) × (is_set (words_at occupancies part) slot ≡ true)
+
+-- a partition is open where it has a block and not each of its bits is set
 abbrev pub Tells : (ℕ → Bool) → List Occupancy → Type 0
-Tells is_open occupancies = (part : ℕ) → part < length occupancies → (is_open part ≡ false) ↔ ((slot : ℕ) → slot < SLOTS → is_set (words_at occupancies part) slot ≡ true)
+Tells is_open occupancies = (part : ℕ) → part < length occupancies
+    → (has_block_at occupancies part ≡ false → is_open part ≡ false) × (has_block_at occupancies part ≡ true → (is_open part ≡ false) ↔ AllSet occupancies part)
 
 module _ {T : Type 0} where
   -- whether a slot is free
@@ -45,17 +58,18 @@ module _ {T : Type 0} where
   abbrev pub open_at : List (List (Option T)) → ℕ → Bool
   open_at blocks part = has_vacancy (slots_at blocks part)
 
-  -- each block has its bitmap
+  -- each block has its bitmap, and what has no slot is told to have no block
   pub record HaveBitmaps (blocks : List (List (Option T))) (occupancies : List Occupancy) : Type 0 where
     pub as_many : length occupancies ≡ length blocks
-    pub bits : (part : ℕ) → part < length blocks → IsPartition (words_at occupancies part) (slots_at blocks part)
+    pub bits : (part : ℕ) → part < length blocks → IsPlace (words_at occupancies part) (slots_at blocks part)
+    pub told : (part : ℕ) → part < length blocks → has_block_at occupancies part ≡ nat_lt 0 (length (slots_at blocks part))
 
   -- each block has its bitmap, the free slots are counted, each slot is free or holds a tuple, and the list holds every
-  -- partition with a free slot
+  -- partition with a free slot. A partition with no block has no slot
   pub record IsStore (blocks : List (List (Option T))) (occupancies : List Occupancy) (free : ℕ) (first_open : Option ℕ) : Type 0 where
     pub mapped : HaveBitmaps blocks occupancies
     pub counted : free ≡ sum_by vacancies blocks
-    pub total : len (tuples_of blocks) + free ≡ SLOTS * length blocks
+    pub total : len (tuples_of blocks) + free ≡ sum_by length blocks
     pub open_count : ℕ
     pub all_open : open_count ≡ count_by has_vacancy blocks
     pub linked : IsOpenList (open_at blocks) (next_at occupancies) open_count first_open
@@ -66,16 +80,20 @@ module _ {T : Type 0} where
   abbrev pub tables : ℕ → List (Shelf T) → List (List (Option (Tuple T)))
   tables width shelves = map (tuples_in width) shelves
 
-  -- each shelf is laid for this width, and has its bitmap
+  -- each shelf that has places is laid for this width
+  abbrev pub AreLaid : ℕ → List (Shelf T) → Type 0
+  AreLaid width shelves = (part : ℕ) (shelf : Shelf T) → part < length shelves → shelf ≡ slice_index_or shelves part shelf → 0 < length shelf.block → IsLaid width shelf.block
+
+  -- each shelf that has places is laid for this width, and each has its bitmap
   pub record AreKept (width : ℕ) (shelves : List (Shelf T)) (occupancies : List Occupancy) : Type 0 where
-    pub laid : (part : ℕ) (shelf : Shelf T) → part < length shelves → shelf ≡ slice_index_or shelves part shelf → IsLaid width shelf.block
+    pub laid : AreLaid width shelves
     pub mapped : HaveBitmaps (tables width shelves) occupancies
 
   -- the shelves' places are the slots of a store whose tuples have this width
   pub record IsTable (width : ℕ) (shelves : List (Shelf T)) (occupancies : List Occupancy) (free : ℕ) (first_open : Option ℕ) : Type 0 where
     pub wide : 0 < width
     pub fits : width ≤ MAX_WIDTH
-    pub laid : (part : ℕ) (shelf : Shelf T) → part < length shelves → shelf ≡ slice_index_or shelves part shelf → IsLaid width shelf.block
+    pub laid : AreLaid width shelves
     pub store : IsStore (tables width shelves) occupancies free first_open
 
   -- the blocks with the counts beside them: of each where counts are kept, and else of none

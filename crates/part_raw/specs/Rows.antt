@@ -26,9 +26,14 @@ module _ {T : Type 0} where
   rows_of width zero places = []
   rows_of width (suc count) places = row_of (take width places) ∷ rows_of width count (drop width places)
 
+  -- a partition has all slots where it has places, and else none
+  abbrev pub slots_of : List (Option T) → ℕ
+  slots_of [] = 0
+  slots_of (place ∷ places) = SLOTS
+
   -- the rows of a partition's slots
   abbrev pub rows_in : ℕ → List (Option T) → List (Option (List T))
-  rows_in width places = rows_of width SLOTS places
+  rows_in width places = rows_of width (slots_of places) places
 
   -- a row is written into the places from this one on
   unfoldable pub put_run : List (Option T) → ℕ → List T → List (Option T)
@@ -40,7 +45,8 @@ module _ {T : Type 0} where
   clear_run places from zero = places
   clear_run places from (suc count) = slice_set (clear_run places from count) (from + count) None
 
-  -- there are places for each slot's row, and in each slot all of them hold a value or none does
+  -- there are places, one for each value of each slot's row, and in each slot all of them hold a value or none does
   pub record IsLaid (width : ℕ) (places : List (Option T)) : Type 0 where
+    pub some : 0 < length places
     pub count : length places ≡ SLOTS * width
     pub whole : (slot i : ℕ) → slot < SLOTS → i < width → is_some (slice_index_or places (slot * width + i) None) ≡ is_some (slice_index_or (rows_in width places) slot None)

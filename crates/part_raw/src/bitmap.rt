@@ -51,6 +51,13 @@ impl Bitmap {
         self.first_clear().is_none()
     }
 
+    // Whether no bit is set.
+    pub(crate) fn is_clear(&self) -> bool
+        ensures { IsTrue result ↔ ((slot : ℕ) → slot < SLOTS → is_set self.now.words slot ≡ false) }
+    {
+        self.first_set().is_none()
+    }
+
     // The first slot whose bit is not set, if there is one.
     pub(crate) fn first_clear(&self) -> Option<u32>
         ensures { MatchOption result ((slot : ℕ) → slot < SLOTS → is_set self.now.words slot ≡ true) (λ slot. (slot < SLOTS) × (is_set self.now.words slot ≡ false)) }

@@ -1,14 +1,16 @@
 //! The block of a partition: its places, each empty or holding a value, and the right to give their memory back.
-ghost use Rattle.std.specs.Prelude.{◌≡◌, ◌<◌, None, Some, length, map, replicate, slice_index_or, slice_set, IfOk, IsSome};
+ghost use Rattle.std.specs.Prelude.{◌≡◌, ◌<◌, [], None, Some, length, map, replicate, slice_index_or, slice_set, IfOk, IsSome};
 ghost use Rattle.part_raw.specs.Rows.{IsRun, window};
 
-use crate::raw::{Deed, Slots, allocate, deallocate};
+use crate::raw::{Deed, Slots, allocate, deallocate, let_go, no_deed};
 use std::alloc::{AllocError, Global};
 use std::marker::Model;
+use std::mem;
 use std_alloc::room::may_hold;
 
 // The places of a partition, seen as a list of what each holds. It takes the 8 bytes of the block's address. Neither it
-// nor a value in it can be let go: `free` takes the block once every place is empty, and nothing else does.
+// nor a value in it can be let go: `release` gives the memory back once every place is empty, and nothing else does. No
+// place is left then, and what has none can be let go.
 pub struct Block<T> {
     slots: Slots<T>,
     deed: Deed<T, Global>,
@@ -38,12 +40,26 @@ impl<T> Block<T> {
         Ok(Block { slots, deed, alloc })
     }
 
-    // Gives the memory back.
-    pub(crate) fn free(self, places: usize)
-        requires { self ≡ replicate places None }
+    // Gives the memory back. No place is left.
+    pub(crate) fn release(&mut self, places: usize)
+        requires some { 0 < places }
+        requires empty { self.old ≡ replicate places None }
+        ensures { self.new ≡ [] }
     {
-        let Block { slots, deed, alloc } = self;
-        deallocate(&alloc, slots, places, deed);
+        let deed = mem::replace(&mut self.deed, no_deed(&self.alloc));
+        deallocate(&self.alloc, &mut self.slots, places, deed);
+    }
+
+    // Lets go what has no place.
+    pub(crate) fn let_go(self)
+        requires { self ≡ [] }
+    {
+        let Block {
+            slots,
+            deed,
+            alloc: _,
+        } = self;
+        let_go(slots, deed);
     }
 
     // The values of `count` places from `from` on.

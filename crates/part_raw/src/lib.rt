@@ -19,18 +19,21 @@
 //!   occupancies  ──▶ ┌ Occupancy ──────┐ ┌ Occupancy ──────┐ ..
 //!                    │ held: 256 bits  │ │                 │   which slots of the block hold a tuple
 //!                    │ next_open ──────┼─┼─▶ ..            │   the next partition with a free slot
+//!                    │ has_block       │ │                 │   whether the partition has its block
 //!                    └─────────────────┘ └─────────────────┘
 //!   first_open       the first partition with a free slot
-//!   free             how many slots are free in all
+//!   slots            how many slots the partitions with a block have
+//!   free             how many of them are free
 //! ```
 //!
 //! What always holds:
 //! - Where the bit of a slot is set, each of its places holds a cell, and else none does. Only places that hold one are
 //!   read. Making a partition writes nothing to its places.
 //! - The list from `first_open` on has each partition with a free slot once, and no other.
-//! - Each slot is free or holds a tuple, so `len` is told by the number of partitions and `free`.
+//! - Each slot is free or holds a tuple, so `len` is told by `slots` and `free`.
 //! - There are as many counts as blocks where counts are kept, and else none; then the count of each tuple is 0.
-//! - After `release_spares` the last partition holds a tuple, where there is a partition.
+//! - A partition has its block and 256 slots, or it has neither.
+//! - After `release_spares` each partition with a block holds a tuple, and so does the last, where there is one.
 //! - A block can't be let go, nor can a cell in it: it is given back to the allocator once, and only with all its places
 //!   empty.
 //!

@@ -103,5 +103,6 @@ pub(crate) fn discard<T: Drop>(mut held: Bitmap, mut block: Block<T>, width: usi
     while let Some(slot) = held.first_set() {
         empty(&mut held, &mut block, slot, width);
     }
-    block.free(SLOTS as usize * width);
+    block.release(SLOTS as usize * width);
+    block.let_go();
 }

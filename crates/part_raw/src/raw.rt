@@ -2,7 +2,7 @@
 //! each function is a line or two, with a proof that follows its machine steps. To the rest of the crate the memory is
 //! a list that has, for each slot, a tuple or nothing: no call reads an empty slot, writes over a tuple, or gives back
 //! a block that holds one or is another's.
-ghost use Rattle.std.specs.Prelude.{◌≡◌, ℕ, ◌<◌, List, Option, None, Some, length, replicate, map, slice_index_or, slice_set, IfOk, IsSome};
+ghost use Rattle.std.specs.Prelude.{◌≡◌, ℕ, ◌<◌, List, [], Option, None, Some, length, replicate, map, slice_index_or, slice_set, IfOk, IsSome};
 ghost use Rattle.std.specs.Vec.Ownership.{FitsInBlock};
 ghost use base.Fml.{ftrue};
 ghost use denote.RawPtr.{Ptr};
@@ -26,7 +26,7 @@ impl<T> Model for Slots<T> {
     ghost also_shares = { λ s _ κ. block_lends T.row s.ptr s.held κ };
 }
 
-// The right to give a block of `count` slots back to its allocator. It takes no space.
+// The right to give a block of `count` slots back to its allocator, where that is not 0. It takes no space.
 pub struct Deed<T, A: Allocator> {
     mark: PhantomData<*const (T, A)>,
     ghost at: { Ptr },
@@ -59,20 +59,39 @@ pub(crate) fn allocate<T, A: Allocator>(
     }
 }
 
-// Gives a block back whose slots are all empty.
+// Gives a block back whose slots are all empty. No slot is left.
 pub(crate) fn deallocate<T, A: Allocator>(
     alloc: &A,
-    slots: Slots<T>,
+    slots: &mut Slots<T>,
     count: usize,
     deed: Deed<T, A>,
 )
-    requires { (slots.held ≡ replicate count None) × (deed.at ≡ slots.ptr) × (deed.count ≡ count) × (deed.alloc ≡ alloc.now) }
+    requires { (slots.old.held ≡ replicate count None) × (0 < count) × (deed.at ≡ slots.old.ptr) × (deed.count ≡ count) × (deed.alloc ≡ alloc.now) }
+    ensures { slots.new.held ≡ [] }
 {
-    let Slots { ptr } = slots;
     let Deed { mark: _ } = deed;
     unsafe {
-        alloc.deallocate(ptr as *mut u8, count * size_of::<T>(), align_of::<T>());
+        alloc.deallocate(
+            slots.ptr as *mut u8,
+            count * size_of::<T>(),
+            align_of::<T>(),
+        );
     }
+}
+
+// The right to give nothing back.
+pub(crate) fn no_deed<T, A: Allocator>(_alloc: &A) -> Deed<T, A>
+    ensures { result.count ≡ 0 }
+{
+    Deed { mark: PhantomData }
+}
+
+// Lets go what is left of a block that was given back.
+pub(crate) fn let_go<T, A: Allocator>(slots: Slots<T>, deed: Deed<T, A>)
+    requires { (slots.held ≡ []) × (deed.count ≡ 0) }
+{
+    let Slots { ptr: _ } = slots;
+    let Deed { mark: _ } = deed;
 }
 
 impl<T> Slots<T> {

@@ -6,28 +6,52 @@ ghost use Rattle.std.specs.Vec.{vec_len, vec_capacity};
 ghost use Rattle.part_raw.specs.Store.{store, tuple, tuple_at, with_tuple, IsHeld, HasNoCounts, EndsHeld, free_reserved};
 ghost use Rattle.part_raw.specs.Counted.{shelves_of};
 ghost use Rattle.part_raw.specs.Layout.{is_set, tuples_of, vacancies};
-ghost use Rattle.part_raw.specs.Open.{AreKept, IsOpenList, Tells, below, next_at, tables, words_at};
+ghost use Rattle.part_raw.specs.Open.{AreKept, HoldsWhereBlock, IsOpenList, Tells, below, has_block_at, next_at, tables};
 
 use crate::bitmap::Bitmap;
 use crate::block::Block;
 use crate::counts::{Counts, count_at, new_counts, set_count_at};
 use crate::partition::{discard, empty, exchange, fill, vacate};
-use crate::{MAX_TUPLES, MAX_WIDTH, SLOTS, TupleRef};
+use crate::{MAX_PARTITIONS, MAX_TUPLES, MAX_WIDTH, SLOTS, TupleRef};
 use no_memory::NoMemory;
 use std::alloc::Global;
 use std::marker::Model;
+use std::mem;
 
-// Which slots of a partition hold a tuple, and the next in the list of the partitions that have a free slot. Outside
-// that list the link says nothing.
+// A store keeps one slot of a partition that holds no tuple for so many tuples.
+const TUPLES_A_SPARE_SLOT: u64 = 4;
+
+// Which slots of a partition hold a tuple, the next in the list of the partitions that have a free slot, and whether the
+// partition has its block. Outside that list the link says nothing, and a partition with no block has no slot.
 #[derive(Clone, Copy)]
 struct Occupancy {
     held: Bitmap,
     next_open: Option<u32>,
+    has_block: bool,
+}
+
+impl Occupancy {
+    // Whether the partition has a free slot.
+    fn is_open(&self) -> bool
+        ensures bare { self.now.has_block ≡ false → result ≡ false }
+        ensures full { self.now.has_block ≡ true → (result ≡ false) ↔ ((slot : ℕ) → slot < SLOTS → is_set self.now.held.words slot ≡ true) }
+    {
+        self.has_block && !self.held.is_full()
+    }
+
+    // Whether the partition has a block that holds no tuple.
+    fn is_spare(&self) -> bool
+        ensures block { result ≡ true → self.now.has_block ≡ true }
+        ensures clear { result ≡ true → (slot : ℕ) → slot < SLOTS → is_set self.now.held.words slot ≡ false }
+        ensures held { result ≡ false → self.now.has_block ≡ true → (slot : ℕ) × (slot < SLOTS) × (is_set self.now.held.words slot ≡ true) }
+    {
+        self.has_block && self.held.first_set().is_none()
+    }
 }
 
 /// Tuples that do not move, each under a reference that is its own while it is held.
 ///
-/// A store grows by partitions of `SLOTS` slots. `release_spares` gives back those at the end that hold no tuple.
+/// A store grows by partitions of `SLOTS` slots. `release_spares` gives back the memory of those that hold no tuple.
 ///
 /// It keeps no counts at first: the count of each tuple is 0. `keep_counts` gives it memory for them.
 pub struct Partitions<T> {
@@ -39,8 +63,14 @@ pub struct Partitions<T> {
     // Those of each partition where counts are kept, and else none.
     counts: Vec<Counts>,
     occupancies: Vec<Occupancy>,
+    // How many slots the partitions with a block have, and how many of them are free.
+    slots: u64,
     free: u64,
     first_open: Option<u32>,
+    // Where a partition with no block is looked for.
+    next_bare: usize,
+    // How many partitions have a block that holds no tuple. It tells when to give these back, and nothing else.
+    spare: u64,
     counted: bool,
 }
 
@@ -51,13 +81,15 @@ impl<T> Model for Partitions<T> {
 
     ghost coded = { store_code T.code };
 
+    ghost use Rattle.std.specs.Prelude.{◌≡◌, length, sum_by};
     ghost use Rattle.part_raw.specs.Layout.{tuples_of};
     ghost use Rattle.part_raw.specs.Counted.{shelves_of};
     ghost use Rattle.part_raw.specs.Open.{tables, IsStocked};
 
     ghost view = { λ s. store s.width (tuples_of (tables s.width (shelves_of s.blocks.items s.counts.items))) s.free s.counted };
 
-    ghost invariant = { λ s. IsStocked s.counted s.width s.blocks.items s.counts.items s.occupancies.items s.free s.first_open };
+    ghost invariant = { λ s. IsStocked s.counted s.width s.blocks.items s.counts.items s.occupancies.items s.free s.first_open
+        × (s.slots ≡ sum_by length (tables s.width (shelves_of s.blocks.items s.counts.items))) };
 }
 
 /// Each tuple that is held is dropped, and each block is freed.
@@ -69,13 +101,17 @@ impl<T: Drop> Drop for Partitions<T> {
             mut blocks,
             counts: _,
             mut occupancies,
+            slots: _,
             free: _,
             first_open: _,
+            next_bare: _,
+            spare: _,
             counted: _,
         } = self;
         while let Some(block) = blocks.pop() {
             match occupancies.pop() {
-                Some(occupancy) => discard(occupancy.held, block, width),
+                Some(occupancy) if occupancy.has_block => discard(occupancy.held, block, width),
+                Some(_) => block.let_go(),
                 None => unreachable!(),
             }
         }
@@ -99,8 +135,11 @@ impl<T> Partitions<T> {
             blocks: Vec::new(alloc),
             counts: Vec::new(alloc),
             occupancies: Vec::new(alloc),
+            slots: 0,
             free: 0,
             first_open: None,
+            next_bare: 0,
+            spare: 0,
             counted: false,
         })
     }
@@ -126,19 +165,21 @@ impl<T> Partitions<T> {
         ensures value { result ≡ finite.len self.now.tuples }
         ensures within { finite.len self.now.tuples + self.now.free ≤ MAX_TUPLES }
     {
-        self.blocks.len() as u64 * SLOTS as u64 - self.free
+        self.slots - self.free
     }
 
-    /// The number of slots, free or not. The number of each reference under which a tuple is held is below it.
+    /// A number above that of each reference under which a tuple is held: how many slots there are, with those of the
+    /// partitions whose memory was given back.
     pub fn slots(&self) -> u64
-        ensures value { result ≡ finite.len self.now.tuples + self.now.free }
+        ensures least { finite.len self.now.tuples + self.now.free ≤ result }
         ensures most { result ≤ MAX_TUPLES }
         ensures within { (r : TupleRef) → IsHeld self.now r → r.number < result }
     {
         self.blocks.len() as u64 * SLOTS as u64
     }
 
-    /// Makes sure of one free slot: a store with none gets a partition of `SLOTS` more.
+    /// Makes sure of one free slot: a store with none gets a partition of `SLOTS` more, or the memory again of one that gave
+    /// it back.
     pub fn reserve(&mut self) -> Result<(), NoMemory>
         requires { self.old.free ≡ 0 → finite.len self.old.tuples < MAX_TUPLES }
         ensures ok { OnOk result (self.new ≡ record self.old { free = free_reserved self.old.free }) }
@@ -147,6 +188,23 @@ impl<T> Partitions<T> {
     {
         if self.free > 0 {
             return Ok(());
+        }
+        let bare = bare_from(&self.occupancies, self.next_bare);
+        if bare < self.blocks.len() {
+            let block = Block::new(self.alloc, SLOTS as usize * self.width)?;
+            mem::replace(&mut self.blocks[bare], block).let_go();
+            let occupancy = &mut self.occupancies[bare];
+            occupancy.next_open = self.first_open;
+            occupancy.has_block = true;
+            self.first_open = Some(bare as u32);
+            self.next_bare = bare + 1;
+            self.slots += SLOTS as u64;
+            self.free = SLOTS as u64;
+            self.spare = self.spare.saturating_add(1);
+            return Ok(());
+        }
+        if self.blocks.len() == MAX_PARTITIONS as usize {
+            return Err(NoMemory);
         }
         self.blocks.reserve(1)?;
         self.occupancies.reserve(1)?;
@@ -158,9 +216,12 @@ impl<T> Partitions<T> {
         self.occupancies.push_reserved(Occupancy {
             held: Bitmap::new(),
             next_open: self.first_open,
+            has_block: true,
         });
         self.first_open = Some(part);
+        self.slots += SLOTS as u64;
         self.free = SLOTS as u64;
+        self.spare = self.spare.saturating_add(1);
         Ok(())
     }
 
@@ -183,6 +244,7 @@ impl<T> Partitions<T> {
         self.free -= 1;
         let occupancy = &mut self.occupancies[part as usize];
         let block = &mut self.blocks[part as usize];
+        self.spare = self.spare.saturating_sub(occupancy.held.is_clear() as u64);
         let slot = fill(&mut occupancy.held, block, cells);
         set_count_at(&mut self.counts, part, slot, 0);
         let r = TupleRef::to(part, slot);
@@ -297,6 +359,7 @@ impl<T> Partitions<T> {
         let block = &mut self.blocks[part as usize];
         let was_full = occupancy.held.is_full();
         vacate(&mut occupancy.held, block, slot, self.width, cells);
+        self.spare = self.spare.saturating_add(occupancy.held.is_clear() as u64);
         let count = *count_at(&self.counts, part, slot);
         if was_full {
             occupancy.next_open = self.first_open;
@@ -322,44 +385,80 @@ impl<T> Partitions<T> {
         let block = &mut self.blocks[part as usize];
         let was_full = occupancy.held.is_full();
         empty(&mut occupancy.held, block, slot, self.width);
+        self.spare = self.spare.saturating_add(occupancy.held.is_clear() as u64);
         if was_full {
             occupancy.next_open = self.first_open;
             self.first_open = Some(part);
         }
     }
 
-    /// Gives the memory of each partition back that lies behind the last tuple. No tuple moves. It takes no memory. Where the
-    /// last partition holds a tuple, it costs no more than a look at that one.
+    /// Gives the memory of each partition back that holds no tuple. No tuple moves. It takes no memory, and looks at each
+    /// partition's bits.
     pub fn release_spares(&mut self)
         ensures tuples { self.new.tuples ≡ self.old.tuples }
         ensures width { self.new.width ≡ self.old.width }
         ensures free { self.new.free ≤ self.old.free }
         ensures counted { self.new.counted ≡ self.old.counted }
         ensures last { EndsHeld self.new }
+        ensures few { self.new.free ≤ (SLOTS - 1) * finite.len self.new.tuples }
     {
-        if !ends_spare(&self.occupancies) {
-            return;
-        }
         let len = self.len();
-        pop_spares(
+        self.slots -= release_empty(
+            &mut self.blocks,
+            &self.counts,
+            &mut self.occupancies,
+            self.width,
+        );
+        pop_bare(
             &mut self.blocks,
             &mut self.counts,
             &mut self.occupancies,
             self.width,
         );
         self.first_open = relink(&mut self.occupancies);
-        self.free = self.blocks.len() as u64 * SLOTS as u64 - len;
+        self.next_bare = 0;
+        self.spare = 0;
+        self.free = self.slots - len;
+    }
+
+    /// Gives the memory of the partitions back that hold no tuple where these have more than so many slots, and more than a
+    /// quarter as many as there are tuples. It takes no memory, and else looks at no partition.
+    pub fn shed_spares(&mut self, few: u64)
+        ensures tuples { self.new.tuples ≡ self.old.tuples }
+        ensures width { self.new.width ≡ self.old.width }
+        ensures free { self.new.free ≤ self.old.free }
+        ensures counted { self.new.counted ≡ self.old.counted }
+        ensures kept { self.old.free ≤ few → self.new ≡ self.old }
+    {
+        let slots = SLOTS as u64;
+        if self.free > few
+            && self.spare > few / slots
+            && self.spare > self.len() / TUPLES_A_SPARE_SLOT / slots
+        {
+            self.release_spares();
+        }
     }
 }
 
-// Whether there is a partition, and the last holds no tuple.
-fn ends_spare(occupancies: &Vec<Occupancy>) -> bool
+// The first partition from this one on that has no block. There is none where the answer is past the partitions.
+fn bare_from(occupancies: &Vec<Occupancy>, from: usize) -> usize
+    ensures { result < length occupancies.now.items → has_block_at occupancies.now.items result ≡ false }
+{
+    let mut part = from;
+    while part < occupancies.len() && occupancies[part].has_block {
+        part += 1;
+    }
+    part
+}
+
+// Whether there is a partition, and the last has no block.
+fn ends_bare(occupancies: &Vec<Occupancy>) -> bool
     ensures some { result ≡ true → 0 < length occupancies.now.items }
-    ensures spare { result ≡ true → (slot : ℕ) → slot < SLOTS → is_set (words_at occupancies.now.items (length occupancies.now.items - 1)) slot ≡ false }
-    ensures held { result ≡ false → 0 < length occupancies.now.items → (slot : ℕ) × (slot < SLOTS) × (is_set (words_at occupancies.now.items (length occupancies.now.items - 1)) slot ≡ true) }
+    ensures bare { result ≡ true → has_block_at occupancies.now.items (length occupancies.now.items - 1) ≡ false }
+    ensures block { result ≡ false → 0 < length occupancies.now.items → has_block_at occupancies.now.items (length occupancies.now.items - 1) ≡ true }
 {
     let n = occupancies.len();
-    n > 0 && occupancies[n - 1].held.first_set().is_none()
+    n > 0 && !occupancies[n - 1].has_block
 }
 
 // Room for the counts of one partition more, where counts are kept, and these, each 0.
@@ -390,26 +489,56 @@ fn push_next(counts: &mut Vec<Counts>, next: Option<Counts>)
     }
 }
 
-// Gives each partition back that lies behind the last tuple.
-fn pop_spares<T>(
+// Gives the block of each partition back that holds no tuple, and tells how many slots they had.
+fn release_empty<T>(
+    blocks: &mut Vec<Block<T>>,
+    counts: &Vec<Counts>,
+    occupancies: &mut Vec<Occupancy>,
+    width: usize,
+) -> u64
+    requires wide { (0 < width) × (width ≤ MAX_WIDTH) }
+    requires few { length blocks.old.items ≤ MAX_PARTITIONS }
+    requires kept { AreKept width (shelves_of blocks.old.items counts.now.items) occupancies.old.items }
+    ensures kept { AreKept width (shelves_of blocks.new.items counts.now.items) occupancies.new.items }
+    ensures as_many { length blocks.new.items ≡ length blocks.old.items }
+    ensures tuples { tuples_of (tables width (shelves_of blocks.new.items counts.now.items)) ≡ tuples_of (tables width (shelves_of blocks.old.items counts.now.items)) }
+    ensures free { sum_by vacancies (tables width (shelves_of blocks.new.items counts.now.items)) + result ≡ sum_by vacancies (tables width (shelves_of blocks.old.items counts.now.items)) }
+    ensures slots { sum_by length (tables width (shelves_of blocks.new.items counts.now.items)) + result ≡ sum_by length (tables width (shelves_of blocks.old.items counts.now.items)) }
+    ensures held { (part : ℕ) → part < length occupancies.new.items → HoldsWhereBlock occupancies.new.items part }
+{
+    let mut given = 0;
+    for part in 0..blocks.len() {
+        let occupancy = &mut occupancies[part];
+        if !occupancy.is_spare() {
+            continue;
+        }
+        blocks[part].release(SLOTS as usize * width);
+        occupancy.has_block = false;
+        given += SLOTS as u64;
+    }
+    given
+}
+
+// Takes away the partitions at the end that have no block.
+fn pop_bare<T>(
     blocks: &mut Vec<Block<T>>,
     counts: &mut Vec<Counts>,
     occupancies: &mut Vec<Occupancy>,
     width: usize,
 )
-    requires wide { (0 < width) × (width ≤ MAX_WIDTH) }
     requires kept { AreKept width (shelves_of blocks.old.items counts.old.items) occupancies.old.items }
     ensures kept { AreKept width (shelves_of blocks.new.items counts.new.items) occupancies.new.items }
     ensures tuples { tuples_of (tables width (shelves_of blocks.new.items counts.new.items)) ≡ tuples_of (tables width (shelves_of blocks.old.items counts.old.items)) }
     ensures fewer { length blocks.new.items ≤ length blocks.old.items }
     ensures counts { counts.new.items ≡ take (length blocks.new.items) counts.old.items }
-    ensures freed { sum_by vacancies (tables width (shelves_of blocks.new.items counts.new.items)) + SLOTS * length blocks.old.items
-        ≡ sum_by vacancies (tables width (shelves_of blocks.old.items counts.old.items)) + SLOTS * length blocks.new.items }
-    ensures last { 0 < length occupancies.new.items → (slot : ℕ) × (slot < SLOTS) × (is_set (words_at occupancies.new.items (length occupancies.new.items - 1)) slot ≡ true) }
+    ensures free { sum_by vacancies (tables width (shelves_of blocks.new.items counts.new.items)) ≡ sum_by vacancies (tables width (shelves_of blocks.old.items counts.old.items)) }
+    ensures slots { sum_by length (tables width (shelves_of blocks.new.items counts.new.items)) ≡ sum_by length (tables width (shelves_of blocks.old.items counts.old.items)) }
+    ensures held { ((part : ℕ) → part < length occupancies.old.items → HoldsWhereBlock occupancies.old.items part) → (part : ℕ) → part < length occupancies.new.items → HoldsWhereBlock occupancies.new.items part }
+    ensures last { 0 < length occupancies.new.items → has_block_at occupancies.new.items (length occupancies.new.items - 1) ≡ true }
 {
-    while ends_spare(occupancies) {
+    while ends_bare(occupancies) {
         match (blocks.pop(), occupancies.pop()) {
-            (Some(block), Some(_)) => block.free(SLOTS as usize * width),
+            (Some(block), Some(_)) => block.let_go(),
             _ => unreachable!(),
         }
     }
@@ -423,6 +552,7 @@ fn pop_spares<T>(
 fn relink(occupancies: &mut Vec<Occupancy>) -> Option<u32>
     requires { length occupancies.old.items < 4294967296 }
     ensures held { map (λ o. o.held.words) occupancies.new.items ≡ map (λ o. o.held.words) occupancies.old.items }
+    ensures blocks { map (λ o. o.has_block) occupancies.new.items ≡ map (λ o. o.has_block) occupancies.old.items }
     ensures linked { (is_open : ℕ → Bool) → Tells is_open occupancies.old.items → IsOpenList is_open (next_at occupancies.new.items) (below is_open (length occupancies.old.items)) result }
 {
     let mut first_open = None;
@@ -430,7 +560,7 @@ fn relink(occupancies: &mut Vec<Occupancy>) -> Option<u32>
     while part > 0 {
         part -= 1;
         let occupancy = &mut occupancies[part];
-        if !occupancy.held.is_full() {
+        if occupancy.is_open() {
             occupancy.next_open = first_open;
             first_open = Some(part as u32);
         }

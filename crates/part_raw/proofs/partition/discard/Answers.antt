@@ -2,5 +2,5 @@ use Rattle.part_raw.proofs.Slots.{vacant_of_bits}
 use Rattle.part_raw.proofs.Shelves.{empty-rows}
 use Rattle.part_raw.proofs.partition.discard.Goals as goal
 
-pub free-requires : goal.free-requires
-free-requires g c = empty-rows c.args.width c.loop-slot.block c.requires.wide.0 c.loop-slot.invariant.laid (vacant_of_bits _ _ c.loop-slot.invariant.bits c.in_default.ensures)
+pub release-requires-clause-empty : goal.release-requires-clause-empty
+release-requires-clause-empty g c = empty-rows c.args.width c.loop-slot.block c.requires.wide.0 c.loop-slot.invariant.laid (vacant_of_bits _ _ c.loop-slot.invariant.bits c.in_default.ensures)

@@ -1,6 +1,6 @@
 use Rattle.std.proofs.Common.{◌∙◌}
 use Rattle.part_raw.proofs.Slots.{IsPartition-set}
-use Rattle.part_raw.proofs.Rows.{slot_within, held_row, rows_of-get}
+use Rattle.part_raw.proofs.Rows.{slot_within, held_row, rows_in-get}
 use Rattle.part_raw.proofs.Shelves.{rows-cleared}
 use Rattle.part_raw.proofs.partition.vacate.Goals as goal
 
@@ -25,4 +25,4 @@ returns-clause-bits g c =
 pub returns-clause-row : goal.returns-clause-row
 returns-clause-row g c =
     let in_range = slot_within c.args.width c.args.slot c.args.block.now c.requires.held in
-    rows_of-get c.args.width 256 c.args.slot c.args.block.now in_range ∙ c.read_row.ensures.row
+    rows_in-get c.args.width c.args.slot c.args.block.now c.requires.laid.some in_range ∙ c.read_row.ensures.row

@@ -58,7 +58,7 @@ use Rattle.std_alloc.proofs.ResultValues.{ok_of, err_of}
 use Rattle.std_alloc.proofs.VecSteps.Shapes.{after, head, arm_body}
 use Rattle.part_raw.specs.Raw.{slots_own}
 use Rattle.part_raw.proofs.SlotSteps.{Sr, slots_d, sz, of_room, slots_made}
-use Rattle.part_raw.proofs.Deeds.{Dr, deed, mark, deed_made}
+use Rattle.part_raw.proofs.Deeds.{Dr, deed, mark, right, token_in, deed_made}
 use Rattle.part_raw.specs.contracts.raw.allocate as F
 use Rattle.part_raw.specs.contracts.raw.allocate.Key.{name as #self}
 use Rattle.part_raw.proofs.raw.allocate.Statement as stated
@@ -137,7 +137,7 @@ module _ (E : El) (Z : Al) where
         exec ! 𝓣.C 𝓣.Λ En (after 3 here.body) (at_ret En Post) $ sets ! (of_opd ! (get ! refl)) refl ok $
         -- [the room; the right to free it; the tokens]
         use1 𝓛 (‵ (froom (ty_array (elτ E) n) b o)) (𝓛.laws.raw-room (ty_array (elτ E) n) b o) $ use1 𝓛 (‵ (slots_own (R E) b o new.held)) (of_room E 𝓛 b n o) $ slots_made E ! new b o refl fit $
-        move ! (1 ∷ []) $ deed_made E Z ! a p n $ nothing ! $ move ! (2 ∷ 1 ∷ 0 ∷ []) $ fjoin3 ! $ feq_i ! (List Val) (pair ∷ []) (pair ∷ []) refl $ fjoin ! $
+        move ! (1 ∷ []) $ use1 𝓛 (‵ (right E Z a n p)) (token_in E Z 𝓛 a p n) $ deed_made E Z ! a p n $ nothing ! $ move ! (2 ∷ 1 ∷ 0 ∷ []) $ fjoin3 ! $ feq_i ! (List Val) (pair ∷ []) (pair ∷ []) refl $ fjoin ! $
         fpack ! (Valss (Sr E ∷ Dr E Z ∷ [])) (within (Declared.shape (tuple_type (Sr E ∷ Dr E Z ∷ []))) (new, (deed E Z a p n, tt)) (pair ∷ [])) (word p ∷ [], (mark ∷ [], tt)) $
         use1 𝓛 (‵ (Out.own_val (Ok (new, deed E Z a p n)) (live 0 (vcons pair vnil) ∷ []))) (ok_of 𝓛 Two AE.the_row (new, deed E Z a p n) pair) $
         returns ! (look_at ! 0 refl) $ free_all ! refl $ keep ! (0 ∷ 1 ∷ []) $ by ! (exits z (Ok (new, deed E Z a p n)) (live 0 (vcons pair vnil)) (refl, refl, refl, refl)))

@@ -4,6 +4,7 @@ use Rattle.std.specs.FinMap.{get, len}
 use Rattle.mm_relation.specs.State.{tree_list, IsKeyed, IsKept, IsCurrent, linked_keys}
 use Rattle.mm_relation.specs.Indexes.{Serve}
 use Rattle.mm_relation.proofs.Keeping.{same_state, can_read, served, kept_on, current_on}
+use Rattle.mm_relation.proofs.Serving.{seen_declared}
 use Rattle.mm_relation.proofs.Setting.{no_more}
 use Rattle.mm_relation.proofs.Each.{as_few, can_set, readable_set}
 use Rattle.mm_relation.proofs.relation.Relation.change_rows.Goals as goal
@@ -43,13 +44,14 @@ invariant_of-self-2 g c =
     refl refl c.reserve.ensures.same in
     let kept = subst IsKept (sym same) c.self.invariant.0 in
     let current = subst (IsCurrent keys) (sym same) (rw (← c.self.view_is) at c.requires.current) in
-    let after : IsKeyed c.change_each.new.rows.tuples (tree_list c.self.inside.by_key.tree) × Serve keys c.change_each.new.rows.tuples (tree_list c.self.inside.by_key.tree) c.change_each.new.indexes =
-    (rw c.as_slice.ensures.value at c.change_each.ensures.served) (tree_list c.self.inside.by_key.tree) c.self.invariant.0.keyed
-    (served c.self.inside.rows.counted c.self.inside.schema c.self.inside.targets.items c.self.inside.declared.items c.self.inside.rows.tuples c.self.inside.by_key.tree c.reserve.new.indexes kept keys current) in (
+    let after : IsKeyed c.change_each.new.rows.tuples (tree_list c.self.inside.by_key.tree) × Serve keys c.change_each.new.rows.tuples (tree_list c.self.inside.by_key.tree) c.shed_spares.new.indexes =
+    rw c.shed_spares.ensures.same
+    ((rw c.as_slice.ensures.value at c.change_each.ensures.served) (tree_list c.self.inside.by_key.tree) c.self.invariant.0.keyed
+    (served c.self.inside.rows.counted c.self.inside.schema c.self.inside.targets.items c.self.inside.declared.items c.self.inside.rows.tuples c.self.inside.by_key.tree c.reserve.new.indexes kept keys current)) in (
       kept_on c.self.inside.rows.counted c.self.inside.schema c.self.inside.targets.items c.self.inside.declared.items c.self.inside.rows.tuples c.self.inside.by_key.tree c.reserve.new.indexes kept
-          c.change_each.new.rows.counted c.change_each.new.rows.tuples c.self.inside.by_key.tree c.change_each.new.indexes after.0
+          c.change_each.new.rows.counted c.change_each.new.rows.tuples c.self.inside.by_key.tree c.shed_spares.new.indexes after.0
           (as_few c.self.inside.rows.tuples c.change_each.new.rows.tuples (tree_list c.self.inside.by_key.tree) c.self.invariant.0.keyed after.0 c.self.invariant.0.few)
-          c.change_each.ensures.declared,
+          (seen_declared c.change_each.new.indexes c.shed_spares.new.indexes c.shed_spares.ensures.same ∙ c.change_each.ensures.declared),
       c.change_each.ensures.width ∙ c.self.invariant.1,
     )
 
@@ -60,13 +62,14 @@ returns-clause-current g c =
     refl refl c.reserve.ensures.same in
     let kept = subst IsKept (sym same) c.self.invariant.0 in
     let current = subst (IsCurrent keys) (sym same) (rw (← c.self.view_is) at c.requires.current) in
-    let after : IsKeyed c.change_each.new.rows.tuples (tree_list c.self.inside.by_key.tree) × Serve keys c.change_each.new.rows.tuples (tree_list c.self.inside.by_key.tree) c.change_each.new.indexes =
-    (rw c.as_slice.ensures.value at c.change_each.ensures.served) (tree_list c.self.inside.by_key.tree) c.self.invariant.0.keyed
-    (served c.self.inside.rows.counted c.self.inside.schema c.self.inside.targets.items c.self.inside.declared.items c.self.inside.rows.tuples c.self.inside.by_key.tree c.reserve.new.indexes kept keys current) in
+    let after : IsKeyed c.change_each.new.rows.tuples (tree_list c.self.inside.by_key.tree) × Serve keys c.change_each.new.rows.tuples (tree_list c.self.inside.by_key.tree) c.shed_spares.new.indexes =
+    rw c.shed_spares.ensures.same
+    ((rw c.as_slice.ensures.value at c.change_each.ensures.served) (tree_list c.self.inside.by_key.tree) c.self.invariant.0.keyed
+    (served c.self.inside.rows.counted c.self.inside.schema c.self.inside.targets.items c.self.inside.declared.items c.self.inside.rows.tuples c.self.inside.by_key.tree c.reserve.new.indexes kept keys current)) in
     let can = can_set keys (length c.self.inside.targets.items) c.self.inside.rows.tuples c.args.sets.now current.readable
     (rw (← c.self.view_is) at c.requires.columns) c.requires.not_the_key (rw (← c.self.view_is) at c.requires.readable) in
     rw (← c.self.view_is)
     (current_on c.self.inside.rows.counted c.self.inside.schema c.self.inside.targets.items c.self.inside.declared.items c.self.inside.rows.tuples c.self.inside.by_key.tree c.reserve.new.indexes kept
-    c.change_each.new.rows.counted c.change_each.new.rows.tuples c.self.inside.by_key.tree c.change_each.new.indexes keys
+    c.change_each.new.rows.counted c.change_each.new.rows.tuples c.self.inside.by_key.tree c.shed_spares.new.indexes keys
     (readable_set keys (length c.self.inside.targets.items) c.self.inside.rows.tuples c.args.sets.now current.readable can c.change_each.new.rows.tuples c.args.rs.now c.change_each.ensures.rows)
     after.1)

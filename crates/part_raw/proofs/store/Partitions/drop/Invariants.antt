@@ -5,7 +5,7 @@ use Rattle.part_raw.proofs.store.Partitions.drop.Given as goal
 
 abbrev pub invariant-loop-block : goal.invariant-loop-block
 invariant-loop-block g l = record {
-  laid : (part : ℕ) (block : List (Option g.row.T.Denot)) → part < length l.blocks.items → block ≡ get_or l.blocks.items part block → IsLaid l.width block;
+  laid : (part : ℕ) (block : List (Option g.row.T.Denot)) → part < length l.blocks.items → block ≡ get_or l.blocks.items part block → 0 < length block → IsLaid l.width block;
   mapped : HaveBitmaps (map (rows_in l.width) l.blocks.items) l.occupancies.items;
 }
 

@@ -15,8 +15,8 @@ returns-then-part-len g c =
     let rows = tables c.self.inside.width (shelves_of c.self.inside.blocks.items c.self.inside.counts.items) in
     let small = small_tables c.self.inside.width (shelves_of c.self.inside.blocks.items c.self.inside.counts.items) in
     let within : part_of c.args.r < length (tables c.self.inside.width (shelves_of c.self.inside.blocks.items c.self.inside.counts.items)) =
-    omega (arith, c.len.ensures, c.if-part-len.true, c.part-part.ensures.value, c.self.invariant.table.store.mapped.as_many, c.self.inside.occupancies.ok) in
-    let bits = bits_of rows c.self.inside.occupancies.items c.index.result.now (part_of c.args.r) c.self.invariant.table.store.mapped within (rw c.part-part.ensures.value at c.index.ensures) in
+    omega (arith, c.len.ensures, c.if-part-len.true, c.part-part.ensures.value, c.self.invariant.0.table.store.mapped.as_many, c.self.inside.occupancies.ok) in
+    let bits = bits_of rows c.self.inside.occupancies.items c.index.result.now (part_of c.args.r) c.self.invariant.0.table.store.mapped within (rw c.part-part.ensures.value at c.index.ensures) in
     rw (← c.self.view_is)
     (held_by_bit _ _ (slot_of c.args.r) c.has.result bits (rw c.slot.ensures.value at c.has.ensures.within) (rw c.slot.ensures.value at c.has.ensures.past)
     ∙ sym (ap is_some (get-tuples_of rows c.args.r small)))
@@ -25,5 +25,5 @@ pub returns-else-part-len : goal.returns-else-part-len
 returns-else-part-len g c =
     let rows = tables c.self.inside.width (shelves_of c.self.inside.blocks.items c.self.inside.counts.items) in
     let small = small_tables c.self.inside.width (shelves_of c.self.inside.blocks.items c.self.inside.counts.items) in
-    let none = none_past rows c.args.r small (omega (arith, c.len.ensures, c.if-part-len.false, c.part-part.ensures.value, c.self.invariant.table.store.mapped.as_many, c.self.inside.occupancies.ok)) in
+    let none = none_past rows c.args.r small (omega (arith, c.len.ensures, c.if-part-len.false, c.part-part.ensures.value, c.self.invariant.0.table.store.mapped.as_many, c.self.inside.occupancies.ok)) in
     rw (← c.self.view_is) (le-ltb c.part-part.result c.len.result c.if-part-len.false ∙ sym (ap is_some none))

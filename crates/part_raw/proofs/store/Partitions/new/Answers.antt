@@ -1,4 +1,4 @@
-use Rattle.std.proofs.Common.{ap, arith, false, ◌∙◌}
+use Rattle.std.proofs.Common.{ap, arith, false, ◌∙◌, sym, sum_by, length, []}
 use Rattle.part_raw.specs.Store.{store}
 use Rattle.part_raw.specs.Counted.{shelves_of}
 use Rattle.part_raw.specs.Layout.{tuples_of}
@@ -8,7 +8,10 @@ use Rattle.part_raw.proofs.Filled.{stocked_empty, shelves_of-none}
 use Rattle.part_raw.proofs.store.Partitions.new.Goals as goal
 
 pub invariant_of-result : goal.invariant_of-result
-invariant_of-result g c = rw (c.new.ensures.items, c.new-2.ensures.items, c.new-3.ensures.items) (stocked_empty c.args.width (omega (arith, c.if-width-eq0.false)) (omega (arith, c.if-width-gt-MAX_WIDTH.false)))
+invariant_of-result g c = rw (c.new.ensures.items, c.new-2.ensures.items, c.new-3.ensures.items) (
+  stocked_empty c.args.width (omega (arith, c.if-width-eq0.false)) (omega (arith, c.if-width-gt-MAX_WIDTH.false)),
+  ap (λ s. sum_by length (tables c.args.width s)) (sym (shelves_of-none [])),
+)
 
 pub returns-clause-made : goal.returns-clause-made
 returns-clause-made g c =

@@ -4,91 +4,97 @@ use Rattle.part_raw.specs.Rows.{IsLaid, rows_in}
 use Rattle.part_raw.specs.Layout.{IsPartition, vacancies}
 use Rattle.part_raw.proofs.Sound.{first_is_some}
 use Rattle.part_raw.proofs.Stocked.{as_many, laid_here, bits_here, few_here}
-use Rattle.part_raw.proofs.Filled.{first_within, first_has_slot, filled_full, filled_open, filled_fresh, filled_tuples}
+use Rattle.part_raw.proofs.Filled.{first_within, first_has_slot, first_there, filled_slots, filled_full, filled_open, filled_fresh, filled_tuples}
 use Rattle.part_raw.proofs.store.Partitions.put.Goals as goal
 
 pub unreachable-requires : goal.unreachable-requires
 unreachable-requires g c =
-    let none = first_is_some _ _ c.self.inside.free (rw c.in-None.is at c.self.invariant).table.store in
+    let none = first_is_some _ _ c.self.inside.free (rw c.in-None.is at c.self.invariant.0).table.store in
     let some = rw (← c.self.view_is) at c.requires.room in
     omega (arith, none, some)
 
 pub index_mut-occupancy-requires : goal.index_mut-occupancy-requires
 index_mut-occupancy-requires g c =
-    let is = rw c.in-Some.is at c.self.invariant in
+    let is = rw c.in-Some.is at c.self.invariant.0 in
     omega (arith, first_within _ _ _ _ _ _ _ is, as_many _ _ _ _ _ _ _ is, c.self.inside.occupancies.ok)
 
 pub index_mut-block-requires : goal.index_mut-block-requires
-index_mut-block-requires g c = let is = rw c.in-Some.is at c.self.invariant in omega (arith, first_within _ _ _ _ _ _ _ is, c.self.inside.blocks.ok)
+index_mut-block-requires g c = let is = rw c.in-Some.is at c.self.invariant.0 in omega (arith, first_within _ _ _ _ _ _ _ is, c.self.inside.blocks.ok)
 
 pub fill-slot-requires-clause-laid : goal.fill-slot-requires-clause-laid
 fill-slot-requires-clause-laid g c =
-    let is = rw c.in-Some.is at c.self.invariant in
+    let is = rw c.in-Some.is at c.self.invariant.0 in
     let wide = rw (← c.self.view_is) at c.requires.width in
-    subst (λ (n : ℕ). IsLaid n c.index_mut-block.result.now) (sym wide) (laid_here _ _ _ _ _ _ _ is c.in-Some.part c.index_mut-block.result.now (first_within _ _ _ _ _ _ _ is) c.index_mut-block.ensures.value)
+    subst (λ (n : ℕ). IsLaid n c.index_mut-block.result.now) (sym wide) (laid_here _ _ _ _ _ _ _ is c.in-Some.part c.index_mut-block.result.now (first_within _ _ _ _ _ _ _ is) c.index_mut-block.ensures.value (first_there _ _ _ _ _ _ _ is c.index_mut-block.result.now c.index_mut-block.ensures.value))
 
 pub fill-slot-requires-clause-bits : goal.fill-slot-requires-clause-bits
 fill-slot-requires-clause-bits g c =
-    let is = rw c.in-Some.is at c.self.invariant in
+    let is = rw c.in-Some.is at c.self.invariant.0 in
     let wide = rw (← c.self.view_is) at c.requires.width in
     subst (λ (n : ℕ). IsPartition c.index_mut-occupancy.result.now.held.words (rows_in n c.index_mut-block.result.now)) (sym wide)
-    (bits_here _ _ _ _ _ _ _ is c.in-Some.part c.index_mut-block.result.now c.index_mut-occupancy.result.now (first_within _ _ _ _ _ _ _ is) c.index_mut-block.ensures.value c.index_mut-occupancy.ensures.value)
+    (bits_here _ _ _ _ _ _ _ is c.in-Some.part c.index_mut-block.result.now c.index_mut-occupancy.result.now (first_within _ _ _ _ _ _ _ is) c.index_mut-block.ensures.value c.index_mut-occupancy.ensures.value (first_there _ _ _ _ _ _ _ is c.index_mut-block.result.now c.index_mut-block.ensures.value))
 
 pub fill-slot-requires-clause-free : goal.fill-slot-requires-clause-free
 fill-slot-requires-clause-free g c =
-    let is = rw c.in-Some.is at c.self.invariant in
+    let is = rw c.in-Some.is at c.self.invariant.0 in
     let wide = rw (← c.self.view_is) at c.requires.width in
     subst (λ (n : ℕ). 0 < vacancies (rows_in n c.index_mut-block.result.now)) (sym wide) (first_has_slot _ _ _ _ _ _ _ is c.index_mut-block.result.now c.index_mut-block.ensures.value)
 
 pub invariant_of-self : goal.invariant_of-self
 invariant_of-self g c =
-    let is = rw c.in-Some.is at c.self.invariant in
+    let is = rw c.in-Some.is at c.self.invariant.0 in
     let wide = rw (← c.self.view_is) at c.requires.width in
-    let some = rw (← c.self.view_is) at c.requires.room in
-    filled_full _ _ _ _ _ _ _ is c.index_mut-block.result.now c.fill-slot.new.block c.index_mut-occupancy.result.now _ c.fill-slot.result c.args.cells.now.items _ wide c.index_mut-block.ensures.value c.index_mut-occupancy.ensures.value
-    c.fill-slot.ensures.laid c.fill-slot.ensures.bits c.fill-slot.ensures.slot c.fill-slot.ensures.fresh c.fill-slot.ensures.slots c.set_count_at.ensures.set some (c.is_full.ensures.0 c.if-is_full.true)
+    let some = rw (← c.self.view_is) at c.requires.room in (
+      filled_full _ _ _ _ _ _ _ is c.index_mut-block.result.now c.fill-slot.new.block c.index_mut-occupancy.result.now _ c.fill-slot.result c.args.cells.now.items _ wide c.index_mut-block.ensures.value c.index_mut-occupancy.ensures.value refl
+          c.fill-slot.ensures.laid c.fill-slot.ensures.bits c.fill-slot.ensures.slot c.fill-slot.ensures.fresh c.fill-slot.ensures.slots c.set_count_at.ensures.set some (c.is_full.ensures.0 c.if-is_full.true),
+      c.self.invariant.1 ∙ sym (filled_slots _ _ _ _ _ _ _ is c.index_mut-block.result.now c.fill-slot.new.block c.index_mut-occupancy.result.now (record { held = c.fill-slot.new.held; next_open = None; has_block = c.index_mut-occupancy.result.now.has_block }) c.fill-slot.result c.args.cells.now.items _ wide
+          c.index_mut-block.ensures.value c.index_mut-occupancy.ensures.value refl c.fill-slot.ensures.laid c.fill-slot.ensures.bits c.fill-slot.ensures.slot c.fill-slot.ensures.fresh c.fill-slot.ensures.slots c.set_count_at.ensures.set),
+    )
 
 pub invariant_of-self-else-is_full : goal.invariant_of-self-else-is_full
 invariant_of-self-else-is_full g c =
-    let is = rw c.in-Some.is at c.self.invariant in
+    let is = rw c.in-Some.is at c.self.invariant.0 in
     let wide = rw (← c.self.view_is) at c.requires.width in
-    let some = rw (← c.self.view_is) at c.requires.room in
-    rw c.in-Some.is
-    (filled_open _ _ _ _ _ _ _ is c.index_mut-block.result.now c.fill-slot.new.block c.index_mut-occupancy.result.now _ c.fill-slot.result c.args.cells.now.items _ wide c.index_mut-block.ensures.value c.index_mut-occupancy.ensures.value
-    c.fill-slot.ensures.laid c.fill-slot.ensures.bits c.fill-slot.ensures.slot c.fill-slot.ensures.fresh c.fill-slot.ensures.slots c.set_count_at.ensures.set some
-    (λ full. true≢false (sym (c.is_full.ensures.1 full) ∙ c.if-is_full.false)) refl)
+    let some = rw (← c.self.view_is) at c.requires.room in (
+      rw c.in-Some.is
+          (filled_open _ _ _ _ _ _ _ is c.index_mut-block.result.now c.fill-slot.new.block c.index_mut-occupancy.result.now _ c.fill-slot.result c.args.cells.now.items _ wide c.index_mut-block.ensures.value c.index_mut-occupancy.ensures.value refl
+          c.fill-slot.ensures.laid c.fill-slot.ensures.bits c.fill-slot.ensures.slot c.fill-slot.ensures.fresh c.fill-slot.ensures.slots c.set_count_at.ensures.set some
+          (λ full. true≢false (sym (c.is_full.ensures.1 full) ∙ c.if-is_full.false)) refl),
+      c.self.invariant.1 ∙ sym (filled_slots _ _ _ _ _ _ _ is c.index_mut-block.result.now c.fill-slot.new.block c.index_mut-occupancy.result.now (record { held = c.fill-slot.new.held; next_open = None; has_block = c.index_mut-occupancy.result.now.has_block }) c.fill-slot.result c.args.cells.now.items _ wide
+          c.index_mut-block.ensures.value c.index_mut-occupancy.ensures.value refl c.fill-slot.ensures.laid c.fill-slot.ensures.bits c.fill-slot.ensures.slot c.fill-slot.ensures.fresh c.fill-slot.ensures.slots c.set_count_at.ensures.set),
+    )
 
 pub to-r-requires-clause-part : goal.to-r-requires-clause-part
-to-r-requires-clause-part g c = let is = rw c.in-Some.is at c.self.invariant in omega (arith, first_within _ _ _ _ _ _ _ is, few_here _ _ _ _ _ _ _ is)
+to-r-requires-clause-part g c = let is = rw c.in-Some.is at c.self.invariant.0 in omega (arith, first_within _ _ _ _ _ _ _ is, few_here _ _ _ _ _ _ _ is)
 
 pub returns-then-is_full-clause-fresh : goal.returns-then-is_full-clause-fresh
 returns-then-is_full-clause-fresh g c =
-    let is = rw c.in-Some.is at c.self.invariant in
+    let is = rw c.in-Some.is at c.self.invariant.0 in
     let wide = rw (← c.self.view_is) at c.requires.width in
     rw (← c.self.view_is, c.to-r.ensures)
-    (filled_fresh _ _ _ _ _ _ _ is c.index_mut-block.result.now c.fill-slot.new.block c.index_mut-occupancy.result.now (record { held = c.fill-slot.new.held; next_open = None }) c.fill-slot.result c.args.cells.now.items _ wide
-    c.index_mut-block.ensures.value c.index_mut-occupancy.ensures.value c.fill-slot.ensures.laid c.fill-slot.ensures.bits c.fill-slot.ensures.slot c.fill-slot.ensures.fresh c.fill-slot.ensures.slots c.set_count_at.ensures.set)
+    (filled_fresh _ _ _ _ _ _ _ is c.index_mut-block.result.now c.fill-slot.new.block c.index_mut-occupancy.result.now (record { held = c.fill-slot.new.held; next_open = None; has_block = c.index_mut-occupancy.result.now.has_block }) c.fill-slot.result c.args.cells.now.items _ wide
+    c.index_mut-block.ensures.value c.index_mut-occupancy.ensures.value refl c.fill-slot.ensures.laid c.fill-slot.ensures.bits c.fill-slot.ensures.slot c.fill-slot.ensures.fresh c.fill-slot.ensures.slots c.set_count_at.ensures.set)
 
 pub returns-then-is_full-clause-tuples : goal.returns-then-is_full-clause-tuples
 returns-then-is_full-clause-tuples g c =
-    let is = rw c.in-Some.is at c.self.invariant in
+    let is = rw c.in-Some.is at c.self.invariant.0 in
     let wide = rw (← c.self.view_is) at c.requires.width in
     rw (← c.self.view_is, c.to-r.ensures)
-    (filled_tuples _ _ _ _ _ _ _ is c.index_mut-block.result.now c.fill-slot.new.block c.index_mut-occupancy.result.now (record { held = c.fill-slot.new.held; next_open = None }) c.fill-slot.result c.args.cells.now.items _ wide
-    c.index_mut-block.ensures.value c.index_mut-occupancy.ensures.value c.fill-slot.ensures.laid c.fill-slot.ensures.bits c.fill-slot.ensures.slot c.fill-slot.ensures.fresh c.fill-slot.ensures.slots c.set_count_at.ensures.set)
+    (filled_tuples _ _ _ _ _ _ _ is c.index_mut-block.result.now c.fill-slot.new.block c.index_mut-occupancy.result.now (record { held = c.fill-slot.new.held; next_open = None; has_block = c.index_mut-occupancy.result.now.has_block }) c.fill-slot.result c.args.cells.now.items _ wide
+    c.index_mut-block.ensures.value c.index_mut-occupancy.ensures.value refl c.fill-slot.ensures.laid c.fill-slot.ensures.bits c.fill-slot.ensures.slot c.fill-slot.ensures.fresh c.fill-slot.ensures.slots c.set_count_at.ensures.set)
 
 pub returns-else-is_full-clause-fresh : goal.returns-else-is_full-clause-fresh
 returns-else-is_full-clause-fresh g c =
-    let is = rw c.in-Some.is at c.self.invariant in
+    let is = rw c.in-Some.is at c.self.invariant.0 in
     let wide = rw (← c.self.view_is) at c.requires.width in
     rw (← c.self.view_is, c.to-r.ensures)
-    (filled_fresh _ _ _ _ _ _ _ is c.index_mut-block.result.now c.fill-slot.new.block c.index_mut-occupancy.result.now (record { held = c.fill-slot.new.held; next_open = None }) c.fill-slot.result c.args.cells.now.items _ wide
-    c.index_mut-block.ensures.value c.index_mut-occupancy.ensures.value c.fill-slot.ensures.laid c.fill-slot.ensures.bits c.fill-slot.ensures.slot c.fill-slot.ensures.fresh c.fill-slot.ensures.slots c.set_count_at.ensures.set)
+    (filled_fresh _ _ _ _ _ _ _ is c.index_mut-block.result.now c.fill-slot.new.block c.index_mut-occupancy.result.now (record { held = c.fill-slot.new.held; next_open = None; has_block = c.index_mut-occupancy.result.now.has_block }) c.fill-slot.result c.args.cells.now.items _ wide
+    c.index_mut-block.ensures.value c.index_mut-occupancy.ensures.value refl c.fill-slot.ensures.laid c.fill-slot.ensures.bits c.fill-slot.ensures.slot c.fill-slot.ensures.fresh c.fill-slot.ensures.slots c.set_count_at.ensures.set)
 
 pub returns-else-is_full-clause-tuples : goal.returns-else-is_full-clause-tuples
 returns-else-is_full-clause-tuples g c =
-    let is = rw c.in-Some.is at c.self.invariant in
+    let is = rw c.in-Some.is at c.self.invariant.0 in
     let wide = rw (← c.self.view_is) at c.requires.width in
     rw (← c.self.view_is, c.to-r.ensures)
-    (filled_tuples _ _ _ _ _ _ _ is c.index_mut-block.result.now c.fill-slot.new.block c.index_mut-occupancy.result.now (record { held = c.fill-slot.new.held; next_open = None }) c.fill-slot.result c.args.cells.now.items _ wide
-    c.index_mut-block.ensures.value c.index_mut-occupancy.ensures.value c.fill-slot.ensures.laid c.fill-slot.ensures.bits c.fill-slot.ensures.slot c.fill-slot.ensures.fresh c.fill-slot.ensures.slots c.set_count_at.ensures.set)
+    (filled_tuples _ _ _ _ _ _ _ is c.index_mut-block.result.now c.fill-slot.new.block c.index_mut-occupancy.result.now (record { held = c.fill-slot.new.held; next_open = None; has_block = c.index_mut-occupancy.result.now.has_block }) c.fill-slot.result c.args.cells.now.items _ wide
+    c.index_mut-block.ensures.value c.index_mut-occupancy.ensures.value refl c.fill-slot.ensures.laid c.fill-slot.ensures.bits c.fill-slot.ensures.slot c.fill-slot.ensures.fresh c.fill-slot.ensures.slots c.set_count_at.ensures.set)

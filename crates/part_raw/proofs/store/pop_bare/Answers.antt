@@ -1,42 +1,48 @@
-use Rattle.std.proofs.Common.{◌∙◌, ◌≡◌, ap, length, arith, rules, take}
+use Rattle.std.proofs.Common.{◌≡◌, ◌∙◌, ap, length, arith, refl, take}
 use Rattle.std.proofs.lemmas.List.{length_push}
 use Rattle.part_raw.specs.Counted.{shelves_of}
 use Rattle.part_raw.proofs.Beside.{length-shelves_of, shelves_of-push, shelves_of-take}
 use Rattle.part_raw.proofs.Tables.{length-tables}
-use Rattle.part_raw.proofs.Spared.{spare-empty, front_kept, front_tuples, front_free}
-use Rattle.part_raw.proofs.store.pop_spares.Goals as goal
+use Rattle.part_raw.proofs.Spared.{last-bare, front_kept, front_tuples, front_free, front_slots, holds_front}
+use Rattle.part_raw.proofs.store.pop_bare.Goals as goal
 
-pub free-requires : goal.free-requires
-free-requires g c =
+pub let_go-requires : goal.let_go-requires
+let_go-requires g c =
     let kept = rw (c.in-Some-Some.ensures.items, c.in-Some-Some.ensures'.items, shelves_of-push c.pop.new.self.items c.args.counts.now.items c.in-Some-Some.block) at c.loop-blocks.invariant.kept in
-    let clear = rw c.in-Some-Some.ensures'.items at c.ends_spare.ensures.spare c.loop-blocks-test.true in
-    spare-empty c.args.width c.requires.wide.0 (shelves_of c.pop.new.self.items c.args.counts.now.items) _ c.pop-in-loop-blocks.new.self.items c.in-Some-Some.field-0-1 kept clear
+    let bare = rw c.in-Some-Some.ensures'.items at c.ends_bare.ensures.bare c.loop-blocks-test.true in
+    last-bare c.args.width (shelves_of c.pop.new.self.items c.args.counts.now.items) _ c.pop-in-loop-blocks.new.self.items c.in-Some-Some.field-0-1 kept bare
 
 pub loop-blocks-init : goal.loop-blocks-init
 loop-blocks-init g c = record {
   kept = c.requires.kept;
   as_many = c.requires.kept.mapped.as_many ∙ length-tables c.args.width (shelves_of c.args.blocks.now.items c.args.counts.now.items) ∙ length-shelves_of c.args.blocks.now.items c.args.counts.now.items;
-  tuples = search rules;
+  tuples = refl;
   fewer = omega arith;
-  freed = search rules;
+  free = refl;
+  slots = refl;
+  held = λ held. held;
 }
 
 pub loop-blocks-preserved : goal.loop-blocks-preserved
 loop-blocks-preserved g c =
     let push = shelves_of-push c.pop.new.self.items c.args.counts.now.items c.in-Some-Some.block in
     let kept = rw (c.in-Some-Some.ensures.items, c.in-Some-Some.ensures'.items, push) at c.loop-blocks.invariant.kept in
-    let clear = rw c.in-Some-Some.ensures'.items at c.ends_spare.ensures.spare c.loop-blocks-test.true in
+    let bare = rw c.in-Some-Some.ensures'.items at c.ends_bare.ensures.bare c.loop-blocks-test.true in
     let tuples = rw (c.in-Some-Some.ensures.items, push) at c.loop-blocks.invariant.tuples in
-    let freed = rw (c.in-Some-Some.ensures.items, push) at c.loop-blocks.invariant.freed in
+    let free = rw (c.in-Some-Some.ensures.items, push) at c.loop-blocks.invariant.free in
+    let slots = rw (c.in-Some-Some.ensures.items, push) at c.loop-blocks.invariant.slots in
+    let held = rw c.in-Some-Some.ensures'.items at c.loop-blocks.invariant.held in
     let one = length_push c.pop.new.self.items c.in-Some-Some.block in
     let one' = length_push c.pop-in-loop-blocks.new.self.items c.in-Some-Some.field-0-1 in
-    let free = front_free c.args.width c.requires.wide.0 (shelves_of c.pop.new.self.items c.args.counts.now.items) _ c.pop-in-loop-blocks.new.self.items c.in-Some-Some.field-0-1 kept clear in
     record {
-      kept = front_kept c.args.width c.requires.wide.0 (shelves_of c.pop.new.self.items c.args.counts.now.items) _ c.pop-in-loop-blocks.new.self.items c.in-Some-Some.field-0-1 kept clear;
+      kept = front_kept c.args.width (shelves_of c.pop.new.self.items c.args.counts.now.items) _ c.pop-in-loop-blocks.new.self.items c.in-Some-Some.field-0-1 kept bare;
       as_many = omega (arith, one, one', ap length c.in-Some-Some.ensures.items, ap length c.in-Some-Some.ensures'.items, c.loop-blocks.invariant.as_many);
-      tuples = front_tuples c.args.width c.requires.wide.0 (shelves_of c.pop.new.self.items c.args.counts.now.items) _ c.pop-in-loop-blocks.new.self.items c.in-Some-Some.field-0-1 kept clear ∙ tuples;
+      tuples = front_tuples c.args.width (shelves_of c.pop.new.self.items c.args.counts.now.items) _ c.pop-in-loop-blocks.new.self.items c.in-Some-Some.field-0-1 kept bare ∙ tuples;
       fewer = omega (arith, one, ap length c.in-Some-Some.ensures.items, c.loop-blocks.invariant.fewer);
-      freed = omega (arith, one, free, freed);
+      free = front_free c.args.width (shelves_of c.pop.new.self.items c.args.counts.now.items) _ c.pop-in-loop-blocks.new.self.items c.in-Some-Some.field-0-1 kept bare ∙ free;
+      slots = front_slots c.args.width (shelves_of c.pop.new.self.items c.args.counts.now.items) _ c.pop-in-loop-blocks.new.self.items c.in-Some-Some.field-0-1 kept bare ∙ slots;
+      held = λ all part within.
+          holds_front c.pop-in-loop-blocks.new.self.items c.in-Some-Some.field-0-1 part within (held all part (omega (arith, within, one')));
     }
 
 pub returns-clause-kept : goal.returns-clause-kept
@@ -53,9 +59,16 @@ returns-clause-tuples g c =
     (λ i. shelves_of (c.shrink_to_fit.ensures.items i) (cut i)) ∙ shelves_of-take c.loop-blocks.blocks.items c.args.counts.now.items in
     rw same c.loop-blocks.invariant.tuples
 
-pub returns-clause-freed : goal.returns-clause-freed
-returns-clause-freed g c =
+pub returns-clause-free : goal.returns-clause-free
+returns-clause-free g c =
     let cut = c.shrink_to_fit-2.ensures.items ∙ c.truncate.ensures.items ∙ ap (λ n. take n c.args.counts.now.items) (c.len.ensures ∙ c.loop-blocks.blocks.ok.0) in
     let same : shelves_of c.shrink_to_fit.new.self.items c.shrink_to_fit-2.new.self.items ≡ shelves_of c.loop-blocks.blocks.items c.args.counts.now.items =
     (λ i. shelves_of (c.shrink_to_fit.ensures.items i) (cut i)) ∙ shelves_of-take c.loop-blocks.blocks.items c.args.counts.now.items in
-    rw (same, c.shrink_to_fit.ensures.items) c.loop-blocks.invariant.freed
+    rw same c.loop-blocks.invariant.free
+
+pub returns-clause-slots : goal.returns-clause-slots
+returns-clause-slots g c =
+    let cut = c.shrink_to_fit-2.ensures.items ∙ c.truncate.ensures.items ∙ ap (λ n. take n c.args.counts.now.items) (c.len.ensures ∙ c.loop-blocks.blocks.ok.0) in
+    let same : shelves_of c.shrink_to_fit.new.self.items c.shrink_to_fit-2.new.self.items ≡ shelves_of c.loop-blocks.blocks.items c.args.counts.now.items =
+    (λ i. shelves_of (c.shrink_to_fit.ensures.items i) (cut i)) ∙ shelves_of-take c.loop-blocks.blocks.items c.args.counts.now.items in
+    rw same c.loop-blocks.invariant.slots

@@ -1,0 +1,4 @@
+use Rattle.mm_relation.proofs.rows.Rows.shed_spares.Goals as goal
+
+pub invariant_of-self : goal.invariant_of-self
+invariant_of-self c = rw (c.shed_spares.ensures.tuples, c.shed_spares.ensures.width) c.self.invariant

@@ -1,0 +1,19 @@
+use Rattle.std.proofs.Common.{◌≡◌, ℕ, ◌<◌, ◌≤◌, length, sum_by, vec_len}
+use Rattle.part_raw.specs.Layout.{tuples_of, vacancies}
+use Rattle.part_raw.specs.Counted.{shelves_of}
+use Rattle.part_raw.specs.Open.{AreKept, HoldsWhereBlock, tables}
+use Rattle.part_raw.proofs.store.pop_bare.Given as goal
+
+abbrev pub invariant-loop-blocks : goal.invariant-loop-blocks
+invariant-loop-blocks g l = record {
+  kept : AreKept l.width (shelves_of l.blocks.items l.counts.items) l.occupancies.items;
+  as_many : length l.occupancies.items ≡ length l.blocks.items;
+  tuples : tuples_of (tables l.width (shelves_of l.blocks.items l.counts.items)) ≡ tuples_of (tables l.width (shelves_of l.fn.blocks.items l.counts.items));
+  fewer : length l.blocks.items ≤ length l.fn.blocks.items;
+  free : sum_by vacancies (tables l.width (shelves_of l.blocks.items l.counts.items)) ≡ sum_by vacancies (tables l.width (shelves_of l.fn.blocks.items l.counts.items));
+  slots : sum_by length (tables l.width (shelves_of l.blocks.items l.counts.items)) ≡ sum_by length (tables l.width (shelves_of l.fn.blocks.items l.counts.items));
+  held : ((part : ℕ) → part < length l.fn.occupancies.items → HoldsWhereBlock l.fn.occupancies.items part) → (part : ℕ) → part < length l.occupancies.items → HoldsWhereBlock l.occupancies.items part;
+}
+
+abbrev pub decreases-loop-blocks : goal.decreases-loop-blocks
+decreases-loop-blocks g l = vec_len l.blocks
