@@ -1,5 +1,5 @@
 -- The tree and the hash on a column, and how often a search of a tree compares.
-use Rattle.std.proofs.Common.{◌≡◌, ◌+◌, ◌*◌, ◌==◌, ℕ, suc, List, [], ◌∷◌, inl, inr, true, false, IsTrue, ◌||◌, refl, sym, ap, ◌∙◌, arith, subst, length}
+use Rattle.std.proofs.Common.{◌≡◌, ◌+◌, ◌==◌, ℕ, suc, List, [], ◌∷◌, inl, inr, true, false, IsTrue, ◌||◌, refl, sym, ap, ◌∙◌, arith, subst, length}
 use Rattle.std.specs.List.{All, list_any}
 use Rattle.std.specs.FinMap.{len}
 use Rattle.std.proofs.lemmas.Bool.{cases_Bool, eqb-true}
@@ -20,7 +20,7 @@ unfolding binary_digits
 digits_of_32 = refl
 
 -- what a search of a tree asks at most is told by its height
-pub most_of : (t on : RowTree) → t ≡ on → 2 * height t + binary_digits 32 ≡ most_compared on
+pub most_of : (t on : RowTree) → t ≡ on → height t + binary_digits 32 ≡ most_compared on
 most_of t on same = let e : height t ≡ height on = ap (λ (u : RowTree). height u) same in omega (arith, digits_of_32)
 
 -- a tree that serves references lists as many

@@ -1,5 +1,5 @@
 //! The T-tree as an `OrderedIndex`: each call is the tree's own, which says more.
-ghost use Rattle.std.specs.Prelude.{◌≡◌, ◌+◌, ◌*◌, Some};
+ghost use Rattle.std.specs.Prelude.{◌≡◌, ◌+◌, Some};
 ghost use Rattle.ttree_node.specs.Tree.{height};
 ghost use Rattle.ttree.specs.Held.{items_of_tree};
 ghost use Rattle.ttree.specs.Room.{room_of};
@@ -16,7 +16,7 @@ impl<const MIN: usize, const MAX: usize> OrderedIndex for TTree<MIN, MAX> {
 
     ghost room = { λ t. room_of MIN t };
 
-    ghost most_asked = { λ t. Some (2 * height t.tree + binary_digits MAX) };
+    ghost most_asked = { λ t. Some (height t.tree + binary_digits MAX) };
 
     fn reserve(&mut self, n: usize) -> Result<(), NoMemory> {
         TTree::reserve(self, n)

@@ -120,7 +120,7 @@ impl<const MIN: usize, const MAX: usize> TTree<MIN, MAX> {
         ensures err { OnErr result (out.new.items ≡ out.old.items) }
         ensures probe { IsOnlyAsked P.is_sound P.can_place P.place P.asked probe.old probe.new }
         // Beyond the search it asks once for each reference that it appends, and once more.
-        ensures most_asked { OnOk result (P.asked probe.new ≤ P.asked probe.old + (2 * height self.now.tree + binary_digits MAX) + length (in_range (P.place probe.old) (items_of_tree self.now)) + 1) }
+        ensures most_asked { OnOk result (P.asked probe.new ≤ P.asked probe.old + (height self.now.tree + binary_digits MAX) + length (in_range (P.place probe.old) (items_of_tree self.now)) + 1) }
         ensures bound { fib (height self.now.tree + 2) ≤ 1 + length (items_of_tree self.now) }
     {
         let before = out.len();

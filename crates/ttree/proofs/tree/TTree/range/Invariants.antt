@@ -1,4 +1,4 @@
-use Rattle.std.proofs.Common.{◌≡◌, ◌++◌, ◌+◌, ◌*◌, ◌≤◌, length}
+use Rattle.std.proofs.Common.{◌≡◌, ◌++◌, ◌+◌, ◌≤◌, length}
 use Rattle.std.specs.List.{All}
 use Rattle.std.specs.declared.cmp.Ordering.TheVariants.{Equal}
 use Rattle.mm_index.specs.Asking.{IsOnlyAsked}
@@ -16,5 +16,5 @@ invariant-loop-r g l = record {
   left : from_range (g.P.Probe.place l.fn.probe) (items_of_tree l.self) ≡ l.yielded ++ rest_of l.r-iterator;
   equal : All (λ r. g.P.Probe.place l.fn.probe r ≡ Equal) l.yielded;
   only : IsOnlyAsked g.P.Probe.is_sound g.P.Probe.can_place g.P.Probe.place g.P.Probe.asked l.fn.probe l.probe;
-  most : g.P.Probe.asked l.probe ≤ g.P.Probe.asked l.fn.probe + (2 * height l.self.tree + binary_digits g.row.MAX) + length l.yielded;
+  most : g.P.Probe.asked l.probe ≤ g.P.Probe.asked l.fn.probe + (height l.self.tree + binary_digits g.row.MAX) + length l.yielded;
 }
