@@ -1,7 +1,13 @@
 -- The rows that a walk of the key finds, and what is shown of them.
-use Rattle.std.proofs.Common.{◌≡◌, ◌∙◌, ℕ, zero, suc, ◌<◌, ◌≤◌, Bool, true, false, cond, List, [], ◌∷◌, ◌++◌, Some, refl, sym, ap, subst, arith, append-nil, filter, get_or, length, map, length-append}
+use Rattle.std.proofs.Common.{◌≡◌, ◌∙◌, ℕ, zero, suc, ◌<◌, ◌≤◌, Bool, true, false, cond, List, [], ◌∷◌, ◌++◌, Option, Some, refl, sym, ap, subst, arith, append-nil, append_assoc, filter, get_or, length, map, length-append}
 use Rattle.std.specs.Prelude.{slice_get}
-use Rattle.std.specs.List.{All}
+use Rattle.std.specs.List.{All, flat_map}
+use Rattle.std.specs.Io.KnownBytes.{Appends}
+use Rattle.std.proofs.KnownBytes.{Appends-nil, Appends-trans}
+use Rattle.std.proofs.lemmas.Grind.{flat_map-append}
+use Rattle.std.proofs.lemmas.List.{get_or-map, length-map, map-append}
+use Rattle.common_lemmas.proofs.Elements.{All-append_parts}
+use Rattle.plain_tables.specs.Csv.{row_record}
 use Rattle.std.proofs.lemmas.List.Elements.{filter-append}
 use Rattle.std.proofs.lemmas.List.Sums.{length-filter, count_by-le-length}
 use Rattle.std.proofs.lemmas.Option.{same_Some}
@@ -28,7 +34,7 @@ use Rattle.join_ops.specs.Joins.{single_rows}
 use Rattle.join_ops.proofs.JoinLemmas.{single_over}
 use Rattle.mm_session.specs.Members.{HasMembers, IsSourceOf, tables_at, joined_numbers, member_of}
 use Rattle.mm_session.specs.Shown.{places_shown, heading, list_values}
-use Rattle.mm_session.specs.Walked.{shown_row, AreColumns, rows_shown}
+use Rattle.mm_session.specs.Walked.{shown_row, AreColumns, WritesRows, rows_shown}
 use Rattle.mm_session.proofs.MemberLemmas.{map_map, map_same}
 use Rattle.mm_session.proofs.QueryLemmas.{key_source, source_columns, listing_over, singles_rise, single_lead}
 use Rattle.mm_session.proofs.SelectLemmas.{described_over, some_places, ordered_shown, names_shown}
@@ -43,6 +49,51 @@ next_fails p xs x so = filter-append p xs (x ∷ []) ∙ ap (λ b. filter p xs +
 
 pub few_passing : {A : Type 0} (p : A → Bool) (front rest : List A) → length (filter p front) ≤ length (front ++ rest)
 few_passing p front rest = omega (arith, length-filter p front, count_by-le-length p front, length-append front rest)
+
+-- ---- rows that wait to be written
+
+-- Of the rows that were found the last ones wait, and the records of those before them are written.
+pub record IsWaiting (c : CatalogState) (s : RelationState) (places : List Place) (first last : Option (List ℕ)) (found batch : List TupleRef) : Type 0 where
+  pub done : List TupleRef
+  pub split : found ≡ done ++ batch
+  pub written : WritesRows c s places first last done
+
+module _ (c : CatalogState) (s : RelationState) (places : List Place) (first last : Option (List ℕ)) (found : List TupleRef) where
+  -- no row is found yet
+  pub waiting_none : found ≡ [] → last ≡ first → IsWaiting c s places first last found []
+  waiting_none none same = record { done = []; split = none; written = subst (λ (b : Option (List ℕ)). Appends first b []) (sym same) (Appends-nil first) }
+
+  -- one row more waits
+  pub waiting_more : (batch : List TupleRef) → IsWaiting c s places first last found batch → (r : TupleRef) (all longer : List TupleRef) → all ≡ found ++ r ∷ [] → longer ≡ batch ++ r ∷ []
+      → IsWaiting c s places first last all longer
+  waiting_more batch waits r all longer finds holds = record {
+    done = waits.done;
+    split = finds ∙ ap (λ (rs : List TupleRef). rs ++ r ∷ []) waits.split ∙ append_assoc waits.done batch (r ∷ []) ∙ ap (λ (rs : List TupleRef). waits.done ++ rs) (sym holds);
+    written = waits.written;
+  }
+
+  -- all that waited are written
+  pub waiting_done : (batch : List TupleRef) → IsWaiting c s places first last found batch → (new : Option (List ℕ)) → WritesRows c s places last new batch → WritesRows c s places first new found
+  waiting_done batch waits new writes =
+      subst (Appends first new)
+      (sym (ap (λ (rs : List TupleRef). flat_map row_record (map (shown_row c s places) rs)) waits.split
+      ∙ ap (flat_map row_record) (map-append (shown_row c s places) waits.done batch)
+      ∙ flat_map-append row_record (map (shown_row c s places) waits.done) (map (shown_row c s places) batch)))
+      (Appends-trans first last new _ _ waits.written writes)
+
+  -- all that waited are written, and none waits
+  pub waiting_empty : (batch : List TupleRef) → IsWaiting c s places first last found batch → (new : Option (List ℕ)) → WritesRows c s places last new batch → IsWaiting c s places first new found []
+  waiting_empty batch waits new writes = record { done = found; split = sym (append-nil found); written = waiting_done batch waits new writes }
+
+  -- each of those that wait is a row of those that passed
+  pub waiting_held : (P : TupleRef → Type 0) (batch : List TupleRef) → IsWaiting c s places first last found batch → All P found → All P batch
+  waiting_held P batch waits each = (All-append_parts P waits.done batch (subst (All P) waits.split each)).1
+
+-- what a list shows at a place, where it shows the same as another
+pub read_at : {A B C : Type 0} (f : A → C) (g : B → C) (xs : List A) (ys : List B) (k : ℕ) (x : A) (d : B) → map f xs ≡ map g ys → k < length ys → x ≡ get_or xs k x → f x ≡ g (get_or ys k d)
+read_at f g xs ys k x d same within there =
+    let long : length xs ≡ length ys = sym (length-map xs f) ∙ ap length same ∙ length-map ys g in
+    ap f there ∙ sym (get_or-map f xs k x (f x) (omega (arith, long, within))) ∙ ap (λ zs. get_or zs k (f x)) same ∙ get_or-map g ys k d (f x) within
 
 -- ---- what a query of one table shows
 
