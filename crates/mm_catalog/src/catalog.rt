@@ -10,6 +10,7 @@ use crate::delete::{delete, take_out};
 use crate::insert::insert;
 use crate::laws::a_catalog_is_consistent;
 use crate::load::{in_record, room_for};
+use crate::references::cells::copies_of;
 use crate::removal::{renumber_behind, unlink};
 use crate::updating::set_rows;
 use indexmap::IndexSet;
@@ -214,12 +215,13 @@ impl Catalog {
 
     /// Puts a row into a table. The answer is 41 where a row with its key is there, else 42 where a reference of it names
     /// no row, else 43 where the table is full, and 90 where no memory is found. All is then as before.
-    pub fn insert(&mut self, table: TableNumber, values: Sequence<Value>) -> Result<(), Refusal>
-        requires { IsMeant self.old.limits (database_of self.old) (resolved.Insert table values) }
-        ensures inserted { OnOk result (HasEffect self.old self.new (done self.old.limits (database_of self.old) (resolved.Insert table values)) 1) }
-        ensures refused { IfErr result (IsRefusedFor self.old self.new (done self.old.limits (database_of self.old) (resolved.Insert table values))) }
+    pub fn insert(&mut self, table: TableNumber, values: &[Value]) -> Result<(), Refusal>
+        requires { IsMeant self.old.limits (database_of self.old) (resolved.Insert table values.now) }
+        ensures inserted { OnOk result (HasEffect self.old self.new (done self.old.limits (database_of self.old) (resolved.Insert table values.now)) 1) }
+        ensures refused { IfErr result (IsRefusedFor self.old self.new (done self.old.limits (database_of self.old) (resolved.Insert table values.now))) }
     {
-        self.take_in(table, values)?;
+        let row = copies_of(*self.relations.allocator(), values)?;
+        self.take_in(table, row)?;
         Ok(())
     }
 
@@ -321,13 +323,13 @@ impl Catalog {
         &mut self,
         table: TableNumber,
         rows: &[TupleRef],
-        assignments: Sequence<Assignment>,
+        assignments: &[Assignment],
     ) -> Result<(), Refusal>
-        requires meant { OfTable table (database_of self.old) (AreAssignable (database_of self.old) assignments) }
+        requires meant { OfTable table (database_of self.old) (AreAssignable (database_of self.old) assignments.now) }
         requires held { HoldsRows self.old table.0 rows.now }
         requires once { AllPairs (λ q r. q ≢ r) rows.now }
-        ensures updated { OnOk result ((picks : Row → Bool) → ArePicked self.old table.0 rows.now picks → HasEffect self.old self.new (doing.update (database_of self.old) table assignments picks) (length rows.now)) }
-        ensures refused { IfErr result (λ refusal. (refusal ≡ Refusal.NoMemory) ⊎ ((picks : Row → Bool) → (doing.update (database_of self.old) table assignments picks).outcome ≡ Refused refusal)) }
+        ensures updated { OnOk result ((picks : Row → Bool) → ArePicked self.old table.0 rows.now picks → HasEffect self.old self.new (doing.update (database_of self.old) table assignments.now picks) (length rows.now)) }
+        ensures refused { IfErr result (λ refusal. (refusal ≡ Refusal.NoMemory) ⊎ ((picks : Row → Bool) → (doing.update (database_of self.old) table assignments.now picks).outcome ≡ Refused refusal)) }
         ensures unchanged { OnErr result (self.new ≡ self.old) }
     {
         let alloc = *self.relations.allocator();

@@ -12,14 +12,14 @@ ghost use Rattle.mm_catalog.specs.Assigned.{AreConsistent, AreNotSet, AreSetBy, 
 ghost use Rattle.mm_catalog.specs.State.{CatalogState};
 
 use crate::before::Before;
-use crate::references::cells::cell_of;
+use crate::references::cells::{cell_of, copy_of};
 use crate::references::counting::{count_down_all, count_up};
 use crate::references::link::{Link, link_in, target_number};
 use mm_relation::laws::a_relation_is_kept;
 use mm_relation::{Cell, Relation};
 use no_memory::NoMemory;
 use part_raw::TupleRef;
-use plain_tables::{Assignment, ColumnNumber, Refusal, Sequence, TableNumber};
+use plain_tables::{Assignment, ColumnNumber, Refusal, TableNumber};
 use std::alloc::Global;
 
 // ---- the cells
@@ -29,18 +29,19 @@ fn sets_of(
     alloc: Global,
     before: &[Relation],
     relation: &Relation,
-    assignments: Sequence<Assignment>,
+    assignments: &[Assignment],
 ) -> Result<Vec<(ColumnNumber, Cell)>, Refusal>
-    requires columns { All (λ a. a.column.0 < length relation.now.targets) assignments }
+    requires columns { All (λ a. a.column.0 < length relation.now.targets) assignments.now }
     requires back { (column : ℕ) (table : ℕ) → target_at relation.now.targets column ≡ Some table → table < length before.now }
-    ensures sets { IfOk result (λ sets. AreSetBy before.now relation.now.targets assignments sets.items) }
-    ensures refused { IfErr result (AreNotSet before.now relation.now.targets assignments) }
+    ensures sets { IfOk result (λ sets. AreSetBy before.now relation.now.targets assignments.now sets.items) }
+    ensures refused { IfErr result (AreNotSet before.now relation.now.targets assignments.now) }
 {
     let mut sets = Vec::new(alloc);
-    for Assignment { column, value } in assignments.into_vec() {
-        let target = target_number(relation, column);
+    for assignment in assignments {
+        let target = target_number(relation, assignment.column);
+        let value = copy_of(alloc, &assignment.value)?;
         let cell = cell_of(before, target, value).ok_or(Refusal::NoReferencedRow { record: None })?;
-        push_set(&mut sets, (column, cell))?;
+        push_set(&mut sets, (assignment.column, cell))?;
     }
     Ok(sets)
 }
@@ -135,14 +136,14 @@ fn set_rows_beside(
     before: &mut [Relation],
     relation: &mut Relation,
     rows: &[TupleRef],
-    assignments: Sequence<Assignment>,
+    assignments: &[Assignment],
 ) -> Result<(), Refusal>
     requires stands { (c : CatalogState) × (n : ℕ) × StandsIn c n before.old relation.old }
-    requires columns { AreToColumns (length relation.old.targets) assignments }
+    requires columns { AreToColumns (length relation.old.targets) assignments.now }
     requires held { All (λ r. IsSome (finite.get relation.old.rows r)) rows.now }
     requires once { AllPairs (λ q r. q ≢ r) rows.now }
-    ensures updated { OnOk result ((c : CatalogState) (n : ℕ) → StandsIn c n before.old relation.old → IsUpdated c.relations (before.new ++ slice_set (drop n c.relations) 0 relation.new) n rows.now assignments) }
-    ensures refused { IfErr result (AreNotSet before.old relation.old.targets assignments) }
+    ensures updated { OnOk result ((c : CatalogState) (n : ℕ) → StandsIn c n before.old relation.old → IsUpdated c.relations (before.new ++ slice_set (drop n c.relations) 0 relation.new) n rows.now assignments.now) }
+    ensures refused { IfErr result (AreNotSet before.old relation.old.targets assignments.now) }
     ensures others { OnErr result (before.new ≡ before.old) }
     ensures unchanged { OnErr result (relation.new ≡ relation.old) }
 {
@@ -162,16 +163,16 @@ pub fn set_rows(
     relations: &mut [Relation],
     table: TableNumber,
     rows: &[TupleRef],
-    assignments: Sequence<Assignment>,
+    assignments: &[Assignment],
 ) -> Result<(), Refusal>
     requires there { table.0 < length relations.old }
     requires consistent { AreConsistent relations.old }
-    requires columns { (s : RelationState) → slice_get relations.old table.0 ≡ Some s → AreToColumns (length s.targets) assignments }
+    requires columns { (s : RelationState) → slice_get relations.old table.0 ≡ Some s → AreToColumns (length s.targets) assignments.now }
     requires held { (s : RelationState) → slice_get relations.old table.0 ≡ Some s → All (λ r. IsSome (finite.get s.rows r)) rows.now }
     requires once { AllPairs (λ q r. q ≢ r) rows.now }
-    ensures updated { OnOk result (IsUpdated relations.old relations.new table.0 rows.now assignments) }
+    ensures updated { OnOk result (IsUpdated relations.old relations.new table.0 rows.now assignments.now) }
     ensures unchanged { OnErr result (relations.new ≡ relations.old) }
-    ensures refused { IfErr result (IsNotUpdated relations.old table.0 assignments) }
+    ensures refused { IfErr result (IsNotUpdated relations.old table.0 assignments.now) }
 {
     let (before, rest) = relations.split_at_mut(table.0);
     set_rows_beside(alloc, before, &mut rest[0], rows, assignments)

@@ -5,6 +5,7 @@ pub mod BesideLemmas
 pub mod DumpLemmas
 pub mod IndexLemmas
 pub mod KeptLemmas
+pub mod KeyedLemmas
 pub mod LineLemmas
 pub mod ListingLemmas
 pub mod MemberLemmas

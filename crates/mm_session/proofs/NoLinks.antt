@@ -1,5 +1,5 @@
 -- No value that is read of a catalog's rows is a link: its tables hold integers of 64 bits, texts and nulls.
-use Rattle.std.proofs.Common.{◌≡◌, ℕ, zero, suc, true, false, List, [], ◌∷◌, Option, None, Some, inl, inr, refl, sym, ap, ◌∙◌, subst, arith, IsSome}
+use Rattle.std.proofs.Common.{◌≡◌, ◌<◌, length, ℕ, zero, suc, true, false, List, [], ◌∷◌, Option, None, Some, inl, inr, refl, sym, ap, ◌∙◌, subst, arith, IsSome}
 use Rattle.std.proofs.lemmas.Bool.{false≢true, or_cases}
 use Rattle.std.proofs.lemmas.Grind.{common_steps}
 use Rattle.std.proofs.lemmas.List.Elements.{All-contains, All-head, All-tail}
@@ -126,6 +126,11 @@ module _ (c : CatalogState) (ok : IsConsistent c) where
       let inside = subst (λ rows. Contains rows (seen_values c s r)) (sym (rows_same c ok n table at s there)) (Contains-map (seen_values c s) _ r among) in
       plain-row c.limits (database_of c) ok.sound table.columns (seen_values c s r)
       (All-contains (IsRowOf (database_of c) table.columns) table.rows (seen_values c s r) (All-at (RowsFit (database_of c)) (database_of c) n table ok.sound.rows_fit at) inside) k
+
+  -- the value of a row in a column
+  pub column_plain : (n : ℕ) (s : RelationState) → slice_get c.relations n ≡ Some s → (r : TupleRef) → IsSome (finite.get s.rows r) → (k : ℕ) → k < length s.schema.columns
+      → link_number (value_in c.relations s k r) ≡ None
+  column_plain n s there r held k within = subst IsPlain (sym (value_seen c s r held k within)) (plain-seen n s there r held k)
 
   -- the value at a place of a row over the relations
   pub placed_plain : (sources : List ℕ) (row : List TupleRef) (place : Place) → IsRowOver c.relations sources row → HasPlace c.relations sources place

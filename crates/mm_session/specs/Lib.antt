@@ -7,6 +7,7 @@ pub mod Dumps
 pub mod IndexAnswers
 pub mod Judging
 pub mod Kept
+pub mod Keyed
 pub mod Listed
 pub mod Listing
 pub mod Members

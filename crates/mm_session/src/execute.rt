@@ -6,6 +6,7 @@ mod cells;
 mod changing;
 mod columns;
 mod indexes;
+mod keyed;
 mod listing;
 mod query;
 mod respond;
@@ -18,7 +19,7 @@ use crate::answer::Answer;
 use crate::answer::records::push_changed;
 use crate::execute::search::rows_passing;
 use mm_catalog::Catalog;
-use plain_tables::{Assignment, Command, Refusal, Resolved, Sequence, TableNumber, Test};
+use plain_tables::{Assignment, Command, Refusal, Resolved, TableNumber, Test};
 use plan_chooser::Policy;
 use std::alloc::Global;
 
@@ -70,13 +71,13 @@ impl Executor {
     fn update(
         &mut self,
         table: TableNumber,
-        assignments: Sequence<Assignment>,
+        assignments: &[Assignment],
         tests: &[Test],
         answer: &mut Answer,
     ) -> Result<(), Refusal>
-        requires { IsMeant self.old.catalog.limits (database_of self.old.catalog) (resolved.Update table assignments tests.now) }
-        ensures done { OnOk result (HasPerformed self.old.catalog self.new.catalog (done self.old.catalog.limits (database_of self.old.catalog) (resolved.Update table assignments tests.now)) answer.old answer.new) }
-        ensures refused { IfErr result (IsRefusedFor self.old.catalog self.new.catalog (done self.old.catalog.limits (database_of self.old.catalog) (resolved.Update table assignments tests.now))) }
+        requires { IsMeant self.old.catalog.limits (database_of self.old.catalog) (resolved.Update table assignments.now tests.now) }
+        ensures done { OnOk result (HasPerformed self.old.catalog self.new.catalog (done self.old.catalog.limits (database_of self.old.catalog) (resolved.Update table assignments.now tests.now)) answer.old answer.new) }
+        ensures refused { IfErr result (IsRefusedFor self.old.catalog self.new.catalog (done self.old.catalog.limits (database_of self.old.catalog) (resolved.Update table assignments.now tests.now))) }
     {
         let rows = rows_passing(self.alloc, self.policy, &self.catalog, table, tests)?;
         push_changed(answer, rows.len())?;
@@ -132,13 +133,13 @@ impl Executor {
             }
             Resolved::Insert { table, values } => {
                 answer.push(OK_ONE)?;
-                self.catalog.insert(table, values)?;
+                self.catalog.insert(table, values.as_slice())?;
             }
             Resolved::Update {
                 table,
                 assignments,
                 tests,
-            } => self.update(table, assignments, tests.as_slice(), answer)?,
+            } => self.update(table, assignments.as_slice(), tests.as_slice(), answer)?,
             Resolved::Delete { table, tests } => self.delete(table, tests.as_slice(), answer)?,
             Resolved::Select(query) => self.select(&query, answer)?,
             Resolved::Load { table, rows } => {

@@ -107,11 +107,11 @@ impl Session {
     }
 
     /// Does an insert, an update or a delete beside the stream, and tells how many rows it was about. The stream goes on as before.
-    pub fn change(&mut self, command: Resolved) -> Result<usize, Refusal>
-        requires meant { IsMeant self.old.limits self.old.database command }
-        requires change { IsChange command }
-        ensures done { IfOk result (HasChanged self.new (done self.old.limits self.old.database command)) }
-        ensures refused { IfErr result (HasDeclined self.old self.new (done self.old.limits self.old.database command)) }
+    pub fn change(&mut self, command: &Resolved) -> Result<usize, Refusal>
+        requires meant { IsMeant self.old.limits self.old.database command.now }
+        requires change { IsChange command.now }
+        ensures done { IfOk result (HasChanged self.new (done self.old.limits self.old.database command.now)) }
+        ensures refused { IfErr result (HasDeclined self.old self.new (done self.old.limits self.old.database command.now)) }
         ensures stream { StaysInStream self.old self.new }
     {
         self.responder.executor.change(command)

@@ -49,7 +49,7 @@ fn grow(catalog: &mut Catalog, command: Command) -> Result<(), Refusal>
 {
     match catalog.resolve(command, &[])? {
         Resolved::Table { name, schema } => catalog.create(name, schema)?,
-        Resolved::Insert { table, values } => catalog.insert(table, values)?,
+        Resolved::Insert { table, values } => catalog.insert(table, values.as_slice())?,
         _ => return Err(Refusal::NotACommand),
     }
     Ok(())

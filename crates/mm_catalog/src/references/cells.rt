@@ -6,8 +6,30 @@ ghost use Rattle.mm_catalog.specs.Linked.{target_at};
 use super::link::target_number;
 use mm_relation::{Cell, ColumnNumber, Relation};
 use no_memory::NoMemory;
-use plain_tables::{Refusal, Sequence, Value};
+use plain_tables::{Refusal, Sequence, Text, Value};
 use std::alloc::Global;
+
+// A copy of a value. One of at most 14 bytes takes no memory.
+pub fn copy_of(alloc: Global, value: &Value) -> Result<Value, NoMemory>
+    ensures { IfOk result (λ copy. copy ≡ value.now) }
+{
+    match value {
+        Value::Null => Ok(Value::Null),
+        Value::Int(integer) => Ok(Value::Int(*integer)),
+        Value::Text(text) => Ok(Value::Text(Text::from_str(alloc, text.as_str())?)),
+    }
+}
+
+// Copies of values.
+pub fn copies_of(alloc: Global, values: &[Value]) -> Result<Sequence<Value>, NoMemory>
+    ensures { IfOk result (λ copies. copies ≡ values.now) }
+{
+    let mut copies = Vec::with_capacity(alloc, values.len())?;
+    for value in values {
+        copies.push(copy_of(alloc, value)?)?;
+    }
+    Ok(Sequence::from_vec(copies))
+}
 
 // The cell of a value in a column whose links lead into that relation, if they lead into one: a link to the row whose key
 // the value is, or the value itself where it is null or the column has no links. None where there is no such row.

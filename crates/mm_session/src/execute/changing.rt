@@ -10,19 +10,19 @@ ghost use Rattle.mm_session.specs.Changing.{IsChange};
 
 use super::Executor;
 use super::search::rows_passing;
-use plain_tables::{Assignment, Refusal, Resolved, Sequence, TableNumber, Test};
+use plain_tables::{Assignment, Refusal, Resolved, TableNumber, Test};
 
 impl Executor {
     // Sets values in the rows of a table that pass the tests, and tells how many these are.
     fn update_rows(
         &mut self,
         table: TableNumber,
-        assignments: Sequence<Assignment>,
+        assignments: &[Assignment],
         tests: &[Test],
     ) -> Result<usize, Refusal>
-        requires { IsMeant self.old.catalog.limits (database_of self.old.catalog) (resolved.Update table assignments tests.now) }
-        ensures done { IfOk result (HasEffect self.old.catalog self.new.catalog (done self.old.catalog.limits (database_of self.old.catalog) (resolved.Update table assignments tests.now))) }
-        ensures refused { IfErr result (IsRefusedFor self.old.catalog self.new.catalog (done self.old.catalog.limits (database_of self.old.catalog) (resolved.Update table assignments tests.now))) }
+        requires { IsMeant self.old.catalog.limits (database_of self.old.catalog) (resolved.Update table assignments.now tests.now) }
+        ensures done { IfOk result (HasEffect self.old.catalog self.new.catalog (done self.old.catalog.limits (database_of self.old.catalog) (resolved.Update table assignments.now tests.now))) }
+        ensures refused { IfErr result (IsRefusedFor self.old.catalog self.new.catalog (done self.old.catalog.limits (database_of self.old.catalog) (resolved.Update table assignments.now tests.now))) }
     {
         let rows = rows_passing(self.alloc, self.policy, &self.catalog, table, tests)?;
         self.catalog.update(table, &rows, assignments)?;
@@ -41,23 +41,23 @@ impl Executor {
     }
 
     /// Does an insert, an update or a delete, and tells how many rows it is about. After a refusal the tables are as before.
-    pub fn change(&mut self, command: Resolved) -> Result<usize, Refusal>
-        requires meant { IsMeant self.old.catalog.limits (database_of self.old.catalog) command }
-        requires change { IsChange command }
-        ensures done { IfOk result (HasEffect self.old.catalog self.new.catalog (done self.old.catalog.limits (database_of self.old.catalog) command)) }
-        ensures refused { IfErr result (IsDeclinedFor self.old.catalog self.new.catalog (done self.old.catalog.limits (database_of self.old.catalog) command)) }
+    pub fn change(&mut self, command: &Resolved) -> Result<usize, Refusal>
+        requires meant { IsMeant self.old.catalog.limits (database_of self.old.catalog) command.now }
+        requires change { IsChange command.now }
+        ensures done { IfOk result (HasEffect self.old.catalog self.new.catalog (done self.old.catalog.limits (database_of self.old.catalog) command.now)) }
+        ensures refused { IfErr result (IsDeclinedFor self.old.catalog self.new.catalog (done self.old.catalog.limits (database_of self.old.catalog) command.now)) }
     {
         match command {
             Resolved::Insert { table, values } => {
-                self.catalog.insert(table, values)?;
+                self.catalog.insert(*table, values.as_slice())?;
                 Ok(1)
             }
             Resolved::Update {
                 table,
                 assignments,
                 tests,
-            } => self.update_rows(table, assignments, tests.as_slice()),
-            Resolved::Delete { table, tests } => self.delete_rows(table, tests.as_slice()),
+            } => self.update_rows(*table, assignments.as_slice(), tests.as_slice()),
+            Resolved::Delete { table, tests } => self.delete_rows(*table, tests.as_slice()),
             _ => unreachable!(),
         }
     }

@@ -1,18 +1,35 @@
 //! The rows of a table that pass tests, by the plan that the policy picks.
 
-ghost use Rattle.std.specs.Prelude.{IfOk};
+ghost use Rattle.std.specs.Prelude.{◌≡◌, IfOk};
+ghost use Rattle.std.specs.Option.{option_to_list};
 ghost use Rattle.plain_tables.specs.ResolvedLaws.{OfTable, AreTests};
 ghost use Rattle.mm_catalog.specs.Seen.{database_of};
 ghost use Rattle.mm_session.specs.Passing.{ArePassing};
 
+use super::keyed::{key_test, keyed_row};
 use mm_catalog::Catalog;
 use mm_catalog::laws::a_catalog_is_consistent;
 use mm_relation::{Relations, TupleRef};
 use no_memory::NoMemory;
 use plain_tables::{TableNumber, Test};
 use plan_chooser::{Policy, choose_select};
+use smallvec::SmallVec;
 use std::alloc::Global;
 use temp_list::find_rows;
+
+/// Rows that a change is about. One takes no memory.
+pub type FoundRows = SmallVec<TupleRef, 1>;
+
+// A row that was found, or none.
+fn one_row(alloc: Global, found: Option<TupleRef>) -> FoundRows
+    ensures { result.items ≡ option_to_list found }
+{
+    let mut rows = SmallVec::new(alloc);
+    if let Some(r) = found {
+        rows.push_reserved(r);
+    }
+    rows
+}
 
 /// The rows of a table that pass the tests, in any order.
 pub fn rows_passing(
@@ -21,11 +38,16 @@ pub fn rows_passing(
     catalog: &Catalog,
     table: TableNumber,
     tests: &[Test],
-) -> Result<Vec<TupleRef>, NoMemory>
+) -> Result<FoundRows, NoMemory>
     requires { OfTable table (database_of catalog.now) (λ t. AreTests (database_of catalog.now) t tests.now) }
     ensures { IfOk result (λ rows. ArePassing catalog.now table.0 tests.now rows.items) }
 {
     a_catalog_is_consistent(catalog);
-    let plan = choose_select(policy, catalog.at(table), tests);
-    find_rows(alloc, catalog, table, plan, tests)
+    let relation = catalog.at(table);
+    let plan = choose_select(policy, relation, tests);
+    if let Some(n) = key_test(plan, tests) {
+        return Ok(one_row(alloc, keyed_row(catalog, relation, tests, n)));
+    }
+    let rows = find_rows(alloc, catalog, table, plan, tests)?;
+    Ok(SmallVec::from_vec(rows))
 }

@@ -17,28 +17,28 @@ sets_of-requires-clause-back c = let k = c.requires.stands in needs.leads_front 
 pub links_of-requires-clause-columns : goal.links_of-requires-clause-columns
 links_of-requires-clause-columns c =
     let k = c.requires.stands in
-    subst (All (λ (x : CellSet). x.0.0 < length c.args.relation.now.targets)) (sym c.as_slice.ensures.value) (needs.sets_apart k.0 k.2.0 k.1 c.args.relation.now k.2.1 c.args.before.now k.2.2 c.args.assignments c.requires.columns c.in_ok-sets.sets.items c.in_ok-sets.ensures.sets).within
+    subst (All (λ (x : CellSet). x.0.0 < length c.args.relation.now.targets)) (sym c.as_slice.ensures.value) (needs.sets_apart k.0 k.2.0 k.1 c.args.relation.now k.2.1 c.args.before.now k.2.2 c.args.assignments.now c.requires.columns c.in_ok-sets.sets.items c.in_ok-sets.ensures.sets).within
 
 pub returns-in_err-links-clause-refused : goal.returns-in_err-links-clause-refused
 returns-in_err-links-clause-refused c =
     let why : IfErr c.from_residual-in_err-links.result (λ e. e ≡ NoMemory) = search rules in
-    not_set_for_memory c.args.before.now c.args.relation.now.targets c.args.assignments c.from_residual-in_err-links.result why
+    not_set_for_memory c.args.before.now c.args.relation.now.targets c.args.assignments.now c.from_residual-in_err-links.result why
 
 pub change_rows-requires-clause-columns : goal.change_rows-requires-clause-columns
 change_rows-requires-clause-columns c =
     let k = c.requires.stands in
-    subst (All (λ (x : CellSet). x.0.0 < length c.args.relation.now.targets)) (sym c.as_slice-2.ensures.value) (needs.sets_apart k.0 k.2.0 k.1 c.args.relation.now k.2.1 c.args.before.now k.2.2 c.args.assignments c.requires.columns c.in_ok-sets.sets.items c.in_ok-sets.ensures.sets).within
+    subst (All (λ (x : CellSet). x.0.0 < length c.args.relation.now.targets)) (sym c.as_slice-2.ensures.value) (needs.sets_apart k.0 k.2.0 k.1 c.args.relation.now k.2.1 c.args.before.now k.2.2 c.args.assignments.now c.requires.columns c.in_ok-sets.sets.items c.in_ok-sets.ensures.sets).within
 
 pub change_rows-requires-clause-not_the_key : goal.change_rows-requires-clause-not_the_key
 change_rows-requires-clause-not_the_key c =
     let k = c.requires.stands in
-    subst (All (λ (x : CellSet). 0 < x.0.0)) (sym c.as_slice-2.ensures.value) (needs.sets_apart k.0 k.2.0 k.1 c.args.relation.now k.2.1 c.args.before.now k.2.2 c.args.assignments c.requires.columns c.in_ok-sets.sets.items c.in_ok-sets.ensures.sets).behind
+    subst (All (λ (x : CellSet). 0 < x.0.0)) (sym c.as_slice-2.ensures.value) (needs.sets_apart k.0 k.2.0 k.1 c.args.relation.now k.2.1 c.args.before.now k.2.2 c.args.assignments.now c.requires.columns c.in_ok-sets.sets.items c.in_ok-sets.ensures.sets).behind
 
 pub change_rows-requires-clause-readable : goal.change_rows-requires-clause-readable
 change_rows-requires-clause-readable c =
     let k = c.requires.stands in
     subst (All (λ (x : CellSet). IsSome (cell_value (linked_keys c.args.relation.now.targets c.args.before.now) x.0.0 x.1))) (sym c.as_slice-2.ensures.value)
-    (needs.sets_readable k.0 k.2.0 k.1 c.args.relation.now k.2.1 c.args.before.now k.2.2 c.args.assignments c.requires.columns c.in_ok-sets.sets.items c.in_ok-sets.ensures.sets)
+    (needs.sets_readable k.0 k.2.0 k.1 c.args.relation.now k.2.1 c.args.before.now k.2.2 c.args.assignments.now c.requires.columns c.in_ok-sets.sets.items c.in_ok-sets.ensures.sets)
 
 pub change_rows-requires-clause-current : goal.change_rows-requires-clause-current
 change_rows-requires-clause-current c = let k = c.requires.stands in needs.current_front k.0 k.2.0 k.1 c.args.relation.now k.2.1 c.args.before.now k.2.2
@@ -46,7 +46,7 @@ change_rows-requires-clause-current c = let k = c.requires.stands in needs.curre
 pub returns-in_err-change_rows-clause-refused : goal.returns-in_err-change_rows-clause-refused
 returns-in_err-change_rows-clause-refused c =
     let why : IfErr c.from_residual-in_err-change_rows.result (λ e. e ≡ NoMemory) = search rules in
-    not_set_for_memory c.args.before.now c.args.relation.now.targets c.args.assignments c.from_residual-in_err-change_rows.result why
+    not_set_for_memory c.args.before.now c.args.relation.now.targets c.args.assignments.now c.from_residual-in_err-change_rows.result why
 
 pub count_up_sets-requires-clause-kept : goal.count_up_sets-requires-clause-kept
 count_up_sets-requires-clause-kept c = let k = c.requires.stands in needs.kept_front k.0 k.2.0 k.1 c.args.relation.now k.2.1 c.args.before.now k.2.2
@@ -58,7 +58,7 @@ count_up_sets-requires-clause-columns c =
     let a = c.change_rows.new.self in
     let changed : IsChanged s a c.args.rows.now c.in_ok-sets.sets.items = subst (IsChanged s a c.args.rows.now) c.as_slice-2.ensures.value c.in_ok-change_rows.ensures.changed in
     subst (λ (ts : List (Option ℕ)). All (λ (x : CellSet). x.0.0 < length ts) c.as_slice-3.result.now) (sym changed.keeps.targets)
-    (subst (All (λ (x : CellSet). x.0.0 < length s.targets)) (sym c.as_slice-3.ensures.value) (needs.sets_apart k.0 k.2.0 k.1 c.args.relation.now k.2.1 c.args.before.now k.2.2 c.args.assignments c.requires.columns c.in_ok-sets.sets.items c.in_ok-sets.ensures.sets).within)
+    (subst (All (λ (x : CellSet). x.0.0 < length s.targets)) (sym c.as_slice-3.ensures.value) (needs.sets_apart k.0 k.2.0 k.1 c.args.relation.now k.2.1 c.args.before.now k.2.2 c.args.assignments.now c.requires.columns c.in_ok-sets.sets.items c.in_ok-sets.ensures.sets).within)
 
 pub count_up_sets-requires-clause-held : goal.count_up_sets-requires-clause-held
 count_up_sets-requires-clause-held c =
@@ -67,12 +67,12 @@ count_up_sets-requires-clause-held c =
     let a = c.change_rows.new.self in
     let changed : IsChanged s a c.args.rows.now c.in_ok-sets.sets.items = subst (IsChanged s a c.args.rows.now) c.as_slice-2.ensures.value c.in_ok-change_rows.ensures.changed in
     subst (λ (ts : List (Option ℕ)). All (IsHeldIn c.args.before.now) (set_links ts c.as_slice-3.result.now)) (sym changed.keeps.targets)
-    (subst (λ (ss : List CellSet). All (IsHeldIn c.args.before.now) (set_links s.targets ss)) (sym c.as_slice-3.ensures.value) (needs.sets_held k.0 k.2.0 k.1 c.args.relation.now k.2.1 c.args.before.now k.2.2 c.args.assignments c.requires.columns c.in_ok-sets.sets.items c.in_ok-sets.ensures.sets))
+    (subst (λ (ss : List CellSet). All (IsHeldIn c.args.before.now) (set_links s.targets ss)) (sym c.as_slice-3.ensures.value) (needs.sets_held k.0 k.2.0 k.1 c.args.relation.now k.2.1 c.args.before.now k.2.2 c.args.assignments.now c.requires.columns c.in_ok-sets.sets.items c.in_ok-sets.ensures.sets))
 
 pub count_up_sets-requires-clause-room : goal.count_up_sets-requires-clause-room
 count_up_sets-requires-clause-room c =
     let k = c.requires.stands in
-    subst (λ (ss : List CellSet). HaveRoom c.args.before.now (length c.args.rows.now * length ss)) (sym c.as_slice-3.ensures.value) (needs.room_front k.0 k.2.0 k.1 c.args.relation.now k.2.1 c.args.before.now k.2.2 c.args.assignments c.requires.columns c.in_ok-sets.sets.items c.in_ok-sets.ensures.sets c.args.rows.now c.requires.held c.requires.once)
+    subst (λ (ss : List CellSet). HaveRoom c.args.before.now (length c.args.rows.now * length ss)) (sym c.as_slice-3.ensures.value) (needs.room_front k.0 k.2.0 k.1 c.args.relation.now k.2.1 c.args.before.now k.2.2 c.args.assignments.now c.requires.columns c.in_ok-sets.sets.items c.in_ok-sets.ensures.sets c.args.rows.now c.requires.held c.requires.once)
 
 pub count_down_all-requires-clause-held : goal.count_down_all-requires-clause-held
 count_down_all-requires-clause-held c =
@@ -87,7 +87,7 @@ count_down_all-requires-clause-held c =
     let gone = c.in_ok-links.links.items in
     let listed : map linked_of gone ≡ links_at s sets rows = c.in_ok-links.ensures ∙ ap (λ (ss : List CellSet). links_at s ss rows) c.as_slice.ensures.value in
     subst (All (λ l. IsHeldIn c.count_up_sets.new.before (linked_of l))) (sym c.as_slice-4.ensures.value)
-    (needs.gone_named k.0 k.2.0 k.1 c.args.relation.now k.2.1 c.args.before.now k.2.2 c.args.assignments c.requires.columns c.in_ok-sets.sets.items c.in_ok-sets.ensures.sets c.args.rows.now c.requires.held c.requires.once a c.a_relation_is_kept.ensures changed c.count_up_sets.new.before up gone listed)
+    (needs.gone_named k.0 k.2.0 k.1 c.args.relation.now k.2.1 c.args.before.now k.2.2 c.args.assignments.now c.requires.columns c.in_ok-sets.sets.items c.in_ok-sets.ensures.sets c.args.rows.now c.requires.held c.requires.once a c.a_relation_is_kept.ensures changed c.count_up_sets.new.before up gone listed)
 
 pub count_down_all-requires-clause-enough : goal.count_down_all-requires-clause-enough
 count_down_all-requires-clause-enough c =
@@ -102,7 +102,7 @@ count_down_all-requires-clause-enough c =
     let gone = c.in_ok-links.links.items in
     let listed : map linked_of gone ≡ links_at s sets rows = c.in_ok-links.ensures ∙ ap (λ (ss : List CellSet). links_at s ss rows) c.as_slice.ensures.value in
     subst (λ ls. HaveAtLeast c.count_up_sets.new.before (naming (map linked_of ls))) (sym c.as_slice-4.ensures.value)
-    (needs.gone_enough k.0 k.2.0 k.1 c.args.relation.now k.2.1 c.args.before.now k.2.2 c.args.assignments c.requires.columns c.in_ok-sets.sets.items c.in_ok-sets.ensures.sets c.args.rows.now c.requires.held c.requires.once a c.a_relation_is_kept.ensures changed c.count_up_sets.new.before up gone listed)
+    (needs.gone_enough k.0 k.2.0 k.1 c.args.relation.now k.2.1 c.args.before.now k.2.2 c.args.assignments.now c.requires.columns c.in_ok-sets.sets.items c.in_ok-sets.ensures.sets c.args.rows.now c.requires.held c.requires.once a c.a_relation_is_kept.ensures changed c.count_up_sets.new.before up gone listed)
 
 pub returns-clause-updated : goal.returns-clause-updated
 returns-clause-updated c k n stands =
@@ -117,5 +117,5 @@ returns-clause-updated c k n stands =
     let listed : map linked_of gone ≡ links_at s sets rows = c.in_ok-links.ensures ∙ ap (λ (ss : List CellSet). links_at s ss rows) c.as_slice.ensures.value in
     let down : AreCountedBy c.count_up_sets.new.before c.count_down_all.new.before none (naming (map linked_of gone)) =
     subst (λ ls. AreCountedBy c.count_up_sets.new.before c.count_down_all.new.before none (naming (map linked_of ls))) c.as_slice-4.ensures.value c.count_down_all.ensures in
-    needs.updated k stands.0 n s stands.1 c.args.before.now stands.2 c.args.assignments c.requires.columns sets c.in_ok-sets.ensures.sets rows c.requires.held c.requires.once a c.a_relation_is_kept.ensures changed
+    needs.updated k stands.0 n s stands.1 c.args.before.now stands.2 c.args.assignments.now c.requires.columns sets c.in_ok-sets.ensures.sets rows c.requires.held c.requires.once a c.a_relation_is_kept.ensures changed
     c.count_up_sets.new.before up gone listed c.count_down_all.new.before down c.in_ok-change_rows.ensures.current

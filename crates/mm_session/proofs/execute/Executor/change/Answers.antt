@@ -6,8 +6,10 @@ use Rattle.mm_session.proofs.execute.Executor.change.Goals as goal
 
 pub update_rows-requires : goal.update_rows-requires
 update_rows-requires c =
-    subst (λ tests. IsMeant c.args.self.now.catalog.limits (database_of c.args.self.now.catalog) (resolved.Update c.in-Update.table c.in-Update.assignments tests)) (sym c.as_slice.ensures)
-    (rw c.in-Update.is at c.requires.meant)
+    let old = c.args.self.now.catalog in
+    subst (λ tests. IsMeant old.limits (database_of old) (resolved.Update c.in-Update.table c.as_slice-in-Update.result.now tests)) (sym c.as_slice-in-Update-2.ensures)
+    (subst (λ assignments. IsMeant old.limits (database_of old) (resolved.Update c.in-Update.table assignments c.in-Update.tests)) (sym c.as_slice-in-Update.ensures)
+    (rw c.in-Update.is at c.requires.meant))
 
 pub delete_rows-requires : goal.delete_rows-requires
 delete_rows-requires c =

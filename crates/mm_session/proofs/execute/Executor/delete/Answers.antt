@@ -10,7 +10,7 @@ use Rattle.mm_session.proofs.PerformLemmas.{performed_effect, refused_unchanged}
 use Rattle.mm_session.proofs.execute.Executor.delete.Goals as goal
 
 passing : (c : goal.After-deref) → ArePassing c.args.self.now.catalog c.args.table.0 c.args.tests.now c.deref.result.now
-passing c = subst (ArePassing c.args.self.now.catalog c.args.table.0 c.args.tests.now) (sym c.deref.ensures.value) c.in_ok-rows.ensures
+passing c = subst (ArePassing c.args.self.now.catalog c.args.table.0 c.args.tests.now) (sym c.deref.ensures) c.in_ok-rows.ensures
 
 pub delete-requires-clause-there : goal.delete-requires-clause-there
 delete-requires-clause-there c = slice_get_within (database_of c.args.self.now.catalog) c.args.table.0 c.requires.0 c.requires.1
@@ -24,8 +24,8 @@ delete-requires-clause-once c = (passing c).once
 pub returns-clause-done : goal.returns-clause-done
 returns-clause-done c =
     let are : ArePassing c.args.self.now.catalog c.args.table.0 c.args.tests.now c.deref.result.now =
-    subst (ArePassing c.args.self.now.catalog c.args.table.0 c.args.tests.now) (sym c.deref.ensures.value) c.in_ok-rows.ensures in
-    let counted : c.len.result ≡ length c.deref.result.now = search (rules, c.deref.ensures.value) in
+    subst (ArePassing c.args.self.now.catalog c.args.table.0 c.args.tests.now) (sym c.deref.ensures) c.in_ok-rows.ensures in
+    let counted : c.len.result ≡ length c.deref.result.now = search (rules, c.deref.ensures) in
     on_ok_weaker c.delete.result
     (λ has. performed_effect c.args.self.now.catalog c.delete.new.self _ (length c.deref.result.now) c.args.answer.now c.push_changed.new.answer
     (has (passes_all c.args.tests.now) are.picks)
@@ -35,6 +35,6 @@ returns-clause-done c =
 pub returns-clause-refused : goal.returns-clause-refused
 returns-clause-refused c =
     let are : ArePassing c.args.self.now.catalog c.args.table.0 c.args.tests.now c.deref.result.now =
-    subst (ArePassing c.args.self.now.catalog c.args.table.0 c.args.tests.now) (sym c.deref.ensures.value) c.in_ok-rows.ensures in
+    subst (ArePassing c.args.self.now.catalog c.args.table.0 c.args.tests.now) (sym c.deref.ensures) c.in_ok-rows.ensures in
     IfErr-weaker c.delete.result _ _ (λ e kept. (kept.0, inr (kept.1 (passes_all c.args.tests.now) are.picks)))
     (refused_unchanged c.delete.result _ _ c.delete.ensures.unchanged c.delete.ensures.refused)

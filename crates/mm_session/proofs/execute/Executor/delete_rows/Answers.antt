@@ -8,7 +8,7 @@ use Rattle.mm_session.specs.Passing.{ArePassing}
 use Rattle.mm_session.proofs.execute.Executor.delete_rows.Goals as goal
 
 passing : (c : goal.After-deref) → ArePassing c.args.self.now.catalog c.args.table.0 c.args.tests.now c.deref.result.now
-passing c = subst (ArePassing c.args.self.now.catalog c.args.table.0 c.args.tests.now) (sym c.deref.ensures.value) c.in_ok-rows.ensures
+passing c = subst (ArePassing c.args.self.now.catalog c.args.table.0 c.args.tests.now) (sym c.deref.ensures) c.in_ok-rows.ensures
 
 pub delete-requires-clause-there : goal.delete-requires-clause-there
 delete-requires-clause-there c = slice_get_within (database_of c.args.self.now.catalog) c.args.table.0 c.requires.0 c.requires.1
@@ -23,7 +23,7 @@ pub returns-clause-done : goal.returns-clause-done
 returns-clause-done c =
     let old = c.args.self.now.catalog in
     let are : ArePassing old c.args.table.0 c.args.tests.now c.deref.result.now =
-    subst (ArePassing old c.args.table.0 c.args.tests.now) (sym c.deref.ensures.value) c.in_ok-rows.ensures in
-    let counted : length c.deref.result.now ≡ c.len.result = search (rules, c.deref.ensures.value) in
+    subst (ArePassing old c.args.table.0 c.args.tests.now) (sym c.deref.ensures) c.in_ok-rows.ensures in
+    let counted : length c.deref.result.now ≡ c.len.result = search (rules, c.deref.ensures) in
     subst (HasEffect old c.delete.new.self (done old.limits (database_of old) (resolved.Delete c.args.table c.args.tests.now))) counted
     (c.in_ok-delete.ensures.deleted (passes_all c.args.tests.now) are.picks)

@@ -8,7 +8,7 @@ use Rattle.mm_session.proofs.PerformLemmas.{performed_effect, refused_unchanged}
 use Rattle.mm_session.proofs.execute.Executor.update.Goals as goal
 
 passing : (c : goal.After-deref) → ArePassing c.args.self.now.catalog c.args.table.0 c.args.tests.now c.deref.result.now
-passing c = subst (ArePassing c.args.self.now.catalog c.args.table.0 c.args.tests.now) (sym c.deref.ensures.value) c.in_ok-rows.ensures
+passing c = subst (ArePassing c.args.self.now.catalog c.args.table.0 c.args.tests.now) (sym c.deref.ensures) c.in_ok-rows.ensures
 
 pub rows_passing-requires : goal.rows_passing-requires
 rows_passing-requires c = (c.requires.0, c.requires.1, c.requires.2.1)
@@ -25,8 +25,8 @@ update-requires-clause-once c = (passing c).once
 pub returns-clause-done : goal.returns-clause-done
 returns-clause-done c =
     let are : ArePassing c.args.self.now.catalog c.args.table.0 c.args.tests.now c.deref.result.now =
-    subst (ArePassing c.args.self.now.catalog c.args.table.0 c.args.tests.now) (sym c.deref.ensures.value) c.in_ok-rows.ensures in
-    let counted : c.len.result ≡ length c.deref.result.now = search (rules, c.deref.ensures.value) in
+    subst (ArePassing c.args.self.now.catalog c.args.table.0 c.args.tests.now) (sym c.deref.ensures) c.in_ok-rows.ensures in
+    let counted : c.len.result ≡ length c.deref.result.now = search (rules, c.deref.ensures) in
     on_ok_weaker c.update.result
     (λ has. performed_effect c.args.self.now.catalog c.update.new.self _ (length c.deref.result.now) c.args.answer.now c.push_changed.new.answer
     (has (passes_all c.args.tests.now) are.picks)

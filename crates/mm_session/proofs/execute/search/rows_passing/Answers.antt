@@ -1,11 +1,28 @@
-use Rattle.std.proofs.lemmas.Result.{IfOk-weaker}
-use Rattle.mm_catalog.proofs.Declared.{there_at}
-use Rattle.common_lemmas.proofs.Places.{slice_get-inside}
+use Rattle.std.proofs.Common.{◌∙◌, sym, subst}
+use Rattle.part_raw.specs.declared.tuple_ref.TupleRef.{TupleRef}
+use Rattle.std.proofs.Common.{List}
+use Rattle.mm_index.specs.Bag.{IsSameBag}
+use Rattle.mm_index.proofs.Bags.{IsSameBag-from_same}
+use Rattle.mm_catalog.proofs.Declared.{among_at, there_at}
+use Rattle.temp_list.specs.Reading.{passing}
 use Rattle.mm_session.proofs.PickLemmas.{test_columns, are_passing}
 use Rattle.mm_session.proofs.execute.search.rows_passing.Goals as goal
 
-pub at-requires : goal.at-requires
-at-requires c = there_at c.args.catalog.now c.a_catalog_is_consistent.ensures c.args.table.0 c.requires.0 c.requires.1
+pub at-relation-requires : goal.at-relation-requires
+at-relation-requires c = there_at c.args.catalog.now c.a_catalog_is_consistent.ensures c.args.table.0 c.requires.0 c.requires.1
+
+pub keyed_row-requires-clause-current : goal.keyed_row-requires-clause-current
+keyed_row-requires-clause-current c = (among_at c.args.catalog.now c.a_catalog_is_consistent.ensures c.args.table.0 c.at-relation.result.now c.at-relation.ensures).current
+
+pub keyed_row-requires-clause-columns : goal.keyed_row-requires-clause-columns
+keyed_row-requires-clause-columns c =
+    test_columns c.args.catalog.now c.a_catalog_is_consistent.ensures c.args.table.0 c.requires.0 c.requires.1 c.args.tests.now c.requires.2 c.at-relation.result.now c.at-relation.ensures
+
+pub returns-in-Some : goal.returns-in-Some
+returns-in-Some c =
+    are_passing c.args.catalog.now c.a_catalog_is_consistent.ensures c.args.table.0 c.requires.0 c.requires.1 c.args.tests.now c.at-relation.result.now c.at-relation.ensures
+    (test_columns c.args.catalog.now c.a_catalog_is_consistent.ensures c.args.table.0 c.requires.0 c.requires.1 c.args.tests.now c.requires.2 c.at-relation.result.now c.at-relation.ensures)
+    c.one_row.result.items (IsSameBag-from_same c.one_row.result.items (passing c.args.catalog.now.relations c.at-relation.result.now c.args.tests.now) (c.one_row.ensures ∙ sym c.keyed_row.ensures))
 
 pub find_rows-requires-clause-there : goal.find_rows-requires-clause-there
 find_rows-requires-clause-there c = there_at c.args.catalog.now c.a_catalog_is_consistent.ensures c.args.table.0 c.requires.0 c.requires.1
@@ -15,8 +32,8 @@ find_rows-requires-clause-columns c = test_columns c.args.catalog.now c.a_catalo
 
 pub returns : goal.returns
 returns c =
-    let found = slice_get-inside c.args.catalog.now.relations c.args.table.0 (there_at c.args.catalog.now c.a_catalog_is_consistent.ensures c.args.table.0 c.requires.0 c.requires.1) in
-    IfOk-weaker c.find_rows.result _ _
-    (λ refs of. are_passing c.args.catalog.now c.a_catalog_is_consistent.ensures c.args.table.0 c.requires.0 c.requires.1 c.args.tests.now found.0 found.1 (test_columns c.args.catalog.now c.a_catalog_is_consistent.ensures c.args.table.0 c.requires.0 c.requires.1 c.args.tests.now c.requires.2 found.0 found.1) refs.items
-    (of found.0 found.1).bag)
-    c.find_rows.ensures
+    let s = c.at-relation.result.now in
+    are_passing c.args.catalog.now c.a_catalog_is_consistent.ensures c.args.table.0 c.requires.0 c.requires.1 c.args.tests.now s c.at-relation.ensures
+    (test_columns c.args.catalog.now c.a_catalog_is_consistent.ensures c.args.table.0 c.requires.0 c.requires.1 c.args.tests.now c.requires.2 s c.at-relation.ensures)
+    c.from_vec.result.items
+    (subst (λ (refs : List TupleRef). IsSameBag refs (passing c.args.catalog.now.relations s c.args.tests.now)) (sym c.from_vec.ensures.items) (c.in_ok-rows.ensures s c.at-relation.ensures).bag)

@@ -10,12 +10,12 @@ use Rattle.mm_session.proofs.PerformLemmas.{declined_unchanged}
 use Rattle.mm_session.proofs.session.Session.change.Goals as goal
 
 pub change-requires-clause-meant : goal.change-requires-clause-meant
-change-requires-clause-meant c = subst (λ (s : State). IsMeant s.limits s.database c.args.command) (sym c.self.view_is) c.requires.meant
+change-requires-clause-meant c = subst (λ (s : State). IsMeant s.limits s.database c.args.command.now) (sym c.self.view_is) c.requires.meant
 
 pub returns-clause-refused : goal.returns-clause-refused
 returns-clause-refused c =
     let before = c.self.inside.responder in
     let after = c.change.new.self.catalog in
     let new : State = record { limits = after.limits; database = database_of after; ended = c.self.inside.ended; kept = before.kept } in
-    subst (λ (s : State). IfErr c.change.result (HasDeclined s new (done s.limits s.database c.args.command))) c.self.view_is
-    (IfErr-weaker c.change.result _ _ (declined_unchanged before.executor.catalog after c.args.command) c.change.ensures.refused)
+    subst (λ (s : State). IfErr c.change.result (HasDeclined s new (done s.limits s.database c.args.command.now))) c.self.view_is
+    (IfErr-weaker c.change.result _ _ (declined_unchanged before.executor.catalog after c.args.command.now) c.change.ensures.refused)
