@@ -197,7 +197,7 @@ impl<T> Partitions<T> {
             occupancy.next_open = self.first_open;
             occupancy.has_block = true;
             self.first_open = Some(bare as u32);
-            self.next_bare = bare + 1;
+            self.next_bare = bare;
             self.slots += SLOTS as u64;
             self.free = SLOTS as u64;
             self.spare = self.spare.saturating_add(1);
@@ -219,6 +219,7 @@ impl<T> Partitions<T> {
             has_block: true,
         });
         self.first_open = Some(part);
+        self.next_bare = bare;
         self.slots += SLOTS as u64;
         self.free = SLOTS as u64;
         self.spare = self.spare.saturating_add(1);
