@@ -159,11 +159,7 @@ fn room_of_query(alloc: Global, kept: Resolved) -> QueryRoom {
     }
 }
 
-fn filled_query_of(
-    room: QueryRoom,
-    values: &[Value],
-    query: &SlotQuery,
-) -> Result<Query, NoMemory>
+fn filled_query_of(room: QueryRoom, values: &[Value], query: &SlotQuery) -> Result<Query, NoMemory>
     ensures { IfOk result (λ filled. filled ≡ filled_query values.now query.now) }
 {
     Ok(Query {
@@ -184,7 +180,9 @@ fn room_of_insert(alloc: Global, kept: Resolved) -> Vec<Value> {
 fn room_of_update(alloc: Global, kept: Resolved) -> (Vec<Assignment>, Vec<Test>) {
     match kept {
         Resolved::Update {
-            assignments, tests, ..
+            assignments,
+            tests,
+            ..
         } => (assignments.into_vec(), tests.into_vec()),
         _ => (Vec::new(alloc), Vec::new(alloc)),
     }
