@@ -1,6 +1,7 @@
 //! A database with statements: a session, and the statements that are kept of its tables.
 
 use crate::cell::Cell;
+use crate::commands::Commands;
 use crate::declaring::may_declare;
 use crate::declined::Declined;
 use crate::faults::{ExecuteFault, PrepareFault};
@@ -36,6 +37,7 @@ pub enum Executed {
 pub struct Database {
     session: Session,
     statements: Statements,
+    commands: Commands,
 }
 
 impl Model for Database {
@@ -75,6 +77,7 @@ impl Database {
         Ok(Database {
             session: Session::with_limits(alloc, policy, limits)?,
             statements: Statements::new(alloc),
+            commands: Commands::new(alloc),
         })
     }
 
@@ -179,6 +182,7 @@ impl Database {
         let statement = self
             .statements
             .prepare(alloc, line.as_str(), places, resolution)?;
+        self.commands.make_place(statement);
         Ok(Numbered { statement, places })
     }
 
@@ -191,6 +195,7 @@ impl Database {
         ensures session { self.new.session ≡ self.old.session }
         ensures unchanged { OnErr result (IsUnchanged self.old self.new) }
     {
+        self.commands.keep(number, Resolved::Tables);
         self.statements.finalize(number)
     }
 
@@ -219,12 +224,15 @@ impl Database {
         ensures statements { SameStatements self.old self.new }
     {
         cells.clear();
-        let command = command_of(&self.session, &mut self.statements, number)?;
+        let kept = self.commands.take(number);
+        let command = command_of(&self.session, &mut self.statements, number, kept)?;
         if let Resolved::Select(query) = &command {
             let columns = self.session.select(query, cells)?;
+            self.commands.keep(number, command);
             return Ok(Executed::Rows { columns });
         }
         let count = self.session.change(&command)?;
+        self.commands.keep(number, command);
         Ok(Executed::Changed(count))
     }
 
@@ -238,7 +246,8 @@ impl Database {
         ensures unchanged { IsUnchanged self.old self.new }
     {
         cells.clear();
-        let command = command_of(&self.session, &mut self.statements, number)?;
+        let none = Resolved::Tables;
+        let command = command_of(&self.session, &mut self.statements, number, none)?;
         if let Resolved::Select(query) = &command {
             self.session.columns(query, cells)?;
             return Ok(());

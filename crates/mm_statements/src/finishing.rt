@@ -42,8 +42,14 @@ fn has_past(values: &[Value], wants: &[Want]) -> bool
 }
 
 /// What a resolved statement does with these values, or why it is refused: 35 where a value is of another type than its column, then
-/// 46 where a text that is to be stored is too long, then what is refused once the values are right. 90 may stand for any of it.
-pub fn finish(alloc: Global, values: &[Value], resolution: &Resolution) -> Result<Resolved, Refusal>
+/// 46 where a text that is to be stored is too long, then what is refused once the values are right. 90 may stand for any of it. The
+/// command has the room of the one that is kept, where that is of its kind.
+pub fn finish(
+    alloc: Global,
+    values: &[Value],
+    resolution: &Resolution,
+    kept: Resolved,
+) -> Result<Resolved, Refusal>
     ensures done { IfOk result (λ r. finished values.now resolution.now ≡ Ok r) }
     ensures refused { IfErr result (λ e. e ≢ refusal.NoMemory → finished values.now resolution.now ≡ Err e) }
 {
@@ -57,5 +63,5 @@ pub fn finish(alloc: Global, values: &[Value], resolution: &Resolution) -> Resul
     if let Some(why) = resolution.last {
         return Err(why);
     }
-    Ok(fill(alloc, values, &resolution.template)?)
+    Ok(fill(alloc, values, &resolution.template, kept)?)
 }

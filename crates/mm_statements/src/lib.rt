@@ -19,6 +19,7 @@
 
 mod bound;
 mod cell;
+mod commands;
 mod database;
 mod declaring;
 mod declined;

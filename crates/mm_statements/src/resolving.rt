@@ -15,11 +15,13 @@ use mm_session::Session;
 use plain_tables::Resolved;
 
 /// The resolved command that the statement of a number is with the values that are bound. What the statement means of the tables is
-/// worked out anew from its line where it isn't known, and then known.
+/// worked out anew from its line where it isn't known, and then known. The command has the room of the one that is kept, where that is
+/// of its kind.
 pub fn command_of(
     session: &Session,
     statements: &mut Statements,
     number: usize,
+    kept: Resolved,
 ) -> Result<Resolved, ExecuteFault>
     requires { AreRight session.now.database statements.old }
     ensures right { AreRight session.now.database statements.new }
@@ -36,11 +38,11 @@ pub fn command_of(
     let values = prepared.bound.as_slice();
     let alloc = prepared.bound.allocator();
     if let Some(resolution) = &prepared.resolution {
-        return Ok(finish(alloc, values, resolution)?);
+        return Ok(finish(alloc, values, resolution, kept)?);
     }
     let line = Line::new(prepared.line.as_str());
     let resolution = meaning(alloc, session.catalog(), &line)?;
-    let command = finish(alloc, values, &resolution);
+    let command = finish(alloc, values, &resolution, kept);
     // The number names a statement, so this is never declined.
     let _ = statements.set_resolution(number, resolution);
     Ok(command?)

@@ -45,7 +45,7 @@ loop-assignment-preserved c =
     let is : IsSetBy before targets a set = (
       refl,
       subst (λ t. IsCellOf before t a.value c.in_ok-cell.cell) c.target_number-target.ensures
-      (subst (λ v. IsCellOf before c.target_number-target.result v c.in_ok-cell.cell) c.in_ok-value.ensures cell),
+          (subst (λ v. IsCellOf before c.target_number-target.result v c.in_ok-cell.cell) c.in_ok-value.ensures cell),
     ) in
     let pushed = c.in_ok-push_set.ensures in
     record {

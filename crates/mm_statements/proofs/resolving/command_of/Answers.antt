@@ -5,6 +5,7 @@ use Rattle.mm_statements.specs.Kept.{named}
 use Rattle.mm_statements.specs.Resolving.{LineMeans}
 use Rattle.mm_statements.specs.Right.{IsRight}
 use Rattle.mm_statements.proofs.ExecuteLemmas.{is-finished, is-meant, known-resolves, unmeant-finished}
+use Rattle.mm_statements.proofs.FinishedLemmas.{finished-rows}
 use Rattle.mm_statements.proofs.MarkLemmas.{spelled-unbroken}
 use Rattle.mm_statements.proofs.RightLemmas.{resolve-right}
 use Rattle.mm_statements.proofs.resolving.command_of.Goals as goal
@@ -85,3 +86,6 @@ returns-clause-meant c =
     let means : LineMeans tables p.line r = rw (c.catalog.ensures.tables, c.new-line.ensures, c.as_str.ensures) at c.in_ok-resolution.ensures.means in
     is-meant tables p means.0 means.1 r means.2 c.args.session.now.limits _ c.as_slice-values.ensures.width
     (rw c.as_slice-values.ensures.values at c.in_ok-command.ensures.done)
+
+pub returns-clause-rows : goal.returns-clause-rows
+returns-clause-rows c = finished-rows c.as_slice-values.result.now c.in_ok-resolution.resolution c.in_ok-command.field-0 c.in_ok-command.ensures.done
