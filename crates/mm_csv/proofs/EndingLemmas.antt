@@ -1,5 +1,5 @@
 -- Lemmas on records that are put together from their ends.
-use Rattle.std.proofs.Common.{◌≡◌, ◌++◌, ◌∷◌, [], ◌+◌, ◌<◌, ℕ, List, false, refl, sym, ◌∙◌, drop, length, append_assoc, arith}
+use Rattle.std.proofs.Common.{◌≡◌, ◌++◌, ◌∷◌, [], ◌+◌, ◌<◌, ℕ, List, false, sym, drop, length, append_assoc, arith}
 use Rattle.std.specs.List.{flat_map, list_any}
 use Rattle.plain_tables.specs.Csv.{needs_quotes, record_text}
 use Rattle.mm_csv.proofs.PlainFields.{record-plain}

@@ -1,10 +1,10 @@
 -- Rows that rise by the keys of their first source alone.
-use Rattle.std.proofs.Common.{◌≡◌, ℕ, ℤ, ◌+◌, ◌-◌, ◌<◌, ◌<ℤ◌, List, [], ◌∷◌, ◌∙◌, ap, Option, Some, None, inl, inr, eq-zero-or-pos, refl, sym, subst, arith, length, map, get_or}
+use Rattle.std.proofs.Common.{◌≡◌, ℕ, ℤ, ◌+◌, ◌-◌, ◌<◌, ◌<ℤ◌, List, [], ◌∷◌, ◌∙◌, ap, Option, Some, inl, inr, eq-zero-or-pos, refl, sym, subst, arith, map, get_or}
 use Rattle.std.specs.Prelude.{slice_get}
 use Rattle.std.specs.List.Sorted.{IsSorted}
 use Rattle.std.specs.Cmp.{int_cmp_is}
 use Rattle.std.specs.Ordering.{int_cmp}
-use Rattle.std.specs.declared.cmp.Ordering.TheVariants.{Less, Equal, Greater}
+use Rattle.std.specs.declared.cmp.Ordering.TheVariants.{Greater}
 use Rattle.std.proofs.lemmas.Option.{same_Some}
 use Rattle.part_raw.specs.declared.tuple_ref.TupleRef.{TupleRef}
 use Rattle.plain_tables.specs.declared.numbers.TableNumber.{TableNumber}

@@ -1,5 +1,5 @@
 -- Rows of a list by the keys of their first source, where these are integers.
-use Rattle.std.specs.Prelude.{◌≡◌, ℕ, ℤ, ◌+◌, ◌<◌, List, [], ◌∷◌, Some, length}
+use Rattle.std.specs.Prelude.{◌≡◌, ℕ, ℤ, ◌+◌, ◌<◌, List, ◌∷◌, Some, length}
 use Rattle.std.proofs.Common.{◌<ℤ◌, get_or}
 use Rattle.part_raw.specs.declared.tuple_ref.TupleRef.{TupleRef}
 use Rattle.plain_tables.specs.declared.value.Value.TheVariants.{Int}

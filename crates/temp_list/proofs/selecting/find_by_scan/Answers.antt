@@ -1,4 +1,4 @@
-use Rattle.std.proofs.Common.{Option, Some, subst, sym}
+use Rattle.std.proofs.Common.{subst, sym}
 use Rattle.std.specs.Prelude.{IfSome}
 use Rattle.std.proofs.lemmas.Result.{IfOk-weaker}
 use Rattle.mm_index.specs.Bag.{IsSameBag}

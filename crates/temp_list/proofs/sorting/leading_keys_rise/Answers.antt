@@ -1,4 +1,4 @@
-use Rattle.std.proofs.Common.{rules, ◌≡◌, ◌<ℤ◌, ℤ, List, Some, ap, sym, subst, arith, get_or, ◌∙◌}
+use Rattle.std.proofs.Common.{rules, ◌≡◌, ◌<ℤ◌, ℤ, List, Some, ap, sym, subst, get_or, ◌∙◌}
 use Rattle.std.proofs.lemmas.List.{get_or_default}
 use Rattle.std.proofs.lemmas.Option.{same_Some}
 use Rattle.part_raw.specs.declared.tuple_ref.TupleRef.{TupleRef}

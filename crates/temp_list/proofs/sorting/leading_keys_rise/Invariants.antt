@@ -1,4 +1,3 @@
-use Rattle.std.proofs.Common.{◌<◌}
 use Rattle.temp_list.proofs.LeadingLemmas.{AreLedBelow, IsLastOf}
 use Rattle.temp_list.proofs.sorting.leading_keys_rise.Given as goal
 

@@ -1,4 +1,4 @@
-use Rattle.std.proofs.Common.{◌≡◌, ◌∙◌, ◌∷◌, ap, arith}
+use Rattle.std.proofs.Common.{◌∙◌, ◌∷◌, ap, arith}
 use Rattle.std.proofs.lemmas.List.{drop_all, drop-set}
 use Rattle.mm_csv.proofs.ending.Ending.begin.Goals as goal
 

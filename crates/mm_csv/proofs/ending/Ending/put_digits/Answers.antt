@@ -1,4 +1,4 @@
-use Rattle.std.proofs.Common.{◌≡◌, ◌-◌, ◌≤◌, length, rules, arith}
+use Rattle.std.proofs.Common.{◌≡◌, ◌-◌, length, rules, arith}
 use Rattle.std.proofs.lemmas.Fmt.{length-decimal-le}
 use Rattle.std.proofs.lemmas.List.{length-drop}
 use Rattle.mm_csv.proofs.ending.Ending.put_digits.Goals as goal
