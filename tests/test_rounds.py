@@ -20,6 +20,13 @@ index emp n hash
 index emp dept tree
 index emp dept hash
 """
+# Rows of four cells in many partitions of a store, of which each keeps one row of so many at most.
+PARTITIONS = 64
+SLOTS = 256
+WIDE = 4 * 16
+SPARSE = 300
+# What a store and its indexes may keep beside what their rows need.
+MOST_SPARE = 3 * 65_536
 DROPS = b"drop table emp\ndrop table dept\n"
 
 
@@ -106,6 +113,27 @@ class Rounds(unittest.TestCase):
 
     def test_rounds_of_loads(self):
         self.check(FRONT + TABLES + INDEXES, loads(random.Random(SEED)))
+
+    def test_updates_that_move_all_rows_and_back(self):
+        """All rows go to one value under a declared tree and a hash, and to their own values again."""
+        lines = [b"insert emp ('%06d', %d, null)" % (key, key) for key in range(ROWS)]
+        back = [b"update emp set n = %d where id = '%06d'" % (key, key) for key in range(ROWS)]
+        lines += [b"update emp set n = 1", *back, b"update emp set n = 1 where n > 5", *back, b"delete emp"]
+        self.check(FRONT + TABLES + INDEXES, b"".join(line + b"\n" for line in lines))
+
+    def test_few_rows_of_many_hold_little(self):
+        """Of rows in many partitions those of the first and the last stay, then each 300th of them, then the last."""
+        keys = range(PARTITIONS * SLOTS)
+        table = b"table wide (id int, a int, b int, c int)\n"
+        rows = b"".join(b"insert wide (%d, 0, 0, 0)\n" % key for key in keys)
+        middle = b"delete wide where id > %d and id < %d\n" % (SLOTS - 1, keys[-SLOTS])
+        thinned = b"".join(b"delete wide where id = %d\n" % key for key in keys if key % SPARSE)
+        rest = b"delete wide where id < %d\n" % keys[-SLOTS]
+        for lines, most in ((middle, 2), (thinned + rest, 1)):
+            _, held = self.run_counted([FRONT, table, MARK, rows, MARK, lines, MARK])
+            empty, full, few = held[-3:]
+            self.assertGreater(full - empty, PARTITIONS * SLOTS * WIDE)
+            self.assertLess(few - empty, MOST_SPARE + most * 2 * SLOTS * WIDE)
 
     def test_tables_that_go_give_all_back(self):
         """What is kept of them is the room of the largest answer, so that is there before the first look."""

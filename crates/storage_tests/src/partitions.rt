@@ -238,8 +238,9 @@ fn a_release_gives_back_the_partitions_behind_the_last_tuple(rt: HostRuntime) {
         )
     );
     remove_all(&rt, &mut store, refs.get(0..256).expect(&rt, "a third"));
-    store.release_spares();
     counts_are(&rt, &store, 256, 256);
+    store.release_spares();
+    counts_are(&rt, &store, 256, 0);
     let again = fill(&rt, rt.alloc(), &mut store, &drops, 256);
     counts_are(&rt, &store, 512, 0);
     assert!(&rt;
@@ -254,6 +255,35 @@ fn a_release_gives_back_the_partitions_behind_the_last_tuple(rt: HostRuntime) {
     store.release_spares();
     counts_are(&rt, &store, 0, 0);
     assert!(&rt; store.slots() == 0);
+}
+
+#[test]
+fn a_partition_in_the_middle_gives_its_memory_back_and_is_filled_again(rt: HostRuntime) {
+    let drops = Cell::new(0);
+    let mut store = store_of(&rt, rt.alloc(), 3);
+    let refs = fill(&rt, rt.alloc(), &mut store, &drops, 1_024);
+    let refs = refs.as_slice();
+    remove_all(&rt, &mut store, refs.get(256..768).expect(&rt, "two of four"));
+    counts_are(&rt, &store, 512, 512);
+    store.shed_spares(512);
+    counts_are(&rt, &store, 512, 512);
+    store.shed_spares(511);
+    counts_are(&rt, &store, 512, 0);
+    assert!(&rt; store.slots() == 1_024);
+    let last = *refs.get(1_023).expect(&rt, "a reference");
+    assert!(&rt; has(&store, last, &[1_023, 1_023, 1_023]));
+    let gone = *refs.get(300).expect(&rt, "a reference");
+    assert!(&rt; !store.holds(gone));
+    let again = fill(&rt, rt.alloc(), &mut store, &drops, 1);
+    counts_are(&rt, &store, 513, 255);
+    assert!(&rt; store.slots() == 1_024);
+    let first = *again.as_slice().first().expect(&rt, "a reference");
+    assert!(&rt; first.part() == 1 && has(&store, first, &[0, 0, 0]));
+    drop(fill(&rt, rt.alloc(), &mut store, &drops, 512));
+    counts_are(&rt, &store, 1_025, 255);
+    assert!(&rt; store.slots() == 1_280);
+    drop(store);
+    assert!(&rt; drops.get() == 3 * 1_537);
 }
 
 #[test]
