@@ -1,6 +1,7 @@
 """The library in this process, by ctypes and without the package for Python: a handle, its statements, and the ways to have
 streams answered."""
 
+import contextlib
 import ctypes
 import struct
 
@@ -46,7 +47,7 @@ class Rows(ctypes.Structure):
 
 CELL = struct.Struct("=qIHH")
 INTEGER, TEXT = 1, 2
-REFUSED = 12
+NO_MEMORY, REFUSED = 7, 12
 
 
 def call(name, result, *arguments):
@@ -73,6 +74,20 @@ EXECUTE = call("mmdb_execute", NUMBER, ADDRESS, NUMBER, ADDRESS)
 COLUMNS = call("mmdb_columns", NUMBER, ADDRESS, NUMBER, ADDRESS)
 FINALIZE = call("mmdb_finalize", NUMBER, ADDRESS, NUMBER)
 CLOSE = call("mmdb_close", None, ADDRESS)
+
+
+@contextlib.contextmanager
+def through(library):
+    """In it the calls are those of another library."""
+    before = {name: found for name, found in globals().items() if isinstance(found, LIBRARY._FuncPtr)}
+    for name, found in before.items():
+        other = getattr(library, found.__name__)
+        other.restype, other.argtypes = found.restype, found.argtypes
+        globals()[name] = other
+    try:
+        yield
+    finally:
+        globals().update(before)
 
 
 class Handle:

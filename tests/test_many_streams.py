@@ -69,28 +69,28 @@ def whole(stream):
 
 
 class Stream:
-    """The stream of a number, with its limits, its units and their answers, and what is counted of it."""
+    """A stream, what is drawn for it, its limits and a policy, its units and their answers, and what is counted of it."""
 
-    def __init__(self, number):
-        self.draw = random.Random(f"{SEED} {number}")
-        self.policy = harness.POLICIES[number % len(harness.POLICIES)]
-        while True:
-            self.tables = covered.Tables(limits_of(self.draw))
-            self.bytes = whole(drawn(number, self.draw))
-            self.units = list(model.units_of(self.bytes))
-            try:
-                self.answers = [self.tables.answer(*unit) for unit in self.units]
-                return
-            except model.OddQuotes:
-                pass
+    def __init__(self, stream, draw, limits, policy):
+        self.bytes = stream
+        self.draw = draw
+        self.limits = limits
+        self.policy = policy
+        self.tables = covered.Tables(limits)
+        self.count = self.tables.count
+        self.units = list(model.units_of(stream))
+        self.answers = [self.tables.answer(*unit) for unit in self.units]
 
-    @property
-    def limits(self):
-        return self.tables.limits
 
-    @property
-    def count(self):
-        return self.tables.count
+def stream_at(number):
+    """The stream of that number."""
+    draw = random.Random(f"{SEED} {number}")
+    while True:
+        limits = limits_of(draw)
+        try:
+            return Stream(whole(drawn(number, draw)), draw, limits, harness.POLICIES[number % len(harness.POLICIES)])
+        except model.OddQuotes:
+            pass
 
 
 # ---- how they are answered
@@ -138,7 +138,8 @@ class OneByOne:
             reason = handle.reason(line, block) if number else b"-"
             self.reasons.append(reason)
             if answer != expected or (told != number and line) or not reason or b"\n" in reason:
-                self.misfits.append(f"{line!r} is answered {answer!r}, not {expected!r}, with the refusal {told} and the reason {reason!r}")
+                beside = f"with the refusal {told} and the reason {reason!r}"
+                self.misfits.append(f"{line!r} is answered {answer!r}, not {expected!r}, {beside}")
             if not number:
                 then(line)
 
@@ -169,15 +170,20 @@ def one_by_one(stream):
     return found + [f"the reasons of lines and of statements: {pair}" for pair in differ]
 
 
-def judge(number):
-    """What a stream differs by, with its number, and what was counted of it."""
-    stream = Stream(number)
+def differences(stream):
+    """What a stream's answers differ by, in all ways in which they are asked for."""
     answers = b"".join(stream.answers)
     runs = [*by_policies(stream), in_pieces(stream)]
-    found = [f"{how}: {out!r}" for how, out in runs if out != answers] + one_by_one(stream)
     stream.count["streams", "judged"] += 1
     stream.count["streams", "answered"] += len(runs) + 2
-    told = f"stream {number} of seed {SEED}, under {stream.limits}: {stream.bytes!r} has the answers {answers!r}, but "
+    return [f"{how}: {out!r}, not {answers!r}" for how, out in runs if out != answers] + one_by_one(stream)
+
+
+def judge(number):
+    """What a stream differs by, with its number, and what was counted of it."""
+    stream = stream_at(number)
+    found = differences(stream)
+    told = f"stream {number} of seed {SEED}, under {stream.limits}: {stream.bytes!r}\n"
     return (told + "\n".join(found) if found else None), stream.count
 
 
