@@ -14,6 +14,7 @@ import compiling
 import harness
 import model
 import reached
+import shapes
 import sizes
 import tape
 import test_many_streams
@@ -22,22 +23,15 @@ import test_many_streams
 REFUSED_STREAMS = 10
 REFUSED_CALLS = [*range(1, 60), *range(61, 600, 7)]
 MOST_UNITS = 40
+# Streams of large tables beside those of MMDB_STREAMS, of each form.
+LARGE_STREAMS = 8
 STREAMS = sizes.said("MMDB_STREAMS", 500)
 CRATES = {line.split(":")[0].split()[0] for line in (harness.ROOT / "crates.txt").read_text().splitlines() if ":" in line}
-# What turns the tree, and what joins its nodes or moves rows between them. That a bucket splits or folds stands within its callers.
-TURNS = {
-    "ttree::rotate::rotate": "rotations of trees",
-    "ttree::steps::raise": "nodes raised, one by a single rotation and two by a double one",
-    "ttree::settle::merge_child": "merges of nodes",
-    "ttree::steps::fill": "rows moved between nodes",
-    "ttree::balance::rebalance": "ways up from a node",
-    "ttree::removal::take_greatest": "greatest rows taken to a node above",
-    "ttree::build::build_child": "subtrees built of sorted rows",
-    "lin_hash::": "calls of the hash",
-    "temp_list::search::rows_by_hash": "searches by a hash",
-    "temp_list::search::rows_by_tree": "searches by a tree",
-    "join_ops::": "joins",
-}
+# Whose functions are told one by one: the indexes, the plans and the joins. Much of them stands within their callers.
+TOLD = ("ttree", "ttree_node", "lin_hash", "plan_chooser", "temp_list", "join_ops", "project_hash")
+ROTATE, RAISE, MERGE = "ttree::rotate::rotate", "ttree::steps::raise", "ttree::settle::merge_child"
+# Of how many instructions a part is told that was never reached.
+LEAST_TOLD = 40
 ROOM = compiling.Room()
 
 
@@ -55,8 +49,8 @@ class Reached(unittest.TestCase):
         found = [reached.Function(name, addresses, counts) for name, addresses in reached.functions().items()]
         own = [function for function in found if function.crate in CRATES or function.name.startswith("mmdb_")]
         tell(own, found)
-        for name in ("ttree::rotate::rotate", "ttree::settle::merge_child"):
-            self.assertGreater(sum(function.entered for function in own if function.name.startswith(name)), 0, name)
+        for name in (ROTATE, RAISE, MERGE):
+            self.assertGreater(entered(own, name), 0, name)
 
     def recorded(self):
         """The file of the calls that the streams and the rows make."""
@@ -76,9 +70,13 @@ class Reached(unittest.TestCase):
 
 
 def all_streams():
-    """The random streams, and the rows."""
+    """The random streams, those of large tables, and the rows."""
     for number in range(test_many_streams.FIRST, test_many_streams.FIRST + STREAMS):
         yield test_many_streams.stream_at(number)
+    for number in range(LARGE_STREAMS * len(shapes.LARGE_FORMS)):
+        draw = random.Random(f"{test_many_streams.SEED} large {number}")
+        stream = shapes.stream(draw, shapes.LARGE_FORMS[number % len(shapes.LARGE_FORMS)])
+        yield test_many_streams.Stream(stream, draw, model.Limits(), harness.POLICIES[number % 5])
     rows = [(stream, model.Limits()) for _, stream, _ in harness.rows()]
     rows += [(stream, limits) for _, limits, stream, _ in harness.limited_rows()]
     for number, (stream, limits) in enumerate(rows):
@@ -97,16 +95,24 @@ def with_refusals(calls):
             yield from handle
 
 
+def entered(functions, front):
+    return sum(function.entered for function in functions if function.name.startswith(front))
+
+
 def tell(own, all_functions):
     print(f"\nseed {test_many_streams.SEED}, streams {test_many_streams.FIRST} to {test_many_streams.FIRST + STREAMS - 1}")
-    for name, what in TURNS.items():
-        print(f"{what}: {sum(function.entered for function in own if function.name.startswith(name))}")
+    rotations = entered(own, ROTATE)
+    double = entered(own, RAISE) - rotations
+    print(f"rotations: {rotations - double} single, {double} double; merges of nodes: {entered(own, MERGE)}")
+    for crate in TOLD:
+        listed = ", ".join(f"{each.name.removeprefix(crate + '::')} {each.entered}" for each in own if each.crate == crate)
+        print(f"{crate}: {listed}")
     for what, functions in (("mmdb's own code", own), ("all code of the library", all_functions)):
         total, there = sum(each.instructions for each in functions), sum(each.reached for each in functions)
         print(f"{what}: {there} of {total} instructions, {sum(each.reached > 0 for each in functions)} of {len(functions)} functions")
     print("never reached: " + ", ".join(each.name for each in own if not each.reached))
-    print("reached in part, by how many instructions were not:")
-    for each in sorted(own, key=lambda each: each.reached - each.instructions):
-        if 0 < each.reached < each.instructions:
-            parts = ", ".join(f"{address:x} ({count})" for address, count in each.parts[:8])
-            print(f"  {each.name}: {each.instructions - each.reached} of {each.instructions}, entered {each.entered} times: {parts}", flush=True)
+    print(f"parts of {LEAST_TOLD} instructions and more that were never reached:")
+    for each in own:
+        parts = ", ".join(f"{address:x} ({count})" for address, count in each.parts if count >= LEAST_TOLD)
+        if parts and each.reached:
+            print(f"  {each.name}, entered {each.entered} times: {parts}", flush=True)
