@@ -317,7 +317,7 @@ class Millions(unittest.TestCase):
 class LimitsOfMemory(unittest.TestCase):
     """A program that may take so much memory and no more answers 90, and all else right."""
 
-    MOST = sizes.size([40 * 2**20], [256 * 2**20, 512 * 2**20, 1000 * 2**20])
+    MOST = sizes.size([40 * 2**20], [256 * 2**20, 512 * 2**20, 768 * 2**20])
     AT_ONCE = 2**17
     OF_A_ROW = 48
 
