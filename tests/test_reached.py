@@ -24,7 +24,7 @@ REFUSED_STREAMS = 10
 REFUSED_CALLS = [*range(1, 60), *range(61, 600, 7)]
 MOST_UNITS = 40
 # Streams of large tables beside those of MMDB_STREAMS, of each form.
-LARGE_STREAMS = 8
+LARGE_STREAMS = 3
 STREAMS = sizes.said("MMDB_STREAMS", 500)
 CRATES = {line.split(":")[0].split()[0] for line in (harness.ROOT / "crates.txt").read_text().splitlines() if ":" in line}
 # Whose functions are told one by one: the indexes, the plans and the joins. Much of them stands within their callers.
@@ -59,7 +59,7 @@ class Reached(unittest.TestCase):
             for number, stream in enumerate(all_streams()):
                 calls = self.calls_of(stream)
                 to.write(b"".join(calls))
-                if number % (STREAMS // REFUSED_STREAMS) == 0 and len(stream.units) <= MOST_UNITS:
+                if number % max(1, STREAMS // REFUSED_STREAMS) == 0 and len(stream.units) <= MOST_UNITS:
                     to.writelines(with_refusals(calls))
         return path
 
