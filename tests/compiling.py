@@ -48,14 +48,14 @@ class Room:
         return path
 
 
-def counting_library(folder):
+def counting_library(folder, words=()):
     """Puts a library into a folder, archive and shared, whose calls for memory tests/embedding/allocations.c counts and
-    refuses. It doesn't count those of a program that embeds it."""
+    refuses, compiled with these words. It doesn't count those of a program that embeds it."""
     archive, counting = folder / "libmmdb.a", folder / "allocations.o"
     others = [word for call in CALLS for word in ("--redefine-sym", f"{call}=__wrap_{call}")]
     subprocess.run(["objcopy", *others, library.folder() / "libmmdb.a", archive], check=True)
     real = [f"-D__real_{call}={call}" for call in CALLS]
-    subprocess.run([*C, "-fPIC", *real, "-c", EMBEDDING / "allocations.c", "-o", counting], check=True)
+    subprocess.run([*C, "-fPIC", *words, *real, "-c", EMBEDDING / "allocations.c", "-o", counting], check=True)
     subprocess.run(["ar", "rc", archive, counting], check=True)
     whole = ["-Wl,--whole-archive", archive, "-Wl,--no-whole-archive"]
     subprocess.run(["cc", "-shared", "-o", folder / "libmmdb.so", *whole], check=True)

@@ -1,4 +1,5 @@
-"""Tables that count what they are asked: commands, refusals, and the plans of each policy, as docs/plans.md tells them."""
+"""Tables that count what they are asked: commands, refusals, and the plans of each policy, as docs/plans.md tells them; and how
+often the trees and hashes of the library grew and shrank."""
 
 import collections
 
@@ -6,6 +7,14 @@ import harness
 import model
 import plans
 
+CHANGES = (b"insert", b"update", b"delete", b"load")
+# What is seen of indexes from command to command: of what they tell, by its place, what it is called that there is more of it,
+# and that there is less.
+TOLD = {
+    "tree": {3: ("levels of trees more", "levels of trees fewer"), 4: ("nodes of trees more", "nodes of trees fewer")},
+    "hash": {6: ("splits of buckets", "folds of buckets")},
+}
+SHAPED = [word for told in TOLD.values() for both in told.values() for word in both]
 WORDS = ("table", "drop_table", "index", "drop_index", "insert", "update", "delete", "select", "load", "dump", "tables")
 
 
@@ -102,3 +111,27 @@ def counted(word):
 
 for name in WORDS:
     setattr(Tables, name, counted(name))
+
+
+class Shapes:
+    """How the indexes of each table stood when they were looked at last, and what there has been more or less of since. Where a
+    command brings both it is the difference that is seen."""
+
+    def __init__(self, count):
+        self.count = count
+        self.seen = {}
+
+    def look(self, handle, line):
+        """Looks at the table that a line has changed."""
+        words = line.split(maxsplit=2)
+        if words and words[0] in CHANGES:
+            for record in handle.indexes(words[1]).decode().splitlines()[2:]:
+                self.compare(words[1], record.split(","))
+
+    def compare(self, table, told):
+        column, kind = told[:2]
+        before = self.seen.get((table, column, kind), told)
+        for place, (more, fewer) in TOLD[kind].items():
+            difference = int(told[place]) - int(before[place])
+            self.count["shapes", more if difference > 0 else fewer] += abs(difference)
+        self.seen[table, column, kind] = told

@@ -1,6 +1,7 @@
 /* Refuses one call for memory. Preloaded into a program, it counts the calls for memory that the program makes, and
  * lets the one of the number in REFUSE_NTH find none. It says so by a byte to the open file whose number is in
- * REFUSE_TOLD. Without REFUSE_NTH it refuses nothing. */
+ * REFUSE_TOLD. Without REFUSE_NTH it refuses nothing. A program that it is linked with says by refuse_nth which of the
+ * calls from now on is refused, or by 0 that none is, and hears how many there were to it yet. */
 #include <errno.h>
 #include <stddef.h>
 #include <stdlib.h>
@@ -13,6 +14,15 @@ extern void *__libc_memalign(size_t alignment, size_t size);
 
 static long left = 0;
 static int told = -1;
+
+long refuse_nth(long nth);
+
+long refuse_nth(long nth)
+{
+    const long before = left;
+    left = nth;
+    return before;
+}
 
 /* Runs once the libraries are loaded and before the program starts, so no earlier call counts. */
 __attribute__((constructor)) static void begin(void)

@@ -1,16 +1,20 @@
 """A table of sessions at full speed: they come, are touched and looked up, and go by ranges of their end, under a declared
-tree and a hash. As many are there after each round, and they hold about as much memory.
+tree and a hash. As many are there after each round, and they hold about as much memory. So it is where the keys were chosen
+against both.
 
-In large sizes (`tests/fire churn`) it tells how long each kind of command took, and SQLite beside it, both called from
-Python, and asserts nothing of it.
+In large sizes (`tests/fire churn`) it does what such a table does in a day, and tells how long each kind of command took, and
+SQLite beside it, called from C, and from Python; and asserts nothing of it.
 """
 
 import gc
 import random
+import re
 import sqlite3
+import subprocess
 import time
 import unittest
 
+import compiling
 import embedded
 import holding
 import sizes
@@ -23,6 +27,12 @@ TIMED_ROUNDS = 4
 STEPS = 20
 LONGEST_LIFE = 2 * STEPS
 MOST_GROWTH = 1.1
+# The words of tests/embedding/churn.c: rounds, seconds of a round, and the longest life in seconds. There are 200 commands to a
+# second, so that a day has 17,280,000. Chains are walked where keys meet, so that there are fewer then.
+OF_A_DAY = sizes.size(("12", "100", "50"), ("24", "3600", "1800"))
+OF_CHOSEN_KEYS = sizes.size(("12", "20", "10"), ("24", "600", "300"))
+# From which round on the table is as full as it will be.
+FULL = 2
 TABLE = ["table session (id int, token text, visits int, until int)", "index session until tree", "index session token hash"]
 
 
@@ -190,3 +200,54 @@ class Timed(unittest.TestCase):
             at = [listed[len(listed) // 2], listed[len(listed) * 99 // 100], listed[-1]]
             p50, p99, most = (f"{took / 1_000:.2f}" for took in at)
             print(f"{name}, {kind}, {len(listed)} times: p50 {p50} µs, p99 {p99} µs, most {most} µs", flush=True)
+
+
+class InC(unittest.TestCase):
+    """The same by prepared statements, from C. Each answer is that of a list of sessions."""
+
+    @classmethod
+    def setUpClass(cls):
+        cls.room = compiling.Room()
+        cls.addClassCleanup(cls.room.close)
+
+    def compiled(self, engine, linked):
+        words = ["cc", "-std=c99", *compiling.WARNINGS, "-O2", f"-I{compiling.EMBEDDING}"]
+        return self.room.linked(engine, compiling.EMBEDDING / "churn.c", words, [compiling.EMBEDDING / f"churn_{engine}.c", *linked])
+
+    def run_mmdb(self, words, is_chosen):
+        """Runs the sessions, and checks that no round holds much more than that from which on the table is full."""
+        self.told(self.compiled("mmdb", [compiling.library.folder() / "libmmdb.a"]), words, is_chosen)
+        full, rest = self.held[FULL - 1], self.held[FULL:]
+        self.assertLessEqual(max(rest), MOST_GROWTH * full, self.held)
+
+    def run_sqlite(self, words, is_chosen):
+        try:
+            program = self.compiled("sqlite", ["-lsqlite3"])
+        except subprocess.CalledProcessError:
+            self.skipTest("SQLite can't be linked with here")
+        self.told(program, words, is_chosen)
+
+    def told(self, program, words, is_chosen):
+        """Keeps what was held behind each round, and tells the times in large sizes."""
+        ended = compiling.ran([program, str(SEED), *words, str(int(is_chosen))])
+        self.assertEqual((ended.status, ended.err), (0, b""))
+        self.held = [int(held) for held in re.findall(rb"held (\d+)\n", ended.out)]
+        self.assertEqual(len(self.held), int(words[0]))
+        if sizes.is_large:
+            print("\n" + re.sub(r"held \d+\n", "", ended.out.decode()).rstrip())
+            full, rest = self.held[FULL - 1], self.held[FULL:]
+            print(f"holds {full} bytes after round {FULL}, then {min(rest)} to {max(rest)}", flush=True)
+
+    def test_a_day(self):
+        self.run_mmdb(OF_A_DAY, False)
+
+    def test_chosen_keys(self):
+        self.run_mmdb(OF_CHOSEN_KEYS, True)
+
+    @unittest.skipUnless(sizes.is_large, "it tells times, in large sizes")
+    def test_a_day_of_sqlite(self):
+        self.run_sqlite(OF_A_DAY, False)
+
+    @unittest.skipUnless(sizes.is_large, "it tells times, in large sizes")
+    def test_chosen_keys_of_sqlite(self):
+        self.run_sqlite(OF_CHOSEN_KEYS, True)

@@ -1,16 +1,22 @@
-"""The library with many threads, each with a handle of its own, under sanitizers; in large sizes (`tests/fire
-embedding_threads`) also under valgrind's drd, which sees each read and write of the library itself."""
+"""The library with four threads and with many, each with a handle of its own, from C and from Rust, under sanitizers; in large
+sizes (`tests/fire embedding_threads`) from C also under valgrind's drd, which sees each read and write of the library itself."""
 
+import os
+import pathlib
 import shutil
+import subprocess
 import unittest
 
 import compiling
+import harness
+import library
 import sizes
 
-THREADS = 64
+THREADS = (4, 64)
 ROWS = sizes.size(100, 2_000)
 # Under drd all is slower by far, so that there are fewer rows.
 ROWS_WATCHED = 20
+TARGET = "x86_64-unknown-linux-gnu"
 SOURCE = compiling.EMBEDDING / "threads.c"
 ROOM = compiling.Room()
 
@@ -21,10 +27,12 @@ def tearDownModule():
 
 class Threads(unittest.TestCase):
     def check(self, name, rows, words=(), before=()):
-        sizes_told = [f"-DTHREADS={THREADS}", f"-DROWS={rows}"]
-        program = ROOM.compiled(name, SOURCE, [*compiling.C, "-pthread", *sizes_told, *words])
-        ended = compiling.ran([*before, program])
-        self.assertEqual((ended.status, ended.out, ended.err), (0, b"", b""))
+        for threads in THREADS:
+            told = [f"-DTHREADS={threads}", f"-DROWS={rows}"]
+            program = ROOM.compiled(f"{name}-{threads}", SOURCE, [*compiling.C, "-pthread", *told, *words])
+            with self.subTest(threads=threads):
+                ended = compiling.ran([*before, program])
+                self.assertEqual((ended.status, ended.out, ended.err), (0, b"", b""))
 
     def test_each_has_its_own_answers(self):
         self.check("threads", ROWS)
@@ -39,3 +47,39 @@ class Threads(unittest.TestCase):
     def test_under_drd(self):
         words = ["valgrind", "--tool=drd", "--quiet", "--error-exitcode=9", "--check-stack-var=yes"]
         self.check("threads-drd", ROWS_WATCHED, before=words)
+
+
+def has_nightly():
+    """Whether there is a Rust that has sanitizers."""
+    words = ["cargo", "+nightly", "--version"]
+    return shutil.which("cargo") is not None and subprocess.run(words, capture_output=True, check=False).returncode == 0
+
+
+class InRust(unittest.TestCase):
+    """The same by the crate for Rust, whose databases are then asked by other threads than those that made them."""
+
+    @classmethod
+    def setUpClass(cls):
+        cls.folder = pathlib.Path(ROOM.path) / "in-rust"
+        (cls.folder / "src").mkdir(parents=True)
+        crate = harness.ROOT / "bindings" / "rust"
+        head = '[package]\nname = "threads"\nversion = "0.1.0"\nedition = "2021"\n\n[dependencies]\n'
+        (cls.folder / "Cargo.toml").write_text(f'{head}mmdb = {{ path = "{crate}" }}\n')
+        shutil.copy(compiling.EMBEDDING / "threads.rs", cls.folder / "src" / "main.rs")
+
+    def check(self, rows, target, words=(), **variables):
+        how = {**os.environ, "MMDB_LIBRARY": str(library.folder().resolve()), **variables}
+        words = ["cargo", *words, "build", "--quiet", "--offline", "--target", TARGET, "--target-dir", target]
+        subprocess.run(words, cwd=self.folder, check=True, env=how)
+        for threads in THREADS:
+            with self.subTest(threads=threads):
+                ended = compiling.ran([self.folder / target / TARGET / "debug" / "threads", str(threads), str(rows)])
+                self.assertEqual((ended.status, ended.out, ended.err), (0, b"", b""))
+
+    def test_each_has_its_own_answers(self):
+        self.check(ROWS, "plain")
+
+    @unittest.skipUnless(sizes.is_large and has_nightly(), "the sanitizer is run in large sizes, where Rust's nightly is there")
+    def test_under_the_sanitizer_of_threads(self):
+        sanitized = "-Zsanitizer=thread -Cunsafe-allow-abi-mismatch=sanitizer"
+        self.check(ROWS, "sanitized", ["+nightly"], RUSTFLAGS=sanitized)

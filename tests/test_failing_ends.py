@@ -1,5 +1,8 @@
-"""Ends of the program that fail: files that are full, readers that leave, and reads that find a fault."""
+"""Ends of the program that fail: files that are full, readers that leave, and reads that find a fault. In large sizes they fail
+at each byte of each row."""
 
+import bisect
+import itertools
 import os
 import resource
 import subprocess
@@ -51,6 +54,13 @@ class FullFiles(unittest.TestCase):
         self.check(BLOCKS)
 
 
+    @unittest.skipUnless(sizes.is_large, "some 84,000 runs, in large sizes")
+    def test_full_files_of_each_row(self):
+        for name, stream, _ in harness.rows():
+            with self.subTest(row=name):
+                self.check(stream)
+
+
 class ReadersThatLeave(unittest.TestCase):
     """Who reads some answers and leaves has got those of the lines so far. The next answer is a write fault."""
 
@@ -79,16 +89,31 @@ class ReadersThatLeave(unittest.TestCase):
         self.check(BLOCKS)
 
 
+def answers_by_ends(stream):
+    """Where the units of a stream end, and the answers to none of them, to the first, to the first two and so on."""
+    tables, listed = model.Tables(model.Limits()), list(model.units_of(stream))
+    lengths = [len(line) + 1 + model.block_length(line) for line, _ in listed]
+    answers = itertools.accumulate((tables.answer(*unit) for unit in listed), initial=b"")
+    return list(itertools.accumulate(lengths)), list(answers)
+
+
 class FaultsOfReads(unittest.TestCase):
     """Where a read fails, the units that have ended are answered, and the one that hasn't has no answer. Here a pipe that
     doesn't wait is empty, and its other end is open."""
 
     def check(self, stream):
+        ends, answers = answers_by_ends(stream)
         for length in range(0, len(stream) + 1, APART):
             with self.subTest(length=length):
                 ended = self.run_until_empty(stream[:length])
                 self.assertEqual((ended.status, ended.err), READ_FAULT)
-                self.assertEqual(ended.out, model.answers_to(streams.whole_units_of(stream[:length])))
+                self.assertEqual(ended.out, answers[bisect.bisect_right(ends, length)])
+
+    @unittest.skipUnless(sizes.is_large, "some 190,000 runs, in large sizes")
+    def test_a_read_fails_behind_each_row(self):
+        for name, stream, _ in harness.rows():
+            with self.subTest(row=name):
+                self.check(stream)
 
     def run_until_empty(self, stream):
         reads, writes = os.pipe()

@@ -1,10 +1,13 @@
-"""The largest lines, tables, blocks and dumps that there can be, and one more of each."""
+"""The largest lines, tables, blocks and dumps that there can be, and one more of each; and millions of rows in each structure."""
 
+import resource
 import unittest
 
+import embedded
 import harness
 import model
 import sizes
+import streams
 import texts
 
 LIMITS = model.Limits()
@@ -204,3 +207,161 @@ class Blocks(unittest.TestCase):
             b"table t (id int)\n" + loads + b"insert t (-1)\nload t 6\nid\n-1\ninsert t (5)\nload t 5\nid\n5\n",
             b"ok\n" + b"ok 1048576\n" * len(blocks) + full + there,
         )
+
+
+class Millions(unittest.TestCase):
+    """Eight million rows in the tree of a key, in a declared tree, in a hash and in links; and a full table with indexes."""
+
+    ROWS = sizes.size(20_000, 2**23)
+    FULL = sizes.size(30_000, LIMITS.rows)
+    AT_ONCE = 2**19
+    # It has no divisor in common with a number of rows, so that each number below that is met once.
+    STEP = 7_654_321
+
+    def load(self, handle, name, names, rows):
+        """Loads rows in blocks, and each is told."""
+        for at in range(0, len(rows), self.AT_ONCE):
+            some = rows[at : at + self.AT_ONCE]
+            block = names + b"".join(self.record(key) for key in some)
+            self.assertEqual(handle.ask(b"load %s %d" % (name, len(block)), block), b"ok %d\n" % len(some))
+
+    def record(self, key):
+        return b"%d,%d\n" % (key, self.other(key))
+
+    def other(self, key):
+        """What stands beside a key: each number that is below that of the rows once, in another order."""
+        return key * self.STEP % self.rows
+
+    def key(self, other):
+        return other * pow(self.STEP, -1, self.rows) % self.rows
+
+    def asks(self, handle, line, *answers):
+        self.assertEqual(handle.ask(line.encode(), b""), "".join(answers).encode(), line)
+
+    def shows(self, handle, select, names, rows):
+        records = "".join(",".join(map(str, row)) + "\n" for row in rows)
+        self.asks(handle, select, f"rows {len(rows)}\n{names}\n{records}")
+
+    def holds(self, handle, table, *indexes):
+        """Each index has so many rows."""
+        told = handle.indexes(table).decode().splitlines()[2:]
+        self.assertEqual([line.split(",")[:3] for line in told], [index.split(",") for index in indexes])
+
+    def tables(self, handle, rows):
+        self.rows = rows
+        for line in ("table t (id int, n int)", "index t n tree", "index t n hash"):
+            self.asks(handle, line, "ok\n")
+        self.load(handle, b"t", b"id,n\n", range(rows))
+        self.holds(handle, b"t", f"id,tree,{rows}", f"n,tree,{rows}", f"n,hash,{rows}")
+
+    def finds(self, handle, first, last, shown=None):
+        """The rows that are there from the first key to one before the last are found by each index, and no others."""
+        for key in (first - 1, first, (first + last) // 2, last - 1, last):
+            some = [key] if first <= key < last else []
+            other = self.other(key) if 0 <= key < self.rows else -7
+            self.shows(handle, f"select n from t where id = {key}", "t.n", [[self.other(each)] for each in some])
+            self.shows(handle, f"select id from t where n = {other}", "t.id", [[each] for each in some])
+            near = range(max(0, other), min(self.rows, other + 9))
+            found = sorted([each, number] for each, number in ((self.key(number), number) for number in near) if first <= each < last)
+            self.shows(handle, f"select * from t where n >= {other} and n < {other + 9}", "t.id,t.n", found)
+
+    def test_rows_in_each_structure(self):
+        half = self.ROWS // 2
+        with embedded.Handle() as handle:
+            self.tables(handle, self.ROWS)
+            self.finds(handle, 0, self.ROWS)
+            self.asks(handle, "table u (id int, t ref t)", "ok\n")
+            self.load(handle, b"u", b"id,t\n", range(self.ROWS))
+            self.links(handle)
+            self.asks(handle, f"delete t where id >= {half}", "error 44 row is referenced\n")
+            self.asks(handle, f"delete u where id >= {half}", f"ok {self.ROWS - half}\n")
+            self.asks(handle, f"update u set t = {half - 1}", f"ok {half}\n")
+            self.asks(handle, f"delete t where id >= {half}", f"ok {self.ROWS - half}\n")
+            self.holds(handle, b"t", f"id,tree,{half}", f"n,tree,{half}", f"n,hash,{half}")
+            self.finds(handle, 0, half)
+            self.shows(handle, f"select distinct t.id from u join t on u.t = t.id where t.n = {self.other(half - 1)}", "t.id", [[half - 1]])
+            self.asks(handle, "drop table u", "ok\n")
+            self.load(handle, b"t", b"id,n\n", range(half, self.ROWS))
+            self.finds(handle, 0, self.ROWS)
+
+    def links(self, handle):
+        """What is joined by the links of a few rows, of all, and without them."""
+        some = range(self.ROWS - 4, self.ROWS)
+        rows = [[key, self.other(self.other(key))] for key in some]
+        self.shows(handle, f"select u.id, t.n from u join t on u.t = t.id where u.id >= {some[0]}", "u.id,t.n", rows)
+        rows = sorted([self.key(key), key] for key in map(self.key, range(5)))
+        self.shows(handle, "select u.id, t.id from u join t on u.t = t.id where t.n < 5", "u.id,t.id", rows)
+        self.shows(handle, "select u.id from t join u on t.id = u.t where t.id = 5", "u.id", [[self.key(5)]])
+
+    def test_a_full_table_with_indexes(self):
+        last = self.FULL - 1
+        with embedded.Handle(limits=model.Limits(self.FULL)) as handle:
+            self.tables(handle, self.FULL)
+            self.is_full(handle)
+            self.finds(handle, 0, self.FULL)
+            self.asks(handle, f"update t set n = -9 where id = {last}", "ok 1\n")
+            self.shows(handle, "select id from t where n = -9", "t.id", [[last]])
+            self.shows(handle, "select id from t where n < 0", "t.id", [[last]])
+            self.asks(handle, f"delete t where id = {last}", "ok 1\n")
+            self.finds(handle, 0, last)
+            self.asks(handle, f"insert t ({last}, {self.other(last)})", "ok 1\n")
+            self.is_full(handle)
+            self.finds(handle, 0, self.FULL)
+
+    def is_full(self, handle):
+        self.asks(handle, "insert t (-1, 0)", "error 43 table full\n")
+        self.asks(handle, "insert t (0, 0)", "error 41 key exists\n")
+        self.assertEqual(handle.ask(b"load t 10", b"id,n\n-1,0\n"), b"error 43 table full (record 1)\n")
+
+
+class LimitsOfMemory(unittest.TestCase):
+    """A program that may take so much memory and no more answers 90, and all else right."""
+
+    MOST = sizes.size([40 * 2**20], [256 * 2**20, 512 * 2**20, 768 * 2**20])
+    AT_ONCE = 2**17
+    OF_A_ROW = 48
+
+    def units(self, most):
+        """Loads, of which the last have no room, each with a select of a row of its; and then rows that go, and come again."""
+        yield b"table t (id int, n int)\n", None
+        yield b"index t n tree\n", None
+        yield b"index t n hash\n", None
+        for number in [*range(most // self.AT_ONCE // self.OF_A_ROW + 2), -1, 0, 1]:
+            if number == -1:
+                yield b"delete t where id < %d\n" % (2 * self.AT_ONCE), None
+                continue
+            first = number * self.AT_ONCE
+            block = b"id,n\n" + b"".join(b"%d,%d\n" % (key, key ^ 0x5555) for key in range(first, first + self.AT_ONCE))
+            yield b"load t %d\n" % len(block) + block, None
+            for select in (b"n = %d", b"n <= %d and n >= %d", b"id = %d"):
+                value = first ^ 0x5555 if select[:1] == b"n" else first
+                yield b"select id from t where " + select.replace(b"%d", b"%d" % value) + b"\n", first
+
+    def check(self, most):
+        """The rows of a load are found where it was done, and only then."""
+        listed = [(unit[:30], key) for unit, key in self.units(most)]
+        limited = lambda: resource.setrlimit(resource.RLIMIT_AS, (most, most))
+        ended = harness.run_in_pieces((unit for unit, _ in self.units(most)), preexec_fn=limited)
+        self.assertEqual((ended.status, ended.err), (0, b""))
+        answers = streams.answers_of(ended.out)
+        self.assertEqual(len(answers), len(listed))
+        there = refused = done = 0
+        for (unit, key), answer in zip(listed, answers):
+            if key is not None:
+                self.assertEqual(answer, b"rows 1\nt.id\n%d\n" % key if there else b"rows 0\nt.id\n", unit)
+            elif unit.startswith(b"load"):
+                there = answer == b"ok %d\n" % self.AT_ONCE
+                done += there
+                refused += not there
+                self.assertIn(answer, (b"ok %d\n" % self.AT_ONCE, b"error 90 no memory\n"))
+            else:
+                self.assertIn(answer, (b"ok\n", b"ok %d\n" % (2 * self.AT_ONCE)))
+        self.assertGreater(min(done, refused), 0, (done, refused))
+        return done, refused
+
+    def test_no_memory(self):
+        for most in self.MOST:
+            with self.subTest(most=most):
+                done, refused = self.check(most)
+                if sizes.is_large:
+                    print(f"{most} bytes: {done} loads of {self.AT_ONCE} rows were done, {refused} were refused", flush=True)

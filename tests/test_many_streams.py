@@ -1,5 +1,6 @@
 """Very many random streams, judged by plain lists of rows, in one process over the library: each whole under each policy, in
-pieces, and line by line, where each refusal has its number and a reason.
+pieces, and line by line, where each refusal has its number and a reason; and once more by statements, where values are taken
+out of the lines and bound, and rows are read as cells.
 
 In large sizes (`tests/fire many_streams`) the environment can say which streams: MMDB_FIRST is the number of the first,
 MMDB_STREAMS how many, MMDB_SEED the seed, and MMDB_JOBS how many processes judge. A stream is drawn by the seed and its
@@ -20,13 +21,15 @@ import embedded
 import harness
 import joined
 import model
+import prepared
+import shapes
 import sizes
 import streams
 import test_model
 import test_referee
 import texts
 
-SEED = sizes.said("MMDB_SEED", 20261126)
+SEED = sizes.said("MMDB_SEED", 20261127)
 FIRST = sizes.said("MMDB_FIRST", 0)
 STREAMS = sizes.said("MMDB_STREAMS", sizes.size(400, 100_000))
 JOBS = sizes.said("MMDB_JOBS", 1)
@@ -42,7 +45,10 @@ METHODS = ("Nested", "HashJoin", "TreeJoin", "TreeMerge", "Precomputed")
 
 
 def drawn(number, draw):
-    """A stream, by its number about joins, about long texts, or of the model, to which some have nulls behind."""
+    """A stream, by its number about joins, about long texts, about large trees and hashes, or of the model, to which some have
+    nulls behind."""
+    if number % 20 == 3:
+        return shapes.stream(draw)
     if number % 5 == 0:
         return joined.stream(draw)
     if number % 5 == 1:
@@ -62,14 +68,27 @@ def whole(stream):
     return streams.whole(stream, b"")[0]
 
 
+class Stream:
+    """A stream, what is drawn for it, its limits and a policy, its units and their answers, and what is counted of it."""
+
+    def __init__(self, stream, draw, limits, policy):
+        self.bytes = stream
+        self.draw = draw
+        self.limits = limits
+        self.policy = policy
+        self.tables = covered.Tables(limits)
+        self.count = self.tables.count
+        self.units = list(model.units_of(stream))
+        self.answers = [self.tables.answer(*unit) for unit in self.units]
+
+
 def stream_at(number):
-    """The stream of that number with its limits and its answers, and what is counted of it."""
+    """The stream of that number."""
     draw = random.Random(f"{SEED} {number}")
     while True:
-        tables = covered.Tables(limits_of(draw))
-        stream = whole(drawn(number, draw))
+        limits = limits_of(draw)
         try:
-            return draw, stream, tables, [tables.answer(*unit) for unit in model.units_of(stream)]
+            return Stream(whole(drawn(number, draw)), draw, limits, harness.POLICIES[number % len(harness.POLICIES)])
         except model.OddQuotes:
             pass
 
@@ -77,30 +96,57 @@ def stream_at(number):
 # ---- how they are answered
 
 
-def by_policies(stream, limits):
+def by_policies(stream):
     for policy in harness.POLICIES:
-        yield f"whole under {policy}", embedded.answers_to([stream], policy, limits)
+        yield f"whole under {policy}", embedded.answers_to([stream.bytes], policy, stream.limits)
 
 
-def in_pieces(stream, limits, draw, policy):
-    pieces = test_model.random_pieces(draw, stream)
-    return f"in {len(pieces)} pieces under {policy}", embedded.answers_to(pieces, policy, limits)
+def in_pieces(stream):
+    pieces = test_model.random_pieces(stream.draw, stream.bytes)
+    return f"in {len(pieces)} pieces under {stream.policy}", embedded.answers_to(pieces, stream.policy, stream.limits)
 
 
-def line_by_line(stream, tables, policy):
-    """The answers to the lines. What is told beside them has to fit them: the refusal, its reason, and the indexes."""
-    answers, misfits = [], []
-    with embedded.Handle(policy, tables.limits) as handle:
-        for line, block in model.units_of(stream):
-            answer = handle.ask(line, block)
-            answers.append(answer)
+class OneByOne:
+    """A stream of which each unit is asked on its own. What is told beside an answer has to fit it: the refusal and its reason,
+    and in the end how the indexes stand."""
+
+    def __init__(self, stream):
+        self.stream = stream
+        self.reasons = []
+        self.misfits = []
+
+    def misfits_by_lines(self):
+        shaped = covered.Shapes(self.stream.count)
+        with embedded.Handle(self.stream.policy, self.stream.limits) as handle:
+            self.ask_all(handle, handle.ask, lambda line: shaped.look(handle, line))
+            self.check_indexes(handle)
+        return self.misfits
+
+    def misfits_by_statements(self):
+        with embedded.Handle(self.stream.policy, self.stream.limits) as handle:
+            statements = prepared.Statements(handle, self.stream.draw, self.stream.count)
+            self.ask_all(handle, statements.ask)
+            self.check_indexes(handle)
+            self.misfits += [f"the rows of {text!r} changed" for text in statements.changed()]
+        return self.misfits
+
+    def ask_all(self, handle, asks, then=lambda _: None):
+        for (line, block), expected in zip(self.stream.units, self.stream.answers):
+            answer = asks(line, block)
             number = int(answer[6:8]) if answer.startswith(b"error ") else 0
             told = handle.refusal()
             reason = handle.reason(line, block) if number else b"-"
-            if told != number and line or not reason or b"\n" in reason:
-                misfits.append(f"{line!r} is answered {answer!r}, with the refusal {told} and the reason {reason!r}")
-        misfits += [f"{listed}: {handle.indexes(name.encode())!r}" for name, listed in lists(tables) if not handle_tells(handle, name, listed)]
-    return answers, misfits
+            self.reasons.append(reason)
+            if answer != expected or (told != number and line) or not reason or b"\n" in reason:
+                beside = f"with the refusal {told} and the reason {reason!r}"
+                self.misfits.append(f"{line!r} is answered {answer!r}, not {expected!r}, {beside}")
+            if not number:
+                then(line)
+
+    def check_indexes(self, handle):
+        for name, listed in lists(self.stream.tables):
+            if not handle_tells(handle, name, listed):
+                self.misfits.append(f"the indexes {listed} are told as {handle.indexes(name.encode())!r}")
 
 
 def lists(tables):
@@ -115,19 +161,30 @@ def handle_tells(handle, name, listed):
     return len(told) == len(listed) and all(line.startswith(front) for line, front in zip(told, listed))
 
 
+def one_by_one(stream):
+    """What differs where each line is asked on its own, and where it is done by a statement, whose reasons are the same."""
+    lines, statements = OneByOne(stream), OneByOne(stream)
+    found = [f"line by line under {stream.policy}: {misfit}" for misfit in lines.misfits_by_lines()]
+    found += [f"by statements under {stream.policy}: {misfit}" for misfit in statements.misfits_by_statements()]
+    differ = [pair for pair in zip(lines.reasons, statements.reasons) if pair[0] != pair[1]]
+    return found + [f"the reasons of lines and of statements: {pair}" for pair in differ]
+
+
+def differences(stream):
+    """What a stream's answers differ by, in all ways in which they are asked for."""
+    answers = b"".join(stream.answers)
+    runs = [*by_policies(stream), in_pieces(stream)]
+    stream.count["streams", "judged"] += 1
+    stream.count["streams", "answered"] += len(runs) + 2
+    return [f"{how}: {out!r}, not {answers!r}" for how, out in runs if out != answers] + one_by_one(stream)
+
+
 def judge(number):
     """What a stream differs by, with its number, and what was counted of it."""
-    draw, stream, tables, listed = stream_at(number)
-    policy = harness.POLICIES[number % len(harness.POLICIES)]
-    answers = b"".join(listed)
-    runs = [*by_policies(stream, tables.limits), in_pieces(stream, tables.limits, draw, policy)]
-    found = [f"{how}: {out!r}" for how, out in runs if out != answers]
-    asked, misfits = line_by_line(stream, tables, policy)
-    found += misfits + [f"line by line under {policy}: {both}" for both in zip(asked, listed) if both[0] != both[1]][:1]
-    tables.count["streams", "judged"] += 1
-    tables.count["streams", "answered"] += len(runs) + 1
-    told = f"stream {number} of seed {SEED}, under {tables.limits}: {stream!r} has the answers {answers!r}, but "
-    return (told + "\n".join(found) if found else None), tables.count
+    stream = stream_at(number)
+    found = differences(stream)
+    told = f"stream {number} of seed {SEED}, under {stream.limits}: {stream.bytes!r}\n"
+    return (told + "\n".join(found) if found else None), stream.count
 
 
 # ---- all of them, and how far it is
@@ -203,5 +260,6 @@ class Judged(unittest.TestCase):
         self.assertEqual(progress.differences, [], "\n\n".join(progress.differences[:DIFFERENCES_TOLD]))
         self.assertEqual([word for word in covered.WORDS if not progress.count["commands", word.replace("_", " ")]], [])
         self.assertEqual([number for number in REFUSALS if not progress.count["refusals", number]], [])
+        self.assertEqual([what for what in covered.SHAPED if not progress.count["shapes", what]], [])
         chosen = {kind.split()[1] for what, kind in progress.count if what.startswith("joins")}
         self.assertEqual(chosen, set(METHODS))

@@ -1,5 +1,6 @@
 /* Counts the blocks of memory that are given and given back, and refuses the calls for memory that it is told to, or
- * the one of the number in REFUSE_NTH. At the end of the program it says the counts on standard error. */
+ * the one of the number in REFUSE_NTH. At the end of the program it says the counts on standard error, but where UNTOLD is
+ * defined. */
 #include "allocations.h"
 
 #include <stdio.h>
@@ -44,10 +45,12 @@ __attribute__((constructor)) static void begin(void)
         allocations_refuse(atol(nth) - 1, 1);
 }
 
+#ifndef UNTOLD
 __attribute__((destructor)) static void tell(void)
 {
     fprintf(stderr, "%ld blocks given, %ld given back, %ld calls refused\n", given_blocks, returned_blocks, refused_calls);
 }
+#endif
 
 static int is_refused(void)
 {

@@ -1,0 +1,480 @@
+/* Makes calls of each kind with what a hostile caller gives, within what the header lets him give: lines and texts of any bytes,
+   zero bytes among them, and of any length; null with a length and without; numbers of statements and of places that name none;
+   closed handles, null handles and open ones. The words are the SEED and how many CALLS there are.
+
+   Each status has to be one that the header tells of, and NOT_OPEN, NO_LINE, NO_SUCH_STATEMENT and NO_SUCH_PLACE come just where they
+   have to. What is answered is read to its end, and the rows of each statement are as they were until it is executed anew. */
+#include "checking.h"
+
+#include <inttypes.h>
+#include <stdlib.h>
+
+enum { HANDLES = 3, MOST_STATEMENTS = 24, MOST_BYTES = 20000 };
+
+/* A statement that is there: whether its last execution was done, its rows then, and what they add up to. */
+typedef struct statement {
+    mmdb_statement of;
+    int has_rows;
+    mmdb_rows rows;
+    uint64_t sum;
+} statement;
+
+typedef struct handle {
+    mmdb db;
+    int is_open;
+    statement kept[MOST_STATEMENTS];
+    size_t count;
+} handle;
+
+/* Bytes in a block of just their length; or null. */
+typedef struct bytes {
+    unsigned char *at;
+    size_t length;
+} bytes;
+
+static handle handles[HANDLES];
+static uint64_t state;
+static uint64_t statuses[MMDB_REFUSED + 1];
+
+static uint64_t drawn(uint64_t below)
+{
+    uint64_t of;
+    state += UINT64_C(0x9E3779B97F4A7C15);
+    of = (state ^ (state >> 30)) * UINT64_C(0xBF58476D1CE4E5B9);
+    of = (of ^ (of >> 27)) * UINT64_C(0x94D049BB133111EB);
+    return (of ^ (of >> 31)) % below;
+}
+
+static int is_drawn(unsigned percent)
+{
+    return drawn(100) < percent;
+}
+
+/* ---- what is given */
+
+static const char *const WORDS[] = {
+    "table",  "t",    "u",     "id",   "n",       "s",     "int",  "text", "ref",  "null", "insert", "update",
+    "delete", "load", "dump",  "set",  "where",   "from",  "join", "on",   "(",    ")",    ",",      ".",
+    "=",      "<>",   "<",     "<=",   ">",       ">=",    "?",    "*",    "'a'",  "''",   "'it''s'", "1",
+    "-7",     "007",  "index", "tree", "hash",    "drop",  "and",  "#",    "\t",   "\r",   "\xc3\xa9", "\xff",
+    "select", "9223372036854775807", "tables", "distinct", "t.id", "u.t", "load t 9", "id,n\n1,2\n", "\n", "\"",
+};
+static const char *const LINES[] = {
+    "table t (id int, n int, s text)", "table t (id int, n int, s text)", "table t (id int, n int, s text)",
+    "table u (id text, t ref t null)", "table u (id text, t ref t null)", "table u (id text, t ref t null)", "index t n tree", "index t n hash", "index t s hash",
+    "index u t tree", "drop index t n hash", "insert t (?, ?, ?)", "insert u (?, ?)", "insert t (%, %, '%')", "insert u ('%', %)",
+    "update t set n = ? where id < ?", "update t set s = '%' where n = %", "update u set t = ? where id = ?", "delete t where id > ?",
+    "delete u where t = ?", "delete t where n = %", "select * from t", "select id, s from t where n >= ? and n < ?",
+    "select distinct s from t", "select t.id, u.id from t join u on t.id = u.t where t.n <> ?", "select * from u where id = ?",
+    "select n from t where s = ?", "dump t", "dump u", "tables", "load t 21", "load u 15",
+};
+
+static void put(bytes *to, const void *some, size_t length)
+{
+    if (to->length + length <= MOST_BYTES)
+        memcpy(to->at + to->length, some, length);
+    to->length += to->length + length <= MOST_BYTES ? length : 0;
+}
+
+/* A line as it is meant, with small numbers in its places of %. */
+static void put_line(bytes *to)
+{
+    const char *line = LINES[drawn(sizeof LINES / sizeof LINES[0])];
+    if (is_drawn(1))
+        line = is_drawn(50) ? "drop table u" : "drop table t";
+    for (; *line != '\0'; line++) {
+        char number[24];
+        sprintf(number, "%d", (int)drawn(40) - 5);
+        put(to, *line == '%' ? number : line, *line == '%' ? strlen(number) : 1);
+    }
+}
+
+static void put_words(bytes *to)
+{
+    for (uint64_t left = drawn(20); left > 0; left--) {
+        const char *word = WORDS[drawn(sizeof WORDS / sizeof WORDS[0])];
+        put(to, word, strlen(word));
+        put(to, " ", drawn(2));
+    }
+}
+
+static void put_any(bytes *to, uint64_t count)
+{
+    for (; count > 0; count--) {
+        const unsigned char byte = (unsigned char)drawn(256);
+        put(to, &byte, 1);
+    }
+}
+
+static void put_many(bytes *to)
+{
+    static const char *const MANY[] = { "x", "'", "\xc3\xa9", "\n", "a,", "\"", " ", "0", "(" };
+    const char *of = MANY[drawn(sizeof MANY / sizeof MANY[0])];
+    for (uint64_t left = drawn(is_drawn(20) ? 9000 : 1100); left > 0; left--)
+        put(to, of, strlen(of));
+}
+
+/* One byte is turned, taken out or doubled. */
+static void change(bytes *of)
+{
+    const size_t at = of->length == 0 ? 0 : drawn(of->length);
+    if (of->length == 0)
+        return;
+    if (is_drawn(50))
+        of->at[at] = (unsigned char)drawn(256);
+    else
+        memmove(of->at + at, of->at + at + 1, --of->length - at);
+}
+
+static bytes cut_to_length(bytes of)
+{
+    bytes just = { (unsigned char *)malloc(of.length), of.length };
+    if (of.length > 0)
+        memcpy(just.at, of.at, of.length);
+    free(of.at);
+    return just;
+}
+
+static bytes some_bytes(const char *end)
+{
+    bytes of = { (unsigned char *)malloc(MOST_BYTES), 0 };
+    const uint64_t kind = drawn(20);
+    if (kind < 13)
+        put_line(&of);
+    else if (kind < 16)
+        put_words(&of);
+    else if (kind < 18)
+        put_any(&of, drawn(60));
+    else if (kind < 19)
+        put_many(&of);
+    if (is_drawn(8))
+        change(&of);
+    if (is_drawn(4))
+        put(&of, "\r", 1);
+    put(&of, end, strlen(end));
+    return cut_to_length(of);
+}
+
+/* Bytes with that end, and sometimes null, with a length or without. */
+static bytes given_bytes_to(const char *end)
+{
+    bytes of = some_bytes(end);
+    if (is_drawn(3)) {
+        free(of.at);
+        of.at = NULL;
+        of.length = is_drawn(50) ? 0 : 1 + drawn(1000);
+    }
+    return of;
+}
+
+static bytes given_bytes(void)
+{
+    return given_bytes_to("");
+}
+
+static bytes block(void)
+{
+    static const char *const BLOCKS[] = { "id,n,s\n1,2,a\n3,4,b\n5\n", "id,n,s\n7,2,a\n8,4,\n", "id,t\na,1\nb,\nc,3\n", "id,t\nd,\nf,\nx,\n" };
+    const char *of = BLOCKS[drawn(sizeof BLOCKS / sizeof BLOCKS[0])];
+    bytes to = { (unsigned char *)malloc(MOST_BYTES), 0 };
+    if (is_drawn(20))
+        return free(to.at), given_bytes();
+    put(&to, of, strlen(of));
+    if (is_drawn(20))
+        change(&to);
+    return cut_to_length(to);
+}
+
+/* ---- what is expected */
+
+static uint32_t only(mmdb_status status)
+{
+    return UINT32_C(1) << status;
+}
+
+static int is_within(mmdb_status status, uint32_t allowed, const char *call)
+{
+    const int is = status <= MMDB_REFUSED && (allowed >> status & 1) != 0;
+    if (!is)
+        fprintf(stderr, "%s gives %u\n", call, (unsigned)status);
+    checks_failed += !is;
+    statuses[status <= MMDB_REFUSED ? status : 0]++;
+    return is;
+}
+
+static int is_null(bytes of)
+{
+    return of.at == NULL && of.length > 0;
+}
+
+/* The number of an answer's refusal, which has to be that which is told. Each byte of it is read. */
+static void reads_answer(handle *of, mmdb_bytes answer)
+{
+    uint64_t sum = 0;
+    for (size_t i = 0; i < answer.length; i++)
+        sum += answer.at[i];
+    CHECK(answer.length == 0 || sum > 0);
+    CHECK(answer.length == 0 || answer.at[answer.length - 1] == '\n' || memcmp(answer.at, "load ", 5) == 0);
+    if (answer.length >= 8 && memcmp(answer.at, "error ", 6) == 0)
+        CHECK(mmdb_refusal(&of->db) == (uint32_t)(answer.at[6] - '0') * 10 + (uint32_t)(answer.at[7] - '0'));
+}
+
+static uint64_t sum_of(const mmdb_rows *rows)
+{
+    uint64_t sum = rows->rows * 31 + rows->columns;
+    for (size_t i = 0; i < rows->rows * rows->columns; i++) {
+        const mmdb_cell *cell = rows->cells + i;
+        const mmdb_bytes text = cell->kind == MMDB_TEXT ? mmdb_text(rows, cell) : (mmdb_bytes){ rows->texts, 0 };
+        sum = sum * 31 + cell->kind + (cell->kind == MMDB_INTEGER ? (uint64_t)cell->integer : 0);
+        CHECK(cell->kind <= MMDB_TEXT);
+        for (size_t at = 0; at < text.length; at++)
+            sum = sum * 31 + text.at[at];
+    }
+    return sum;
+}
+
+/* ---- the calls */
+
+static statement *any_statement(handle *of)
+{
+    return of->count > 0 && is_drawn(90) ? &of->kept[drawn(of->count)] : NULL;
+}
+
+/* A number that names none of the statements that are there. */
+static uint32_t no_statement(const handle *of)
+{
+    uint32_t number = is_drawn(50) ? UINT32_MAX - (uint32_t)drawn(3) : (uint32_t)drawn(MOST_STATEMENTS + 8);
+    for (size_t i = 0; i < of->count; i++)
+        number = of->kept[i].of.number == number ? UINT32_MAX : number;
+    return number;
+}
+
+static void opens(handle *of)
+{
+    static const uint32_t ROWS[] = { 0, 1, 5, 100, MMDB_MOST, MMDB_MOST, MMDB_MOST, MMDB_MOST + 1, UINT32_MAX };
+    const uint32_t policy = (uint32_t)drawn(6), rows = ROWS[drawn(9)], most = is_drawn(80) ? MMDB_MOST : ROWS[drawn(9)];
+    const int is_out = rows == 0 || rows > MMDB_MOST || most > MMDB_MOST;
+    const mmdb_status status = mmdb_open(&of->db, policy, rows, most);
+    uint32_t allowed = only(MMDB_DONE);
+    if (of->is_open)
+        allowed = only(MMDB_IS_OPEN);
+    else if (policy > MMDB_MERGE || is_out)
+        allowed = (policy > MMDB_MERGE ? only(MMDB_NO_SUCH_POLICY) : 0) | (is_out ? only(MMDB_LIMIT_OUT_OF_RANGE) : 0);
+    is_within(status, allowed, "open");
+    of->is_open |= status == MMDB_DONE;
+}
+
+static void closes(handle *of)
+{
+    mmdb_close(&of->db);
+    CHECK(of->db.inside == NULL);
+    of->is_open = 0;
+    of->count = 0;
+}
+
+static void commands(handle *of)
+{
+    const bytes line = given_bytes();
+    mmdb_bytes answer;
+    const mmdb_status status = mmdb_command(&of->db, line.at, line.length, is_drawn(95) ? &answer : NULL);
+    const int is_none = line.at == NULL || line.length == 0;
+    const uint32_t allowed = is_none ? only(MMDB_NO_LINE) : only(MMDB_DONE) | only(MMDB_NOT_ONE_REQUEST);
+    if (is_within(status, of->is_open ? allowed : only(MMDB_NOT_OPEN), "command") && status == MMDB_DONE &&
+        mmdb_answer(&of->db, &answer) == MMDB_DONE)
+        reads_answer(of, answer);
+    free(line.at);
+}
+
+static void loads(handle *of)
+{
+    const bytes with = block();
+    char line[64];
+    mmdb_bytes answer;
+    mmdb_status status;
+    uint32_t allowed = only(MMDB_DONE) | only(MMDB_NOT_ONE_REQUEST);
+    sprintf(line, "load %s %zu", is_drawn(50) ? "t" : "u", is_drawn(90) ? with.length : (size_t)drawn(40));
+    status = mmdb_load(&of->db, line, strlen(line), with.at, with.length, &answer);
+    if (is_null(with))
+        allowed = only(MMDB_NO_LINE);
+    if (is_within(status, of->is_open ? allowed : only(MMDB_NOT_OPEN), "load") && status == MMDB_DONE)
+        reads_answer(of, answer);
+    free(with.at);
+}
+
+static void feeds(handle *of)
+{
+    const bytes piece = given_bytes_to(is_drawn(80) ? "\n" : "");
+    const mmdb_status status = mmdb_feed(&of->db, piece.at, piece.length);
+    const uint32_t allowed = is_null(piece) ? only(MMDB_NO_LINE) : only(MMDB_DONE);
+    mmdb_bytes answer;
+    if (is_within(status, of->is_open ? allowed : only(MMDB_NOT_OPEN), "feed") && status == MMDB_DONE) {
+        GIVES(mmdb_answer(&of->db, &answer), MMDB_DONE);
+        reads_answer(of, answer);
+    }
+    free(piece.at);
+}
+
+static void tells(handle *of)
+{
+    const bytes line = given_bytes(), with = is_drawn(50) ? given_bytes() : block();
+    const int is_reason = is_drawn(60);
+    mmdb_bytes told;
+    const mmdb_status status = is_reason ? mmdb_reason(&of->db, line.at, line.length, with.at, with.length, &told)
+                                         : mmdb_indexes(&of->db, line.at, line.length, &told);
+    uint32_t allowed = only(MMDB_DONE);
+    if (is_null(line) || (is_reason && is_null(with)))
+        allowed = only(MMDB_NO_LINE);
+    else if (is_reason && line.length == 0)
+        allowed |= only(MMDB_NO_LINE);
+    if (is_within(status, of->is_open ? allowed : only(MMDB_NOT_OPEN), is_reason ? "reason" : "indexes") && status == MMDB_DONE) {
+        if (is_reason)
+            CHECK(memchr(told.at, '\n', told.length) == NULL);
+        else
+            reads_answer(of, told);
+    }
+    free(line.at);
+    free(with.at);
+}
+
+static void prepares(handle *of)
+{
+    const bytes line = given_bytes();
+    mmdb_statement made;
+    const mmdb_status status = mmdb_prepare(&of->db, line.at, line.length, &made);
+    const int is_none = line.at == NULL || line.length == 0;
+    const uint32_t allowed = is_none ? only(MMDB_NO_LINE) : only(MMDB_DONE) | only(MMDB_REFUSED);
+    is_within(status, of->is_open ? allowed : only(MMDB_NOT_OPEN), "prepare");
+    if (status != MMDB_DONE)
+        CHECK(made.number == UINT32_MAX && made.places == 0);
+    for (size_t i = 0; status == MMDB_DONE && i < of->count; i++)
+        CHECK(of->kept[i].of.number != made.number);
+    if (status == MMDB_DONE && of->count < MOST_STATEMENTS) {
+        memset(&of->kept[of->count], 0, sizeof of->kept[0]);
+        of->kept[of->count++].of = made;
+    } else if (status == MMDB_DONE) {
+        GIVES(mmdb_finalize(&of->db, made.number), MMDB_DONE);
+    }
+    free(line.at);
+}
+
+static void binds(handle *of)
+{
+    const statement *to = any_statement(of);
+    const uint32_t number = to ? to->of.number : no_statement(of);
+    const uint32_t place = is_drawn(90) && to && to->of.places > 0 ? (uint32_t)drawn(to->of.places) : (uint32_t)drawn(UINT32_MAX);
+    const int is_there = to && place < to->of.places;
+    const bytes text = given_bytes();
+    const uint64_t kind = drawn(3);
+    mmdb_status status;
+    uint32_t allowed = only(MMDB_DONE) | (kind == 1 ? only(MMDB_NOT_UTF8) : 0);
+    if (kind == 0)
+        status = mmdb_bind_integer(&of->db, number, place, is_drawn(90) ? (int64_t)drawn(40) - 5 : (int64_t)drawn(UINT64_MAX));
+    else if (kind == 1)
+        status = mmdb_bind_text(&of->db, number, place, text.at, text.length);
+    else
+        status = mmdb_bind_null(&of->db, number, place);
+    if (!of->is_open)
+        allowed = only(MMDB_NOT_OPEN);
+    else if (kind == 1 && is_null(text))
+        allowed = only(MMDB_NO_LINE);
+    else if (!is_there)
+        allowed = only(to ? MMDB_NO_SUCH_PLACE : MMDB_NO_SUCH_STATEMENT) | (kind == 1 ? only(MMDB_NOT_UTF8) : 0);
+    is_within(status, allowed, "bind");
+    free(text.at);
+}
+
+static void executes(handle *of)
+{
+    statement *to = any_statement(of);
+    const uint32_t number = to ? to->of.number : no_statement(of);
+    mmdb_rows rows;
+    const mmdb_status status = mmdb_execute(&of->db, number, &rows);
+    const uint32_t allowed = to ? only(MMDB_DONE) | only(MMDB_REFUSED) : only(MMDB_NO_SUCH_STATEMENT);
+    is_within(status, of->is_open ? allowed : only(MMDB_NOT_OPEN), "execute");
+    if (!to)
+        return;
+    to->has_rows = status == MMDB_DONE;
+    to->rows = rows;
+    to->sum = sum_of(&rows);
+}
+
+static void asks_columns(handle *of)
+{
+    const statement *to = any_statement(of);
+    mmdb_rows rows;
+    const mmdb_status status = mmdb_columns(&of->db, to ? to->of.number : no_statement(of), &rows);
+    const uint32_t allowed = to ? only(MMDB_DONE) | only(MMDB_REFUSED) : only(MMDB_NO_SUCH_STATEMENT);
+    is_within(status, of->is_open ? allowed : only(MMDB_NOT_OPEN), "columns");
+    CHECK(status == MMDB_DONE || rows.rows == 0);
+    sum_of(&rows);
+}
+
+static void finalizes(handle *of)
+{
+    statement *to = any_statement(of);
+    const mmdb_status status = mmdb_finalize(&of->db, to ? to->of.number : no_statement(of));
+    is_within(status, !of->is_open ? only(MMDB_NOT_OPEN) : only(to ? MMDB_DONE : MMDB_NO_SUCH_STATEMENT), "finalize");
+    if (to)
+        *to = of->kept[--of->count];
+}
+
+/* The rows of each statement are as they were when it was executed. */
+static void looks_at_rows(handle *of)
+{
+    mmdb_bytes answer;
+    is_within(mmdb_answer(&of->db, &answer), only(of->is_open ? MMDB_DONE : MMDB_NOT_OPEN), "answer");
+    for (size_t i = 0; i < of->count; i++)
+        CHECK(!of->kept[i].has_rows || sum_of(&of->kept[i].rows) == of->kept[i].sum);
+}
+
+static void calls_on_null(void)
+{
+    mmdb_bytes answer;
+    mmdb_rows rows;
+    mmdb_statement made;
+    CHECK(mmdb_open(NULL, 0, 1, 1) == MMDB_NOT_OPEN && mmdb_command(NULL, "", 0, &answer) == MMDB_NOT_OPEN);
+    CHECK(mmdb_load(NULL, "", 0, "", 0, NULL) == MMDB_NOT_OPEN && mmdb_feed(NULL, "", 0) == MMDB_NOT_OPEN);
+    CHECK(mmdb_prepare(NULL, "", 0, &made) == MMDB_NOT_OPEN && mmdb_execute(NULL, 0, &rows) == MMDB_NOT_OPEN);
+    CHECK(mmdb_columns(NULL, 0, NULL) == MMDB_NOT_OPEN && mmdb_finalize(NULL, 0) == MMDB_NOT_OPEN);
+    CHECK(mmdb_bind_null(NULL, 0, 0) == MMDB_NOT_OPEN && mmdb_bind_text(NULL, 0, 0, NULL, 7) == MMDB_NOT_OPEN);
+    CHECK(mmdb_reason(NULL, NULL, 1, NULL, 1, &answer) == MMDB_NOT_OPEN && mmdb_indexes(NULL, "", 0, NULL) == MMDB_NOT_OPEN);
+    CHECK(mmdb_answer(NULL, &answer) == MMDB_NOT_OPEN && mmdb_refusal(NULL) == 0);
+    mmdb_close(NULL);
+}
+
+typedef void (*maker)(handle *of);
+
+static const maker MAKERS[] = {
+    commands, commands, commands, commands, loads,    loads,     feeds,    feeds,        prepares,     prepares,      prepares,
+    binds,    binds,    binds,    binds,    executes, executes,  executes, asks_columns, asks_columns, looks_at_rows, tells,
+};
+
+/* One call. Handles are seldom opened and closed, so that much becomes of what they have. */
+static void call(void)
+{
+    handle *of = &handles[drawn(HANDLES)];
+    const uint64_t luck = drawn(1000);
+    if (luck < 15 || !of->is_open)
+        opens(of);
+    else if (luck < 17)
+        closes(of);
+    else if (luck < 30)
+        finalizes(of);
+    else if (luck < 32)
+        calls_on_null();
+    if (luck >= 32 || is_drawn(10))
+        MAKERS[drawn(sizeof MAKERS / sizeof MAKERS[0])](of);
+}
+
+int main(int count, char **words)
+{
+    uint64_t calls = count == 3 ? strtoull(words[2], NULL, 10) : 0;
+    state = count == 3 ? strtoull(words[1], NULL, 10) : 0;
+    for (; calls > 0 && checks_failed == 0; calls--)
+        call();
+    for (size_t i = 0; i < HANDLES; i++)
+        closes(&handles[i]);
+    for (size_t i = 0; i <= MMDB_REFUSED; i++)
+        printf("%s: %" PRIu64 "\n", mmdb_status_text((uint32_t)i), statuses[i]);
+    return checks_failed != 0;
+}
