@@ -263,7 +263,11 @@ fn a_partition_in_the_middle_gives_its_memory_back_and_is_filled_again(rt: HostR
     let mut store = store_of(&rt, rt.alloc(), 3);
     let refs = fill(&rt, rt.alloc(), &mut store, &drops, 1_024);
     let refs = refs.as_slice();
-    remove_all(&rt, &mut store, refs.get(256..768).expect(&rt, "two of four"));
+    remove_all(
+        &rt,
+        &mut store,
+        refs.get(256..768).expect(&rt, "two of four"),
+    );
     counts_are(&rt, &store, 512, 512);
     store.shed_spares(512);
     counts_are(&rt, &store, 512, 512);
