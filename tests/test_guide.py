@@ -70,7 +70,7 @@ class Snippets(unittest.TestCase):
     def test_rust(self):
         ((_, program, printed),) = snippets("rust")
         crate = ROOM.path / "crate"
-        for name, text in (("Cargo.toml", test_embedding_rust.MANIFEST), ("src/lib.rs", ""), ("tests/fixture.rs", program)):
+        for name, text in (("Cargo.toml", embedding.MANIFEST.format(name="fixture")), ("src/lib.rs", ""), ("tests/fixture.rs", program)):
             (crate / name).parent.mkdir(parents=True, exist_ok=True)
             (crate / name).write_text(text)
         where = {"MMDB_LIBRARY": str(library.folder().resolve()), "CARGO_TARGET_DIR": str(ROOM.path / "target")}

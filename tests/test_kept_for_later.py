@@ -230,5 +230,9 @@ class Shrunk(Counted):
                     self.assertLess(none, kept)
 
     def test_each_round_of_rows_under_trees_holds_what_the_first_held(self):
-        rounds = self.rounds(b"id", b"n", indexes=[b"index t n tree\n"])
-        self.assertEqual(rounds, [rounds[0]] * self.ROUNDS)
+        """But for a hundredth: which partitions keep their memory from one round to the next, and how long the lists of them have
+        grown, differs."""
+        first, *others = self.rounds(b"id", b"n", indexes=[b"index t n tree\n"])
+        for other in others:
+            for held, at_first in zip(other, first):
+                self.assertLess(abs(held - at_first), at_first / 100)
