@@ -3,6 +3,7 @@
 #include "allocations.h"
 #include "checking.h"
 
+#include <limits.h>
 #include <stdlib.h>
 
 enum { LONGEST_TEXT = 1024, LONGEST_LINE = 8192, NUMBERS = 10000 };
@@ -618,6 +619,39 @@ static void many_statements_are_kept(mmdb *db)
         CHECK(is_integer(&rows, row, 0, 2 * (int64_t)row + 1));
 }
 
+/* Executes the statement that finds a row by its key, for keys from `first` below `end`. */
+static void find_each(mmdb *db, mmdb_statement by_key, int64_t first, int64_t end)
+{
+    for (int64_t id = first; id < end; id++) {
+        mmdb_rows rows = other_rows();
+        GIVES(mmdb_bind_integer(db, by_key.number, 0, id), MMDB_DONE);
+        GIVES(mmdb_execute(db, by_key.number, &rows), MMDB_DONE);
+        CHECK(rows.changed == 1 || (rows.rows == 1 && is_integer(&rows, 0, 0, id) && is_text(&rows, 0, 1, "fourteen bytes")));
+    }
+}
+
+/* To select or delete a row by its key takes no memory where that was done before, and no text has more than 14 bytes. */
+static void a_row_is_found_by_its_key_without_memory(void)
+{
+    mmdb db = MMDB_CLOSED;
+    open_with_tables(&db);
+    mmdb_statement insert = prepared(&db, "insert t (?, 'fourteen bytes', null)");
+    mmdb_statement select = prepared(&db, "select id, s from t where id = ?");
+    mmdb_statement whole = prepared(&db, "select * from t where id = ?");
+    mmdb_statement delete = prepared(&db, "delete t where id = ?");
+    find_each(&db, insert, 0, 100);
+    find_each(&db, select, 0, 1);
+    find_each(&db, whole, 0, 1);
+    find_each(&db, delete, 0, 1);
+    allocations_refuse(0, LONG_MAX);
+    find_each(&db, select, 1, 100);
+    find_each(&db, whole, 1, 100);
+    find_each(&db, delete, 1, 100);
+    CHECK(allocations_refused() == 0);
+    allocations_refuse(0, 0);
+    mmdb_close(&db);
+}
+
 int main(void)
 {
     mmdb db = MMDB_CLOSED;
@@ -647,6 +681,7 @@ int main(void)
     a_statement_outlives_its_table(&db);
     GIVES(command(&db, "table many (id int)", NULL), MMDB_DONE);
     many_statements_are_kept(&db);
+    a_row_is_found_by_its_key_without_memory();
     mmdb_close(&db);
     a_closed_handle_is_told(&db);
     CHECK(allocations_held() == 0);
