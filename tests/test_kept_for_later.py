@@ -203,8 +203,8 @@ class Shrunk(Counted):
         return [held[at : at + len(counts)] for at in range(0, len(held), len(counts))]
 
     def test_the_tree_of_the_key_gives_its_nodes_back(self):
-        """A row of a key alone takes its slot and its reference in the tree. Of the slots those are kept that stand before one of
-        the few rows."""
+        """A row of a key alone takes its slot and its reference in the tree. Of the slots those are kept that stand in one partition
+        with one of the few rows."""
         full, few, _ = self.rounds(b"id")[0]
         self.assertGreater(full - few, (self.ROWS - self.LEFT) * self.REFERENCE)
 
