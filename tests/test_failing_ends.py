@@ -3,6 +3,7 @@ at each byte of each row, several at once."""
 
 import bisect
 import concurrent.futures
+import contextlib
 import functools
 import itertools
 import os
@@ -23,8 +24,15 @@ READ_FAULT = (1, b"mmdb: read fault\n")
 WRITE_FAULT = (3, b"mmdb: write fault\n")
 
 
-def have_small_files(most):
-    return lambda: resource.setrlimit(resource.RLIMIT_FSIZE, (most, most))
+@contextlib.contextmanager
+def small_files(most):
+    """In it files take so many bytes and no further one, also from programs that are started there."""
+    before = resource.getrlimit(resource.RLIMIT_FSIZE)
+    resource.setrlimit(resource.RLIMIT_FSIZE, (most, before[1]))
+    try:
+        yield
+    finally:
+        resource.setrlimit(resource.RLIMIT_FSIZE, before)
 
 
 def close_input():
@@ -34,8 +42,9 @@ def close_input():
 def run_to_a_file(stream, most):
     """The status, what is on standard error, and what a file has that takes so many bytes. The signal of it is ignored."""
     with tempfile.TemporaryFile() as out:
-        how = {"stdout": out, "stderr": subprocess.PIPE, "preexec_fn": have_small_files(most), "restore_signals": False}
-        ran = subprocess.run([harness.PROGRAM], input=stream, timeout=harness.SECONDS, check=False, **how)
+        how = {"stdout": out, "stderr": subprocess.PIPE, "restore_signals": False}
+        with small_files(most):
+            ran = subprocess.run([harness.PROGRAM], input=stream, timeout=harness.SECONDS, check=False, **how)
         out.seek(0)
         return ran.returncode, ran.stderr, out.read()
 
