@@ -1,7 +1,10 @@
 """Ends of the program that fail: files that are full, readers that leave, and reads that find a fault. In large sizes they fail
-at each byte of each row."""
+at each byte of each row, several at once."""
 
 import bisect
+import concurrent.futures
+import contextlib
+import functools
 import itertools
 import os
 import resource
@@ -21,12 +24,48 @@ READ_FAULT = (1, b"mmdb: read fault\n")
 WRITE_FAULT = (3, b"mmdb: write fault\n")
 
 
-def have_small_files(most):
-    return lambda: resource.setrlimit(resource.RLIMIT_FSIZE, (most, most))
+@contextlib.contextmanager
+def small_files(most):
+    """In it files take so many bytes and no further one, also from programs that are started there."""
+    before = resource.getrlimit(resource.RLIMIT_FSIZE)
+    resource.setrlimit(resource.RLIMIT_FSIZE, (most, before[1]))
+    try:
+        yield
+    finally:
+        resource.setrlimit(resource.RLIMIT_FSIZE, before)
 
 
 def close_input():
     os.close(0)
+
+
+def run_to_a_file(stream, most):
+    """The status, what is on standard error, and what a file has that takes so many bytes. The signal of it is ignored."""
+    with tempfile.TemporaryFile() as out:
+        how = {"stdout": out, "stderr": subprocess.PIPE, "restore_signals": False}
+        with small_files(most):
+            ran = subprocess.run([harness.PROGRAM], input=stream, timeout=harness.SECONDS, check=False, **how)
+        out.seek(0)
+        return ran.returncode, ran.stderr, out.read()
+
+
+def run_until_empty(stream, length):
+    """The status, what is on standard error, and the answers, where a read fails behind so many bytes."""
+    reads, writes = os.pipe()
+    try:
+        os.set_blocking(reads, False)
+        os.write(writes, stream[:length])
+        ran = subprocess.run([harness.PROGRAM], stdin=reads, capture_output=True, timeout=harness.SECONDS, check=False)
+    finally:
+        os.close(reads)
+        os.close(writes)
+    return ran.returncode, ran.stderr, ran.stdout
+
+
+def runs_at_each(run, stream, lengths):
+    """Each of the lengths, and what `run` gives at it. Other processes run them, several at once."""
+    with concurrent.futures.ProcessPoolExecutor() as jobs:
+        yield from zip(lengths, jobs.map(functools.partial(run, stream), lengths, chunksize=10))
 
 
 class FullFiles(unittest.TestCase):
@@ -34,25 +73,16 @@ class FullFiles(unittest.TestCase):
 
     def check(self, stream):
         answers = model.answers_to(stream)
-        for most in range(0, len(answers), APART):
+        for most, ran in runs_at_each(run_to_a_file, stream, range(0, len(answers), APART)):
             with self.subTest(most=most):
-                self.assertEqual(self.run_to_a_file(stream, most), (*WRITE_FAULT, answers[:most]))
-        self.assertEqual(self.run_to_a_file(stream, len(answers)), (0, b"", answers))
-
-    def run_to_a_file(self, stream, most):
-        """The status, what is on standard error, and what a file has that takes so many bytes. The signal of it is ignored."""
-        with tempfile.TemporaryFile() as out:
-            how = {"stdout": out, "stderr": subprocess.PIPE, "preexec_fn": have_small_files(most), "restore_signals": False}
-            ran = subprocess.run([harness.PROGRAM], input=stream, timeout=harness.SECONDS, check=False, **how)
-            out.seek(0)
-            return ran.returncode, ran.stderr, out.read()
+                self.assertEqual(ran, (*WRITE_FAULT, answers[:most]))
+        self.assertEqual(run_to_a_file(stream, len(answers)), (0, b"", answers))
 
     def test_full_files_of_lines(self):
         self.check(LINES)
 
     def test_full_files_of_dumps(self):
         self.check(BLOCKS)
-
 
     @unittest.skipUnless(sizes.is_large, "some 84,000 runs, in large sizes")
     def test_full_files_of_each_row(self):
@@ -103,28 +133,15 @@ class FaultsOfReads(unittest.TestCase):
 
     def check(self, stream):
         ends, answers = answers_by_ends(stream)
-        for length in range(0, len(stream) + 1, APART):
+        for length, ran in runs_at_each(run_until_empty, stream, range(0, len(stream) + 1, APART)):
             with self.subTest(length=length):
-                ended = self.run_until_empty(stream[:length])
-                self.assertEqual((ended.status, ended.err), READ_FAULT)
-                self.assertEqual(ended.out, answers[bisect.bisect_right(ends, length)])
+                self.assertEqual(ran, (*READ_FAULT, answers[bisect.bisect_right(ends, length)]))
 
     @unittest.skipUnless(sizes.is_large, "some 190,000 runs, in large sizes")
     def test_a_read_fails_behind_each_row(self):
         for name, stream, _ in harness.rows():
             with self.subTest(row=name):
                 self.check(stream)
-
-    def run_until_empty(self, stream):
-        reads, writes = os.pipe()
-        try:
-            os.set_blocking(reads, False)
-            os.write(writes, stream)
-            ran = subprocess.run([harness.PROGRAM], stdin=reads, capture_output=True, timeout=harness.SECONDS, check=False)
-        finally:
-            os.close(reads)
-            os.close(writes)
-        return harness.Ended(ran.returncode, ran.stdout, ran.stderr)
 
     def test_a_read_fails_behind_lines(self):
         self.check(LINES)

@@ -92,3 +92,28 @@ class Forgotten(unittest.TestCase):
         for held in self.held:
             self.assertEqual(held["forgotten"], held["uncounted"])
             self.assertEqual(held["released"], held["nothing"])
+
+
+class OfTheMiddle(unittest.TestCase):
+    """A store of three partitions gives back the one in the middle, and fills it again, and so does one that keeps counts."""
+
+    @classmethod
+    def setUpClass(cls):
+        counter = preloading.Library("count_held")
+        cls.addClassCleanup(counter.close)
+        tests = list(harness.crate_tests("_go_with_their_partition"))
+        cls.held = [moments_of(counter, binary, name) for binary, name in tests]
+
+    def test_there_is_one(self):
+        self.assertEqual(len(self.held), 1, "no crate's tests were built")
+
+    def test_its_counts_go_and_come_with_it(self):
+        for held in self.held:
+            counts = {when: held[f"counted, {when}"] - held[f"uncounted, {when}"] for when in ("full", "without the second", "full again")}
+            self.assertEqual(counts["full again"] - counts["without the second"], SLOTS * COUNT)
+            self.assertGreaterEqual(counts["full"] - counts["without the second"], SLOTS * COUNT)
+            self.assertLess(counts["full"] - counts["without the second"], SLOTS * (COUNT + 1))
+
+    def test_all_is_given_back(self):
+        for held in self.held:
+            self.assertEqual(held["nothing again"], held["nothing"])

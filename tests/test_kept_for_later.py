@@ -186,21 +186,30 @@ class Shrunk(Counted):
     FEW_NODES = 64 * 256
     # The slots of four partitions, of a row of one column.
     FEW_SLOTS = 4 * 256 * 64
+    # Rows of two columns in so many partitions that once all are gone a store gives each back.
+    CLEARING = 9 * 256
 
-    def rounds(self, *columns, indexes=()):
-        """The bytes that are held in each round when the rows are there, when few are left, and when none is."""
-        keys = random.Random(19860528).sample(range(self.ROWS), self.ROWS)
-        records = [b",".join(columns), *(b",".join([b"%d" % key] * len(columns)) for key in keys)]
-        block = b"\n".join(records) + b"\n"
-        lines = [b"load t %d\n" % len(block) + block, b"delete t where id >= %d\n" % self.LEFT, b"delete t\n"]
+    def rounds(self, *columns, indexes=(), clearing=0):
+        """The bytes that are held in each round when the rows are there, when few are left, and when none is; and where so many
+        rows come and go behind them, at these two as well."""
+        load = self.load(columns, random.Random(19860528).sample(range(self.ROWS), self.ROWS))
+        lines = [load, b"delete t where id >= %d\n" % self.LEFT, b"delete t\n"]
+        counts = [self.ROWS, self.ROWS - self.LEFT, self.LEFT]
+        if clearing:
+            lines += [self.load(columns, range(clearing)), b"delete t\n"]
+            counts += [clearing, clearing]
         table = b"table t (%s int)\n" % b" int, ".join(columns)
         pieces = [b"table marks (id int)\n", table, *indexes]
         for line in lines * self.ROUNDS:
             pieces += [*harness.pieces_of(line, 50_000), MARK]
-        counts = [self.ROWS, self.ROWS - self.LEFT, self.LEFT]
         answers = b"ok\n" * (2 + len(indexes)) + b"".join(b"ok %d\n" % count + MARKED for count in counts) * self.ROUNDS
         held = self.held_over(pieces, answers)
         return [held[at : at + len(counts)] for at in range(0, len(held), len(counts))]
+
+    def load(self, columns, keys):
+        records = [b",".join(columns), *(b",".join([b"%d" % key] * len(columns)) for key in keys)]
+        block = b"\n".join(records) + b"\n"
+        return b"load t %d\n" % len(block) + block
 
     def test_the_tree_of_the_key_gives_its_nodes_back(self):
         """A row of a key alone takes its slot and its reference in the tree. Of the slots those are kept that stand in one partition
@@ -230,9 +239,6 @@ class Shrunk(Counted):
                     self.assertLess(none, kept)
 
     def test_each_round_of_rows_under_trees_holds_what_the_first_held(self):
-        """But for a hundredth: which partitions keep their memory from one round to the next, and how long the lists of them have
-        grown, differs."""
-        first, *others = self.rounds(b"id", b"n", indexes=[b"index t n tree\n"])
-        for other in others:
-            for held, at_first in zip(other, first):
-                self.assertLess(abs(held - at_first), at_first / 100)
+        """Each begins with a store that keeps no partition, so that rows come into the same ones."""
+        first, *others = self.rounds(b"id", b"n", indexes=[b"index t n tree\n"], clearing=self.CLEARING)
+        self.assertEqual(others, [first] * len(others))

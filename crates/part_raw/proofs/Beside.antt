@@ -1,8 +1,7 @@
 -- Blocks with the counts of their slots beside them, as one of either changes.
-use Rattle.std.proofs.Common.{◌≡◌, ℕ, zero, suc, ◌<◌, Bool, true, false, if◌then◌else◌, List, [], ◌∷◌, ◌++◌, length, get_or, map, set, take, Option, Some, None, is_some, refl, ap, arith}
-use Rattle.std.proofs.Math.ListN.{replicate}
+use Rattle.std.proofs.Common.{◌≡◌, ℕ, zero, suc, ◌<◌, Bool, true, false, if◌then◌else◌, List, [], ◌∷◌, ◌++◌, length, get_or, map, set, take, Option, Some, None, is_some, refl, ap, ◌∙◌, arith}
 use Rattle.std.specs.Prelude.{option_to_list}
-use Rattle.part_raw.specs.Counted.{Shelf, shelf, shelves_of}
+use Rattle.part_raw.specs.Counted.{Shelf, shelf, shelves_of, counted, zeros}
 use Rattle.part_raw.specs.Rows.{rows_in}
 use Rattle.part_raw.specs.Open.{tables}
 use Rattle.part_raw.proofs.WithCounts.{counted-zeros}
@@ -42,6 +41,19 @@ module _ {T : Type 0} where
   shelves_of-set_both (b ∷ blocks) (its ∷ counts) zero slot n block = refl
   shelves_of-set_both (b ∷ blocks) (its ∷ counts) (suc part) slot n block = ap (λ l. shelf b its ∷ l) (shelves_of-set_both blocks counts part slot n block)
 
+  -- the counts of a shelf that is another all the same
+  pub shelves_of-set_over : (blocks : List (List (Option T))) (counts : List (List ℕ)) (part : ℕ) (its : List ℕ) (other : Shelf T) → set (shelves_of blocks (set counts part its)) part other ≡ set (shelves_of blocks counts) part other
+  unfolding shelves_of
+  shelves_of-set_over [] counts part its other = refl
+  shelves_of-set_over (b ∷ blocks) [] part its other = refl
+  shelves_of-set_over (b ∷ blocks) (n ∷ counts) zero its other = refl
+  shelves_of-set_over (b ∷ blocks) (n ∷ counts) (suc part) its other = ap (λ l. shelf b n ∷ l) (shelves_of-set_over blocks counts part its other)
+
+  -- both change
+  pub shelves_of-set_its : (blocks : List (List (Option T))) (counts : List (List ℕ)) (part : ℕ) (block : List (Option T)) (its : List ℕ)
+      → shelves_of (set blocks part block) (set counts part its) ≡ set (shelves_of blocks counts) part (shelf block (get_or (set counts part its) part []))
+  shelves_of-set_its blocks counts part block its = shelves_of-set blocks (set counts part its) part block ∙ shelves_of-set_over blocks counts part its (shelf block (get_or (set counts part its) part []))
+
   -- counts alone change
   pub shelves_of-set_counts : (blocks : List (List (Option T))) (counts : List (List ℕ)) (part : ℕ) (block : List (Option T)) (its : List ℕ) → part < length blocks → part < length counts → block ≡ get_or blocks part block
       → shelves_of blocks (set counts part its) ≡ set (shelves_of blocks counts) part (shelf block its)
@@ -80,11 +92,15 @@ module _ {T : Type 0} where
   shelves_of-grown false blocks (n ∷ counts) next beside made = absurd (omega (arith, beside))
 
   -- counts that are all 0 are as good as none
-  pub tables-zeros : (width n : ℕ) (blocks : List (List (Option T))) → tables width (shelves_of blocks (replicate n (replicate 256 0))) ≡ tables width (shelves_of blocks [])
+  counted-zeros_or_none : (rows : List (Option (List T))) (has_slots : Bool) → counted rows (zeros has_slots) ≡ counted rows []
+  counted-zeros_or_none rows true = counted-zeros rows 256
+  counted-zeros_or_none rows false = refl
+
+  pub tables-zeros : (width : ℕ) (blocks : List (List (Option T))) (flags : List Bool) → tables width (shelves_of blocks (map zeros flags)) ≡ tables width (shelves_of blocks [])
   unfolding shelves_of
-  tables-zeros width n [] = refl
-  tables-zeros width zero (b ∷ blocks) = refl
-  tables-zeros width (suc n) (b ∷ blocks) = λ i. counted-zeros (rows_in width b) 256 i ∷ tables-zeros width n blocks i
+  tables-zeros width [] flags = refl
+  tables-zeros width (b ∷ blocks) [] = refl
+  tables-zeros width (b ∷ blocks) (flag ∷ flags) = λ i. counted-zeros_or_none (rows_in width b) flag i ∷ tables-zeros width blocks flags i
 
   pub shelves_of-blocks : (blocks : List (List (Option T))) (counts : List (List ℕ)) → map (λ (x : Shelf T). x.block) (shelves_of blocks counts) ≡ blocks
   unfolding shelves_of

@@ -1,24 +1,25 @@
 -- A store with its counts beside it, as a free slot is filled, and as a partition comes.
 use Rattle.std.proofs.Common.{◌≡◌, ℕ, ◌+◌, sum_by, nat_lt, ◌-◌, ◌*◌, ◌^◌, ◌<◌, ◌≤◌, Bool, true, false, if◌then◌else◌, List, [], ◌∷◌, ◌++◌, length, get_or, set, Option, Some, None, is_some, refl, sym, ap, ◌∙◌, arith, subst}
-use Rattle.std.proofs.lemmas.List.{length-set, length-append, length_push, map-set, map-append}
+use Rattle.std.proofs.lemmas.List.{length-set, length-append, length_push, length-replicate, map-set, map-append}
 use Rattle.std.proofs.lemmas.List.Sums.{sum_by-cons, sum_by-append}
 use Rattle.std.proofs.Math.ListN.{replicate}
-use Rattle.std.specs.Prelude.{option_to_list}
+use Rattle.std.specs.Prelude.{option_to_list, IfSome}
 use Rattle.std.specs.FinMap.{get, insert}
 use Rattle.part_raw.specs.declared.store.Occupancy.{Occupancy}
 use Rattle.part_raw.specs.Store.{Tuple, tuple}
 use Rattle.part_raw.specs.Rows.{IsLaid, rows_in}
-use Rattle.part_raw.specs.Counted.{Shelf, shelf, shelves_of, tuples_in, with_count}
+use Rattle.part_raw.specs.Counted.{Shelf, shelf, shelves_of, tuples_in, with_count, zeros}
 use Rattle.part_raw.specs.TupleRefs.{ref_to}
 use Rattle.part_raw.specs.Layout.{is_set, vacancies, tuples_of, IsPartition, IsVacant}
-use Rattle.part_raw.specs.Open.{has_block_at, tables, AreLaid, IsStore, IsTable, IsStocked}
+use Rattle.part_raw.specs.Open.{has_block_at, tables, AreLaid, HaveCounts, IsStore, IsTable, IsStocked}
 use Rattle.part_raw.proofs.WithCounts.{counted-get}
 use Rattle.part_raw.proofs.Shelves.{bits-shown, vacancies-shown, shown-put, shown-empty}
-use Rattle.part_raw.proofs.Beside.{length-shelves_of, shelves_of-set, shelves_of-set_both, shelves_of-push, shelves_of-grown}
+use Rattle.part_raw.proofs.Beside.{length-shelves_of, shelves_of-set_its, shelves_of-set_both, shelves_of-push, shelves_of-grown}
+use Rattle.part_raw.proofs.OwnCounts.{as_many_slots, own-set, own-push}
 use Rattle.part_raw.proofs.Bitmaps.{mapped-read}
 use Rattle.part_raw.proofs.Sound.{IsStore-refill, refilled_tuples, refilled_lengths}
 use Rattle.std.proofs.lemmas.Bool.{lt-ltb, true≢false}
-use Rattle.part_raw.proofs.Rows.{rows_in-none}
+use Rattle.part_raw.proofs.Rows.{rows_in-none, slots_of-some}
 use Rattle.part_raw.proofs.Stocked.{default_read, read_here, told_here_at}
 use Rattle.part_raw.proofs.Tables.{Changes, open_within, open_has_slot, open_has_places, slots-changed, laid-set, length-tables, fresh-put, put_full, put_open, rows-put, table-pushed, rows-pushed, IsTable-empty}
 
@@ -73,6 +74,9 @@ module _ {T : Type 0} (counted : Bool) (width : ℕ) (blocks : List (List (Optio
     stock : (occupancies' : List Occupancy) (free' : ℕ) (first' : Option ℕ) → IsTable width (set shelves part is_here) occupancies' free' first' → IsStocked counted width (set blocks part new) counts' occupancies' free' first'
     stock occupancies' free' first' table = record {
       beside = ap length set_is ∙ length-set counts part (set (get_or counts part []) slot 0) ∙ is.beside ∙ ap (λ (n : ℕ). if counted then n else 0) (sym (length-set blocks part new));
+      own = subst (λ (c : List (List ℕ)). HaveCounts (set blocks part new) c) (sym set_is)
+          (own-set blocks counts is.own part new (set (get_or counts part []) slot 0) first_within
+          (λ among. length-set (get_or counts part []) slot 0 ∙ is.own part among ∙ as_many_slots blocks part block new first_within read (first_there block read) laid.some));
       table = subst (λ (s : List (Shelf T)). IsTable width s occupancies' free' first') (sym same_shelves) table;
     }
 
@@ -99,7 +103,7 @@ module _ {T : Type 0} (counted : Bool) (width : ℕ) (blocks : List (List (Optio
 -- ---- a partition more
 
 module _ {T : Type 0} (counted : Bool) (width : ℕ) (blocks : List (List (Option T))) (counts : List (List ℕ)) (occupancies : List Occupancy) (first : Option ℕ)
-    (is : IsStocked counted width blocks counts occupancies 0 first) (new : List (Option T)) (next : Option (List ℕ)) (empty : new ≡ replicate (256 * width) None) (made : is_some next ≡ counted) where
+    (is : IsStocked counted width blocks counts occupancies 0 first) (new : List (Option T)) (next : Option (List ℕ)) (empty : new ≡ replicate (256 * width) None) (made : is_some next ≡ counted) (are_zeros : IfSome next (λ its. its ≡ zeros true)) where
   abbrev pushed : List (Shelf T)
   pushed = shelves_of blocks counts ++ shelf new (get_or (counts ++ option_to_list next) (length blocks) []) ∷ []
 
@@ -112,6 +116,7 @@ module _ {T : Type 0} (counted : Bool) (width : ℕ) (blocks : List (List (Optio
       → length blocks < 2 ^ 24 → IsStocked counted width (blocks ++ new ∷ []) (counts ++ option_to_list next) (occupancies ++ o ∷ []) 256 (Some part)
   pushed_stocked o part clear block next_is at room = record {
     beside = grown counted next is.beside made;
+    own = grown_own counted next is.beside made are_zeros;
     table = subst (λ (s : List (Shelf T)). IsTable width s (occupancies ++ o ∷ []) 256 (Some part)) (sym same_pushed)
         (table-pushed width (shelves_of blocks counts) occupancies (shelf new (get_or (counts ++ option_to_list next) (length blocks) [])) o first part is.table empty clear block next_is
         (at ∙ sym (length-shelves_of blocks counts)) (omega (arith, room, length-shelves_of blocks counts)));
@@ -122,6 +127,15 @@ module _ {T : Type 0} (counted : Bool) (width : ℕ) (blocks : List (List (Optio
       grown true None beside made = absurd (cc)
       grown false (Some n) beside made = absurd (cc)
       grown false None beside made = let none : List (List ℕ) = [] in omega (arith, beside, length-append counts none)
+
+      some : 0 < length new
+      some = (shown-empty width new [] is.table.wide empty).0.some
+
+      grown_own : (b : Bool) (n : Option (List ℕ)) → length counts ≡ (if b then length blocks else 0) → is_some n ≡ b → IfSome n (λ its. its ≡ zeros true) → HaveCounts (blocks ++ new ∷ []) (counts ++ option_to_list n)
+      grown_own true (Some its) beside made e = own-push blocks counts is.own new its beside (ap length e ∙ length-replicate {A = ℕ} 256 0 ∙ sym (slots_of-some new some))
+      grown_own true None beside made e = absurd (cc)
+      grown_own false (Some its) beside made e = absurd (cc)
+      grown_own false None beside made e = λ part below. let none : List (List ℕ) = [] in absurd (omega (arith, below, beside, length-append counts none))
 
   pub pushed_tuples : tuples_of (tables width (shelves_of (blocks ++ new ∷ []) (counts ++ option_to_list next))) ≡ tuples_of (tables width (shelves_of blocks counts))
   pushed_tuples =
@@ -148,9 +162,9 @@ bare_block counted width blocks counts occupancies free first is part within bar
 
 module _ {T : Type 0} (counted : Bool) (width : ℕ) (blocks : List (List (Option T))) (counts : List (List ℕ)) (occupancies : List Occupancy) (first : Option ℕ)
     (is : IsStocked counted width blocks counts occupancies 0 first) (part : ℕ) (new : List (Option T)) (o o' : Occupancy) (within : part < length blocks) (read : o ≡ get_or occupancies part o) (bare : o.has_block ≡ false)
-    (empty : new ≡ replicate (256 * width) None) where
+    (empty : new ≡ replicate (256 * width) None) (own : List ℕ) (are_zeros : own ≡ zeros counted) where
   abbrev its : Shelf T
-  its = shelf new (get_or counts part [])
+  its = shelf new (get_or (set counts part own) part [])
 
   abbrev shown : List (Option (Tuple T))
   shown = tuples_in width its
@@ -159,27 +173,33 @@ module _ {T : Type 0} (counted : Bool) (width : ℕ) (blocks : List (List (Optio
   among = omega (arith, within, length-shelves_of blocks counts, length-tables width (shelves_of blocks counts))
 
   vacant : IsLaid width new × IsVacant shown
-  vacant = shown-empty width new (get_or counts part []) is.table.wide empty
+  vacant = shown-empty width new (get_or (set counts part own) part []) is.table.wide empty
 
-  same_refilled : tables width (shelves_of (set blocks part new) counts) ≡ set (tables width (shelves_of blocks counts)) part shown
-  same_refilled = ap (tables width) (shelves_of-set blocks counts part new) ∙ map-set (tuples_in width) (shelves_of blocks counts) part its
+  same_refilled : tables width (shelves_of (set blocks part new) (set counts part own)) ≡ set (tables width (shelves_of blocks counts)) part shown
+  same_refilled = ap (tables width) (shelves_of-set_its blocks counts part new own) ∙ map-set (tuples_in width) (shelves_of blocks counts) part its
 
-  pub refilled_stocked : o'.held.words ≡ o.held.words → o'.has_block ≡ true → o'.next_open ≡ first → IsStocked counted width (set blocks part new) counts (set occupancies part o') 256 (Some part)
+  -- where counts are kept there is one for each slot again
+  as_many_zeros : (b : Bool) → length counts ≡ (if b then length blocks else 0) → own ≡ zeros b → part < length counts → length own ≡ 256
+  as_many_zeros true beside e counted_here = ap length e ∙ length-replicate {A = ℕ} 256 0
+  as_many_zeros false beside e counted_here = absurd (omega (arith, beside, counted_here))
+
+  pub refilled_stocked : o'.held.words ≡ o.held.words → o'.has_block ≡ true → o'.next_open ≡ first → IsStocked counted width (set blocks part new) (set counts part own) (set occupancies part o') 256 (Some part)
   refilled_stocked words block next = record {
-    beside = is.beside ∙ ap (λ (n : ℕ). if counted then n else 0) (sym (length-set blocks part new));
+    beside = length-set counts part own ∙ is.beside ∙ ap (λ (n : ℕ). if counted then n else 0) (sym (length-set blocks part new));
+    own = own-set blocks counts is.own part new own within (λ among. as_many_zeros counted is.beside are_zeros among ∙ sym (slots_of-some new vacant.0.some));
     table = record {
       wide = is.table.wide;
       fits = is.table.fits;
-      laid = subst (λ (s : List (Shelf T)). AreLaid width s) (sym (shelves_of-set blocks counts part new)) (laid-set width (shelves_of blocks counts) its part (omega (arith, within, length-shelves_of blocks counts)) (λ some. vacant.0) is.table.laid);
+      laid = subst (λ (s : List (Shelf T)). AreLaid width s) (sym (shelves_of-set_its blocks counts part new own)) (laid-set width (shelves_of blocks counts) its part (omega (arith, within, length-shelves_of blocks counts)) (λ some. vacant.0) is.table.laid);
       store = subst (λ (t : List (List (Option (Tuple T)))). IsStore t (set occupancies part o') 256 (Some part)) (sym same_refilled)
           (IsStore-refill (tables width (shelves_of blocks counts)) occupancies shown o o' first part is.table.store among read bare vacant.1 words block next);
     };
   }
 
-  pub refill_tuples : tuples_of (tables width (shelves_of (set blocks part new) counts)) ≡ tuples_of (tables width (shelves_of blocks counts))
+  pub refill_tuples : tuples_of (tables width (shelves_of (set blocks part new) (set counts part own))) ≡ tuples_of (tables width (shelves_of blocks counts))
   refill_tuples = ap tuples_of same_refilled ∙ refilled_tuples (tables width (shelves_of blocks counts)) occupancies shown o o' first part is.table.store among read bare vacant.1
 
-  pub refill_slots : sum_by length (tables width (shelves_of (set blocks part new) counts)) ≡ sum_by length (tables width (shelves_of blocks counts)) + 256
+  pub refill_slots : sum_by length (tables width (shelves_of (set blocks part new) (set counts part own))) ≡ sum_by length (tables width (shelves_of blocks counts)) + 256
   refill_slots = ap (sum_by length) same_refilled ∙ refilled_lengths (tables width (shelves_of blocks counts)) occupancies shown o o' first part is.table.store among read bare vacant.1
 
 -- ---- a store with no partition
@@ -189,4 +209,4 @@ unfolding shelves_of
 shelves_of-none counts = refl
 
 pub stocked_empty : {T : Type 0} (width : ℕ) → 0 < width → width ≤ 65536 → IsStocked {T = T} false width [] [] [] 0 None
-stocked_empty {T} width wide fits = record { beside = refl; table = subst (λ (s : List (Shelf T)). IsTable width s [] 0 None) (sym (shelves_of-none [])) (IsTable-empty width wide fits) }
+stocked_empty {T} width wide fits = record { beside = refl; own = λ part below. absurd (omega (arith, below)); table = subst (λ (s : List (Shelf T)). IsTable width s [] 0 None) (sym (shelves_of-none [])) (IsTable-empty width wide fits) }

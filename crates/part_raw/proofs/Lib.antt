@@ -10,6 +10,7 @@ pub mod Rows
 pub mod WithCounts
 pub mod Shelves
 pub mod Beside
+pub mod OwnCounts
 pub mod Stocked
 pub mod Filled
 pub mod Dropped

@@ -60,7 +60,7 @@ module _ {T : Type 0} where
 
   -- ---- a partition has all slots or none
 
-  slots_of-some : (places : List (Option T)) → 0 < length places → slots_of places ≡ 256
+  pub slots_of-some : (places : List (Option T)) → 0 < length places → slots_of places ≡ 256
   slots_of-some [] some = absurd (omega (arith, some))
   slots_of-some (x ∷ places) some = refl
 

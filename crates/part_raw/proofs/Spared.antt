@@ -29,9 +29,9 @@ no_slots_of width its = refl
 
 -- a partition that holds no tuple gives its block back
 module _ {T : Type 0} (width : ℕ) (wide : 0 < width) (shelves : List (Shelf T)) (occupancies : List Occupancy) (kept : AreKept width shelves occupancies) (part : ℕ) (within : part < length shelves) (o o' : Occupancy)
-    (read : o ≡ get_or occupancies part o) (there : o.has_block ≡ true) (clear : (slot : ℕ) → slot < 256 → is_set o.held.words slot ≡ false) (its : Shelf T) (its_read : its ≡ get_or shelves part its) where
+    (read : o ≡ get_or occupancies part o) (there : o.has_block ≡ true) (clear : (slot : ℕ) → slot < 256 → is_set o.held.words slot ≡ false) (its : Shelf T) (its_read : its ≡ get_or shelves part its) (left : List ℕ) where
   abbrev bare : Shelf T
-  bare = shelf [] its.counts
+  bare = shelf [] left
 
   among : part < length (tables width shelves)
   among = omega (arith, within, length-tables width shelves)
@@ -49,7 +49,7 @@ module _ {T : Type 0} (width : ℕ) (wide : 0 < width) (shelves : List (Shelf T)
   spare-empty = empty-shown width its.block its.counts wide (kept.laid part its within its_read (shown-some width its.block its.counts some_slots)) spare-vacant
 
   as_set : tables width (set shelves part bare) ≡ set (tables width shelves) part []
-  as_set = map-set (tuples_in width) shelves part bare ∙ ap (set (tables width shelves) part) (no_slots_of width its.counts)
+  as_set = map-set (tuples_in width) shelves part bare ∙ ap (set (tables width shelves) part) (no_slots_of width left)
 
   was_here : get_or (tables width shelves) part [] ≡ tuples_in width its
   was_here = mapped-read (tuples_in width) shelves part its [] within its_read

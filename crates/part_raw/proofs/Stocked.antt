@@ -6,14 +6,16 @@ use Rattle.common_lemmas.proofs.Options.{is_some-Some}
 use Rattle.part_raw.specs.declared.tuple_ref.TupleRef.{TupleRef}
 use Rattle.part_raw.specs.declared.store.Occupancy.{Occupancy}
 use Rattle.part_raw.specs.Store.{Tuple, tuple}
-use Rattle.part_raw.specs.Rows.{IsLaid, rows_in}
+use Rattle.part_raw.specs.Rows.{IsLaid, rows_in, slots_of}
 use Rattle.part_raw.specs.Counted.{Shelf, shelf, shelves_of, tuples_in, with_count}
 use Rattle.part_raw.specs.TupleRefs.{part_of, slot_of}
 use Rattle.part_raw.specs.Layout.{is_set, tuples_of, IsPartition, IsPlace}
 use Rattle.part_raw.specs.Open.{words_at, has_block_at, slots_at, tables, IsTable, IsStocked}
 use Rattle.part_raw.proofs.Bitmaps.{mapped-read, bits_in}
+use Rattle.part_raw.proofs.OwnCounts.{as_many_slots, own-block, own-counts}
+use Rattle.part_raw.proofs.Parts.{read_block}
 use Rattle.part_raw.proofs.Refs.{slot_of-within}
-use Rattle.part_raw.proofs.Rows.{rows_in-held}
+use Rattle.part_raw.proofs.Rows.{rows_in-held, slots_of-some}
 use Rattle.part_raw.proofs.Sound.{most_lengths}
 use Rattle.part_raw.proofs.WithCounts.{counted-get, with_count-is, row_held}
 use Rattle.part_raw.proofs.Shelves.{as_long, place-rows, bits-shown, bits-rows, shown-freed, shown-exchanged, shown-counted}
@@ -139,6 +141,7 @@ module _ {T : Type 0} (counted : Bool) (width : ℕ) (blocks : List (List (Optio
       stock : (occupancies' : List Occupancy) (free' : ℕ) (first' : Option ℕ) → IsTable width (set shelves part (here part new)) occupancies' free' first' → IsStocked counted width (set blocks part new) counts occupancies' free' first'
       stock occupancies' free' first' table = record {
         beside = is.beside ∙ ap (λ (n : ℕ). if counted then n else 0) (sym (length-set blocks part new));
+        own = own-block blocks counts is.own part new part_within (as_many_slots blocks part block new part_within read (there_here block read) laid.some);
         table = subst (λ (s : List (Shelf T)). IsTable width s occupancies' free' first') (sym (shelves_of-set blocks counts part new)) table;
       }
 
@@ -178,6 +181,7 @@ module _ {T : Type 0} (counted : Bool) (width : ℕ) (blocks : List (List (Optio
       pub exchanged_stocked : IsStocked counted width (set blocks part new) counts occupancies free first
       exchanged_stocked = record {
         beside = is.beside ∙ ap (λ (n : ℕ). if counted then n else 0) (sym (length-set blocks part new));
+        own = own-block blocks counts is.own part new part_within (as_many_slots blocks part block new part_within read (there_here block read) laid.some);
         table = subst (λ (s : List (Shelf T)). IsTable width s occupancies free first) (sym (shelves_of-set blocks counts part new))
             (table-exchanged width shelves occupancies free first is.table (here part block) (here part new) part slot t (tuple cells t.count) (among part part_within) (read_here part block part_within read) laid shown_was
             (shown-exchanged width block (get_or counts part []) new slot t cells shown_was slots));
@@ -195,7 +199,7 @@ module _ {T : Type 0} (counted : Bool) (width : ℕ) (blocks : List (List (Optio
           ∙ rows-exchanged width shelves (here part block) (here part new) r part slot t (tuple cells t.count) names names_slot (among part part_within) (read_here part block part_within read) shown_was
           (shown-exchanged width block (get_or counts part []) new slot t cells shown_was slots)
 
-    module _ (t : Tuple T) (n : ℕ) (kept : counted ≡ true) (was : get (tuples_of (tables width shelves)) r ≡ Some t) (long : part < length counts → length (get_or counts part []) ≡ 256) where
+    module _ (t : Tuple T) (n : ℕ) (kept : counted ≡ true) (was : get (tuples_of (tables width shelves)) r ≡ Some t) where
       block : List (Option T)
       block = get_or blocks part []
 
@@ -216,11 +220,15 @@ module _ {T : Type 0} (counted : Bool) (width : ℕ) (blocks : List (List (Optio
       row_was = counted-get (rows_in width block) (get_or counts part []) slot ∙ sym (found_here block block_read) ∙ was
 
       row_is : tuples_in width (shelf block its) ≡ set (tuples_in width (here part block)) slot (Some (tuple t.cells n))
-      row_is = let in_range = slot_in_range in let e = long counts_within in shown-counted width block (get_or counts part []) slot n t (omega (arith, in_range, e)) row_was
+      row_is =
+          let in_range = slot_in_range in
+          let long : length (get_or counts part []) ≡ 256 = is.own part counts_within ∙ ap slots_of (read_block blocks block part part_within block_read) ∙ slots_of-some block (there_here block block_read) in
+          shown-counted width block (get_or counts part []) slot n t (omega (arith, in_range, long)) row_was
 
       pub recounted_stocked : IsStocked counted width blocks (set counts part its) occupancies free first
       recounted_stocked = record {
         beside = length-set counts part its ∙ is.beside;
+        own = own-counts blocks counts is.own part slot n part_within;
         table = subst (λ (s : List (Shelf T)). IsTable width s occupancies free first) (sym same_counted)
             (table-exchanged width shelves occupancies free first is.table (here part block) (shelf block its) part slot t (tuple t.cells n) (among part part_within) (read_here part block part_within block_read)
             (laid_held block block_read) row_was row_is);

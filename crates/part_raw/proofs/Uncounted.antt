@@ -1,22 +1,22 @@
 -- A store that keeps no counts, and one whose counts are all 0: they show the same.
-use Rattle.std.proofs.Common.{◌≡◌, ℕ, ◌<◌, ◌≤◌, take, Bool, true, false, if◌then◌else◌, List, [], ◌∷◌, length, get_or, Option, Some, None, is_some, refl, sym, ap, ◌∙◌, arith, subst}
-use Rattle.std.proofs.lemmas.List.{length-replicate, length-take, ext_get_or}
-use Rattle.std.proofs.Math.ListN.{replicate}
+use Rattle.std.proofs.Common.{◌≡◌, ℕ, ◌<◌, ◌≤◌, nat_lt, take, Bool, true, false, if◌then◌else◌, List, [], ◌∷◌, map, length, get_or, Option, Some, None, is_some, refl, sym, ap, ◌∙◌, arith, subst}
+use Rattle.std.proofs.lemmas.Bool.{lt-ltb}
+use Rattle.std.proofs.lemmas.List.{length-replicate, length-take, length-map, get_or-map, ext_get_or}
 use Rattle.std.specs.FinMap.{get}
 use Rattle.part_raw.specs.declared.tuple_ref.TupleRef.{TupleRef}
 use Rattle.part_raw.specs.declared.store.Occupancy.{Occupancy}
 use Rattle.part_raw.specs.Store.{Tuple}
-use Rattle.part_raw.specs.Rows.{rows_in}
-use Rattle.part_raw.specs.Counted.{Shelf, shelf, shelves_of, counted, tuples_in}
+use Rattle.part_raw.specs.Rows.{rows_in, rows_of, slots_of}
+use Rattle.part_raw.specs.Counted.{Shelf, shelf, shelves_of, counted, tuples_in, zeros}
 use Rattle.part_raw.specs.TupleRefs.{ref_to, part_of, slot_of}
 use Rattle.part_raw.specs.Layout.{tuples_of}
-use Rattle.part_raw.specs.Open.{tables, IsStore, IsStocked}
+use Rattle.part_raw.specs.Open.{tables, slots_at, HaveCounts, IsStore, IsStocked}
 use Rattle.part_raw.proofs.Beside.{length-shelves_of, shelves_of-get, shelves_of-blocks, tables-zeros}
 use Rattle.part_raw.proofs.Bitmaps.{mapped-read}
 use Rattle.part_raw.proofs.Lookup.{held_in, get-tuples_of}
 use Rattle.part_raw.proofs.Refs.{part_of-to, slot_of-to}
-use Rattle.part_raw.proofs.Rows.{most-rows_in}
-use Rattle.part_raw.proofs.Stocked.{default_read, laid_here, count_here}
+use Rattle.part_raw.proofs.Rows.{length-rows_in, most-rows_in}
+use Rattle.part_raw.proofs.Stocked.{as_many, default_read, laid_here, count_here, told_here_at}
 use Rattle.part_raw.proofs.Tables.{length-tables, small_tables}
 use Rattle.part_raw.proofs.WithCounts.{counted-none}
 
@@ -25,15 +25,23 @@ pub uncounted_none : (b : Bool) (n : ℕ) (counts : List (List ℕ)) → b ≡ f
 uncounted_none b n [] is e = refl
 uncounted_none b n (x ∷ counts) is e = let none : length (x ∷ counts) ≡ 0 = e ∙ ap (λ (c : Bool). if c then n else 0) is in absurd (omega (arith, none))
 
+-- a partition has as many zeros as slots
+zeros_as_slots : {T : Type 0} (width : ℕ) (places : List (Option T)) → length (zeros (nat_lt 0 (length (rows_in width places)))) ≡ slots_of places
+unfolding rows_of
+zeros_as_slots width [] = refl
+zeros_as_slots width (x ∷ places) =
+    ap (λ flag. length (zeros flag)) (lt-ltb 0 (length (rows_in width (x ∷ places))) (omega (arith, length-rows_in width (x ∷ places) (omega arith)))) ∙ length-replicate {A = ℕ} 256 0
+
 module _ {T : Type 0} (kept : Bool) (width : ℕ) (blocks : List (List (Option T))) (counts : List (List ℕ)) (occupancies : List Occupancy) (free : ℕ) (first : Option ℕ)
     (is : IsStocked kept width blocks counts occupancies free first) where
   abbrev now : List (List (Option (Tuple T)))
   now = tables width (shelves_of blocks counts)
 
   -- other counts beside the same blocks, by which the tuples are the same
-  pub restocked : (kept' : Bool) (counts' : List (List ℕ)) → length counts' ≡ (if kept' then length blocks else 0) → tables width (shelves_of blocks counts') ≡ now → IsStocked kept' width blocks counts' occupancies free first
-  restocked kept' counts' beside same = record {
+  pub restocked : (kept' : Bool) (counts' : List (List ℕ)) → length counts' ≡ (if kept' then length blocks else 0) → HaveCounts blocks counts' → tables width (shelves_of blocks counts') ≡ now → IsStocked kept' width blocks counts' occupancies free first
+  restocked kept' counts' beside own same = record {
     beside = beside;
+    own = own;
     table = record {
       wide = is.table.wide;
       fits = is.table.fits;
@@ -47,12 +55,26 @@ module _ {T : Type 0} (kept : Bool) (width : ℕ) (blocks : List (List (Option T
 
   -- ---- counts that are 0 come
 
-  module _ (uncounted : kept ≡ false) (n : ℕ) (many : n ≡ length blocks) where
-    pub zeros_same : tables width (shelves_of blocks (replicate n (replicate 256 0))) ≡ now
-    zeros_same = tables-zeros width n blocks ∙ ap (λ c. tables width (shelves_of blocks c)) (sym (uncounted_none kept (length blocks) counts uncounted is.beside))
+  module _ (uncounted : kept ≡ false) where
+    abbrev flags : List Bool
+    flags = map (λ (o : Occupancy). o.has_block) occupancies
 
-    pub zeros_stocked : IsStocked true width blocks (replicate n (replicate 256 0)) occupancies free first
-    zeros_stocked = restocked true (replicate n (replicate 256 0)) (length-replicate n (replicate 256 0) ∙ many) zeros_same
+    flags_long : length flags ≡ length blocks
+    flags_long = length-map occupancies (λ (o : Occupancy). o.has_block) ∙ as_many kept width blocks counts occupancies free first is
+
+    pub zeros_same : tables width (shelves_of blocks (map zeros flags)) ≡ now
+    zeros_same = tables-zeros width blocks flags ∙ ap (λ c. tables width (shelves_of blocks c)) (sym (uncounted_none kept (length blocks) counts uncounted is.beside))
+
+    zeros_own : HaveCounts blocks (map zeros flags)
+    zeros_own part below =
+        let among : part < length flags = omega (arith, below, length-map flags zeros) in
+        let within : part < length blocks = omega (arith, among, flags_long) in
+        let rows : slots_at (map (rows_in width) blocks) part ≡ rows_in width (get_or blocks part []) = mapped-read (rows_in width) blocks part (get_or blocks part []) [] within (default_read blocks part within) in
+        ap length (get_or-map zeros flags part false [] among) ∙ ap (λ flag. length (zeros flag)) (told_here_at kept width blocks counts occupancies free first is part within ∙ ap (λ l. nat_lt 0 (length l)) rows)
+        ∙ zeros_as_slots width (get_or blocks part [])
+
+    pub zeros_stocked : IsStocked true width blocks (map zeros flags) occupancies free first
+    zeros_stocked = restocked true (map zeros flags) (length-map flags zeros ∙ flags_long) zeros_own zeros_same
 
   -- where no counts are kept each is 0
   pub uncounted_zero : kept ≡ false → (r : TupleRef) (t : Tuple T) → get (tuples_of now) r ≡ Some t → t.count ≡ 0
@@ -85,7 +107,7 @@ module _ {T : Type 0} (kept : Bool) (width : ℕ) (blocks : List (List (Option T
         read_at [] part within ∙ sym (read_at counts part within ∙ counted-none (rows_in width (get_or blocks part [])) (get_or counts part []) (zero_at part within)))
 
     pub forgotten_stocked : IsStocked false width blocks [] occupancies free first
-    forgotten_stocked = restocked false [] refl forgotten_same
+    forgotten_stocked = restocked false [] refl (λ part below. absurd (omega (arith, below))) forgotten_same
 
 -- the counts of the partitions that stay
 pub beside-take : (b : Bool) (n m : ℕ) (counts : List (List ℕ)) → length counts ≡ (if b then n else 0) → m ≤ n → length (take m counts) ≡ (if b then m else 0)

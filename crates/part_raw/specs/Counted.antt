@@ -1,7 +1,12 @@
 -- The tuples of a partition: each slot's row with its count.
-use Rattle.std.specs.Prelude.{ℕ, List, [], ◌∷◌, Option, Some, None}
+use Rattle.std.specs.Prelude.{ℕ, Bool, if◌then◌else◌, List, [], ◌∷◌, replicate, Option, Some, None}
+use Rattle.part_raw.specs.declared.TheConstants.{SLOTS}
 use Rattle.part_raw.specs.Store.{Tuple}
 use Rattle.part_raw.specs.Rows.{rows_in}
+
+-- a count of 0 for each slot of a partition, which has slots or none
+abbrev pub zeros : Bool → List ℕ
+zeros has_slots = if has_slots then replicate SLOTS 0 else []
 
 -- what a partition has of its tuples: its places, and the counts of its slots, of which none is kept where there are none
 pub record Shelf (T : Type 0) : Type 0 where

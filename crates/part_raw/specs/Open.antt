@@ -3,7 +3,7 @@
 use Rattle.std.specs.Prelude.{◌≡◌, ℕ, zero, suc, ◌+◌, ◌^◌, ◌<◌, ◌≤◌, ◌↔◌, Bool, true, false, cond, if◌then◌else◌, List, [], map, length, Option, Some, None, count_by, sum_by, slice_index_or, nat_lt}
 use Rattle.std.specs.FinMap.{len}
 use Rattle.part_raw.specs.declared.TheConstants.{SLOTS, MAX_WIDTH}
-use Rattle.part_raw.specs.Rows.{IsLaid}
+use Rattle.part_raw.specs.Rows.{IsLaid, slots_of}
 use Rattle.part_raw.specs.Store.{Tuple}
 use Rattle.part_raw.specs.Counted.{Shelf, shelves_of, tuples_in}
 use Rattle.part_raw.specs.Layout.{is_set, IsPlace, vacancies, tuples_of}
@@ -96,7 +96,12 @@ module _ {T : Type 0} where
     pub laid : AreLaid width shelves
     pub store : IsStore (tables width shelves) occupancies free first_open
 
+  -- the counts of a partition are as many as its slots
+  abbrev pub HaveCounts : List (List (Option T)) → List (List ℕ) → Type 0
+  HaveCounts blocks counts = (part : ℕ) → part < length counts → length (slice_index_or counts part []) ≡ slots_of (slice_index_or blocks part [])
+
   -- the blocks with the counts beside them: of each where counts are kept, and else of none
   pub record IsStocked (counted : Bool) (width : ℕ) (blocks : List (List (Option T))) (counts : List (List ℕ)) (occupancies : List Occupancy) (free : ℕ) (first_open : Option ℕ) : Type 0 where
     pub beside : length counts ≡ (if counted then length blocks else 0)
+    pub own : HaveCounts blocks counts
     pub table : IsTable width (shelves_of blocks counts) occupancies free first_open

@@ -1,64 +1,71 @@
 //! The counts of a store: for each partition the numbers of its slots, where the store keeps any.
-ghost use Rattle.std.specs.Prelude.{◌≡◌, ◌<◌, ◌≤◌, ℕ, [], length, IfOk, replicate, slice_index, slice_index_or, slice_set};
+ghost use Rattle.std.specs.Prelude.{◌≡◌, ◌<◌, [], IfOk, slice_index, slice_index_or, slice_set};
+ghost use Rattle.part_raw.specs.Counted.{zeros};
 
 use crate::SLOTS;
-use no_memory::NoMemory;
 use std::alloc::{AllocError, Global};
 use std::marker::Model;
 
 const COUNTS: usize = SLOTS as usize;
 
-// A number for each slot of a partition. That of a slot that holds no tuple says nothing.
+// A number for each slot of a partition, and none for a partition with no slot. That of a slot that holds no tuple says
+// nothing.
 #[derive(Drop)]
 pub struct Counts {
-    numbers: Box<[u64; COUNTS]>,
+    numbers: Option<Box<[u64; COUNTS]>>,
 }
 
 impl Model for Counts {
-    ghost use Rattle.std.specs.Prelude.{List, ℕ, ◌≡◌, length};
+    ghost use Rattle.std.specs.Prelude.{List, ℕ, [], ◌≡◌, length, option_map, unwrap_or, IfSome};
 
     ghost Value = { List ℕ };
 
-    ghost view = { λ c. c.numbers.value };
+    ghost view = { λ c. unwrap_or (option_map (λ b. b.value) c.numbers) [] };
 
-    ghost invariant = { λ c. length c.numbers.value ≡ 256 };
+    ghost invariant = { λ c. IfSome c.numbers (λ b. length b.value ≡ 256) };
 }
 
 impl Counts {
-    // Each is 0.
-    pub(crate) fn new(alloc: Global) -> Result<Counts, AllocError>
-        ensures { IfOk result (λ counts. counts ≡ replicate SLOTS 0) }
+    // Those of a partition with slots, or with none. Each is 0.
+    pub(crate) fn new(alloc: Global, has_slots: bool) -> Result<Counts, AllocError>
+        ensures { IfOk result (λ counts. counts ≡ zeros has_slots) }
     {
+        if !has_slots {
+            return Ok(Counts::none());
+        }
         let numbers = Box::new(alloc, [0; COUNTS])?;
-        Ok(Counts { numbers })
+        Ok(Counts {
+            numbers: Some(numbers),
+        })
     }
 
-    // The count of a slot, which is not read here.
+    // Those of a partition with no slot.
+    pub(crate) fn none() -> Counts
+        ensures { result ≡ [] }
+    {
+        Counts { numbers: None }
+    }
+
+    // The count of a slot, which is not read here: 0 where there is none.
     fn at(&self, slot: u32) -> &u64
         requires { slot < SLOTS }
         ensures { result.now ≡ slice_index self.now slot }
     {
-        &self.numbers[slot as usize]
+        match &self.numbers {
+            Some(numbers) => &numbers[slot as usize],
+            None => &0,
+        }
     }
 
+    // Sets the count of a slot, where there is one.
     fn set(&mut self, slot: u32, n: u64)
         requires { slot < SLOTS }
-        ensures set { self.new ≡ slice_set self.old slot n }
-        ensures long { length self.old ≡ SLOTS }
+        ensures { self.new ≡ slice_set self.old slot n }
     {
-        self.numbers[slot as usize] = n;
+        if let Some(numbers) = &mut self.numbers {
+            numbers[slot as usize] = n;
+        }
     }
-}
-
-// Counts for so many partitions, each 0.
-pub(crate) fn new_counts(alloc: Global, partitions: usize) -> Result<Vec<Counts>, NoMemory>
-    ensures { IfOk result (λ counts. counts.items ≡ replicate partitions (replicate SLOTS 0)) }
-{
-    let mut counts = Vec::with_capacity(alloc, partitions)?;
-    for _ in 0..partitions {
-        counts.push_reserved(Counts::new(alloc)?);
-    }
-    Ok(counts)
 }
 
 // The count of a slot of a partition: 0 where none is kept.
@@ -75,10 +82,18 @@ pub(crate) fn count_at(counts: &Vec<Counts>, part: u32, slot: u32) -> &u64
 // Sets the count of a slot of a partition, where it is kept.
 pub(crate) fn set_count_at(counts: &mut Vec<Counts>, part: u32, slot: u32, n: u64)
     requires { slot < SLOTS }
-    ensures set { counts.new.items ≡ slice_set counts.old.items part (slice_set (slice_index_or counts.old.items part []) slot n) }
-    ensures long { part < length counts.old.items → length (slice_index_or counts.old.items part []) ≡ SLOTS }
+    ensures { counts.new.items ≡ slice_set counts.old.items part (slice_set (slice_index_or counts.old.items part []) slot n) }
 {
     if let Some(numbers) = counts.get_mut(part as usize) {
         numbers.set(slot, n);
+    }
+}
+
+// Puts others in the place of a partition's counts, where there are counts of partitions.
+pub(crate) fn set_counts(counts: &mut Vec<Counts>, part: usize, others: Counts)
+    ensures { counts.new.items ≡ slice_set counts.old.items part others }
+{
+    if let Some(numbers) = counts.get_mut(part) {
+        *numbers = others;
     }
 }

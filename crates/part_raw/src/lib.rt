@@ -13,7 +13,7 @@
 //!                             │ cell │ cell │ cell │ cell │ cell │ cell │      │  one block of memory, 256 slots,
 //!                             └──────┴──────┴──────┴──────┴──────┴──────┴─ .. ─┘  each as long as three cells
 //!                              slot 0               slot 1
-//!   counts       ──▶ ┌ Counts ┐ ┌ Counts ┐ ..  where counts are kept, and else none
+//!   counts       ──▶ ┌ Counts ┐ ┌ Counts ┐ ..  16 bytes each where counts are kept, and else none
 //!                    └───┼────┘ └───┼────┘
 //!                        └──▶ 256 numbers, one for each slot
 //!   occupancies  ──▶ ┌ Occupancy ──────┐ ┌ Occupancy ──────┐ ..
@@ -32,7 +32,7 @@
 //! - The list from `first_open` on has each partition with a free slot once, and no other.
 //! - Each slot is free or holds a tuple, so `len` is told by `slots` and `free`.
 //! - There are as many counts as blocks where counts are kept, and else none; then the count of each tuple is 0.
-//! - A partition has its block and 256 slots, or it has neither.
+//! - A partition has its block, 256 slots and, where counts are kept, a count for each, or it has none of them.
 //! - After `release_spares` each partition with a block holds a tuple, and so does the last, where there is one.
 //! - A block can't be let go, nor can a cell in it: it is given back to the allocator once, and only with all its places
 //!   empty.

@@ -4,13 +4,13 @@ ghost use Rattle.std.specs.Prelude.{◌≡◌, ◌↔◌, ℕ, Bool, ◌+◌, �
 ghost use Rattle.std.specs.FinMap as finite;
 ghost use Rattle.std.specs.Vec.{vec_len, vec_capacity};
 ghost use Rattle.part_raw.specs.Store.{store, tuple, tuple_at, with_tuple, IsHeld, HasNoCounts, EndsHeld, free_reserved};
-ghost use Rattle.part_raw.specs.Counted.{shelves_of};
+ghost use Rattle.part_raw.specs.Counted.{shelves_of, zeros};
 ghost use Rattle.part_raw.specs.Layout.{is_set, tuples_of, vacancies};
-ghost use Rattle.part_raw.specs.Open.{AreKept, HoldsWhereBlock, IsOpenList, Tells, below, has_block_at, next_at, tables};
+ghost use Rattle.part_raw.specs.Open.{AreKept, HaveCounts, HoldsWhereBlock, IsOpenList, Tells, below, has_block_at, next_at, tables};
 
 use crate::bitmap::Bitmap;
 use crate::block::Block;
-use crate::counts::{Counts, count_at, new_counts, set_count_at};
+use crate::counts::{Counts, count_at, set_count_at, set_counts};
 use crate::partition::{discard, empty, exchange, fill, vacate};
 use crate::{MAX_PARTITIONS, MAX_TUPLES, MAX_WIDTH, SLOTS, TupleRef};
 use no_memory::NoMemory;
@@ -191,8 +191,10 @@ impl<T> Partitions<T> {
         }
         let bare = bare_from(&self.occupancies, self.next_bare);
         if bare < self.blocks.len() {
+            let counts = Counts::new(self.alloc, self.counted)?;
             let block = Block::new(self.alloc, SLOTS as usize * self.width)?;
             mem::replace(&mut self.blocks[bare], block).let_go();
+            set_counts(&mut self.counts, bare, counts);
             let occupancy = &mut self.occupancies[bare];
             occupancy.next_open = self.first_open;
             occupancy.has_block = true;
@@ -291,7 +293,7 @@ impl<T> Partitions<T> {
         if self.counted {
             return Ok(());
         }
-        self.counts = new_counts(self.alloc, self.blocks.len())?;
+        self.counts = new_counts(self.alloc, &self.occupancies)?;
         self.counted = true;
         Ok(())
     }
@@ -393,7 +395,7 @@ impl<T> Partitions<T> {
         }
     }
 
-    /// Gives the memory of each partition back that holds no tuple. No tuple moves. It takes no memory, and looks at each
+    /// Gives the memory of each partition back that holds no tuple, and of its counts. No tuple moves. It takes no memory, and looks at each
     /// partition's bits.
     pub fn release_spares(&mut self)
         ensures tuples { self.new.tuples ≡ self.old.tuples }
@@ -406,7 +408,7 @@ impl<T> Partitions<T> {
         let len = self.len();
         self.slots -= release_empty(
             &mut self.blocks,
-            &self.counts,
+            &mut self.counts,
             &mut self.occupancies,
             self.width,
         );
@@ -462,6 +464,17 @@ fn ends_bare(occupancies: &Vec<Occupancy>) -> bool
     n > 0 && !occupancies[n - 1].has_block
 }
 
+// The counts of each partition, each 0: of one with no block there is none.
+fn new_counts(alloc: Global, occupancies: &Vec<Occupancy>) -> Result<Vec<Counts>, NoMemory>
+    ensures { IfOk result (λ counts. counts.items ≡ map zeros (map (λ o. o.has_block) occupancies.now.items)) }
+{
+    let mut counts = Vec::with_capacity(alloc, occupancies.len())?;
+    for occupancy in occupancies {
+        counts.push_reserved(Counts::new(alloc, occupancy.has_block)?);
+    }
+    Ok(counts)
+}
+
 // Room for the counts of one partition more, where counts are kept, and these, each 0.
 fn next_counts(
     counts: &mut Vec<Counts>,
@@ -470,13 +483,14 @@ fn next_counts(
 ) -> Result<Option<Counts>, NoMemory>
     ensures items { counts.new.items ≡ counts.old.items }
     ensures made { IfOk result (λ next. is_some next ≡ counted) }
+    ensures zeros { IfOk result (λ next. IfSome next (λ its. its ≡ zeros true)) }
     ensures room { IfOk result (λ next. IsSome next → vec_len counts.new < vec_capacity counts.new) }
 {
     if !counted {
         return Ok(None);
     }
     counts.reserve(1)?;
-    let next = Counts::new(alloc)?;
+    let next = Counts::new(alloc, true)?;
     Ok(Some(next))
 }
 
@@ -490,21 +504,23 @@ fn push_next(counts: &mut Vec<Counts>, next: Option<Counts>)
     }
 }
 
-// Gives the block of each partition back that holds no tuple, and tells how many slots they had.
+// Gives the block of each partition back that holds no tuple, with its counts, and tells how many slots they had.
 fn release_empty<T>(
     blocks: &mut Vec<Block<T>>,
-    counts: &Vec<Counts>,
+    counts: &mut Vec<Counts>,
     occupancies: &mut Vec<Occupancy>,
     width: usize,
 ) -> u64
     requires wide { (0 < width) × (width ≤ MAX_WIDTH) }
     requires few { length blocks.old.items ≤ MAX_PARTITIONS }
-    requires kept { AreKept width (shelves_of blocks.old.items counts.now.items) occupancies.old.items }
-    ensures kept { AreKept width (shelves_of blocks.new.items counts.now.items) occupancies.new.items }
+    requires kept { AreKept width (shelves_of blocks.old.items counts.old.items) occupancies.old.items }
+    ensures kept { AreKept width (shelves_of blocks.new.items counts.new.items) occupancies.new.items }
     ensures as_many { length blocks.new.items ≡ length blocks.old.items }
-    ensures tuples { tuples_of (tables width (shelves_of blocks.new.items counts.now.items)) ≡ tuples_of (tables width (shelves_of blocks.old.items counts.now.items)) }
-    ensures free { sum_by vacancies (tables width (shelves_of blocks.new.items counts.now.items)) + result ≡ sum_by vacancies (tables width (shelves_of blocks.old.items counts.now.items)) }
-    ensures slots { sum_by length (tables width (shelves_of blocks.new.items counts.now.items)) + result ≡ sum_by length (tables width (shelves_of blocks.old.items counts.now.items)) }
+    ensures counts { length counts.new.items ≡ length counts.old.items }
+    ensures own { HaveCounts blocks.old.items counts.old.items → HaveCounts blocks.new.items counts.new.items }
+    ensures tuples { tuples_of (tables width (shelves_of blocks.new.items counts.new.items)) ≡ tuples_of (tables width (shelves_of blocks.old.items counts.old.items)) }
+    ensures free { sum_by vacancies (tables width (shelves_of blocks.new.items counts.new.items)) + result ≡ sum_by vacancies (tables width (shelves_of blocks.old.items counts.old.items)) }
+    ensures slots { sum_by length (tables width (shelves_of blocks.new.items counts.new.items)) + result ≡ sum_by length (tables width (shelves_of blocks.old.items counts.old.items)) }
     ensures held { (part : ℕ) → part < length occupancies.new.items → HoldsWhereBlock occupancies.new.items part }
 {
     let mut given = 0;
@@ -514,6 +530,7 @@ fn release_empty<T>(
             continue;
         }
         blocks[part].release(SLOTS as usize * width);
+        set_counts(counts, part, Counts::none());
         occupancy.has_block = false;
         given += SLOTS as u64;
     }
@@ -532,6 +549,7 @@ fn pop_bare<T>(
     ensures tuples { tuples_of (tables width (shelves_of blocks.new.items counts.new.items)) ≡ tuples_of (tables width (shelves_of blocks.old.items counts.old.items)) }
     ensures fewer { length blocks.new.items ≤ length blocks.old.items }
     ensures counts { counts.new.items ≡ take (length blocks.new.items) counts.old.items }
+    ensures own { HaveCounts blocks.old.items counts.old.items → HaveCounts blocks.new.items counts.new.items }
     ensures free { sum_by vacancies (tables width (shelves_of blocks.new.items counts.new.items)) ≡ sum_by vacancies (tables width (shelves_of blocks.old.items counts.old.items)) }
     ensures slots { sum_by length (tables width (shelves_of blocks.new.items counts.new.items)) ≡ sum_by length (tables width (shelves_of blocks.old.items counts.old.items)) }
     ensures held { ((part : ℕ) → part < length occupancies.old.items → HoldsWhereBlock occupancies.old.items part) → (part : ℕ) → part < length occupancies.new.items → HoldsWhereBlock occupancies.new.items part }

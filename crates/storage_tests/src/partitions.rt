@@ -158,17 +158,28 @@ fn a_count_stands_beside_the_cells(rt: HostRuntime) {
     assert!(&rt; store.holds(last) && *store.count(last) == 7);
 }
 
-/// Counts are kept of 300 tuples, or of none where that is refused.
-fn keep_counts_of_300(rt: &impl Abort, alloc: Global) -> Result<(), NoMemory> {
-    let mut store = Partitions::new(alloc, 1)?;
+/// Puts the numbers below `count` in, each as a tuple.
+fn put_numbers(
+    rt: &impl Abort,
+    alloc: Global,
+    store: &mut Partitions<u64>,
+    count: u64,
+) -> Result<(), NoMemory> {
     let mut cells = Vec::new(alloc);
-    for number in 0u64..300 {
+    for number in 0..count {
         assert!(rt; store.len() < MAX_TUPLES);
         cells.push(number)?;
         store.reserve()?;
         assert!(rt; cells.len() == store.width());
         store.put(&mut cells);
     }
+    Ok(())
+}
+
+/// Counts are kept of 300 tuples, or of none where that is refused.
+fn keep_counts_of_300(rt: &impl Abort, alloc: Global) -> Result<(), NoMemory> {
+    let mut store = Partitions::new(alloc, 1)?;
+    put_numbers(rt, alloc, &mut store, 300)?;
     let kept = store.keep_counts().is_ok();
     assert!(rt; store.is_counted() == kept);
     assert!(rt; store.len() == 300 && store.free() == 212);
@@ -195,6 +206,52 @@ fn counts_are_forgotten(rt: HostRuntime) -> Result<(), Fail> {
     println!(rt; "held: forgotten")?;
     store.release_spares();
     println!(rt; "held: released")?;
+    Ok(())
+}
+
+/// Removes the tuples of the second partition.
+fn remove_second(rt: &impl Abort, store: &mut Partitions<u64>) {
+    for number in 256..512 {
+        let r = TupleRef { number };
+        assert!(rt; store.holds(r));
+        store.remove(r);
+    }
+}
+
+/// Whether a tuple of the second partition has the count 0, and another once it is set, where counts are kept.
+fn counts_anew(rt: &impl Abort, store: &mut Partitions<u64>) -> bool {
+    let r = TupleRef { number: 300 };
+    assert!(rt; store.holds(r));
+    if !store.is_counted() {
+        return *store.count(r) == 0;
+    }
+    let first = *store.count(r);
+    store.set_count(r, 5);
+    assert!(rt; store.holds(r));
+    first == 0 && *store.count(r) == 5
+}
+
+/// Of three partitions the one in the middle goes and comes again. It names the moments at which
+/// `tests/test_given_back.py` compares what is held.
+#[test]
+fn counts_go_with_their_partition(rt: HostRuntime) -> Result<(), Fail> {
+    println!(rt; "held: nothing")?;
+    for counted in [false, true] {
+        let kept = if counted { "counted" } else { "uncounted" };
+        let mut store = Partitions::new(rt.alloc(), 1)?;
+        put_numbers(&rt, rt.alloc(), &mut store, 768)?;
+        if counted {
+            store.keep_counts()?;
+        }
+        println!(rt; "held: {kept}, full")?;
+        remove_second(&rt, &mut store);
+        store.release_spares();
+        println!(rt; "held: {kept}, without the second")?;
+        put_numbers(&rt, rt.alloc(), &mut store, 256)?;
+        println!(rt; "held: {kept}, full again")?;
+        assert!(&rt; counts_anew(&rt, &mut store));
+    }
+    println!(rt; "held: nothing again")?;
     Ok(())
 }
 

@@ -2,6 +2,7 @@ use Rattle.std.proofs.Common.{◌≡◌, ◌∙◌, ap, length, arith, refl, tak
 use Rattle.std.proofs.lemmas.List.{length_push}
 use Rattle.part_raw.specs.Counted.{shelves_of}
 use Rattle.part_raw.proofs.Beside.{length-shelves_of, shelves_of-push, shelves_of-take}
+use Rattle.part_raw.proofs.OwnCounts.{own-take, own-front}
 use Rattle.part_raw.proofs.Tables.{length-tables}
 use Rattle.part_raw.proofs.Spared.{last-bare, front_kept, front_tuples, front_free, front_slots, holds_front}
 use Rattle.part_raw.proofs.store.pop_bare.Goals as goal
@@ -15,6 +16,7 @@ let_go-requires g c =
 pub loop-blocks-init : goal.loop-blocks-init
 loop-blocks-init g c = record {
   kept = c.requires.kept;
+  own = λ own. own-take c.args.blocks.now.items c.args.counts.now.items own (length c.args.blocks.now.items);
   as_many = c.requires.kept.mapped.as_many ∙ length-tables c.args.width (shelves_of c.args.blocks.now.items c.args.counts.now.items) ∙ length-shelves_of c.args.blocks.now.items c.args.counts.now.items;
   tuples = refl;
   fewer = omega arith;
@@ -28,6 +30,7 @@ loop-blocks-preserved g c =
     let push = shelves_of-push c.pop.new.self.items c.args.counts.now.items c.in-Some-Some.block in
     let kept = rw (c.in-Some-Some.ensures.items, c.in-Some-Some.ensures'.items, push) at c.loop-blocks.invariant.kept in
     let bare = rw c.in-Some-Some.ensures'.items at c.ends_bare.ensures.bare c.loop-blocks-test.true in
+    let own = rw c.in-Some-Some.ensures.items at c.loop-blocks.invariant.own in
     let tuples = rw (c.in-Some-Some.ensures.items, push) at c.loop-blocks.invariant.tuples in
     let free = rw (c.in-Some-Some.ensures.items, push) at c.loop-blocks.invariant.free in
     let slots = rw (c.in-Some-Some.ensures.items, push) at c.loop-blocks.invariant.slots in
@@ -35,6 +38,7 @@ loop-blocks-preserved g c =
     let one = length_push c.pop.new.self.items c.in-Some-Some.block in
     let one' = length_push c.pop-in-loop-blocks.new.self.items c.in-Some-Some.field-0-1 in
     record {
+      own = λ all. own-front c.pop.new.self.items c.in-Some-Some.block c.args.counts.now.items (own all);
       kept = front_kept c.args.width (shelves_of c.pop.new.self.items c.args.counts.now.items) _ c.pop-in-loop-blocks.new.self.items c.in-Some-Some.field-0-1 kept bare;
       as_many = omega (arith, one, one', ap length c.in-Some-Some.ensures.items, ap length c.in-Some-Some.ensures'.items, c.loop-blocks.invariant.as_many);
       tuples = front_tuples c.args.width (shelves_of c.pop.new.self.items c.args.counts.now.items) _ c.pop-in-loop-blocks.new.self.items c.in-Some-Some.field-0-1 kept bare ∙ tuples;
@@ -72,3 +76,8 @@ returns-clause-slots g c =
     let same : shelves_of c.shrink_to_fit.new.self.items c.shrink_to_fit-2.new.self.items ≡ shelves_of c.loop-blocks.blocks.items c.args.counts.now.items =
     (λ i. shelves_of (c.shrink_to_fit.ensures.items i) (cut i)) ∙ shelves_of-take c.loop-blocks.blocks.items c.args.counts.now.items in
     rw same c.loop-blocks.invariant.slots
+
+pub returns-clause-own : goal.returns-clause-own
+returns-clause-own g c = λ own.
+    let cut = c.shrink_to_fit-2.ensures.items ∙ c.truncate.ensures.items ∙ ap (λ n. take n c.args.counts.now.items) (c.len.ensures ∙ c.loop-blocks.blocks.ok.0) in
+    rw (c.shrink_to_fit.ensures.items, cut) (c.loop-blocks.invariant.own own)

@@ -2,7 +2,8 @@ use Rattle.std.proofs.Common.{◌∙◌, ◌<◌, false, [], ap, length, get_or,
 use Rattle.std.proofs.lemmas.List.{length-set, set-get_or}
 use Rattle.part_raw.specs.declared.store.Occupancy.{Occupancy}
 use Rattle.part_raw.specs.Counted.{shelf, shelves_of}
-use Rattle.part_raw.proofs.Beside.{length-shelves_of, shelves_of-get, shelves_of-set}
+use Rattle.part_raw.proofs.Beside.{length-shelves_of, shelves_of-get, shelves_of-set_its}
+use Rattle.part_raw.proofs.OwnCounts.{own-set}
 use Rattle.part_raw.proofs.Spared.{spare-empty, released_kept, released_tuples, released_free, released_slots, holds_read, holds_bare, holds_other}
 use Rattle.part_raw.proofs.Tables.{length-tables}
 use Rattle.part_raw.proofs.store.release_empty.Goals as goal
@@ -11,6 +12,8 @@ pub loop-part-init : goal.loop-part-init
 loop-part-init g c = record {
   kept = c.requires.kept;
   as_many = refl;
+  counts = refl;
+  own = λ own. own;
   tuples = refl;
   free = omega arith;
   slots = omega arith;
@@ -26,25 +29,25 @@ index_mut-occupancy-requires g c =
       c.len-part-end.ensures,
       c.loop-part.invariant.as_many,
       c.loop-part.invariant.kept.mapped.as_many,
-      length-tables c.args.width (shelves_of c.loop-part.blocks.items c.args.counts.now.items),
-      length-shelves_of c.loop-part.blocks.items c.args.counts.now.items,
+      length-tables c.args.width (shelves_of c.loop-part.blocks.items c.loop-part.counts.items),
+      length-shelves_of c.loop-part.blocks.items c.loop-part.counts.items,
       c.args.blocks.now.ok,
       c.loop-part.occupancies.ok,
     )
 
 pub release-requires-clause-empty : goal.release-requires-clause-empty
 release-requires-clause-empty g c =
-    let blocks = c.loop-part.blocks.items in let counts = c.args.counts.now.items in let part = c.loop-part.part in let o = c.index_mut-occupancy.result.now in
+    let blocks = c.loop-part.blocks.items in let counts = c.loop-part.counts.items in let part = c.loop-part.part in let o = c.index_mut-occupancy.result.now in
     let its = shelf c.index_mut.result.now (get_or counts part []) in
     let within : part < length blocks = omega (arith, c.loop-part-test.true, c.len-part-end.ensures, c.loop-part.invariant.as_many, c.args.blocks.now.ok) in
     let among : part < length (shelves_of blocks counts) = omega (arith, within, length-shelves_of blocks counts) in
     let its_read = shelves_of-get blocks counts part c.index_mut.result.now its within c.index_mut.ensures.value in
     let there = c.is_spare.ensures.block c.if-not-is_spare.false in let clear = c.is_spare.ensures.clear c.if-not-is_spare.false in
-    spare-empty c.args.width c.requires.wide.0 (shelves_of blocks counts) c.loop-part.occupancies.items c.loop-part.invariant.kept part among o o c.index_mut-occupancy.ensures.value there clear its its_read
+    spare-empty c.args.width c.requires.wide.0 (shelves_of blocks counts) c.loop-part.occupancies.items c.loop-part.invariant.kept part among o o c.index_mut-occupancy.ensures.value there clear its its_read []
 
 pub loop-part-preserved : goal.loop-part-preserved
 loop-part-preserved g c =
-    let blocks = c.loop-part.blocks.items in let counts = c.args.counts.now.items in let part = c.loop-part.part in let o = c.index_mut-occupancy.result.now in
+    let blocks = c.loop-part.blocks.items in let counts = c.loop-part.counts.items in let part = c.loop-part.part in let o = c.index_mut-occupancy.result.now in
     let its = shelf c.index_mut.result.now (get_or counts part []) in
     let within : part < length blocks = omega (arith, c.loop-part-test.true, c.len-part-end.ensures, c.loop-part.invariant.as_many, c.args.blocks.now.ok) in
     let among : part < length (shelves_of blocks counts) = omega (arith, within, length-shelves_of blocks counts) in
@@ -52,14 +55,17 @@ loop-part-preserved g c =
     let there = c.is_spare.ensures.block c.if-not-is_spare.false in let clear = c.is_spare.ensures.clear c.if-not-is_spare.false in
     let width = c.args.width in let wide = c.requires.wide.0 in let occ = c.loop-part.occupancies.items in let kept = c.loop-part.invariant.kept in let read = c.index_mut-occupancy.ensures.value in
     let o' : Occupancy = record { held = o.held; next_open = o.next_open; has_block = false } in
-    let as_set = shelves_of-set blocks counts part [] in
+    let left = get_or (set counts part []) part [] in
+    let as_set = shelves_of-set_its blocks counts part [] [] in
     let in_occ : part < length occ = omega (arith, among, kept.mapped.as_many, length-tables width (shelves_of blocks counts)) in
-    rw (c.release.ensures, as_set) (record {
-      kept = released_kept width wide (shelves_of blocks counts) occ kept part among o o' read there clear its its_read refl refl;
+    rw (c.release.ensures, c.set_counts.ensures, c.none.ensures, as_set) (record {
+      kept = released_kept width wide (shelves_of blocks counts) occ kept part among o o' read there clear its its_read left refl refl;
       as_many = length-set blocks part [] ∙ c.loop-part.invariant.as_many;
-      tuples = released_tuples width wide (shelves_of blocks counts) occ kept part among o o' read there clear its its_read ∙ c.loop-part.invariant.tuples;
-      free = omega (arith, released_free width wide (shelves_of blocks counts) occ kept part among o o' read there clear its its_read, c.loop-part.invariant.free);
-      slots = omega (arith, released_slots width wide (shelves_of blocks counts) occ kept part among o o' read there clear its its_read, c.loop-part.invariant.slots);
+      counts = length-set counts part [] ∙ c.loop-part.invariant.counts;
+      own = λ own. own-set blocks counts (c.loop-part.invariant.own own) part [] [] within (λ among. refl);
+      tuples = released_tuples width wide (shelves_of blocks counts) occ kept part among o o' read there clear its its_read left ∙ c.loop-part.invariant.tuples;
+      free = omega (arith, released_free width wide (shelves_of blocks counts) occ kept part among o o' read there clear its its_read left, c.loop-part.invariant.free);
+      slots = omega (arith, released_slots width wide (shelves_of blocks counts) occ kept part among o o' read there clear its its_read left, c.loop-part.invariant.slots);
       most = omega (arith, c.loop-part.invariant.most);
       held = below_more _ _ (λ k below. holds_other occ part o' in_occ k (omega (arith, below)) (c.loop-part.invariant.held k below)) (holds_bare occ part o' in_occ refl);
     })
@@ -73,14 +79,16 @@ loop-part-preserved-then-not-is_spare g c =
       c.len-part-end.ensures,
       c.loop-part.invariant.as_many,
       c.loop-part.invariant.kept.mapped.as_many,
-      length-tables c.args.width (shelves_of c.loop-part.blocks.items c.args.counts.now.items),
-      length-shelves_of c.loop-part.blocks.items c.args.counts.now.items,
+      length-tables c.args.width (shelves_of c.loop-part.blocks.items c.loop-part.counts.items),
+      length-shelves_of c.loop-part.blocks.items c.loop-part.counts.items,
       c.args.blocks.now.ok,
     ) in
     let same = ap (set occ part) read ∙ set-get_or occ part o in
     rw same (record {
       kept = c.loop-part.invariant.kept;
       as_many = c.loop-part.invariant.as_many;
+      counts = c.loop-part.invariant.counts;
+      own = c.loop-part.invariant.own;
       tuples = c.loop-part.invariant.tuples;
       free = c.loop-part.invariant.free;
       slots = c.loop-part.invariant.slots;
@@ -97,7 +105,7 @@ returns-clause-held g c = λ part within.
       c.len-part-end.ensures,
       c.loop-part.invariant.as_many,
       c.loop-part.invariant.kept.mapped.as_many,
-      length-tables c.args.width (shelves_of c.loop-part.blocks.items c.args.counts.now.items),
-      length-shelves_of c.loop-part.blocks.items c.args.counts.now.items,
+      length-tables c.args.width (shelves_of c.loop-part.blocks.items c.loop-part.counts.items),
+      length-shelves_of c.loop-part.blocks.items c.loop-part.counts.items,
       c.args.blocks.now.ok,
     ))

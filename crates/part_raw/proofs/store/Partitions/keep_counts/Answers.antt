@@ -8,15 +8,13 @@ use Rattle.part_raw.proofs.store.Partitions.keep_counts.Goals as goal
 
 pub invariant_of-self : goal.invariant_of-self
 invariant_of-self g c =
-    let many = c.len.ensures ∙ c.self.inside.blocks.ok.0 in
     rw c.in_ok-self-inside.ensures (
-      zeros_stocked _ _ _ _ _ _ _ c.self.invariant.0 c.if-self.false c.len.result many,
-      c.self.invariant.1 ∙ ap (sum_by length) (sym (zeros_same _ _ _ _ _ _ _ c.self.invariant.0 c.if-self.false c.len.result many)),
+      zeros_stocked _ _ _ _ _ _ _ c.self.invariant.0 c.if-self.false,
+      c.self.invariant.1 ∙ ap (sum_by length) (sym (zeros_same _ _ _ _ _ _ _ c.self.invariant.0 c.if-self.false)),
     )
 
 pub returns-clause-ok : goal.returns-clause-ok
 returns-clause-ok g c =
-    let many = c.len.ensures ∙ c.self.inside.blocks.ok.0 in
     rw (← c.self.view_is)
     (ap (λ counts. store c.self.inside.width (tuples_of (tables c.self.inside.width (shelves_of c.self.inside.blocks.items counts))) c.self.inside.free true) c.in_ok-self-inside.ensures
-    ∙ ap (λ rows. store c.self.inside.width (tuples_of rows) c.self.inside.free true) (zeros_same _ _ _ _ _ _ _ c.self.invariant.0 c.if-self.false c.len.result many))
+    ∙ ap (λ rows. store c.self.inside.width (tuples_of rows) c.self.inside.free true) (zeros_same _ _ _ _ _ _ _ c.self.invariant.0 c.if-self.false))

@@ -46,9 +46,9 @@ invariant_of-self g c =
     let wide = rw (← c.self.view_is) at c.requires.width in
     let some = rw (← c.self.view_is) at c.requires.room in (
       filled_full _ _ _ _ _ _ _ is c.index_mut-block.result.now c.fill-slot.new.block c.index_mut-occupancy.result.now _ c.fill-slot.result c.args.cells.now.items _ wide c.index_mut-block.ensures.value c.index_mut-occupancy.ensures.value refl
-          c.fill-slot.ensures.laid c.fill-slot.ensures.bits c.fill-slot.ensures.slot c.fill-slot.ensures.fresh c.fill-slot.ensures.slots c.set_count_at.ensures.set some (c.is_full.ensures.0 c.if-is_full.true),
+          c.fill-slot.ensures.laid c.fill-slot.ensures.bits c.fill-slot.ensures.slot c.fill-slot.ensures.fresh c.fill-slot.ensures.slots c.set_count_at.ensures some (c.is_full.ensures.0 c.if-is_full.true),
       c.self.invariant.1 ∙ sym (filled_slots _ _ _ _ _ _ _ is c.index_mut-block.result.now c.fill-slot.new.block c.index_mut-occupancy.result.now (record { held = c.fill-slot.new.held; next_open = None; has_block = c.index_mut-occupancy.result.now.has_block }) c.fill-slot.result c.args.cells.now.items _ wide
-          c.index_mut-block.ensures.value c.index_mut-occupancy.ensures.value refl c.fill-slot.ensures.laid c.fill-slot.ensures.bits c.fill-slot.ensures.slot c.fill-slot.ensures.fresh c.fill-slot.ensures.slots c.set_count_at.ensures.set),
+          c.index_mut-block.ensures.value c.index_mut-occupancy.ensures.value refl c.fill-slot.ensures.laid c.fill-slot.ensures.bits c.fill-slot.ensures.slot c.fill-slot.ensures.fresh c.fill-slot.ensures.slots c.set_count_at.ensures),
     )
 
 pub invariant_of-self-else-is_full : goal.invariant_of-self-else-is_full
@@ -58,10 +58,10 @@ invariant_of-self-else-is_full g c =
     let some = rw (← c.self.view_is) at c.requires.room in (
       rw c.in-Some.is
           (filled_open _ _ _ _ _ _ _ is c.index_mut-block.result.now c.fill-slot.new.block c.index_mut-occupancy.result.now _ c.fill-slot.result c.args.cells.now.items _ wide c.index_mut-block.ensures.value c.index_mut-occupancy.ensures.value refl
-          c.fill-slot.ensures.laid c.fill-slot.ensures.bits c.fill-slot.ensures.slot c.fill-slot.ensures.fresh c.fill-slot.ensures.slots c.set_count_at.ensures.set some
+          c.fill-slot.ensures.laid c.fill-slot.ensures.bits c.fill-slot.ensures.slot c.fill-slot.ensures.fresh c.fill-slot.ensures.slots c.set_count_at.ensures some
           (λ full. true≢false (sym (c.is_full.ensures.1 full) ∙ c.if-is_full.false)) refl),
       c.self.invariant.1 ∙ sym (filled_slots _ _ _ _ _ _ _ is c.index_mut-block.result.now c.fill-slot.new.block c.index_mut-occupancy.result.now (record { held = c.fill-slot.new.held; next_open = None; has_block = c.index_mut-occupancy.result.now.has_block }) c.fill-slot.result c.args.cells.now.items _ wide
-          c.index_mut-block.ensures.value c.index_mut-occupancy.ensures.value refl c.fill-slot.ensures.laid c.fill-slot.ensures.bits c.fill-slot.ensures.slot c.fill-slot.ensures.fresh c.fill-slot.ensures.slots c.set_count_at.ensures.set),
+          c.index_mut-block.ensures.value c.index_mut-occupancy.ensures.value refl c.fill-slot.ensures.laid c.fill-slot.ensures.bits c.fill-slot.ensures.slot c.fill-slot.ensures.fresh c.fill-slot.ensures.slots c.set_count_at.ensures),
     )
 
 pub to-r-requires-clause-part : goal.to-r-requires-clause-part
@@ -73,7 +73,7 @@ returns-then-is_full-clause-fresh g c =
     let wide = rw (← c.self.view_is) at c.requires.width in
     rw (← c.self.view_is, c.to-r.ensures)
     (filled_fresh _ _ _ _ _ _ _ is c.index_mut-block.result.now c.fill-slot.new.block c.index_mut-occupancy.result.now (record { held = c.fill-slot.new.held; next_open = None; has_block = c.index_mut-occupancy.result.now.has_block }) c.fill-slot.result c.args.cells.now.items _ wide
-    c.index_mut-block.ensures.value c.index_mut-occupancy.ensures.value refl c.fill-slot.ensures.laid c.fill-slot.ensures.bits c.fill-slot.ensures.slot c.fill-slot.ensures.fresh c.fill-slot.ensures.slots c.set_count_at.ensures.set)
+    c.index_mut-block.ensures.value c.index_mut-occupancy.ensures.value refl c.fill-slot.ensures.laid c.fill-slot.ensures.bits c.fill-slot.ensures.slot c.fill-slot.ensures.fresh c.fill-slot.ensures.slots c.set_count_at.ensures)
 
 pub returns-then-is_full-clause-tuples : goal.returns-then-is_full-clause-tuples
 returns-then-is_full-clause-tuples g c =
@@ -81,7 +81,7 @@ returns-then-is_full-clause-tuples g c =
     let wide = rw (← c.self.view_is) at c.requires.width in
     rw (← c.self.view_is, c.to-r.ensures)
     (filled_tuples _ _ _ _ _ _ _ is c.index_mut-block.result.now c.fill-slot.new.block c.index_mut-occupancy.result.now (record { held = c.fill-slot.new.held; next_open = None; has_block = c.index_mut-occupancy.result.now.has_block }) c.fill-slot.result c.args.cells.now.items _ wide
-    c.index_mut-block.ensures.value c.index_mut-occupancy.ensures.value refl c.fill-slot.ensures.laid c.fill-slot.ensures.bits c.fill-slot.ensures.slot c.fill-slot.ensures.fresh c.fill-slot.ensures.slots c.set_count_at.ensures.set)
+    c.index_mut-block.ensures.value c.index_mut-occupancy.ensures.value refl c.fill-slot.ensures.laid c.fill-slot.ensures.bits c.fill-slot.ensures.slot c.fill-slot.ensures.fresh c.fill-slot.ensures.slots c.set_count_at.ensures)
 
 pub returns-else-is_full-clause-fresh : goal.returns-else-is_full-clause-fresh
 returns-else-is_full-clause-fresh g c =
@@ -89,7 +89,7 @@ returns-else-is_full-clause-fresh g c =
     let wide = rw (← c.self.view_is) at c.requires.width in
     rw (← c.self.view_is, c.to-r.ensures)
     (filled_fresh _ _ _ _ _ _ _ is c.index_mut-block.result.now c.fill-slot.new.block c.index_mut-occupancy.result.now (record { held = c.fill-slot.new.held; next_open = None; has_block = c.index_mut-occupancy.result.now.has_block }) c.fill-slot.result c.args.cells.now.items _ wide
-    c.index_mut-block.ensures.value c.index_mut-occupancy.ensures.value refl c.fill-slot.ensures.laid c.fill-slot.ensures.bits c.fill-slot.ensures.slot c.fill-slot.ensures.fresh c.fill-slot.ensures.slots c.set_count_at.ensures.set)
+    c.index_mut-block.ensures.value c.index_mut-occupancy.ensures.value refl c.fill-slot.ensures.laid c.fill-slot.ensures.bits c.fill-slot.ensures.slot c.fill-slot.ensures.fresh c.fill-slot.ensures.slots c.set_count_at.ensures)
 
 pub returns-else-is_full-clause-tuples : goal.returns-else-is_full-clause-tuples
 returns-else-is_full-clause-tuples g c =
@@ -97,4 +97,4 @@ returns-else-is_full-clause-tuples g c =
     let wide = rw (← c.self.view_is) at c.requires.width in
     rw (← c.self.view_is, c.to-r.ensures)
     (filled_tuples _ _ _ _ _ _ _ is c.index_mut-block.result.now c.fill-slot.new.block c.index_mut-occupancy.result.now (record { held = c.fill-slot.new.held; next_open = None; has_block = c.index_mut-occupancy.result.now.has_block }) c.fill-slot.result c.args.cells.now.items _ wide
-    c.index_mut-block.ensures.value c.index_mut-occupancy.ensures.value refl c.fill-slot.ensures.laid c.fill-slot.ensures.bits c.fill-slot.ensures.slot c.fill-slot.ensures.fresh c.fill-slot.ensures.slots c.set_count_at.ensures.set)
+    c.index_mut-block.ensures.value c.index_mut-occupancy.ensures.value refl c.fill-slot.ensures.laid c.fill-slot.ensures.bits c.fill-slot.ensures.slot c.fill-slot.ensures.fresh c.fill-slot.ensures.slots c.set_count_at.ensures)

@@ -85,7 +85,9 @@ invariant_of-self g c =
     let len_was = rw (← c.self.view_is) at c.len-len.ensures.value in
     let left : c.self.inside.slots - given - c.len-len.result ≡ sum_by length (tables width now) - len (tuples_of (tables width was)) = omega (arith, slots, c.self.invariant.1, len_was) in (
       record {
-        beside = ap length c.pop_bare.ensures.counts ∙ beside-take c.self.inside.counted (length c.self.inside.blocks.items) (length c.pop_bare.new.blocks.items) c.self.inside.counts.items c.self.invariant.0.beside (omega (arith, c.pop_bare.ensures.fewer, c.release_empty.ensures.as_many));
+        own = c.pop_bare.ensures.own (c.release_empty.ensures.own c.self.invariant.0.own);
+        beside = ap length c.pop_bare.ensures.counts
+            ∙ beside-take c.self.inside.counted (length c.self.inside.blocks.items) (length c.pop_bare.new.blocks.items) c.release_empty.new.counts.items (c.release_empty.ensures.counts ∙ c.self.invariant.0.beside) (omega (arith, c.pop_bare.ensures.fewer, c.release_empty.ensures.as_many));
         table = IsTable-relinked width was now c.self.inside.occupancies.items made popped c.self.inside.free c.self.inside.first_open c.self.invariant.0.table c.pop_bare.ensures.kept tuples fewer given free slots words flags as_many _ _ left
             (c.relink-self-inside.ensures.linked (open_at (tables width now)) (tells (tables width now) popped c.pop_bare.ensures.kept.mapped));
       },

@@ -31,9 +31,10 @@ invariant_of-self g c =
     let within : c.bare_from-bare.result < length c.self.inside.blocks.items = omega (arith, c.if-bare-len.true, c.len.ensures, c.self.inside.blocks.ok) in
     let among : c.bare_from-bare.result < length c.self.inside.occupancies.items = omega (arith, within, as_many _ _ _ _ _ _ _ c.self.invariant.0) in
     let bare = sym (mapped-read (λ (x : Occupancy). x.has_block) c.self.inside.occupancies.items c.bare_from-bare.result o false among c.index_mut-occupancy.ensures.value) ∙ c.bare_from-bare.ensures among in
-    let new = c.replace.ensures.after ∙ c.in_ok-block.ensures in (
-      refilled_stocked _ _ _ _ _ _ was c.bare_from-bare.result c.replace.new.dest o o' within c.index_mut-occupancy.ensures.value bare new refl refl refl,
-      ap (λ n. n + 256) c.self.invariant.1 ∙ sym (refill_slots _ _ _ _ _ _ was c.bare_from-bare.result c.replace.new.dest o o' within c.index_mut-occupancy.ensures.value bare new),
+    let new = c.replace.ensures.after ∙ c.in_ok-block.ensures in
+    rw c.set_counts.ensures (
+      refilled_stocked _ _ _ _ _ _ was c.bare_from-bare.result c.replace.new.dest o o' within c.index_mut-occupancy.ensures.value bare new _ c.in_ok-counts.ensures refl refl refl,
+      ap (λ n. n + 256) c.self.invariant.1 ∙ sym (refill_slots _ _ _ _ _ _ was c.bare_from-bare.result c.replace.new.dest o o' within c.index_mut-occupancy.ensures.value bare new _ c.in_ok-counts.ensures),
     )
 
 pub returns-then-bare-len-clause-ok : goal.returns-then-bare-len-clause-ok
@@ -45,9 +46,9 @@ returns-then-bare-len-clause-ok g c =
     let within : c.bare_from-bare.result < length c.self.inside.blocks.items = omega (arith, c.if-bare-len.true, c.len.ensures, c.self.inside.blocks.ok) in
     let among : c.bare_from-bare.result < length c.self.inside.occupancies.items = omega (arith, within, as_many _ _ _ _ _ _ _ c.self.invariant.0) in
     let bare = sym (mapped-read (λ (x : Occupancy). x.has_block) c.self.inside.occupancies.items c.bare_from-bare.result o false among c.index_mut-occupancy.ensures.value) ∙ c.bare_from-bare.ensures among in
-    let same = refill_tuples _ _ _ _ _ _ was c.bare_from-bare.result c.replace.new.dest o o' within c.index_mut-occupancy.ensures.value bare (c.replace.ensures.after ∙ c.in_ok-block.ensures) in
+    let same = refill_tuples _ _ _ _ _ _ was c.bare_from-bare.result c.replace.new.dest o o' within c.index_mut-occupancy.ensures.value bare (c.replace.ensures.after ∙ c.in_ok-block.ensures) _ c.in_ok-counts.ensures in
     let free = free_reserved_none c.self.inside.free (omega (arith, c.if-self-gt0.false)) in
-    rw (← c.self.view_is) (λ i. store c.self.inside.width (same i) (free i) c.self.inside.counted)
+    rw (← c.self.view_is) (rw c.set_counts.ensures (λ i. store c.self.inside.width (same i) (free i) c.self.inside.counted))
 
 pub overflow_cast-part : goal.overflow_cast-part
 overflow_cast-part g c = omega (arith, few_here _ _ _ _ _ _ _ c.self.invariant.0, c.len-part.ensures, c.reserve.ensures.len, c.self.inside.blocks.ok)
@@ -56,17 +57,17 @@ pub invariant_of-self-2 : goal.invariant_of-self-2
 invariant_of-self-2 g c =
     let none : c.self.inside.free ≡ 0 = omega (arith, c.if-self-gt0.false) in
     let was = subst (λ (n : ℕ). IsStocked c.self.inside.counted c.self.inside.width c.self.inside.blocks.items c.self.inside.counts.items c.self.inside.occupancies.items n c.self.inside.first_open) none c.self.invariant.0 in
-    rw (c.push_reserved.ensures.items, c.reserve.ensures.items, c.push_next.ensures, c.in_ok-counts.ensures.items, c.push_reserved-2.ensures.items, c.reserve-2.ensures.items) (
-      pushed_stocked _ _ _ _ _ _ was _ _ c.in_ok-block-2.ensures c.in_ok-counts.ensures.made _ _ c.new-3.ensures refl refl (omega (arith, c.len-part.ensures, c.reserve.ensures.len, c.self.inside.blocks.ok))
+    rw (c.push_reserved.ensures.items, c.reserve.ensures.items, c.push_next.ensures, c.in_ok-counts-2.ensures.items, c.push_reserved-2.ensures.items, c.reserve-2.ensures.items) (
+      pushed_stocked _ _ _ _ _ _ was _ _ c.in_ok-block-2.ensures c.in_ok-counts-2.ensures.made c.in_ok-counts-2.ensures.zeros _ _ c.new-3.ensures refl refl (omega (arith, c.len-part.ensures, c.reserve.ensures.len, c.self.inside.blocks.ok))
           (omega (arith, few_here _ _ _ _ _ _ _ c.self.invariant.0, c.if-len.false, c.len-2.ensures, c.self.inside.blocks.ok)),
-      ap (λ n. n + 256) c.self.invariant.1 ∙ sym (pushed_slots _ _ _ _ _ _ was _ _ c.in_ok-block-2.ensures c.in_ok-counts.ensures.made),
+      ap (λ n. n + 256) c.self.invariant.1 ∙ sym (pushed_slots _ _ _ _ _ _ was _ _ c.in_ok-block-2.ensures c.in_ok-counts-2.ensures.made c.in_ok-counts-2.ensures.zeros),
     )
 
 pub returns-clause-ok : goal.returns-clause-ok
 returns-clause-ok g c =
     let none : c.self.inside.free ≡ 0 = omega (arith, c.if-self-gt0.false) in
     let was = subst (λ (n : ℕ). IsStocked c.self.inside.counted c.self.inside.width c.self.inside.blocks.items c.self.inside.counts.items c.self.inside.occupancies.items n c.self.inside.first_open) none c.self.invariant.0 in
-    let pushed = pushed_tuples _ _ _ _ _ _ was _ _ c.in_ok-block-2.ensures c.in_ok-counts.ensures.made in
+    let pushed = pushed_tuples _ _ _ _ _ _ was _ _ c.in_ok-block-2.ensures c.in_ok-counts-2.ensures.made c.in_ok-counts-2.ensures.zeros in
     let free = free_reserved_none c.self.inside.free (omega (arith, c.if-self-gt0.false)) in
     rw (← c.self.view_is)
-    (rw (c.push_reserved.ensures.items, c.reserve.ensures.items, c.push_next.ensures, c.in_ok-counts.ensures.items) (λ i. store c.self.inside.width (pushed i) (free i) c.self.inside.counted))
+    (rw (c.push_reserved.ensures.items, c.reserve.ensures.items, c.push_next.ensures, c.in_ok-counts-2.ensures.items) (λ i. store c.self.inside.width (pushed i) (free i) c.self.inside.counted))
