@@ -2,6 +2,7 @@ pub mod BlockLaws
 pub mod BlockLemmas
 pub mod CsvLemmas
 pub mod EndingLemmas
+pub mod EndsLemmas
 pub mod FieldLemmas
 pub mod OutputLemmas
 pub mod PlainFields

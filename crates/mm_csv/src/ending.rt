@@ -4,6 +4,7 @@ ghost use Rattle.std.specs.Prelude.{◌≡◌, ◌∷◌, ◌++◌, ◌+◌, ◌
 ghost use Rattle.std.specs.Fmt.{decimal, signed_decimal};
 ghost use Rattle.plain_tables.specs.Csv.{needs_quotes, row_record, value_field};
 
+use crate::ends::copy_bytes;
 use crate::plain::must_be_quoted;
 use itoa::write_digits;
 use plain_tables::{SeenValue, StoredValue};
@@ -78,7 +79,7 @@ impl Ending {
         ensures { self.new ≡ bytes.now ++ self.old }
     {
         let start = self.start - bytes.len();
-        self.bytes[start..self.start].copy_from_slice(bytes);
+        copy_bytes(&mut self.bytes[start..self.start], bytes);
         self.start = start;
     }
 

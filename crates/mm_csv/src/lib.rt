@@ -13,6 +13,7 @@
 mod block;
 mod csv_refusal;
 mod ending;
+mod ends;
 mod field;
 mod fields;
 mod full_name;

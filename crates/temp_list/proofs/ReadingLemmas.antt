@@ -1,5 +1,5 @@
 -- What is read of a row of relations that are sound.
-use Rattle.std.proofs.Common.{◌≡◌, ℕ, ◌<◌, List, Some, IsSome, length, sym, ap, ◌∙◌, subst, arith, Bool, ◌&&◌, ◌∷◌, drop, drop-cons, add-one, get_or, suc, ◌+◌}
+use Rattle.std.proofs.Common.{◌≡◌, ℕ, ◌<◌, List, Some, IsSome, length, refl, sym, ap, ◌∙◌, subst, arith, Bool, true, ◌&&◌, [], ◌∷◌, drop, drop-cons, add-one, get_or, suc, ◌+◌}
 use Rattle.std.specs.Prelude.{slice_get}
 use Rattle.std.specs.Option.{option_and_then}
 use Rattle.std.specs.FinMap as finite
@@ -38,3 +38,8 @@ module _ (relations : List RelationState) (s : RelationState) (r : TupleRef) (ro
       let first : drop i tests ≡ test ∷ drop (i + 1) tests = rw (add-one, drop-cons tests i test within) (ap (λ t. t ∷ drop (suc i) tests) (sym item)) in
       ap (λ ts. row_passes relations s ts r) first
       ∙ ap (λ c. c && row_passes relations s (drop (i + 1) tests) r) (sym (told ∙ ap (λ v. stands test.op v test.value) (lent_value test.column.0 value read_so)))
+
+-- where no test is made each row passes
+pub passes_none : (relations : List RelationState) (s : RelationState) (r : TupleRef) (tests : List Test) → length tests ≡ 0 → true ≡ row_passes relations s tests r
+passes_none relations s r [] none = refl
+passes_none relations s r (test ∷ tests) none = absurd (omega arith)

@@ -5,17 +5,21 @@ use Rattle.std.specs.List.{All, IsAllAdjacentAnswer}
 use Rattle.std.specs.List.Sorted.{IsSorted}
 use Rattle.std.specs.Cmp.{IsTotalOrder, IsStrictWeakOrder}
 use Rattle.std.specs.Cmp.Lexicographic.{options_total, lists_total}
+use Rattle.std.specs.Option.{option_cmp}
 use Rattle.std.specs.Ordering.{is_lt, is_ge}
 use Rattle.std.specs.declared.cmp.Ordering.TheVariants.{Less, Equal, Greater}
-use Rattle.std.proofs.lemmas.Cmp.{on_total}
+use Rattle.std.proofs.lemmas.Cmp.{on_total, tied_itself}
 use Rattle.std.proofs.lemmas.List.{get_or-map, length-map}
 use Rattle.std.proofs.lemmas.List.Sorted.{ranks_by, All-permutation, sum_by-IsPermutation}
 use Rattle.smallvec.specs.SmallVec.{SmallVec}
+use Rattle.part_raw.specs.Store.{Tuples}
 use Rattle.part_raw.specs.declared.tuple_ref.TupleRef.{TupleRef}
 use Rattle.plain_tables.specs.declared.numbers.TableNumber.{TableNumber}
 use Rattle.plain_tables.specs.declared.numbers.Place.{Place}
-use Rattle.plain_tables.specs.Values.{value_cmp_total}
+use Rattle.plain_tables.specs.Values.{value_cmp, value_cmp_total}
 use Rattle.mm_index.specs.Bag.{IsSameBag}
+use Rattle.mm_relation.specs.Reading.{key_at}
+use Rattle.mm_relation.specs.Rows.{Row}
 use Rattle.mm_relation.specs.State.{RelationState}
 use Rattle.temp_list.specs.Lists.{keys_cmp, row_keys}
 use Rattle.temp_list.specs.Seen.{lists, list_of, listed_cmp, IsEven, AreTables}
@@ -74,3 +78,9 @@ tables_read relations read kept sources same seen each = λ k d l.
     let is : map (λ t. t.0) read ≡ sources = ap (map (λ t. t.0)) same ∙ seen in
     let inside : k < length sources = omega (arith, l, length-map read (λ (t : TableNumber). t.0), ap length is) in
     subst (λ (n : ℕ). n < length relations) (ap (λ (ns : List ℕ). get_or ns k d.0) (sym is) ∙ get_or-map (λ (t : TableNumber). t.0) read k d d.0 l) (each k d.0 inside)
+
+-- one row has one key
+pub key_itself : (rows : Tuples Row) (q r : TupleRef) → q.number ≡ r.number → Equal ≡ option_cmp value_cmp (key_at rows q) (key_at rows r)
+key_itself rows q r e =
+    let same : q ≡ r = ap (λ (n : ℕ). let t : TupleRef = record { number = n } in t) e in
+    sym (ap (λ (t : TupleRef). option_cmp value_cmp (key_at rows q) (key_at rows t)) (sym same) ∙ tied_itself (options_total value_cmp_total) (key_at rows q))

@@ -34,13 +34,8 @@ pub fn read<'a, R: Relations>(
     relation.row(r).value(column, tables)
 }
 
-/// Whether the row under a reference passes each of the tests.
-pub fn passes_all<R: Relations>(
-    tables: &R,
-    relation: &Relation,
-    r: TupleRef,
-    tests: &[Test],
-) -> bool
+// Whether the row under a reference passes each of the tests.
+fn passes_each<R: Relations>(tables: &R, relation: &Relation, r: TupleRef, tests: &[Test]) -> bool
     requires held { IsSome (finite.get relation.now.rows r) }
     requires current { IsCurrent (linked_keys relation.now.targets (R.tables tables.now)) relation.now }
     requires columns { HasColumns relation.now tests.now }
@@ -54,6 +49,25 @@ pub fn passes_all<R: Relations>(
         }
     }
     true
+}
+
+/// Whether the row under a reference passes each of the tests. Where none is made it does, and isn't read.
+#[inline]
+pub fn passes_all<R: Relations>(
+    tables: &R,
+    relation: &Relation,
+    r: TupleRef,
+    tests: &[Test],
+) -> bool
+    requires held { IsSome (finite.get relation.now.rows r) }
+    requires current { IsCurrent (linked_keys relation.now.targets (R.tables tables.now)) relation.now }
+    requires columns { HasColumns relation.now tests.now }
+    ensures { result ≡ row_passes_so (R.tables tables.now) relation.now tests.now r }
+{
+    if tests.is_empty() {
+        return true;
+    }
+    passes_each(tables, relation, r, tests)
 }
 
 /// The rows that pass the tests, in the order of their keys.

@@ -1,6 +1,9 @@
 //! Rows in the order of their keys.
 ghost use Rattle.std.specs.Prelude.{◌≡◌, ◌↔◌, ◌<◌, IsTrue, IfSome, OnOk, OnErr, map};
 ghost use Rattle.std.specs.List.Sorted.{IsPermutation, IsSorted};
+ghost use Rattle.std.specs.Option.{option_cmp};
+ghost use Rattle.plain_tables.specs.Values.{value_cmp};
+ghost use Rattle.mm_relation.specs.Reading.{key_at};
 ghost use Rattle.temp_list.specs.Leading.{LeadsWith, AreLedByRising};
 ghost use Rattle.temp_list.specs.Lists.{keys_cmp};
 ghost use Rattle.temp_list.specs.Seen.{AreTables, listed_cmp, lists};
@@ -12,6 +15,17 @@ use no_memory::NoMemory;
 use part_raw::TupleRef;
 use plain_tables::{SeenValue, TableNumber};
 use std::cmp::Ordering;
+
+// Compares the keys of two rows of a relation. A row is not read to be compared with itself.
+#[inline]
+fn compare_keys(relation: &Relation, q: TupleRef, r: TupleRef) -> Ordering
+    ensures { result ≡ option_cmp value_cmp (key_at relation.now.rows q) (key_at relation.now.rows r) }
+{
+    if q.number == r.number {
+        return Ordering::Equal;
+    }
+    relation.key_if_held(q).cmp(&relation.key_if_held(r))
+}
 
 // Compares two rows by their keys, the first source's first.
 pub fn compare_rows<R: Relations>(
@@ -28,8 +42,7 @@ pub fn compare_rows<R: Relations>(
     };
     match (a.split_first(), b.split_first()) {
         (Some((q, a)), Some((r, b))) => {
-            let relation = tables.at(*table);
-            match relation.key_if_held(*q).cmp(&relation.key_if_held(*r)) {
+            match compare_keys(tables.at(*table), *q, *r) {
                 Ordering::Equal => compare_rows(tables, sources, a, b),
                 first => first,
             }

@@ -1,6 +1,6 @@
 use Rattle.std.proofs.Common.{◌≡◌, drop}
 use Rattle.temp_list.specs.Reading.{row_passes}
-use Rattle.temp_list.proofs.search.passes_all.Given as goal
+use Rattle.temp_list.proofs.search.passes_each.Given as goal
 
 -- all of those so far
 abbrev pub invariant-loop-test : goal.invariant-loop-test

@@ -1,0 +1,5 @@
+use Rattle.temp_list.proofs.SortLemmas.{key_itself}
+use Rattle.temp_list.proofs.sorting.compare_keys.Goals as goal
+
+pub returns-then-q-r : goal.returns-then-q-r
+returns-then-q-r c = key_itself c.args.relation.now.rows c.args.q c.args.r c.if-q-r.true
