@@ -3,6 +3,7 @@ pub mod BlockLemmas
 pub mod CsvLemmas
 pub mod EndingLemmas
 pub mod FieldLemmas
+pub mod FrontLemmas
 pub mod OutputLemmas
 pub mod PlainFields
 pub mod ReaderLemmas

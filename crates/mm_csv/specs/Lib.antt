@@ -1,4 +1,5 @@
 pub mod BlockLaws
 pub mod BlockReading
+pub mod FrontRecords
 pub mod FullNames
 pub mod Records

@@ -3,8 +3,9 @@
 ghost use Rattle.std.specs.Prelude.{◌≡◌, true, false};
 ghost use Rattle.plain_tables.specs.Csv as csv_text;
 
-// Whether a byte calls for quotes around its field.
-fn is_special(byte: u8) -> bool
+/// Whether a byte calls for quotes around its field.
+#[inline]
+pub fn is_special(byte: u8) -> bool
     ensures { result ≡ csv_text.calls_for_quotes byte }
 {
     (byte == b',') | (byte == b'"') | (byte == b'\r') | (byte == b'\n')
