@@ -1,4 +1,5 @@
 pub mod Counts
+pub mod Digits
 pub mod Elements
 pub mod Filters
 pub mod Maps

@@ -1,6 +1,6 @@
 -- Lemmas on blocks: what is written is read again.
-use Rattle.std.proofs.Common.{◌≡◌, ◌∙◌, ◌<◌, ◌++◌, ◌∷◌, [], ◌⊎◌, ℕ, List, Bool, true, false, Some, refl, ap, length, map, arith, suc, inl, inr}
-use Rattle.std.specs.Prelude.{ℤ, pos, negsuc, neg_ℤ, FitsSigned, IsTrue, ◌==◌, ◌&&◌, nat_le, not}
+use Rattle.std.proofs.Common.{◌≡◌, ◌∙◌, ◌<◌, ◌++◌, ◌∷◌, [], ◌⊎◌, ℕ, List, Bool, true, false, Option, Some, None, refl, sym, ap, length, map, arith, suc, inl, inr}
+use Rattle.std.specs.Prelude.{ℤ, pos, negsuc, neg_ℤ, FitsSigned, IsTrue, MatchOption, ◌==◌, ◌&&◌, nat_le, not}
 use Rattle.std.specs.Char.{digit_value}
 use Rattle.std.specs.Fmt.{decimal, signed_decimal}
 use Rattle.std.specs.Int.{w64}
@@ -68,6 +68,15 @@ integer-spelled field z is = by (is_numeral (digits_of field) && has_64_bits (nu
         let some : Some (number_of field) ≡ Some z = rw says at is in
         let whole : number_of field ≡ z = cc in
         rw (← whole) (fits_64_bits (number_of field) fits, (digits_of field, numeral-is (digits_of field) numeral, sign field))
+
+-- The integer that is spelled, or none where none is, is that of the field.
+pub integer-is : (field : List ℕ) (o : Option ℤ) → MatchOption o ((z : ℤ) → IsInteger field z → ⊥) (λ z. IsInteger field z) → o ≡ integer_of field
+integer-is field (Some z) spells = sym (spelled-integer field z spells)
+integer-is field None never = by (integer_of field) refl
+  where
+    by : (o : Option ℤ) → integer_of field ≡ o → None ≡ integer_of field
+    by None is = sym is
+    by (Some z) is = absurd (never z (integer-spelled field z is))
 
 pub fields-spell : FieldsSpellIntegers
 fields-spell = λ field z. (integer-spelled field z, spelled-integer field z)

@@ -25,7 +25,7 @@ any-of-five false false false false = refl
 calls-same : (w : Bool) (b : ℕ) → Csv.needs_byte (set w) b ≡ calls_for_quotes b
 calls-same w b = any-of-five (b == 44) (b == 34) (b == 13) (b == 10)
 
-needs-same : (w : Bool) (field : List ℕ) → Csv.needs_quotes (set w) field ≡ needs_quotes field
+pub needs-same : (w : Bool) (field : List ℕ) → Csv.needs_quotes (set w) field ≡ needs_quotes field
 needs-same w [] = refl
 needs-same w (b ∷ field) = rw (calls-same w b, needs-same w field) refl
 

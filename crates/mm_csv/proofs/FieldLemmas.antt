@@ -40,43 +40,6 @@ SaysInteger field = IsNumeral 10 (digits_of field) × FitsSigned w64 (number_of 
 pub integer-there : (field : List ℕ) → SaysInteger field → integer_of field ≡ Some (number_of field)
 integer-there field (numeral, fits) = rw (is-numeral (digits_of field) numeral, fits-has (number_of field) fits) refl
 
-pub integer-absent : (field : List ℕ) → ¬ (SaysInteger field) → integer_of field ≡ None
-integer-absent field never = by (is_numeral (digits_of field) && has_64_bits (number_of field)) refl
-  where
-    by : (b : Bool) → (is_numeral (digits_of field) && has_64_bits (number_of field)) ≡ b → integer_of field ≡ None
-    by true is =
-        let (numeral, fits) = and_parts (is_numeral (digits_of field)) (has_64_bits (number_of field)) is in
-        absurd (never (numeral-is (digits_of field) numeral, fits_64_bits (number_of field) fits))
-    by false is = rw is refl
-
--- What the library parses is the integer, where no plus stands in front.
-pub integer-parsed : {E : Type 0} (field : List ℕ) (r : Result ℤ E) → (slice_index field 0 == 43) ≡ false → ParsesSigned w64 10 field r
-    → result_ok r ≡ integer_of field
-integer-parsed field (Ok z) plain (says, e) =
-    let there = integer-there field (rw plain at says) in rw (there, e, plain) refl
-integer-parsed field (Err e) plain never = sym (integer-absent field (rw plain at never))
-
--- a field that begins with no plus
-pub plus-not : (field : List ℕ) → starts_with nat_eq field (43 ∷ []) ≡ false → (slice_index field 0 == 43) ≡ false
-plus-not [] starts = refl
-plus-not (c ∷ cs) starts = ne_eqb c 43 (λ e. let clash : true ≡ false = rw e at starts in cc clash)
-
-ascii-behind : (c : ℕ) (cs : List ℕ) (i : ℕ) → c < 128 → IsAscii cs → slice_index (c ∷ cs) i < 128
-ascii-behind c cs zero small ascii = small
-ascii-behind c cs (suc i) small ascii = ascii i
-
--- a number is UTF-8
-pub integer-utf8 : (field : List ℕ) → SaysInteger field → IsUtf8 field
-integer-utf8 [] ((some, all), fits) = IsUtf8-nil
-integer-utf8 (c ∷ cs) says = by (c == 45) refl says.0.1
-  where
-    by : (b : Bool) → (c == 45) ≡ b → AllDigits 10 (digits_of (c ∷ cs)) → IsUtf8 (c ∷ cs)
-    by true minus all = IsUtf8-from_ascii (c ∷ cs) (λ i. ascii-behind c cs i (omega (arith, eqb-true c 45 minus)) (IsAscii-from_digits cs (rw minus at all)))
-    by false plain all = IsUtf8-from_ascii (c ∷ cs) (IsAscii-from_digits (c ∷ cs) (rw plain at all))
-
-pub integer-wild : (field : List ℕ) → ¬ (IsUtf8 field) → integer_of field ≡ None
-integer-wild field wild = integer-absent field (λ says. wild (integer-utf8 field says))
-
 -- ---- texts
 
 pub text-there : (field : List ℕ) → length field ≤ 1024 → IsUtf8 field → text_of field ≡ Some (value.Text field)

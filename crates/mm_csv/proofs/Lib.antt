@@ -4,6 +4,7 @@ pub mod CsvLemmas
 pub mod EndingLemmas
 pub mod EndsLemmas
 pub mod FieldLemmas
+pub mod FrontLemmas
 pub mod OutputLemmas
 pub mod PlainFields
 pub mod ReaderLemmas

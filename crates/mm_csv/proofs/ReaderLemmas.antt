@@ -65,7 +65,7 @@ room-least s xs = by (ends_at_end s)
     by false = omega arith
 
 -- a record that was read ends between two records, and less is left
-taken : (s : State) (fields : List (List ℕ)) (field xs : List ℕ) (p : Read) → next_record default_config s fields field xs ≡ Some p
+pub taken : (s : State) (fields : List (List ℕ)) (field xs : List ℕ) (p : Read) → next_record default_config s fields field xs ≡ Some p
     → (ends_at_end p.1 ≡ false) × (length p.2 < room s xs)
 unfolding next_record
 taken s fields field [] p is = by (ends_at_end s) is
@@ -119,7 +119,7 @@ one-record s xs p between is =
     let turn : length xs + 1 ≡ suc (length xs) = omega arith in
     rw (turn, is, enough (length xs) (length p.2 + 1) p.1 p.2 next fewer (omega arith)) refl
 
-no-record : (s : State) (xs : List ℕ) → next_record default_config s [] [] xs ≡ None → records_behind s xs ≡ []
+pub no-record : (s : State) (xs : List ℕ) → next_record default_config s [] [] xs ≡ None → records_behind s xs ≡ []
 unfolding records_from
 no-record s xs is = let turn : length xs + 1 ≡ suc (length xs) = omega arith in rw (turn, is) refl
 

@@ -17,7 +17,7 @@ use Rattle.mm_csv.specs.declared.field.Field.{Field}
 
 -- ---- values that are there, one more at a time
 
-all-push : {X : Type 0} (xs : List (Option X)) (done : List X) (x : X) → all_of xs ≡ Some done → all_of (xs ++ Some x ∷ []) ≡ Some (done ++ x ∷ [])
+pub all-push : {X : Type 0} (xs : List (Option X)) (done : List X) (x : X) → all_of xs ≡ Some done → all_of (xs ++ Some x ∷ []) ≡ Some (done ++ x ∷ [])
 all-push [] done x so_far = let none : done ≡ [] = cc in rw none refl
 all-push (None ∷ xs) done x so_far = cc so_far
 all-push {X = X} (Some y ∷ xs) done x so_far = by (all_of xs) refl (λ others. all-push xs others x)

@@ -5,8 +5,9 @@ ghost use Rattle.plain_tables.specs.Csv as csv_text;
 
 use crate::ends::ends_of;
 
-// Whether a byte calls for quotes around its field.
-fn is_special(byte: u8) -> bool
+/// Whether a byte calls for quotes around its field.
+#[inline]
+pub fn is_special(byte: u8) -> bool
     ensures { result ≡ csv_text.calls_for_quotes byte }
 {
     (byte == b',') | (byte == b'"') | (byte == b'\r') | (byte == b'\n')

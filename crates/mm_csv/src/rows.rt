@@ -1,11 +1,13 @@
 //! A whole block, read into rows.
 
-ghost use Rattle.std.specs.Prelude.{◌≡◌, true, false, Some, IfErr, IfOk};
+ghost use Rattle.std.specs.Prelude.{◌≡◌, ◌++◌, true, false, List, Some, IfErr, IfOk};
 ghost use Rattle.csv.specs.Reading.{default_config, records};
 ghost use Rattle.csv.specs.Records.{fields_of};
 ghost use Rattle.plain_tables.specs.CsvReading as reading;
 ghost use Rattle.mm_csv.specs.BlockReading.{IsReading, ReadsRecord, Tells, block_reading, columns_of, records_left};
+ghost use Rattle.mm_csv.specs.FrontRecords.{AreRowsOf, BeginsWithHeader};
 
+use crate::front::{behind_header, front_rows};
 use crate::values::{is_header, row_of};
 use crate::{CsvRefusal, Field};
 use csv::{ByteRecord, Reader, ReaderBuilder};
@@ -46,18 +48,18 @@ fn next_record(reader: &mut Reader<&[u8]>, fields: &mut ByteRecord) -> Result<bo
     }
 }
 
-// The rows of the records that are left to read. What `fields` holds is not used.
+// The rows of the records that are left to read, behind rows that were read. What `fields` holds is not used.
 fn rows_left(
     alloc: Global,
     layout: &[Field],
     reader: &mut Reader<&[u8]>,
     fields: &mut ByteRecord,
+    mut rows: Vec<Sequence<Value>>,
 ) -> Result<Vec<Sequence<Value>>, CsvRefusal>
     requires { IsReading reader.old }
-    ensures rows { IfOk result (λ rows. reading.rows_reading (columns_of layout.now) (records_left reader.old) ≡ reading.Rows rows.items) }
-    ensures refused { IfErr result (λ e. Tells e (reading.rows_reading (columns_of layout.now) (records_left reader.old))) }
+    ensures rows { IfOk result (λ all. (before : List reading.Record) → AreRowsOf (columns_of layout.now) before rows.items → reading.rows_reading (columns_of layout.now) (before ++ records_left reader.old) ≡ reading.Rows all.items) }
+    ensures refused { IfErr result (λ e. (before : List reading.Record) → AreRowsOf (columns_of layout.now) before rows.items → Tells e (reading.rows_reading (columns_of layout.now) (before ++ records_left reader.old))) }
 {
-    let mut rows = Vec::new(alloc);
     while next_record(reader, fields)? {
         match row_of(alloc, layout, fields)? {
             Some(row) => rows.push(row)?,
@@ -67,7 +69,50 @@ fn rows_left(
     Ok(rows)
 }
 
-/// The rows of a block under a layout: behind the header, one for each record.
+// The rows of a text that begins with no mark: behind the header, one for each record.
+fn read_rows(
+    alloc: Global,
+    layout: &[Field],
+    text: &[u8],
+) -> Result<Vec<Sequence<Value>>, CsvRefusal>
+    requires { reading.begins_with_mark text.now ≡ false }
+    ensures rows { IfOk result (λ rows. reading.records_reading (columns_of layout.now) (records default_config text.now) ≡ reading.Rows rows.items) }
+    ensures refused { IfErr result (λ e. Tells e (reading.records_reading (columns_of layout.now) (records default_config text.now))) }
+{
+    let mut reader = reader_of(alloc, text);
+    let mut fields = ByteRecord::new(alloc);
+    if !next_record(&mut reader, &mut fields)? || !is_header(layout, &fields) {
+        return Err(CsvRefusal::Header);
+    }
+    rows_left(alloc, layout, &mut reader, &mut fields, Vec::new(alloc))
+}
+
+// The rows of a text that begins with no mark and no quotes, from what is left of it behind its header.
+fn rows_behind(
+    alloc: Global,
+    layout: &[Field],
+    text: &[u8],
+    left: &[u8],
+) -> Result<Vec<Sequence<Value>>, CsvRefusal>
+    requires plain { reading.begins_with_mark text.now ≡ false }
+    requires header { BeginsWithHeader (columns_of layout.now) text.now left.now }
+    ensures rows { IfOk result (λ rows. reading.records_reading (columns_of layout.now) (records default_config text.now) ≡ reading.Rows rows.items) }
+    ensures refused { IfErr result (λ e. Tells e (reading.records_reading (columns_of layout.now) (records default_config text.now))) }
+{
+    let front = front_rows(alloc, layout, left)?;
+    if front.left.is_empty() {
+        return Ok(front.rows);
+    }
+    if front.left.starts_with(&MARK) {
+        return read_rows(alloc, layout, text);
+    }
+    let mut reader = reader_of(alloc, front.left);
+    let mut fields = ByteRecord::new(alloc);
+    rows_left(alloc, layout, &mut reader, &mut fields, front.rows)
+}
+
+/// The rows of a block under a layout: behind the header, one for each record. The first of them are read where they lie, up to
+/// one that is quoted or no row, and those from there on by the library.
 pub fn rows_of(
     alloc: Global,
     layout: &[Field],
@@ -80,10 +125,8 @@ pub fn rows_of(
     if text.starts_with(&MARK) {
         return Err(CsvRefusal::Header);
     }
-    let mut reader = reader_of(alloc, text);
-    let mut fields = ByteRecord::new(alloc);
-    if !next_record(&mut reader, &mut fields)? || !is_header(layout, &fields) {
-        return Err(CsvRefusal::Header);
+    match behind_header(layout, text) {
+        Some(left) => rows_behind(alloc, layout, text, left),
+        None => read_rows(alloc, layout, text),
     }
-    rows_left(alloc, layout, &mut reader, &mut fields)
 }

@@ -7,22 +7,10 @@ ghost use Rattle.plain_tables.specs.declared.value.Value.TheVariants as value;
 ghost use Rattle.mm_csv.specs.BlockReading.{column_of, columns_of};
 
 use crate::Field;
+use crate::numbers::integer_of;
 use csv::ByteRecord;
 use plain_tables::{BaseKind, LONGEST_TEXT, NoMemory, Sequence, Text, Value};
 use std::alloc::Global;
-
-// The integer that a field spells, if it spells one of 64 bits.
-fn integer_of(field: &[u8]) -> Option<i64>
-    ensures { result ≡ reading.integer_of field.now }
-{
-    if field.starts_with(b"+") {
-        return None;
-    }
-    match str::from_utf8(field) {
-        Ok(digits) => digits.parse::<i64>().ok(),
-        Err(_) => None,
-    }
-}
 
 // The text that a field is, if it is one that a column may hold.
 fn text_of(alloc: Global, field: &[u8]) -> Result<Option<Text>, NoMemory>
@@ -37,8 +25,8 @@ fn text_of(alloc: Global, field: &[u8]) -> Result<Option<Text>, NoMemory>
     }
 }
 
-// What a field is in a column, if it may stand there.
-fn value_of(alloc: Global, column: &Field, field: &[u8]) -> Result<Option<Value>, NoMemory>
+/// What a field is in a column, if it may stand there.
+pub fn value_of(alloc: Global, column: &Field, field: &[u8]) -> Result<Option<Value>, NoMemory>
     ensures { IfOk result (λ value. value ≡ reading.field_value (column_of column.now) field.now) }
 {
     if column.null && field.is_empty() {

@@ -1,5 +1,4 @@
 pub mod Complete
-pub mod Digits
 pub mod Filled
 pub mod Fronts
 pub mod Joining

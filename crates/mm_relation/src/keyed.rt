@@ -16,8 +16,8 @@ use crate::tree::Tree;
 use mm_index::OrderProbe;
 use part_raw::TupleRef;
 
-// Takes the row of these cells in unless its key is there, by one search. There is room for it. The cells are gone either
-// way, and the vector keeps its memory.
+// Takes the row of these cells in unless its key is there, by one search, or by none where the keys of rows before it
+// stood behind all others and its own does. There is room for it. The cells are gone either way, and the vector keeps its memory.
 pub fn put_row(rows: &mut Rows, by_key: &mut Tree, row: &mut Vec<StoredCell>) -> Option<TupleRef>
     requires free { 0 < rows.old.free }
     requires width { length row.old.items ≡ rows.old.width }
@@ -44,7 +44,7 @@ pub fn put_row(rows: &mut Rows, by_key: &mut Tree, row: &mut Vec<StoredCell>) ->
         sought: &sought,
         asked: 0,
     };
-    if by_key.insert_unless_found(&mut probe, r).is_some() {
+    if by_key.insert_from_end(&mut probe, r).is_some() {
         rows.remove(r);
         return None;
     }

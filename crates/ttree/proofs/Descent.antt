@@ -28,7 +28,7 @@ module _ {I : Type 0} where
   no_left_list (node empty x r) h = refl
   no_left_list (node (node a y b) x r) h = cc
 
-  no_right_list : (t : Tree (Label I)) → has_right t ≡ false → list (right_of t) ≡ []
+  pub no_right_list : (t : Tree (Label I)) → has_right t ≡ false → list (right_of t) ≡ []
   no_right_list empty h = refl
   no_right_list (node l x empty) h = refl
   no_right_list (node l x (node a y b)) h = cc

@@ -12,6 +12,7 @@ pub mod FullTurns
 pub mod Fullness
 pub mod HeightBound
 pub mod Heights
+pub mod LastNode
 pub mod Leaning
 pub mod Losing
 pub mod Narrowing

@@ -60,6 +60,46 @@ pub(crate) fn insert_unless_found<P: Probe, const MIN: usize, const MAX: usize>(
     }
 }
 
+// Puts `r` at the end of the tree where the last item stands below the probe's range, and so all do. It asks about that item
+// alone. Where the tree is empty it asks about none, and puts nothing in.
+pub(crate) fn insert_last<P: Probe, const MIN: usize, const MAX: usize>(
+    nodes: &mut LinkedNodes<MAX>,
+    probe: &mut P,
+    r: TupleRef,
+) -> bool
+    requires some { 1 ≤ MIN }
+    requires ordered { MIN ≤ MAX }
+    requires two { 2 ≤ MAX }
+    requires fit { IsTTree MIN MAX (tree_of nodes.old) }
+    requires short { length (list (tree_of nodes.old)) < 2 ^ 32 }
+    requires spare { 0 < spares_of nodes.old }
+    requires sound { P.is_sound probe.old }
+    requires placed { All (P.can_place probe.old) (list (tree_of nodes.old)) }
+    requires in_order { NeverFalls (P.place probe.old) (list (tree_of nodes.old)) }
+    ensures fit { IsTTree MIN MAX (tree_of nodes.new) }
+    ensures parents { 2 ≤ MIN → ParentsAreFull MAX (tree_of nodes.old) → ParentsAreFull MAX (tree_of nodes.new) }
+    ensures kept { result ≡ false → shown nodes.new ≡ shown nodes.old }
+    ensures none { result ≡ true → All (λ q. P.place probe.old q ≢ Ordering.Equal) (list (tree_of nodes.old)) }
+    ensures list { result ≡ true → list (tree_of nodes.new) ≡ insert_placed (P.place probe.old) r (list (tree_of nodes.old)) }
+    ensures one { result ≡ true → length (list (tree_of nodes.new)) ≡ length (list (tree_of nodes.old)) + 1 }
+    ensures nodes { nodes_of (shown nodes.new) ≡ nodes_of (shown nodes.old) }
+    ensures spares { spares_of nodes.old ≤ spares_of nodes.new + 1 }
+    ensures probe { IsAskedAtMost 1 P.is_sound P.can_place P.place P.asked probe.old probe.new }
+{
+    let mut editor = nodes.edit();
+    if !editor.has_node() {
+        return false;
+    }
+    to_rightmost(&mut editor);
+    let count = editor.items().len();
+    let last = editor.items()[count - 1];
+    if !probe.place(last).is_lt() {
+        return false;
+    }
+    put_at::<MIN, MAX>(&mut editor, count, r);
+    true
+}
+
 // Puts `r` before item `index` of the node, or at the end, where the search for it ended.
 fn put_at<const MIN: usize, const MAX: usize>(
     editor: &mut Editor<'_, MAX>,

@@ -1,6 +1,6 @@
 //! The T-tree as its callers see it: a list of references that rises, and the inserts that are sure of their memory.
 //! Each call hands on to the search or to an editor of the nodes, and keeps the two counts.
-ghost use Rattle.std.specs.Prelude.{[], ◌≡◌, ◌≢◌, ◌++◌, ◌+◌, ◌*◌, ◌^◌, ◌<◌, ◌≤◌, max, length, IfSome, IfNone, IfOk, IfErr, OnOk, OnErr, All, Contains};
+ghost use Rattle.std.specs.Prelude.{[], true, false, ◌≡◌, ◌≢◌, ◌++◌, ◌+◌, ◌*◌, ◌^◌, ◌<◌, ◌≤◌, max, length, IfSome, IfNone, IfOk, IfErr, OnOk, OnErr, All, Contains};
 ghost use Rattle.std.specs.declared.cmp.Ordering.{Ordering};
 ghost use Rattle.mm_index.specs.Asking.{IsOnlyAsked, counted};
 ghost use Rattle.mm_index.specs.Order.{IsRising, insert_by, insert_placed, remove_by};
@@ -8,7 +8,7 @@ ghost use Rattle.mm_index.specs.Range.{NeverFalls, in_range, from_range};
 
 use crate::asking::Seek;
 use crate::build::build;
-use crate::insert::insert_unless_found;
+use crate::insert::{insert_last, insert_unless_found};
 use crate::removal::remove;
 use crate::search::locate;
 use mm_index::{OrderProbe, Probe, TupleOrder};
@@ -18,6 +18,9 @@ use std::alloc::Global;
 use std::marker::Model;
 use ttree_node::{LinkedTree, Look, Walk};
 
+// So many inserts are made by a search once one was tried at the end in vain.
+const SEARCHES: u8 = 15;
+
 /// References in order, in nodes of at most `MAX`. A node with two children holds at least `MIN`.
 #[derive(Drop)]
 pub struct TTree<const MIN: usize, const MAX: usize> {
@@ -26,6 +29,8 @@ pub struct TTree<const MIN: usize, const MAX: usize> {
     pub(crate) len: usize,
     // How many nodes it has, the spare ones too.
     pub(crate) nodes: usize,
+    // How many inserts are made by a search before the next one is tried at the end.
+    searches: u8,
 }
 
 impl<const MIN: usize, const MAX: usize> Model for TTree<MIN, MAX> {
@@ -64,6 +69,7 @@ impl<const MIN: usize, const MAX: usize> TTree<MIN, MAX> {
             tree: LinkedTree::new(alloc),
             len: 0,
             nodes: 0,
+            searches: 0,
         }
     }
 
@@ -87,6 +93,7 @@ impl<const MIN: usize, const MAX: usize> TTree<MIN, MAX> {
             tree,
             len: refs.len(),
             nodes,
+            searches: 0,
         })
     }
 
@@ -304,6 +311,67 @@ impl<const MIN: usize, const MAX: usize> TTree<MIN, MAX> {
             self.len += 1;
         }
         found
+    }
+
+    // Puts `r` behind all references and gives true, where the probe's range is seen to stand behind them, or changes nothing. It
+    // asks about the last reference alone. Where that was in vain, it asks none in so many calls behind.
+    fn insert_last<P: Probe>(&mut self, probe: &mut P, r: TupleRef) -> bool
+        requires reserved { 0 < room_of MIN self.old }
+        requires short { length (items_of_tree self.old) < 2 ^ 32 }
+        requires sound { P.is_sound probe.old }
+        requires placed { All (P.can_place probe.old) (items_of_tree self.old) }
+        requires in_order { NeverFalls (P.place probe.old) (items_of_tree self.old) }
+        ensures kept { result ≡ false → self.new ≡ self.old }
+        ensures none { result ≡ true → All (λ q. P.place probe.old q ≢ Ordering.Equal) (items_of_tree self.old) }
+        ensures inserted { result ≡ true → items_of_tree self.new ≡ insert_placed (P.place probe.old) r (items_of_tree self.old) }
+        ensures one { result ≡ true → length (items_of_tree self.new) ≡ length (items_of_tree self.old) + 1 }
+        ensures nodes { nodes_of self.new ≡ nodes_of self.old }
+        ensures spares { self.old.spares ≤ self.new.spares + 1 }
+        ensures room { room_of MIN self.old ≤ room_of MIN self.new + 1 }
+        ensures full { 2 ≤ MIN → ParentsAreFull MAX self.old.tree → ParentsAreFull MAX self.new.tree }
+        ensures probe { IsAskedAtMost 1 P.is_sound P.can_place P.place P.asked probe.old probe.new }
+    {
+        if self.searches > 0 {
+            self.searches -= 1;
+            return false;
+        }
+        let is_last = insert_last::<P, MIN, MAX>(self.tree.nodes_mut(), probe, r);
+        if is_last {
+            self.len += 1;
+        } else {
+            self.searches = SEARCHES;
+        }
+        is_last
+    }
+
+    /// Puts `r` where the probe's range would stand and gives None, or gives a reference that stands in the range and
+    /// changes nothing. Where what was put in before stood last, it asks whether `r` does, and searches only where it does
+    /// not. It takes no memory.
+    pub fn insert_from_end<P: Probe>(&mut self, probe: &mut P, r: TupleRef) -> Option<TupleRef>
+        requires reserved { 0 < room_of MIN self.old }
+        requires short { length (items_of_tree self.old) < 2 ^ 32 }
+        requires sound { P.is_sound probe.old }
+        requires placed { All (P.can_place probe.old) (items_of_tree self.old) }
+        requires in_order { NeverFalls (P.place probe.old) (items_of_tree self.old) }
+        ensures held { IfSome result (Contains (items_of_tree self.old)) }
+        ensures found { IfSome result (λ q. P.place probe.old q ≡ Ordering.Equal) }
+        ensures kept { IfSome result (λ _. self.new ≡ self.old) }
+        ensures none { IfNone result (All (λ q. P.place probe.old q ≢ Ordering.Equal) (items_of_tree self.old)) }
+        ensures inserted { IfNone result (items_of_tree self.new ≡ insert_placed (P.place probe.old) r (items_of_tree self.old)) }
+        ensures one { IfNone result (length (items_of_tree self.new) ≡ length (items_of_tree self.old) + 1) }
+        // A node that this adds was a spare one, and it adds one at most.
+        ensures nodes { nodes_of self.new ≡ nodes_of self.old }
+        ensures spares { self.old.spares ≤ self.new.spares + 1 }
+        ensures room { room_of MIN self.old ≤ room_of MIN self.new + 1 }
+        // Where each node that has a child is full, it stays so.
+        ensures full { 2 ≤ MIN → ParentsAreFull MAX self.old.tree → ParentsAreFull MAX self.new.tree }
+        ensures probe { IsOnlyAsked P.is_sound P.can_place P.place P.asked probe.old probe.new }
+        ensures most_asked { P.asked probe.new ≤ P.asked probe.old + (1 + height self.old.tree + binary_digits MAX) }
+    {
+        if self.insert_last(probe, r) {
+            return None;
+        }
+        self.insert_unless_found(probe, r)
     }
 
     /// Takes the reference that the probe seeks out. Each node that this frees is kept as a spare one. It searches once, and

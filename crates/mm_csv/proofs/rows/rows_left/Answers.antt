@@ -1,4 +1,4 @@
-use Rattle.std.proofs.Common.{◌≡◌, ◌∙◌, ◌++◌, ◌∷◌, [], sym, append_assoc, length, rules}
+use Rattle.std.proofs.Common.{◌≡◌, ◌∙◌, ◌++◌, ◌∷◌, [], sym, ap, append_assoc, length, rules}
 use Rattle.csv.specs.Records.{fields_of}
 use Rattle.mm_csv.specs.BlockReading.{columns_of}
 use Rattle.mm_csv.proofs.ReadingLemmas.{rows-bad, rows-more}
@@ -12,15 +12,17 @@ loop-rows-preserved c =
       c.in_ok-next_record.ensures.reading c.if-branch.true,
       done ++ fields ∷ [],
       left ∙ rw next (sym (append_assoc done (fields ∷ []) _)),
-      rw c.in_ok-push-in-Some.ensures.items
-          (rows-more (columns_of c.args.layout.now) done fields c.loop-rows.rows.items c.in-Some.row so_far (sym c.in_ok-row.ensures ∙ c.in-Some.is)),
+      λ before are.
+          rw (c.in_ok-push-in-Some.ensures.items, ← append_assoc before done (fields ∷ []))
+          (rows-more (columns_of c.args.layout.now) (before ++ done) fields c.loop-rows.rows.items c.in-Some.row (so_far before are) (sym c.in_ok-row.ensures ∙ c.in-Some.is)),
     )
 
 pub returns-in-None-clause-refused : goal.returns-in-None-clause-refused
-returns-in-None-clause-refused c =
+returns-in-None-clause-refused c = λ before are.
     let (at, done, left, so_far) = c.loop-rows.invariant in
     let next = rw c.if-branch.true at c.in_ok-next_record.ensures.reads in
     let fields = fields_of c.next_record.new.fields in
     let count : c.len.result ≡ length c.loop-rows.rows.items = search rules in
     rw count
-    (rows-bad (columns_of c.args.layout.now) _ done fields _ c.loop-rows.rows.items (rw next at left) so_far (sym c.in_ok-row.ensures ∙ c.in-None.is))
+    (rows-bad (columns_of c.args.layout.now) _ (before ++ done) fields _ c.loop-rows.rows.items
+    (ap (λ records. before ++ records) (rw next at left) ∙ sym (append_assoc before done _)) (so_far before are) (sym c.in_ok-row.ensures ∙ c.in-None.is))

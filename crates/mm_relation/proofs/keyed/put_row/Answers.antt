@@ -10,8 +10,8 @@ use Rattle.mm_relation.proofs.keyed.put_row.Goals as goal
 pub key-requires : goal.key-requires
 key-requires c = ap is_some (ap (λ m. get m c.put-r.result) c.put-r.ensures.tuples ∙ get-insert_same c.args.rows.now.tuples c.put-r.result (row_of c.args.row.now.items 0))
 
-pub insert_unless_found-requires : goal.insert_unless_found-requires
-insert_unless_found-requires c = (
+pub insert_from_end-requires : goal.insert_from_end-requires
+insert_from_end-requires c = (
   omega arith,
   (
     c.requires.key_room,
@@ -30,13 +30,13 @@ insert_unless_found-requires c = (
 
 pub returns-then-is_some-clause-keyed : goal.returns-then-is_some-clause-keyed
 returns-then-is_some-clause-keyed c =
-    rw (c.remove.ensures.rows, c.put-r.ensures.tuples, taken_again c.args.rows.now.tuples c.put-r.result (row_of c.args.row.now.items 0) c.put-r.ensures.fresh, from_some c.insert_unless_found.result (sym c.if-is_some.ensures) c.insert_unless_found.ensures.kept)
+    rw (c.remove.ensures.rows, c.put-r.ensures.tuples, taken_again c.args.rows.now.tuples c.put-r.result (row_of c.args.row.now.items 0) c.put-r.ensures.fresh, from_some c.insert_from_end.result (sym c.if-is_some.ensures) c.insert_from_end.ensures.kept)
     c.requires.keyed
 
 pub returns-then-is_some-clause-has_key : goal.returns-then-is_some-clause-has_key
 returns-then-is_some-clause-has_key c =
-    key_found c.args.rows.now.tuples (items_of_tree c.args.by_key.now) c.put-r.result (row_of c.args.row.now.items 0) c.requires.keyed c.put-r.ensures.fresh c.insert_unless_found.result (sym c.if-is_some.ensures) c.insert_unless_found.ensures.held
-    (rw (got_key c.args.rows.now.tuples c.put-r.new.self.tuples c.put-r.result (row_of c.args.row.now.items 0) c.sought-sought.result c.put-r.ensures.tuples (c.key.ensures ∙ ap Some (sym c.sought-sought.ensures)), c.put-r.ensures.tuples) at c.insert_unless_found.ensures.found)
+    key_found c.args.rows.now.tuples (items_of_tree c.args.by_key.now) c.put-r.result (row_of c.args.row.now.items 0) c.requires.keyed c.put-r.ensures.fresh c.insert_from_end.result (sym c.if-is_some.ensures) c.insert_from_end.ensures.held
+    (rw (got_key c.args.rows.now.tuples c.put-r.new.self.tuples c.put-r.result (row_of c.args.row.now.items 0) c.sought-sought.result c.put-r.ensures.tuples (c.key.ensures ∙ ap Some (sym c.sought-sought.ensures)), c.put-r.ensures.tuples) at c.insert_from_end.ensures.found)
 
 pub returns-then-is_some-clause-kept : goal.returns-then-is_some-clause-kept
 returns-then-is_some-clause-kept c =
@@ -46,18 +46,18 @@ pub returns-clause-keyed : goal.returns-clause-keyed
 returns-clause-keyed c =
     rw c.put-r.ensures.tuples
     (keyed_with c.args.rows.now.tuples (items_of_tree c.args.by_key.now) c.put-r.result (row_of c.args.row.now.items 0) c.requires.keyed c.put-r.ensures.fresh
-    (at_none c.insert_unless_found.result _ (sym c.if-is_some.ensures) (rw (got_key c.args.rows.now.tuples c.put-r.new.self.tuples c.put-r.result (row_of c.args.row.now.items 0) c.sought-sought.result c.put-r.ensures.tuples (c.key.ensures ∙ ap Some (sym c.sought-sought.ensures)), c.put-r.ensures.tuples) at c.insert_unless_found.ensures.none))
-    (items_of_tree c.insert_unless_found.new.self)
-    (at_none c.insert_unless_found.result _ (sym c.if-is_some.ensures) (rw (got_key c.args.rows.now.tuples c.put-r.new.self.tuples c.put-r.result (row_of c.args.row.now.items 0) c.sought-sought.result c.put-r.ensures.tuples (c.key.ensures ∙ ap Some (sym c.sought-sought.ensures)), c.put-r.ensures.tuples) at c.insert_unless_found.ensures.inserted)))
+    (at_none c.insert_from_end.result _ (sym c.if-is_some.ensures) (rw (got_key c.args.rows.now.tuples c.put-r.new.self.tuples c.put-r.result (row_of c.args.row.now.items 0) c.sought-sought.result c.put-r.ensures.tuples (c.key.ensures ∙ ap Some (sym c.sought-sought.ensures)), c.put-r.ensures.tuples) at c.insert_from_end.ensures.none))
+    (items_of_tree c.insert_from_end.new.self)
+    (at_none c.insert_from_end.result _ (sym c.if-is_some.ensures) (rw (got_key c.args.rows.now.tuples c.put-r.new.self.tuples c.put-r.result (row_of c.args.row.now.items 0) c.sought-sought.result c.put-r.ensures.tuples (c.key.ensures ∙ ap Some (sym c.sought-sought.ensures)), c.put-r.ensures.tuples) at c.insert_from_end.ensures.inserted)))
 
 pub returns-clause-listed : goal.returns-clause-listed
 returns-clause-listed c =
     bag_with c.args.rows.now.tuples (items_of_tree c.args.by_key.now) c.put-r.result (row_of c.args.row.now.items 0) c.requires.keyed c.put-r.ensures.fresh
-    (at_none c.insert_unless_found.result _ (sym c.if-is_some.ensures) (rw (got_key c.args.rows.now.tuples c.put-r.new.self.tuples c.put-r.result (row_of c.args.row.now.items 0) c.sought-sought.result c.put-r.ensures.tuples (c.key.ensures ∙ ap Some (sym c.sought-sought.ensures)), c.put-r.ensures.tuples) at c.insert_unless_found.ensures.none))
-    (items_of_tree c.insert_unless_found.new.self)
-    (at_none c.insert_unless_found.result _ (sym c.if-is_some.ensures) (rw (got_key c.args.rows.now.tuples c.put-r.new.self.tuples c.put-r.result (row_of c.args.row.now.items 0) c.sought-sought.result c.put-r.ensures.tuples (c.key.ensures ∙ ap Some (sym c.sought-sought.ensures)), c.put-r.ensures.tuples) at c.insert_unless_found.ensures.inserted))
+    (at_none c.insert_from_end.result _ (sym c.if-is_some.ensures) (rw (got_key c.args.rows.now.tuples c.put-r.new.self.tuples c.put-r.result (row_of c.args.row.now.items 0) c.sought-sought.result c.put-r.ensures.tuples (c.key.ensures ∙ ap Some (sym c.sought-sought.ensures)), c.put-r.ensures.tuples) at c.insert_from_end.ensures.none))
+    (items_of_tree c.insert_from_end.new.self)
+    (at_none c.insert_from_end.result _ (sym c.if-is_some.ensures) (rw (got_key c.args.rows.now.tuples c.put-r.new.self.tuples c.put-r.result (row_of c.args.row.now.items 0) c.sought-sought.result c.put-r.ensures.tuples (c.key.ensures ∙ ap Some (sym c.sought-sought.ensures)), c.put-r.ensures.tuples) at c.insert_from_end.ensures.inserted))
 
 pub returns-clause-no_key : goal.returns-clause-no_key
 returns-clause-no_key c =
     no_key c.args.rows.now.tuples (items_of_tree c.args.by_key.now) c.put-r.result (row_of c.args.row.now.items 0) c.requires.keyed c.put-r.ensures.fresh
-    (at_none c.insert_unless_found.result _ (sym c.if-is_some.ensures) (rw (got_key c.args.rows.now.tuples c.put-r.new.self.tuples c.put-r.result (row_of c.args.row.now.items 0) c.sought-sought.result c.put-r.ensures.tuples (c.key.ensures ∙ ap Some (sym c.sought-sought.ensures)), c.put-r.ensures.tuples) at c.insert_unless_found.ensures.none))
+    (at_none c.insert_from_end.result _ (sym c.if-is_some.ensures) (rw (got_key c.args.rows.now.tuples c.put-r.new.self.tuples c.put-r.result (row_of c.args.row.now.items 0) c.sought-sought.result c.put-r.ensures.tuples (c.key.ensures ∙ ap Some (sym c.sought-sought.ensures)), c.put-r.ensures.tuples) at c.insert_from_end.ensures.none))
