@@ -1,5 +1,5 @@
 -- Lists of values compared value by value.
-use Rattle.std.proofs.Common.{true, false, ◌≡◌, ℕ, ◌+◌, zero, suc, List, [], ◌∷◌, ◌++◌, Some, length, get_or, drop, min, take, ◌*◌, ◌%◌, ap, ◌∙◌, sym, refl, arith}
+use Rattle.std.proofs.Common.{true, false, ◌≡◌, ℕ, ◌+◌, zero, suc, List, [], ◌∷◌, ◌++◌, Some, length, get_or, drop, min, take, ap, ◌∙◌, sym, refl, arith}
 use Rattle.std.specs.Prelude.{slice_get}
 use Rattle.std.specs.Ordering.{ordering_then, nat_cmp, is_ne}
 use Rattle.std.specs.declared.cmp.Ordering.{Ordering}
@@ -9,11 +9,11 @@ use Rattle.std.proofs.lemmas.Bool.Decides.{nat_tests}
 use Rattle.std.proofs.lemmas.List.{drop_more, take_more}
 use Rattle.std.proofs.lemmas.Option.{slice_get_within, get_or_from_slice_get}
 use Rattle.plain_tables.specs.declared.value.Value.{Value}
-use Rattle.plain_tables.specs.Hashes.{hash_of}
-use Rattle.std.specs.Prelude.{bit_xor}
+use Rattle.std.specs.List.{fold}
 use Rattle.std.proofs.lemmas.List.Sums.{fold_more}
 use Rattle.plain_tables.specs.Values.{value_cmp}
-use Rattle.project_hash.specs.Distinct.{values_cmp, with_hash, hash_of_values}
+use Rattle.project_hash.specs.Distinct.{values_cmp}
+use Rattle.project_hash.specs.Hashes.{with_value}
 
 -- a list from a place on is the value there and the list behind it
 from_place : (values : List Value) (i : ℕ) (v : Value) → slice_get values i ≡ Some v → drop i values ≡ v ∷ drop (i + 1) values
@@ -66,13 +66,12 @@ module _ (values others : List Value) (i : ℕ) (v w : Value) (at : slice_get va
   undecided_at same = sym (here ∙ undecided o (values_cmp (drop (i + 1) values) (drop (i + 1) others)) same)
 
 -- the hash of one value more
-pub hashed_more : (values : List Value) (i hash n : ℕ) (v : Value) → slice_get values i ≡ Some v → hash ≡ hash_of_values (take i values) → n ≡ hash_of v
-    → (bit_xor hash n * 16777619) % 4294967296 ≡ hash_of_values (take (i + 1) values)
-hashed_more values i hash n v at so_far is =
-    let next : ℕ → Value → ℕ = λ h w. with_hash h w in
-    let more = fold_more with_hash 2166136261 values i v (slice_get_within values i v at) in
+pub hashed_more : (values : List Value) (i hash next : ℕ) (v : Value) → slice_get values i ≡ Some v → hash ≡ fold with_value 0 (take i values) → next ≡ with_value hash v
+    → next ≡ fold with_value 0 (take (i + 1) values)
+hashed_more values i hash next v at so_far is =
+    let more = fold_more with_value 0 values i v (slice_get_within values i v at) in
     let same : get_or values i v ≡ v = get_or_from_slice_get values i v v at in
-    rw (more, same, so_far, is) refl
+    rw (more, same) (is ∙ ap (λ h. with_value h v) so_far)
 
 -- a list up to a place is the list before it and the value there
 from_front : (values : List Value) (i : ℕ) (v : Value) → slice_get values i ≡ Some v → take (i + 1) values ≡ take i values ++ v ∷ []

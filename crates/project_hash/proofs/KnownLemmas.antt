@@ -20,7 +20,8 @@ use Rattle.mm_index.proofs.Refs.{Contains-same_refs}
 use Rattle.temp_list.proofs.KeyLemmas.{not_yes}
 use Rattle.temp_list.proofs.SearchLemmas.{with_hash-map}
 use Rattle.project_hash.specs.Alike.{values_cmp-exact}
-use Rattle.project_hash.specs.Distinct.{values_cmp, values_cmp_total, hash_of_values}
+use Rattle.project_hash.specs.Distinct.{values_cmp, values_cmp_total}
+use Rattle.project_hash.specs.Hashes.{hash_of_values}
 use Rattle.project_hash.specs.Known.{AreKnown, hashed, row_states}
 use Rattle.project_hash.specs.Shown.{ShownState, alike}
 use Rattle.project_hash.specs.Table.{TableState, row_state}

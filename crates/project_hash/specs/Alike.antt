@@ -8,7 +8,8 @@ use Rattle.std.specs.FinMap.{slice_cmp-IsAntisymmetric}
 use Rattle.std.proofs.lemmas.Map.Views.{tells_apart}
 use Rattle.plain_tables.specs.declared.value.Value.{Value}
 use Rattle.plain_tables.proofs.ValueLemmas.{value_cmp-exact}
-use Rattle.project_hash.specs.Distinct.{values_cmp, hash_of_values}
+use Rattle.project_hash.specs.Distinct.{values_cmp}
+use Rattle.project_hash.specs.Hashes.{hash_of_values}
 use Rattle.project_hash.specs.Shown.{ShownState}
 use Rattle.std.specs.Prelude.{List}
 

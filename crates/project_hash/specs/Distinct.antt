@@ -1,12 +1,11 @@
 -- Lists without rows that are shown alike.
-use Rattle.std.specs.Prelude.{◌≡◌, ◌↔◌, ℕ, List, All, AllPairs, Contains, map, fold, bit_xor, ◌*◌, ◌%◌, ◌^◌}
+use Rattle.std.specs.Prelude.{◌≡◌, ◌↔◌, List, All, AllPairs, Contains, map}
 use Rattle.std.specs.Cmp.{IsTotalOrder}
 use Rattle.std.specs.Cmp.Lexicographic.{slice_cmp, lists_total}
 use Rattle.std.specs.declared.cmp.Ordering.{Ordering}
 use Rattle.std.specs.declared.cmp.Ordering.TheVariants.{Less}
 use Rattle.part_raw.specs.declared.tuple_ref.TupleRef.{TupleRef}
 use Rattle.plain_tables.specs.declared.value.Value.{Value}
-use Rattle.plain_tables.specs.Hashes.{hash_of}
 use Rattle.plain_tables.specs.Values.{value_cmp, value_cmp_total}
 use Rattle.mm_relation.specs.State.{RelationState}
 use Rattle.temp_list.specs.Lists.{ListState, value_of}
@@ -50,12 +49,3 @@ ShowsTheSame xs ys = (values : List Value) → Contains xs values ↔ Contains y
 -- one order.
 abbrev pub DistinctShowsTheSame : Type 0
 DistinctShowsTheSame = (relations : List RelationState) (old new : ListState) → IsDistinctOf relations old new → ShowsTheSame (shown_rows relations old) (shown_rows relations new)
-
--- ---- hashes
-
--- the hash of values: that of the hashes of each, one after another
-abbrev pub with_hash : ℕ → Value → ℕ
-with_hash hash v = (bit_xor hash (hash_of v) * 16777619) % 2 ^ 32
-
-abbrev pub hash_of_values : List Value → ℕ
-hash_of_values values = fold with_hash 2166136261 values

@@ -5,7 +5,7 @@ use Rattle.std.specs.List.Sorted.{IsPermutation, IsSorted}
 use Rattle.std.specs.FinMap as finite
 use Rattle.part_raw.specs.declared.tuple_ref.TupleRef.{TupleRef}
 use Rattle.mm_index.specs.Bag.{IsSameBag}
-use Rattle.project_hash.specs.Distinct.{hash_of_values}
+use Rattle.project_hash.specs.Hashes.{hash_of_values}
 use Rattle.project_hash.specs.Shown.{ShownState, IsShown, alike, rows_cmp, values_of}
 use Rattle.project_hash.specs.Table.{TableState, list_of_table, row_state}
 

@@ -4,7 +4,7 @@ ghost use Rattle.std.specs.List.{list_any};
 ghost use Rattle.std.specs.FinMap as finite;
 ghost use Rattle.std.specs.Prelude.{vec_len};
 ghost use Rattle.indexmap.specs.IndexSet.{insert_key};
-ghost use Rattle.project_hash.specs.Distinct.{hash_of_values};
+ghost use Rattle.project_hash.specs.Hashes.{hash_of_values};
 ghost use Rattle.project_hash.specs.Known.{AreKnown, row_states};
 ghost use Rattle.project_hash.specs.Shown.{alike};
 ghost use Rattle.project_hash.specs.Table.{CanRead, row_state};

@@ -6,6 +6,7 @@
 #![tactic(auto)]
 
 mod duplicates;
+mod hashing;
 mod known;
 pub mod laws;
 mod scanning;

@@ -128,7 +128,7 @@ impl<'a, R: Relations> Ord for ShownRow<'a, R> {
 
 impl<'a, R: Relations> Hash for ShownRow<'a, R> {
     ghost use Rattle.std.specs.Hash as fed;
-    ghost use Rattle.project_hash.specs.Distinct.{hash_of_values};
+    ghost use Rattle.project_hash.specs.Hashes.{hash_of_values};
     ghost use Rattle.project_hash.specs.Alike.{hashed_alike};
 
     ghost hash_input = { λ r. fed.u32 (hash_of_values r.values) };

@@ -1,16 +1,12 @@
 //! What shows values: these compared, hashed and told apart, where they lie.
 ghost use Rattle.std.specs.Prelude.{◌≡◌, ◌<◌, ◌↔◌, IsTrue, List, Some, length, slice_get};
 ghost use Rattle.plain_tables.specs.declared.value.Value.{Value};
-ghost use Rattle.project_hash.specs.Distinct.{values_cmp, hash_of_values};
+ghost use Rattle.project_hash.specs.Distinct.{values_cmp};
+ghost use Rattle.project_hash.specs.Hashes.{hash_of_values};
 
-use plain_tables::{SeenValue, StoredValue, hash_of};
+use crate::hashing::{in_32_bits, with_value};
+use plain_tables::{SeenValue, StoredValue};
 use std::cmp::Ordering;
-
-// Where every hash begins.
-const BEGIN: u32 = 2_166_136_261;
-
-// What a hash is multiplied by for each value.
-const PRIME: u32 = 16_777_619;
 
 // Whether two values are equal. Texts of different lengths are told apart at once.
 fn are_equal(value: &StoredValue, other: &StoredValue) -> bool
@@ -68,10 +64,10 @@ pub(crate) trait ShowsValues {
     fn shown_hash(&self) -> u32
         ensures { result ≡ hash_of_values (values self.now) }
     {
-        let mut hash = BEGIN;
+        let mut hash = 0;
         for column in 0..self.width() {
-            hash = (hash ^ hash_of(self.value(column))).wrapping_mul(PRIME);
+            hash = with_value(hash, self.value(column));
         }
-        hash
+        in_32_bits(hash)
     }
 }

@@ -4,7 +4,7 @@ use Rattle.std.proofs.lemmas.List.{length-map, map-append}
 use Rattle.part_raw.specs.declared.tuple_ref.TupleRef.{TupleRef}
 use Rattle.mm_index.specs.Bag.{IsSameBag}
 use Rattle.mm_index.proofs.Bags.{length-same_bag}
-use Rattle.project_hash.specs.Distinct.{hash_of_values}
+use Rattle.project_hash.specs.Hashes.{hash_of_values}
 use Rattle.project_hash.specs.Known.{AreKnown, hashed, row_states}
 use Rattle.project_hash.specs.Shown.{ShownState, alike}
 use Rattle.project_hash.specs.Table.{row_state}
