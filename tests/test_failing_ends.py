@@ -84,7 +84,7 @@ class FullFiles(unittest.TestCase):
     def test_full_files_of_dumps(self):
         self.check(BLOCKS)
 
-    @unittest.skipUnless(sizes.is_large, "some 84,000 runs, in large sizes")
+    @unittest.skipUnless(sizes.is_large, "some 88,000 runs, in large sizes")
     def test_full_files_of_each_row(self):
         for name, stream, _ in harness.rows():
             with self.subTest(row=name):
@@ -137,7 +137,7 @@ class FaultsOfReads(unittest.TestCase):
             with self.subTest(length=length):
                 self.assertEqual(ran, (*READ_FAULT, answers[bisect.bisect_right(ends, length)]))
 
-    @unittest.skipUnless(sizes.is_large, "some 190,000 runs, in large sizes")
+    @unittest.skipUnless(sizes.is_large, "some 200,000 runs, in large sizes")
     def test_a_read_fails_behind_each_row(self):
         for name, stream, _ in harness.rows():
             with self.subTest(row=name):

@@ -395,8 +395,8 @@ impl<T> Partitions<T> {
         }
     }
 
-    /// Gives the memory of each partition back that holds no tuple, and of its counts. No tuple moves. It takes no memory, and looks at each
-    /// partition's bits.
+    /// Gives the memory of each partition back that holds no tuple, and that of its counts. No tuple moves. It takes no
+    /// memory, and looks at each partition's bits.
     pub fn release_spares(&mut self)
         ensures tuples { self.new.tuples ≡ self.old.tuples }
         ensures width { self.new.width ≡ self.old.width }
