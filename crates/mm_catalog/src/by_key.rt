@@ -22,7 +22,8 @@ use std::cmp::Ordering;
 // A load of fewer rows goes in as it stands.
 const LEAST_ROWS: usize = 1_000;
 
-// So does one after which the table has fewer rows, which the caches hold.
+// So does one after which a table that had rows has fewer than these, which the caches hold. In one of no rows each rising key
+// stands behind all that are there, so none is sought.
 const LEAST_TABLE: u64 = 50_000;
 
 // A table that others refer to is small where it has at most this part of their rows. The rows of a larger one would be sought
@@ -184,18 +185,33 @@ fn refers_to_more(before: &[Relation], relation: &Relation, rows: u64) -> bool
     false
 }
 
-// Whether rows are so many, and the table has so many with them, that their order counts, there is room for all, and the tables
-// that it refers to are small.
+// The most rows of a table that this one may refer to, where the order of a load counts: it has none before it, or so many with
+// it. Into one of none the rows go without a search, which a second search for the rows that they name would outweigh.
+fn most_named(held: u64, all: u64) -> Option<u64> {
+    if all >= LEAST_TABLE {
+        Some(all / SMALL_PART)
+    } else if held == 0 {
+        Some(0)
+    } else {
+        None
+    }
+}
+
+// Whether rows are so many that their order counts, there is room for all, the table has none or is large with them, and the
+// tables that it refers to are small.
 fn counts(before: &[Relation], relation: &Relation, limits: Limits, rows: usize) -> bool
     requires back { (column : ℕ) (table : ℕ) → target_at relation.now.targets column ≡ Some table → table < length before.now }
     ensures { IsTrue result → finite.len relation.now.rows + rows ≤ limits.rows }
 {
-    let room = u64::from(limits.rows).saturating_sub(relation.len());
+    let held = relation.len();
+    let room = u64::from(limits.rows).saturating_sub(held);
     if rows < LEAST_ROWS || rows as u64 > room {
         return false;
     }
-    let all = relation.len() + rows as u64;
-    all >= LEAST_TABLE && !refers_to_more(before, relation, all / SMALL_PART)
+    match most_named(held, held + rows as u64) {
+        Some(most) => !refers_to_more(before, relation, most),
+        None => false,
+    }
 }
 
 // The places of rows in the order in which they go in faster, by their keys, where it is known that all of them come in.

@@ -1,18 +1,14 @@
 -- Lemmas on fields: what is read in them is what the definitions say.
-use Rattle.std.proofs.Common.{◌≡◌, ◌<◌, ◌^◌, [], ◌∷◌, ℕ, List, Bool, true, false, Some, None, Result, Ok, Err, refl, sym, length, arith, zero, suc, nat_eq, ◌≤◌}
-use Rattle.std.specs.Prelude.{ℤ, pos, negsuc, FitsSigned, ◌==◌, ◌&&◌, nat_lt, slice_index}
+use Rattle.std.proofs.Common.{◌≡◌, ◌^◌, ℕ, List, Bool, true, false, Some, None, refl, length, ◌≤◌}
+use Rattle.std.specs.Prelude.{ℤ, pos, negsuc, FitsSigned, nat_lt}
 use Rattle.std.specs.Int.{w64}
-use Rattle.std.specs.List.{starts_with}
-use Rattle.std.specs.Result.{result_ok}
 use Rattle.std.specs.Str.{all_ascii_digits}
-use Rattle.std.specs.Str.Parse.{AllDigits, IsNumeral, ParsesSigned, digits_value}
+use Rattle.std.specs.Str.Parse.{IsNumeral, digits_value}
 use Rattle.std.proofs.lemmas.Str.Parse.{IsNumeralModel, numerals_by_value, tells_all_ascii_digits}
 use Rattle.plain_tables.specs.CsvReading.{digits_of, has_64_bits, integer_of, is_numeral, number_of}
-use Rattle.std.specs.Str.{IsAscii, IsUtf8, is_utf8}
-use Rattle.std.proofs.lemmas.Bool.{and_parts, eqb-true, le-ltb, lt-ltb, ltb-true, ne_eqb}
-use Rattle.std.proofs.lemmas.Fmt.{IsAscii-from_digits}
-use Rattle.std.proofs.lemmas.Str.{IsUtf8-from_ascii, IsUtf8-from_is_utf8, IsUtf8-nil, is_utf8-from_IsUtf8}
-use Rattle.plain_tables.proofs.BlockLemmas.{fits_64_bits}
+use Rattle.std.specs.Str.{IsUtf8, is_utf8}
+use Rattle.std.proofs.lemmas.Bool.{and_parts, le-ltb, lt-ltb, ltb-true}
+use Rattle.std.proofs.lemmas.Str.{IsUtf8-from_is_utf8, is_utf8-from_IsUtf8}
 use Rattle.plain_tables.specs.CsvReading.{text_of}
 use Rattle.plain_tables.specs.declared.value.Value.TheVariants as value
 

@@ -1,7 +1,6 @@
 -- Lemmas on what stands at the front of a text: the fields of a record without quotes, its row, and the rows of such records.
-use Rattle.std.proofs.Common.{◌≡◌, ◌∙◌, ◌+◌, ◌<◌, ◌++◌, [], ◌∷◌, ℕ, List, Bool, true, false, Option, Some, Result, Ok, Err, refl, sym, ap, subst, append_assoc, append-nil, length, map, take, get_or, arith, suc}
-use Rattle.std.specs.Prelude.{◌==◌, ◌||◌, IfOk, IfErr}
-use Rattle.std.specs.List.{list_any}
+use Rattle.std.proofs.Common.{◌≡◌, ◌∙◌, ◌<◌, ◌++◌, [], ◌∷◌, ℕ, List, true, false, Some, Result, Ok, Err, refl, sym, ap, subst, append_assoc, append-nil, length, map, arith, suc}
+use Rattle.std.specs.Prelude.{◌==◌, IfOk, IfErr}
 use Rattle.std.proofs.lemmas.Bool.{eq-eqb, ne_eqb, or_parts}
 use Rattle.std.proofs.lemmas.List.{length-append, map-append}
 use Rattle.csv.specs.Machine.{next_record}
@@ -10,7 +9,7 @@ use Rattle.csv.specs.Writing as Csv
 use Rattle.csv.specs.declared.parser.State.TheVariants as st
 use Rattle.csv.proofs.RoundTrip as Trip
 use Rattle.plain_tables.specs.Csv.{needs_quotes}
-use Rattle.plain_tables.specs.CsvReading.{BlockColumn, Reading, Record, Rows, all_of, begins_with_mark, field_value, is_header, records_reading, row_of, rows_reading}
+use Rattle.plain_tables.specs.CsvReading.{BlockColumn, Reading, Record, Rows, all_of, field_value, is_header, records_reading, rows_reading}
 use Rattle.plain_tables.specs.Tables.{Row}
 use Rattle.plain_tables.specs.declared.value.Value.{Value}
 use Rattle.mm_csv.specs.BlockReading.{Tells, records_behind}

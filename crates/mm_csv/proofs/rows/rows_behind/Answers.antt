@@ -1,4 +1,4 @@
-use Rattle.std.proofs.Common.{◌≡◌, ◌∙◌, ◌++◌, sym, ap, vec_items}
+use Rattle.std.proofs.Common.{◌∙◌, ◌++◌, sym, ap, vec_items}
 use Rattle.csv.specs.Reading.{default_config, records}
 use Rattle.plain_tables.specs.CsvReading.{records_reading, rows_reading}
 use Rattle.mm_csv.specs.BlockReading.{columns_of, records_left}
