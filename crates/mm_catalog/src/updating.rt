@@ -48,7 +48,10 @@ fn pack_sets(
 }
 
 // Puts a cell behind the others.
-fn push_set(sets: &mut Vec<(ColumnNumber, StoredCell)>, set: (ColumnNumber, StoredCell)) -> Result<(), NoMemory>
+fn push_set(
+    sets: &mut Vec<(ColumnNumber, StoredCell)>,
+    set: (ColumnNumber, StoredCell),
+) -> Result<(), NoMemory>
     ensures { OnOk result (sets.new.items ≡ sets.old.items ++ set ∷ []) }
 {
     sets.push(set)?;
@@ -186,13 +189,5 @@ pub fn set_rows(
     ensures refused { IfErr result (IsNotUpdated relations.old table.0 assignments.now) }
 {
     let (before, rest) = relations.split_at_mut(table.0);
-    set_rows_beside(
-        alloc,
-        before,
-        &mut rest[0],
-        rows,
-        assignments,
-        sets,
-        lost,
-    )
+    set_rows_beside(alloc, before, &mut rest[0], rows, assignments, sets, lost)
 }

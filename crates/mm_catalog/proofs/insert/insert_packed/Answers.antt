@@ -43,7 +43,7 @@ pub returns-then-len-from-clause-refused : goal.returns-then-len-from-clause-ref
 returns-then-len-from-clause-refused c key rest row =
     let rows = c.args.relation.now.rows in
     let told = subst (λ cells. (HasKey rows (row_of cells 0).key × (c.kept_out.result ≡ KeyExists None)) ⊎ ((HasKey rows (row_of cells 0).key → ⊥) × (c.kept_out.result ≡ TableFull None)))
-        (c.as_slice.ensures.value ∙ row.split) c.kept_out.ensures in
+    (c.as_slice.ensures.value ∙ row.split) c.kept_out.ensures in
     kept_out_for c.args.before.now c.args.relation.now c.args.limits.rows key rest c.kept_out.result _ told
     (λ fresh. full fresh row.behind row.are (omega (arith, c.if-len-from.true, c.len.ensures.value, c.from.ensures)))
 
