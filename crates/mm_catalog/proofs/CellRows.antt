@@ -41,27 +41,6 @@ names_none relations target value table s leads there some absent = record {
   absent = λ h. absent h.0 h.1;
 }
 
--- ---- cells that are made one by one
-
-pub cells_more : (relations : List RelationState) (targets : List (Option ℕ)) (values : List Value) (cells : List Cell) (value : Value) (cell : Cell) → AreFirstCells relations targets values cells → slice_get values (length cells) ≡ Some value → IsCellOf relations (target_at targets (length cells + 1)) value cell → AreFirstCells relations targets values (cells ++ cell ∷ [])
-cells_more relations targets values cells value cell first at is k v c e f =
-    elim (cases_lt k (length cells)) [
-      | inl below ↦ first k v c e (sym (slice_get-front cells (cell ∷ []) k below) ∙ f)
-      | inr above ↦
-          let same : cell ≡ c = slice_get-last cells cell k c above f in
-          let last : k ≡ length cells = last_place cells cell k c above f in
-          let named : value ≡ v = same_Some value v (sym at ∙ ap (slice_get values) (sym last) ∙ e) in
-          subst (λ n. IsCellOf relations (target_at targets (n + 1)) v c) (sym last)
-          (subst (λ w. IsCellOf relations (target_at targets (length cells + 1)) w c) named
-          (subst (IsCellOf relations (target_at targets (length cells + 1)) value) same is))
-    ]
-  where
-    last_place : (xs : List Cell) (x : Cell) (k : ℕ) (y : Cell) → length xs ≤ k → slice_get (xs ++ x ∷ []) k ≡ Some y → k ≡ length xs
-    last_place [] x zero y above f = refl
-    last_place [] x (suc k) y above f = absurd (none-some y f)
-    last_place (z ∷ xs) x zero y above f = absurd (omega arith)
-    last_place (z ∷ xs) x (suc k) y above f = ap suc (last_place xs x k y (omega arith) f)
-
 -- ---- a row of cells
 
 pub row_value-behind : (keys : Keys) (column : ℕ) (t : Row) → 0 < column → row_value keys column t ≡ option_and_then (cell_value keys column) (slice_get t.cells (column - 1))

@@ -38,6 +38,7 @@ pub mod Referenced
 pub mod BlockColumns
 pub mod Bounded
 pub mod Checked
+pub mod Packed
 pub mod Taking
 pub mod Inserted
 pub mod Loaded

@@ -1,19 +1,23 @@
 -- The links that cells are, and those that rows have where cells are set, one after another.
 use Rattle.std.proofs.Common.{◌≡◌, ℕ, zero, suc, ◌+◌, ◌*◌, ◌<◌, ◌≤◌, Bool, List, [], ◌∷◌, ◌++◌, Option, Some, None, refl, sym, ap, ◌∙◌, subst, arith, length, map, take, get_or, drop, append-nil, append_assoc}
 use Rattle.std.specs.List.{All, cons_option, count_by, filter_map, flat_map}
-use Rattle.std.specs.Option.{option_map, option_map_or}
+use Rattle.std.specs.Option.{option_and_then, option_map, option_map_or}
 use Rattle.std.specs.FinMap as finite
 use Rattle.std.proofs.Math.Nat.{mul-add, mul-le-mul_left}
 use Rattle.std.proofs.lemmas.Grind.{flat_map-append}
-use Rattle.std.proofs.lemmas.List.{length-take-le, map-append, take-append-drop, take_more}
-use Rattle.std.proofs.lemmas.List.Elements.{filter_map-append}
+use Rattle.std.proofs.lemmas.List.{length-map, length-take-le, map-append, take-append-drop, take_more}
+use Rattle.std.proofs.lemmas.List.Elements.{All-map, filter_map-append}
 use Rattle.std.proofs.lemmas.List.Sums.{count_by-le-length}
+use Rattle.common_lemmas.proofs.Elements.{All-from_map}
 use Rattle.common_lemmas.proofs.Maps.{length-filter_map_within}
+use Rattle.plain_statements.proofs.Fusion.{filter_map-map}
+use Rattle.plain_tables.specs.declared.numbers.ColumnNumber.{ColumnNumber}
+use Rattle.mm_relation.specs.Settings.{link_set}
 use Rattle.part_raw.specs.declared.tuple_ref.TupleRef.{TupleRef}
 use Rattle.mm_relation.specs.Rows.{Row}
 use Rattle.mm_relation.specs.State.{RelationState}
 use Rattle.mm_catalog.specs.declared.references.link.Link.{Link}
-use Rattle.mm_catalog.specs.Linked.{Linked, is_link_to, link_at}
+use Rattle.mm_catalog.specs.Linked.{Linked, is_link_to, link_at, target_at}
 use Rattle.mm_catalog.specs.Counted.{AreCountedBy, HaveAtLeast, HaveRoom, linked_of, naming, none}
 use Rattle.mm_catalog.specs.Assigned.{CellSet, links_at, row_links_at, set_link, set_links}
 use Rattle.mm_catalog.proofs.Counted.{counted_as, down_then, enough_left, naming-append, room_left, up_then}
@@ -147,3 +151,22 @@ module _ (links : List Link) where
 
     pub lowered_next : (next : List RelationState) → AreCountedBy now next none (naming (linked_of (get_or links i d) ∷ [])) → AreCountedBy old next none (lowering (i + 1))
     lowered_next next = down_then old now next (lowering i) (naming (linked_of (get_or links i d) ∷ [])) (lowering (i + 1)) (lowering_more i d l) so_far
+
+-- ---- what is left of cells that were moved
+
+abbrev linked_by : List (Option ℕ) → ColumnNumber × Option TupleRef → Option Linked
+linked_by targets named = option_and_then (λ table. option_map (λ to. (table, to)) named.1) (target_at targets named.0.0)
+
+module _ (sets left : List CellSet) (same : map link_set left ≡ map link_set sets) where
+  pub links_left : (targets : List (Option ℕ)) → set_links targets left ≡ set_links targets sets
+  unfolding set_links
+  links_left targets =
+      sym (filter_map-map (linked_by targets) link_set left) ∙ ap (filter_map (linked_by targets)) same ∙ filter_map-map (linked_by targets) link_set sets
+
+  pub as_many_left : length left ≡ length sets
+  as_many_left = sym (length-map left link_set) ∙ ap length same ∙ length-map sets link_set
+
+  pub columns_left : (n : ℕ) → All (λ (s : CellSet). s.0.0 < n) sets → All (λ (s : CellSet). s.0.0 < n) left
+  columns_left n all =
+      All-from_map (λ (named : ColumnNumber × Option TupleRef). named.0.0 < n) link_set left
+      (subst (All (λ (named : ColumnNumber × Option TupleRef). named.0.0 < n)) (sym same) (All-map (λ (named : ColumnNumber × Option TupleRef). named.0.0 < n) link_set sets all))

@@ -1,5 +1,5 @@
 -- The steps by which a row comes into a relation.
-use Rattle.std.proofs.Common.{◌≡◌, ◌<◌, List, [], ◌∷◌, Some, None, ◌⊎◌, sym, ap, ◌∙◌, subst, arith, length, get_or, remove, inl, inr, drop, ℕ}
+use Rattle.std.proofs.Common.{◌≡◌, ◌<◌, List, [], ◌∷◌, ◌++◌, Some, None, ◌⊎◌, refl, sym, ap, ◌∙◌, subst, arith, length, get_or, set, inl, inr, take, drop, ℕ}
 use Rattle.std.specs.Prelude.{Result, Ok, Err, IfOk}
 use Rattle.std.specs.List.{slice_get}
 use Rattle.std.specs.FinMap.{get}
@@ -9,21 +9,15 @@ use Rattle.plain_tables.specs.declared.refusal.Refusal.{Refusal}
 use Rattle.plain_tables.specs.declared.refusal.Refusal.TheVariants.{KeyExists}
 use Rattle.plain_tables.specs.declared.value.Value.{Value}
 use Rattle.mm_relation.specs.Rows.{Row}
-use Rattle.mm_relation.specs.Changes.{IsInserted}
+use Rattle.mm_relation.specs.Changes.{IsInserted, new_row}
 use Rattle.mm_relation.specs.State.{RelationState, HasKey}
-use Rattle.mm_catalog.specs.Cells.{AreRefused}
 use Rattle.mm_catalog.proofs.Lists.{first_behind}
-use Rattle.mm_catalog.specs.Inserted.{IsKeptOut, no_memory, key_there, none_named}
+use Rattle.mm_catalog.specs.Inserted.{CanComeIn, CannotComeIn, IsInsertedAt, IsInsertedBeside, IsKeptOut, IsRefusedAt, IsTakenIn, key_there}
 
 -- a list by its first element and the others
-pub split_first : (values : List Value) (key : Value) (rest : List Value) → 0 < length values → key ≡ get_or values 0 key → rest ≡ remove values 0 → values ≡ key ∷ rest
-split_first [] key rest some first others = absurd (omega arith)
-split_first (v ∷ values) key rest some first others = λ i. sym first i ∷ sym others i
-
--- values with no cells keep their row out
-pub kept_out_by_cells : (relations : List RelationState) (s : RelationState) (most : _) (key : Value) (rest : List Value) (refusal : Refusal) → (HasKey s.rows key → ⊥) → AreRefused relations s.targets rest refusal → IsKeptOut relations s most key rest refusal
-kept_out_by_cells relations s most key rest refusal fresh (inl e) = subst (IsKeptOut relations s most key rest) (sym e) no_memory
-kept_out_by_cells relations s most key rest refusal fresh (inr h) = subst (IsKeptOut relations s most key rest) (sym h.0) (none_named fresh h.1)
+pub some_first : (values : List Value) → 0 < length values → (key : Value) × (rest : List Value) × (values ≡ key ∷ rest)
+some_first [] some = absurd (omega arith)
+some_first (v ∷ values) some = (v, values, refl)
 
 -- Where a row whose key is new is kept out for some reason, a row is kept out for that reason or for its key.
 pub kept_out_for : (relations : List RelationState) (s : RelationState) (most : _) (key : Value) (rest : List Value) (refusal reason : Refusal) → (HasKey s.rows key × (refusal ≡ KeyExists None)) ⊎ ((HasKey s.rows key → ⊥) × (refusal ≡ reason)) → ((HasKey s.rows key → ⊥) → IsKeptOut relations s most key rest reason) → IsKeptOut relations s most key rest refusal
@@ -42,3 +36,25 @@ split_here old back n d within e = first_behind old n d within ∙ ap (λ rs. So
 pub IfOk-both : {T E : Type 0} (r : Result T E) (P Q R : T → Type 0) → ((x : T) → P x → Q x → R x) → IfOk r P → IfOk r Q → IfOk r R
 IfOk-both (Ok x) P Q R joined p q = joined x p q
 IfOk-both (Err e) P Q R joined p q = tt
+
+-- what is told of a relation and those before it, told of the list that was split there
+module _ (relations : List RelationState) (n most : ℕ) (values : List Value) (s : RelationState) (before back : List RelationState) (first : before ≡ take n relations) (behind : back ≡ drop n relations) (there : slice_get relations n ≡ Some s) (key : Value) (rest : List Value) (split : values ≡ key ∷ rest) where
+  pub refused_at : (refusal : Refusal) → IsKeptOut before s most key rest refusal → IsRefusedAt relations n most values refusal
+  refused_at refusal why = record {
+    relation = s;
+    there = there;
+    row = subst (λ rs. CannotComeIn rs s most values refusal) first (record { key = key; rest = rest; split = split; why = why });
+  }
+
+  pub inserted_at : (front : List RelationState) (new : RelationState) (r : TupleRef) → IsInsertedBeside before front s new most key rest r → IsInsertedAt relations (front ++ set back 0 new) n most values r
+  inserted_at front new r h = record {
+    before = s;
+    after = new;
+    front = front;
+    key = key;
+    cells = h.cells;
+    there = there;
+    list = ap (λ rs. front ++ set rs 0 new) behind;
+    row = subst (λ rs. CanComeIn rs s most values key h.cells) first (record { rest = rest; split = split; fresh = h.fresh; cells = h.are; room = h.room });
+    taken = subst (λ rs. IsTakenIn rs front s new r (new_row key h.cells)) first h.taken;
+  }

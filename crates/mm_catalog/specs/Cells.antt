@@ -1,10 +1,9 @@
 -- The cells of rows, of which those in reference columns are links.
-use Rattle.std.specs.Prelude.{◌≡◌, ◌≢◌, ◌⊎◌, ℕ, ◌+◌, List, Option, Some, None, IsSome, length, slice_get}
+use Rattle.std.specs.Prelude.{◌≡◌, ◌≢◌, ℕ, zero, suc, ◌+◌, List, ◌∷◌, Option, Some, None, IsSome, length, slice_get}
 use Rattle.std.specs.Option.{option_and_then}
+use Rattle.part_raw.specs.declared.tuple_ref.TupleRef.{TupleRef}
 use Rattle.plain_tables.specs.declared.value.Value.{Value}
 use Rattle.plain_tables.specs.declared.value.Value.TheVariants.{Null}
-use Rattle.plain_tables.specs.declared.refusal.Refusal.{Refusal}
-use Rattle.plain_tables.specs.declared.refusal.Refusal.TheVariants.{NoReferencedRow, NoMemory}
 use Rattle.mm_relation.specs.declared.row.Cell.{Cell}
 use Rattle.mm_relation.specs.declared.row.Cell.TheVariants.{Held, Link}
 use Rattle.mm_relation.specs.Reading.{key_at}
@@ -29,6 +28,11 @@ pub record IsCellOf (relations : List RelationState) (target : Option ℕ) (valu
   pub read : read_in relations target cell ≡ Some value
   pub linked : IsLinkOrNull target cell
 
+-- the cell of a value that names this row, or else is held itself
+abbrev pub cell_for : Value → Option TupleRef → Cell
+cell_for value None = Held value
+cell_for value (Some to) = Link to
+
 -- the value is to name a row of the relation that links lead into, and none of its rows has it for a key
 pub record NamesNone (relations : List RelationState) (target : Option ℕ) (value : Value) : Type 0 where
   pub some : value ≢ Null
@@ -51,7 +55,13 @@ abbrev pub SomeNamesNone : List RelationState → List (Option ℕ) → List Val
 SomeNamesNone relations targets values =
     (k : ℕ) × (value : Value) × (slice_get values k ≡ Some value) × NamesNone relations (target_at targets (k + 1)) value
 
--- why the values have no cells
-abbrev pub AreRefused : List RelationState → List (Option ℕ) → List Value → Refusal → Type 0
-AreRefused relations targets values refusal =
-    (refusal ≡ NoMemory) ⊎ ((refusal ≡ NoReferencedRow None) × SomeNamesNone relations targets values)
+-- the cells of a row of this key and these values behind it, the key's the first
+pub record AreRowCells (relations : List RelationState) (targets : List (Option ℕ)) (key : Value) (rest : List Value) (cells : List Cell) : Type 0 where
+  pub behind : List Cell
+  pub split : cells ≡ Held key ∷ behind
+  pub are : AreCellsOf relations targets rest behind
+
+-- where the links of a column lead; the key is a value of the row's own
+abbrev pub led_to : List (Option ℕ) → ℕ → Option ℕ
+led_to targets zero = None
+led_to targets (suc column) = target_at targets (suc column)

@@ -1,17 +1,22 @@
 -- A row that comes into one relation among others.
-use Rattle.std.specs.Prelude.{◌≡◌, ℕ, ◌<◌, ◌≤◌, ◌++◌, ◌∷◌, List, Some, None, slice_get, slice_set, take, drop}
+use Rattle.std.specs.Prelude.{◌≡◌, ◌⊎◌, ℕ, ◌<◌, ◌≤◌, ◌++◌, ◌∷◌, List, Some, None, length, slice_get, slice_set, take, drop}
 use Rattle.std.specs.FinMap as finite
 use Rattle.part_raw.specs.declared.tuple_ref.TupleRef.{TupleRef}
 use Rattle.plain_tables.specs.declared.refusal.Refusal.{Refusal}
 use Rattle.plain_tables.specs.declared.refusal.Refusal.TheVariants.{KeyExists, NoReferencedRow, TableFull, NoMemory}
 use Rattle.plain_tables.specs.declared.value.Value.{Value}
-use Rattle.mm_relation.specs.Rows.{Row}
+use Rattle.mm_relation.specs.Rows.{Row, row_of}
 use Rattle.mm_relation.specs.declared.row.Cell.{Cell}
 use Rattle.mm_relation.specs.Changes.{IsInserted, new_row}
 use Rattle.mm_relation.specs.State.{RelationState, IsKept, IsCurrent, HasKey, linked_keys}
-use Rattle.mm_catalog.specs.Cells.{AreCellsOf, SomeNamesNone}
-use Rattle.mm_catalog.specs.Linked.{row_links}
+use Rattle.mm_catalog.specs.Cells.{AreCellsOf, NamesNone, SomeNamesNone}
+use Rattle.mm_catalog.specs.Linked.{row_links, target_at}
 use Rattle.mm_catalog.specs.Counted.{AreCountedBy, naming, none}
+
+-- why the value behind these cells has none: their key is there, or the value is to name a row and names none
+abbrev pub IsNotNamed : List RelationState → RelationState → List Cell → Value → Refusal → Type 0
+IsNotNamed relations s cells value refusal =
+    (0 < length cells) × ((HasKey s.rows (row_of cells 0).key × (refusal ≡ KeyExists None)) ⊎ ((HasKey s.rows (row_of cells 0).key → ⊥) × (refusal ≡ NoReferencedRow None) × NamesNone relations (target_at s.targets (length cells)) value))
 
 -- the row of these values can come in: its key is new, each row that it is to name is there, and there are fewer rows than the most
 pub record CanComeIn (relations : List RelationState) (s : RelationState) (most : ℕ) (values : List Value) (key : Value) (behind : List Cell) : Type 0 where

@@ -7,14 +7,14 @@ use crate::by_key;
 use crate::create::{aimed, any_refers_to, count_targets};
 use crate::declare::{declare, undeclare};
 use crate::delete::{delete, take_out};
-use crate::insert::insert;
+use crate::insert::{insert, insert_moved};
 use crate::laws::a_catalog_is_consistent;
 use crate::load::{in_record, room_for};
-use crate::references::cells::copies_of;
+use crate::references::link::Link;
 use crate::removal::{renumber_behind, unlink};
-use crate::updating::set_rows;
+use crate::updating::{set_rows, shed_links};
 use indexmap::IndexSet;
-use mm_relation::{DeclaredIndex, Relation, Relations, TreeShape};
+use mm_relation::{DeclaredIndex, Relation, Relations, StoredCell, TreeShape};
 use no_memory::NoMemory;
 use part_raw::TupleRef;
 use plain_tables::{
@@ -30,6 +30,11 @@ pub struct Catalog {
     pub(crate) limits: Limits,
     names: IndexSet<String>,
     relations: Vec<Relation>,
+    // Where the cells of a row are packed on their way into a table. It keeps its memory from row to row.
+    cells: Vec<StoredCell>,
+    // Where an update lists the cells that it sets and the links that go. They keep their memory too.
+    sets: Vec<(ColumnNumber, StoredCell)>,
+    lost: Vec<Link>,
 }
 
 impl Model for Catalog {
@@ -77,6 +82,9 @@ impl Catalog {
             limits,
             names: IndexSet::new(alloc),
             relations: Vec::new(alloc),
+            cells: Vec::new(alloc),
+            sets: Vec::new(alloc),
+            lost: Vec::new(alloc),
         }
     }
 
@@ -220,17 +228,15 @@ impl Catalog {
         ensures inserted { OnOk result (HasEffect self.old self.new (done self.old.limits (database_of self.old) (resolved.Insert table values.now)) 1) }
         ensures refused { IfErr result (IsRefusedFor self.old self.new (done self.old.limits (database_of self.old) (resolved.Insert table values.now))) }
     {
-        let row = copies_of(*self.relations.allocator(), values)?;
-        self.take_in(table, row)?;
+        self.copy_in(table, values)?;
         Ok(())
     }
 
-    // Puts a row into a table, and gives its reference.
-    fn take_in(&mut self, table: TableNumber, values: Sequence<Value>) -> Result<TupleRef, Refusal>
-        requires { IsMeant self.old.limits (database_of self.old) (resolved.Insert table values) }
-        ensures inserted { OnOk result (HasEffect self.old self.new (done self.old.limits (database_of self.old) (resolved.Insert table values)) 1) }
-        ensures came { IfOk result (HasCome self.old self.new table.0 values) }
-        ensures refused { IfErr result (IsRefusedFor self.old self.new (done self.old.limits (database_of self.old) (resolved.Insert table values))) }
+    // Puts a row into a table, its values copied, and gives its reference.
+    fn copy_in(&mut self, table: TableNumber, values: &[Value]) -> Result<TupleRef, Refusal>
+        requires { IsMeant self.old.limits (database_of self.old) (resolved.Insert table values.now) }
+        ensures inserted { OnOk result (HasEffect self.old self.new (done self.old.limits (database_of self.old) (resolved.Insert table values.now)) 1) }
+        ensures refused { IfErr result (IsRefusedFor self.old self.new (done self.old.limits (database_of self.old) (resolved.Insert table values.now))) }
     {
         let alloc = *self.relations.allocator();
         insert(
@@ -239,6 +245,23 @@ impl Catalog {
             self.limits,
             table,
             values,
+            &mut self.cells,
+        )
+    }
+
+    // Puts a row into a table, its values moved, and gives its reference.
+    fn take_in(&mut self, table: TableNumber, values: Sequence<Value>) -> Result<TupleRef, Refusal>
+        requires { IsMeant self.old.limits (database_of self.old) (resolved.Insert table values) }
+        ensures inserted { OnOk result (HasEffect self.old self.new (done self.old.limits (database_of self.old) (resolved.Insert table values)) 1) }
+        ensures came { IfOk result (HasCome self.old self.new table.0 values) }
+        ensures refused { IfErr result (IsRefusedFor self.old self.new (done self.old.limits (database_of self.old) (resolved.Insert table values))) }
+    {
+        insert_moved(
+            self.relations.as_mut_slice(),
+            self.limits,
+            table,
+            values,
+            &mut self.cells,
         )
     }
 
@@ -333,13 +356,17 @@ impl Catalog {
         ensures unchanged { OnErr result (self.new ≡ self.old) }
     {
         let alloc = *self.relations.allocator();
-        set_rows(
+        let answer = set_rows(
             alloc,
             self.relations.as_mut_slice(),
             table,
             rows,
             assignments,
-        )
+            &mut self.sets,
+            &mut self.lost,
+        );
+        shed_links(alloc, &mut self.lost, rows.len());
+        answer
     }
 }
 

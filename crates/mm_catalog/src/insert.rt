@@ -1,84 +1,140 @@
 //! A row that comes into one relation among others.
-ghost use Rattle.std.specs.Prelude.{◌≡◌, ◌⊎◌, ℕ, ◌+◌, ◌<◌, ◌≤◌, List, Some, All, IfOk, IfErr, OnOk, OnErr, length, slice_get};
+ghost use Rattle.std.specs.Prelude.{◌≡◌, ◌⊎◌, ℕ, ◌+◌, ◌<◌, ◌≤◌, ◌∷◌, [], List, None, Some, All, IfOk, IfErr, OnOk, OnErr, length, slice_get, vec_capacity};
 ghost use Rattle.std.specs.FinMap as finite;
 ghost use Rattle.plain_tables.specs.declared.value.Value.{Value};
-ghost use Rattle.mm_relation.specs.Changes.{new_row};
+ghost use Rattle.mm_relation.specs.Rows.{StartsWithKey, row_of};
 ghost use Rattle.mm_relation.specs.State.{RelationState, IsKept, IsCurrent, IsReadable, HasKey, linked_keys};
-ghost use Rattle.mm_catalog.specs.Cells.{AreCellsOf};
+ghost use Rattle.mm_catalog.specs.Cells.{AreRowCells, IsCellOf, NamesNone, cell_for, led_to};
 ghost use Rattle.mm_catalog.specs.Standing.{StandsBeside, Stands};
-ghost use Rattle.mm_catalog.specs.Inserted.{IsKeptOut, IsTakenIn, IsInsertedBeside, IsInsertedAt, IsRefusedAt};
+ghost use Rattle.mm_catalog.specs.Inserted.{IsKeptOut, IsNotNamed, IsTakenIn, IsInsertedBeside, IsInsertedAt, IsRefusedAt};
 ghost use Rattle.mm_catalog.specs.Linked.{target_at, row_links};
 ghost use Rattle.mm_catalog.specs.Counted.{IsHeldIn, HaveRoom};
 
 use crate::before::Before;
-use crate::references::cells::cells_of;
+use crate::references::cells::{lent_cell, moved_cell, named_row};
 use crate::references::counting::count_up_links;
+use crate::references::link::target_number;
 use mm_relation::laws::a_relation_is_kept;
-use mm_relation::{Cell, Relation, RowRefusal};
+use mm_relation::{ColumnNumber, Relation, RowRefusal, StoredCell};
+use no_memory::NoMemory;
 use part_raw::TupleRef;
 use plain_tables::{Limits, Refusal, Sequence, TableNumber, Value};
 use std::alloc::Global;
 
-// The refusal of a row with this key that cannot come in: its key is held already, or there is this reason.
-fn kept_out(relation: &Relation, key: &Value, reason: Refusal) -> Refusal
-    ensures { (HasKey relation.now.rows key.now × (result ≡ Refusal.KeyExists None)) ⊎ ((HasKey relation.now.rows key.now → ⊥) × (result ≡ reason)) }
+// The refusal of a row of these cells that cannot come in: its key is held already, or there is this reason.
+fn kept_out(relation: &Relation, cells: &[StoredCell], reason: Refusal) -> Refusal
+    requires { StartsWithKey cells.now }
+    ensures { (HasKey relation.now.rows (row_of cells.now 0).key × (result ≡ Refusal.KeyExists None)) ⊎ ((HasKey relation.now.rows (row_of cells.now 0).key → ⊥) × (result ≡ reason)) }
 {
-    if relation.find_key(&key.sought()).is_some() {
+    if relation.has_key_of(cells) {
         Refusal::KeyExists { record: None }
     } else {
         reason
     }
 }
 
-// The cells of the values behind this key, where nothing but the key can keep their row out.
-fn cells_for(
-    alloc: Global,
+// ---- the cells
+
+// The row that the next value of a row names, where it does not hold the value itself. These cells are those of the values
+// before it: the first of all is the key. It is refused where there is no row that it is to name.
+fn next_named(
     before: &[Relation],
     relation: &Relation,
-    limits: Limits,
-    key: &Value,
-    values: Vec<Value>,
-) -> Result<Sequence<Cell>, Refusal>
-    requires width { length values.items + 1 ≤ length relation.now.targets }
+    cells: &[StoredCell],
+    value: &Value,
+) -> Result<Option<TupleRef>, Refusal>
+    requires starts { 0 < length cells.now → StartsWithKey cells.now }
+    requires width { length cells.now < length relation.now.targets }
     requires back { (column : ℕ) (table : ℕ) → target_at relation.now.targets column ≡ Some table → table < length before.now }
-    ensures cells { IfOk result (AreCellsOf before.now relation.now.targets values.items) }
-    ensures room { IfOk result (λ _. finite.len relation.now.rows < limits.rows) }
-    ensures refused { IfErr result (IsKeptOut before.now relation.now limits.rows key.now values.items) }
+    ensures named { IfOk result (λ to. IsCellOf before.now (led_to relation.now.targets (length cells.now)) value.now (cell_for value.now to)) }
+    ensures refused { IfErr result (IsNotNamed before.now relation.now cells.now value.now) }
 {
-    match cells_of(alloc, before, relation, values) {
-        Ok(cells) => {
-            if relation.len() >= u64::from(limits.rows) {
-                let full = Refusal::TableFull { record: None };
-                return Err(kept_out(relation, key, full));
-            }
-            Ok(cells)
-        }
-        Err(refusal) => Err(kept_out(relation, key, refusal)),
+    if cells.is_empty() {
+        return Ok(None);
+    }
+    let target = target_number(relation, ColumnNumber(cells.len()));
+    match named_row(before, target, value) {
+        Ok(named) => Ok(named),
+        Err(refusal) => Err(kept_out(relation, cells, refusal)),
     }
 }
 
-// Takes a row in, unless its key is held already, where there is room for it, and counts its links. It gives the reference
-// of the row.
+// Empties a vector of cells, and makes sure of room for so many.
+fn empty_for(cells: &mut Vec<StoredCell>, count: usize) -> Result<(), NoMemory>
+    ensures none { cells.new.items ≡ [] }
+    ensures room { OnOk result (count ≤ vec_capacity cells.new) }
+{
+    cells.clear();
+    cells.reserve(count)?;
+    Ok(())
+}
+
+// Packs the cells of the values of a row, which are copied, in place of what is there.
+fn pack_lent(
+    alloc: Global,
+    before: &[Relation],
+    relation: &Relation,
+    values: &[Value],
+    cells: &mut Vec<StoredCell>,
+) -> Result<(), Refusal>
+    requires width { length values.now ≤ length relation.now.targets }
+    requires back { (column : ℕ) (table : ℕ) → target_at relation.now.targets column ≡ Some table → table < length before.now }
+    ensures cells { OnOk result ((key : Value) (rest : List Value) → values.now ≡ key ∷ rest → AreRowCells before.now relation.now.targets key rest cells.new.items) }
+    ensures refused { IfErr result (λ refusal. (most : ℕ) (key : Value) (rest : List Value) → values.now ≡ key ∷ rest → IsKeptOut before.now relation.now most key rest refusal) }
+{
+    empty_for(cells, values.len())?;
+    for value in values {
+        let named = next_named(before, relation, cells.as_slice(), value)?;
+        let cell = lent_cell(alloc, named, value)?;
+        cells.push_reserved(cell);
+    }
+    Ok(())
+}
+
+// The same, where the values are moved.
+fn pack_moved(
+    before: &[Relation],
+    relation: &Relation,
+    values: Vec<Value>,
+    cells: &mut Vec<StoredCell>,
+) -> Result<(), Refusal>
+    requires width { length values.items ≤ length relation.now.targets }
+    requires back { (column : ℕ) (table : ℕ) → target_at relation.now.targets column ≡ Some table → table < length before.now }
+    ensures cells { OnOk result ((key : Value) (rest : List Value) → values.items ≡ key ∷ rest → AreRowCells before.now relation.now.targets key rest cells.new.items) }
+    ensures refused { IfErr result (λ refusal. (most : ℕ) (key : Value) (rest : List Value) → values.items ≡ key ∷ rest → IsKeptOut before.now relation.now most key rest refusal) }
+{
+    empty_for(cells, values.len())?;
+    for value in values {
+        let named = next_named(before, relation, cells.as_slice(), &value)?;
+        cells.push_reserved(moved_cell(named, value));
+    }
+    Ok(())
+}
+
+// ---- the row
+
+// Takes the row of these cells in, unless its key is held already, where there is room for it, and counts its links. It
+// gives the reference of the row.
 fn take_in(
     before: &mut [Relation],
     relation: &mut Relation,
-    key: Value,
-    cells: Sequence<Cell>,
+    cells: &mut Vec<StoredCell>,
 ) -> Result<TupleRef, Refusal>
     requires kept { All IsKept before.old }
-    requires width { length cells + 1 ≡ length relation.old.targets }
-    requires readable { IsReadable (linked_keys relation.old.targets before.old) (length relation.old.targets) (new_row key cells) }
+    requires starts { StartsWithKey cells.old.items }
+    requires width { length cells.old.items ≡ length relation.old.targets }
+    requires readable { IsReadable (linked_keys relation.old.targets before.old) (length relation.old.targets) (row_of cells.old.items 0) }
     requires current { IsCurrent (linked_keys relation.old.targets before.old) relation.old }
     requires few { finite.len relation.old.rows < 16777216 }
-    requires links { All (IsHeldIn before.old) (row_links relation.old.targets (new_row key cells)) }
+    requires links { All (IsHeldIn before.old) (row_links relation.old.targets (row_of cells.old.items 0)) }
     requires room { HaveRoom before.old (length relation.old.targets) }
-    ensures taken { IfOk result (λ r. IsTakenIn before.old before.new relation.old relation.new r (new_row key cells)) }
-    ensures fresh { IfOk result (λ _. HasKey relation.old.rows key → ⊥) }
-    ensures refused { IfErr result (λ refusal. (most : ℕ) (rest : List Value) → IsKeptOut before.old relation.old most key rest refusal) }
+    ensures taken { IfOk result (λ r. IsTakenIn before.old before.new relation.old relation.new r (row_of cells.old.items 0)) }
+    ensures fresh { IfOk result (λ _. HasKey relation.old.rows (row_of cells.old.items 0).key → ⊥) }
+    ensures refused { IfErr result (λ refusal. (most : ℕ) (rest : List Value) → IsKeptOut before.old relation.old most (row_of cells.old.items 0).key rest refusal) }
     ensures others { OnErr result (before.new ≡ before.old) }
     ensures unchanged { OnErr result (relation.new ≡ relation.old) }
 {
-    let taken = relation.insert_row(&Before { relations: before }, key, cells);
+    let taken = relation.insert_row(&Before { relations: before }, cells);
     match taken {
         Ok(r) => {
             a_relation_is_kept(relation);
@@ -91,36 +147,61 @@ fn take_in(
     }
 }
 
-// Puts the row of a key and the values behind it into a relation, whose links lead into those before it. It gives the
-// reference of the row.
-fn insert_beside(
-    alloc: Global,
+// Puts the row of these cells into a relation, whose links lead into those before it. It gives the reference of the row.
+fn insert_packed(
     before: &mut [Relation],
     relation: &mut Relation,
     limits: Limits,
-    key: Value,
-    values: Vec<Value>,
+    cells: &mut Vec<StoredCell>,
 ) -> Result<TupleRef, Refusal>
     requires few { limits.rows ≤ 16777216 }
     requires stands { StandsBeside before.old relation.old }
-    requires width { length values.items + 1 ≡ length relation.old.targets }
-    ensures inserted { IfOk result (IsInsertedBeside before.old before.new relation.old relation.new limits.rows key values.items) }
-    ensures refused { IfErr result (IsKeptOut before.old relation.old limits.rows key values.items) }
+    requires width { length cells.old.items ≡ length relation.old.targets }
+    requires row { (key : Value) × (rest : List Value) × AreRowCells before.old relation.old.targets key rest cells.old.items }
+    ensures inserted { (key : Value) (rest : List Value) → AreRowCells before.old relation.old.targets key rest cells.old.items → IfOk result (IsInsertedBeside before.old before.new relation.old relation.new limits.rows key rest) }
+    ensures refused { (key : Value) (rest : List Value) → AreRowCells before.old relation.old.targets key rest cells.old.items → IfErr result (IsKeptOut before.old relation.old limits.rows key rest) }
     ensures others { OnErr result (before.new ≡ before.old) }
     ensures unchanged { OnErr result (relation.new ≡ relation.old) }
 {
-    let cells = cells_for(alloc, before, relation, limits, &key, values)?;
-    take_in(before, relation, key, cells)
+    if relation.len() >= u64::from(limits.rows) {
+        let full = Refusal::TableFull { record: None };
+        return Err(kept_out(relation, cells.as_slice(), full));
+    }
+    take_in(before, relation, cells)
 }
 
-// Puts the row of these values into the relation of this number, whose links lead into those before it. It gives the
-// reference of the row.
+// Puts the row of these values, which are copied, into the relation of this number, whose links lead into those before it.
+// It gives the reference of the row. Its cells are packed in the vector on their way, in place of what is there.
 pub fn insert(
     alloc: Global,
     relations: &mut [Relation],
     limits: Limits,
     table: TableNumber,
-    mut values: Sequence<Value>,
+    values: &[Value],
+    cells: &mut Vec<StoredCell>,
+) -> Result<TupleRef, Refusal>
+    requires few { limits.rows ≤ 16777216 }
+    requires there { table.0 < length relations.old }
+    requires stands { Stands relations.old table.0 }
+    requires some { 0 < length values.now }
+    requires width { (s : RelationState) → slice_get relations.old table.0 ≡ Some s → length values.now ≡ length s.targets }
+    ensures inserted { IfOk result (IsInsertedAt relations.old relations.new table.0 limits.rows values.now) }
+    ensures refused { IfErr result (IsRefusedAt relations.old table.0 limits.rows values.now) }
+    ensures unchanged { OnErr result (relations.new ≡ relations.old) }
+{
+    let (before, rest) = relations.split_at_mut(table.0);
+    let relation = &mut rest[0];
+    pack_lent(alloc, before, relation, values, cells)?;
+    insert_packed(before, relation, limits, cells)
+}
+
+// The same, where the values are moved.
+pub fn insert_moved(
+    relations: &mut [Relation],
+    limits: Limits,
+    table: TableNumber,
+    values: Sequence<Value>,
+    cells: &mut Vec<StoredCell>,
 ) -> Result<TupleRef, Refusal>
     requires few { limits.rows ≤ 16777216 }
     requires there { table.0 < length relations.old }
@@ -133,6 +214,6 @@ pub fn insert(
 {
     let (before, rest) = relations.split_at_mut(table.0);
     let relation = &mut rest[0];
-    let key = values.remove(0);
-    insert_beside(alloc, before, relation, limits, key, values.into_vec())
+    pack_moved(before, relation, values.into_vec(), cells)?;
+    insert_packed(before, relation, limits, cells)
 }

@@ -12,11 +12,11 @@ ghost use Rattle.mm_catalog.specs.Assigned.{AreConsistent, AreNotSet, AreSetBy, 
 ghost use Rattle.mm_catalog.specs.State.{CatalogState};
 
 use crate::before::Before;
-use crate::references::cells::{cell_of, copy_of};
+use crate::references::cells::{lent_cell, named_row};
 use crate::references::counting::{count_down_all, count_up};
 use crate::references::link::{Link, link_in, target_number};
 use mm_relation::laws::a_relation_is_kept;
-use mm_relation::{Cell, Relation};
+use mm_relation::{Relation, StoredCell};
 use no_memory::NoMemory;
 use part_raw::TupleRef;
 use plain_tables::{Assignment, ColumnNumber, Refusal, TableNumber};
@@ -24,30 +24,34 @@ use std::alloc::Global;
 
 // ---- the cells
 
-// The cells that the assignments set.
-fn sets_of(
+// Packs the cells that the assignments set, in place of what is there.
+fn pack_sets(
     alloc: Global,
     before: &[Relation],
     relation: &Relation,
     assignments: &[Assignment],
-) -> Result<Vec<(ColumnNumber, Cell)>, Refusal>
+    sets: &mut Vec<(ColumnNumber, StoredCell)>,
+) -> Result<(), Refusal>
     requires columns { All (λ a. a.column.0 < length relation.now.targets) assignments.now }
     requires back { (column : ℕ) (table : ℕ) → target_at relation.now.targets column ≡ Some table → table < length before.now }
-    ensures sets { IfOk result (λ sets. AreSetBy before.now relation.now.targets assignments.now sets.items) }
+    ensures sets { OnOk result (AreSetBy before.now relation.now.targets assignments.now sets.new.items) }
     ensures refused { IfErr result (AreNotSet before.now relation.now.targets assignments.now) }
 {
-    let mut sets = Vec::new(alloc);
+    sets.clear();
     for assignment in assignments {
         let target = target_number(relation, assignment.column);
-        let value = copy_of(alloc, &assignment.value)?;
-        let cell = cell_of(before, target, value).ok_or(Refusal::NoReferencedRow { record: None })?;
-        push_set(&mut sets, (assignment.column, cell))?;
+        let named = named_row(before, target, &assignment.value)?;
+        let cell = lent_cell(alloc, named, &assignment.value)?;
+        push_set(sets, (assignment.column, cell))?;
     }
-    Ok(sets)
+    Ok(())
 }
 
 // Puts a cell behind the others.
-fn push_set(sets: &mut Vec<(ColumnNumber, Cell)>, set: (ColumnNumber, Cell)) -> Result<(), NoMemory>
+fn push_set(
+    sets: &mut Vec<(ColumnNumber, StoredCell)>,
+    set: (ColumnNumber, StoredCell),
+) -> Result<(), NoMemory>
     ensures { OnOk result (sets.new.items ≡ sets.old.items ++ set ∷ []) }
 {
     sets.push(set)?;
@@ -61,7 +65,7 @@ fn push_links(
     links: &mut Vec<Link>,
     relation: &Relation,
     r: TupleRef,
-    sets: &[(ColumnNumber, Cell)],
+    sets: &[(ColumnNumber, StoredCell)],
 ) -> Result<(), NoMemory>
     requires held { IsSome (finite.get relation.now.rows r) }
     requires columns { All (λ s. s.0.0 < length relation.now.targets) sets.now }
@@ -76,43 +80,48 @@ fn push_links(
     Ok(())
 }
 
-// The links that these rows have where these cells are set.
-fn links_of(
-    alloc: Global,
+// Lists the links that these rows have where these cells are set, in place of what is there.
+fn list_links(
     relation: &Relation,
     rows: &[TupleRef],
-    sets: &[(ColumnNumber, Cell)],
-) -> Result<Vec<Link>, NoMemory>
+    sets: &[(ColumnNumber, StoredCell)],
+    links: &mut Vec<Link>,
+) -> Result<(), NoMemory>
     requires held { All (λ r. IsSome (finite.get relation.now.rows r)) rows.now }
     requires columns { All (λ s. s.0.0 < length relation.now.targets) sets.now }
-    ensures { IfOk result (λ links. map linked_of links.items ≡ links_at relation.now sets.now rows.now) }
+    ensures { OnOk result (map linked_of links.new.items ≡ links_at relation.now sets.now rows.now) }
 {
-    let mut links = Vec::new(alloc);
+    links.clear();
     for r in rows {
-        push_links(&mut links, relation, *r, sets)?;
+        push_links(links, relation, *r, sets)?;
     }
-    Ok(links)
+    Ok(())
+}
+
+/// Gives the memory of a list of links back that was made for more rows than one.
+pub fn shed_links(alloc: Global, links: &mut Vec<Link>, rows: usize) {
+    if rows > 1 {
+        *links = Vec::new(alloc);
+    }
 }
 
 // ---- the numbers of referrers
 
 // The link that a cell is in a column.
-fn link_set(relation: &Relation, set: &(ColumnNumber, Cell)) -> Option<Link>
+fn link_set(relation: &Relation, set: &(ColumnNumber, StoredCell)) -> Option<Link>
     requires { set.now.0.0 < length relation.now.targets }
     ensures { option_map linked_of result ≡ assigned.set_link relation.now.targets set.now }
 {
     let table = relation.target(set.0)?;
-    match set.1 {
-        Cell::Held(_) => None,
-        Cell::Link { to } => Some(Link { table, to }),
-    }
+    let to = set.1.named()?;
+    Some(Link { table, to })
 }
 
 // So many referrers more for each row that these cells link to, and for each such cell.
 fn count_up_sets(
     before: &mut [Relation],
     relation: &Relation,
-    sets: &[(ColumnNumber, Cell)],
+    sets: &[(ColumnNumber, StoredCell)],
     n: u64,
 )
     requires kept { All IsKept before.old }
@@ -137,6 +146,8 @@ fn set_rows_beside(
     relation: &mut Relation,
     rows: &[TupleRef],
     assignments: &[Assignment],
+    sets: &mut Vec<(ColumnNumber, StoredCell)>,
+    lost: &mut Vec<Link>,
 ) -> Result<(), Refusal>
     requires stands { (c : CatalogState) × (n : ℕ) × StandsIn c n before.old relation.old }
     requires columns { AreToColumns (length relation.old.targets) assignments.now }
@@ -147,23 +158,26 @@ fn set_rows_beside(
     ensures others { OnErr result (before.new ≡ before.old) }
     ensures unchanged { OnErr result (relation.new ≡ relation.old) }
 {
-    let sets = sets_of(alloc, before, relation, assignments)?;
-    let links = links_of(alloc, relation, rows, sets.as_slice())?;
+    pack_sets(alloc, before, relation, assignments, sets)?;
+    list_links(relation, rows, sets.as_slice(), lost)?;
     let others = Before { relations: before };
-    relation.change_rows(alloc, &others, rows, sets.as_slice())?;
+    relation.change_rows(alloc, &others, rows, sets.as_mut_slice())?;
     a_relation_is_kept(relation);
     count_up_sets(before, relation, sets.as_slice(), rows.len() as u64);
-    count_down_all(before, links.as_slice());
+    count_down_all(before, lost.as_slice());
     Ok(())
 }
 
-/// Assigns values to these rows of the relation of this number.
+/// Assigns values to these rows of the relation of this number. The cells that are set, and the links that go, are listed
+/// in these vectors on their way, in place of what is there.
 pub fn set_rows(
     alloc: Global,
     relations: &mut [Relation],
     table: TableNumber,
     rows: &[TupleRef],
     assignments: &[Assignment],
+    sets: &mut Vec<(ColumnNumber, StoredCell)>,
+    lost: &mut Vec<Link>,
 ) -> Result<(), Refusal>
     requires there { table.0 < length relations.old }
     requires consistent { AreConsistent relations.old }
@@ -175,5 +189,5 @@ pub fn set_rows(
     ensures refused { IfErr result (IsNotUpdated relations.old table.0 assignments.now) }
 {
     let (before, rest) = relations.split_at_mut(table.0);
-    set_rows_beside(alloc, before, &mut rest[0], rows, assignments)
+    set_rows_beside(alloc, before, &mut rest[0], rows, assignments, sets, lost)
 }

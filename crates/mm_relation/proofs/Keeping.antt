@@ -1,5 +1,5 @@
 -- What a relation keeps, told of its parts.
-use Rattle.std.proofs.Common.{◌≡◌, ◌≤◌, ◌<◌, ◌+◌, ℕ, List, [], ◌∷◌, IfSome, IfNone, Option, Some, None, IsSome, is_some, Bool, true, false, cond, not, zero, suc, refl, sym, ap, ◌∙◌, arith, subst, length, map, filter, inl, inr}
+use Rattle.std.proofs.Common.{◌≡◌, ◌≤◌, ◌<◌, ◌+◌, ℕ, List, [], ◌∷◌, IfSome, IfNone, Option, Some, None, IsSome, is_some, Bool, true, false, cond, not, refl, sym, ap, ◌∙◌, arith, subst, length, map, filter, inl, inr}
 use Rattle.std.specs.List.{All, Contains}
 use Rattle.std.specs.Option.{option_and_then}
 use Rattle.std.proofs.lemmas.List.Elements.{All-cons, All-contains, All-tail}

@@ -1,5 +1,5 @@
 -- The rows under the tree of their keys, as a row comes and goes.
-use Rattle.std.proofs.Common.{◌≡◌, ◌≢◌, ◌+◌, List, ◌∷◌, IfSome, IfNone, Option, Some, None, IsSome, is_some, false, refl, sym, ap, ◌∙◌, arith, subst, length, get_or, inl, inr}
+use Rattle.std.proofs.Common.{◌≡◌, ◌≢◌, ◌+◌, List, ◌∷◌, IfSome, Option, Some, None, IsSome, is_some, refl, sym, ap, ◌∙◌, arith, subst, length, get_or, inl, inr}
 use Rattle.std.specs.List.{All, Contains}
 use Rattle.std.specs.Option.{option_cmp, option_and_then}
 use Rattle.std.specs.Ordering.{ordering_then}

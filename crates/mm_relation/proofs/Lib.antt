@@ -8,6 +8,7 @@ pub mod Changing
 pub mod Setting
 pub mod Replacing
 pub mod Each
+pub mod Moving
 pub mod Keeping
 pub mod Referred
 pub mod Dropping

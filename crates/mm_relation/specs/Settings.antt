@@ -1,6 +1,6 @@
 -- Cells that are set in rows.
 use Rattle.std.specs.List.{list_any}
-use Rattle.std.specs.Prelude.{Bool, ◌==◌, ◌≡◌, ℕ, zero, suc, ◌-◌, ◌<◌, ◌++◌, slice_set, [], ◌∷◌, List, IsSome, All, Contains}
+use Rattle.std.specs.Prelude.{Bool, ◌==◌, ◌≡◌, ℕ, zero, suc, ◌-◌, ◌<◌, ◌++◌, slice_set, [], ◌∷◌, List, Option, IsSome, All, Contains}
 use Rattle.std.specs.Option.{option_map}
 use Rattle.std.specs.FinMap as finite
 use Rattle.part_raw.specs.declared.tuple_ref.TupleRef.{TupleRef}
@@ -8,7 +8,7 @@ use Rattle.part_raw.specs.Store.{Tuples}
 use Rattle.plain_tables.specs.declared.numbers.ColumnNumber.{ColumnNumber}
 use Rattle.mm_relation.specs.Rows.{Row}
 use Rattle.mm_relation.specs.declared.row.Cell.{Cell}
-use Rattle.mm_relation.specs.Reading.{Keys, cell_value, value_at}
+use Rattle.mm_relation.specs.Reading.{Keys, cell_value, link_of, value_at}
 
 -- a row with these cells set
 abbrev pub with_cells : List (ColumnNumber × Cell) → Row → Row
@@ -39,6 +39,10 @@ pile (suc n) sets = piled sets (pile n sets)
 -- these cells lie on top
 abbrev pub IsPiled : List (ColumnNumber × Cell) → List Cell → Type 0
 IsPiled sets copies = (under : List Cell) × (copies ≡ piled sets under)
+
+-- the column of a cell that is set, and the row that it names
+abbrev pub link_set : ColumnNumber × Cell → ColumnNumber × Option TupleRef
+link_set s = (s.0, link_of s.1)
 
 -- whether one of these cells is set in this column
 abbrev pub sets_column : List (ColumnNumber × Cell) → ℕ → Bool

@@ -1,48 +1,28 @@
 //! Cells set in rows, under all indexes of a relation.
-ghost use Rattle.std.specs.Prelude.{◌≡◌, ◌≢◌, ◌∷◌, ◌++◌, ℕ, ◌≤◌, ◌<◌, ◌+◌, [], List, Some, IsSome, IfOk, OnOk, OnErr, All, length, map};
+ghost use Rattle.std.specs.Prelude.{◌≡◌, ◌≢◌, ◌∷◌, ◌++◌, ℕ, ◌≤◌, ◌<◌, ◌+◌, ◌-◌, [], List, Some, IsSome, IfOk, OnOk, OnErr, All, length, map};
 ghost use Rattle.std.specs.List.{AllPairs};
 ghost use Rattle.std.specs.FinMap as finite;
 ghost use Rattle.part_raw.specs.declared.tuple_ref.TupleRef.{TupleRef};
 ghost use Rattle.mm_relation.specs.declared.row.Cell.{Cell};
 ghost use Rattle.mm_relation.specs.Rows.{Row};
 ghost use Rattle.mm_relation.specs.State.{IsKeyed};
-ghost use Rattle.mm_relation.specs.Settings.{with_cells, piled, pile, IsPiled, CanSet, CellsSet};
+ghost use Rattle.mm_relation.specs.Settings.{with_cells, piled, pile, IsPiled, CanSet, CellsSet, link_set};
 ghost use Rattle.mm_relation.specs.Indexes.{declaration_of, HaveRoom, Serve, CanRead};
 
 use crate::index::IndexOn;
 use crate::indexes::{insert_set, remove_set};
 use crate::linked_keys::LinkedKeys;
-use crate::row::Cell;
 use crate::rows::Rows;
 use crate::stored_cell::StoredCell;
 use no_memory::NoMemory;
 use part_raw::TupleRef;
-use plain_tables::{ColumnNumber, Sequence, Text, Value};
+use plain_tables::{ColumnNumber, Sequence};
 use std::alloc::Global;
-
-fn copy_of_value(alloc: Global, value: &Value) -> Result<Value, NoMemory>
-    ensures { IfOk result (λ copy. copy ≡ value.now) }
-{
-    match value {
-        Value::Null => Ok(Value::Null),
-        Value::Int(z) => Ok(Value::Int(*z)),
-        Value::Text(text) => Ok(Value::Text(Text::from_str(alloc, text.as_str())?)),
-    }
-}
-
-fn copy_of_cell(alloc: Global, cell: &Cell) -> Result<Cell, NoMemory>
-    ensures { IfOk result (λ copy. copy ≡ cell.now) }
-{
-    match cell {
-        Cell::Held(value) => Ok(Cell::Held(copy_of_value(alloc, value)?)),
-        Cell::Link { to } => Ok(Cell::Link { to: *to }),
-    }
-}
 
 // Puts a copy of each cell on the pile, the first set's uppermost.
 fn pile_copies(
     alloc: Global,
-    sets: &[(ColumnNumber, Cell)],
+    sets: &[(ColumnNumber, StoredCell)],
     copies: &mut Vec<StoredCell>,
 ) -> Result<(), NoMemory>
     ensures { OnOk result (copies.new.items ≡ piled sets.now copies.old.items) }
@@ -51,15 +31,15 @@ fn pile_copies(
         return Ok(());
     };
     pile_copies(alloc, rest, copies)?;
-    let copy = copy_of_cell(alloc, cell)?;
-    copies.push(StoredCell::pack(copy))?;
+    let copy = cell.copied(alloc)?;
+    copies.push(copy)?;
     Ok(())
 }
 
 // Copies of the cells for so many rows.
 pub fn copies_for(
     alloc: Global,
-    sets: &[(ColumnNumber, Cell)],
+    sets: &[(ColumnNumber, StoredCell)],
     count: usize,
 ) -> Result<Vec<StoredCell>, NoMemory>
     ensures { IfOk result (λ copies. copies.items ≡ pile count sets.now) }
@@ -86,7 +66,7 @@ fn top_of(copies: &mut Vec<StoredCell>) -> StoredCell
 fn write_cells(
     rows: &mut Rows,
     r: TupleRef,
-    sets: &[(ColumnNumber, Cell)],
+    sets: &[(ColumnNumber, StoredCell)],
     copies: &mut Vec<StoredCell>,
 )
     requires held { IsSome (finite.get rows.old.tuples r) }
@@ -111,7 +91,7 @@ fn change_row<R: LinkedKeys>(
     indexes: &mut Sequence<IndexOn>,
     links: &R,
     r: TupleRef,
-    sets: &[(ColumnNumber, Cell)],
+    sets: &[(ColumnNumber, StoredCell)],
     copies: &mut Vec<StoredCell>,
 )
     requires held { IsSome (finite.get rows.old.tuples r) }
@@ -135,13 +115,56 @@ fn change_row<R: LinkedKeys>(
     insert_set(indexes, rows, links, r, sets);
 }
 
+// Moves the cells into a row. Links stay behind too.
+fn move_cells(rows: &mut Rows, r: TupleRef, sets: &mut [(ColumnNumber, StoredCell)])
+    requires held { IsSome (finite.get rows.old.tuples r) }
+    requires columns { (t : Row) → finite.get rows.old.tuples r ≡ Some t → All (λ s. (0 < s.0.0) × (s.0.0 ≤ length t.cells)) sets.old }
+    ensures row { (t : Row) → finite.get rows.old.tuples r ≡ Some t → rows.new.tuples ≡ finite.insert rows.old.tuples r (with_cells sets.old t) }
+    ensures width { rows.new.width ≡ rows.old.width }
+    ensures counted { rows.new.counted ≡ rows.old.counted }
+    ensures links { map link_set sets.new ≡ map link_set sets.old }
+{
+    let Some((set, rest)) = sets.split_first_mut() else {
+        return;
+    };
+    rows.set_cell(r, set.0, set.1.take());
+    move_cells(rows, r, rest);
+}
+
+// Sets cells in one row, to which they are moved. It takes no memory.
+fn change_last<R: LinkedKeys>(
+    rows: &mut Rows,
+    indexes: &mut Sequence<IndexOn>,
+    links: &R,
+    r: TupleRef,
+    sets: &mut [(ColumnNumber, StoredCell)],
+)
+    requires held { IsSome (finite.get rows.old.tuples r) }
+    requires few { finite.len rows.old.tuples ≤ 16777216 }
+    requires room { HaveRoom 1 indexes.old }
+    requires settable { CanSet (R.keys links.now) rows.old.tuples sets.old }
+    requires read { CanRead (R.keys links.now) rows.old.tuples indexes.old }
+    requires served { (list : List TupleRef) × IsKeyed rows.old.tuples list × Serve (R.keys links.now) rows.old.tuples list indexes.old }
+    ensures row { (t : Row) → finite.get rows.old.tuples r ≡ Some t → rows.new.tuples ≡ finite.insert rows.old.tuples r (with_cells sets.old t) }
+    ensures served { (list : List TupleRef) → IsKeyed rows.old.tuples list → Serve (R.keys links.now) rows.old.tuples list indexes.old
+        → IsKeyed rows.new.tuples list × Serve (R.keys links.now) rows.new.tuples list indexes.new }
+    ensures declared { map declaration_of indexes.new ≡ map declaration_of indexes.old }
+    ensures width { rows.new.width ≡ rows.old.width }
+    ensures counted { rows.new.counted ≡ rows.old.counted }
+    ensures links { map link_set sets.new ≡ map link_set sets.old }
+{
+    remove_set(indexes, rows, links, r, sets);
+    move_cells(rows, r, sets);
+    insert_set(indexes, rows, links, r, sets);
+}
+
 // Sets cells in each of these rows, with the copies that were made for them. It takes no memory.
-pub fn change_each<R: LinkedKeys>(
+fn change_each<R: LinkedKeys>(
     rows: &mut Rows,
     indexes: &mut Sequence<IndexOn>,
     links: &R,
     rs: &[TupleRef],
-    sets: &[(ColumnNumber, Cell)],
+    sets: &[(ColumnNumber, StoredCell)],
     copies: &mut Vec<StoredCell>,
 )
     requires held { All (λ r. IsSome (finite.get rows.old.tuples r)) rs.now }
@@ -158,8 +181,42 @@ pub fn change_each<R: LinkedKeys>(
     ensures served { (list : List TupleRef) → IsKeyed rows.old.tuples list → Serve (R.keys links.now) rows.old.tuples list indexes.old
         → IsKeyed rows.new.tuples list × Serve (R.keys links.now) rows.new.tuples list indexes.new }
     ensures declared { map declaration_of indexes.new ≡ map declaration_of indexes.old }
+    ensures room { (n : ℕ) → HaveRoom (length rs.now + n) indexes.old → HaveRoom n indexes.new }
 {
     for r in rs {
         change_row(rows, indexes, links, *r, sets, copies);
     }
+}
+
+// Sets cells in each of these rows: the cells are moved to the last, and to each other row goes a copy that was made for
+// it. It takes no memory.
+pub fn change_all<R: LinkedKeys>(
+    rows: &mut Rows,
+    indexes: &mut Sequence<IndexOn>,
+    links: &R,
+    rs: &[TupleRef],
+    sets: &mut [(ColumnNumber, StoredCell)],
+    copies: &mut Vec<StoredCell>,
+)
+    requires held { All (λ r. IsSome (finite.get rows.old.tuples r)) rs.now }
+    requires once { AllPairs (λ q r. q ≢ r) rs.now }
+    requires few { finite.len rows.old.tuples ≤ 16777216 }
+    requires room { HaveRoom (length rs.now) indexes.old }
+    requires ready { copies.old.items ≡ pile (length rs.now - 1) sets.old }
+    requires settable { CanSet (R.keys links.now) rows.old.tuples sets.old }
+    requires read { CanRead (R.keys links.now) rows.old.tuples indexes.old }
+    requires served { (list : List TupleRef) × IsKeyed rows.old.tuples list × Serve (R.keys links.now) rows.old.tuples list indexes.old }
+    ensures rows { CellsSet rows.old.tuples rows.new.tuples rs.now sets.old }
+    ensures width { rows.new.width ≡ rows.old.width }
+    ensures counted { rows.new.counted ≡ rows.old.counted }
+    ensures served { (list : List TupleRef) → IsKeyed rows.old.tuples list → Serve (R.keys links.now) rows.old.tuples list indexes.old
+        → IsKeyed rows.new.tuples list × Serve (R.keys links.now) rows.new.tuples list indexes.new }
+    ensures declared { map declaration_of indexes.new ≡ map declaration_of indexes.old }
+    ensures links { map link_set sets.new ≡ map link_set sets.old }
+{
+    let Some((last, others)) = rs.split_last() else {
+        return;
+    };
+    change_each(rows, indexes, links, others, sets, copies);
+    change_last(rows, indexes, links, *last, sets);
 }

@@ -51,7 +51,6 @@ impl Relation {
             rows,
             by_key: Tree::new(alloc),
             indexes: Sequence::new(alloc),
-            packed: Vec::new(alloc),
         })
     }
 

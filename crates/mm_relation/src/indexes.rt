@@ -11,8 +11,8 @@ ghost use Rattle.mm_relation.specs.Indexes.{seen, declaration_of, room_in, wante
 use crate::index::{Index, IndexOn};
 use crate::linked_keys::LinkedKeys;
 use crate::numbers::DeclaredIndex;
-use crate::row::Cell;
 use crate::rows::Rows;
+use crate::stored_cell::StoredCell;
 use crate::tree::Tree;
 use lin_hash::LinHash;
 use mm_index::ExactIndex;
@@ -74,7 +74,7 @@ fn remove_each<R: LinkedKeys>(indexes: &mut [IndexOn], rows: &Rows, others: &R, 
 }
 
 // Whether one of these cells is set in this column.
-fn is_set(sets: &[(ColumnNumber, Cell)], column: ColumnNumber) -> bool
+fn is_set(sets: &[(ColumnNumber, StoredCell)], column: ColumnNumber) -> bool
     ensures { result ≡ sets_column sets.now column.0 }
 {
     sets.iter().any(|set| set.0.0 == column.0)
@@ -85,7 +85,7 @@ fn insert_if_set<R: LinkedKeys>(
     rows: &Rows,
     others: &R,
     r: TupleRef,
-    sets: &[(ColumnNumber, Cell)],
+    sets: &[(ColumnNumber, StoredCell)],
 )
     requires keys_differ { KeysDiffer rows.now.tuples }
     requires awaits { AwaitsSet (R.keys others.now) rows.now.tuples r sets.now on.old }
@@ -101,7 +101,7 @@ fn remove_if_set<R: LinkedKeys>(
     rows: &Rows,
     others: &R,
     r: TupleRef,
-    sets: &[(ColumnNumber, Cell)],
+    sets: &[(ColumnNumber, StoredCell)],
 )
     requires keys_differ { KeysDiffer rows.now.tuples }
     requires has { Has (R.keys others.now) rows.now.tuples r on.old }
@@ -117,7 +117,7 @@ fn insert_each_set<R: LinkedKeys>(
     rows: &Rows,
     others: &R,
     r: TupleRef,
-    sets: &[(ColumnNumber, Cell)],
+    sets: &[(ColumnNumber, StoredCell)],
 )
     requires keys_differ { KeysDiffer rows.now.tuples }
     requires awaits { All (AwaitsSet (R.keys others.now) rows.now.tuples r sets.now) indexes.old }
@@ -133,7 +133,7 @@ fn remove_each_set<R: LinkedKeys>(
     rows: &Rows,
     others: &R,
     r: TupleRef,
-    sets: &[(ColumnNumber, Cell)],
+    sets: &[(ColumnNumber, StoredCell)],
 )
     requires keys_differ { KeysDiffer rows.now.tuples }
     requires has { All (Has (R.keys others.now) rows.now.tuples r) indexes.old }
@@ -186,7 +186,7 @@ pub fn insert_set<R: LinkedKeys>(
     rows: &Rows,
     others: &R,
     r: TupleRef,
-    sets: &[(ColumnNumber, Cell)],
+    sets: &[(ColumnNumber, StoredCell)],
 )
     requires keys_differ { KeysDiffer rows.now.tuples }
     requires awaits { AwaitSet (R.keys others.now) rows.now.tuples r sets.now indexes.old }
@@ -201,7 +201,7 @@ pub fn remove_set<R: LinkedKeys>(
     rows: &Rows,
     others: &R,
     r: TupleRef,
-    sets: &[(ColumnNumber, Cell)],
+    sets: &[(ColumnNumber, StoredCell)],
 )
     requires keys_differ { KeysDiffer rows.now.tuples }
     requires has { Have (R.keys others.now) rows.now.tuples r indexes.old }

@@ -51,6 +51,7 @@ pub use refusal::RowRefusal;
 pub use relation::Relation;
 pub use relations::Relations;
 pub use row::Cell;
+pub use stored_cell::StoredCell;
 pub use tree::Walk;
 pub use ttree::{LEAST_ITEMS, MOST_ITEMS, TreeShape};
 pub use view::RowView;

@@ -1,7 +1,7 @@
 //! A row under all indexes of a relation, over the relation's parts.
 ghost use Rattle.ttree.specs.Held.{items_of_tree, size};
 ghost use Rattle.ttree.specs.Room.{room_of, nodes_of, nodes_for};
-ghost use Rattle.std.specs.Prelude.{◌≡◌, ℕ, ◌+◌, ◌≤◌, ◌<◌, max, length, slice_index_or, None, Some, IsSome, IfSome, IfNone, OnOk, All, map};
+ghost use Rattle.std.specs.Prelude.{◌≡◌, ℕ, ◌+◌, ◌≤◌, ◌<◌, [], max, length, slice_index_or, None, Some, IsSome, IfSome, IfNone, OnOk, All, map};
 ghost use Rattle.std.specs.FinMap as finite;
 ghost use Rattle.mm_relation.specs.declared.index.IndexOn.{IndexOn};
 ghost use Rattle.mm_relation.specs.Rows.{StartsWithKey, row_of};
@@ -75,6 +75,7 @@ pub fn place<R: LinkedKeys>(
     ensures kept { IfNone result (rows.new.tuples ≡ rows.old.tuples) }
     ensures kept_tree { IfNone result (by_key.new ≡ by_key.old) }
     ensures kept_indexes { IfNone result (indexes.new ≡ indexes.old) }
+    ensures moved { row.new.items ≡ [] }
     ensures width { rows.new.width ≡ rows.old.width }
     ensures counted { rows.new.counted ≡ rows.old.counted }
 {

@@ -1,8 +1,8 @@
 //! The rows of one table.
-ghost use Rattle.std.specs.Prelude.{◌≡◌, ◌≢◌, ◌+◌, ◌∷◌, ◌++◌, ◌-◌, ◌^◌, Contains, ◌<◌, ◌≤◌, All, true, false, Some, IsOk, IsSome, IsTrue, IfSome, IfNone, IfOk, OnOk, OnErr, length};
-ghost use Rattle.mm_relation.specs.declared.row.Cell.TheVariants.{Held};
+ghost use Rattle.std.specs.Prelude.{◌≡◌, ◌≢◌, ◌+◌, ◌++◌, ◌-◌, ◌^◌, [], Contains, ◌<◌, ◌≤◌, All, true, false, Some, IsOk, IsSome, IsTrue, IfSome, IfNone, IfOk, OnOk, OnErr, length, map};
+ghost use Rattle.std.specs.Bool.{OnTrue, OnFalse};
 
-use crate::change::{change_each, copies_for};
+use crate::change::{change_all, copies_for};
 use crate::index::IndexOn;
 use crate::indexes::{hash_on, is_declared, reserve, shed_spares, tree_on};
 use crate::laws::a_relation_is_kept;
@@ -12,9 +12,8 @@ use crate::probe::KeyProbe;
 use crate::referring::{count_down, count_up};
 use crate::refusal::RowRefusal;
 use crate::relations::{Links, Relations};
-use crate::row::Cell;
 use crate::rows::Rows;
-use crate::stored_cell::StoredCell;
+use crate::stored_cell::{SeenCell, StoredCell};
 use crate::tree::{Tree, Walk};
 use crate::view::RowView;
 use lin_hash::{Chain, HashShape, LinHash};
@@ -22,25 +21,11 @@ use mm_index::Probe;
 use no_memory::NoMemory;
 use part_raw::{MAX_TUPLES, TupleRef};
 use plain_tables::{
-    ColumnNumber, IndexKind, MOST_ROWS, Schema, Sequence, SoughtValue, StoredValue, Value,
+    ColumnNumber, IndexKind, MOST_ROWS, Schema, Sequence, SoughtValue, StoredValue,
 };
 use std::alloc::Global;
 use std::marker::Model;
 use ttree::{TreeShape, table_tree_shape};
-
-// Packs the cells of a row in place of what is there, its key's the first.
-fn pack_row(packed: &mut Vec<StoredCell>, key: Value, cells: Sequence<Cell>) -> Result<(), NoMemory>
-    requires { length cells + 1 < 2 ^ 64 }
-    ensures { OnOk result (packed.new.items ≡ Held key ∷ cells) }
-{
-    packed.clear();
-    packed.reserve(cells.len() + 1)?;
-    packed.push_reserved(StoredCell::pack(Cell::Held(key)));
-    for cell in cells.into_vec() {
-        packed.push_reserved(StoredCell::pack(cell));
-    }
-    Ok(())
-}
 
 /// The rows of one table in a store of their own, under the tree of their keys and every declared index.
 #[derive(Drop)]
@@ -51,8 +36,6 @@ pub struct Relation {
     pub(crate) rows: Rows,
     pub(crate) by_key: Tree,
     pub(crate) indexes: Sequence<IndexOn>,
-    // Where the cells of a row are packed on their way into the store. It keeps its memory from row to row.
-    pub(crate) packed: Vec<StoredCell>,
 }
 
 impl Model for Relation {
@@ -78,13 +61,14 @@ impl Model for Relation {
 impl Relation {
     ghost use Rattle.std.specs.FinMap as finite;
     ghost use Rattle.std.specs.List.{AllPairs};
-    ghost use Rattle.mm_relation.specs.Rows.{HaveNoReferrers, Row};
+    ghost use Rattle.mm_relation.specs.Rows.{HaveNoReferrers, Row, StartsWithKey, row_of};
     ghost use Rattle.std.specs.Option.{option_cmp};
     ghost use Rattle.plain_tables.specs.Values.{value_cmp};
     ghost use Rattle.mm_relation.specs.Reading.{Keys, key_at, value_at, cell_value};
-    ghost use Rattle.mm_relation.specs.State.{IsReadable, IsCurrent, linked_keys, no_keys, tree_list};
-    ghost use Rattle.mm_relation.specs.Changes.{IsInserted, IsRemoved, IsChanged, IsToldRightly, new_row, HasTree, HasHash, has_tree_on, has_hash_on, has_declared_on, tree_on, list_of, entries_of, Refers};
+    ghost use Rattle.mm_relation.specs.State.{IsReadable, IsCurrent, HasKey, linked_keys, no_keys, tree_list};
+    ghost use Rattle.mm_relation.specs.Changes.{IsInserted, IsRemoved, IsChanged, IsToldRightly, HasTree, HasHash, has_tree_on, has_hash_on, has_declared_on, tree_on, list_of, entries_of, Refers};
     ghost use Rattle.mm_relation.specs.Searching.{most_compared};
+    ghost use Rattle.mm_relation.specs.Settings.{link_set};
     ghost use Rattle.ttree.specs.Shape.{HasShape, IsWellShaped};
     ghost use Rattle.std.specs.declared.cmp.Ordering.{Ordering};
     ghost use Rattle.mm_index.specs.Asking.{IsOnlyAsked, counted};
@@ -319,23 +303,38 @@ impl Relation {
         self.find(&mut self.key_probe(key))
     }
 
-    /// Takes a row in, under every index, with no links to it so far.
+    /// Whether a row has the key of the row of these cells.
+    pub fn has_key_of(&self, cells: &[StoredCell]) -> bool
+        requires { StartsWithKey cells.now }
+        ensures has { OnTrue result (HasKey self.now.rows (row_of cells.now 0).key) }
+        ensures has_not { OnFalse result (HasKey self.now.rows (row_of cells.now 0).key → ⊥) }
+    {
+        match cells[0].seen() {
+            SeenCell::Held(key) => self.find_key(&key.sought()).is_some(),
+            SeenCell::Link { to: _ } => unreachable!(),
+        }
+    }
+
+    /// Takes the row of these cells in, under every index, with no links to it so far. The cells are gone either way, and the
+    /// vector keeps its memory.
     pub fn insert_row<R: Relations>(
         &mut self,
         others: &R,
-        key: Value,
-        cells: Sequence<Cell>,
+        cells: &mut Vec<StoredCell>,
     ) -> Result<TupleRef, RowRefusal>
-        requires width { length cells + 1 ≡ length self.old.targets }
-        requires readable { IsReadable (linked_keys self.old.targets (R.tables others.now)) (length self.old.targets) (new_row key cells) }
+        requires starts { StartsWithKey cells.old.items }
+        requires width { length cells.old.items ≡ length self.old.targets }
+        requires readable { IsReadable (linked_keys self.old.targets (R.tables others.now)) (length self.old.targets) (row_of cells.old.items 0) }
         requires current { IsCurrent (linked_keys self.old.targets (R.tables others.now)) self.old }
-        ensures inserted { IfOk result (λ r. IsInserted self.old self.new r (new_row key cells)) }
+        ensures inserted { IfOk result (λ r. IsInserted self.old self.new r (row_of cells.old.items 0)) }
         ensures current { IsCurrent (linked_keys self.old.targets (R.tables others.now)) self.new }
         ensures unchanged { OnErr result (self.new ≡ self.old) }
-        ensures told { IsToldRightly self.old key result }
+        ensures told { IsToldRightly self.old (row_of cells.old.items 0).key result }
+        ensures moved { cells.new.items ≡ [] }
     {
         if self.rows.len() >= u64::from(MOST_ROWS) {
-            let there = self.find_key(&key.sought()).is_some();
+            let there = self.has_key_of(cells.as_slice());
+            cells.clear();
             return Err(if there {
                 RowRefusal::KeyExists
             } else {
@@ -343,11 +342,9 @@ impl Relation {
             });
         }
         if make_room(&mut self.rows, &mut self.by_key, &mut self.indexes).is_err() {
+            cells.clear();
             return Err(RowRefusal::NoMemory);
         }
-        let Ok(()) = pack_row(&mut self.packed, key, cells) else {
-            return Err(RowRefusal::NoMemory);
-        };
         let links = Links {
             targets: self.targets.as_slice(),
             others,
@@ -357,7 +354,7 @@ impl Relation {
             &mut self.by_key,
             &mut self.indexes,
             &links,
-            &mut self.packed,
+            cells,
         )
         .ok_or(RowRefusal::KeyExists)
     }
@@ -430,31 +427,33 @@ impl Relation {
         count_down(&mut self.rows, r, n);
     }
 
-    /// Sets cells in each of these rows. All are changed, or, where no memory is found, none.
+    /// Sets cells in each of these rows. All are changed, or, where no memory is found, none. The values are moved to the last
+    /// row, and copied for each other. So the change of one row copies none.
     pub fn change_rows<R: Relations>(
         &mut self,
         alloc: Global,
         others: &R,
         rs: &[TupleRef],
-        sets: &[(ColumnNumber, Cell)],
+        sets: &mut [(ColumnNumber, StoredCell)],
     ) -> Result<(), NoMemory>
         requires held { All (λ r. IsSome (finite.get self.old.rows r)) rs.now }
         requires once { AllPairs (λ q r. q ≢ r) rs.now }
-        requires columns { All (λ s. s.0.0 < length self.old.targets) sets.now }
-        requires not_the_key { All (λ s. 0 < s.0.0) sets.now }
-        requires readable { All (λ s. IsSome (cell_value (linked_keys self.old.targets (R.tables others.now)) s.0.0 s.1)) sets.now }
+        requires columns { All (λ s. s.0.0 < length self.old.targets) sets.old }
+        requires not_the_key { All (λ s. 0 < s.0.0) sets.old }
+        requires readable { All (λ s. IsSome (cell_value (linked_keys self.old.targets (R.tables others.now)) s.0.0 s.1)) sets.old }
         requires current { IsCurrent (linked_keys self.old.targets (R.tables others.now)) self.old }
-        ensures changed { OnOk result (IsChanged self.old self.new rs.now sets.now) }
+        ensures changed { OnOk result (IsChanged self.old self.new rs.now sets.old) }
         ensures current { IsCurrent (linked_keys self.old.targets (R.tables others.now)) self.new }
         ensures unchanged { OnErr result (self.new ≡ self.old) }
+        ensures links { map link_set sets.new ≡ map link_set sets.old }
     {
-        let mut copies = copies_for(alloc, sets, rs.len())?;
+        let mut copies = copies_for(alloc, sets, rs.len().saturating_sub(1))?;
         reserve(&mut self.indexes, rs.len())?;
         let links = Links {
             targets: self.targets.as_slice(),
             others,
         };
-        change_each(
+        change_all(
             &mut self.rows,
             &mut self.indexes,
             &links,

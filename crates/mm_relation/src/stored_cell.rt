@@ -1,14 +1,18 @@
 //! What a row has in a column, as its store keeps it.
-ghost use Rattle.std.specs.Prelude.{◌≡◌};
+ghost use Rattle.std.specs.Prelude.{◌≡◌, IfOk};
 ghost use Rattle.mm_relation.specs.Cells.{cell_seen};
+ghost use Rattle.mm_relation.specs.Reading.{link_of};
+ghost use Rattle.mm_relation.specs.declared.row.Cell.TheVariants.{Held, Link};
 
-use crate::row::Cell;
+use no_memory::NoMemory;
 use part_raw::TupleRef;
-use plain_tables::StoredValue;
+use plain_tables::{SeenValue, StoredValue, Text, Value};
+use std::alloc::Global;
 use std::marker::Model;
+use std::mem;
 use std::mem::size_of;
 
-// A cell as a row keeps it: one value, which is a link where the cell is one. Contracts see the cell.
+/// A cell as a row keeps it, in 16 bytes: one value, which is a link where the cell is one. Contracts see the cell.
 #[derive(Drop)]
 pub struct StoredCell {
     value: StoredValue,
@@ -37,19 +41,58 @@ pub enum SeenCell<'a> {
 }
 
 impl StoredCell {
-    // A cell, to be kept. It takes no memory.
-    pub fn pack(cell: Cell) -> StoredCell
-        ensures { result ≡ cell }
+    /// The cell of a value of the row's own. The value is moved, and takes no memory.
+    pub fn held(value: Value) -> StoredCell
+        ensures { result ≡ Held value }
     {
-        let value = match cell {
-            Cell::Held(value) => StoredValue::pack(value),
-            Cell::Link { to } => StoredValue::link(to.number),
+        StoredCell {
+            value: StoredValue::pack(value),
+        }
+    }
+
+    /// The cell that names a row.
+    pub fn link(to: TupleRef) -> StoredCell
+        ensures { result ≡ Link to }
+    {
+        StoredCell {
+            value: StoredValue::link(to.number),
+        }
+    }
+
+    /// The row that it names. None where it holds a value of the row's own.
+    pub fn named(&self) -> Option<TupleRef>
+        ensures { result ≡ link_of self.now }
+    {
+        let number = self.value.link_number()?;
+        Some(TupleRef { number })
+    }
+
+    // A copy. One of a text of at most 14 bytes takes no memory, nor does one of a link.
+    pub(crate) fn copied(&self, alloc: Global) -> Result<StoredCell, NoMemory>
+        ensures { IfOk result (λ copy. copy ≡ self.now) }
+    {
+        let value = match self.value.seen() {
+            SeenValue::Null => StoredValue::pack(Value::Null),
+            SeenValue::Int(integer) => StoredValue::pack(Value::Int(integer)),
+            SeenValue::Text(text) => StoredValue::pack(Value::Text(Text::from_str(alloc, text)?)),
+            SeenValue::Link(number) => StoredValue::link(number),
         };
-        StoredCell { value }
+        Ok(StoredCell { value })
+    }
+
+    // Moves a value of the row's own out, and leaves null. A link stays there too.
+    pub(crate) fn take(&mut self) -> StoredCell
+        ensures taken { result ≡ self.old }
+        ensures link { link_of self.new ≡ link_of self.old }
+    {
+        match self.named() {
+            Some(to) => StoredCell::link(to),
+            None => mem::replace(self, StoredCell::held(Value::Null)),
+        }
     }
 
     // What it holds, to match on.
-    pub fn seen(&self) -> SeenCell<'_>
+    pub(crate) fn seen(&self) -> SeenCell<'_>
         ensures { cell_seen result ≡ self.now }
     {
         match self.value.link_number() {

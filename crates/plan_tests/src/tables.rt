@@ -1,9 +1,9 @@
 //! Tables of two columns of integers.
 ghost use Rattle.std.specs.Prelude.{◌≡◌, ◌∷◌, [], IfOk, length};
-ghost use Rattle.plain_tables.specs.declared.value.Value.{Value};
-ghost use Rattle.mm_relation.specs.declared.row.Cell.{Cell};
+ghost use Rattle.plain_tables.specs.declared.value.Value.TheVariants.{Int};
+ghost use Rattle.mm_relation.specs.declared.row.Cell.TheVariants.{Held};
 
-use mm_relation::{Cell, ColumnNumber, Relation, Relations, RowRefusal, TableNumber};
+use mm_relation::{ColumnNumber, Relation, Relations, RowRefusal, StoredCell, TableNumber};
 use no_memory::NoMemory;
 use plain_tables::{ColKind, Column, IndexKind, Schema, Sequence, Text, Value};
 use std::alloc::Global;
@@ -59,12 +59,13 @@ fn schema(alloc: Global) -> Result<Schema, NoMemory>
     Ok(Schema { columns })
 }
 
-// The one cell of a row.
-fn cells(alloc: Global) -> Result<Sequence<Cell>, NoMemory>
-    ensures { IfOk result (λ cells. (value : Value) × (cells ≡ Cell.Held value ∷ [])) }
+// The cells of a row.
+fn cells(alloc: Global, id: i64) -> Result<Vec<StoredCell>, NoMemory>
+    ensures { IfOk result (λ cells. cells.items ≡ Held (Int id) ∷ Held (Int 0) ∷ []) }
 {
-    let mut cells = Sequence::new(alloc);
-    cells.push(Cell::Held(Value::Int(0)))?;
+    let mut cells = Vec::new(alloc);
+    cells.push(StoredCell::held(Value::Int(id)))?;
+    cells.push(StoredCell::held(Value::Int(0)))?;
     Ok(cells)
 }
 
@@ -76,11 +77,11 @@ impl Table {
     }
 
     pub fn insert(&mut self, alloc: Global, id: i64) -> Result<(), RowRefusal> {
-        let Ok(cells) = cells(alloc) else {
+        let Ok(mut cells) = cells(alloc, id) else {
             return Err(RowRefusal::NoMemory);
         };
         let none = Tables { relations: &[] };
-        self.relation.insert_row(&none, Value::Int(id), cells)?;
+        self.relation.insert_row(&none, &mut cells)?;
         Ok(())
     }
 

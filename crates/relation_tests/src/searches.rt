@@ -2,10 +2,12 @@
 //!
 //! The contract of `find` bounds the number from above, and the probe counts. That a search compares at all as often as it
 //! has to, no contract says.
-ghost use Rattle.std.specs.Prelude.{◌≡◌, [], IfOk, length};
+ghost use Rattle.std.specs.Prelude.{◌≡◌, ◌∷◌, [], IfOk, length};
+ghost use Rattle.plain_tables.specs.declared.value.Value.TheVariants.{Int};
+ghost use Rattle.mm_relation.specs.declared.row.Cell.TheVariants.{Held};
 ghost use Rattle.mm_relation.specs.State.{IsCurrent, linked_keys};
 
-use mm_relation::{Probe, Relation, Relations, RowRefusal, TableNumber};
+use mm_relation::{Probe, Relation, Relations, RowRefusal, StoredCell, TableNumber};
 use no_memory::NoMemory;
 use plain_tables::{ColKind, Column, Schema, Sequence, Text, Value};
 use std::alloc::Global;
@@ -39,14 +41,26 @@ fn no_keys(alloc: Global) -> Result<Relation, NoMemory>
     Relation::new(alloc, Schema { columns })
 }
 
+// The cells of a row of this key alone.
+fn cells(alloc: Global, key: i64) -> Result<Vec<StoredCell>, NoMemory>
+    ensures { IfOk result (λ cells. cells.items ≡ Held (Int key) ∷ []) }
+{
+    let mut cells = Vec::new(alloc);
+    cells.push(StoredCell::held(Value::Int(key)))?;
+    Ok(cells)
+}
+
 fn put_key(alloc: Global, relation: &mut Relation, key: i64) -> Result<(), RowRefusal>
     requires current { IsCurrent (linked_keys relation.old.targets []) relation.old }
     requires narrow { length relation.old.targets ≡ 1 }
     ensures current { IsCurrent (linked_keys relation.new.targets []) relation.new }
     ensures narrow { length relation.new.targets ≡ 1 }
 {
+    let Ok(mut cells) = cells(alloc, key) else {
+        return Err(RowRefusal::NoMemory);
+    };
     let none = Tables { relations: &[] };
-    relation.insert_row(&none, Value::Int(key), Sequence::new(alloc))?;
+    relation.insert_row(&none, &mut cells)?;
     Ok(())
 }
 

@@ -44,6 +44,7 @@ loop-r-init g c =
       served = λ list keyed serves. (keyed, serves);
       declared = refl;
       room = subst (λ n. HaveRoom n c.args.indexes.now) all c.requires.room;
+      left = λ n room. subst (λ m. HaveRoom (m + n) c.args.indexes.now) all room;
       width = refl;
       counted = refl;
       copies = c.requires.ready ∙ ap (λ n. pile n c.args.sets.now) all;
@@ -56,6 +57,9 @@ loop-r-preserved g c = record {
   served = λ list keyed serves. let now = c.loop-r.invariant.served list keyed serves in c.change_row.ensures.served list now.0 now.1;
   declared = c.change_row.ensures.declared ∙ c.loop-r.invariant.declared;
   room = room_next (length c.args.rs.now) c.loop-r.r-index c.loop-r.indexes c.change_row.new.indexes (omega arith) c.change_row.ensures.room c.loop-r.invariant.room;
+  left = λ n room.
+      let one : length c.args.rs.now - c.loop-r.r-index + n ≡ length c.args.rs.now - (c.loop-r.r-index + 1) + n + 1 = omega arith in
+      c.change_row.ensures.room (length c.args.rs.now - (c.loop-r.r-index + 1) + n) (subst (λ m. HaveRoom m c.loop-r.indexes) one (c.loop-r.invariant.left n room));
   width = c.change_row.ensures.width ∙ c.loop-r.invariant.width;
   counted = c.change_row.ensures.counted ∙ c.loop-r.invariant.counted;
   copies = c.change_row.ensures.left _ (c.loop-r.invariant.copies ∙ pile_split (length c.args.rs.now) c.loop-r.r-index c.args.sets.now (omega arith));
@@ -64,3 +68,8 @@ loop-r-preserved g c = record {
 pub returns-clause-rows : goal.returns-clause-rows
 returns-clause-rows g c =
     subst (λ rs. CellsSet c.args.rows.now.tuples c.loop-r.rows.tuples rs c.args.sets.now) (take_all c.loop-r.r-index c.args.rs.now (omega arith)) c.loop-r.invariant.set
+
+pub returns-clause-room : goal.returns-clause-room
+returns-clause-room g c = λ n room.
+    let none : length c.args.rs.now - c.loop-r.r-index + n ≡ n = omega arith in
+    subst (λ m. HaveRoom m c.loop-r.indexes) none (c.loop-r.invariant.left n room)

@@ -1,4 +1,4 @@
-use Rattle.std.proofs.Common.{◌≡◌, ◌-◌, List, length, take, map}
+use Rattle.std.proofs.Common.{◌≡◌, ℕ, ◌+◌, ◌-◌, List, length, take, map}
 use Rattle.part_raw.specs.declared.tuple_ref.TupleRef.{TupleRef}
 use Rattle.mm_relation.specs.State.{IsKeyed}
 use Rattle.mm_relation.specs.Settings.{CellsSet, pile}
@@ -11,6 +11,7 @@ invariant-loop-r g l = record {
   served : (list : List TupleRef) → IsKeyed l.fn.rows.tuples list → Serve (g.R.LinkedKeys.keys l.links) l.fn.rows.tuples list l.fn.indexes → IsKeyed l.rows.tuples list × Serve (g.R.LinkedKeys.keys l.links) l.rows.tuples list l.indexes;
   declared : map declaration_of l.indexes ≡ map declaration_of l.fn.indexes;
   room : HaveRoom (length l.rs - l.r-index) l.indexes;
+  left : (n : ℕ) → HaveRoom (length l.rs + n) l.fn.indexes → HaveRoom (length l.rs - l.r-index + n) l.indexes;
   width : l.rows.width ≡ l.fn.rows.width;
   counted : l.rows.counted ≡ l.fn.rows.counted;
   copies : l.copies.items ≡ pile (length l.rs - l.r-index) l.sets;

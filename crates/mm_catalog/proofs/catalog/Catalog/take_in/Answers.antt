@@ -19,26 +19,26 @@ use Rattle.mm_catalog.proofs.catalog.Catalog.take_in.Goals as goal
 use Rattle.mm_catalog.specs.Standing.{Stands}
 use Rattle.mm_catalog.proofs.Standing.{stands_at}
 
-pub insert-requires-clause-there : goal.insert-requires-clause-there
-insert-requires-clause-there c =
+pub insert_moved-requires-clause-there : goal.insert_moved-requires-clause-there
+insert_moved-requires-clause-there c =
     let s : CatalogState = record { limits = c.self.inside.limits; names = map string_bytes c.self.inside.names.keys; relations = c.self.inside.relations.items } in
     let meant : IsMeant s.limits (database_of s) (resolved.Insert c.args.table c.args.values) = rw (← c.self.view_is) at c.requires in
     subst (λ (rs : List RelationState). c.args.table.0 < length rs) (sym c.as_mut_slice.ensures.value) (there_at s c.self.invariant c.args.table.0 meant.0 meant.1)
 
-pub insert-requires-clause-stands : goal.insert-requires-clause-stands
-insert-requires-clause-stands c =
+pub insert_moved-requires-clause-stands : goal.insert_moved-requires-clause-stands
+insert_moved-requires-clause-stands c =
     let s : CatalogState = record { limits = c.self.inside.limits; names = map string_bytes c.self.inside.names.keys; relations = c.self.inside.relations.items } in
     subst (λ rs. Stands rs c.args.table.0) (sym c.as_mut_slice.ensures.value) (stands_at s c.self.invariant c.args.table.0)
 
-pub insert-requires-clause-some : goal.insert-requires-clause-some
-insert-requires-clause-some c =
+pub insert_moved-requires-clause-some : goal.insert_moved-requires-clause-some
+insert_moved-requires-clause-some c =
     let s : CatalogState = record { limits = c.self.inside.limits; names = map string_bytes c.self.inside.names.keys; relations = c.self.inside.relations.items } in
     let meant : IsMeant s.limits (database_of s) (resolved.Insert c.args.table c.args.values) = rw (← c.self.view_is) at c.requires in
     let there = slice_get-inside s.relations c.args.table.0 (there_at s c.self.invariant c.args.table.0 meant.0 meant.1) in
     some_value s c.self.invariant c.args.table c.args.values meant there.0 there.1
 
-pub insert-requires-clause-width : goal.insert-requires-clause-width
-insert-requires-clause-width c =
+pub insert_moved-requires-clause-width : goal.insert_moved-requires-clause-width
+insert_moved-requires-clause-width c =
     let s : CatalogState = record { limits = c.self.inside.limits; names = map string_bytes c.self.inside.names.keys; relations = c.self.inside.relations.items } in
     let meant : IsMeant s.limits (database_of s) (resolved.Insert c.args.table c.args.values) = rw (← c.self.view_is) at c.requires in
     subst (λ (rs : List RelationState). (t : RelationState) → slice_get rs c.args.table.0 ≡ Some t → length c.args.values ≡ length t.targets) (sym c.as_mut_slice.ensures.value)
@@ -48,25 +48,25 @@ pub invariant_of-self : goal.invariant_of-self
 invariant_of-self c =
     let s : CatalogState = record { limits = c.self.inside.limits; names = map string_bytes c.self.inside.names.keys; relations = c.self.inside.relations.items } in
     let meant : IsMeant s.limits (database_of s) (resolved.Insert c.args.table c.args.values) = rw (← c.self.view_is) at c.requires in
-    let back = whole c.insert.new.relations (drop (length c.insert.new.relations) c.self.inside.relations.items) c.self.inside.relations.len (omega (arith, c.insert.auto.relations, ap length c.as_mut_slice.ensures.value, c.self.inside.relations.ok.0)) in
+    let back = whole c.insert_moved.new.relations (drop (length c.insert_moved.new.relations) c.self.inside.relations.items) c.self.inside.relations.len (omega (arith, c.insert_moved.auto.relations, ap length c.as_mut_slice.ensures.value, c.self.inside.relations.ok.0)) in
     subst (λ rs. IsConsistent (record s { relations = rs })) (sym back)
-    (inserted_consistent s c.self.invariant c.args.table c.args.values meant c.insert.new.relations c.insert.result
-    (rw c.as_mut_slice.ensures.value at c.insert.ensures.inserted) (rw c.as_mut_slice.ensures.value at c.insert.ensures.unchanged))
+    (inserted_consistent s c.self.invariant c.args.table c.args.values meant c.insert_moved.new.relations c.insert_moved.result
+    (rw c.as_mut_slice.ensures.value at c.insert_moved.ensures.inserted) (rw c.as_mut_slice.ensures.value at c.insert_moved.ensures.unchanged))
 
 pub returns : goal.returns
 returns c =
     let s : CatalogState = record { limits = c.self.inside.limits; names = map string_bytes c.self.inside.names.keys; relations = c.self.inside.relations.items } in
     let meant : IsMeant s.limits (database_of s) (resolved.Insert c.args.table c.args.values) = rw (← c.self.view_is) at c.requires in
-    let back = whole c.insert.new.relations (drop (length c.insert.new.relations) c.self.inside.relations.items) c.self.inside.relations.len (omega (arith, c.insert.auto.relations, ap length c.as_mut_slice.ensures.value, c.self.inside.relations.ok.0)) in
+    let back = whole c.insert_moved.new.relations (drop (length c.insert_moved.new.relations) c.self.inside.relations.items) c.self.inside.relations.len (omega (arith, c.insert_moved.auto.relations, ap length c.as_mut_slice.ensures.value, c.self.inside.relations.ok.0)) in
     record {
       inserted = rw (← c.self.view_is)
-          (subst (λ rs. OnOk c.insert.result (HasEffect s (record s { relations = rs }) (done s.limits (database_of s) (resolved.Insert c.args.table c.args.values)) 1)) (sym back)
-          (inserted_effect s c.self.invariant c.args.table c.args.values meant c.insert.new.relations c.insert.result (rw c.as_mut_slice.ensures.value at c.insert.ensures.inserted)));
+          (subst (λ rs. OnOk c.insert_moved.result (HasEffect s (record s { relations = rs }) (done s.limits (database_of s) (resolved.Insert c.args.table c.args.values)) 1)) (sym back)
+          (inserted_effect s c.self.invariant c.args.table c.args.values meant c.insert_moved.new.relations c.insert_moved.result (rw c.as_mut_slice.ensures.value at c.insert_moved.ensures.inserted)));
       came = rw (← c.self.view_is)
-          (subst (λ rs. IfOk c.insert.result (HasCome s (record s { relations = rs }) c.args.table.0 c.args.values)) (sym back)
-          (inserted_came s c.self.invariant c.args.table c.args.values meant c.insert.new.relations c.insert.result (rw c.as_mut_slice.ensures.value at c.insert.ensures.inserted)));
+          (subst (λ rs. IfOk c.insert_moved.result (HasCome s (record s { relations = rs }) c.args.table.0 c.args.values)) (sym back)
+          (inserted_came s c.self.invariant c.args.table c.args.values meant c.insert_moved.new.relations c.insert_moved.result (rw c.as_mut_slice.ensures.value at c.insert_moved.ensures.inserted)));
       refused = rw (← c.self.view_is)
-          (subst (λ rs. IfErr c.insert.result (IsRefusedFor s (record s { relations = rs }) (done s.limits (database_of s) (resolved.Insert c.args.table c.args.values)))) (sym back)
-          (inserted_refused s c.self.invariant c.args.table c.args.values meant c.insert.new.relations c.insert.result
-          (rw c.as_mut_slice.ensures.value at c.insert.ensures.refused) (rw c.as_mut_slice.ensures.value at c.insert.ensures.unchanged)));
+          (subst (λ rs. IfErr c.insert_moved.result (IsRefusedFor s (record s { relations = rs }) (done s.limits (database_of s) (resolved.Insert c.args.table c.args.values)))) (sym back)
+          (inserted_refused s c.self.invariant c.args.table c.args.values meant c.insert_moved.new.relations c.insert_moved.result
+          (rw c.as_mut_slice.ensures.value at c.insert_moved.ensures.refused) (rw c.as_mut_slice.ensures.value at c.insert_moved.ensures.unchanged)));
     }

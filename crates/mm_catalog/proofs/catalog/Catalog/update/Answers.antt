@@ -17,19 +17,19 @@ use Rattle.mm_catalog.proofs.Lists.{whole}
 use Rattle.mm_catalog.proofs.UpdateDone.{columns_of, updated_consistent, updated_effect, updated_refused}
 use Rattle.mm_catalog.proofs.catalog.Catalog.update.Goals as goal
 
-pub set_rows-requires-clause-there : goal.set_rows-requires-clause-there
-set_rows-requires-clause-there c =
+pub set_rows-answer-requires-clause-there : goal.set_rows-answer-requires-clause-there
+set_rows-answer-requires-clause-there c =
     let s : CatalogState = record { limits = c.self.inside.limits; names = map string_bytes c.self.inside.names.keys; relations = c.self.inside.relations.items } in
     let meant : OfTable c.args.table (database_of s) (AreAssignable (database_of s) c.args.assignments.now) = rw (← c.self.view_is) at c.requires.meant in
     subst (λ (rs : List RelationState). c.args.table.0 < length rs) (sym c.as_mut_slice.ensures.value) (there_at s c.self.invariant c.args.table.0 meant.0 meant.1)
 
-pub set_rows-requires-clause-consistent : goal.set_rows-requires-clause-consistent
-set_rows-requires-clause-consistent c =
+pub set_rows-answer-requires-clause-consistent : goal.set_rows-answer-requires-clause-consistent
+set_rows-answer-requires-clause-consistent c =
     let s : CatalogState = record { limits = c.self.inside.limits; names = map string_bytes c.self.inside.names.keys; relations = c.self.inside.relations.items } in
     subst AreConsistent (sym c.as_mut_slice.ensures.value) (s, refl, c.self.invariant)
 
-pub set_rows-requires-clause-columns : goal.set_rows-requires-clause-columns
-set_rows-requires-clause-columns c =
+pub set_rows-answer-requires-clause-columns : goal.set_rows-answer-requires-clause-columns
+set_rows-answer-requires-clause-columns c =
     let s : CatalogState = record { limits = c.self.inside.limits; names = map string_bytes c.self.inside.names.keys; relations = c.self.inside.relations.items } in
     let meant : OfTable c.args.table (database_of s) (AreAssignable (database_of s) c.args.assignments.now) = rw (← c.self.view_is) at c.requires.meant in
     subst (λ (rs : List RelationState). (t : RelationState) → slice_get rs c.args.table.0 ≡ Some t → AreToColumns (length t.targets) c.args.assignments.now) (sym c.as_mut_slice.ensures.value)
@@ -40,21 +40,21 @@ invariant_of-self c =
     let s : CatalogState = record { limits = c.self.inside.limits; names = map string_bytes c.self.inside.names.keys; relations = c.self.inside.relations.items } in
     let meant : OfTable c.args.table (database_of s) (AreAssignable (database_of s) c.args.assignments.now) = rw (← c.self.view_is) at c.requires.meant in
     let held : HoldsRows s c.args.table.0 c.args.rows.now = rw (← c.self.view_is) at c.requires.held in
-    let back = whole c.set_rows.new.relations (drop (length c.set_rows.new.relations) c.self.inside.relations.items) c.self.inside.relations.len (omega (arith, c.set_rows.auto.relations, ap length c.as_mut_slice.ensures.value, c.self.inside.relations.ok.0)) in
+    let back = whole c.set_rows-answer.new.relations (drop (length c.set_rows-answer.new.relations) c.self.inside.relations.items) c.self.inside.relations.len (omega (arith, c.set_rows-answer.auto.relations, ap length c.as_mut_slice.ensures.value, c.self.inside.relations.ok.0)) in
     subst (λ rs. IsConsistent (record s { relations = rs })) (sym back)
-    (updated_consistent s c.self.invariant c.args.table c.args.assignments.now meant c.args.rows.now held c.requires.once c.set_rows.new.relations c.set_rows.result
-    (rw c.as_mut_slice.ensures.value at c.set_rows.ensures.updated) (rw c.as_mut_slice.ensures.value at c.set_rows.ensures.unchanged))
+    (updated_consistent s c.self.invariant c.args.table c.args.assignments.now meant c.args.rows.now held c.requires.once c.set_rows-answer.new.relations c.set_rows-answer.result
+    (rw c.as_mut_slice.ensures.value at c.set_rows-answer.ensures.updated) (rw c.as_mut_slice.ensures.value at c.set_rows-answer.ensures.unchanged))
 
 pub returns-clause-updated : goal.returns-clause-updated
 returns-clause-updated c =
     let s : CatalogState = record { limits = c.self.inside.limits; names = map string_bytes c.self.inside.names.keys; relations = c.self.inside.relations.items } in
     let meant : OfTable c.args.table (database_of s) (AreAssignable (database_of s) c.args.assignments.now) = rw (← c.self.view_is) at c.requires.meant in
     let held : HoldsRows s c.args.table.0 c.args.rows.now = rw (← c.self.view_is) at c.requires.held in
-    let back = whole c.set_rows.new.relations (drop (length c.set_rows.new.relations) c.self.inside.relations.items) c.self.inside.relations.len (omega (arith, c.set_rows.auto.relations, ap length c.as_mut_slice.ensures.value, c.self.inside.relations.ok.0)) in
+    let back = whole c.set_rows-answer.new.relations (drop (length c.set_rows-answer.new.relations) c.self.inside.relations.items) c.self.inside.relations.len (omega (arith, c.set_rows-answer.auto.relations, ap length c.as_mut_slice.ensures.value, c.self.inside.relations.ok.0)) in
     rw (← c.self.view_is)
-    (subst (λ rs. OnOk c.set_rows.result ((picks : Row → Bool) → ArePicked s c.args.table.0 c.args.rows.now picks → HasEffect s (record s { relations = rs }) (doing.update (database_of s) c.args.table c.args.assignments.now picks) (length c.args.rows.now))) (sym back)
-    (updated_effect s c.self.invariant c.args.table c.args.assignments.now meant c.args.rows.now held c.requires.once c.set_rows.new.relations c.set_rows.result
-    (rw c.as_mut_slice.ensures.value at c.set_rows.ensures.updated)))
+    (subst (λ rs. OnOk c.set_rows-answer.result ((picks : Row → Bool) → ArePicked s c.args.table.0 c.args.rows.now picks → HasEffect s (record s { relations = rs }) (doing.update (database_of s) c.args.table c.args.assignments.now picks) (length c.args.rows.now))) (sym back)
+    (updated_effect s c.self.invariant c.args.table c.args.assignments.now meant c.args.rows.now held c.requires.once c.set_rows-answer.new.relations c.set_rows-answer.result
+    (rw c.as_mut_slice.ensures.value at c.set_rows-answer.ensures.updated)))
 
 pub returns-clause-refused : goal.returns-clause-refused
 returns-clause-refused c =
@@ -62,5 +62,5 @@ returns-clause-refused c =
     let meant : OfTable c.args.table (database_of s) (AreAssignable (database_of s) c.args.assignments.now) = rw (← c.self.view_is) at c.requires.meant in
     let held : HoldsRows s c.args.table.0 c.args.rows.now = rw (← c.self.view_is) at c.requires.held in
     rw (← c.self.view_is)
-    (updated_refused s c.self.invariant c.args.table c.args.assignments.now meant c.args.rows.now held c.requires.once c.set_rows.new.relations c.set_rows.result
-    (rw c.as_mut_slice.ensures.value at c.set_rows.ensures.refused))
+    (updated_refused s c.self.invariant c.args.table c.args.assignments.now meant c.args.rows.now held c.requires.once c.set_rows-answer.new.relations c.set_rows-answer.result
+    (rw c.as_mut_slice.ensures.value at c.set_rows-answer.ensures.refused))

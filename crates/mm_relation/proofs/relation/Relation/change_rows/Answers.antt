@@ -18,8 +18,8 @@ reserve-requires g c =
     let count : length (tree_list c.self.inside.by_key.tree) ≡ len c.self.inside.rows.tuples = c.self.invariant.0.keyed.lists.count in
     omega (arith, among, count, c.self.invariant.0.few)
 
-pub change_each-requires-clause-read : goal.change_each-requires-clause-read
-change_each-requires-clause-read g c =
+pub change_all-requires-clause-read : goal.change_all-requires-clause-read
+change_all-requires-clause-read g c =
     let keys = linked_keys c.self.inside.targets.items (g.R.Relations.tables c.args.others.now) in
     let same = same_state c.self.inside.rows.counted c.self.inside.schema c.self.inside.targets.items c.self.inside.declared.items c.self.inside.rows.tuples c.self.inside.rows.tuples c.self.inside.by_key.tree c.self.inside.by_key.tree c.self.inside.indexes c.reserve.new.indexes
     refl refl c.reserve.ensures.same in
@@ -27,8 +27,8 @@ change_each-requires-clause-read g c =
     let current = subst (IsCurrent keys) (sym same) (rw (← c.self.view_is) at c.requires.current) in
     rw c.as_slice.ensures.value (can_read c.self.inside.rows.counted c.self.inside.schema c.self.inside.targets.items c.self.inside.declared.items c.self.inside.rows.tuples c.self.inside.by_key.tree c.reserve.new.indexes kept keys current)
 
-pub change_each-requires-clause-served : goal.change_each-requires-clause-served
-change_each-requires-clause-served g c =
+pub change_all-requires-clause-served : goal.change_all-requires-clause-served
+change_all-requires-clause-served g c =
     let keys = linked_keys c.self.inside.targets.items (g.R.Relations.tables c.args.others.now) in
     let same = same_state c.self.inside.rows.counted c.self.inside.schema c.self.inside.targets.items c.self.inside.declared.items c.self.inside.rows.tuples c.self.inside.rows.tuples c.self.inside.by_key.tree c.self.inside.by_key.tree c.self.inside.indexes c.reserve.new.indexes
     refl refl c.reserve.ensures.same in
@@ -44,15 +44,15 @@ invariant_of-self-2 g c =
     refl refl c.reserve.ensures.same in
     let kept = subst IsKept (sym same) c.self.invariant.0 in
     let current = subst (IsCurrent keys) (sym same) (rw (← c.self.view_is) at c.requires.current) in
-    let after : IsKeyed c.change_each.new.rows.tuples (tree_list c.self.inside.by_key.tree) × Serve keys c.change_each.new.rows.tuples (tree_list c.self.inside.by_key.tree) c.shed_spares.new.indexes =
+    let after : IsKeyed c.change_all.new.rows.tuples (tree_list c.self.inside.by_key.tree) × Serve keys c.change_all.new.rows.tuples (tree_list c.self.inside.by_key.tree) c.shed_spares.new.indexes =
     rw c.shed_spares.ensures.same
-    ((rw c.as_slice.ensures.value at c.change_each.ensures.served) (tree_list c.self.inside.by_key.tree) c.self.invariant.0.keyed
+    ((rw c.as_slice.ensures.value at c.change_all.ensures.served) (tree_list c.self.inside.by_key.tree) c.self.invariant.0.keyed
     (served c.self.inside.rows.counted c.self.inside.schema c.self.inside.targets.items c.self.inside.declared.items c.self.inside.rows.tuples c.self.inside.by_key.tree c.reserve.new.indexes kept keys current)) in (
       kept_on c.self.inside.rows.counted c.self.inside.schema c.self.inside.targets.items c.self.inside.declared.items c.self.inside.rows.tuples c.self.inside.by_key.tree c.reserve.new.indexes kept
-          c.change_each.new.rows.counted c.change_each.new.rows.tuples c.self.inside.by_key.tree c.shed_spares.new.indexes after.0
-          (as_few c.self.inside.rows.tuples c.change_each.new.rows.tuples (tree_list c.self.inside.by_key.tree) c.self.invariant.0.keyed after.0 c.self.invariant.0.few)
-          (seen_declared c.change_each.new.indexes c.shed_spares.new.indexes c.shed_spares.ensures.same ∙ c.change_each.ensures.declared),
-      c.change_each.ensures.width ∙ c.self.invariant.1,
+          c.change_all.new.rows.counted c.change_all.new.rows.tuples c.self.inside.by_key.tree c.shed_spares.new.indexes after.0
+          (as_few c.self.inside.rows.tuples c.change_all.new.rows.tuples (tree_list c.self.inside.by_key.tree) c.self.invariant.0.keyed after.0 c.self.invariant.0.few)
+          (seen_declared c.change_all.new.indexes c.shed_spares.new.indexes c.shed_spares.ensures.same ∙ c.change_all.ensures.declared),
+      c.change_all.ensures.width ∙ c.self.invariant.1,
     )
 
 pub returns-clause-current : goal.returns-clause-current
@@ -62,14 +62,14 @@ returns-clause-current g c =
     refl refl c.reserve.ensures.same in
     let kept = subst IsKept (sym same) c.self.invariant.0 in
     let current = subst (IsCurrent keys) (sym same) (rw (← c.self.view_is) at c.requires.current) in
-    let after : IsKeyed c.change_each.new.rows.tuples (tree_list c.self.inside.by_key.tree) × Serve keys c.change_each.new.rows.tuples (tree_list c.self.inside.by_key.tree) c.shed_spares.new.indexes =
+    let after : IsKeyed c.change_all.new.rows.tuples (tree_list c.self.inside.by_key.tree) × Serve keys c.change_all.new.rows.tuples (tree_list c.self.inside.by_key.tree) c.shed_spares.new.indexes =
     rw c.shed_spares.ensures.same
-    ((rw c.as_slice.ensures.value at c.change_each.ensures.served) (tree_list c.self.inside.by_key.tree) c.self.invariant.0.keyed
+    ((rw c.as_slice.ensures.value at c.change_all.ensures.served) (tree_list c.self.inside.by_key.tree) c.self.invariant.0.keyed
     (served c.self.inside.rows.counted c.self.inside.schema c.self.inside.targets.items c.self.inside.declared.items c.self.inside.rows.tuples c.self.inside.by_key.tree c.reserve.new.indexes kept keys current)) in
     let can = can_set keys (length c.self.inside.targets.items) c.self.inside.rows.tuples c.args.sets.now current.readable
     (rw (← c.self.view_is) at c.requires.columns) c.requires.not_the_key (rw (← c.self.view_is) at c.requires.readable) in
     rw (← c.self.view_is)
     (current_on c.self.inside.rows.counted c.self.inside.schema c.self.inside.targets.items c.self.inside.declared.items c.self.inside.rows.tuples c.self.inside.by_key.tree c.reserve.new.indexes kept
-    c.change_each.new.rows.counted c.change_each.new.rows.tuples c.self.inside.by_key.tree c.shed_spares.new.indexes keys
-    (readable_set keys (length c.self.inside.targets.items) c.self.inside.rows.tuples c.args.sets.now current.readable can c.change_each.new.rows.tuples c.args.rs.now c.change_each.ensures.rows)
+    c.change_all.new.rows.counted c.change_all.new.rows.tuples c.self.inside.by_key.tree c.shed_spares.new.indexes keys
+    (readable_set keys (length c.self.inside.targets.items) c.self.inside.rows.tuples c.args.sets.now current.readable can c.change_all.new.rows.tuples c.args.rs.now c.change_all.ensures.rows)
     after.1)

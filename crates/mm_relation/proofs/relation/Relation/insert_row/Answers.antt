@@ -1,9 +1,7 @@
-use Rattle.std.proofs.Common.{◌≡◌, ◌+◌, ◌∷◌, ◌<◌, ◌∙◌, sym, ap, arith, subst, length}
-use Rattle.mm_relation.specs.declared.row.Cell.TheVariants.{Held}
+use Rattle.std.proofs.Common.{◌≡◌, ◌<◌, ◌∙◌, sym, ap, arith, subst, length}
 use Rattle.mm_relation.specs.Rows.{row_of}
 use Rattle.std.specs.FinMap.{len}
 use Rattle.mm_relation.specs.State.{IsKept, IsCurrent, linked_keys}
-use Rattle.mm_relation.specs.Changes.{new_row}
 use Rattle.mm_relation.proofs.Keeping.{same_state, can_read, row_read, served, kept_on, current_on, readable_after, few_after}
 use Rattle.mm_relation.proofs.relation.Relation.insert_row.Goals as goal
 
@@ -12,7 +10,7 @@ place-requires-clause-read g c =
     let same = same_state c.self.inside.rows.counted c.self.inside.schema c.self.inside.targets.items c.self.inside.declared.items c.self.inside.rows.tuples c.make_room.new.rows.tuples c.self.inside.by_key.tree c.make_room.new.by_key.tree c.self.inside.indexes c.make_room.new.indexes
     c.make_room.ensures.rows c.make_room.ensures.by_key c.make_room.ensures.same in
     let keys = linked_keys c.self.inside.targets.items (g.R.Relations.tables c.args.others.now) in
-    rw c.as_slice.ensures.value
+    rw c.as_slice-2.ensures.value
     (can_read c.self.inside.rows.counted c.self.inside.schema c.self.inside.targets.items c.self.inside.declared.items c.make_room.new.rows.tuples c.make_room.new.by_key.tree c.make_room.new.indexes (subst IsKept (sym same) c.self.invariant.0) keys (subst (IsCurrent keys) (sym same) (rw (← c.self.view_is) at c.requires.current)))
 
 pub place-requires-clause-row_read : goal.place-requires-clause-row_read
@@ -20,25 +18,21 @@ place-requires-clause-row_read g c =
     let same = same_state c.self.inside.rows.counted c.self.inside.schema c.self.inside.targets.items c.self.inside.declared.items c.self.inside.rows.tuples c.make_room.new.rows.tuples c.self.inside.by_key.tree c.make_room.new.by_key.tree c.self.inside.indexes c.make_room.new.indexes
     c.make_room.ensures.rows c.make_room.ensures.by_key c.make_room.ensures.same in
     let keys = linked_keys c.self.inside.targets.items (g.R.Relations.tables c.args.others.now) in
-    rw (c.as_slice.ensures.value, c.in-Ok.ensures)
-    (row_read c.self.inside.rows.counted c.self.inside.schema c.self.inside.targets.items c.self.inside.declared.items c.make_room.new.rows.tuples c.make_room.new.by_key.tree c.make_room.new.indexes (subst IsKept (sym same) c.self.invariant.0) keys (new_row c.args.key c.args.cells) (rw (← c.self.view_is) at c.requires.readable))
+    rw c.as_slice-2.ensures.value
+    (row_read c.self.inside.rows.counted c.self.inside.schema c.self.inside.targets.items c.self.inside.declared.items c.make_room.new.rows.tuples c.make_room.new.by_key.tree c.make_room.new.indexes (subst IsKept (sym same) c.self.invariant.0) keys (row_of c.args.cells.now.items 0) (rw (← c.self.view_is) at c.requires.readable))
 
 pub place-requires-clause-serve : goal.place-requires-clause-serve
 place-requires-clause-serve g c =
     let same = same_state c.self.inside.rows.counted c.self.inside.schema c.self.inside.targets.items c.self.inside.declared.items c.self.inside.rows.tuples c.make_room.new.rows.tuples c.self.inside.by_key.tree c.make_room.new.by_key.tree c.self.inside.indexes c.make_room.new.indexes
     c.make_room.ensures.rows c.make_room.ensures.by_key c.make_room.ensures.same in
     let keys = linked_keys c.self.inside.targets.items (g.R.Relations.tables c.args.others.now) in
-    rw c.as_slice.ensures.value
+    rw c.as_slice-2.ensures.value
     (served c.self.inside.rows.counted c.self.inside.schema c.self.inside.targets.items c.self.inside.declared.items c.make_room.new.rows.tuples c.make_room.new.by_key.tree c.make_room.new.indexes (subst IsKept (sym same) c.self.invariant.0) keys (subst (IsCurrent keys) (sym same) (rw (← c.self.view_is) at c.requires.current)))
 
 pub place-requires-clause-width : goal.place-requires-clause-width
 place-requires-clause-width g c =
-    let all : length c.pack_row.new.packed.items ≡ length (Held c.args.key ∷ c.args.cells) = ap length c.in-Ok.ensures in
-    let wide : length c.args.cells + 1 ≡ length c.self.inside.targets.items = rw (← c.self.view_is) at c.requires.width in
-    omega (arith, all, wide, c.self.invariant.0.width, c.self.invariant.1, c.make_room.ensures.width)
-
-pub place-requires-clause-starts : goal.place-requires-clause-starts
-place-requires-clause-starts g c = (c.args.key, c.args.cells, c.in-Ok.ensures)
+    let wide : length c.args.cells.now.items ≡ length c.self.inside.targets.items = rw (← c.self.view_is) at c.requires.width in
+    omega (arith, wide, c.self.invariant.0.width, c.self.invariant.1, c.make_room.ensures.width)
 
 pub invariant_of-self-2 : goal.invariant_of-self-2
 invariant_of-self-2 g c =
@@ -48,7 +42,7 @@ invariant_of-self-2 g c =
     let few : len c.make_room.new.rows.tuples < 16777216 = omega (arith, counted, c.len.ensures, c.if-len-from.false) in (
       kept_on c.self.inside.rows.counted c.self.inside.schema c.self.inside.targets.items c.self.inside.declared.items c.make_room.new.rows.tuples c.make_room.new.by_key.tree c.make_room.new.indexes (subst IsKept (sym same) c.self.invariant.0)
           c.place.new.rows.counted c.place.new.rows.tuples c.place.new.by_key.tree c.place.new.indexes c.place.ensures.keyed
-          (few_after c.make_room.new.rows.tuples c.place.new.rows.tuples (row_of c.pack_row.new.packed.items 0) c.place.result c.place.ensures.fresh c.place.ensures.put c.place.ensures.kept few)
+          (few_after c.make_room.new.rows.tuples c.place.new.rows.tuples (row_of c.args.cells.now.items 0) c.place.result c.place.ensures.fresh c.place.ensures.put c.place.ensures.kept few)
           c.place.ensures.declared,
       c.place.ensures.width ∙ c.make_room.ensures.width ∙ c.self.invariant.1,
     )
@@ -62,6 +56,6 @@ returns-clause-current g c =
     rw (← c.self.view_is)
     (current_on c.self.inside.rows.counted c.self.inside.schema c.self.inside.targets.items c.self.inside.declared.items c.make_room.new.rows.tuples c.make_room.new.by_key.tree c.make_room.new.indexes (subst IsKept (sym same) c.self.invariant.0)
     c.place.new.rows.counted c.place.new.rows.tuples c.place.new.by_key.tree c.place.new.indexes keys
-    (readable_after keys (length c.self.inside.targets.items) c.make_room.new.rows.tuples c.place.new.rows.tuples (new_row c.args.key c.args.cells) c.place.result (rw c.in-Ok.ensures at c.place.ensures.put) c.place.ensures.kept
+    (readable_after keys (length c.self.inside.targets.items) c.make_room.new.rows.tuples c.place.new.rows.tuples (row_of c.args.cells.now.items 0) c.place.result c.place.ensures.put c.place.ensures.kept
     current.readable (rw (← c.self.view_is) at c.requires.readable))
-    (rw c.as_slice.ensures.value at c.place.ensures.serve))
+    (rw c.as_slice-2.ensures.value at c.place.ensures.serve))

@@ -4,10 +4,10 @@ use Rattle.mm_catalog.specs.Counted.{linked_of}
 use Rattle.mm_catalog.specs.Assigned.{row_links_at}
 use Rattle.mm_catalog.specs.Linked.{Linked}
 use Rattle.mm_catalog.proofs.SetLinks.{links_more, no_links}
-use Rattle.mm_catalog.proofs.updating.links_of.Goals as goal
+use Rattle.mm_catalog.proofs.updating.list_links.Goals as goal
 
 pub loop-r-init : goal.loop-r-init
-loop-r-init c = ap (map linked_of) c.new-links.ensures.items ∙ sym (no_links c.args.relation.now c.args.sets.now)
+loop-r-init c = ap (map linked_of) c.clear.ensures.items ∙ sym (no_links c.args.relation.now c.args.sets.now)
 
 pub loop-r-preserved : goal.loop-r-preserved
 loop-r-preserved c =

@@ -1,6 +1,6 @@
 use Rattle.std.proofs.Common.{◌≡◌, length}
 use Rattle.mm_catalog.specs.Assigned.{AreFirstSetBy}
-use Rattle.mm_catalog.proofs.updating.sets_of.Given as goal
+use Rattle.mm_catalog.proofs.updating.pack_sets.Given as goal
 
 abbrev pub invariant-loop-assignment : goal.invariant-loop-assignment
 invariant-loop-assignment l = record {
