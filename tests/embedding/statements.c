@@ -619,7 +619,7 @@ static void many_statements_are_kept(mmdb *db)
         CHECK(is_integer(&rows, row, 0, 2 * (int64_t)row + 1));
 }
 
-/* Executes the statement that finds a row by its key, for keys from `first` below `end`. */
+/* Executes the statement that is about a row by its key, for keys from `first` below `end`. */
 static void find_each(mmdb *db, mmdb_statement by_key, int64_t first, int64_t end)
 {
     for (int64_t id = first; id < end; id++) {
@@ -630,23 +630,29 @@ static void find_each(mmdb *db, mmdb_statement by_key, int64_t first, int64_t en
     }
 }
 
-/* To select or delete a row by its key takes no memory where that was done before, and no text has more than 14 bytes. */
-static void a_row_is_found_by_its_key_without_memory(void)
+/* To select, delete, insert or update a row by its key takes no memory where that was done before, a row has gone whose place there
+   is, and no text has more than 14 bytes. */
+static void one_row_takes_no_memory(void)
 {
     mmdb db = MMDB_CLOSED;
     open_with_tables(&db);
     mmdb_statement insert = prepared(&db, "insert t (?, 'fourteen bytes', null)");
     mmdb_statement select = prepared(&db, "select id, s from t where id = ?");
     mmdb_statement whole = prepared(&db, "select * from t where id = ?");
+    mmdb_statement update = prepared(&db, "update t set s = 'fourteen bytes' where id = ?");
     mmdb_statement delete = prepared(&db, "delete t where id = ?");
     find_each(&db, insert, 0, 100);
     find_each(&db, select, 0, 1);
     find_each(&db, whole, 0, 1);
+    find_each(&db, update, 0, 1);
     find_each(&db, delete, 0, 1);
     allocations_refuse(0, LONG_MAX);
     find_each(&db, select, 1, 100);
     find_each(&db, whole, 1, 100);
     find_each(&db, delete, 1, 100);
+    find_each(&db, insert, 1, 50);
+    find_each(&db, update, 1, 50);
+    find_each(&db, select, 1, 50);
     CHECK(allocations_refused() == 0);
     allocations_refuse(0, 0);
     mmdb_close(&db);
@@ -681,7 +687,7 @@ int main(void)
     a_statement_outlives_its_table(&db);
     GIVES(command(&db, "table many (id int)", NULL), MMDB_DONE);
     many_statements_are_kept(&db);
-    a_row_is_found_by_its_key_without_memory();
+    one_row_takes_no_memory();
     mmdb_close(&db);
     a_closed_handle_is_told(&db);
     CHECK(allocations_held() == 0);
