@@ -281,6 +281,7 @@ impl Database {
             let columns = self.session.select(query, cells)?;
             return Ok(Executed::Rows { columns });
         }
-        Ok(Executed::Changed(self.session.change(&command)?))
+        let count = self.session.change(&command)?;
+        Ok(Executed::Changed(count))
     }
 }
