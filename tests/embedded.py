@@ -73,6 +73,7 @@ BIND_NULL = call("mmdb_bind_null", NUMBER, ADDRESS, NUMBER, NUMBER)
 EXECUTE = call("mmdb_execute", NUMBER, ADDRESS, NUMBER, ADDRESS)
 COLUMNS = call("mmdb_columns", NUMBER, ADDRESS, NUMBER, ADDRESS)
 FINALIZE = call("mmdb_finalize", NUMBER, ADDRESS, NUMBER)
+QUERY = call("mmdb_query", NUMBER, ADDRESS, ADDRESS, SIZE, ADDRESS)
 CLOSE = call("mmdb_close", None, ADDRESS)
 
 

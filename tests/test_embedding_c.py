@@ -14,7 +14,7 @@ import refusing
 EXAMPLES = harness.ROOT / "examples" / "c"
 PAGE = harness.ROOT / "docs" / "c.md"
 STATEMENTS = {"mmdb_prepare", "mmdb_bind_integer", "mmdb_bind_text", "mmdb_bind_null", "mmdb_execute", "mmdb_columns", "mmdb_finalize"}
-LINES = {"mmdb_command", "mmdb_load", "mmdb_feed", "mmdb_indexes", "mmdb_answer", "mmdb_refusal", "mmdb_reason"}
+LINES = {"mmdb_command", "mmdb_load", "mmdb_query", "mmdb_feed", "mmdb_indexes", "mmdb_answer", "mmdb_refusal", "mmdb_reason"}
 EXPORTS = {"mmdb_open", "mmdb_close", *STATEMENTS, *LINES}
 ROOM = compiling.Room()
 
@@ -144,6 +144,9 @@ class Embedding(Programs):
 
     def test_each_status_of_statements_is_met(self):
         self.check_program("statements")
+
+    def test_each_status_of_queries_is_met(self):
+        self.check_program("queries")
 
     def test_each_call_for_memory_is_refused(self):
         self.check_program("refused")

@@ -3,7 +3,8 @@
    closed handles, null handles and open ones. The words are the SEED and how many CALLS there are.
 
    Each status has to be one that the header tells of, and NOT_OPEN, NO_LINE, NO_SUCH_STATEMENT and NO_SUCH_PLACE come just where they
-   have to. What is answered is read to its end, and the rows of each statement are as they were until it is executed anew. */
+   have to. What is answered is read to its end. The rows of each statement are as they were until it is executed anew, and those of a
+   line until the next is queried. */
 #include "checking.h"
 
 #include <inttypes.h>
@@ -11,7 +12,7 @@
 
 enum { HANDLES = 3, MOST_STATEMENTS = 24, MOST_BYTES = 20000 };
 
-/* A statement that is there: whether its last execution was done, its rows then, and what they add up to. */
+/* A statement that is there, or the line last queried: whether the last call was done, its rows then, and what they add up to. */
 typedef struct statement {
     mmdb_statement of;
     int has_rows;
@@ -24,6 +25,7 @@ typedef struct handle {
     int is_open;
     statement kept[MOST_STATEMENTS];
     size_t count;
+    statement queried;
 } handle;
 
 /* Bytes in a block of just their length; or null. */
@@ -270,6 +272,7 @@ static void closes(handle *of)
     CHECK(of->db.inside == NULL);
     of->is_open = 0;
     of->count = 0;
+    of->queried.has_rows = 0;
 }
 
 static void commands(handle *of)
@@ -398,6 +401,18 @@ static void executes(handle *of)
     to->sum = sum_of(&rows);
 }
 
+static void queries(handle *of)
+{
+    const bytes line = given_bytes();
+    const mmdb_status status = mmdb_query(&of->db, line.at, line.length, &of->queried.rows);
+    const int is_none = line.at == NULL || line.length == 0;
+    const uint32_t allowed = is_none ? only(MMDB_NO_LINE) : only(MMDB_DONE) | only(MMDB_REFUSED);
+    is_within(status, of->is_open ? allowed : only(MMDB_NOT_OPEN), "query");
+    of->queried.has_rows = 1;
+    of->queried.sum = sum_of(&of->queried.rows);
+    free(line.at);
+}
+
 static void asks_columns(handle *of)
 {
     const statement *to = any_statement(of);
@@ -425,6 +440,7 @@ static void looks_at_rows(handle *of)
     is_within(mmdb_answer(&of->db, &answer), only(of->is_open ? MMDB_DONE : MMDB_NOT_OPEN), "answer");
     for (size_t i = 0; i < of->count; i++)
         CHECK(!of->kept[i].has_rows || sum_of(&of->kept[i].rows) == of->kept[i].sum);
+    CHECK(!of->queried.has_rows || sum_of(&of->queried.rows) == of->queried.sum);
 }
 
 static void calls_on_null(void)
@@ -438,6 +454,7 @@ static void calls_on_null(void)
     CHECK(mmdb_columns(NULL, 0, NULL) == MMDB_NOT_OPEN && mmdb_finalize(NULL, 0) == MMDB_NOT_OPEN);
     CHECK(mmdb_bind_null(NULL, 0, 0) == MMDB_NOT_OPEN && mmdb_bind_text(NULL, 0, 0, NULL, 7) == MMDB_NOT_OPEN);
     CHECK(mmdb_reason(NULL, NULL, 1, NULL, 1, &answer) == MMDB_NOT_OPEN && mmdb_indexes(NULL, "", 0, NULL) == MMDB_NOT_OPEN);
+    CHECK(mmdb_query(NULL, "", 0, &rows) == MMDB_NOT_OPEN && mmdb_query(NULL, NULL, 1, NULL) == MMDB_NOT_OPEN);
     CHECK(mmdb_answer(NULL, &answer) == MMDB_NOT_OPEN && mmdb_refusal(NULL) == 0);
     mmdb_close(NULL);
 }
@@ -447,6 +464,7 @@ typedef void (*maker)(handle *of);
 static const maker MAKERS[] = {
     commands, commands, commands, commands, loads,    loads,     feeds,    feeds,        prepares,     prepares,      prepares,
     binds,    binds,    binds,    binds,    executes, executes,  executes, asks_columns, asks_columns, looks_at_rows, tells,
+    queries,  queries,
 };
 
 /* One call. Handles are seldom opened and closed, so that much becomes of what they have. */

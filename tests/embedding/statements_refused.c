@@ -1,6 +1,6 @@
-/* Refuses each call for memory of each call on a statement in turn. It then says that there was none, and everything is
-   as it was, the values that are bound too; or it is done as ever. What was refused is done when it is called again. A
-   second handle, which is never refused anything, tells what is as ever. */
+/* Refuses each call for memory of each call on a statement in turn, and of each query of a line. It then says that there
+   was none, and everything is as it was, the values that are bound too; or it is done as ever. What was refused is done
+   when it is called again. A second handle, which is never refused anything, tells what is as ever. */
 #include "allocations.h"
 #include "checking.h"
 
@@ -95,6 +95,31 @@ static mmdb_status joins(kept *of, mmdb_rows *rows)
     return mmdb_execute(&of->db, of->join.number, rows);
 }
 
+static mmdb_status query(kept *of, const char *line, mmdb_rows *rows)
+{
+    return mmdb_query(&of->db, line, strlen(line), rows);
+}
+
+static mmdb_status queries(kept *of, mmdb_rows *rows)
+{
+    return query(of, "select distinct t.s, u.k from t join u on t.c = u.k where t.s <> 'a text that is given'", rows);
+}
+
+static mmdb_status inserts_by_query(kept *of, mmdb_rows *rows)
+{
+    return query(of, "insert t (5, 'a text that is longer than a slot of few bytes', 'a key of some length')", rows);
+}
+
+static mmdb_status updates_by_query(kept *of, mmdb_rows *rows)
+{
+    return query(of, "update t set s = 'a text that is longer than a slot of few bytes' where id > 1", rows);
+}
+
+static mmdb_status erases_by_query(kept *of, mmdb_rows *rows)
+{
+    return query(of, "delete t where s <> 'a'", rows);
+}
+
 static mmdb_status tells_columns(kept *of, mmdb_rows *rows)
 {
     return mmdb_columns(&of->db, of->select.number, rows);
@@ -106,8 +131,18 @@ static const struct {
     step does;
     mmdb_status without_memory;
 } STEPS[] = {
-    { prepares, MMDB_NO_MEMORY }, { binds, MMDB_NO_MEMORY },    { inserts, MMDB_REFUSED }, { updates, MMDB_REFUSED },
-    { erases, MMDB_REFUSED },     { selects, MMDB_REFUSED },    { joins, MMDB_REFUSED },   { tells_columns, MMDB_REFUSED },
+    { prepares, MMDB_NO_MEMORY },
+    { binds, MMDB_NO_MEMORY },
+    { inserts, MMDB_REFUSED },
+    { updates, MMDB_REFUSED },
+    { erases, MMDB_REFUSED },
+    { selects, MMDB_REFUSED },
+    { joins, MMDB_REFUSED },
+    { tells_columns, MMDB_REFUSED },
+    { queries, MMDB_REFUSED },
+    { inserts_by_query, MMDB_REFUSED },
+    { updates_by_query, MMDB_REFUSED },
+    { erases_by_query, MMDB_REFUSED },
 };
 
 static int are_alike(const mmdb_rows *one, const mmdb_rows *other)

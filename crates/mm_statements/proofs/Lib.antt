@@ -5,6 +5,7 @@ pub mod FinishedLemmas
 pub mod GivenLemmas
 pub mod MarkLemmas
 pub mod PrepareLemmas
+pub mod QueryLemmas
 pub mod RequestLemmas
 pub mod RightLemmas
 pub mod SeenLemmas

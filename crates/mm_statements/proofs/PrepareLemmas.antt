@@ -14,9 +14,12 @@ use Rattle.mm_statements.specs.Faults.{fault_of}
 use Rattle.mm_statements.specs.declared.faults.PrepareFault.TheVariants as fault
 use Rattle.mm_statements.specs.Preparing.{IsPrepared, IsUnprepared, IsUnpreparedFor}
 use Rattle.mm_statements.specs.Preparing as preparing
+use Rattle.mm_statements.specs.Querying.{IsUnread}
+use Rattle.mm_statements.specs.Querying as querying
 use Rattle.mm_statements.specs.Resolving.{IsUnmeant, LineMeans}
 use Rattle.mm_statements.specs.Resolving as resolving
 use Rattle.mm_statements.specs.Right.{IsRight}
+use Rattle.mm_statements.proofs.MarkLemmas.{silent-none, spelled-unbroken}
 
 -- a statement has a hole for each question mark of its line
 pub marks-holes : (line : List ℕ) (s : Statement) → SpellsStatement line s → marks line ≡ length (holes_of s)
@@ -41,6 +44,13 @@ is-prepared tables line places r readable counted (s, spelled, resolves) = recor
   resolution = r;
   resolved = resolves;
 }
+
+-- a line that isn't read is not kept
+pub unread-unprepared : (tables : Database) (line : List ℕ) (why : Refusal) → IsUnread line why → IsUnprepared tables line why
+unread-unprepared tables line why (querying.broken feed) = preparing.no_statement (λ s spells. feed (spelled-unbroken line s spells))
+unread-unprepared tables line why (querying.too_long long) = preparing.too_long long
+unread-unprepared tables line why (querying.not_utf8 short bad) = preparing.not_utf8 short bad
+unread-unprepared tables line why (querying.silent readable is) = preparing.no_statement (silent-none line is)
 
 -- a line that can be read and has no meaning is not kept
 pub unmeant-unprepared : (tables : Database) (line : List ℕ) (why : Refusal) → IsReadable line → IsUnmeant tables line why

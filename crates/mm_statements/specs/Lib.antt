@@ -5,5 +5,6 @@ pub mod Executing
 pub mod Faults
 pub mod Kept
 pub mod Preparing
+pub mod Querying
 pub mod Resolving
 pub mod Right

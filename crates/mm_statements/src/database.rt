@@ -6,12 +6,13 @@ use crate::declaring::may_declare;
 use crate::declined::Declined;
 use crate::faults::{ExecuteFault, PrepareFault};
 use crate::kept::Statements;
+use crate::querying::command_of_line;
 use crate::reading::{count_marks, meaning, readable};
 use crate::resolving::command_of;
 use mm_cells::Cells;
 use mm_session::{Answer, NotOneRequest, Session, SessionFault};
 use no_memory::NoMemory;
-use plain_tables::{Limits, Resolved};
+use plain_tables::{Limits, Refusal, Resolved};
 use plan_chooser::Policy;
 use std::alloc::Global;
 use std::io::Write;
@@ -64,6 +65,7 @@ impl Database {
     ghost use Rattle.mm_statements.specs.Databases.{KeptStatement, statement_at, IsUnchanged, NowNames, SameStatements};
     ghost use Rattle.mm_statements.specs.Executing.{HasGiven, IsDeclined, IsEffectOf, IsUntold, TellsColumns};
     ghost use Rattle.mm_statements.specs.Preparing.{IsPrepared, IsUnpreparedFor};
+    ghost use Rattle.mm_statements.specs.Querying.{IsEffectOfLine, IsUnqueried};
     ghost use Rattle.mm_statements.specs.declared.declined.Declined.TheVariants as declined;
     ghost use Rattle.mm_statements.specs.declared.faults.ExecuteFault.TheVariants as fault;
     ghost use Rattle.plain_tables.specs.Effects.{Effect};
@@ -253,5 +255,33 @@ impl Database {
             return Ok(());
         }
         Ok(())
+    }
+
+    /// Does the insert, the update, the delete or the select that a line spells, beside the stream. No statement is kept, and no
+    /// question mark is a hole. It makes the cells the values of the rows that it shows, as an execution does.
+    ///
+    /// A carriage return at the line's end is no part of it.
+    pub fn query(
+        &mut self,
+        alloc: Global,
+        line: &[u8],
+        cells: &mut Cells,
+    ) -> Result<Executed, Refusal>
+        ensures done { IfOk result (λ given. (effect : Effect) × IsEffectOfLine self.old.session (without_return line.now) effect × HasGiven self.new.session effect given cells.new) }
+        ensures refused { IfErr result (IsUnqueried self.old.session (without_return line.now)) }
+        ensures unchanged { OnErr result (IsUnchanged self.old self.new) }
+
+        // The stream goes on as before, and the statements stay.
+        ensures stream { StaysInStream self.old.session self.new.session }
+        ensures statements { SameStatements self.old self.new }
+    {
+        cells.clear();
+        let command = command_of_line(alloc, &self.session, line)?;
+        if let Resolved::Select(query) = &command {
+            let columns = self.session.select(query, cells)?;
+            return Ok(Executed::Rows { columns });
+        }
+        let count = self.session.change(&command)?;
+        Ok(Executed::Changed(count))
     }
 }

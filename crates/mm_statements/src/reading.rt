@@ -1,12 +1,11 @@
 //! From a line to what the statement that it spells means.
 ghost use Rattle.std.specs.Prelude.{◌≡◌, ◌≢◌, IfErr, IfOk};
 ghost use Rattle.std.specs.List.{Contains};
-ghost use Rattle.plain_tables.specs.Databases.{Database};
 ghost use Rattle.plain_tables.specs.declared.refusal.Refusal.TheVariants as refusal;
 ghost use Rattle.plain_streams.specs.Requests.{IsReadable, without_return};
 ghost use Rattle.plain_statements.specs.StatementSpelling.{marks};
 ghost use Rattle.mm_catalog.specs.Seen.{database_of};
-ghost use Rattle.mm_statements.specs.Preparing.{IsUnprepared};
+ghost use Rattle.mm_statements.specs.Querying.{IsUnread};
 ghost use Rattle.mm_statements.specs.Resolving.{IsUnmeant, LineMeans};
 
 use mm_catalog::Catalog;
@@ -22,7 +21,7 @@ pub fn readable(line: &[u8]) -> Result<Line<'_>, Refusal>
     ensures text { IfOk result (λ text. text ≡ without_return line.now) }
     ensures readable { IfOk result (λ text. IsReadable text) }
     ensures unbroken { IfOk result (λ text. ¬ (Contains text 10)) }
-    ensures refused { (tables : Database) → IfErr result (IsUnprepared tables (without_return line.now)) }
+    ensures unread { IfErr result (IsUnread (without_return line.now)) }
 {
     match judge_line(line) {
         Some(Judged::Text(text)) => Ok(text),

@@ -59,8 +59,9 @@ pub record LosesStream (piece : List ℕ) (old new : Database) : Type 0 where
   pub limits : new.inner.session.limits ≡ old.inner.session.limits
   pub statements : SameStatements old.inner new.inner
 
--- The session, its statements, what these have shown and the answers are as they were.
+-- The session, its statements, what these and the last query have shown and the answers are as they were.
 pub record IsAsBefore (old new : Database) : Type 0 where
   pub inner : new.inner ≡ old.inner
   pub shown : new.shown ≡ old.shown
+  pub queried : new.queried ≡ old.queried
   pub answer : new.answer ≡ old.answer

@@ -13,6 +13,8 @@ use Rattle.mm_statements.specs.Executing.{HasGiven, IsDeclined, IsEffectOf, Tell
 use Rattle.mm_statements.specs.Executing as executing
 use Rattle.mm_statements.specs.Preparing.{IsPrepared}
 use Rattle.mm_statements.specs.Preparing as preparing
+use Rattle.mm_statements.specs.Querying.{IsEffectOfLine}
+use Rattle.mm_statements.specs.Querying as querying
 use Rattle.mm_statements.specs.declared.database.Executed.{Executed}
 use Rattle.mm_statements.specs.declared.database.Executed.TheVariants as gives
 use Rattle.mm_statements.specs.declared.declined.Declined.{Declined}
@@ -115,4 +117,25 @@ pub record KeepsColumns (number : ℕ) (old new : Database) : Type 0 where
 pub record IsUntold (number : ℕ) (old new : Database) : Type 0 where
   pub why : Refusal
   pub untold : executing.IsUntold old.inner number (fault.Refused why)
+  pub answer : new.answer ≡ refusal_text why
+
+-- The effect of the line came about beside the stream; what it shows is kept, and C is told what it gave.
+pub record HasQueried (line : List ℕ) (old new : Database) (told : Rows) (given : Executed) : Type 0 where
+  pub effect : Effect
+  pub is : IsEffectOfLine old.inner.session (without_return line) effect
+  pub gave : HasGiven new.inner.session effect given new.queried
+  pub tells : Tells new.queried given told
+  pub stream : StaysInStream old.inner.session new.inner.session
+  pub statements : SameStatements old.inner new.inner
+
+-- So it is, and the answer is empty.
+pub record Queries (line : List ℕ) (old new : Database) (told : Rows) : Type 0 where
+  pub given : Executed
+  pub done : HasQueried line old new told given
+  pub answer : new.answer ≡ []
+
+-- Nothing comes of the line, and the answer is the refusal.
+pub record IsUnqueried (line : List ℕ) (old new : Database) : Type 0 where
+  pub why : Refusal
+  pub unqueried : querying.IsUnqueried old.inner.session (without_return line) why
   pub answer : new.answer ≡ refusal_text why

@@ -11,7 +11,7 @@ use plan_chooser::Policy;
 use std::alloc::Global;
 
 /// A database, the answers to the last call, the reason that was last asked for, the values that each of its statements has shown, by
-/// their numbers, and the columns that were last asked for.
+/// their numbers, the columns that were last asked for, and the values that the line last queried has shown.
 #[derive(Drop)]
 pub struct Database {
     pub inner: mm_statements::Database,
@@ -19,6 +19,7 @@ pub struct Database {
     pub reason: Answer,
     pub shown: Vec<Cells>,
     pub columns: Cells,
+    pub queried: Cells,
 }
 
 impl Database {
@@ -35,6 +36,7 @@ impl Database {
             reason: Answer::new(alloc)?,
             shown: Vec::new(alloc),
             columns: Cells::new(alloc),
+            queried: Cells::new(alloc),
         })
     }
 

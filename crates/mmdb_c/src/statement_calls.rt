@@ -6,7 +6,7 @@ ghost use Rattle.plain_tables.specs.declared.value.Value.TheVariants as value;
 ghost use Rattle.mm_statements.specs.Cells.{cell_value};
 ghost use Rattle.mm_statements.specs.declared.database.Executed.TheVariants as gives;
 ghost use Rattle.mmdb_c.specs.Calls.{Becomes};
-ghost use Rattle.mmdb_c.specs.StatementCalls.{Prepares, IsUnprepared, KeepsAll, IsMissing, IsPast, Binds, Finalizes, Executes, IsUnexecuted, IsUntold, KeepsColumns, Tells};
+ghost use Rattle.mmdb_c.specs.StatementCalls.{Prepares, IsUnprepared, KeepsAll, IsMissing, IsPast, Binds, Finalizes, Executes, IsUnexecuted, IsUntold, KeepsColumns, Tells, Queries, IsUnqueried};
 
 use crate::handle::Handle;
 use crate::rows::Rows;
@@ -224,4 +224,33 @@ pub extern "C" fn mmdb_finalize(alloc: Global, handle: &mut Handle, statement: u
     } else {
         NO_SUCH_STATEMENT
     }
+}
+
+/// Does the insert, the update, the delete or the select that a line spells, and tells what that gave. No statement is kept.
+#[unsafe(no_mangle)]
+pub extern "C" fn mmdb_query(
+    alloc: Global,
+    handle: &mut Handle,
+    line: &[u8],
+    rows: &mut Rows,
+) -> u32
+    ensures not_open { (result ≡ NOT_OPEN) ↔ IsNone handle.old.database }
+    ensures no_line { (result ≡ NO_LINE) ↔ (IsSome handle.old.database × (line.now ≡ [])) }
+    ensures judged { IsSome handle.old.database × (line.now ≢ []) → (result ≡ DONE) ⊎ (result ≡ REFUSED) }
+    ensures done { result ≡ DONE → Becomes handle.old.database handle.new.database (λ old new. Queries line.now old new rows.new) }
+    ensures refused { result ≡ REFUSED → Becomes handle.old.database handle.new.database (IsUnqueried line.now) }
+    ensures kept { result ≡ REFUSED → Becomes handle.old.database handle.new.database KeepsAll }
+    ensures unchanged { (result ≡ NOT_OPEN) ⊎ (result ≡ NO_LINE) → handle.new.database ≡ handle.old.database }
+    ensures untold { result ≢ DONE → rows.new ≡ rows.old }
+{
+    let Some(mut database) = handle.take(alloc) else {
+        return NOT_OPEN;
+    };
+    if line.is_empty() {
+        handle.put(alloc, database);
+        return NO_LINE;
+    }
+    let queried = database.query(alloc, line, rows);
+    handle.put(alloc, database);
+    if queried.is_ok() { DONE } else { REFUSED }
 }

@@ -48,7 +48,7 @@ fn make_room(shown: &mut Vec<Cells>, number: usize) -> Result<(), NoMemory>
 }
 
 impl Database {
-    ghost use Rattle.mmdb_c.specs.StatementCalls.{Prepares, IsUnprepared, KeepsAll, IsMissing, IsPast, IsUnbound, Binds, Finalizes, HasTold, Executes, IsUnexecuted, IsUntold, KeepsColumns};
+    ghost use Rattle.mmdb_c.specs.StatementCalls.{Prepares, IsUnprepared, KeepsAll, IsMissing, IsPast, IsUnbound, Binds, Finalizes, HasTold, Executes, IsUnexecuted, IsUntold, KeepsColumns, Queries, IsUnqueried};
     ghost use Rattle.mm_statements.specs.Executing.{IsDeclined};
 
     /// Keeps the statement that a line spells. Where it is refused, that is the answer, and else the answer is empty.
@@ -163,6 +163,27 @@ impl Database {
             Err(ExecuteFault::Refused(why)) => {
                 self.answer.refuse(why);
                 Err(Unexecuted::Refused)
+            }
+        }
+    }
+
+    /// Does the insert, the update, the delete or the select that a line spells, and tells what that gave. The values that it shows are
+    /// kept; where it is refused, that is the answer, and else the answer is empty.
+    pub fn query(&mut self, alloc: Global, line: &[u8], rows: &mut Rows) -> Result<(), Refusal>
+        ensures done { OnOk result (Queries line.now self.old self.new rows.new) }
+        ensures refused { OnErr result (IsUnqueried line.now self.old self.new) }
+        ensures unchanged { OnErr result (KeepsAll self.old self.new) }
+        ensures untold { OnErr result (rows.new ≡ rows.old) }
+    {
+        self.answer.clear();
+        match self.inner.query(alloc, line, &mut self.queried) {
+            Ok(given) => {
+                rows.tell(given, &self.queried);
+                Ok(())
+            }
+            Err(why) => {
+                self.answer.refuse(why);
+                Err(why)
             }
         }
     }

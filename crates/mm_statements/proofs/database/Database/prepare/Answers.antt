@@ -6,7 +6,7 @@ use Rattle.plain_statements.specs.StatementSpelling.{marks}
 use Rattle.mm_statements.specs.Databases.{NowNames}
 use Rattle.mm_statements.specs.Resolving.{LineMeans}
 use Rattle.mm_statements.proofs.ExecuteLemmas.{on-err, unchanged}
-use Rattle.mm_statements.proofs.PrepareLemmas.{is-prepared, prepared-right, unmeant-unprepared, unprepared-for}
+use Rattle.mm_statements.proofs.PrepareLemmas.{is-prepared, prepared-right, unmeant-unprepared, unprepared-for, unread-unprepared}
 use Rattle.mm_statements.proofs.RightLemmas.{names-right}
 use Rattle.mm_statements.proofs.SeenLemmas.{named-seen, names-seen, state_of}
 use Rattle.mm_statements.proofs.database.Database.prepare.Goals as goal
@@ -15,7 +15,7 @@ pub returns-in_err-line-clause-refused : goal.returns-in_err-line-clause-refused
 returns-in_err-line-clause-refused c =
     let tables = c.args.self.now.session.database in
     let e = err_from_is_err_and c.from_residual.result c.from_residual.ensures.1 in
-    rw (e.1, e.2) (unprepared-for tables (without_return c.args.line.now) _ (λ other. c.in_err-line.ensures.refused tables))
+    rw (e.1, e.2) (unprepared-for tables (without_return c.args.line.now) _ (λ other. unread-unprepared tables (without_return c.args.line.now) _ c.in_err-line.ensures.unread))
 
 pub returns-in_err-resolution-clause-refused : goal.returns-in_err-resolution-clause-refused
 returns-in_err-resolution-clause-refused c =

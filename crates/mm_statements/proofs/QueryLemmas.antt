@@ -1,0 +1,102 @@
+-- Querying: what comes of the command that a line spells.
+use Rattle.std.proofs.Common.{◌≡◌, ◌≢◌, ◌∙◌, ℕ, Bool, true, false, List, [], refl, sym, ap, subst, ⊎_elim, Ok, Err, Result}
+use Rattle.std.specs.Prelude.{IsTrue}
+use Rattle.std.proofs.lemmas.Bool.{false≢true}
+use Rattle.plain_tables.specs.Commands.{effect_of_resolved}
+use Rattle.plain_tables.specs.CsvReading.{Record}
+use Rattle.plain_tables.specs.Databases.{Database}
+use Rattle.plain_tables.specs.Doing.{done}
+use Rattle.plain_tables.specs.ResolvedLaws.{IsMeant}
+use Rattle.plain_tables.specs.Resolving.{assignments_of, delete_checks, insert_checks, own_columns, resolved_of, select_checks, select_of, tests_of, update_checks}
+use Rattle.plain_tables.specs.Spelling.{Spells}
+use Rattle.plain_tables.specs.declared.command.Command.{Command}
+use Rattle.plain_tables.specs.declared.command.Command.TheVariants as command
+use Rattle.plain_tables.specs.declared.command.Limits.{Limits}
+use Rattle.plain_tables.specs.declared.refusal.Refusal.{Refusal}
+use Rattle.plain_tables.specs.declared.refusal.Refusal.TheVariants as refusal
+use Rattle.plain_tables.specs.declared.resolved.Resolved.{Resolved}
+use Rattle.plain_tables.specs.declared.resolved.Resolved.TheVariants as resolved
+use Rattle.plain_tables.proofs.GivenLemmas.{spellable_are_given}
+use Rattle.plain_tables.proofs.ResolvedLemmas.{checked_satisfies, numbered_satisfies, resolved_are_meant}
+use Rattle.plain_tables.proofs.Spellable.{spelled-spellable}
+use Rattle.plain_tables.proofs.Uniqueness.{spells-one}
+use Rattle.plain_streams.specs.Requests.{IsReadable}
+use Rattle.mm_session.specs.Changing.{HasDeclined}
+use Rattle.mm_session.specs.Sessions.{State}
+use Rattle.mm_statements.specs.Querying.{IsEffectOfLine, IsMeaningOfLine, IsUnqueried, is_statement}
+use Rattle.mm_statements.specs.Querying as querying
+use Rattle.mm_statements.specs.Resolving.{IsOfRows}
+
+-- ---- what such a command is resolved to
+
+-- no block plays a part in it
+pub blockless : (records : List Record) (tables : Database) (c : Command) → is_statement c ≡ true → resolved_of records tables c ≡ resolved_of [] tables c
+blockless records tables (command.Insert table values) is = refl
+blockless records tables (command.Update table settings conditions) is = refl
+blockless records tables (command.Delete table conditions) is = refl
+blockless records tables (command.Select distinct items table joins conditions) is = refl
+blockless records tables c is = absurd (false≢true is)
+
+statement-rows : (tables : Database) (c : Command) (r : Resolved) → is_statement c ≡ true → resolved_of [] tables c ≡ Ok r → IsOfRows r
+statement-rows tables (command.Insert name row) r is h =
+    numbered_satisfies IsOfRows name tables (λ table. insert_checks tables table row) (λ n table. resolved.Insert n row) r h (λ table there passed. tt)
+statement-rows tables (command.Update name settings conditions) r is h =
+    numbered_satisfies IsOfRows name tables (λ table. update_checks tables table settings conditions)
+    (λ n table. resolved.Update n (assignments_of (own_columns table) settings) (tests_of (own_columns table) conditions)) r h
+    (λ table there passed. tt)
+statement-rows tables (command.Delete name conditions) r is h =
+    numbered_satisfies IsOfRows name tables (λ table. delete_checks tables table conditions)
+    (λ n table. resolved.Delete n (tests_of (own_columns table) conditions)) r h (λ table there passed. tt)
+statement-rows tables (command.Select distinct items name joins conditions) r is h =
+    checked_satisfies IsOfRows (select_checks tables items name joins conditions) (select_of tables distinct items name joins conditions) r h
+    (λ passed. tt)
+statement-rows tables c r is h = absurd (false≢true is)
+
+pub meaning-rows : (tables : Database) (line : List ℕ) (r : Resolved) → IsMeaningOfLine tables line (Ok r) → IsOfRows r
+meaning-rows tables line r m = statement-rows tables m.command r m.statement m.means
+
+pub meaning-meant : (limits : Limits) (tables : Database) (line : List ℕ) (r : Resolved) → IsMeaningOfLine tables line (Ok r) → IsMeant limits tables r
+meaning-meant limits tables line r m =
+    resolved_are_meant [] limits tables m.command r (spellable_are_given m.command (spelled-spellable line m.command m.spelled)) m.means
+
+-- ---- its effect
+
+pub effect-of-line : (session : State) (line : List ℕ) (m : Result Resolved Refusal) → IsMeaningOfLine session.database line m
+    → IsEffectOfLine session line (effect_of_resolved session.limits session.database m)
+effect-of-line session line m means = record {
+  readable = means.readable;
+  command = means.command;
+  statement = means.statement;
+  spelled = means.spelled;
+  is = ap (effect_of_resolved session.limits session.database) (sym means.means);
+}
+
+module _ (session : State) (line : List ℕ) (readable : IsReadable line) (c : Command) (spelled : Spells line c) where
+  -- a line spells no command but this
+  pub other-unqueried : is_statement c ≡ false → IsUnqueried session line refusal.NotACommand
+  other-unqueried other =
+      querying.no_statement readable
+      (λ d is spells. false≢true (sym other ∙ (ap is_statement (spells-one line c d spelled spells) ∙ is)))
+
+  module _ (statement : is_statement c ≡ true) (records : List Record) where
+    pub line-means : (m : Result Resolved Refusal) → resolved_of records session.database c ≡ m → IsMeaningOfLine session.database line m
+    line-means m is = record {
+      readable = readable;
+      command = c;
+      statement = statement;
+      spelled = spelled;
+      means = sym (blockless records session.database c statement) ∙ is;
+    }
+
+    -- a command that was not resolved is refused so
+    pub unresolved-unqueried : (why : Refusal) → (why ≢ refusal.NoMemory → resolved_of records session.database c ≡ Err why)
+        → IsUnqueried session line why
+    unresolved-unqueried refusal.NoMemory says = querying.no_memory readable
+    unresolved-unqueried why says = querying.refuses why (effect-of-line session line (Err why) (line-means (Err why) (says (λ e. cc))))
+
+-- and one whose change was declined
+pub change-unqueried : (old new : State) (line : List ℕ) (r : Resolved) (why : Refusal) → IsMeaningOfLine old.database line (Ok r)
+    → HasDeclined old new (done old.limits old.database r) why → IsUnqueried old line why
+change-unqueried old new line r why means declined =
+    ⊎_elim (λ none. subst (IsUnqueried old line) (sym none) (querying.no_memory means.readable))
+    (λ is. querying.refuses why (subst (IsEffectOfLine old line) is (effect-of-line old line (Ok r) means))) declined.1

@@ -1,0 +1,57 @@
+use Rattle.std.proofs.Common.{◌≡◌, refl, Ok}
+use Rattle.std.proofs.lemmas.Result.{err_from_is_err_and}
+use Rattle.plain_tables.specs.Doing.{done}
+use Rattle.plain_tables.specs.declared.resolved.Resolved.TheVariants as resolved
+use Rattle.mm_statements.specs.Querying.{IsMeaningOfLine}
+use Rattle.mm_statements.specs.Querying as querying
+use Rattle.mm_statements.proofs.ExecuteLemmas.{changed-right, on-err, same-session, unchanged}
+use Rattle.mm_statements.proofs.FinishedLemmas.{rows-change}
+use Rattle.mm_statements.proofs.QueryLemmas.{change-unqueried, effect-of-line}
+use Rattle.mm_statements.proofs.SeenLemmas.{same-seen}
+use Rattle.mm_statements.proofs.database.Database.query.Goals as goal
+
+pub returns-in_err-command-clause-refused : goal.returns-in_err-command-clause-refused
+returns-in_err-command-clause-refused c =
+    let e = err_from_is_err_and c.from_residual.result c.from_residual.ensures.1 in
+    rw (← c.self.view_is, e.1, e.2) c.in_err-command.ensures.refused
+
+pub returns-in_err-columns-clause-refused : goal.returns-in_err-columns-clause-refused
+returns-in_err-columns-clause-refused c =
+    let e = err_from_is_err_and c.from_residual-in_err-columns.result c.from_residual-in_err-columns.ensures.1 in
+    rw (← c.self.view_is, e.1, e.2) (querying.no_memory c.in_ok-command.ensures.spelled.readable)
+
+pub returns-in-Select-clause-done : goal.returns-in-Select-clause-done
+returns-in-Select-clause-done c =
+    let s = c.self.inside.session in
+    let command = resolved.Select c.in-Select.query in
+    let means : IsMeaningOfLine s.database _ (Ok command) = rw c.in-Select.is at c.in_ok-command.ensures.spelled in
+    rw (← c.self.view_is)
+    (done s.limits s.database command, effect-of-line s _ (Ok command) means, (refl, c.in_ok-columns.ensures.shown, c.in_ok-columns.ensures.some))
+
+pub returns-in_err-count-clause-refused : goal.returns-in_err-count-clause-refused
+returns-in_err-count-clause-refused c =
+    let e = err_from_is_err_and c.from_residual-in_err-count.result c.from_residual-in_err-count.ensures.1 in
+    rw (← c.self.view_is, e.1, e.2)
+    (change-unqueried c.self.inside.session c.change.new.self _ c.in_ok-command.command _ c.in_ok-command.ensures.spelled c.in_err-count.ensures.refused)
+
+pub returns-in_err-count-clause-unchanged : goal.returns-in_err-count-clause-unchanged
+returns-in_err-count-clause-unchanged c =
+    let s = c.self.inside.session in
+    let statements = c.self.inside.statements in
+    rw (← c.self.view_is)
+    (on-err c.from_residual-in_err-count.result
+    (unchanged s c.change.new.self statements statements
+    (same-session s c.change.new.self c.in_err-count.ensures.refused.0 c.change.ensures.stream) (λ number. refl)))
+
+pub returns-clause-done : goal.returns-clause-done
+returns-clause-done c =
+    let s = c.self.inside.session in
+    let command = c.in_ok-command.command in
+    rw (← c.self.view_is)
+    (done s.limits s.database command, effect-of-line s _ (Ok command) c.in_ok-command.ensures.spelled, (c.in_ok-count.ensures.done, c.clear.ensures))
+
+pub invariant_of-self-2 : goal.invariant_of-self-2
+invariant_of-self-2 c =
+    let command = c.in_ok-command.command in
+    changed-right c.self.inside.session c.change.new.self c.self.inside.statements command c.in_ok-count.count
+    (rows-change command c.in_ok-command.ensures.rows c.in_default.not-Select) c.in_ok-count.ensures.done c.self.invariant
