@@ -9,7 +9,7 @@ use crate::stream::responder::Responder;
 use crate::stream::writing::write_whole;
 use mm_catalog::Catalog;
 use mm_cells::Cells;
-use plain_tables::{Limits, NoMemory, Query, Refusal, Resolved};
+use plain_tables::{Limits, NoMemory, Query, Refusal, Resolved, TableNumber, Value};
 use plan_chooser::Policy;
 use std::alloc::Global;
 use std::io::Write;
@@ -115,6 +115,17 @@ impl Session {
         ensures stream { StaysInStream self.old self.new }
     {
         self.responder.executor.change(command)
+    }
+
+    /// Puts a row into a table beside the stream, as `change` does by the insert of these values, which are lent. The stream goes on as
+    /// before.
+    pub fn insert(&mut self, table: TableNumber, values: &[Value]) -> Result<(), Refusal>
+        requires { IsMeant self.old.limits self.old.database (resolved.Insert table values.now) }
+        ensures done { OnOk result (HasChanged self.new (done self.old.limits self.old.database (resolved.Insert table values.now)) 1) }
+        ensures refused { IfErr result (HasDeclined self.old self.new (done self.old.limits self.old.database (resolved.Insert table values.now))) }
+        ensures stream { StaysInStream self.old self.new }
+    {
+        self.responder.executor.insert(table, values)
     }
 
     /// Makes the cells the values that a select shows, a row behind the other, and tells how many columns each row has. A failure

@@ -6,8 +6,9 @@ use crate::declaring::may_declare;
 use crate::declined::Declined;
 use crate::faults::{ExecuteFault, PrepareFault};
 use crate::kept::Statements;
+use crate::lent::Lent;
 use crate::reading::{count_marks, meaning, readable};
-use crate::resolving::command_of;
+use crate::resolving::{command_of, resolve};
 use mm_cells::Cells;
 use mm_session::{Answer, NotOneRequest, Session, SessionFault};
 use no_memory::NoMemory;
@@ -195,7 +196,7 @@ impl Database {
         ensures session { self.new.session ≡ self.old.session }
         ensures unchanged { OnErr result (IsUnchanged self.old self.new) }
     {
-        self.commands.keep(number, Resolved::Tables);
+        self.commands.empty(number);
         self.statements.finalize(number)
     }
 
@@ -224,16 +225,25 @@ impl Database {
         ensures statements { SameStatements self.old self.new }
     {
         cells.clear();
-        let kept = self.commands.take(number);
-        let command = command_of(&self.session, &mut self.statements, number, kept)?;
-        if let Resolved::Select(query) = &command {
-            let columns = self.session.select(query, cells)?;
-            self.commands.keep(number, command);
-            return Ok(Executed::Rows { columns });
+        resolve(&self.session, &mut self.statements, number)?;
+        let kept = self.commands.at(number);
+        let lent = command_of(&self.statements, number, kept)?;
+        match lent {
+            Lent::Insert { table, row } => {
+                self.session.insert(table, row)?;
+                Ok(Executed::Changed(1))
+            }
+            Lent::Command(command) => match command {
+                Resolved::Select(query) => {
+                    let columns = self.session.select(query, cells)?;
+                    Ok(Executed::Rows { columns })
+                }
+                _ => {
+                    let count = self.session.change(command)?;
+                    Ok(Executed::Changed(count))
+                }
+            },
         }
-        let count = self.session.change(&command)?;
-        self.commands.keep(number, command);
-        Ok(Executed::Changed(count))
     }
 
     /// Makes the cells the columns of the rows that the statement of a number shows with the values that are bound: of each its name,
@@ -246,12 +256,18 @@ impl Database {
         ensures unchanged { IsUnchanged self.old self.new }
     {
         cells.clear();
-        let none = Resolved::Tables;
-        let command = command_of(&self.session, &mut self.statements, number, none)?;
-        if let Resolved::Select(query) = &command {
-            self.session.columns(query, cells)?;
-            return Ok(());
+        resolve(&self.session, &mut self.statements, number)?;
+        let kept = self.commands.at(number);
+        let lent = command_of(&self.statements, number, kept)?;
+        match lent {
+            Lent::Insert { .. } => Ok(()),
+            Lent::Command(command) => match command {
+                Resolved::Select(query) => {
+                    self.session.columns(query, cells)?;
+                    Ok(())
+                }
+                _ => Ok(()),
+            },
         }
-        Ok(())
     }
 }

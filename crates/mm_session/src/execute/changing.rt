@@ -1,6 +1,6 @@
 //! Inserts, updates and deletes that make no answer: how many rows each is about is told as a number.
 
-ghost use Rattle.std.specs.Prelude.{IfOk, IfErr};
+ghost use Rattle.std.specs.Prelude.{IfOk, IfErr, OnOk};
 ghost use Rattle.plain_tables.specs.Doing.{done};
 ghost use Rattle.plain_tables.specs.ResolvedLaws.{IsMeant};
 ghost use Rattle.plain_tables.specs.declared.resolved.Resolved.TheVariants as resolved;
@@ -10,9 +10,18 @@ ghost use Rattle.mm_session.specs.Changing.{IsChange};
 
 use super::Executor;
 use super::search::rows_passing;
-use plain_tables::{Assignment, Refusal, Resolved, TableNumber, Test};
+use plain_tables::{Assignment, Refusal, Resolved, TableNumber, Test, Value};
 
 impl Executor {
+    /// Puts a row into a table. After a refusal the tables are as before.
+    pub fn insert(&mut self, table: TableNumber, values: &[Value]) -> Result<(), Refusal>
+        requires { IsMeant self.old.catalog.limits (database_of self.old.catalog) (resolved.Insert table values.now) }
+        ensures done { OnOk result (HasEffect self.old.catalog self.new.catalog (done self.old.catalog.limits (database_of self.old.catalog) (resolved.Insert table values.now)) 1) }
+        ensures refused { IfErr result (IsDeclinedFor self.old.catalog self.new.catalog (done self.old.catalog.limits (database_of self.old.catalog) (resolved.Insert table values.now))) }
+    {
+        self.catalog.insert(table, values)
+    }
+
     // Sets values in the rows of a table that pass the tests, and tells how many these are.
     fn update_rows(
         &mut self,
@@ -49,7 +58,7 @@ impl Executor {
     {
         match command {
             Resolved::Insert { table, values } => {
-                self.catalog.insert(*table, values.as_slice())?;
+                self.insert(*table, values.as_slice())?;
                 Ok(1)
             }
             Resolved::Update {
