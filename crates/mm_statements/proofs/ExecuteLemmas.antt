@@ -78,11 +78,8 @@ pub set-known : {X E : Type 0} (old new : Statements) (number : ℕ) (p : Prepar
     → OnOk result ((q : Prepared) → named old number ≡ Some q → NamesNow old new number (Some (record q { resolution = Some r })))
     → OnErr result (named old number ≡ None) → named old number ≡ Some p → IsKnown new number
 set-known old new number p r (Ok x) set none there =
-    subst (λ o. IsSomeAnd o (λ (q : Prepared). IsSome q.resolution)) (sym (set p there).own) tt
+    subst (λ o. IsSomeAnd o (λ (q : Prepared). IsSome q.resolution)) (sym (set p there).own) refl
 set-known old new number p r (Err e) set none there = let bad : None ≡ Some p = sym none ∙ there in cc
-
-there-known : (statements : Statements) (number : ℕ) (p : Prepared) → named statements number ≡ Some p → IsSome p.resolution → IsKnown statements number
-there-known statements number p there known = subst (λ o. IsSomeAnd o (λ (q : Prepared). IsSome q.resolution)) (sym there) known
 
 finished-as : (tables : Database) (old : Statements) (number : ℕ) (m : Result Resolved Refusal) (p : Prepared) (s : Statement)
     → SpellsStatement p.line s → resolved_of [] tables (filled p.bound s) ≡ m → (o : Option Prepared) → named old number ≡ o

@@ -228,22 +228,19 @@ impl Database {
         resolve(&self.session, &mut self.statements, number)?;
         let kept = self.commands.at(number);
         let lent = command_of(&self.statements, number, kept)?;
-        match lent {
+        let command = match lent {
             Lent::Insert { table, row } => {
                 self.session.insert(table, row)?;
-                Ok(Executed::Changed(1))
+                return Ok(Executed::Changed(1));
             }
-            Lent::Command(command) => match command {
-                Resolved::Select(query) => {
-                    let columns = self.session.select(query, cells)?;
-                    Ok(Executed::Rows { columns })
-                }
-                _ => {
-                    let count = self.session.change(command)?;
-                    Ok(Executed::Changed(count))
-                }
-            },
+            Lent::Command(command) => command,
+        };
+        if let Resolved::Select(query) = command {
+            let columns = self.session.select(query, cells)?;
+            return Ok(Executed::Rows { columns });
         }
+        let count = self.session.change(command)?;
+        Ok(Executed::Changed(count))
     }
 
     /// Makes the cells the columns of the rows that the statement of a number shows with the values that are bound: of each its name,
@@ -259,15 +256,14 @@ impl Database {
         resolve(&self.session, &mut self.statements, number)?;
         let kept = self.commands.at(number);
         let lent = command_of(&self.statements, number, kept)?;
-        match lent {
-            Lent::Insert { .. } => Ok(()),
-            Lent::Command(command) => match command {
-                Resolved::Select(query) => {
-                    self.session.columns(query, cells)?;
-                    Ok(())
-                }
-                _ => Ok(()),
-            },
+        let command = match lent {
+            Lent::Insert { .. } => return Ok(()),
+            Lent::Command(command) => command,
+        };
+        if let Resolved::Select(query) = command {
+            self.session.columns(query, cells)?;
+            return Ok(());
         }
+        Ok(())
     }
 }

@@ -1,5 +1,6 @@
-use Rattle.std.proofs.Common.{◌≡◌, ◌∙◌, ap, sym, refl, Err, Ok}
+use Rattle.std.proofs.Common.{◌≡◌, ◌∙◌, ap, sym, refl, Err, Ok, subst}
 use Rattle.std.proofs.lemmas.Result.{err_from_is_err_and}
+use Rattle.plain_tables.specs.ResolvedLaws.{IsMeant}
 use Rattle.plain_tables.specs.declared.resolved.Resolved.TheVariants as resolved
 use Rattle.mm_statements.specs.Resolving.{IsFinished}
 use Rattle.mm_statements.specs.declared.faults.ExecuteFault.TheVariants as fault
@@ -34,7 +35,7 @@ returns-in_err-lent-clause-declined c =
     let old = c.self.inside.statements in
     let e = err_from_is_err_and c.from_residual-in_err-lent.result c.from_residual-in_err-lent.ensures.1 in
     rw (← c.self.view_is, e.1, e.2)
-    (unfinished-untold s old c.args.number _
+    (unfinished-untold s old c.args.number (fault.Refused c.in_err-lent.field-0.0)
     (same-unfinished s.database old c.resolve.new.statements c.args.number _ c.resolve.ensures.same
     (c.in_err-lent.ensures.refused s.database c.resolve.ensures.right)))
 
@@ -61,6 +62,13 @@ returns-in-Insert-clause-unchanged c =
     let s = c.self.inside.session in
     rw (← c.self.view_is) (unchanged s s c.self.inside.statements c.resolve.new.statements refl c.resolve.ensures.same)
 
+pub columns-requires : goal.columns-requires
+columns-requires c =
+    let s = c.self.inside.session in
+    let meant : IsMeant s.limits s.database c.in-Command.command.now =
+    rw c.in-Command.is at (c.in_ok-lent.ensures.meant s.limits s.database c.resolve.ensures.right) in
+    subst (IsMeant s.limits s.database) c.in-Select.is meant
+
 pub returns-in_err-columns-clause-unchanged : goal.returns-in_err-columns-clause-unchanged
 returns-in_err-columns-clause-unchanged c =
     let s = c.self.inside.session in
@@ -85,8 +93,8 @@ returns-in-Select-clause-unchanged c =
     let s = c.self.inside.session in
     rw (← c.self.view_is) (unchanged s s c.self.inside.statements c.resolve.new.statements refl c.resolve.ensures.same)
 
-pub returns-in_default-clause-told : goal.returns-in_default-clause-told
-returns-in_default-clause-told c =
+pub returns-clause-told : goal.returns-clause-told
+returns-clause-told c =
     let s = c.self.inside.session in
     let old = c.self.inside.statements in
     let command = c.in-Command.command.now in
@@ -98,7 +106,7 @@ returns-in_default-clause-told c =
       c.clear.ensures ∙ sym (none-shown s.database command c.in_default.not-Select),
     )
 
-pub returns-in_default-clause-unchanged : goal.returns-in_default-clause-unchanged
-returns-in_default-clause-unchanged c =
+pub returns-clause-unchanged : goal.returns-clause-unchanged
+returns-clause-unchanged c =
     let s = c.self.inside.session in
     rw (← c.self.view_is) (unchanged s s c.self.inside.statements c.resolve.new.statements refl c.resolve.ensures.same)

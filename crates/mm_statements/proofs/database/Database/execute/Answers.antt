@@ -1,8 +1,9 @@
-use Rattle.std.proofs.Common.{◌≡◌, ap, refl, Ok, Err}
+use Rattle.std.proofs.Common.{◌≡◌, ap, refl, Ok, Err, subst}
 use Rattle.std.proofs.lemmas.Result.{err_from_is_err_and}
 use Rattle.plain_tables.specs.Doing.{done}
+use Rattle.plain_tables.specs.ResolvedLaws.{IsMeant}
 use Rattle.plain_tables.specs.declared.resolved.Resolved.TheVariants as resolved
-use Rattle.mm_statements.specs.Resolving.{IsFinished}
+use Rattle.mm_statements.specs.Resolving.{IsFinished, IsOfRows}
 use Rattle.mm_statements.specs.declared.faults.ExecuteFault.TheVariants as fault
 use Rattle.mm_statements.proofs.ExecuteLemmas.{change-declined, changed-right, effect-of, on-err, same-finished, same-session, same-unfinished, unchanged, unfinished-declined}
 use Rattle.mm_statements.proofs.FinishedLemmas.{rows-change}
@@ -41,7 +42,7 @@ returns-in_err-lent-clause-declined c =
     let old = c.self.inside.statements in
     let e = err_from_is_err_and c.from_residual-in_err-lent.result c.from_residual-in_err-lent.ensures.1 in
     rw (← c.self.view_is, e.1, e.2)
-    (unfinished-declined s old c.args.number _
+    (unfinished-declined s old c.args.number (fault.Refused c.in_err-lent.field-0.0)
     (same-unfinished s.database old c.resolve.new.statements c.args.number _ c.resolve.ensures.same
     (c.in_err-lent.ensures.refused s.database c.resolve.ensures.right)))
 
@@ -61,28 +62,28 @@ insert-requires c =
     let s = c.self.inside.session in
     rw c.in-Insert.is at (c.in_ok-lent.ensures.meant s.limits s.database c.resolve.ensures.right)
 
-pub returns-in_err-insert-clause-declined : goal.returns-in_err-insert-clause-declined
-returns-in_err-insert-clause-declined c =
+pub returns-in_err-insert-in-Insert-clause-declined : goal.returns-in_err-insert-in-Insert-clause-declined
+returns-in_err-insert-in-Insert-clause-declined c =
     let s = c.self.inside.session in
     let old = c.self.inside.statements in
     let command = resolved.Insert c.in-Insert.table c.in-Insert.row.now in
     let finished : IsFinished s.database c.resolve.new.statements c.args.number (Ok command) =
     rw c.in-Insert.is at (c.in_ok-lent.ensures.finished s.database c.resolve.ensures.right) in
-    let e = err_from_is_err_and c.from_residual-in_err-insert.result c.from_residual-in_err-insert.ensures.1 in
+    let e = err_from_is_err_and c.from_residual-in_err-insert-in-Insert.result c.from_residual-in_err-insert-in-Insert.ensures.1 in
     rw (← c.self.view_is, e.1, e.2)
     (change-declined s c.insert.new.self old c.args.number command _
-    (same-finished s.database old c.resolve.new.statements c.args.number (Ok command) c.resolve.ensures.same finished) c.in_err-insert.ensures.refused)
+    (same-finished s.database old c.resolve.new.statements c.args.number (Ok command) c.resolve.ensures.same finished) c.in_err-insert-in-Insert.ensures.refused)
 
-pub returns-in_err-insert-clause-unchanged : goal.returns-in_err-insert-clause-unchanged
-returns-in_err-insert-clause-unchanged c =
+pub returns-in_err-insert-in-Insert-clause-unchanged : goal.returns-in_err-insert-in-Insert-clause-unchanged
+returns-in_err-insert-in-Insert-clause-unchanged c =
     let s = c.self.inside.session in
     rw (← c.self.view_is)
-    (on-err c.from_residual-in_err-insert.result
+    (on-err c.from_residual-in_err-insert-in-Insert.result
     (unchanged s c.insert.new.self c.self.inside.statements c.resolve.new.statements
-    (same-session s c.insert.new.self c.in_err-insert.ensures.refused.0 c.insert.ensures.stream) c.resolve.ensures.same))
+    (same-session s c.insert.new.self c.in_err-insert-in-Insert.ensures.refused.0 c.insert.ensures.stream) c.resolve.ensures.same))
 
-pub returns-in_err-insert-clause-statements : goal.returns-in_err-insert-clause-statements
-returns-in_err-insert-clause-statements c =
+pub returns-in_err-insert-in-Insert-clause-statements : goal.returns-in_err-insert-in-Insert-clause-statements
+returns-in_err-insert-in-Insert-clause-statements c =
     rw (← c.self.view_is)
     (same-seen c.self.inside.session c.insert.new.self c.self.inside.statements c.resolve.new.statements c.resolve.ensures.same)
 
@@ -96,13 +97,20 @@ returns-in-Insert-clause-done c =
     rw (← c.self.view_is) (
       done s.limits s.database command,
       effect-of s old c.args.number (Ok command) (same-finished s.database old c.resolve.new.statements c.args.number (Ok command) c.resolve.ensures.same finished),
-      (c.in_ok-insert.ensures.done, c.clear.ensures),
+      (c.in_ok-insert-in-Insert.ensures.done, c.clear.ensures),
     )
 
 pub returns-in-Insert-clause-statements : goal.returns-in-Insert-clause-statements
 returns-in-Insert-clause-statements c =
     rw (← c.self.view_is)
     (same-seen c.self.inside.session c.insert.new.self c.self.inside.statements c.resolve.new.statements c.resolve.ensures.same)
+
+pub select-requires : goal.select-requires
+select-requires c =
+    let s = c.self.inside.session in
+    let meant : IsMeant s.limits s.database c.in-Command.command.now =
+    rw c.in-Command.is at (c.in_ok-lent.ensures.meant s.limits s.database c.resolve.ensures.right) in
+    subst (IsMeant s.limits s.database) c.in-Select.is meant
 
 pub returns-in_err-columns-clause-unchanged : goal.returns-in_err-columns-clause-unchanged
 returns-in_err-columns-clause-unchanged c =
@@ -134,6 +142,14 @@ returns-in-Select-clause-statements c =
     let s = c.self.inside.session in
     rw (← c.self.view_is) (same-seen s s c.self.inside.statements c.resolve.new.statements c.resolve.ensures.same)
 
+pub change-requires : goal.change-requires
+change-requires c =
+    let s = c.self.inside.session in
+    let command = c.in-Command.command.now in
+    let meant : IsMeant s.limits s.database command = rw c.in-Command.is at (c.in_ok-lent.ensures.meant s.limits s.database c.resolve.ensures.right) in
+    let rows : IsOfRows command = rw c.in-Command.is at c.in_ok-lent.ensures.rows in
+    record { meant = meant; change = rows-change command rows c.in_default.not-Select }
+
 pub returns-in_err-count-clause-declined : goal.returns-in_err-count-clause-declined
 returns-in_err-count-clause-declined c =
     let s = c.self.inside.session in
@@ -159,8 +175,8 @@ returns-in_err-count-clause-statements c =
     rw (← c.self.view_is)
     (same-seen c.self.inside.session c.change.new.self c.self.inside.statements c.resolve.new.statements c.resolve.ensures.same)
 
-pub returns-in_default-clause-done : goal.returns-in_default-clause-done
-returns-in_default-clause-done c =
+pub returns-clause-done : goal.returns-clause-done
+returns-clause-done c =
     let s = c.self.inside.session in
     let old = c.self.inside.statements in
     let command = c.in-Command.command.now in
@@ -172,7 +188,19 @@ returns-in_default-clause-done c =
       (c.in_ok-count.ensures.done, c.clear.ensures),
     )
 
-pub returns-in_default-clause-statements : goal.returns-in_default-clause-statements
-returns-in_default-clause-statements c =
+pub returns-clause-statements : goal.returns-clause-statements
+returns-clause-statements c =
     rw (← c.self.view_is)
     (same-seen c.self.inside.session c.change.new.self c.self.inside.statements c.resolve.new.statements c.resolve.ensures.same)
+
+pub invariant_of-self-in-Insert : goal.invariant_of-self-in-Insert
+invariant_of-self-in-Insert c =
+    changed-right c.self.inside.session c.insert.new.self c.resolve.new.statements (resolved.Insert c.in-Insert.table c.in-Insert.row.now) 1 tt
+    c.in_ok-insert-in-Insert.ensures.done c.resolve.ensures.right
+
+pub invariant_of-self-2 : goal.invariant_of-self-2
+invariant_of-self-2 c =
+    let command = c.in-Command.command.now in
+    let rows : IsOfRows command = rw c.in-Command.is at c.in_ok-lent.ensures.rows in
+    changed-right c.self.inside.session c.change.new.self c.resolve.new.statements command c.in_ok-count.count
+    (rows-change command rows c.in_default.not-Select) c.in_ok-count.ensures.done c.resolve.ensures.right
