@@ -1,11 +1,12 @@
 -- Executing: what comes of the resolved command of a statement.
-use Rattle.std.proofs.Common.{◌≡◌, ℕ, map, sym, ap, ◌∙◌, subst, ⊎_elim, [], Some, None, Result, Ok, Err}
-use Rattle.std.specs.Prelude.{IfSome, OnErr}
+use Rattle.std.proofs.Common.{◌≡◌, ℕ, map, refl, sym, ap, ◌∙◌, subst, ⊎_elim, [], Option, Some, None, Result, Ok, Err}
+use Rattle.std.specs.Prelude.{IfSome, IsSome, IsSomeAnd, OnErr, OnOk}
 use Rattle.std.specs.List.{All}
 use Rattle.std.specs.Option.{option_map}
 use Rattle.plain_tables.specs.Commands.{effect_of_resolved}
 use Rattle.plain_tables.specs.Databases.{Database}
 use Rattle.plain_tables.specs.Doing.{done}
+use Rattle.plain_tables.specs.Resolving.{resolved_of}
 use Rattle.plain_tables.specs.Effects.{Effect, refused}
 use Rattle.plain_tables.specs.ResolvedLaws.{HasWidth, IsMeant, emptied}
 use Rattle.plain_tables.specs.declared.command.Limits.{Limits}
@@ -21,9 +22,9 @@ use Rattle.plain_statements.specs.StatementSpelling.{SpellsStatement}
 use Rattle.mm_session.specs.Changing.{HasChanged, HasDeclined, IsChange}
 use Rattle.mm_session.specs.OneRequest.{StaysInStream}
 use Rattle.mm_session.specs.Sessions.{State}
-use Rattle.mm_statements.specs.Databases.{IsUnchanged}
+use Rattle.mm_statements.specs.Databases.{IsUnchanged, KeptStatement}
 use Rattle.mm_statements.specs.Executing.{IsDeclined, IsEffectOf}
-use Rattle.mm_statements.specs.Kept.{SameSeen, named, seen}
+use Rattle.mm_statements.specs.Kept.{IsKnown, NamesNow, SameSeen, named, seen}
 use Rattle.mm_statements.specs.Resolving.{IsFinished, IsUnfinished, IsUnmeant}
 use Rattle.mm_statements.specs.Resolving as resolving
 use Rattle.mm_statements.specs.Right.{AreRight, IsRight}
@@ -69,6 +70,41 @@ unmeant-finished tables statements number p why there right (resolving.refuses s
   spelled = spelled;
   means = refused p.bound;
 }
+
+-- ---- where its meaning is worked out before
+
+-- A statement of which a resolution is set is known.
+pub set-known : {X E : Type 0} (old new : Statements) (number : ℕ) (p : Prepared) (r : Resolution) (result : Result X E)
+    → OnOk result ((q : Prepared) → named old number ≡ Some q → NamesNow old new number (Some (record q { resolution = Some r })))
+    → OnErr result (named old number ≡ None) → named old number ≡ Some p → IsKnown new number
+set-known old new number p r (Ok x) set none there =
+    subst (λ o. IsSomeAnd o (λ (q : Prepared). IsSome q.resolution)) (sym (set p there).own) refl
+set-known old new number p r (Err e) set none there = let bad : None ≡ Some p = sym none ∙ there in cc
+
+finished-as : (tables : Database) (old : Statements) (number : ℕ) (m : Result Resolved Refusal) (p : Prepared) (s : Statement)
+    → SpellsStatement p.line s → resolved_of [] tables (filled p.bound s) ≡ m → (o : Option Prepared) → named old number ≡ o
+    → Some (seen p) ≡ option_map seen o → IsFinished tables old number m
+finished-as tables old number m p s spelled means None there same = cc
+finished-as tables old number m p s spelled means (Some q) there same =
+    let alike : seen p ≡ seen q = cc in
+    record {
+      prepared = q;
+      there = there;
+      statement = s;
+      spelled = subst (λ (k : KeptStatement). SpellsStatement k.line s) alike spelled;
+      means = subst (λ (k : KeptStatement). resolved_of [] tables (filled k.values s) ≡ m) alike means;
+    }
+
+-- what is finished after it, is finished before it
+pub same-finished : (tables : Database) (old new : Statements) (number : ℕ) (m : Result Resolved Refusal) → SameSeen old new
+    → IsFinished tables new number m → IsFinished tables old number m
+same-finished tables old new number m same f =
+    finished-as tables old number m f.prepared f.statement f.spelled f.means (named old number) refl
+    (ap (option_map seen) (sym f.there) ∙ same number)
+
+pub same-unfinished : (tables : Database) (old new : Statements) (number : ℕ) (why : Refusal) → SameSeen old new
+    → IsUnfinished tables new number (fault.Refused why) → IsUnfinished tables old number (fault.Refused why)
+same-unfinished tables old new number why same says other = same-finished tables old new number (Err why) same (says other)
 
 -- ---- its effect
 

@@ -1,5 +1,5 @@
 -- Kept: the statement that a number names, and what is seen of it.
-use Rattle.std.specs.Prelude.{◌≡◌, ◌≢◌, ℕ, List, Option, None, map}
+use Rattle.std.specs.Prelude.{◌≡◌, ◌≢◌, ℕ, IsSome, IsSomeAnd, List, Option, None, map}
 use Rattle.std.specs.Option.{option_map}
 use Rattle.slab.specs.Slab.{get}
 use Rattle.mm_statements.specs.Databases.{KeptStatement}
@@ -34,3 +34,7 @@ all_seen statements = map (option_map seen) statements.kept.slots
 -- what is seen of every number is what was seen
 abbrev pub SameSeen : Statements → Statements → Type 0
 SameSeen old new = (number : ℕ) → option_map seen (named new number) ≡ option_map seen (named old number)
+
+-- the number names a statement, of which is known what it means
+abbrev pub IsKnown : Statements → ℕ → Type 0
+IsKnown statements number = IsSomeAnd (named statements number) (λ p. IsSome p.resolution)

@@ -4,6 +4,7 @@ pub mod Declaring
 pub mod Executing
 pub mod Faults
 pub mod Kept
+pub mod Lent
 pub mod Preparing
 pub mod Querying
 pub mod Resolving

@@ -1,14 +1,14 @@
 //! The commands that statements were last filled to, by the numbers of these. They are kept for their room, so that a statement that
-//! is executed again takes no memory for its command; what they say is of no use to anyone.
+//! is executed again is filled where it stands; what they say is of no use to anyone.
 
 use plain_tables::Resolved;
 use std::alloc::Global;
-use std::mem;
 
-/// A command for each of so many numbers.
+/// A command for each of so many numbers, and one for all the others.
 #[derive(Drop)]
 pub struct Commands {
     kept: Vec<Resolved>,
+    spare: Resolved,
 }
 
 impl Commands {
@@ -16,6 +16,7 @@ impl Commands {
     pub fn new(alloc: Global) -> Commands {
         Commands {
             kept: Vec::new(alloc),
+            spare: Resolved::Tables,
         }
     }
 
@@ -28,18 +29,18 @@ impl Commands {
         }
     }
 
-    /// Takes the command of a number out, or one without room where none is kept.
-    pub fn take(&mut self, number: usize) -> Resolved {
+    /// The command of a number, to be filled: its own where it has a place, or the one that all others share.
+    pub fn at(&mut self, number: usize) -> &mut Resolved {
         match self.kept.get_mut(number) {
-            Some(command) => mem::replace(command, Resolved::Tables),
-            None => Resolved::Tables,
+            Some(command) => command,
+            None => &mut self.spare,
         }
     }
 
-    /// Keeps the command of a number, where it has a place.
-    pub fn keep(&mut self, number: usize, command: Resolved) {
-        if let Some(place) = self.kept.get_mut(number) {
-            *place = command;
+    /// Gives the room of a number's command back.
+    pub fn empty(&mut self, number: usize) {
+        if let Some(command) = self.kept.get_mut(number) {
+            *command = Resolved::Tables;
         }
     }
 }

@@ -6,9 +6,10 @@ use crate::declaring::may_declare;
 use crate::declined::Declined;
 use crate::faults::{ExecuteFault, PrepareFault};
 use crate::kept::Statements;
+use crate::lent::Lent;
 use crate::querying::command_of_line;
 use crate::reading::{count_marks, meaning, readable};
-use crate::resolving::command_of;
+use crate::resolving::{command_of, resolve};
 use mm_cells::Cells;
 use mm_session::{Answer, NotOneRequest, Session, SessionFault};
 use no_memory::NoMemory;
@@ -197,7 +198,7 @@ impl Database {
         ensures session { self.new.session ≡ self.old.session }
         ensures unchanged { OnErr result (IsUnchanged self.old self.new) }
     {
-        self.commands.keep(number, Resolved::Tables);
+        self.commands.empty(number);
         self.statements.finalize(number)
     }
 
@@ -226,15 +227,21 @@ impl Database {
         ensures statements { SameStatements self.old self.new }
     {
         cells.clear();
-        let kept = self.commands.take(number);
-        let command = command_of(&self.session, &mut self.statements, number, kept)?;
-        if let Resolved::Select(query) = &command {
+        resolve(&self.session, &mut self.statements, number)?;
+        let kept = self.commands.at(number);
+        let lent = command_of(&self.statements, number, kept)?;
+        let command = match lent {
+            Lent::Insert { table, row } => {
+                self.session.insert(table, row)?;
+                return Ok(Executed::Changed(1));
+            }
+            Lent::Command(command) => command,
+        };
+        if let Resolved::Select(query) = command {
             let columns = self.session.select(query, cells)?;
-            self.commands.keep(number, command);
             return Ok(Executed::Rows { columns });
         }
-        let count = self.session.change(&command)?;
-        self.commands.keep(number, command);
+        let count = self.session.change(command)?;
         Ok(Executed::Changed(count))
     }
 
@@ -248,9 +255,14 @@ impl Database {
         ensures unchanged { IsUnchanged self.old self.new }
     {
         cells.clear();
-        let none = Resolved::Tables;
-        let command = command_of(&self.session, &mut self.statements, number, none)?;
-        if let Resolved::Select(query) = &command {
+        resolve(&self.session, &mut self.statements, number)?;
+        let kept = self.commands.at(number);
+        let lent = command_of(&self.statements, number, kept)?;
+        let command = match lent {
+            Lent::Insert { .. } => return Ok(()),
+            Lent::Command(command) => command,
+        };
+        if let Resolved::Select(query) = command {
             self.session.columns(query, cells)?;
             return Ok(());
         }

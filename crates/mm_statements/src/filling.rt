@@ -1,6 +1,6 @@
 //! The resolved command that a template is with values in its holes. The values are copied, into the room of a command that was made
 //! before.
-ghost use Rattle.std.specs.Prelude.{◌≡◌, map, IfOk};
+ghost use Rattle.std.specs.Prelude.{◌≡◌, map, IfOk, OnOk};
 ghost use Rattle.plain_statements.specs.Filling.{slot_value};
 ghost use Rattle.plain_statements.specs.Finishing.{filled_assignment, filled_join, filled_query, filled_source, filled_template, filled_test};
 
@@ -13,6 +13,7 @@ use plain_tables::{
     Assignment, Joined, Place, Query, Resolved, Sequence, Shown, Source, Test, Value,
 };
 use std::alloc::Global;
+use std::mem;
 
 // The value of a slot. Behind the values there are nulls.
 fn value_of(alloc: Global, values: &[Value], slot: &Slot) -> Result<Value, NoMemory>
@@ -195,9 +196,9 @@ fn room_of_delete(alloc: Global, kept: Resolved) -> Vec<Test> {
     }
 }
 
-/// The resolved command that a template is with these values in its holes. It has the room of the one that is kept, where that is of
-/// its kind.
-pub fn fill(
+// The resolved command that a template is with these values in its holes. It has the room of the one that is kept, where that is of
+// its kind.
+fn filled_of(
     alloc: Global,
     values: &[Value],
     template: &Template,
@@ -230,4 +231,18 @@ pub fn fill(
             Resolved::Select(filled_query_of(room_of_query(alloc, kept), values, query)?)
         }
     })
+}
+
+/// Makes a command the resolved one that a template is with these values in its holes, in the room of what it was.
+pub fn fill(
+    kept: &mut Resolved,
+    alloc: Global,
+    values: &[Value],
+    template: &Template,
+) -> Result<(), NoMemory>
+    ensures { OnOk result (kept.new ≡ filled_template values.now template.now) }
+{
+    let before = mem::replace(kept, Resolved::Tables);
+    *kept = filled_of(alloc, values, template, before)?;
+    Ok(())
 }

@@ -1,8 +1,8 @@
 //! What is left to be checked of a resolved statement once its values have come, and what is done then.
-ghost use Rattle.std.specs.Prelude.{◌≡◌, ◌≢◌, Ok, Err, IfOk, IfErr};
+ghost use Rattle.std.specs.Prelude.{◌≡◌, ◌≢◌, Ok, Err, IfErr, OnOk};
 ghost use Rattle.std.specs.List.{list_any};
 ghost use Rattle.plain_tables.specs.declared.refusal.Refusal.TheVariants as refusal;
-ghost use Rattle.plain_statements.specs.Finishing.{comes, finished, is_past, is_wrong};
+ghost use Rattle.plain_statements.specs.Finishing.{comes, filled_template, finished, is_past, is_wrong};
 
 use crate::filling::fill;
 use plain_statements::{Resolution, Want};
@@ -41,17 +41,11 @@ fn has_past(values: &[Value], wants: &[Want]) -> bool
     wants.iter().any(|want| comes_past(values, *want))
 }
 
-/// What a resolved statement does with these values, or why it is refused: 35 where a value is of another type than its column, then
-/// 46 where a text that is to be stored is too long, then what is refused once the values are right. 90 may stand for any of it. The
-/// command has the room of the one that is kept, where that is of its kind.
-pub fn finish(
-    alloc: Global,
-    values: &[Value],
-    resolution: &Resolution,
-    kept: Resolved,
-) -> Result<Resolved, Refusal>
-    ensures done { IfOk result (λ r. finished values.now resolution.now ≡ Ok r) }
-    ensures refused { IfErr result (λ e. e ≢ refusal.NoMemory → finished values.now resolution.now ≡ Err e) }
+/// Why a resolved statement is refused with these values, if it is: 35 where a value is of another type than its column, then 46 where a
+/// text that is to be stored is too long, then what is refused once the values are right.
+pub fn check(values: &[Value], resolution: &Resolution) -> Result<(), Refusal>
+    ensures done { OnOk result (finished values.now resolution.now ≡ Ok (filled_template values.now resolution.now.template)) }
+    ensures refused { IfErr result (λ e. finished values.now resolution.now ≡ Err e) }
 {
     let wants = resolution.wants.as_slice();
     if has_wrong(values, wants) {
@@ -63,5 +57,21 @@ pub fn finish(
     if let Some(why) = resolution.last {
         return Err(why);
     }
-    Ok(fill(alloc, values, &resolution.template, kept)?)
+    Ok(())
+}
+
+/// Makes the command what a resolved statement does with these values, or tells why it is refused, as `check` does; 90 may stand for
+/// any of it. It has the room of what the command was, where that is of its kind. After a refusal the command may be anything.
+pub fn finish(
+    alloc: Global,
+    values: &[Value],
+    resolution: &Resolution,
+    kept: &mut Resolved,
+) -> Result<(), Refusal>
+    ensures done { OnOk result (finished values.now resolution.now ≡ Ok kept.new) }
+    ensures refused { IfErr result (λ e. e ≢ refusal.NoMemory → finished values.now resolution.now ≡ Err e) }
+{
+    check(values, resolution)?;
+    fill(kept, alloc, values, &resolution.template)?;
+    Ok(())
 }

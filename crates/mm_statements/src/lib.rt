@@ -27,6 +27,7 @@ mod faults;
 mod filling;
 mod finishing;
 mod kept;
+mod lent;
 mod querying;
 mod reading;
 mod resolving;

@@ -1,49 +1,67 @@
 //! From the statement of a number to the resolved command that it is with its values.
-ghost use Rattle.std.specs.Prelude.{◌≡◌, Err, IfErr, IfOk, None, Ok};
+ghost use Rattle.std.specs.Prelude.{◌≡◌, Err, IfErr, IfOk, None, OnOk, Ok};
+ghost use Rattle.plain_tables.specs.Databases.{Database};
 ghost use Rattle.plain_tables.specs.ResolvedLaws.{IsMeant};
-ghost use Rattle.mm_statements.specs.Kept.{SameSeen, named};
+ghost use Rattle.plain_tables.specs.declared.command.Limits.{Limits};
+ghost use Rattle.mm_statements.specs.Kept.{IsKnown, SameSeen, named};
+ghost use Rattle.mm_statements.specs.Lent.{lent_command};
 ghost use Rattle.mm_statements.specs.Resolving.{IsFinished, IsOfRows, IsUnfinished};
 ghost use Rattle.mm_statements.specs.Right.{AreRight};
 ghost use Rattle.mm_statements.specs.declared.faults.ExecuteFault.TheVariants as fault;
 
 use crate::faults::ExecuteFault;
-use crate::finishing::finish;
 use crate::kept::Statements;
+use crate::lent::{Lent, lend};
 use crate::reading::meaning;
 use mm_lang::Line;
 use mm_session::Session;
-use plain_tables::Resolved;
+use plain_tables::{Refusal, Resolved};
 
-/// The resolved command that the statement of a number is with the values that are bound. What the statement means of the tables is
-/// worked out anew from its line where it isn't known, and then known. The command has the room of the one that is kept, where that is
-/// of its kind.
-pub fn command_of(
+/// Works out what the statement of a number means of the tables, where that isn't known.
+pub fn resolve(
     session: &Session,
     statements: &mut Statements,
     number: usize,
-    kept: Resolved,
-) -> Result<Resolved, ExecuteFault>
+) -> Result<(), ExecuteFault>
     requires { AreRight session.now.database statements.old }
     ensures right { AreRight session.now.database statements.new }
     ensures same { SameSeen statements.old statements.new }
-    ensures finished { IfOk result (λ c. IsFinished session.now.database statements.old number (Ok c)) }
-    ensures meant { IfOk result (λ c. IsMeant session.now.limits session.now.database c) }
-    ensures rows { IfOk result IsOfRows }
+    ensures known { OnOk result (IsKnown statements.new number) }
     ensures missing { named statements.old number ≡ None → result ≡ Err fault.NoSuchStatement }
     ensures refused { IfErr result (IsUnfinished session.now.database statements.old number) }
 {
     let Some(prepared) = statements.get(number) else {
         return Err(ExecuteFault::NoSuchStatement);
     };
-    let values = prepared.bound.as_slice();
-    let alloc = prepared.bound.allocator();
-    if let Some(resolution) = &prepared.resolution {
-        return Ok(finish(alloc, values, resolution, kept)?);
+    if prepared.resolution.is_some() {
+        return Ok(());
     }
     let line = Line::new(prepared.line.as_str());
-    let resolution = meaning(alloc, session.catalog(), &line)?;
-    let command = finish(alloc, values, &resolution, kept);
+    let resolution = meaning(prepared.bound.allocator(), session.catalog(), &line)?;
     // The number names a statement, so this is never declined.
     let _ = statements.set_resolution(number, resolution);
-    Ok(command?)
+    Ok(())
+}
+
+/// The resolved command that the statement of a number is with the values that are bound. Where these are lent the command that is kept
+/// stays, and else that is filled.
+pub fn command_of<'a>(
+    statements: &'a Statements,
+    number: usize,
+    kept: &'a mut Resolved,
+) -> Result<Lent<'a>, Refusal>
+    requires { IsKnown statements.now number }
+    ensures finished { (tables : Database) → AreRight tables statements.now → IfOk result (λ c. IsFinished tables statements.now number (Ok (lent_command c))) }
+    ensures meant { (limits : Limits) (tables : Database) → AreRight tables statements.now → IfOk result (λ c. IsMeant limits tables (lent_command c)) }
+    ensures rows { IfOk result (λ c. IsOfRows (lent_command c)) }
+    ensures refused { (tables : Database) → AreRight tables statements.now → IfErr result (λ why. IsUnfinished tables statements.now number (fault.Refused why)) }
+{
+    let Some(prepared) = statements.get(number) else {
+        unreachable!();
+    };
+    let Some(resolution) = &prepared.resolution else {
+        unreachable!();
+    };
+    let alloc = prepared.bound.allocator();
+    lend(alloc, prepared.bound.as_slice(), resolution, kept)
 }
