@@ -1,5 +1,5 @@
 -- Columns: what is told of a statement that was finished, and of one that wasn't.
-use Rattle.std.proofs.Common.{◌≡◌, ◌≢◌, ℕ, [], refl, sym, ap, ◌∙◌, Option, Some, None, Result, Ok, Err}
+use Rattle.std.proofs.Common.{◌≡◌, ◌≢◌, ℕ, [], refl, ap, ◌∙◌, Result, Err}
 use Rattle.std.specs.Option.{option_map}
 use Rattle.plain_tables.specs.Databases.{Database}
 use Rattle.plain_tables.specs.declared.refusal.Refusal.{Refusal}

@@ -1,6 +1,5 @@
 -- Querying: what comes of the command that a line spells.
-use Rattle.std.proofs.Common.{◌≡◌, ◌≢◌, ◌∙◌, ℕ, Bool, true, false, List, [], refl, sym, ap, subst, ⊎_elim, Ok, Err, Result}
-use Rattle.std.specs.Prelude.{IsTrue}
+use Rattle.std.proofs.Common.{◌≡◌, ◌≢◌, ◌∙◌, ℕ, true, false, List, [], refl, sym, ap, subst, ⊎_elim, Ok, Err, Result}
 use Rattle.std.proofs.lemmas.Bool.{false≢true}
 use Rattle.plain_tables.specs.Commands.{effect_of_resolved}
 use Rattle.plain_tables.specs.CsvReading.{Record}

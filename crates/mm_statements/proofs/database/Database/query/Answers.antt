@@ -1,4 +1,4 @@
-use Rattle.std.proofs.Common.{◌≡◌, refl, Ok}
+use Rattle.std.proofs.Common.{refl, Ok}
 use Rattle.std.proofs.lemmas.Result.{err_from_is_err_and}
 use Rattle.plain_tables.specs.Doing.{done}
 use Rattle.plain_tables.specs.declared.resolved.Resolved.TheVariants as resolved
@@ -7,7 +7,6 @@ use Rattle.mm_statements.specs.Querying as querying
 use Rattle.mm_statements.proofs.ExecuteLemmas.{changed-right, on-err, same-session, unchanged}
 use Rattle.mm_statements.proofs.FinishedLemmas.{rows-change}
 use Rattle.mm_statements.proofs.QueryLemmas.{change-unqueried, effect-of-line}
-use Rattle.mm_statements.proofs.SeenLemmas.{same-seen}
 use Rattle.mm_statements.proofs.database.Database.query.Goals as goal
 
 pub returns-in_err-command-clause-refused : goal.returns-in_err-command-clause-refused
