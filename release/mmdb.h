@@ -24,7 +24,8 @@
    length is MMDB_NO_LINE.
 
    What is done more than once, or with values that come from elsewhere, is best done by a statement: it is prepared
-   once, its values are bound and not written into a line, and its rows are cells and not text to be read.
+   once, its values are bound and not written into a line, and its rows are cells and not text to be read. The rows of a
+   line that is done once are cells too, where mmdb_query does it.
 
        mmdb_statement insert;
        mmdb_rows rows;
@@ -111,8 +112,8 @@ typedef enum mmdb_status {
     MMDB_NO_SUCH_STATEMENT = 9,  /* the number names no statement, or one that was finalised */
     MMDB_NO_SUCH_PLACE = 10,     /* the statement has no place of that number */
     MMDB_NOT_UTF8 = 11,          /* mmdb_bind_text of bytes that are not UTF-8 */
-    MMDB_REFUSED = 12            /* mmdb_prepare, mmdb_execute, mmdb_columns: refused. mmdb_answer and mmdb_refusal tell
-                                    why, as `error 41 key exists` and a line feed; nothing changed */
+    MMDB_REFUSED = 12            /* mmdb_prepare, mmdb_execute, mmdb_columns, mmdb_query: refused. mmdb_answer and
+                                    mmdb_refusal tell why, as `error 41 key exists` and a line feed; nothing changed */
 } mmdb_status;
 
 /* How plans are chosen. No policy changes an answer, only what it costs. MMDB_AUTO is the one to take. */
@@ -181,6 +182,15 @@ uint32_t mmdb_columns(mmdb *db, uint32_t statement, mmdb_rows *columns);
    Gives MMDB_DONE; or MMDB_NOT_OPEN or MMDB_NO_SUCH_STATEMENT. */
 uint32_t mmdb_finalize(mmdb *db, uint32_t statement);
 
+/* Does the insert, the update, the delete or the select that a line spells, as mmdb_command does, and gives what
+   mmdb_execute would: rows as cells, or `changed`. No statement is kept. One carriage return at the line's end is
+   dropped.
+   Gives MMDB_DONE: and of a select its rows, which are good until the next mmdb_query on this handle or mmdb_close,
+   whatever other calls there are; of the others `changed`, and no rows. Or gives MMDB_NOT_OPEN or MMDB_NO_LINE; or
+   MMDB_REFUSED by 10, 11 or 20, the last also for a ? in no text, a line feed, blanks, comments and all other commands,
+   or as mmdb_command would be answered, in the same order, and by 90 where no memory is found. */
+uint32_t mmdb_query(mmdb *db, const void *line, size_t length, mmdb_rows *rows);
+
 /* Takes the next bytes of a stream of lines and blocks, cut wherever it may be, and answers each request that ends in
    them, at its line feed or with the last byte of its block; mmdb_answer gives these answers. A request whose end is
    yet to come waits for the next piece. mmdb_command and mmdb_load stand beside the stream and leave what waits.
@@ -199,7 +209,7 @@ uint32_t mmdb_indexes(mmdb *db, const void *table, size_t length, mmdb_bytes *an
 
 /* The answers of the last call that was done, one behind the other: of the piece that was fed, or of the line. Of a
    piece whose answers found no room it is a front of them. Where a statement was prepared, executed or asked for its
-   columns they are its refusal, or no bytes.
+   columns, or a line queried, they are its refusal, or no bytes.
    Gives MMDB_DONE, and bytes that are good until the next call but this one, mmdb_refusal and mmdb_reason; or
    MMDB_NOT_OPEN. */
 uint32_t mmdb_answer(mmdb *db, mmdb_bytes *answer);
@@ -209,10 +219,10 @@ uint32_t mmdb_answer(mmdb *db, mmdb_bytes *answer);
 uint32_t mmdb_refusal(mmdb *db);
 
 /* Why a line was refused, with the block that it asks for, in one line of English: for people, who are told what stands
-   at which column, or which name, column, value or row it was. It is asked right behind the mmdb_command or mmdb_load
-   that was refused, while the tables are as they were, and changes neither them nor the answers. Of a statement the line
-   is that with the values in their places. What the words are may change from version to version; the number of the
-   refusal doesn't.
+   at which column, or which name, column, value or row it was. It is asked right behind the mmdb_command, mmdb_load or
+   mmdb_query that was refused, while the tables are as they were, and changes neither them nor the answers. Of a
+   statement the line is that with the values in their places. What the words are may change from version to version;
+   the number of the refusal doesn't.
    Gives MMDB_DONE and the words, which are good until the next call on this handle: no bytes where the last answers
    begin with no refusal, or it is none of this line. Or gives MMDB_NOT_OPEN, MMDB_NO_LINE, or MMDB_NO_MEMORY where none
    was found for the words. */
@@ -394,6 +404,17 @@ static inline mmdb_status mmdb_checked_finalize(mmdb *db, uint32_t statement)
     return mmdb_checked_is_closed(db) ? MMDB_NOT_OPEN : (mmdb_status)mmdb_finalize(db, statement);
 }
 
+static inline mmdb_status mmdb_checked_query(mmdb *db, const void *line, size_t length, mmdb_rows *rows)
+{
+    mmdb_rows unwanted;
+    mmdb_rows *to = mmdb_checked_rows_at(rows, &unwanted);
+    if (mmdb_checked_is_closed(db))
+        return MMDB_NOT_OPEN;
+    if (line == NULL)
+        return MMDB_NO_LINE;
+    return (mmdb_status)mmdb_query(db, line, length, to);
+}
+
 static inline mmdb_status mmdb_checked_feed(mmdb *db, const void *piece, size_t length)
 {
     if (mmdb_checked_is_closed(db))
@@ -454,6 +475,7 @@ static inline void mmdb_checked_close(mmdb *db)
 #define mmdb_execute mmdb_checked_execute
 #define mmdb_columns mmdb_checked_columns
 #define mmdb_finalize mmdb_checked_finalize
+#define mmdb_query mmdb_checked_query
 #define mmdb_feed mmdb_checked_feed
 #define mmdb_indexes mmdb_checked_indexes
 #define mmdb_answer mmdb_checked_answer
