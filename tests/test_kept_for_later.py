@@ -148,7 +148,8 @@ class Rows(Counted):
         """Its bytes and a box, where it is longer than a cell has room for, and nothing where it is not."""
         lengths = [*texts.LENGTHS, *reversed(texts.LENGTHS)]
         block = model.record([b"id", b"name"]) + b"".join(b"%d,\n" % key for key in range(self.COUNT))
-        front = FRONT + b"load t %d\n" % len(block) + block
+        # The first update makes the room that the cells of every update have.
+        front = FRONT + b"load t %d\n" % len(block) + block + b"update t set name = '' where id = 0\n"
         held = self.held(front, *(b"update t set name = '%s'\n" % texts.of_length(length) for length in lengths))
         for length, taken, taken_again in zip(lengths, held, reversed(held)):
             with self.subTest(length=length):
