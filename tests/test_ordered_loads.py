@@ -196,9 +196,9 @@ class LoadsInOrder(unittest.TestCase):
         done, again = model.answers_to(whole), model.answers_to(self.front + LOOKS + block + LOOKS)
         before = b"".join(done.splitlines(keepends=True)[:ANSWERS])
         refused = before + NO_MEMORY + again.removeprefix(before)
-        # A row is two calls at least, one as it is read and one as it goes in; the last are those of the row that goes in last.
+        # A row is one call at least, as it is read; the last are those of the rows that go in.
         end = refuser.calls([harness.PROGRAM], self.front + block, MOST_CALLS)
-        calls = [*range(end - 2 * ROWS + 10, end - 4, ROWS // 4), *range(end - 4, end + 1)]
+        calls = [*range(end - ROWS + 10, end - 4, ROWS // 8), *range(end - 4, end + 1)]
         with concurrent.futures.ThreadPoolExecutor(os.cpu_count()) as threads:
             runs = threads.map(lambda nth: (nth, *refuser.run_over_file([harness.PROGRAM], whole, nth)), calls)
             met = [self.check_run(nth, ended, is_met, refused, done) for nth, ended, is_met in runs]
