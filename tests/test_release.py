@@ -156,7 +156,7 @@ class Digests(Copies):
             lambda: (lang / "src" / "lib.rt").rename(lang / "src" / "other.rt"),
             lambda: (lang / "proofs" / "Empty.antt").write_text(""),
             lambda: (lang / "proofs" / ".hidden").write_text(""),
-            lambda: self.list_crates("mm_lang: plain_statements plain_tables itoa thiserror", "mm_lang: plain_statements plain_tables thiserror itoa"),
+            lambda: self.list_crates("mm_lang: plain_statements plain_tables common_lemmas itoa thiserror", "mm_lang: plain_statements plain_tables common_lemmas thiserror itoa"),
             lambda: self.list_crates("mmdb:", "mmdb opt_level=1:"),
         )
         for change in changes:

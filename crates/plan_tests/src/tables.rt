@@ -1,5 +1,5 @@
 //! Tables of two columns of integers.
-ghost use Rattle.std.specs.Prelude.{◌≡◌, ◌∷◌, [], IfOk, length};
+ghost use Rattle.std.specs.Prelude.{◌≡◌, ◌∷◌, [], IfOk, length, pos};
 ghost use Rattle.plain_tables.specs.declared.value.Value.TheVariants.{Int};
 ghost use Rattle.mm_relation.specs.declared.row.Cell.TheVariants.{Held};
 
@@ -61,7 +61,7 @@ fn schema(alloc: Global) -> Result<Schema, NoMemory>
 
 // The cells of a row.
 fn cells(alloc: Global, id: i64) -> Result<Vec<StoredCell>, NoMemory>
-    ensures { IfOk result (λ cells. cells.items ≡ Held (Int id) ∷ Held (Int 0) ∷ []) }
+    ensures { IfOk result (λ cells. cells.items ≡ Held (Int id) ∷ Held (Int (pos 0)) ∷ []) }
 {
     let mut cells = Vec::new(alloc);
     cells.push(StoredCell::held(Value::Int(id)))?;
