@@ -37,7 +37,7 @@ abbrev pub has_key : Row → Row → Bool
 has_key key row = is_eq (key_cmp row key)
 
 -- keys are one whichever comes first
-one_key : (r s : Row) → is_eq (key_cmp r s) ≡ is_eq (key_cmp s r)
+pub one_key : (r s : Row) → is_eq (key_cmp r s) ≡ is_eq (key_cmp s r)
 one_key r s = ap is_eq (key_cmp_total.antisymm r s) ∙ is_eq-reverse (key_cmp s r)
 
 -- a row beside one of its rows with another key
@@ -46,7 +46,7 @@ member_with row rows =
     Contains-append_right (filter (λ r. is_lt (key_cmp r row)) rows) (row ∷ filter (λ r. is_lt (key_cmp row r)) rows) row
     (Contains-head row (filter (λ r. is_lt (key_cmp row r)) rows))
 
-other_with : (row : Row) (rows : List Row) (x : Row) → Contains rows x → is_eq (key_cmp x row) ≡ false → Contains (with_row row rows) x
+pub other_with : (row : Row) (rows : List Row) (x : Row) → Contains rows x → is_eq (key_cmp x row) ≡ false → Contains (with_row row rows) x
 other_with row rows x there apart =
     let below = filter (λ r. is_lt (key_cmp r row)) rows in
     let above = filter (λ r. is_lt (key_cmp row r)) rows in

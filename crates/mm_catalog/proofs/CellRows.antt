@@ -1,5 +1,5 @@
 -- The cells of a row, and what the row shows, links and holds by them.
-use Rattle.std.proofs.Common.{◌≡◌, ◌≢◌, ℕ, zero, suc, ◌+◌, ◌-◌, ◌<◌, ◌≤◌, cond, List, [], ◌∷◌, ◌++◌, Option, Some, None, IsSome, is_some, refl, sym, ap, ◌∙◌, subst, arith, length, map, inl, inr}
+use Rattle.std.proofs.Common.{◌≡◌, ◌≢◌, ℕ, zero, suc, ◌+◌, ◌-◌, ◌<◌, cond, List, ◌∷◌, Option, Some, None, IsSome, is_some, refl, sym, ap, ◌∙◌, subst, arith, length, map, inl, inr}
 use Rattle.std.specs.List.{All, slice_get, range_with_len}
 use Rattle.std.specs.Option.{option_and_then, option_map}
 use Rattle.std.specs.FinMap.{get}
@@ -7,7 +7,7 @@ use Rattle.std.proofs.lemmas.Bool.{cases_eq, cases_lt, ne_eqb}
 use Rattle.std.proofs.lemmas.List.{length-map}
 use Rattle.std.proofs.lemmas.List.FromFn.{length-range_with_len}
 use Rattle.std.proofs.lemmas.Option.{none-some, same_Some, slice_get_within, slice_get_past, slice_get-map}
-use Rattle.common_lemmas.proofs.Places.{slice_get-inside, slice_get-front, slice_get-last}
+use Rattle.common_lemmas.proofs.Places.{slice_get-inside}
 use Rattle.part_raw.specs.declared.tuple_ref.TupleRef.{TupleRef}
 use Rattle.plain_tables.specs.declared.value.Value.{Value}
 use Rattle.plain_tables.specs.declared.value.Value.TheVariants.{Null}
@@ -20,7 +20,7 @@ use Rattle.mm_relation.specs.State.{RelationState, IsReadable, linked_keys}
 use Rattle.mm_catalog.specs.Seen.{or_null, row_values}
 use Rattle.mm_catalog.specs.Linked.{target_at, link_at, row_links, HasLinksOrNulls}
 use Rattle.mm_catalog.specs.Counted.{IsHeldIn, LeadIntoCounted}
-use Rattle.mm_catalog.specs.Cells.{target_in, read_in, IsCellOf, NamesNone, AreFirstCells, AreCellsOf}
+use Rattle.mm_catalog.specs.Cells.{target_in, read_in, IsCellOf, NamesNone, AreCellsOf}
 use Rattle.mm_catalog.proofs.Lists.{same_by_get}
 use Rattle.mm_catalog.proofs.RowLinks.{All-filter_map, link_parts}
 

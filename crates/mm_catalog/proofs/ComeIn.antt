@@ -1,116 +1,55 @@
--- Rows that come into a relation whatever their order: that they do by their keys, and what a load of them leaves.
-use Rattle.std.proofs.Common.{◌≡◌, ℕ, ◌+◌, ◌≤◌, true, false, List, [], Some, sym, ap, ◌∙◌, subst, arith, length, map, take, get_or, inl, inr}
-use Rattle.std.specs.List.{All, list_all, list_any, slice_get}
+-- A load of rows whose places were brought into another order, as one of the rows as they stand.
+use Rattle.std.proofs.Common.{◌≡◌, ℕ, ◌<◌, List, [], Some, get_or, length, map, refl, sym, ap, ◌∙◌, subst}
+use Rattle.std.specs.Prelude.{pos}
+use Rattle.std.specs.List.{All, slice_get}
+use Rattle.std.specs.Option.{option_map}
 use Rattle.std.specs.List.Sorted.{IsPermutation}
-use Rattle.std.specs.Cmp.Lexicographic.{slice_cmp}
-use Rattle.std.specs.FinMap as finite
-use Rattle.std.specs.Ordering.{is_eq}
 use Rattle.std.proofs.lemmas.List.{length-map}
-use Rattle.std.proofs.lemmas.List.Elements.{All-map, All-weaker}
-use Rattle.std.proofs.lemmas.List.Sorted.{All-permutation, IsPermutation-map, IsPermutation-sym, length_permutation, sum_by-IsPermutation}
-use Rattle.std.proofs.lemmas.Option.{slice_get_within}
-use Rattle.common_lemmas.proofs.Counts.{one}
+use Rattle.std.proofs.lemmas.List.Sorted.{All-permutation, length_permutation}
+use Rattle.std.proofs.lemmas.Option.{get_or_from_slice_get, slice_get-get_or, slice_get-map, slice_get_read}
 use Rattle.common_lemmas.proofs.Elements.{All-at}
-use Rattle.plain_tables.specs.Tables.{Table, Row, AreRising, has_key_of}
-use Rattle.plain_tables.specs.Values.{value_cmp}
+use Rattle.plain_tables.specs.Tables.{Table, Row}
 use Rattle.plain_tables.specs.Doing.{load}
-use Rattle.plain_tables.specs.References.{IsSoundTable, is_held, references}
+use Rattle.plain_tables.specs.Effects.{Effect}
+use Rattle.plain_tables.specs.References.{IsSoundTable}
 use Rattle.plain_tables.specs.ResolvedLaws.{IsInsertable, IsMeant}
 use Rattle.plain_tables.specs.declared.numbers.TableNumber.{TableNumber}
 use Rattle.plain_tables.specs.declared.resolved.Resolved.TheVariants as resolved
-use Rattle.plain_tables.specs.declared.value.Value.{Value}
-use Rattle.mm_relation.specs.State.{RelationState, linked_keys}
-use Rattle.mm_catalog.specs.Cells.{IsCellOf}
+use Rattle.plain_tables.proofs.ReferLemmas.{refers_not_to_itself}
+use Rattle.mm_catalog.specs.Changes.{HasEffect}
 use Rattle.mm_catalog.specs.Consistent.{IsConsistent}
-use Rattle.mm_catalog.specs.Linked.{target_at, target_of}
-use Rattle.mm_catalog.specs.LoadOrder.{KeyPlace, row_at, IsNew, HasCell, HaveCells, ComeInAnyOrder, MayGoInAs}
-use Rattle.mm_catalog.specs.Seen.{database_of, table_of, rows_of}
+use Rattle.mm_catalog.specs.LoadOrder.{KeyPlace, row_at}
+use Rattle.mm_catalog.specs.Seen.{database_of}
 use Rattle.mm_catalog.specs.State.{CatalogState}
-use Rattle.mm_catalog.proofs.AnyOrder.{has_key, AllHeld, AllNew, load_in_any_order}
-use Rattle.mm_catalog.proofs.Checked.{held_all}
-use Rattle.mm_catalog.proofs.RisingKeys.{rising_apart}
-use Rattle.mm_catalog.proofs.Declared.{among_at, named_at}
-use Rattle.mm_catalog.proofs.Referenced.{no_key_shown, some_column, target_here, reference_held}
-use Rattle.mm_catalog.proofs.Tables.{database-get}
+use Rattle.mm_catalog.proofs.DoneLoads.{load_moved}
 
--- ---- rows by their keys
-
-module _ (before : List RelationState) (s : RelationState) (most : ℕ) (rows : List Row) (keys sorted : List KeyPlace) (each : map (row_at rows) keys ≡ rows) (moved : IsPermutation keys sorted) where
+module _ (c : CatalogState) (ok : IsConsistent c) (n : TableNumber) (rows : List Row) (places : List KeyPlace) (moved : IsPermutation rows (map (row_at rows) places)) (meant : IsMeant c.limits (database_of c) (resolved.Load n rows)) where
   abbrev others : List Row
-  others = map (row_at rows) sorted
+  others = map (row_at rows) places
 
-  rows_moved : IsPermutation rows others
-  rows_moved = subst (λ rs. IsPermutation rs others) each (IsPermutation-map (row_at rows) keys sorted moved)
+  -- they can come in as well
+  pub meant_moved : IsMeant c.limits (database_of c) (resolved.Load n others)
+  meant_moved = (meant.0, meant.1, All-permutation (λ row. IsInsertable (database_of c) row meant.0) rows others moved meant.2)
 
-  pub all_come_in : ((column : ℕ) → HaveCells before s.targets rows column) → finite.len s.rows + length rows ≤ most → AreRising others
-      → All (λ k. IsNew s (row_at rows k)) sorted → ComeInAnyOrder before s most rows
-  all_come_in named room rise fresh = record {
-    named = named;
-    room = room;
-    apart = λ key. omega (arith, sum_by-IsPermutation (one (has_key key)) rows others rows_moved, rising_apart key others rise);
-    new = All-permutation (IsNew s) others rows (IsPermutation-sym rows others rows_moved) (All-map (IsNew s) (row_at rows) sorted fresh);
-  }
+  -- and once all are in, the rows are
+  pub effect_moved : (d : CatalogState) → HasEffect c d (load c.limits (database_of c) n others) (length places) → HasEffect c d (load c.limits (database_of c) n rows) (length rows)
+  effect_moved d h =
+      let tables = database_of c in
+      let table : Table = meant.0 in
+      let sound : IsSoundTable c.limits table = All-at (IsSoundTable c.limits) tables n.0 table ok.sound.each meant.1 in
+      let same : load c.limits tables n others ≡ load c.limits tables n rows =
+      load_moved c.limits n tables table rows others (length places) meant.1 (refers_not_to_itself [] tables n.0 table meant.1 ok.sound.refer_back ok.sound.apart)
+      sound.rows_rise sound.few_rows moved h.outcome in
+      let each : length places ≡ length rows = sym (length-map places (row_at rows)) ∙ length_permutation rows others moved in
+      subst (λ (count : ℕ). HasEffect c d (load c.limits tables n rows) count) each (subst (λ (e : Effect). HasEffect c d e (length places)) same h)
 
-  pub counted_alike : length sorted ≡ length rows
-  counted_alike = omega (arith, length_permutation keys sorted moved, ap length each, length-map keys (row_at rows))
+-- ---- the rows at the places
 
--- ---- what a load of them leaves
-
-module _ (c : CatalogState) (ok : IsConsistent c) (n : TableNumber) (s : RelationState) (there : slice_get c.relations n.0 ≡ Some s) where
-  name : (called : List ℕ) × (slice_get c.names n.0 ≡ Some called)
-  name = named_at c ok n.0 (slice_get_within c.relations n.0 s there)
-
-  table : Table
-  table = table_of c.relations name.0 s
-
-  table_there : slice_get (database_of c) n.0 ≡ Some table
-  unfolding table
-  table_there = database-get c ok.named n.0 name.0 s name.1 there
-
-  table_rises : AreRising table.rows
-  table_rises = (All-at (IsSoundTable c.limits) (database_of c) n.0 table ok.sound.each table_there).rows_rise
-
-  table_count : length table.rows ≡ finite.len s.rows
-  unfolding table table_of rows_of
-  table_count = length-map _ _ ∙ (among_at c ok n.0 s there).kept.keyed.lists.count
-
-  new_there : (row : Row) → IsNew s row → has_key_of row table.rows ≡ false
-  unfolding table table_of
-  new_there row (key, is, absent) =
-      ap (λ k. list_any (λ r. is_eq (slice_cmp value_cmp (take 1 r) k)) table.rows) is
-      ∙ no_key_shown s (among_at c ok n.0 s there).kept (linked_keys s.targets c.relations) (some_column c ok n.0 s there) key [] absent
-
-  -- where each value of a row has a cell, the rows that it names are there
-  held_there : (row : Row) → ((column : ℕ) (v : Value) → slice_get row column ≡ Some v → HasCell (take n.0 c.relations) (target_at s.targets column) v)
-      → list_all (is_held (database_of c)) (references table.columns row) ≡ true
-  unfolding table table_of
-  held_there row cells =
-      held_all (database_of c) s.schema.columns row (λ k column v ref at e f.
-      let cell = cells k v e in
-      let is : IsCellOf (take n.0 c.relations) (target_of c.names column) v cell.0 = subst (λ o. IsCellOf (take n.0 c.relations) o v cell.0) (target_here c ok n.0 s there k column at v) cell.1 in
-      reference_held c ok n.0 s there k column at v cell.0 is ref f)
-
-  module _ (rows others : List Row) where
-    all_held : ComeInAnyOrder (take n.0 c.relations) s c.limits.rows rows → AllHeld (database_of c) table.columns rows
-    all_held come = λ k d l. held_there (get_or rows k d) (λ column v e. come.named column k d l v e)
-
-    all_new : ComeInAnyOrder (take n.0 c.relations) s c.limits.rows rows → AllNew c.limits.rows table.rows rows
-    all_new come = record {
-      room = omega (arith, table_count, come.room);
-      apart = come.apart;
-      fresh = All-weaker (IsNew s) (λ row. has_key_of row table.rows ≡ false) new_there rows come.new;
-    }
-
-    -- a load of the rows is one of the others
-    pub load_as : MayGoInAs (take n.0 c.relations) s c.limits.rows rows others → load c.limits (database_of c) n others ≡ load c.limits (database_of c) n rows
-    load_as (inl same) = ap (load c.limits (database_of c) n) same
-    load_as (inr (moved, come)) =
-        load_in_any_order c.limits n (database_of c) table rows others table_there (all_held come) table_rises (all_new come) moved
-
-    pub meant_as : MayGoInAs (take n.0 c.relations) s c.limits.rows rows others → IsMeant c.limits (database_of c) (resolved.Load n rows) → IsMeant c.limits (database_of c) (resolved.Load n others)
-    meant_as (inl same) meant = subst (λ rs. IsMeant c.limits (database_of c) (resolved.Load n rs)) (sym same) meant
-    meant_as (inr (moved, come)) (t, at, can) = (t, at, All-permutation (λ row. IsInsertable (database_of c) row t) rows others moved can)
-
-    pub length_as : MayGoInAs (take n.0 c.relations) s c.limits.rows rows others → length others ≡ length rows
-    length_as (inl same) = ap length same
-    length_as (inr (moved, come)) = length_permutation rows others moved
+-- the row that is read at the next place is the next of the rows at the places
+pub next_at : (rows : List Row) (places : List KeyPlace) (i : ℕ) (row : Row) → i < length places → All (λ k. k.1 < length rows) places → row ≡ get_or rows (get_or places i (pos 0, 0)).1 row
+    → slice_get (map (row_at rows) places) i ≡ Some row
+next_at rows places i row below within is =
+    let first : KeyPlace = (pos 0, 0) in
+    let place : KeyPlace = get_or places i first in
+    let there : slice_get rows place.1 ≡ Some row = slice_get_read rows (length rows) place.1 row refl (within i first below) is in
+    slice_get-map (row_at rows) places i ∙ ap (option_map (row_at rows)) (slice_get-get_or places i first below) ∙ ap Some (get_or_from_slice_get rows place.1 row [] there)

@@ -22,6 +22,7 @@ pub mod Anywhere
 pub mod Referrers
 pub mod Shrunk
 pub mod Deleting
+pub mod DoneLoads
 pub mod Gone
 pub mod Renumbering
 pub mod Renumbered
@@ -63,7 +64,4 @@ pub mod TreeShapes
 pub mod IndexShapes
 pub mod Standing
 pub mod AnyOrder
-pub mod Arranging
 pub mod ComeIn
-pub mod NamedRows
-pub mod RisingKeys

@@ -1,9 +1,9 @@
 //! The tables, and what they are called.
-ghost use Rattle.std.specs.Prelude.{◌≡◌, ◌≢◌, ◌<◌, ◌≤◌, ◌⊎◌, Bool, [], Some, IfSome, IfNone, IfErr, IfOk, OnOk, OnErr, length, map, position, slice_get, take};
+ghost use Rattle.std.specs.Prelude.{◌≡◌, ◌≢◌, ◌<◌, ◌≤◌, ◌⊎◌, Bool, true, false, [], All, Some, IfSome, IfNone, IfErr, IfOk, OnOk, OnErr, length, map, position, slice_get};
 ghost use Rattle.std.specs.List.{AllPairs};
 ghost use Rattle.std.specs.Option.{option_map};
 
-use crate::by_key;
+use crate::by_key::{KeyPlace, rising_places};
 use crate::create::{aimed, any_refers_to, count_targets};
 use crate::declare::{declare, undeclare};
 use crate::delete::{delete, take_out};
@@ -63,7 +63,8 @@ impl Catalog {
     ghost use Rattle.plain_tables.specs.Doing.{done};
     ghost use Rattle.plain_tables.specs.Effects.{Refused};
     ghost use Rattle.plain_tables.specs.Tables.{Row};
-    ghost use Rattle.mm_catalog.specs.Changes.{IsDone, HasEffect, IsRefusedFor, IsDeclinedFor};
+    ghost use Rattle.mm_catalog.specs.Changes.{IsDone, HasEffect, IsRefusedFor, IsDeclinedFor, KeepsDatabase};
+    ghost use Rattle.mm_catalog.specs.LoadOrder.{row_at};
     ghost use Rattle.mm_catalog.specs.Loaded.{HasCome, HaveGone, AreFreeRows};
     ghost use Rattle.mm_catalog.specs.Picked.{ArePicked, HoldsRows};
     ghost use Rattle.plain_tables.specs.Databases.{is_named};
@@ -236,6 +237,7 @@ impl Catalog {
     fn copy_in(&mut self, table: TableNumber, values: &[Value]) -> Result<TupleRef, Refusal>
         requires { IsMeant self.old.limits (database_of self.old) (resolved.Insert table values.now) }
         ensures inserted { OnOk result (HasEffect self.old self.new (done self.old.limits (database_of self.old) (resolved.Insert table values.now)) 1) }
+        ensures came { IfOk result (HasCome self.old self.new table.0 values.now) }
         ensures refused { IfErr result (IsRefusedFor self.old self.new (done self.old.limits (database_of self.old) (resolved.Insert table values.now))) }
     {
         let alloc = *self.relations.allocator();
@@ -287,33 +289,55 @@ impl Catalog {
         ensures loaded { OnOk result (HasEffect self.old self.new (done self.old.limits (database_of self.old) (resolved.Load table rows)) (length rows)) }
         ensures refused { IfErr result (IsDeclinedFor self.old self.new (done self.old.limits (database_of self.old) (resolved.Load table rows))) }
     {
-        let rows = self.in_best_order(table, rows.into_vec());
+        let rows = rows.into_vec();
+        if self.load_by_key(table, rows.as_slice()) {
+            return Ok(());
+        }
         self.load_each(table, rows)
     }
 
-    // The relations before that of a table, which its links lead into.
-    fn relations_before(&self, table: TableNumber) -> &[Relation]
-        requires { table.0 ≤ length self.now.relations }
-        ensures { result.now ≡ take table.0 self.now.relations }
-    {
-        &self.relations[..table.0]
-    }
-
-    // The rows of a load in the order in which they go in best. A load of them is that of the rows as they stand.
-    fn in_best_order(&self, table: TableNumber, rows: Vec<Sequence<Value>>) -> Vec<Sequence<Value>>
-        requires { IsMeant self.now.limits (database_of self.now) (resolved.Load table rows.items) }
-        ensures meant { IsMeant self.now.limits (database_of self.now) (resolved.Load table result.items) }
-        ensures same { done self.now.limits (database_of self.now) (resolved.Load table result.items) ≡ done self.now.limits (database_of self.now) (resolved.Load table rows.items) }
-        ensures each { length result.items ≡ length rows.items }
+    // Puts rows into a table in the order of their keys, where that serves and all of them come in. Else it leaves the tables
+    // as they were.
+    fn load_by_key(&mut self, table: TableNumber, rows: &[Sequence<Value>]) -> bool
+        requires { IsMeant self.old.limits (database_of self.old) (resolved.Load table rows.now) }
+        ensures loaded { result ≡ true → HasEffect self.old self.new (done self.old.limits (database_of self.old) (resolved.Load table rows.now)) (length rows.now) }
+        ensures kept { result ≡ false → KeepsDatabase self.old self.new }
     {
         a_catalog_is_consistent(self);
-        by_key::in_best_order(
-            self.allocator(),
-            self.relations_before(table),
-            self.at(table),
-            self.limits(),
-            rows,
-        )
+        let held = self.at(table).len();
+        match rising_places(self.allocator(), held, rows) {
+            Some(places) => self.load_places(table, rows, places.as_slice()),
+            None => false,
+        }
+    }
+
+    // Puts the rows of these places into a table, one after the other. Where one of them cannot come in, those before it go
+    // out again.
+    fn load_places(
+        &mut self,
+        table: TableNumber,
+        rows: &[Sequence<Value>],
+        places: &[KeyPlace],
+    ) -> bool
+        requires meant { IsMeant self.old.limits (database_of self.old) (resolved.Load table (map (row_at rows.now) places.now)) }
+        requires within { All (λ k. k.1 < length rows.now) places.now }
+        ensures loaded { result ≡ true → HasEffect self.old self.new (done self.old.limits (database_of self.old) (resolved.Load table (map (row_at rows.now) places.now))) (length places.now) }
+        ensures kept { result ≡ false → KeepsDatabase self.old self.new }
+    {
+        a_catalog_is_consistent(self);
+        let Ok(mut taken) = room_for(self.allocator(), places.len()) else {
+            return false;
+        };
+        for place in places {
+            match self.copy_in(table, rows[place.1].as_slice()) {
+                Ok(r) => taken.push_reserved(r),
+                Err(_) => {
+                    self.take_back(table, taken.as_slice());
+                    return false;
+                }
+            }
+        }
+        true
     }
 
     // Puts rows into a table, one after the other. Where one of them cannot come in, those before it go out again.

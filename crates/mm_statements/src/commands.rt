@@ -1,5 +1,5 @@
 //! The commands that statements were last filled to, by the numbers of these. They are kept for their room, so that a statement that
-//! is executed again is filled where it stands; what they say is of no use to anyone.
+//! is executed again needs none for what it is filled to; what they say is of no use to anyone.
 
 use plain_tables::Resolved;
 use std::alloc::Global;

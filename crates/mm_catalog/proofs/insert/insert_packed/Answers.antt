@@ -2,10 +2,8 @@ use Rattle.std.proofs.Common.{◌≡◌, ◌∙◌, ◌<◌, ◌+◌, ◌⊎◌,
 use Rattle.std.specs.FinMap as finite
 use Rattle.std.specs.List.{All}
 use Rattle.std.proofs.lemmas.Result.{IfErr-weaker}
-use Rattle.plain_tables.specs.declared.refusal.Refusal.{Refusal}
 use Rattle.plain_tables.specs.declared.refusal.Refusal.TheVariants.{KeyExists, TableFull}
 use Rattle.plain_tables.specs.declared.value.Value.{Value}
-use Rattle.mm_relation.specs.Changes.{new_row}
 use Rattle.mm_relation.specs.Rows.{StartsWithKey, row_of}
 use Rattle.mm_relation.specs.State.{HasKey, IsReadable, linked_keys}
 use Rattle.mm_catalog.specs.Counted.{IsHeldIn}

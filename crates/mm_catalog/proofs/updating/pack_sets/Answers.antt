@@ -1,4 +1,4 @@
-use Rattle.std.proofs.Common.{rules, ◌≡◌, ◌<◌, None, Some, length, refl, sym, ap, ◌∙◌, subst, arith, inr}
+use Rattle.std.proofs.Common.{rules, ◌≡◌, None, Some, length, refl, sym, ap, ◌∙◌, subst, arith, inr}
 use Rattle.std.specs.List.{slice_get}
 use Rattle.std.specs.Prelude.{IfErr}
 use Rattle.std.proofs.lemmas.List.{length_push}
@@ -8,7 +8,6 @@ use Rattle.plain_tables.specs.declared.refusal.Refusal.{Refusal}
 use Rattle.plain_tables.specs.declared.refusal.Refusal.TheVariants.{NoReferencedRow}
 use Rattle.mm_catalog.specs.Assigned.{AreFirstSetBy, AreNotSet, CellSet, IsSetBy}
 use Rattle.mm_catalog.specs.Cells.{IsCellOf, NamesNone}
-use Rattle.mm_catalog.specs.Linked.{target_at}
 use Rattle.mm_catalog.proofs.SetCells.{sets_more}
 use Rattle.mm_catalog.proofs.updating.pack_sets.Goals as goal
 

@@ -1,5 +1,5 @@
 use Rattle.std.proofs.Common.{◌≡◌, ◌<◌, List, Some, length, map, drop, sym, ap, subst, arith}
-use Rattle.std.specs.Prelude.{OnOk, IfErr}
+use Rattle.std.specs.Prelude.{IfOk, OnOk, IfErr}
 use Rattle.std.specs.List.{slice_get}
 use Rattle.std.specs.String.{string_bytes}
 use Rattle.common_lemmas.proofs.Places.{slice_get-inside}
@@ -11,9 +11,10 @@ use Rattle.mm_catalog.specs.State.{CatalogState}
 use Rattle.mm_catalog.specs.Seen.{database_of}
 use Rattle.mm_catalog.specs.Consistent.{IsConsistent}
 use Rattle.mm_catalog.specs.Changes.{HasEffect, IsRefusedFor}
+use Rattle.mm_catalog.specs.Loaded.{HasCome}
 use Rattle.mm_catalog.proofs.Lists.{whole}
 use Rattle.mm_catalog.proofs.Declared.{there_at}
-use Rattle.mm_catalog.proofs.Inserted.{some_value, values_width, inserted_consistent, inserted_effect, inserted_refused}
+use Rattle.mm_catalog.proofs.Inserted.{some_value, values_width, inserted_consistent, inserted_effect, inserted_came, inserted_refused}
 use Rattle.mm_catalog.proofs.catalog.Catalog.copy_in.Goals as goal
 use Rattle.mm_catalog.specs.Standing.{Stands}
 use Rattle.mm_catalog.proofs.Standing.{stands_at}
@@ -61,6 +62,9 @@ returns c =
       inserted = rw (← c.self.view_is)
           (subst (λ rs. OnOk c.insert.result (HasEffect s (record s { relations = rs }) (done s.limits (database_of s) (resolved.Insert c.args.table c.args.values.now)) 1)) (sym back)
           (inserted_effect s c.self.invariant c.args.table c.args.values.now meant c.insert.new.relations c.insert.result (rw c.as_mut_slice.ensures.value at c.insert.ensures.inserted)));
+      came = rw (← c.self.view_is)
+          (subst (λ rs. IfOk c.insert.result (HasCome s (record s { relations = rs }) c.args.table.0 c.args.values.now)) (sym back)
+          (inserted_came s c.self.invariant c.args.table c.args.values.now meant c.insert.new.relations c.insert.result (rw c.as_mut_slice.ensures.value at c.insert.ensures.inserted)));
       refused = rw (← c.self.view_is)
           (subst (λ rs. IfErr c.insert.result (IsRefusedFor s (record s { relations = rs }) (done s.limits (database_of s) (resolved.Insert c.args.table c.args.values.now)))) (sym back)
           (inserted_refused s c.self.invariant c.args.table c.args.values.now meant c.insert.new.relations c.insert.result
