@@ -24,7 +24,7 @@ asks-spelled line (Some n) readable spells = (readable, spells)
 
 -- ---- a load is no silent line
 
-silent-behind : (blanks more : List ℕ) → AreBlanks blanks → is_silent (blanks ++ more) ≡ is_silent more
+pub silent-behind : (blanks more : List ℕ) → AreBlanks blanks → is_silent (blanks ++ more) ≡ is_silent more
 silent-behind [] more are = refl
 silent-behind (b ∷ blanks) more are = rw are.0 (silent-behind blanks more are.1)
 

@@ -29,7 +29,7 @@ spells-one-statement line s t p q =
 
 -- ---- lines without question marks
 
-written-none : (line : List ℕ) → written [] line ≡ line
+pub written-none : (line : List ℕ) → written [] line ≡ line
 written-none [] = refl
 written-none (c ∷ cs) = refl
 

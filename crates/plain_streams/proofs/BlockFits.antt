@@ -79,7 +79,7 @@ key-of_own tables (kind.Ref name) k (value.Text text) type holds = absurd (none-
 key-of_own tables (kind.RefOrNull name) k (value.Int z) type holds = absurd (none-some k type)
 key-of_own tables (kind.RefOrNull name) k (value.Text text) type holds = absurd (none-some k type)
 
-key-value : (w v : Value) → is_eq (key_cmp (w ∷ []) (v ∷ [])) ≡ true → w ≡ v
+pub key-value : (w v : Value) → is_eq (key_cmp (w ∷ []) (v ∷ [])) ≡ true → w ≡ v
 key-value w v same = by (key_cmp (w ∷ []) (v ∷ [])) refl same
   where
     by : (o : Ordering) → key_cmp (w ∷ []) (v ∷ []) ≡ o → is_eq o ≡ true → w ≡ v

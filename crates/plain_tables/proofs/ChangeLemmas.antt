@@ -27,7 +27,7 @@ use Rattle.common_lemmas.proofs.Filters.{filter_others, filter_again}
 -- ---- the tables that are left
 
 -- an element in the place of one that f takes to the same
-map_set_alike : {X Y : Type 0} (f : X → Y) (xs : List X) (n : ℕ) (old new : X) → slice_get xs n ≡ Some old → f new ≡ f old
+pub map_set_alike : {X Y : Type 0} (f : X → Y) (xs : List X) (n : ℕ) (old new : X) → slice_get xs n ≡ Some old → f new ≡ f old
     → map f (set xs n new) ≡ map f xs
 map_set_alike f [] n old new there same = refl
 map_set_alike f (x ∷ xs) zero old new there same = let here : x ≡ old = same_Some x old there in rw (same, here) refl

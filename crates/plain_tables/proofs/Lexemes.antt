@@ -236,10 +236,10 @@ shape-no_blank characters rest symbol (inl (run, same)) = run-no_blank character
 shape-no_blank characters rest symbol (inr (inl (text, e, same))) = rw e refl
 shape-no_blank characters rest symbol (inr (inr (mark, e, same))) = rw e (sign-no_blank mark rest)
 
-behind_blanks-front : (blanks text : List ℕ) → AreBlanks blanks → StopsBefore is_blank text → behind_blanks (blanks ++ text) ≡ text
+pub behind_blanks-front : (blanks text : List ℕ) → AreBlanks blanks → StopsBefore is_blank text → behind_blanks (blanks ++ text) ≡ text
 behind_blanks-front blanks text are stops = rw (prefix_len-front is_blank blanks text are stops, drop-append_seam) refl
 
-lexeme-front : (blanks characters rest : List ℕ) → AreBlanks blanks → StopsBefore is_blank (characters ++ rest)
+pub lexeme-front : (blanks characters rest : List ℕ) → AreBlanks blanks → StopsBefore is_blank (characters ++ rest)
     → lexeme_length (characters ++ rest) ≡ length characters
     → (lexeme (blanks ++ (characters ++ rest)) ≡ characters) × (after_lexeme (blanks ++ (characters ++ rest)) ≡ rest)
 unfolding lexeme after_lexeme

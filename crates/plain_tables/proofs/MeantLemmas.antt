@@ -55,7 +55,7 @@ tables_differ tables (name ∷ names) apart =
 -- ---- the column that a name means is the one that it fits
 
 -- the element of a list of one
-abbrev only : {X : Type 0} → List X → Option X
+abbrev pub only : {X : Type 0} → List X → Option X
 only xs = cond (length xs == 1) (slice_get xs 0) None
 
 meant_only : (columns : List JoinedColumn) (name : ColName) → column_meant columns name ≡ only (filter (fits name) columns)

@@ -218,7 +218,7 @@ same_rows limits tables n old new sound there shape same new_sound =
 -- ---- a row more
 
 -- a row of a new key keeps each key
-with_row-keeps : (row : Row) (rows : List Row) (p : Row → Bool) → has_key_of row rows ≡ false → list_any p rows ≡ true
+pub with_row-keeps : (row : Row) (rows : List Row) (p : Row → Bool) → has_key_of row rows ≡ false → list_any p rows ≡ true
     → list_any p (with_row row rows) ≡ true
 with_row-keeps row rows p new some =
     let below : Row → Bool = λ r. is_lt (key_cmp r row) in

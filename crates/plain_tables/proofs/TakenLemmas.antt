@@ -42,7 +42,7 @@ is_eq_apart Equal h = absurd (false≢true h)
 is_eq_apart Greater h = absurd (false≢true h)
 
 -- keys are one whichever comes first
-one_key : (r s : Row) → is_eq (key_cmp r s) ≡ is_eq (key_cmp s r)
+pub one_key : (r s : Row) → is_eq (key_cmp r s) ≡ is_eq (key_cmp s r)
 one_key r s = ap is_eq (key_cmp_total.antisymm r s) ∙ is_eq-reverse (key_cmp s r)
 
 -- rows of one key are in the same lists
@@ -96,7 +96,7 @@ taken_out row rows rise new =
     filter-append other (filter below rows) (row ∷ filter above rows)
     ∙ (rw (lower, tied_itself key_cmp_total row, higher) (rows_around row rows rise new))
 
-one_row_more : (row : Row) (rows : List Row) → AreRising rows → has_key_of row rows ≡ false
+pub one_row_more : (row : Row) (rows : List Row) → AreRising rows → has_key_of row rows ≡ false
     → length (with_row row rows) ≡ suc (length rows)
 one_row_more row rows rise new =
     let both : length (filter (λ r. is_lt (key_cmp r row)) rows) + length (filter (λ r. is_lt (key_cmp row r)) rows) ≡ length rows =

@@ -13,7 +13,7 @@ NoMarkFirst (c ∷ cs) = IsFalse (c == 39)
 
 -- ---- how long the literal of a text is
 
-two_more : (n : ℕ) → 2 + n ≡ suc (suc n)
+pub two_more : (n : ℕ) → 2 + n ≡ suc (suc n)
 two_more n = omega arith
 
 pub one_more : (n : ℕ) → 1 + n ≡ suc n

@@ -17,7 +17,7 @@ use Rattle.temp_list.proofs.ReadingLemmas.{sound_at}
 use Rattle.project_hash.specs.Table.{TableState, CanRead, list_of_table, row_state}
 
 -- a place of one table is a column of it
-place_alone : (relations : List RelationState) (table : ℕ) (s : RelationState) → slice_get relations table ≡ Some s → (place : Place) → HasPlace relations (table ∷ []) place
+pub place_alone : (relations : List RelationState) (table : ℕ) (s : RelationState) → slice_get relations table ≡ Some s → (place : Place) → HasPlace relations (table ∷ []) place
     → (place.source ≡ 0) × (place.column.0 < length s.schema.columns)
 place_alone relations table s lent place (t, at, within) = go place.source refl at
   where
