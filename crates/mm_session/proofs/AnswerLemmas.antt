@@ -61,7 +61,7 @@ module _ (limits : Limits) (tables : Database) (request : Request) where
       abbrev records : List Record
       records = block_records request.block
 
-      pub answers-obeyed : (new : Database) (answer : List ℕ) → Obeys records limits tables (line_of request) new [] answer → AnswersSo new answer
+      pub answers-obeyed : (new : Database) (answer : List ℕ) → Obeys records limits tables (line_of request) new answer → AnswersSo new answer
       answers-obeyed new answer (c, spells, does) =
           subst (AnswersSo new) (sym does.1) (subst (λ d. AnswersSo d (answer_text (effect_of records limits tables c).outcome)) does.0
           (runs.effect (effect_of records limits tables c) (runs.command c readable heard spells has)))

@@ -22,18 +22,13 @@ use Rattle.mm_session.specs.Performed.{HasPerformed}
 
 -- ---- what was done
 
-pub performed_effect : (old new : CatalogState) (effect : Effect) (count : ℕ) (before after : List ℕ) → HasEffect old new effect count
-    → after ≡ before ++ answer_text (Changed count) → HasPerformed old new effect before after
-performed_effect old new effect count before after has says = record {
+pub performed_effect : (old new : CatalogState) (effect : Effect) (count : ℕ) (answer : List ℕ) → HasEffect old new effect count
+    → answer ≡ answer_text (Changed count) → HasPerformed old new effect answer
+performed_effect old new effect count answer has says = record {
   database = has.database;
   limits = has.limits;
-  answer = says ∙ ap (λ o. before ++ answer_text o) (sym has.outcome);
+  told = says ∙ ap answer_text (sym has.outcome);
 }
-
--- what is refused and leaves things unchanged
-pub refused_unchanged : {T : Type 0} (result : Result T Refusal) (P : Refusal → Type 0) (Q : Type 0) → OnErr result Q → IfErr result P → IfErr result (λ e. Q × P e)
-refused_unchanged (Ok x) P Q q p = tt
-refused_unchanged (Err e) P Q q p = (q, p)
 
 -- ---- commands
 

@@ -2,11 +2,12 @@
 
 ghost use Rattle.std.specs.Prelude.{◌≡◌, ◌++◌, ◌+◌, ◌-◌, ◌*◌, ◌≤◌, [], length, take, drop, IsOk, IfOk, OnOk};
 ghost use Rattle.std.specs.Fmt.{decimal};
-ghost use Rattle.plain_tables.specs.AnswerText.{refusal_text};
+ghost use Rattle.plain_tables.specs.AnswerText.{answer_text, refusal_text};
+ghost use Rattle.plain_tables.specs.Effects.{Changed};
 
 pub mod records;
 
-use crate::answer::records::push_refusal;
+use crate::answer::records::{push_changed, push_refusal};
 use itoa::Buffer;
 use mm_lang::Sink;
 use plain_tables::{NoMemory, Refusal};
@@ -14,6 +15,9 @@ use std::alloc::Global;
 use std::io;
 use std::io::Write;
 use std::marker::Model;
+
+// The answer to one row put in, changed or taken out.
+const OK_ONE: &[u8] = b"ok 1\n";
 
 /// The bytes of an answer. Short ones need no memory.
 #[derive(Drop)]
@@ -98,6 +102,18 @@ impl Answer {
     {
         self.bytes.clear();
         let _ = self.bytes.extend_from_slice(text);
+    }
+
+    /// Makes the number of rows that a command changed the answer. It takes no memory.
+    pub fn tell_changed(&mut self, count: usize)
+        ensures { self.new ≡ answer_text (Changed count) }
+    {
+        if count == 1 {
+            self.set(OK_ONE);
+            return;
+        }
+        self.clear();
+        let _ = push_changed(self, count);
     }
 
     /// Makes a refusal the answer. It takes no memory.

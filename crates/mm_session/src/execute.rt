@@ -16,17 +16,13 @@ mod select;
 mod walked;
 
 use crate::answer::Answer;
-use crate::answer::records::push_changed;
-use crate::execute::search::rows_passing;
 use mm_catalog::Catalog;
-use plain_tables::{Assignment, Command, Refusal, Resolved, TableNumber, Test};
+use plain_tables::{Command, Refusal, Resolved};
 use plan_chooser::Policy;
 use std::alloc::Global;
 
-// The answer `ok`, and the answer to one row put in.
+// The answer to a declaration.
 const OK: &[u8] = b"ok\n";
-
-const OK_ONE: &[u8] = b"ok 1\n";
 
 /// What carries commands out: the tables, and how plans are picked.
 #[derive(Drop)]
@@ -41,10 +37,9 @@ impl Executor {
     ghost use Rattle.plain_tables.specs.Doing.{done};
     ghost use Rattle.plain_tables.specs.ResolvedLaws.{IsMeant};
     ghost use Rattle.plain_tables.specs.Spelling.{IsSpellable};
-    ghost use Rattle.plain_tables.specs.declared.resolved.Resolved.TheVariants as resolved;
     ghost use Rattle.mm_csv.specs.BlockReading.{block_records};
     ghost use Rattle.mm_catalog.specs.Seen.{database_of};
-    ghost use Rattle.mm_catalog.specs.Changes.{IsDeclinedFor, IsRefusedFor};
+    ghost use Rattle.mm_catalog.specs.Changes.{IsDeclinedFor};
     ghost use Rattle.plain_tables.specs.Commands.{effect_of};
     ghost use Rattle.mm_session.specs.Answered.{DoesAll, DoesNothing};
     ghost use Rattle.mm_session.specs.Performed.{HasPerformed};
@@ -67,94 +62,57 @@ impl Executor {
         u64::from(self.catalog.limits().block)
     }
 
-    // Sets values in the rows of a table that pass the tests.
-    fn update(
-        &mut self,
-        table: TableNumber,
-        assignments: &[Assignment],
-        tests: &[Test],
-        answer: &mut Answer,
-    ) -> Result<(), Refusal>
-        requires { IsMeant self.old.catalog.limits (database_of self.old.catalog) (resolved.Update table assignments.now tests.now) }
-        ensures done { OnOk result (HasPerformed self.old.catalog self.new.catalog (done self.old.catalog.limits (database_of self.old.catalog) (resolved.Update table assignments.now tests.now)) answer.old answer.new) }
-        ensures refused { IfErr result (IsRefusedFor self.old.catalog self.new.catalog (done self.old.catalog.limits (database_of self.old.catalog) (resolved.Update table assignments.now tests.now))) }
-    {
-        let rows = rows_passing(self.alloc, self.policy, &self.catalog, table, tests)?;
-        push_changed(answer, rows.len())?;
-        self.catalog.update(table, &rows, assignments)
-    }
-
-    // Takes out the rows of a table that pass the tests.
-    fn delete(
-        &mut self,
-        table: TableNumber,
-        tests: &[Test],
-        answer: &mut Answer,
-    ) -> Result<(), Refusal>
-        requires { IsMeant self.old.catalog.limits (database_of self.old.catalog) (resolved.Delete table tests.now) }
-        ensures done { OnOk result (HasPerformed self.old.catalog self.new.catalog (done self.old.catalog.limits (database_of self.old.catalog) (resolved.Delete table tests.now)) answer.old answer.new) }
-        ensures refused { IfErr result (IsRefusedFor self.old.catalog self.new.catalog (done self.old.catalog.limits (database_of self.old.catalog) (resolved.Delete table tests.now))) }
-    {
-        let rows = rows_passing(self.alloc, self.policy, &self.catalog, table, tests)?;
-        push_changed(answer, rows.len())?;
-        self.catalog.delete(table, &rows)
-    }
-
-    // Does a resolved command, and adds its answer, which is made before anything changes.
+    // Does a resolved command, and makes its answer. What a change answers is told once it is done, which takes no memory.
     fn perform(&mut self, command: Resolved, answer: &mut Answer) -> Result<(), Refusal>
         requires { IsMeant self.old.catalog.limits (database_of self.old.catalog) command }
-        ensures done { OnOk result (HasPerformed self.old.catalog self.new.catalog (done self.old.catalog.limits (database_of self.old.catalog) command) answer.old answer.new) }
+        ensures done { OnOk result (HasPerformed self.old.catalog self.new.catalog (done self.old.catalog.limits (database_of self.old.catalog) command) answer.new) }
         ensures refused { IfErr result (IsDeclinedFor self.old.catalog self.new.catalog (done self.old.catalog.limits (database_of self.old.catalog) command)) }
     {
+        answer.clear();
         match command {
             Resolved::Table { name, schema } => {
-                answer.push(OK)?;
                 self.catalog.create(name, schema)?;
+                answer.set(OK);
             }
             Resolved::DropTable { table } => {
-                answer.push(OK)?;
                 self.catalog.drop_table(table);
+                answer.set(OK);
             }
             Resolved::Index {
                 table,
                 column,
                 kind,
             } => {
-                answer.push(OK)?;
                 self.catalog.add_index(table, column, kind)?;
+                answer.set(OK);
             }
             Resolved::DropIndex {
                 table,
                 column,
                 kind,
             } => {
-                answer.push(OK)?;
                 self.catalog.drop_index(table, column, kind);
+                answer.set(OK);
             }
-            Resolved::Insert { table, values } => {
-                answer.push(OK_ONE)?;
-                self.catalog.insert(table, values.as_slice())?;
-            }
-            Resolved::Update {
-                table,
-                assignments,
-                tests,
-            } => self.update(table, assignments.as_slice(), tests.as_slice(), answer)?,
-            Resolved::Delete { table, tests } => self.delete(table, tests.as_slice(), answer)?,
-            Resolved::Select(query) => self.select(&query, answer)?,
             Resolved::Load { table, rows } => {
-                push_changed(answer, rows.len())?;
+                let count = rows.len();
                 self.catalog.load_rows(table, rows)?;
+                answer.tell_changed(count);
             }
+            Resolved::Select(query) => self.select(&query, answer)?,
             Resolved::Dump { table } => self.dump(table, answer)?,
             Resolved::Tables => self.list_tables(answer)?,
+            other => {
+                let count = self.change(&other)?;
+                answer.tell_changed(count);
+            }
         }
         Ok(())
     }
 
-    /// Does what a command says, with the block behind its line, and adds its answer.
+    /// Does what a command says, with the block behind its line, and makes its answer.
     ///
-    /// After a refusal the tables are as before, and what was added to the answer is of no use.
+    /// After a refusal the tables are as before, and the answer is of no use.
     pub fn execute(
         &mut self,
         command: Command,
@@ -162,7 +120,7 @@ impl Executor {
         answer: &mut Answer,
     ) -> Result<(), Refusal>
         requires { IsSpellable command }
-        ensures ok { OnOk result (DoesAll (effect_of (block_records block.now) self.old.catalog.limits (database_of self.old.catalog) command) (database_of self.new.catalog) answer.old answer.new) }
+        ensures ok { OnOk result (DoesAll (effect_of (block_records block.now) self.old.catalog.limits (database_of self.old.catalog) command) (database_of self.new.catalog) answer.new) }
         ensures err { IfErr result (DoesNothing (effect_of (block_records block.now) self.old.catalog.limits (database_of self.old.catalog) command) (database_of self.old.catalog) (database_of self.new.catalog)) }
         ensures limits { self.new.catalog.limits ≡ self.old.catalog.limits }
     {

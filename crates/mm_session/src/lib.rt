@@ -14,7 +14,7 @@
 //!
 //! - What is kept between two pieces is the unfinished request and nothing else: its line in a buffer that never grows, and its
 //!   block in memory that is asked for once, when the line has ended. A block that cannot be kept is counted down.
-//! - A command is done whole or not at all: its answer is made before the tables change, and a refused change leaves all as it was.
+//! - A command is done whole or not at all: a refused change leaves all as it was, and the answer to one that is done needs no memory.
 //! - An answer is whole before its first byte is written, so that a refusal can still stand in its place.
 //! - A session that met a write fault has ended, and writes nothing more.
 //! - A request can be asked by itself, with its answer in a buffer of the caller's. It leaves the stream where it is.

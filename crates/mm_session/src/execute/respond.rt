@@ -22,9 +22,9 @@ impl Executor {
     ghost use Rattle.mm_session.specs.Answered.{Obeys, Declines};
     ghost use Rattle.mm_session.specs.Judging.{IsJudged, AnswersIn};
 
-    // Reads a line as a command, and does what it says with the block behind it.
+    // Reads a line as a command, does what it says with the block behind it, and makes its answer.
     fn obey(&mut self, line: &Line<'_>, block: &[u8], answer: &mut Answer) -> Result<(), Refusal>
-        ensures ok { OnOk result (Obeys (block_records block.now) self.old.catalog.limits (database_of self.old.catalog) line.now (database_of self.new.catalog) answer.old answer.new) }
+        ensures ok { OnOk result (Obeys (block_records block.now) self.old.catalog.limits (database_of self.old.catalog) line.now (database_of self.new.catalog) answer.new) }
         ensures err { IfErr result (Declines (block_records block.now) self.old.catalog.limits (database_of self.old.catalog) line.now) }
         ensures unchanged { OnErr result (database_of self.new.catalog ≡ database_of self.old.catalog) }
         ensures limits { self.new.catalog.limits ≡ self.old.catalog.limits }
@@ -48,7 +48,6 @@ impl Executor {
             Judged::NotUtf8 => answer.set(NOT_UTF8),
             Judged::Silent => answer.clear(),
             Judged::Text(text) => {
-                answer.clear();
                 if let Err(refusal) = self.obey(text, block, answer) {
                     answer.refuse(refusal);
                 }

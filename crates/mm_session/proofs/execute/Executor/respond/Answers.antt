@@ -30,4 +30,4 @@ pub returns-in_default-clause-answers : goal.returns-in_default-clause-answers
 returns-in_default-clause-answers c = λ bytes is has.
     let (readable, heard, same) = rw c.in-Text.is at is in
     answers-obeyed c.args.self.now.catalog.limits (database_of c.args.self.now.catalog) (record { line = bytes; block = c.args.block.now })
-    readable heard has _ _ (rw (same, c.clear-in-Text.ensures) at c.in_default.ensures.ok)
+    readable heard has _ _ (rw same at c.in_default.ensures.ok)
