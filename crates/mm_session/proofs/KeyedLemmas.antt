@@ -1,8 +1,7 @@
 -- The row of a key, and what is shown of it.
-use Rattle.std.proofs.Common.{◌≡◌, ◌≢◌, ◌∙◌, ℕ, ◌<◌, Bool, true, false, List, [], ◌∷◌, ◌++◌, Option, None, Some, IsSome, refl, sym, ap, subst, arith, append-nil, filter, get_or, length, map}
+use Rattle.std.proofs.Common.{◌≡◌, ◌≢◌, ◌∙◌, ℕ, ◌<◌, true, false, List, [], ◌∷◌, ◌++◌, Some, refl, sym, ap, subst, arith, append-nil, filter, get_or, length, map}
 use Rattle.std.specs.Prelude.{Result, Ok, Err, IfOk, OnOk, slice_get}
 use Rattle.std.specs.List.{All, cons_option, flat_map, range_with_len}
-use Rattle.std.specs.Option.{option_to_list}
 use Rattle.std.proofs.lemmas.List.{length-map}
 use Rattle.std.proofs.lemmas.List.Concat.{flat_map-cons}
 use Rattle.std.proofs.lemmas.List.Elements.{All-map}
@@ -35,7 +34,7 @@ use Rattle.temp_list.proofs.SelectLemmas.{passes_each}
 use Rattle.mm_session.specs.Keyed.{AsksForKey, IsKeyTest, columns_shown, values_shown}
 use Rattle.mm_session.specs.Members.{tables_at}
 use Rattle.mm_session.specs.Shown.{heading, places_shown}
-use Rattle.mm_session.specs.Walked.{AreColumns, rows_shown, shown_row}
+use Rattle.mm_session.specs.Walked.{rows_shown, shown_row}
 use Rattle.mm_session.proofs.MemberLemmas.{map_map, width_same}
 use Rattle.mm_session.proofs.PlaceLemmas.{place_at, places_from}
 use Rattle.mm_session.proofs.WalkedLemmas.{columns_over, heads_shown, places_some, walked_rows}

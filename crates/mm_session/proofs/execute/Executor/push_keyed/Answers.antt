@@ -1,15 +1,13 @@
-use Rattle.std.proofs.Common.{◌≡◌, ◌∙◌, ◌++◌, ◌∷◌, ◌<◌, [], List, IsSome, ap, sym, subst, arith, append-nil, length}
+use Rattle.std.proofs.Common.{◌≡◌, ◌∙◌, ◌++◌, ◌∷◌, [], List, IsSome, ap, sym, subst, arith, append-nil}
 use Rattle.std.specs.FinMap as finite
-use Rattle.std.specs.List.{All, flat_map}
+use Rattle.std.specs.List.{All}
 use Rattle.std.specs.Option.{option_to_list}
-use Rattle.part_raw.specs.declared.tuple_ref.TupleRef.{TupleRef}
 use Rattle.plain_tables.specs.declared.resolved.Test.{Test}
 use Rattle.plain_tables.specs.declared.value.Value.{Value}
 use Rattle.mm_catalog.proofs.Declared.{among_at, there_at}
 use Rattle.temp_list.specs.Reading.{HasColumns, passing}
 use Rattle.temp_list.proofs.SelectLemmas.{passing_held}
 use Rattle.mm_session.specs.Keyed.{AsksForKey}
-use Rattle.mm_session.specs.Walked.{rows_shown}
 use Rattle.mm_session.proofs.KeyedLemmas.{columns_there, none_shown, one_shown, width_shown, width_some}
 use Rattle.mm_session.proofs.WalkedLemmas.{tests_there}
 use Rattle.mm_session.proofs.execute.Executor.push_keyed.Goals as goal
