@@ -31,6 +31,7 @@ use Rattle.plain_tables.specs.declared.value.Value.{Value}
 use Rattle.plain_tables.specs.declared.value.Value.TheVariants as value
 use Rattle.plain_tables.proofs.HeldLemmas.{RowsFit}
 use Rattle.plain_tables.proofs.ValueLemmas.{value_cmp-exact}
+use Rattle.plain_streams.proofs.BlockFits.{key-value}
 use Rattle.mm_relation.specs.State.{RelationState}
 use Rattle.mm_catalog.specs.State.{CatalogState}
 use Rattle.mm_catalog.specs.Seen.{database_of, table_of}
@@ -60,15 +61,6 @@ plain-own tables kind.Int (value.Int z) keyed holds = plain-integer z holds
 plain-own tables kind.Text (value.Int z) keyed holds = absurd holds
 plain-own tables (kind.Ref name) (value.Int z) keyed holds = absurd (false≢true keyed)
 plain-own tables (kind.RefOrNull name) (value.Int z) keyed holds = absurd (false≢true keyed)
-
-key-value : (w v : Value) → is_eq (key_cmp (w ∷ []) (v ∷ [])) ≡ true → w ≡ v
-key-value w v same = by (key_cmp (w ∷ []) (v ∷ [])) refl same
-  where
-    by : (o : Ordering) → key_cmp (w ∷ []) (v ∷ []) ≡ o → is_eq o ≡ true → w ≡ v
-    by Less is eq = absurd (false≢true eq)
-    by Greater is eq = absurd (false≢true eq)
-    by Equal is eq =
-        let whole : w ∷ [] ≡ v ∷ [] = slice_cmp-IsAntisymmetric (λ x y. (value_cmp-exact x y).0) (w ∷ []) (v ∷ []) is in cc
 
 -- the key of a row
 plain-key : (tables : Database) (columns : List Column) (row : Row) (v : Value) → IsSome (option_and_then (λ c. own_type c.kind) (slice_get columns 0))

@@ -14,31 +14,7 @@ use Rattle.mm_session.specs.Refused.{TellsRefusal}
 pub decimal-number : (r : Refusal) → decimal (number_of r) ≡ (48 + number_of r / 10) ∷ (48 + number_of r % 10) ∷ []
 unfolding digits
 decimal-number LineTooLong = refl
-decimal-number NotUtf8 = refl
-decimal-number BlockTooLong = refl
-decimal-number BlockCutShort = refl
-decimal-number NotACommand = refl
-decimal-number NoSuchTable = refl
-decimal-number TableExists = refl
-decimal-number NoSuchColumn = refl
-decimal-number ColumnNamedTwice = refl
-decimal-number TableNamedTwice = refl
-decimal-number WrongType = refl
-decimal-number KeyCannotBeSet = refl
-decimal-number TooMany = refl
-decimal-number NoSuchIndex = refl
-decimal-number IndexExists = refl
-decimal-number TableIsReferenced = refl
-decimal-number (KeyExists n) = refl
-decimal-number (NoReferencedRow n) = refl
-decimal-number (TableFull n) = refl
-decimal-number RowIsReferenced = refl
-decimal-number WrongNumberOfValues = refl
-decimal-number TextTooLong = refl
-decimal-number BadHeader = refl
-decimal-number (BadRecord n) = refl
-decimal-number DumpTooLong = refl
-decimal-number NoMemory = refl
+decimal-number other = refl
 
 -- what stands behind the number
 behind_number : Refusal → List ℕ → List ℕ

@@ -35,6 +35,7 @@ use Rattle.join_ops.proofs.JoinLemmas.{single_over}
 use Rattle.mm_session.specs.Members.{HasMembers, IsSourceOf, tables_at, joined_numbers, member_of}
 use Rattle.mm_session.specs.Shown.{places_shown, heading, list_values}
 use Rattle.mm_session.specs.Walked.{shown_row, AreColumns, WritesRows, rows_shown}
+use Rattle.project_hash.proofs.TableLemmas.{place_alone}
 use Rattle.mm_session.proofs.MemberLemmas.{map_map, map_same}
 use Rattle.mm_session.proofs.QueryLemmas.{key_source, source_columns, listing_over, singles_rise, single_lead}
 use Rattle.mm_session.proofs.SelectLemmas.{described_over, some_places, ordered_shown, names_shown}
@@ -97,15 +98,6 @@ read_at f g xs ys k x d same within there =
 
 -- ---- what a query of one table shows
 
--- a place of one table is a column of it
-alone : (relations : List RelationState) (n : ℕ) (s : RelationState) → slice_get relations n ≡ Some s → (place : Place) → HasPlace relations (n ∷ []) place
-    → (place.source ≡ 0) × (place.column.0 < length s.schema.columns)
-alone relations n s there place (t, at, within) = go place.source refl at
-  where
-    go : (k : ℕ) → place.source ≡ k → relation_of relations (n ∷ []) k ≡ Some t → (place.source ≡ 0) × (place.column.0 < length s.schema.columns)
-    go zero e at = (e, let same = ap (λ (u : RelationState). length u.schema.columns) (same_Some s t (sym there ∙ at)) in omega (arith, same, within))
-    go (suc k) e at = cc
-
 module _ (c : CatalogState) (ok : IsConsistent c) (query : Query) (one : IsMeant c.limits (database_of c) (resolved.Select query) × (query.joins ≡ [])) (s : RelationState) (there : slice_get c.relations query.source.table.0 ≡ Some s) where
   abbrev n : ℕ
   n = query.source.table.0
@@ -142,7 +134,7 @@ module _ (c : CatalogState) (ok : IsConsistent c) (query : Query) (one : IsMeant
     places_over = (described_over c ok query one.0 listing has places shows).columns
 
     pub columns_over : AreColumns s places
-    columns_over = λ k d l. (alone c.relations n s there (get_or places k d) (places_over k d l)).1
+    columns_over = λ k d l. (place_alone c.relations n s there (get_or places k d) (places_over k d l)).1
 
     pub places_some : 0 < length places
     places_some = some_places c ok query one.0 listing has places shows
@@ -163,5 +155,5 @@ module _ (c : CatalogState) (ok : IsConsistent c) (query : Query) (one : IsMeant
       where
         one_value : (place : Place) (r : TupleRef) → HasPlace c.relations (n ∷ []) place → value_of c.relations (n ∷ []) (r ∷ []) place ≡ value_in c.relations s place.column.0 r
         one_value place r has =
-            let first = (alone c.relations n s there place has).0 in
+            let first = (place_alone c.relations n s there place has).0 in
             place_read c.relations (n ∷ []) (r ∷ []) place s r (ap (λ k. relation_of c.relations (n ∷ []) k) first ∙ there) (ap (slice_get (r ∷ [])) first)

@@ -45,17 +45,8 @@ abbrev pub begins_so : List ℕ → Bool
 begins_so text = begins text (codes "table") || begins text (codes "drop")
 
 plain-word : (c : Command) (more : List ℕ) → behind_blanks (first_word c ++ more) ≡ first_word c ++ more
-plain-word (command.Table name schema) more = refl
-plain-word (command.DropTable name) more = refl
-plain-word (command.Index name column k) more = refl
-plain-word (command.DropIndex name column k) more = refl
-plain-word (command.Insert name row) more = refl
-plain-word (command.Update name settings conditions) more = refl
-plain-word (command.Delete name conditions) more = refl
-plain-word (command.Select distinct its name joins conditions) more = refl
-plain-word (command.Load name bytes) more = refl
-plain-word (command.Dump name) more = refl
 plain-word command.Tables more = refl
+plain-word other more = refl
 
 word-begins : (c : Command) (more : List ℕ) → declares c ≡ true → begins_so (first_word c ++ more) ≡ true
 word-begins (command.Table name schema) more of = refl

@@ -23,10 +23,8 @@ unless-rows false false (Some why) command c is = cc
 unless-rows false false None command c is = cc
 
 template-rows : (values : List Value) (t : Template) → IsOfRows (filled_template values t)
-template-rows values (template.Insert n slots) = tt
-template-rows values (template.Update n assignments tests) = tt
-template-rows values (template.Delete n tests) = tt
 template-rows values (template.Select query) = tt
+template-rows values other = tt
 
 -- what a resolution is with values is an insert, an update, a delete or a select
 pub finished-rows : (values : List Value) (r : Resolution) (c : Resolved) → finished values r ≡ Ok c → IsOfRows c
@@ -37,8 +35,5 @@ finished-rows values r c is =
 
 -- the one that is no select is a change
 pub rows-change : (c : Resolved) → IsOfRows c → ((query : Query) → c ≢ resolved.Select query) → IsChange c
-rows-change (resolved.Insert n row) is other = tt
-rows-change (resolved.Update n assignments tests) is other = tt
-rows-change (resolved.Delete n tests) is other = tt
 rows-change (resolved.Select query) is other = absurd (other query refl)
 rows-change c is other = is

@@ -17,6 +17,7 @@ use Rattle.plain_statements.specs.declared.statement.Statement.TheVariants as st
 use Rattle.plain_statements.specs.Filling.{filled}
 use Rattle.plain_statements.specs.StatementSpelling.{SpellsStatement, literal_apart, marks, written, written_within}
 use Rattle.plain_statements.proofs.Holes.{all-spellable, null_at, values_by}
+use Rattle.mm_session.proofs.AskLemmas.{silent-behind}
 
 -- so many nulls
 abbrev pub nulls : ℕ → List Value
@@ -82,10 +83,6 @@ written-silent values [] silent = silent
 written-silent [] (c ∷ cs) silent = silent
 written-silent (v ∷ values) (c ∷ cs) silent = silent-cases (is_blank c) v values c cs refl (written-silent (v ∷ values) cs) silent
 
-silent-behind : (blanks more : List ℕ) → AreBlanks blanks → is_silent (blanks ++ more) ≡ is_silent more
-silent-behind [] more are = refl
-silent-behind (b ∷ blanks) more are = rw are.0 (silent-behind blanks more are.1)
-
 word-heard : (line word : List ℕ) (symbols : List Symbol) → ((rest : List ℕ) → is_silent (word ++ rest) ≡ false)
     → IsMadeOf line (Keyword word ∷ symbols) → is_silent line ≡ false
 word-heard line word symbols heard made =
@@ -95,9 +92,7 @@ word-heard line word symbols heard made =
 
 first-heard : (values : List Value) (s : Statement) (rest : List ℕ) → is_silent (first_word (filled values s) ++ rest) ≡ false
 first-heard values (statement.Insert table slots) rest = refl
-first-heard values (statement.Update table settings conditions) rest = refl
-first-heard values (statement.Delete table conditions) rest = refl
-first-heard values (statement.Select distinct items table joins conditions) rest = refl
+first-heard values other rest = refl
 
 statement-heard : (line : List ℕ) (values : List Value) (s : Statement) → Spells line (filled values s) → is_silent line ≡ false
 statement-heard line values s spells =

@@ -20,7 +20,7 @@ use Rattle.plain_tables.specs.declared.numbers.Place.{Place}
 use Rattle.plain_tables.specs.declared.refusal.Refusal.TheVariants.{NoSuchColumn, NoSuchTable}
 use Rattle.plain_tables.specs.declared.resolved.Resolved.{Resolved}
 use Rattle.plain_tables.specs.declared.resolved.Resolved.TheVariants as resolved
-use Rattle.plain_tables.proofs.ChangeLemmas.{own_rows_change}
+use Rattle.plain_tables.proofs.ChangeLemmas.{own_rows_change, map_set_alike}
 use Rattle.plain_tables.proofs.EffectLemmas.{effect_satisfies, of_table_satisfies}
 use Rattle.plain_tables.proofs.ResolvedLemmas.{checked_satisfies, own_rows}
 use Rattle.mm_csv.specs.BlockReading.{block_records}
@@ -38,12 +38,6 @@ abbrev SameSchemas : Database → Database → Type 0
 SameSchemas old new = map emptied new ≡ map emptied old
 
 -- ---- indexes
-
-set-alike : {X Y : Type 0} (f : X → Y) (xs : List X) (n : ℕ) (old new : X) → slice_get xs n ≡ Some old → f new ≡ f old
-    → map f (set xs n new) ≡ map f xs
-set-alike f [] n old new there same = refl
-set-alike f (x ∷ xs) zero old new there same = let here : x ≡ old = cc in rw (same, here) refl
-set-alike f (x ∷ xs) (suc n) old new there same = ap (λ ys. f x ∷ ys) (set-alike f xs n old new there same)
 
 -- what holds of a command on each column holds of what one on a column of a name means
 column-means : (P : Resolved → Type 0) (found : Option Table) (place : Table → Option Place) (checks : Table → ColumnNumber → List Check)
@@ -68,13 +62,13 @@ resolved-schemas records limits tables (command.Index name column k) r not is =
     (λ table. place_meant (own_columns table) (record { table = None; column = column })) (λ table c. index_checks table c k)
     (λ c. resolved.Index (number_of name tables) c k) r is
     (λ c. of_table_satisfies (λ e. SameSchemas tables e.database) (number_of name tables) tables _ (λ why. refl)
-    (λ table there. set-alike emptied tables (number_of name tables).0 table (with_index c k table) there refl))
+    (λ table there. map_set_alike emptied tables (number_of name tables).0 table (with_index c k table) there refl))
 resolved-schemas records limits tables (command.DropIndex name column k) r not is =
     column-means (λ q. SameSchemas tables (done limits tables q).database) (table_named name tables)
     (λ table. place_meant (own_columns table) (record { table = None; column = column })) (λ table c. drop_index_checks table c k)
     (λ c. resolved.DropIndex (number_of name tables) c k) r is
     (λ c. of_table_satisfies (λ e. SameSchemas tables e.database) (number_of name tables) tables _ (λ why. refl)
-    (λ table there. set-alike emptied tables (number_of name tables).0 table (without_index c k table) there refl))
+    (λ table there. map_set_alike emptied tables (number_of name tables).0 table (without_index c k table) there refl))
 resolved-schemas records limits tables command.Tables r not is =
     let same : resolved.Tables ≡ r = cc in subst (λ q. SameSchemas tables (done limits tables q).database) same refl
 resolved-schemas records limits tables c r not is =
@@ -88,14 +82,10 @@ DeclaresNone request = (c : Command) → Spells (line_of request) c → declares
 
 effect-schemas : (limits : Limits) (tables : Database) (request : Request) (e : Effect) → IsEffect limits tables request e
     → DeclaresNone request → SameSchemas tables e.database
-effect-schemas limits tables request e (runs.too_long long) none = refl
-effect-schemas limits tables request e (runs.not_utf8 short bad) none = refl
-effect-schemas limits tables request e (runs.not_a_command readable heard other) none = refl
-effect-schemas limits tables request e (runs.block_too_long n asks long) none = refl
-effect-schemas limits tables request e (runs.block_cut_short n asks within short) none = refl
 effect-schemas limits tables request e (runs.command c readable heard spells has) none =
     effect_satisfies (λ e. SameSchemas tables e.database) (block_records request.block) limits tables c (λ why. refl)
     (λ r is. resolved-schemas (block_records request.block) limits tables c r (none c spells) is)
+effect-schemas limits tables request e other none = refl
 
 answers-schemas : (limits : Limits) (before : Database) (request : Request) (answer : List ℕ) (after : Database)
     → Answers limits before request answer after → DeclaresNone request → SameSchemas before after
