@@ -1,10 +1,9 @@
--- What is done to a catalog, and the effect of the command that it is.
+-- Commands that a catalog declines, and the effect that they are refused by.
 use Rattle.std.proofs.Common.{◌≡◌, ℕ, List, Ok, sym, ap, ◌∙◌, inl, inr}
 use Rattle.std.specs.Prelude.{◌⊎◌}
-use Rattle.plain_tables.specs.AnswerText.{answer_text}
 use Rattle.plain_tables.specs.Databases.{Database}
 use Rattle.plain_tables.specs.CsvReading.{Record}
-use Rattle.plain_tables.specs.Effects.{Effect, Outcome, Changed, Refused, refused}
+use Rattle.plain_tables.specs.Effects.{Effect, Outcome, Refused, refused}
 use Rattle.plain_tables.specs.Resolving.{resolved_of}
 use Rattle.plain_tables.specs.Doing.{done}
 use Rattle.plain_tables.specs.ResolvedLaws.{KeepsIfRefused}
@@ -15,22 +14,9 @@ use Rattle.plain_tables.specs.declared.refusal.Refusal.TheVariants.{NoMemory}
 use Rattle.plain_tables.specs.declared.resolved.Resolved.{Resolved}
 use Rattle.mm_catalog.specs.State.{CatalogState}
 use Rattle.mm_catalog.specs.Seen.{database_of}
-use Rattle.mm_catalog.specs.Changes.{HasEffect, IsDeclinedFor}
+use Rattle.mm_catalog.specs.Changes.{IsDeclinedFor}
 use Rattle.mm_session.specs.Answered.{DoesNothing}
 use Rattle.plain_tables.specs.Commands.{effect_of, effect_of_resolved}
-use Rattle.mm_session.specs.Performed.{HasPerformed}
-
--- ---- what was done
-
-pub performed_effect : (old new : CatalogState) (effect : Effect) (count : ℕ) (answer : List ℕ) → HasEffect old new effect count
-    → answer ≡ answer_text (Changed count) → HasPerformed old new effect answer
-performed_effect old new effect count answer has says = record {
-  database = has.database;
-  limits = has.limits;
-  told = says ∙ ap answer_text (sym has.outcome);
-}
-
--- ---- commands
 
 refused_so : (tables : Database) (e : Effect) (why : Refusal) → KeepsIfRefused tables e → e.outcome ≡ Refused why → e ≡ refused tables why
 refused_so tables e why keeps is =
