@@ -15,16 +15,16 @@ use Rattle.plain_tables.proofs.Separated.{all-append}
 use Rattle.plain_statements.specs.declared.statement.Slot.{Slot}
 use Rattle.plain_statements.specs.declared.statement.Slot.TheVariants.{Given, Hole}
 use Rattle.plain_statements.specs.declared.statement.Statement.{Statement}
-use Rattle.plain_statements.specs.declared.statement.Statement.TheVariants as statement
 use Rattle.plain_statements.specs.Filling.{filled}
 use Rattle.plain_statements.specs.StatementSpelling.{marks, written, numbers_of, slots_of, SpellsStatement}
 use Rattle.mm_lang.specs.Parsing.{IsWhole}
-use Rattle.mm_lang.specs.declared.statements.StatementWord.{StatementWord}
-use Rattle.mm_lang.specs.declared.statements.StatementWord.TheVariants as word
-use Rattle.mm_lang.specs.Statements.{slot_symbol, word_of, behind_by, statement_letters, IsStatement}
-use Rattle.mm_lang.proofs.Filled.{literal, symbols-filled, something-filled}
+use Rattle.mm_lang.specs.declared.parser.CommandWord.{CommandWord}
+use Rattle.mm_lang.specs.Words.{letters}
+use Rattle.mm_lang.specs.Statements.{slot_symbol, word_of, behind_by, IsStatement}
+use Rattle.mm_lang.proofs.Filled.{literal, word-filled, symbols-filled, something-filled}
 use Rattle.mm_lang.proofs.Parts.{Part, Plain, At, symbol_by, slots_in, IsWell, HasParts, statement-parts}
 use Rattle.mm_lang.proofs.Sound.{cons-parts}
+use Rattle.mm_lang.proofs.Spelled.{word-of}
 use Rattle.mm_lang.proofs.Written.{FirstSymbol, IsMark, IsOther, KeepsLine, TakesNext, first-symbol, keeps-line, front-lexeme}
 
 -- ---- a blank in front
@@ -241,14 +241,7 @@ not-statement line word rest e f not s spells =
     let (first, is) = spelled-statement line s spells in
     not s (subst (λ w. IsStatement w rest s) (sym first ∙ e) (subst (λ r. IsStatement (word_of s) r s) (sym f) is))
 
--- each statement begins with one of the words
-word-of : (s : Statement) → (w : StatementWord) × (word_of s ≡ statement_letters w)
-word-of (statement.Insert table slots) = (word.Insert, refl)
-word-of (statement.Update table settings conditions) = (word.Update, refl)
-word-of (statement.Delete table conditions) = (word.Delete, refl)
-word-of (statement.Select distinct items table joins conditions) = (word.Select, refl)
-
-pub unknown-statement : (line : List ℕ) → ((w : StatementWord) → lexeme line ≢ statement_letters w) → (s : Statement) → SpellsStatement line s → ⊥
+pub unknown-statement : (line : List ℕ) → ((w : CommandWord) → lexeme line ≢ letters w) → (s : Statement) → SpellsStatement line s → ⊥
 unknown-statement line unknown s spells =
-    let of = word-of s in
-    unknown of.0 ((spelled-statement line s spells).0 ∙ of.1)
+    let of = word-of (filled [] s) in
+    unknown of.0 ((spelled-statement line s spells).0 ∙ (sym (word-filled [] s) ∙ of.1))

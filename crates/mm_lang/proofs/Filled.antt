@@ -41,11 +41,9 @@ behind-filled values (statement.Select distinct items table joins conditions) =
     ap (λ l. distinct_symbols distinct ++ (items_symbols items ++ Keyword (codes "from") ∷ Name table ∷ (flat_map join_symbols joins ++ l)))
     (where-filled values conditions)
 
-word-filled : (values : List Value) (s : Statement) → first_word (filled values s) ≡ word_of s
+pub word-filled : (values : List Value) (s : Statement) → first_word (filled values s) ≡ word_of s
 word-filled values (statement.Insert table slots) = refl
-word-filled values (statement.Update table settings conditions) = refl
-word-filled values (statement.Delete table conditions) = refl
-word-filled values (statement.Select distinct items table joins conditions) = refl
+word-filled values other = refl
 
 -- Law: they are the statement's, with the literals of the values for the slots.
 pub symbols-filled : (values : List Value) (s : Statement) → symbols_of (filled values s) ≡ Keyword (word_of s) ∷ behind_by (literal values) s
@@ -57,13 +55,11 @@ symbols-filled values s =
 pub filled-something : (values : List Value) (s : Statement) → HasSomething s → NamesSomething (filled values s)
 filled-something values (statement.Insert table slots) some = omega (arith, length-map slots (slot_value values))
 filled-something values (statement.Update table settings conditions) some = omega (arith, length-map settings (filled_setting values))
-filled-something values (statement.Delete table conditions) some = tt
-filled-something values (statement.Select distinct items.All table joins conditions) some = tt
 filled-something values (statement.Select distinct (items.Named names) table joins conditions) some = some
+filled-something values other some = tt
 
 pub something-filled : (values : List Value) (s : Statement) → NamesSomething (filled values s) → HasSomething s
 something-filled values (statement.Insert table slots) some = omega (arith, length-map slots (slot_value values))
 something-filled values (statement.Update table settings conditions) some = omega (arith, length-map settings (filled_setting values))
-something-filled values (statement.Delete table conditions) some = tt
-something-filled values (statement.Select distinct items.All table joins conditions) some = tt
 something-filled values (statement.Select distinct (items.Named names) table joins conditions) some = some
+something-filled values other some = tt

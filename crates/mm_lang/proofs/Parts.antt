@@ -139,9 +139,7 @@ behind-parts (statement.Select distinct items table joins conditions) =
 
 word-well : (s : Statement) → IsWellFormed (Keyword (word_of s))
 word-well (statement.Insert table slots) = refl
-word-well (statement.Update table settings conditions) = refl
-word-well (statement.Delete table conditions) = refl
-word-well (statement.Select distinct items table joins conditions) = refl
+word-well other = refl
 
 -- Law: the symbols of a statement are parts, with its slots among them.
 pub statement-parts : (s : Statement) → HasParts (λ f. Keyword (word_of s) ∷ behind_by f s) (slots_of s)

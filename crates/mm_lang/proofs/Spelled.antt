@@ -166,7 +166,7 @@ not-spelled line word rest e f not command spells =
     not command (subst (λ w. Completes w rest command) (sym parts.0 ∙ e) (subst (λ r. Completes (first_word command) r command) (sym f) parts.1))
 
 -- each command begins with one of the words
-word-of : (command : Command) → (w : CommandWord) × (first_word command ≡ letters w)
+pub word-of : (command : Command) → (w : CommandWord) × (first_word command ≡ letters w)
 word-of (Table name schema) = (word.Table, refl)
 word-of (DropTable t) = (word.Drop, refl)
 word-of (Index t c k) = (word.Index, refl)
