@@ -4,14 +4,15 @@ use Rattle.std.proofs.Common.{◌≡◌, ◌≢◌, ℕ, zero, suc, ◌+◌, Lis
 use Rattle.std.specs.List.{AllByRecursion, flat_map, range_with_len}
 use Rattle.std.proofs.Math.Seq.{get_or-append_seam}
 use lib.Chars.{codes}
-use Rattle.plain_tables.specs.Spelling.{Symbol, Keyword, Name, Literal, Count, Sign, AreBlanks, IsSymbol, IsMadeOf, IsSpellableValue, Spells}
-use Rattle.plain_tables.specs.Reading.{behind_blanks, begins_run, lexeme, after_lexeme}
+use Rattle.plain_tables.specs.Spelling.{Symbol, Keyword, Name, Literal, Count, Sign, symbol_text, is_blank, AreBlanks, IsSymbol, IsMadeOf, IsSpellableValue, Spells}
+use Rattle.plain_tables.specs.Reading.{behind_blanks, begins_run, lexeme_length, lexeme, after_lexeme}
 use Rattle.plain_tables.specs.declared.value.Value.{Value}
 use Rattle.plain_tables.specs.declared.value.Value.TheVariants as value
 use Rattle.plain_tables.proofs.FirstWords.{different}
-use Rattle.plain_tables.proofs.Lexemes.{IsRun, IsWellFormed, symbol-run, lexeme-of_made, made-from_lexeme, blanks-no_lexeme}
+use Rattle.plain_tables.proofs.Lexemes.{StopsBefore, IsRun, IsWellFormed, symbol-run, lexeme-front, lexeme-of_made, made-from_lexeme, blanks-no_lexeme}
 use Rattle.plain_tables.proofs.LineFeeds.{contains-feed}
 use Rattle.plain_tables.proofs.Separated.{all-append}
+use Rattle.plain_tables.proofs.Texts.{one_more}
 use Rattle.plain_statements.specs.declared.statement.Slot.{Slot}
 use Rattle.plain_statements.specs.declared.statement.Slot.TheVariants.{Given, Hole}
 use Rattle.plain_statements.specs.declared.statement.Statement.{Statement}
@@ -25,7 +26,7 @@ use Rattle.mm_lang.proofs.Filled.{literal, word-filled, symbols-filled, somethin
 use Rattle.mm_lang.proofs.Parts.{Part, Plain, At, symbol_by, slots_in, IsWell, HasParts, statement-parts}
 use Rattle.mm_lang.proofs.Sound.{cons-parts}
 use Rattle.mm_lang.proofs.Spelled.{word-of}
-use Rattle.mm_lang.proofs.Written.{FirstSymbol, IsMark, IsOther, KeepsLine, TakesNext, first-symbol, keeps-line, front-lexeme}
+use Rattle.mm_lang.proofs.Written.{FirstSymbol, IsMark, IsOther, KeepsLine, TakesNext, first-symbol, keeps-line}
 
 -- ---- a blank in front
 
@@ -34,9 +35,6 @@ unfolding lexeme after_lexeme
 blank-lexeme line =
     let text : behind_blanks (32 ∷ line) ≡ behind_blanks line = rw one_more refl in
     (rw text refl, rw text refl)
-  where
-    one_more : (n : ℕ) → 1 + n ≡ suc n
-    one_more n = omega arith
 
 behind-blank : (line : List ℕ) (symbols : List Symbol) → AllByRecursion IsWellFormed symbols → IsMadeOf (32 ∷ line) symbols → IsMadeOf line symbols
 behind-blank line [] well made = made.1
@@ -108,25 +106,15 @@ symbol-one (Sign mark) well null text = null-no_text (null ∙ sym text)
 
 -- ---- where a question mark stands
 
-null-lexeme : (values : List Value) (line : List ℕ) → (takes : TakesNext line)
-    → (lexeme (written (value.Null ∷ values) line) ≡ codes "null")
-    × (after_lexeme (written (value.Null ∷ values) line) ≡ 32 ∷ written values (after_lexeme line))
-null-lexeme values line takes =
-    let w : List ℕ = written values (after_lexeme line) in
-    let whole : written (value.Null ∷ values) line ≡ (takes.blanks ++ 32 ∷ []) ++ (codes "null" ++ 32 ∷ w) =
-    takes.fills value.Null values ∙ sym (append_assoc takes.blanks (32 ∷ []) (codes "null" ++ 32 ∷ w)) in
-    let front = front-lexeme (takes.blanks ++ 32 ∷ []) (codes "null") (32 ∷ w) (all-append _ takes.blanks (32 ∷ []) takes.are (refl, tt)) refl refl in
-    (ap lexeme whole ∙ front.0, ap after_lexeme whole ∙ front.1)
-
-text-lexeme : (values : List Value) (line : List ℕ) → (takes : TakesNext line)
-    → (lexeme (written (empty ∷ values) line) ≡ codes "''")
-    × (after_lexeme (written (empty ∷ values) line) ≡ 32 ∷ written values (after_lexeme line))
-text-lexeme values line takes =
-    let w : List ℕ = written values (after_lexeme line) in
-    let whole : written (empty ∷ values) line ≡ (takes.blanks ++ 32 ∷ []) ++ (codes "''" ++ 32 ∷ w) =
-    takes.fills empty values ∙ sym (append_assoc takes.blanks (32 ∷ []) (codes "''" ++ 32 ∷ w)) in
-    let front = front-lexeme (takes.blanks ++ 32 ∷ []) (codes "''") (32 ∷ w) (all-append _ takes.blanks (32 ∷ []) takes.are (refl, tt)) refl refl in
-    (ap lexeme whole ∙ front.0, ap after_lexeme whole ∙ front.1)
+literal-lexeme : (v : Value) (values : List Value) (line : List ℕ) → (takes : TakesNext line)
+    → StopsBefore is_blank (symbol_text (Literal v) ++ 32 ∷ written values (after_lexeme line))
+    → lexeme_length (symbol_text (Literal v) ++ 32 ∷ written values (after_lexeme line)) ≡ length (symbol_text (Literal v))
+    → (lexeme (written (v ∷ values) line) ≡ symbol_text (Literal v))
+    × (after_lexeme (written (v ∷ values) line) ≡ 32 ∷ written values (after_lexeme line))
+literal-lexeme v values line takes stops long =
+    let behind : List ℕ = symbol_text (Literal v) ++ 32 ∷ written values (after_lexeme line) in
+    let whole : written (v ∷ values) line ≡ (takes.blanks ++ 32 ∷ []) ++ behind = rw (takes.fills v values) (simp append_assoc) in
+    rw whole (lexeme-front (takes.blanks ++ 32 ∷ []) (symbol_text (Literal v)) _ (all-append _ takes.blanks (32 ∷ []) takes.are (refl, tt)) stops long)
 
 -- ---- the line, from the written ones
 
@@ -161,8 +149,8 @@ first-back part parts well others line zero e (IsMark is takes) nulls texts = ab
 first-back part parts well others line (suc n) e (IsMark is takes) nulls texts =
     let (null, null-behind) = lexeme-of_made _ (symbol_by (each value.Null) part) _ (part-well value.Null part well) nulls in
     let (text, text-behind) = lexeme-of_made _ (symbol_by (each empty) part) _ (part-well empty part well) texts in
-    let at-null = null-lexeme (repeated value.Null n) line takes in
-    let at-text = text-lexeme (repeated empty n) line takes in (
+    let at-null = literal-lexeme value.Null (repeated value.Null n) line takes refl refl in
+    let at-text = literal-lexeme empty (repeated empty n) line takes refl refl in (
       mark-part part well (subst (λ l. IsSymbol l (symbol_by (each value.Null) part)) at-null.0 null)
           (subst (λ l. IsSymbol l (symbol_by (each empty) part)) at-text.0 text) line is,
       (
@@ -190,7 +178,7 @@ first-back part parts well others line n e (IsOther not keeps) nulls texts =
 end-back : (line : List ℕ) (n : ℕ) → n ≡ marks line → FirstSymbol line → AreBlanks (written (repeated value.Null n) line) → lexeme line ≡ []
 end-back line zero e (IsMark is takes) made = absurd (omega (arith, e, takes.holds))
 end-back line (suc n) e (IsMark is takes) made =
-    absurd (different (codes "null") [] refl (sym (null-lexeme (repeated value.Null n) line takes).0 ∙ blanks-no_lexeme _ made))
+    absurd (different (codes "null") [] refl (sym (literal-lexeme value.Null (repeated value.Null n) line takes refl refl).0 ∙ blanks-no_lexeme _ made))
 end-back line n e (IsOther not keeps) made =
     let k : KeepsLine (repeated value.Null n) line = keeps-line (repeated value.Null n) line keeps in
     sym k.same ∙ blanks-no_lexeme _ made

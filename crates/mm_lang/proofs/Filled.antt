@@ -1,6 +1,7 @@
 -- Filled: the symbols of the command that a statement is with values in its holes.
 use Rattle.std.proofs.Common.{◌≡◌, List, [], ◌∷◌, ◌++◌, map, refl, ap, ◌∙◌, arith}
 use Rattle.std.proofs.lemmas.List.{length-map}
+use Rattle.std.proofs.lemmas.Simd.{map-map}
 use Rattle.std.specs.List.{flat_map}
 use lib.Chars.{codes}
 use Rattle.plain_tables.specs.Spelling.{Symbol, Keyword, Name, Literal, Sign, Open, Close, separated, separated_by, symbols_of, value_symbols, setting_symbols, condition_symbols, distinct_symbols, items_symbols, join_symbols, where_symbols, NamesSomething}
@@ -18,10 +19,6 @@ use Rattle.mm_lang.specs.Statements.{setting_by, condition_by, word_of, behind_b
 -- the literal of a slot's value
 abbrev pub literal : List Value → Slot → Symbol
 literal values s = Literal (slot_value values s)
-
-map-map : {X Y Z : Type 0} (f : Y → Z) (g : X → Y) (xs : List X) → map f (map g xs) ≡ map (λ x. f (g x)) xs
-map-map f g [] = refl
-map-map f g (x ∷ xs) = ap (λ l. f (g x) ∷ l) (map-map f g xs)
 
 where-filled : (values : List Value) (conditions : List SlotCond)
     → where_symbols (map (filled_condition values) conditions) ≡ where_of (condition_by (literal values)) conditions

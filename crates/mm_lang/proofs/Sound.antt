@@ -19,11 +19,12 @@ use Rattle.plain_statements.specs.declared.statement.Slot.TheVariants.{Given, Ho
 use Rattle.plain_statements.specs.declared.statement.Statement.{Statement}
 use Rattle.plain_statements.specs.Filling.{filled}
 use Rattle.plain_statements.specs.StatementSpelling.{marks, written, written_within, numbers_of, holes_of, slots_of, SpellsStatement}
+use Rattle.plain_statements.proofs.Spelled.{written-none}
 use Rattle.mm_lang.specs.Parsing.{IsWhole}
 use Rattle.mm_lang.specs.Statements.{slot_symbol, word_of, behind_by, CompletesStatement}
 use Rattle.mm_lang.proofs.Filled.{literal, symbols-filled, filled-something}
 use Rattle.mm_lang.proofs.Parts.{Part, Plain, At, symbol_by, slots_in, IsWell, HasParts, statement-parts}
-use Rattle.mm_lang.proofs.Written.{blanks-marks, FirstSymbol, IsMark, IsOther, KeepsLine, TakesNext, first-symbol, keeps-line, written-none}
+use Rattle.mm_lang.proofs.Written.{blanks-marks, FirstSymbol, IsMark, IsOther, KeepsLine, TakesNext, first-symbol, keeps-line}
 
 -- ---- a symbol of a command is no question mark
 
@@ -66,8 +67,7 @@ literal-text (value.Text text) can = refl
 
 literal-ends : (v : Value) (rest : List ℕ) → EndsBefore (Literal v) (32 ∷ rest)
 literal-ends value.Null rest = refl
-literal-ends (value.Int z) rest = refl
-literal-ends (value.Text text) rest = refl
+literal-ends other rest = refl
 
 blank-made : (line : List ℕ) (symbols : List Symbol) → IsMadeOf line symbols → IsMadeOf (32 ∷ line) symbols
 blank-made line [] made = (refl, made)

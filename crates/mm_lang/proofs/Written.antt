@@ -12,8 +12,10 @@ use Rattle.plain_tables.specs.Spelling.{Literal, AreBlanks, is_blank, symbol_tex
 use Rattle.plain_tables.specs.Reading.{behind_blanks, begins_run, is_operator, operator_length, text_length, length_behind, lexeme_length, lexeme, after_lexeme}
 use Rattle.plain_tables.specs.declared.value.Value.{Value}
 use Rattle.plain_tables.specs.declared.value.Value.TheVariants as value
-use Rattle.plain_tables.proofs.Lexemes.{AllPass, StopsBefore, prefix_len-front, front-passes, rest-stops}
+use Rattle.plain_tables.proofs.Lexemes.{AllPass, StopsBefore, prefix_len-front, behind_blanks-front, lexeme-front, front-passes, rest-stops}
+use Rattle.plain_tables.proofs.Texts.{one_more, two_more}
 use Rattle.plain_statements.specs.StatementSpelling.{marks, marks_within, literal_apart, written, written_within}
+use Rattle.plain_statements.proofs.Spelled.{written-none}
 
 -- ---- characters that are neither quote marks nor question marks
 
@@ -90,12 +92,6 @@ record KeepsText (v : Value) (values : List Value) (cs : List ℕ) : Type 0 wher
   fills : written_within true (v ∷ values) cs ≡ front ++ written (v ∷ values) rest
   written_long : text_length (written_within true (v ∷ values) cs) ≡ length front
   holds : marks_within true cs ≡ marks rest
-
-one_more : (n : ℕ) → 1 + n ≡ suc n
-one_more n = omega arith
-
-two_more : (n : ℕ) → 2 + n ≡ suc (suc n)
-two_more n = omega arith
 
 -- a text that ends before what begins so
 ends-first : (c : ℕ) (line : List ℕ) → (c == 39) ≡ false → First c line → text_length (39 ∷ line) ≡ 1
@@ -281,17 +277,6 @@ keeps v values c cs other = keeps-by v values c cs (begins_run c) (c == 39) refl
 
 -- ---- a line's first symbol, and what is behind it
 
-text-lexeme : (blanks text : List ℕ) → AreBlanks blanks → StopsBefore is_blank text → behind_blanks (blanks ++ text) ≡ text
-text-lexeme blanks text are stops = rw (prefix_len-front is_blank blanks text are stops, drop-append_seam) refl
-
-pub front-lexeme : (blanks front rest : List ℕ) → AreBlanks blanks → StopsBefore is_blank (front ++ rest)
-    → lexeme_length (front ++ rest) ≡ length front
-    → (lexeme (blanks ++ (front ++ rest)) ≡ front) × (after_lexeme (blanks ++ (front ++ rest)) ≡ rest)
-unfolding lexeme after_lexeme
-front-lexeme blanks front rest are stops long =
-    let text : behind_blanks (blanks ++ (front ++ rest)) ≡ front ++ rest = text-lexeme blanks (front ++ rest) are stops in
-    (rw (text, long, take-append_seam) refl, rw (text, long, drop-append_seam) refl)
-
 -- The first symbol of the line is no question mark, and stands in the written line too, with the rest, written, behind it.
 pub record KeepsLine (values : List Value) (line : List ℕ) : Type 0 where
   pub same : lexeme (written values line) ≡ lexeme line
@@ -314,7 +299,7 @@ blanks-marks blanks are = ap marks (sym (append-nil blanks)) ∙ plain-marks bla
 empty-keeps : (v : Value) (values : List Value) (blanks : List ℕ) → AreBlanks blanks → KeepsLine (v ∷ values) (blanks ++ [])
 empty-keeps v values blanks are =
     let same : written (v ∷ values) (blanks ++ []) ≡ blanks ++ [] = plain-written v values blanks [] (blanks-plain blanks are) in
-    let front = front-lexeme blanks [] [] are tt refl in
+    let front = lexeme-front blanks [] [] are tt refl in
     record {
       same = ap lexeme same;
       rest = ap after_lexeme same ∙ (front.1 ∙ ap (written (v ∷ values)) (sym front.1));
@@ -334,8 +319,8 @@ other-keeps v values blanks c cs are stops other =
     let filled : written (v ∷ values) (blanks ++ c ∷ cs) ≡ blanks ++ (k.front ++ w) =
     plain-written v values blanks (c ∷ cs) (blanks-plain blanks are) ∙ ap (λ l. blanks ++ l) k.fills in
     let whole : blanks ++ c ∷ cs ≡ blanks ++ (k.front ++ k.rest) = ap (λ l. blanks ++ l) k.parts in
-    let here = front-lexeme blanks k.front k.rest are (subst (StopsBefore is_blank) k.parts stops) (ap lexeme_length (sym k.parts) ∙ k.long) in
-    let there = front-lexeme blanks k.front w are (subst (StopsBefore is_blank) k.fills (stays-stopped v values c cs (c == 39) refl other stops))
+    let here = lexeme-front blanks k.front k.rest are (subst (StopsBefore is_blank) k.parts stops) (ap lexeme_length (sym k.parts) ∙ k.long) in
+    let there = lexeme-front blanks k.front w are (subst (StopsBefore is_blank) k.fills (stays-stopped v values c cs (c == 39) refl other stops))
     (ap lexeme_length (sym k.fills) ∙ k.written_long) in
     let behind : after_lexeme (blanks ++ c ∷ cs) ≡ k.rest = ap after_lexeme whole ∙ here.1 in
     record {
@@ -350,7 +335,7 @@ mark-length (d ∷ cs) = refl
 
 mark-takes : (blanks cs : List ℕ) → AreBlanks blanks → (lexeme (blanks ++ 63 ∷ cs) ≡ codes "?") × TakesNext (blanks ++ 63 ∷ cs)
 mark-takes blanks cs are =
-    let front = front-lexeme blanks (63 ∷ []) cs are refl (mark-length cs) in (
+    let front = lexeme-front blanks (63 ∷ []) cs are refl (mark-length cs) in (
       front.0,
       record {
         blanks = blanks;
@@ -370,7 +355,7 @@ first-character : (blanks : List ℕ) (c : ℕ) (cs : List ℕ) → AreBlanks bl
     → lexeme (blanks ++ c ∷ cs) ≡ c ∷ take (length_behind c cs) cs
 unfolding lexeme
 first-character blanks c cs are stops =
-    let text : behind_blanks (blanks ++ c ∷ cs) ≡ c ∷ cs = text-lexeme blanks (c ∷ cs) are stops in
+    let text : behind_blanks (blanks ++ c ∷ cs) ≡ c ∷ cs = behind_blanks-front blanks (c ∷ cs) are stops in
     rw (text, one_more) refl
 
 by-first : (blanks : List ℕ) (c : ℕ) (cs : List ℕ) (b : Bool) → AreBlanks blanks → is_blank c ≡ false → (c == 63) ≡ b
@@ -386,7 +371,7 @@ by-first blanks c cs false are stops e = IsOther (λ is. eqb-false c 63 e (same-
 
 by-text : (blanks text : List ℕ) → AreBlanks blanks → StopsBefore is_blank text → FirstSymbol (blanks ++ text)
 by-text blanks [] are stops =
-    let front = front-lexeme blanks [] [] are tt refl in
+    let front = lexeme-front blanks [] [] are tt refl in
     IsOther (λ is. let both : [] ≡ 63 ∷ [] = sym front.0 ∙ is in cc) (λ v values. empty-keeps v values blanks are)
 by-text blanks (c ∷ cs) are stops = by-first blanks c cs (c == 63) are stops refl
 
@@ -396,10 +381,6 @@ first-symbol line =
     (by-text (take (prefix_len is_blank line) line) (behind_blanks line) (front-passes is_blank line) (rest-stops is_blank line))
 
 -- ---- any values
-
-pub written-none : (line : List ℕ) → written [] line ≡ line
-written-none [] = refl
-written-none (c ∷ cs) = refl
 
 pub keeps-line : (values : List Value) (line : List ℕ) → ((v : Value) (values : List Value) → KeepsLine (v ∷ values) line) → KeepsLine values line
 keeps-line [] line each = record {
