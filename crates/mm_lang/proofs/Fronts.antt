@@ -1,6 +1,7 @@
 -- Fronts: what stands at the front of a line, symbol by symbol.
 use Rattle.std.proofs.Common.{◌≡◌, ◌≢◌, ℕ, ◌≤◌, List, [], ◌∷◌, ◌++◌, length, Option, Some, None, true, false, refl, sym, ◌∙◌, ap, arith, subst}
-use Rattle.std.specs.Prelude.{Bool, Result, Err}
+use Rattle.std.specs.Prelude.{Bool, Result, Ok, Err}
+use Rattle.std.specs.Result.{IsErrAnd}
 use Rattle.std.specs.Str.{IsUtf8, IsAscii, bytes_eq}
 use Rattle.std.proofs.lemmas.Bool.{and_parts}
 use Rattle.std.proofs.lemmas.Slice.Eq.{bytes_eq-Decides}
@@ -30,8 +31,9 @@ pub other-bytes : (xs ys zs : List ℕ) (r : Bool) → r ≡ false → r ≡ byt
 other-bytes xs ys zs r h e f same = let both : bytes_eq xs ys ≡ true = (bytes_eq-Decides xs ys).1 (same ∙ sym f) in cc
 
 -- an error that a `?` passes on
-pub same-error : {T E : Type 0} (r : Result T E) (y d e : E) → r ≡ Err y → y ≡ d → r ≡ Err e → d ≡ e
-same-error r y d e p q h = cc
+pub passed-error : {T U E : Type 0} {r : Result T E} {d e : E} → IsErrAnd r (λ y. y ≡ d) → r ≡ Err e → ◌≡◌ {A = Result U E} (Err d) (Err e)
+passed-error {r = Ok x} is same = elim is [ ]
+passed-error {r = Err y} is same = cc
 
 -- ---- names
 

@@ -9,7 +9,9 @@ ghost use Rattle.mm_lang.specs.Statements.{IsStatement, CompletesStatement};
 
 use crate::ParseRefusal;
 use crate::line::Line;
-use crate::parser::{CommandWord, SelectParts, command_word, delete_parts, name_and_list, select_parts, update_parts};
+use crate::parser::{
+    CommandWord, SelectParts, command_word, delete_parts, name_and_list, select_parts, update_parts,
+};
 use crate::slots::number_holes;
 use plain_statements::{Slot, SlotCond, SlotSetting, Statement};
 use plain_tables::{Sequence, Text};

@@ -1,14 +1,11 @@
-use Rattle.std.proofs.Common.{ap, Err}
-use Rattle.std.proofs.lemmas.Result.{err_from_is_err_and}
-use Rattle.mm_lang.proofs.Fronts.{same-error}
+use Rattle.mm_lang.proofs.Fronts.{passed-error}
 use Rattle.mm_lang.proofs.Productions.{drop-table-completed, drop-table-only, drop-index-completed, drop-index-only}
 use Rattle.mm_lang.proofs.parser.drop_command.Goals as goal
 
 pub returns-in_err-table-clause-syntax : goal.returns-in_err-table-clause-syntax
 returns-in_err-table-clause-syntax c = λ syntax.
-    let p = err_from_is_err_and c.from_residual.result c.from_residual.ensures.1 in
     drop-table-only c.args.line.now c.in-Some.front.now c.in-Some.ensures.0 c.in-Some.ensures.1
-    (c.in_err-table.ensures.syntax (ap Err (same-error c.from_residual.result p.0 _ _ p.1 p.2 syntax)))
+    (c.in_err-table.ensures.syntax (passed-error c.from_residual.ensures.1 syntax))
 
 pub returns-in-Some-clause-command : goal.returns-in-Some-clause-command
 returns-in-Some-clause-command c =
@@ -17,9 +14,8 @@ returns-in-Some-clause-command c =
 
 pub returns-in_err-table-2-clause-syntax : goal.returns-in_err-table-2-clause-syntax
 returns-in_err-table-2-clause-syntax c = λ syntax.
-    let p = err_from_is_err_and c.from_residual-in_err-table-2.result c.from_residual-in_err-table-2.ensures.1 in
     drop-index-only c.args.line.now c.in_ok-front.front.now c.in_ok-front.ensures.0 c.in_ok-front.ensures.1
-    (c.in_err-table-2.ensures.syntax (ap Err (same-error c.from_residual-in_err-table-2.result p.0 _ _ p.1 p.2 syntax)))
+    (c.in_err-table-2.ensures.syntax (passed-error c.from_residual-in_err-table-2.ensures.1 syntax))
 
 pub returns-clause-command : goal.returns-clause-command
 returns-clause-command c =

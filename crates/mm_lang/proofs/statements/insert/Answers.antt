@@ -1,16 +1,14 @@
-use Rattle.std.proofs.Common.{◌≡◌, length, map, arith, ap, sym, ◌∙◌, subst, Err}
-use Rattle.std.proofs.lemmas.Result.{err_from_is_err_and}
+use Rattle.std.proofs.Common.{◌≡◌, length, map, arith, ap, sym, ◌∙◌, subst}
 use Rattle.mm_lang.specs.Statements.{slot_symbol, slot_by, CompletesStatement}
 use lib.Chars.{codes}
 use Rattle.plain_statements.specs.declared.statement.Statement.TheVariants as statement
-use Rattle.mm_lang.proofs.Fronts.{same-error}
+use Rattle.mm_lang.proofs.Fronts.{passed-error}
 use Rattle.mm_lang.proofs.StatementParts.{insert-done, written-back, insert-none}
 use Rattle.mm_lang.proofs.statements.insert.Goals as goal
 
 pub returns-in_err-table-clause-syntax : goal.returns-in_err-table-clause-syntax
 returns-in_err-table-clause-syntax c = λ syntax of.
-    let p = err_from_is_err_and c.from_residual.result c.from_residual.ensures.1 in
-    insert-none c.args.line.now (c.in_err-table.ensures.syntax (ap Err (same-error c.from_residual.result p.0 _ _ p.1 p.2 syntax)) of)
+    insert-none c.args.line.now (c.in_err-table.ensures.syntax (passed-error c.from_residual.ensures.1 syntax) of)
 
 pub returns-clause-statement : goal.returns-clause-statement
 returns-clause-statement c =

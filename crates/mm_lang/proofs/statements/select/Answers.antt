@@ -1,16 +1,14 @@
-use Rattle.std.proofs.Common.{◌≡◌, rules, length, map, arith, ap, sym, ◌∙◌, subst, Err}
-use Rattle.std.proofs.lemmas.Result.{err_from_is_err_and}
+use Rattle.std.proofs.Common.{◌≡◌, rules, length, map, arith, ap, sym, ◌∙◌, subst}
 use Rattle.mm_lang.specs.Statements.{slot_symbol, condition_by, CompletesStatement}
 use lib.Chars.{codes}
 use Rattle.plain_statements.specs.declared.statement.Statement.TheVariants as statement
-use Rattle.mm_lang.proofs.Fronts.{same-error}
+use Rattle.mm_lang.proofs.Fronts.{passed-error}
 use Rattle.mm_lang.proofs.StatementParts.{select-done, written-back, select-none}
 use Rattle.mm_lang.proofs.statements.select.Goals as goal
 
 pub returns-in_err-distinct-clause-syntax : goal.returns-in_err-distinct-clause-syntax
 returns-in_err-distinct-clause-syntax c = λ syntax of.
-    let p = err_from_is_err_and c.from_residual.result c.from_residual.ensures.1 in
-    select-none c.args.line.now (c.in_err-distinct.ensures.syntax (ap Err (same-error c.from_residual.result p.0 _ _ p.1 p.2 syntax)) of)
+    select-none c.args.line.now (c.in_err-distinct.ensures.syntax (passed-error c.from_residual.ensures.1 syntax) of)
 
 pub returns-clause-statement : goal.returns-clause-statement
 returns-clause-statement c =
