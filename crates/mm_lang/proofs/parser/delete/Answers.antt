@@ -10,6 +10,4 @@ returns-in_err-table-clause-syntax c = λ syntax of.
     delete-only c.args.line.now (c.in_err-table.ensures.syntax (passed-error c.from_residual.ensures.1 syntax) of)
 
 pub returns-clause-command : goal.returns-clause-command
-returns-clause-command c =
-    delete-completed c.args.line.now c.in_ok-table.table c.from_vec.result
-    (subst (λ l. IsDelete condition_symbols c.args.line.now c.in_ok-table.table l) (sym c.from_vec.ensures) c.in_ok-table.ensures.parts)
+returns-clause-command c = rw c.from_vec.ensures (delete-completed c.args.line.now _ _ c.in_ok-table.ensures.parts)

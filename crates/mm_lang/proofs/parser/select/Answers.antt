@@ -11,8 +11,4 @@ returns-in_err-parts-clause-syntax c = λ syntax of.
 
 pub returns-clause-command : goal.returns-clause-command
 returns-clause-command c =
-    let s = c.in_ok-parts.parts in
-    select-completed c.args.line.now s.distinct s.items s.table c.from_vec.result c.from_vec-2.result
-    (subst (λ l. IsSelect condition_symbols c.args.line.now s.distinct s.items s.table l c.from_vec-2.result) (sym c.from_vec.ensures)
-    (subst (λ l. IsSelect condition_symbols c.args.line.now s.distinct s.items s.table s.joins.items l) (sym c.from_vec-2.ensures)
-    c.in_ok-parts.ensures.parts))
+    rw (c.from_vec.ensures, c.from_vec-2.ensures) (select-completed c.args.line.now _ _ _ _ _ c.in_ok-parts.ensures.parts)

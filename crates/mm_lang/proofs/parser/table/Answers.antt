@@ -10,6 +10,4 @@ returns-in_err-name-clause-syntax c = λ syntax of.
     table-only c.args.line.now (c.in_err-name.ensures.syntax (passed-error c.from_residual.ensures.1 syntax) of)
 
 pub returns-clause-command : goal.returns-clause-command
-returns-clause-command c =
-    table-completed c.args.line.now c.in_ok-name.name (record { columns = c.from_vec.result })
-    (subst (λ l. IsNameAndList column_symbols c.args.line.now c.in_ok-name.name l) (sym c.from_vec.ensures) c.in_ok-name.ensures.both)
+returns-clause-command c = rw c.from_vec.ensures (table-completed c.args.line.now _ _ c.in_ok-name.ensures.both)

@@ -11,7 +11,4 @@ returns-in_err-table-clause-syntax c = λ syntax of.
 
 pub returns-clause-command : goal.returns-clause-command
 returns-clause-command c =
-    update-completed c.args.line.now c.in_ok-table.table c.from_vec.result c.from_vec-2.result
-    (subst (λ l. IsUpdate setting_symbols condition_symbols c.args.line.now c.in_ok-table.table l c.from_vec-2.result) (sym c.from_vec.ensures)
-    (subst (λ l. IsUpdate setting_symbols condition_symbols c.args.line.now c.in_ok-table.table c.in_ok-table.settings.items l) (sym c.from_vec-2.ensures)
-    c.in_ok-table.ensures.parts))
+    rw (c.from_vec.ensures, c.from_vec-2.ensures) (update-completed c.args.line.now _ _ _ c.in_ok-table.ensures.parts)

@@ -15,9 +15,7 @@ returns-clause-statement c =
     let parts = c.in_ok-distinct.field-0 in
     let joined : c.from_vec.result ≡ parts.joins.items = search rules in
     let long : length c.number_holes.new.items ≡ c.in_ok-distinct.field-0.conditions.len = omega (arith, c.as_mut_slice.ensures.len) in
-    let held : c.from_vec-2.result ≡ c.number_holes.new.items = written-back _ _ _ _ c.from_vec-2.ensures long in
     let old : c.as_mut_slice.result.now ≡ parts.conditions.items = search rules in
-    subst (λ l. CompletesStatement (codes "select") c.args.line.now (statement.Select parts.distinct parts.items parts.table l c.from_vec-2.result)) (sym joined)
-    (subst (λ l. CompletesStatement (codes "select") c.args.line.now (statement.Select parts.distinct parts.items parts.table parts.joins.items l)) (sym held)
+    rw (joined, written-back _ _ _ _ c.from_vec-2.ensures long)
     (select-done c.args.line.now parts.distinct parts.items parts.table parts.joins.items c.number_holes.new.items parts.conditions.items
-    (c.in_ok-number_holes.ensures.symbols ∙ ap (map (condition_by slot_symbol)) old) c.in_ok-number_holes.ensures.numbers c.in_ok-distinct.ensures.parts))
+    (c.in_ok-number_holes.ensures.symbols ∙ ap (map (condition_by slot_symbol)) old) c.in_ok-number_holes.ensures.numbers c.in_ok-distinct.ensures.parts)

@@ -13,12 +13,9 @@ returns-in_err-table-clause-syntax c = λ syntax of.
 pub returns-clause-statement : goal.returns-clause-statement
 returns-clause-statement c =
     let wide : length c.number_holes.new.items ≡ c.in_ok-table.settings.len = omega (arith, c.as_mut_slice.ensures.len) in
-    let set : c.from_vec.result ≡ c.number_holes.new.items = written-back _ _ _ _ c.from_vec.ensures wide in
     let long : length c.number_holes-2.new.items ≡ c.in_ok-table.conditions.len = omega (arith, c.as_mut_slice-2.ensures.len) in
-    let held : c.from_vec-2.result ≡ c.number_holes-2.new.items = written-back _ _ _ _ c.from_vec-2.ensures long in
-    subst (λ l. CompletesStatement (codes "update") c.args.line.now (statement.Update c.in_ok-table.table l c.from_vec-2.result)) (sym set)
-    (subst (λ l. CompletesStatement (codes "update") c.args.line.now (statement.Update c.in_ok-table.table c.number_holes.new.items l)) (sym held)
+    rw (written-back _ _ _ _ c.from_vec.ensures wide, written-back _ _ _ _ c.from_vec-2.ensures long)
     (update-done c.args.line.now c.in_ok-table.table c.number_holes.new.items c.in_ok-table.settings.items c.number_holes-2.new.items
     c.in_ok-table.conditions.items c.in_ok-next.next
     (c.in_ok-next.ensures.symbols ∙ ap (map (setting_by slot_symbol)) c.as_mut_slice.ensures.value) c.in_ok-next.ensures.numbers c.in_ok-next.ensures.next
-    (c.in_ok-number_holes.ensures.symbols ∙ ap (map (condition_by slot_symbol)) c.as_mut_slice-2.ensures.value) c.in_ok-number_holes.ensures.numbers c.in_ok-table.ensures.parts))
+    (c.in_ok-number_holes.ensures.symbols ∙ ap (map (condition_by slot_symbol)) c.as_mut_slice-2.ensures.value) c.in_ok-number_holes.ensures.numbers c.in_ok-table.ensures.parts)
