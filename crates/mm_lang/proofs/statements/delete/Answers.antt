@@ -12,7 +12,6 @@ returns-in_err-table-clause-syntax c = λ syntax of.
 
 pub returns-clause-statement : goal.returns-clause-statement
 returns-clause-statement c =
-    let long : length c.number_holes.new.items ≡ c.in_ok-table.conditions.len = omega (arith, c.as_mut_slice.ensures.len) in
-    rw (written-back _ _ _ _ c.from_vec.ensures long)
-    (delete-done c.args.line.now c.in_ok-table.table c.number_holes.new.items c.in_ok-table.conditions.items
-    (c.in_ok-number_holes.ensures.symbols ∙ ap (map (condition_by slot_symbol)) c.as_mut_slice.ensures.value) c.in_ok-number_holes.ensures.numbers c.in_ok-table.ensures.parts)
+    rw (written-back c.in_ok-table.conditions.len c.number_holes.new.items _ _ c.from_vec.ensures (omega (arith, c.as_mut_slice.ensures.len)))
+    (delete-done c.args.line.now c.in_ok-table.table _ _ (c.in_ok-number_holes.ensures.symbols ∙ ap (map (condition_by slot_symbol)) c.as_mut_slice.ensures.value)
+    c.in_ok-number_holes.ensures.numbers c.in_ok-table.ensures.parts)
