@@ -89,18 +89,11 @@ literal-made v blanks rest line symbols can are e made = (
 
 -- ---- the written line
 
--- the values that are left to be written, behind those that are
-record Left (values front vs : List Value) (line : List ℕ) (parts : List Part) : Type 0 where
+-- the values that are left to be written, behind those that are, and the numbers of their holes
+record Left (values front vs : List Value) (numbers : List ℕ) : Type 0 where
   all : values ≡ front ++ vs
-  numbers : flat_map numbers_of (slots_in parts) ≡ range_with_len (length front) (length vs)
-  many : length vs ≡ marks line
+  go_on : numbers ≡ range_with_len (length front) (length vs)
   can : AllByRecursion IsSpellableValue vs
-
-plain-made : (vs : List Value) (x : Symbol) (symbols : List Symbol) (line : List ℕ) → IsWellFormed x → IsSymbol (lexeme line) x
-    → KeepsLine vs line → IsMadeOf (written vs (after_lexeme line)) symbols → IsMadeOf (written vs line) (x ∷ symbols)
-plain-made vs x symbols line well is keeps made =
-    made-from_lexeme (written vs line) x symbols well (subst (λ l. IsSymbol l x) (sym keeps.same) is)
-    (subst (λ l. IsMadeOf l symbols) (sym keeps.rest) made)
 
 line-keeps : (vs : List Value) (line : List ℕ) → FirstSymbol line → lexeme line ≢ codes "?" → KeepsLine vs line
 line-keeps vs line (IsMark is takes) other = absurd (other is)
@@ -110,55 +103,53 @@ line-takes : (line : List ℕ) → FirstSymbol line → lexeme line ≡ codes "?
 line-takes line (IsMark is takes) same = takes
 line-takes line (IsOther not each) same = absurd (not same)
 
+-- a symbol that is no hole, where the rest is made of those behind it
+other-made : (vs : List Value) (x : Symbol) (symbols : List Symbol) (line : List ℕ) → IsWellFormed x → IsSymbol (lexeme line) x
+    → (KeepsLine vs line → IsMadeOf (written vs (after_lexeme line)) symbols) → IsMadeOf (written vs line) (x ∷ symbols)
+other-made vs x symbols line well is made =
+    let keeps : KeepsLine vs line = line-keeps vs line (first-symbol line) (symbol-apart (lexeme line) x well is) in
+    made-from_lexeme (written vs line) x symbols well (rw keeps.same is) (rw keeps.rest (made keeps))
+
 pub cons-parts : (n m : ℕ) (ns ms : List ℕ) → n ∷ ns ≡ m ∷ ms → (n ≡ m) × (ns ≡ ms)
 cons-parts n m ns ms e = (cc, cc)
 
 filled-made : (values : List Value) (parts : List Part) → AllByRecursion IsWell parts → (line : List ℕ) (front vs : List Value)
-    → IsWhole line (map (symbol_by slot_symbol) parts) → Left values front vs line parts
+    → IsWhole line (map (symbol_by slot_symbol) parts) → length vs ≡ marks line → Left values front vs (flat_map numbers_of (slots_in parts))
     → IsMadeOf (written vs line) (map (symbol_by (literal values)) parts)
-filled-made values [] well line front [] (rest, e, end) left =
-    subst AreBlanks (sym (written-none line)) (no_lexeme-blanks line (ap lexeme e ∙ end))
-filled-made values [] well line front (v ∷ vs) whole left = let numbers : [] ≡ length front ∷ range_with_len (length front + 1) (length vs) = left.numbers in cc
-filled-made values (Plain x ∷ parts) well line front vs (rest, (is, reads), end) left =
-    let keeps : KeepsLine vs line = line-keeps vs line (first-symbol line) (symbol-apart (lexeme line) x well.0 is) in
-    plain-made vs x (map (symbol_by (literal values)) parts) line well.0 is keeps
-    (filled-made values parts well.1 (after_lexeme line) front vs (rest, reads, end)
-    (record { all = left.all; numbers = left.numbers; many = left.many ∙ keeps.holds; can = left.can }))
-filled-made values (At (Given w) ∷ parts) well line front vs (rest, (is, reads), end) left =
-    let keeps : KeepsLine vs line = line-keeps vs line (first-symbol line) (symbol-apart (lexeme line) (Literal w) tt is) in
-    plain-made vs (Literal w) (map (symbol_by (literal values)) parts) line tt is keeps
-    (filled-made values parts well.1 (after_lexeme line) front vs (rest, reads, end)
-    (record { all = left.all; numbers = left.numbers; many = left.many ∙ keeps.holds; can = left.can }))
-filled-made values (At (Hole n) ∷ parts) well line front [] (rest, (is, reads), end) left =
-    let takes : TakesNext line = line-takes line (first-symbol line) is in absurd (omega (arith, left.many, takes.holds))
-filled-made values (At (Hole n) ∷ parts) well line front (v ∷ vs) (rest, (is, reads), end) left =
+filled-made values [] well line front [] (rest, e, end) many left = rw (written-none line) (no_lexeme-blanks line (ap lexeme e ∙ end))
+filled-made values [] well line front (v ∷ vs) whole many left =
+    let numbers : [] ≡ length front ∷ range_with_len (length front + 1) (length vs) = left.go_on in cc
+filled-made values (Plain x ∷ parts) well line front vs (rest, (is, reads), end) many left =
+    other-made vs x _ line well.0 is (λ keeps. filled-made values parts well.1 _ front vs (rest, reads, end) (many ∙ keeps.holds) left)
+filled-made values (At (Given w) ∷ parts) well line front vs (rest, (is, reads), end) many left =
+    other-made vs (Literal w) _ line tt is (λ keeps. filled-made values parts well.1 _ front vs (rest, reads, end) (many ∙ keeps.holds) left)
+filled-made values (At (Hole n) ∷ parts) well line front [] (rest, (is, reads), end) many left =
+    let takes : TakesNext line = line-takes line (first-symbol line) is in absurd (omega (arith, many, takes.holds))
+filled-made values (At (Hole n) ∷ parts) well line front (v ∷ vs) (rest, (is, reads), end) many left =
     let takes : TakesNext line = line-takes line (first-symbol line) is in
-    let next = cons-parts n (length front) (flat_map numbers_of (slots_in parts)) (range_with_len (length front + 1) (length vs)) left.numbers in
+    let next = cons-parts n (length front) (flat_map numbers_of (slots_in parts)) (range_with_len (length front + 1) (length vs)) left.go_on in
     let long : length (front ++ v ∷ []) ≡ length front + 1 = omega (arith, length-append front (v ∷ [])) in
-    let one : get_or values n value.Null ≡ v =
-    ap (λ l. get_or l n value.Null) left.all ∙ (ap (λ k. get_or (front ++ v ∷ vs) k value.Null) next.0 ∙ get_or-append_seam front v vs value.Null) in
+    let one : get_or values n value.Null ≡ v = rw (left.all, next.0) (get_or-append_seam front v vs value.Null) in
     let others : IsMadeOf (written vs (after_lexeme line)) (map (symbol_by (literal values)) parts) =
-    filled-made values parts well.1 (after_lexeme line) (front ++ v ∷ []) vs (rest, reads, end) (record {
+    filled-made values parts well.1 (after_lexeme line) (front ++ v ∷ []) vs (rest, reads, end) (omega (arith, many, takes.holds)) (record {
       all = left.all ∙ sym (append_assoc front (v ∷ []) vs);
-      numbers = next.1 ∙ ap (λ k. range_with_len k (length vs)) (sym long);
-      many = omega (arith, left.many, takes.holds);
+      go_on = next.1 ∙ ap (λ k. range_with_len k (length vs)) (sym long);
       can = left.can.1;
     }) in
-    subst (λ w. IsMadeOf (written (v ∷ vs) line) (Literal w ∷ map (symbol_by (literal values)) parts)) (sym one)
-    (literal-made v takes.blanks (written vs (after_lexeme line)) (written (v ∷ vs) line) (map (symbol_by (literal values)) parts) left.can.0
-    takes.are (takes.fills v vs) others)
+    rw one (literal-made v takes.blanks _ (written (v ∷ vs) line) _ left.can.0 takes.are (takes.fills v vs) others)
 
 -- ---- as many holes as question marks
+
+holes-kept : (line : List ℕ) (x : Symbol) → IsWellFormed x → IsSymbol (lexeme line) x → marks line ≡ marks (after_lexeme line)
+holes-kept line x well is = (line-keeps [] line (first-symbol line) (symbol-apart (lexeme line) x well is)).holds
 
 holes-marks : (parts : List Part) → AllByRecursion IsWell parts → (line : List ℕ) → IsWhole line (map (symbol_by slot_symbol) parts)
     → length (flat_map numbers_of (slots_in parts)) ≡ marks line
 holes-marks [] well line (rest, e, end) = sym (blanks-marks line (no_lexeme-blanks line (ap lexeme e ∙ end)))
 holes-marks (Plain x ∷ parts) well line (rest, (is, reads), end) =
-    let keeps : KeepsLine [] line = line-keeps [] line (first-symbol line) (symbol-apart (lexeme line) x well.0 is) in
-    holes-marks parts well.1 (after_lexeme line) (rest, reads, end) ∙ sym keeps.holds
+    holes-marks parts well.1 (after_lexeme line) (rest, reads, end) ∙ sym (holes-kept line x well.0 is)
 holes-marks (At (Given w) ∷ parts) well line (rest, (is, reads), end) =
-    let keeps : KeepsLine [] line = line-keeps [] line (first-symbol line) (symbol-apart (lexeme line) (Literal w) tt is) in
-    holes-marks parts well.1 (after_lexeme line) (rest, reads, end) ∙ sym keeps.holds
+    holes-marks parts well.1 (after_lexeme line) (rest, reads, end) ∙ sym (holes-kept line (Literal w) tt is)
 holes-marks (At (Hole n) ∷ parts) well line (rest, (is, reads), end) =
     let takes : TakesNext line = line-takes line (first-symbol line) is in
     omega (arith, holes-marks parts well.1 (after_lexeme line) (rest, reads, end), takes.holds)
@@ -197,7 +188,7 @@ statement-spelled line word rest s free e f (is, numbers) = (holes_of-range, spe
 
     whole : IsWhole line (map (symbol_by slot_symbol) has.parts)
     whole =
-        let behind : IsWhole (after_lexeme line) (behind_by slot_symbol s) = subst (λ l. IsWhole l (behind_by slot_symbol s)) f is.made in
+        let behind : IsWhole (after_lexeme line) (behind_by slot_symbol s) = rw f at is.made in
         subst (λ symbols. IsWhole line symbols) (has.made slot_symbol) (behind.0, (e ∙ sym is.first, behind.1), behind.2)
 
     in_parts : flat_map numbers_of (slots_in has.parts) ≡ holes_of s
@@ -213,12 +204,8 @@ statement-spelled line word rest s free e f (is, numbers) = (holes_of-range, spe
         → Spells (written values line) (filled values s)
     spelled values long can =
         let made : IsMadeOf (written values line) (map (symbol_by (literal values)) has.parts) =
-        filled-made values has.parts has.well line [] values whole (record {
-          all = refl;
-          numbers = in_parts ∙ (holes_of-range ∙ ap (range_with_len 0) (sym long));
-          many = long;
-          can = can;
-        }) in (
+        filled-made values has.parts has.well line [] values whole long
+        (record { all = refl; go_on = in_parts ∙ (holes_of-range ∙ ap (range_with_len 0) (sym long)); can = can }) in (
           contains-feed (written values line) (written-no_feed false values line can (contains-no_feed line free)),
           filled-something values s is.some,
           subst (λ symbols. IsMadeOf (written values line) symbols) (sym (has.made (literal values)) ∙ sym (symbols-filled values s)) made,

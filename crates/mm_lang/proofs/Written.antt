@@ -1,5 +1,5 @@
 -- Written: where the first symbol of a line ends once literals are written for its question marks.
-use Rattle.std.proofs.Common.{◌≡◌, ◌≢◌, ℕ, ◌+◌, List, [], ◌∷◌, ◌++◌, length, take, drop, Bool, true, false, refl, sym, ap, ◌∙◌, subst, arith, append-nil}
+use Rattle.std.proofs.Common.{◌≡◌, ◌≢◌, ℕ, suc, ◌+◌, List, [], ◌∷◌, ◌++◌, length, take, drop, Bool, true, false, refl, sym, ap, ◌∙◌, subst, arith, append-nil}
 use Rattle.std.specs.List.{AllByRecursion, prefix_len}
 use Rattle.std.specs.Prelude.{◌==◌}
 use Rattle.std.proofs.lemmas.List.{take-append-drop}
@@ -186,49 +186,37 @@ keeps-quoted v values cs =
 run-plain : (c : ℕ) → begins_run c ≡ true → IsPlain c
 run-plain c h = (grind (arith, nat_tests), grind (arith, nat_tests))
 
-run-long : (c : ℕ) (cs : List ℕ) → begins_run c ≡ true → lexeme_length (c ∷ cs) ≡ 1 + prefix_len is_word_character cs
-run-long c cs run = rw run refl
+-- Plain characters that are the first symbol, of the text and of the written one.
+keeps-plain : (v : Value) (values : List Value) (front rest : List ℕ) → ArePlain front → lexeme_length (front ++ rest) ≡ length front
+    → lexeme_length (front ++ written (v ∷ values) rest) ≡ length front → Keeps v values (front ++ rest)
+keeps-plain v values front rest plain long written_long = record {
+  front = front;
+  rest = rest;
+  parts = refl;
+  long = long;
+  fills = plain-written v values front rest plain;
+  written_long = ap lexeme_length (plain-written v values front rest plain) ∙ written_long;
+  holds = plain-marks front rest plain;
+}
+
+run-long : (c : ℕ) (word rest : List ℕ) → begins_run c ≡ true → AllPass is_word_character word → StopsBefore is_word_character rest
+    → lexeme_length (c ∷ (word ++ rest)) ≡ suc (length word)
+run-long c word rest run passes stops = rw (run, prefix_len-front is_word_character word rest passes stops) (one_more (length word))
 
 keeps-run : (v : Value) (values : List Value) (c : ℕ) (cs : List ℕ) → begins_run c ≡ true → Keeps v values (c ∷ cs)
 keeps-run v values c cs run =
     let n : ℕ = prefix_len is_word_character cs in
-    let word : List ℕ = take n cs in
-    let rest : List ℕ = drop n cs in
-    let passes : AllPass is_word_character word = front-passes is_word_character cs in
-    let plain : ArePlain (c ∷ word) = (run-plain c run, pass-plain is_word_character word-plain word passes) in
-    let whole : word ++ rest ≡ cs = take-append-drop n cs in
-    let fills : written (v ∷ values) (c ∷ cs) ≡ c ∷ (word ++ written (v ∷ values) rest) =
-    ap (λ l. written (v ∷ values) (c ∷ l)) (sym whole) ∙ plain-written v values (c ∷ word) rest plain in
-    let stops : StopsBefore is_word_character rest = rest-stops is_word_character cs in
-    let n-long : prefix_len is_word_character cs ≡ length word =
-    ap (prefix_len is_word_character) (sym whole) ∙ prefix_len-front is_word_character word rest passes stops in
-    let w-long : prefix_len is_word_character (word ++ written (v ∷ values) rest) ≡ length word =
-    prefix_len-front is_word_character word (written (v ∷ values) rest) passes (written-stops is_word_character refl v values rest stops) in
-    record {
-      front = c ∷ word;
-      rest = rest;
-      parts = ap (λ l. c ∷ l) (sym whole);
-      long = run-long c cs run ∙ (ap (λ n. 1 + n) n-long ∙ one_more (length word));
-      fills = fills;
-      written_long = ap lexeme_length fills
-          ∙ (run-long c (word ++ written (v ∷ values) rest) run ∙ (ap (λ n. 1 + n) w-long ∙ one_more (length word)));
-      holds = ap (λ l. marks (c ∷ l)) (sym whole) ∙ plain-marks (c ∷ word) rest plain;
-    }
+    let passes : AllPass is_word_character (take n cs) = front-passes is_word_character cs in
+    let stops : StopsBefore is_word_character (drop n cs) = rest-stops is_word_character cs in
+    subst (λ l. Keeps v values (c ∷ l)) (take-append-drop n cs)
+    (keeps-plain v values (c ∷ take n cs) (drop n cs) (run-plain c run, pass-plain is_word_character word-plain (take n cs) passes)
+    (run-long c _ _ run passes stops) (run-long c _ _ run passes (written-stops is_word_character refl v values (drop n cs) stops)))
 
 -- an operator or another sign
 keeps-single : (v : Value) (values : List Value) (c : ℕ) (cs : List ℕ) → begins_run c ≡ false → IsPlain c
     → operator_length c cs ≡ 0 → operator_length c (written (v ∷ values) cs) ≡ 0 → Keeps v values (c ∷ cs)
 keeps-single v values c cs run plain short written_short =
-    let fills : written (v ∷ values) (c ∷ cs) ≡ c ∷ written (v ∷ values) cs = plain-written v values (c ∷ []) cs (plain, tt) in
-    record {
-      front = c ∷ [];
-      rest = cs;
-      parts = refl;
-      long = rw (run, plain.0, short) refl;
-      fills = fills;
-      written_long = ap lexeme_length fills ∙ rw (run, plain.0, written_short) refl;
-      holds = plain-marks (c ∷ []) cs (plain, tt);
-    }
+    keeps-plain v values (c ∷ []) cs (plain, tt) (rw (run, plain.0, short) refl) (rw (run, plain.0, written_short) refl)
 
 operator-plain : (c d : ℕ) → is_operator c d ≡ true → IsPlain d
 operator-plain c d h = (grind (arith, nat_tests), grind (arith, nat_tests))
@@ -236,17 +224,7 @@ operator-plain c d h = (grind (arith, nat_tests), grind (arith, nat_tests))
 keeps-operator : (v : Value) (values : List Value) (c d : ℕ) (cs : List ℕ) → begins_run c ≡ false → IsPlain c → is_operator c d ≡ true
     → Keeps v values (c ∷ d ∷ cs)
 keeps-operator v values c d cs run plain both =
-    let all : ArePlain (c ∷ d ∷ []) = (plain, (operator-plain c d both, tt)) in
-    let fills : written (v ∷ values) (c ∷ d ∷ cs) ≡ c ∷ d ∷ written (v ∷ values) cs = plain-written v values (c ∷ d ∷ []) cs all in
-    record {
-      front = c ∷ d ∷ [];
-      rest = cs;
-      parts = refl;
-      long = rw (run, plain.0, both) refl;
-      fills = fills;
-      written_long = ap lexeme_length fills ∙ rw (run, plain.0, both) refl;
-      holds = plain-marks (c ∷ d ∷ []) cs all;
-    }
+    keeps-plain v values (c ∷ d ∷ []) cs (plain, (operator-plain c d both, tt)) (rw (run, plain.0, both) refl) (rw (run, plain.0, both) refl)
 
 no-operator : (c : ℕ) → is_operator c 32 ≡ false
 no-operator c = grind (arith, nat_tests)
