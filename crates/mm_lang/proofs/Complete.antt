@@ -1,6 +1,6 @@
 -- Complete: a line that spells a statement is the statement's symbols, with a question mark for each hole. Two fillings tell: nulls,
 -- and empty texts.
-use Rattle.std.proofs.Common.{◌≡◌, ◌≢◌, ℕ, zero, suc, ◌+◌, List, [], ◌∷◌, ◌++◌, length, map, true, get_or, refl, sym, ap, ◌∙◌, subst, arith, append_assoc, length-append}
+use Rattle.std.proofs.Common.{◌≡◌, ◌≢◌, ℕ, zero, suc, ◌+◌, List, [], ◌∷◌, ◌++◌, length, map, Bool, true, false, get_or, refl, sym, ap, ◌∙◌, subst, arith, append_assoc, length-append}
 use Rattle.std.specs.List.{AllByRecursion, flat_map, range_with_len}
 use Rattle.std.proofs.Math.Seq.{get_or-append_seam}
 use lib.Chars.{codes}
@@ -63,8 +63,14 @@ abbrev each : Value → Slot → Symbol
 each v (Given w) = Literal w
 each v (Hole n) = Literal v
 
-abbrev empty : Value
-empty = value.Text []
+-- the two that tell: no symbol is the literal of both
+abbrev telling : Bool → Value
+telling true = value.Null
+telling false = value.Text []
+
+telling-spellable : (b : Bool) → IsSpellableValue (telling b)
+telling-spellable true = tt
+telling-spellable false = contains-feed [] tt
 
 -- Values of which each that is left is this one put it into each hole.
 each-hole : (v : Value) (values front : List Value) (n : ℕ) (parts : List Part) → values ≡ front ++ repeated v n
@@ -106,15 +112,20 @@ symbol-one (Sign mark) well null text = null-no_text (null ∙ sym text)
 
 -- ---- where a question mark stands
 
-literal-lexeme : (v : Value) (values : List Value) (line : List ℕ) → (takes : TakesNext line)
-    → StopsBefore is_blank (symbol_text (Literal v) ++ 32 ∷ written values (after_lexeme line))
-    → lexeme_length (symbol_text (Literal v) ++ 32 ∷ written values (after_lexeme line)) ≡ length (symbol_text (Literal v))
-    → (lexeme (written (v ∷ values) line) ≡ symbol_text (Literal v))
-    × (after_lexeme (written (v ∷ values) line) ≡ 32 ∷ written values (after_lexeme line))
-literal-lexeme v values line takes stops long =
-    let behind : List ℕ = symbol_text (Literal v) ++ 32 ∷ written values (after_lexeme line) in
-    let whole : written (v ∷ values) line ≡ (takes.blanks ++ 32 ∷ []) ++ behind = rw (takes.fills v values) (simp append_assoc) in
-    rw whole (lexeme-front (takes.blanks ++ 32 ∷ []) (symbol_text (Literal v)) _ (all-append _ takes.blanks (32 ∷ []) takes.are (refl, tt)) stops long)
+telling-apart : (b : Bool) (rest : List ℕ) → StopsBefore is_blank (symbol_text (Literal (telling b)) ++ 32 ∷ rest)
+    × (lexeme_length (symbol_text (Literal (telling b)) ++ 32 ∷ rest) ≡ length (symbol_text (Literal (telling b))))
+telling-apart true rest = (refl, refl)
+telling-apart false rest = (refl, refl)
+
+literal-lexeme : (b : Bool) (values : List Value) (line : List ℕ) → (takes : TakesNext line)
+    → (lexeme (written (telling b ∷ values) line) ≡ symbol_text (Literal (telling b)))
+    × (after_lexeme (written (telling b ∷ values) line) ≡ 32 ∷ written values (after_lexeme line))
+literal-lexeme b values line takes =
+    let text : List ℕ = symbol_text (Literal (telling b)) in
+    let behind : List ℕ = 32 ∷ written values (after_lexeme line) in
+    let whole : written (telling b ∷ values) line ≡ (takes.blanks ++ 32 ∷ []) ++ (text ++ behind) = rw (takes.fills (telling b) values) (simp append_assoc) in
+    let (stops, long) = telling-apart b (written values (after_lexeme line)) in
+    rw whole (lexeme-front (takes.blanks ++ 32 ∷ []) text behind (all-append _ takes.blanks (32 ∷ []) takes.are (refl, tt)) stops long)
 
 -- ---- the line, from the written ones
 
@@ -127,70 +138,56 @@ parts-well : (v : Value) (parts : List Part) → AllByRecursion IsWell parts →
 parts-well v [] well = tt
 parts-well v (part ∷ parts) well = (part-well v part well.0, parts-well v parts well.1)
 
-mark-part : (part : Part) → IsWell part → IsSymbol (codes "null") (symbol_by (each value.Null) part) → IsSymbol (codes "''") (symbol_by (each empty) part)
+mark-part : (part : Part) → IsWell part → ((b : Bool) → IsSymbol (symbol_text (Literal (telling b))) (symbol_by (each (telling b)) part))
     → (line : List ℕ) → lexeme line ≡ codes "?" → IsSymbol (lexeme line) (symbol_by slot_symbol part)
-mark-part (Plain x) well null text line e = absurd (symbol-one x well null text)
-mark-part (At (Given w)) well null text line e = absurd (symbol-one (Literal w) tt null text)
-mark-part (At (Hole n)) well null text line e = e
+mark-part (Plain x) well is line e = absurd (symbol-one x well (is true) (is false))
+mark-part (At (Given w)) well is line e = absurd (symbol-one (Literal w) tt (is true) (is false))
+mark-part (At (Hole n)) well is line e = e
 
-other-part : (part : Part) (characters : List ℕ) → IsSymbol characters (symbol_by (each value.Null) part) → IsSymbol characters (symbol_by (each empty) part)
+other-part : (part : Part) (characters : List ℕ) → ((b : Bool) → IsSymbol characters (symbol_by (each (telling b)) part))
     → IsSymbol characters (symbol_by slot_symbol part)
-other-part (Plain x) characters null text = null
-other-part (At (Given w)) characters null text = null
-other-part (At (Hole n)) characters null text = absurd (null-no_text (sym null ∙ text))
+other-part (Plain x) characters is = is true
+other-part (At (Given w)) characters is = is true
+other-part (At (Hole n)) characters is = absurd (null-no_text (sym (is true) ∙ is false))
+
+-- The line is these parts, with one value, and with the other, in as many holes as are left.
+abbrev IsTold : List ℕ → ℕ → List Part → Type 0
+IsTold line n parts = (b : Bool) → IsMadeOf (written (repeated (telling b) n) line) (map (symbol_by (each (telling b))) parts)
 
 first-back : (part : Part) (parts : List Part) → IsWell part → AllByRecursion IsWell parts → (line : List ℕ) (n : ℕ) → n ≡ marks line → FirstSymbol line
-    → IsMadeOf (written (repeated value.Null n) line) (map (symbol_by (each value.Null)) (part ∷ parts))
-    → IsMadeOf (written (repeated empty n) line) (map (symbol_by (each empty)) (part ∷ parts))
-    → IsSymbol (lexeme line) (symbol_by slot_symbol part) × ((m : ℕ) × (m ≡ marks (after_lexeme line))
-    × IsMadeOf (written (repeated value.Null m) (after_lexeme line)) (map (symbol_by (each value.Null)) parts)
-    × IsMadeOf (written (repeated empty m) (after_lexeme line)) (map (symbol_by (each empty)) parts))
-first-back part parts well others line zero e (IsMark is takes) nulls texts = absurd (omega (arith, e, takes.holds))
-first-back part parts well others line (suc n) e (IsMark is takes) nulls texts =
-    let (null, null-behind) = lexeme-of_made _ (symbol_by (each value.Null) part) _ (part-well value.Null part well) nulls in
-    let (text, text-behind) = lexeme-of_made _ (symbol_by (each empty) part) _ (part-well empty part well) texts in
-    let at-null = literal-lexeme value.Null (repeated value.Null n) line takes refl refl in
-    let at-text = literal-lexeme empty (repeated empty n) line takes refl refl in (
-      mark-part part well (subst (λ l. IsSymbol l (symbol_by (each value.Null) part)) at-null.0 null)
-          (subst (λ l. IsSymbol l (symbol_by (each empty) part)) at-text.0 text) line is,
-      (
-        n,
-        omega (arith, e, takes.holds),
-        behind-blank _ _ (parts-well value.Null parts others) (subst (λ l. IsMadeOf l (map (symbol_by (each value.Null)) parts)) at-null.1 null-behind),
-        behind-blank _ _ (parts-well empty parts others) (subst (λ l. IsMadeOf l (map (symbol_by (each empty)) parts)) at-text.1 text-behind),
-      ),
-    )
-first-back part parts well others line n e (IsOther not keeps) nulls texts =
-    let (null, null-behind) = lexeme-of_made _ (symbol_by (each value.Null) part) _ (part-well value.Null part well) nulls in
-    let (text, text-behind) = lexeme-of_made _ (symbol_by (each empty) part) _ (part-well empty part well) texts in
-    let at-null : KeepsLine (repeated value.Null n) line = keeps-line (repeated value.Null n) line keeps in
-    let at-text : KeepsLine (repeated empty n) line = keeps-line (repeated empty n) line keeps in (
-      other-part part (lexeme line) (subst (λ l. IsSymbol l (symbol_by (each value.Null) part)) at-null.same null)
-          (subst (λ l. IsSymbol l (symbol_by (each empty) part)) at-text.same text),
-      (
-        n,
-        e ∙ at-null.holds,
-        subst (λ l. IsMadeOf l (map (symbol_by (each value.Null)) parts)) at-null.rest null-behind,
-        subst (λ l. IsMadeOf l (map (symbol_by (each empty)) parts)) at-text.rest text-behind,
-      ),
-    )
+    → IsTold line n (part ∷ parts)
+    → IsSymbol (lexeme line) (symbol_by slot_symbol part) × ((m : ℕ) × (m ≡ marks (after_lexeme line)) × IsTold (after_lexeme line) m parts)
+first-back part parts well others line zero e (IsMark is takes) told = absurd (omega (arith, e, takes.holds))
+first-back part parts well others line (suc n) e (IsMark is takes) told =
+    let back : (b : Bool) → IsSymbol (symbol_text (Literal (telling b))) (symbol_by (each (telling b)) part)
+        × IsMadeOf (written (repeated (telling b) n) (after_lexeme line)) (map (symbol_by (each (telling b))) parts) =
+    λ b.
+        let (first, behind) = lexeme-of_made _ _ _ (part-well (telling b) part well) (told b) in
+        let (here, rest) = literal-lexeme b (repeated (telling b) n) line takes in
+        (rw here at first, behind-blank _ _ (parts-well (telling b) parts others) (rw rest at behind)) in
+    (mark-part part well (λ b. (back b).0) line is, (n, omega (arith, e, takes.holds), λ b. (back b).1))
+first-back part parts well others line n e (IsOther not keeps) told =
+    let back : (b : Bool) → IsSymbol (lexeme line) (symbol_by (each (telling b)) part)
+        × IsMadeOf (written (repeated (telling b) n) (after_lexeme line)) (map (symbol_by (each (telling b))) parts) =
+    λ b.
+        let (first, behind) = lexeme-of_made _ _ _ (part-well (telling b) part well) (told b) in
+        let kept : KeepsLine (repeated (telling b) n) line = keeps-line (repeated (telling b) n) line keeps in
+        (rw kept.same at first, rw kept.rest at behind) in
+    (other-part part (lexeme line) (λ b. (back b).0), (n, e ∙ (keeps-line [] line keeps).holds, λ b. (back b).1))
 
-end-back : (line : List ℕ) (n : ℕ) → n ≡ marks line → FirstSymbol line → AreBlanks (written (repeated value.Null n) line) → lexeme line ≡ []
-end-back line zero e (IsMark is takes) made = absurd (omega (arith, e, takes.holds))
-end-back line (suc n) e (IsMark is takes) made =
-    absurd (different (codes "null") [] refl (sym (literal-lexeme value.Null (repeated value.Null n) line takes refl refl).0 ∙ blanks-no_lexeme _ made))
-end-back line n e (IsOther not keeps) made =
-    let k : KeepsLine (repeated value.Null n) line = keeps-line (repeated value.Null n) line keeps in
-    sym k.same ∙ blanks-no_lexeme _ made
+end-back : (line : List ℕ) (n : ℕ) → n ≡ marks line → FirstSymbol line → IsTold line n [] → lexeme line ≡ []
+end-back line zero e (IsMark is takes) told = absurd (omega (arith, e, takes.holds))
+end-back line (suc n) e (IsMark is takes) told =
+    absurd (different (codes "null") [] refl (sym (literal-lexeme true (repeated value.Null n) line takes).0 ∙ blanks-no_lexeme _ (told true)))
+end-back line n e (IsOther not keeps) told = sym (keeps-line (repeated value.Null n) line keeps).same ∙ blanks-no_lexeme _ (told true)
 
-whole-back : (parts : List Part) → AllByRecursion IsWell parts → (line : List ℕ) (n : ℕ) → n ≡ marks line
-    → IsMadeOf (written (repeated value.Null n) line) (map (symbol_by (each value.Null)) parts)
-    → IsMadeOf (written (repeated empty n) line) (map (symbol_by (each empty)) parts) → IsWhole line (map (symbol_by slot_symbol) parts)
-whole-back [] well line n e nulls texts = (line, refl, end-back line n e (first-symbol line) nulls)
-whole-back (part ∷ parts) well line n e nulls texts =
-    let (is, (m, f, null-behind, text-behind)) = first-back part parts well.0 well.1 line n e (first-symbol line) nulls texts in
-    let behind : IsWhole (after_lexeme line) (map (symbol_by slot_symbol) parts) = whole-back parts well.1 (after_lexeme line) m f null-behind text-behind in
-    (behind.0, (is, behind.1), behind.2)
+whole-back : (parts : List Part) → AllByRecursion IsWell parts → (line : List ℕ) (n : ℕ) → n ≡ marks line → IsTold line n parts
+    → IsWhole line (map (symbol_by slot_symbol) parts)
+whole-back [] well line n e told = (line, refl, end-back line n e (first-symbol line) told)
+whole-back (part ∷ parts) well line n e told =
+    let (is, (m, f, behind)) = first-back part parts well.0 well.1 line n e (first-symbol line) told in
+    let (rest, reads, end) = whole-back parts well.1 (after_lexeme line) m f behind in
+    (rest, (is, reads), end)
 
 -- ---- the whole line
 
@@ -199,7 +196,7 @@ pub spelled-statement : (line : List ℕ) (s : Statement) → SpellsStatement li
     → (lexeme line ≡ word_of s) × IsStatement (word_of s) (after_lexeme line) s
 spelled-statement line s (numbers, spells) = (
   whole.1.0,
-  record { first = refl; some = something-filled (repeated value.Null n) s (spelled value.Null tt).1; made = (whole.0, whole.1.1, whole.2) },
+  record { first = refl; some = something-filled (repeated value.Null n) s (spelled true).1; made = (whole.0, whole.1.1, whole.2) },
 )
   where
     n : ℕ
@@ -208,26 +205,26 @@ spelled-statement line s (numbers, spells) = (
     has : HasParts (λ g. Keyword (word_of s) ∷ behind_by g s) (slots_of s)
     has = statement-parts s
 
-    spelled : (v : Value) → IsSpellableValue v → Spells (written (repeated v n) line) (filled (repeated v n) s)
-    spelled v can = spells (repeated v n) (length-repeated v n) (all-repeated v can n)
+    spelled : (b : Bool) → Spells (written (repeated (telling b) n) line) (filled (repeated (telling b) n) s)
+    spelled b = spells (repeated (telling b) n) (length-repeated (telling b) n) (all-repeated (telling b) (telling-spellable b) n)
 
-    made : (v : Value) → IsSpellableValue v → IsMadeOf (written (repeated v n) line) (map (symbol_by (each v)) has.parts)
-    made v can =
-        subst (λ symbols. IsMadeOf (written (repeated v n) line) symbols)
-        (symbols-filled (repeated v n) s ∙ (has.made (literal (repeated v n))
-        ∙ each-hole v (repeated v n) [] n has.parts refl (ap (flat_map numbers_of) has.has ∙ numbers)))
-        (spelled v can).2
+    told : IsTold line n has.parts
+    told b =
+        subst (λ symbols. IsMadeOf (written (repeated (telling b) n) line) symbols)
+        (symbols-filled (repeated (telling b) n) s ∙ (has.made (literal (repeated (telling b) n))
+        ∙ each-hole (telling b) (repeated (telling b) n) [] n has.parts refl (ap (flat_map numbers_of) has.has ∙ numbers)))
+        (spelled b).2
 
     whole : IsWhole line (Keyword (word_of s) ∷ behind_by slot_symbol s)
     whole =
         subst (λ symbols. IsWhole line symbols) (sym (has.made slot_symbol))
-        (whole-back has.parts has.well line n refl (made value.Null tt) (made empty (contains-feed [] tt)))
+        (whole-back has.parts has.well line n refl told)
 
 pub not-statement : (line word rest : List ℕ) → lexeme line ≡ word → rest ≡ after_lexeme line
     → ((s : Statement) → IsStatement word rest s → ⊥) → (s : Statement) → SpellsStatement line s → ⊥
 not-statement line word rest e f not s spells =
     let (first, is) = spelled-statement line s spells in
-    not s (subst (λ w. IsStatement w rest s) (sym first ∙ e) (subst (λ r. IsStatement (word_of s) r s) (sym f) is))
+    not s (subst (λ w. IsStatement w rest s) (sym first ∙ e) (rw f is))
 
 pub unknown-statement : (line : List ℕ) → ((w : CommandWord) → lexeme line ≢ letters w) → (s : Statement) → SpellsStatement line s → ⊥
 unknown-statement line unknown s spells =
