@@ -83,9 +83,7 @@ each-hole v values front zero (At (Hole k) ∷ parts) all numbers = cc
 each-hole v values front (suc n) (At (Hole k) ∷ parts) all numbers =
     let next = cons-parts k (length front) (flat_map numbers_of (slots_in parts)) (range_with_len (length front + 1) n) numbers in
     let long : length (front ++ v ∷ []) ≡ length front + 1 = omega (arith, length-append front (v ∷ [])) in
-    let one : get_or values k value.Null ≡ v =
-    ap (λ l. get_or l k value.Null) all
-    ∙ (ap (λ i. get_or (front ++ v ∷ repeated v n) i value.Null) next.0 ∙ get_or-append_seam front v (repeated v n) value.Null) in
+    let one : get_or values k value.Null ≡ v = rw (all, next.0) (get_or-append_seam front v (repeated v n) value.Null) in
     let others : map (symbol_by (literal values)) parts ≡ map (symbol_by (each v)) parts =
     each-hole v values (front ++ v ∷ []) n parts (all ∙ sym (append_assoc front (v ∷ []) (repeated v n)))
     (next.1 ∙ ap (λ i. range_with_len i n) (sym long)) in
@@ -93,22 +91,18 @@ each-hole v values front (suc n) (At (Hole k) ∷ parts) all numbers =
 
 -- ---- a symbol is not the literal of both
 
-run-no_text : (characters : List ℕ) → characters ≡ codes "''" → IsRun characters → ⊥
-run-no_text characters e run =
-    let text : IsRun (codes "''") = subst IsRun e run in
-    let both : begins_run 39 ≡ true = text.1 in cc
+run-no_text : IsRun (codes "''") → ⊥
+run-no_text run = let both : begins_run 39 ≡ true = run.1 in cc
 
 null-no_text : codes "null" ≢ codes "''"
 null-no_text = different (codes "null") (codes "''") refl
 
 symbol-one : (x : Symbol) → IsWellFormed x → IsSymbol (codes "null") x → IsSymbol (codes "''") x → ⊥
-symbol-one (Keyword word) well null text = null-no_text (null ∙ sym text)
 symbol-one (Name name) well null text = null-no_text (null.0 ∙ sym text.0)
-symbol-one (Literal value.Null) well null text = null-no_text (sym text)
-symbol-one (Literal (value.Int z)) well null text = run-no_text (codes "''") refl (symbol-run (codes "''") (Literal (value.Int z)) tt tt text)
+symbol-one (Literal (value.Int z)) well null text = run-no_text (symbol-run (codes "''") (Literal (value.Int z)) tt tt text)
 symbol-one (Literal (value.Text t)) well null text = cc
-symbol-one (Count n) well null text = run-no_text (codes "''") refl (symbol-run (codes "''") (Count n) tt tt text)
-symbol-one (Sign mark) well null text = null-no_text (null ∙ sym text)
+symbol-one (Count n) well null text = run-no_text (symbol-run (codes "''") (Count n) tt tt text)
+symbol-one other well null text = null-no_text (null ∙ sym text)
 
 -- ---- where a question mark stands
 
@@ -196,7 +190,7 @@ pub spelled-statement : (line : List ℕ) (s : Statement) → SpellsStatement li
     → (lexeme line ≡ word_of s) × IsStatement (word_of s) (after_lexeme line) s
 spelled-statement line s (numbers, spells) = (
   whole.1.0,
-  record { first = refl; some = something-filled (repeated value.Null n) s (spelled true).1; made = (whole.0, whole.1.1, whole.2) },
+  record { first = refl; some = (something-filled (repeated value.Null n) s).1 (spelled true).1; made = (whole.0, whole.1.1, whole.2) },
 )
   where
     n : ℕ

@@ -1,5 +1,5 @@
 -- Filled: the symbols of the command that a statement is with values in its holes.
-use Rattle.std.proofs.Common.{◌≡◌, List, [], ◌∷◌, ◌++◌, map, refl, ap, ◌∙◌, arith}
+use Rattle.std.proofs.Common.{◌≡◌, ◌<◌, ℕ, List, [], ◌∷◌, ◌++◌, map, refl, ap, ◌∙◌, arith}
 use Rattle.std.proofs.lemmas.List.{length-map}
 use Rattle.std.proofs.lemmas.Simd.{map-map}
 use Rattle.std.specs.List.{flat_map}
@@ -48,15 +48,14 @@ symbols-filled values s =
     (split-word (filled values s)).0
     ∙ (ap (λ w. Keyword w ∷ behind_word (filled values s)) (word-filled values s) ∙ ap (λ l. Keyword (word_of s) ∷ l) (behind-filled values s))
 
--- Law: it names something where the statement has something.
-pub filled-something : (values : List Value) (s : Statement) → HasSomething s → NamesSomething (filled values s)
-filled-something values (statement.Insert table slots) some = omega (arith, length-map slots (slot_value values))
-filled-something values (statement.Update table settings conditions) some = omega (arith, length-map settings (filled_setting values))
-filled-something values (statement.Select distinct (items.Named names) table joins conditions) some = some
-filled-something values other some = tt
-
-pub something-filled : (values : List Value) (s : Statement) → NamesSomething (filled values s) → HasSomething s
-something-filled values (statement.Insert table slots) some = omega (arith, length-map slots (slot_value values))
-something-filled values (statement.Update table settings conditions) some = omega (arith, length-map settings (filled_setting values))
-something-filled values (statement.Select distinct (items.Named names) table joins conditions) some = some
-something-filled values other some = tt
+-- Law: it names something where the statement has something, and there alone.
+pub something-filled : (values : List Value) (s : Statement)
+    → (HasSomething s → NamesSomething (filled values s)) × (NamesSomething (filled values s) → HasSomething s)
+something-filled values (statement.Insert table slots) =
+    let long = length-map slots (slot_value values) in
+    (λ some. omega (arith, long), λ some. omega (arith, long))
+something-filled values (statement.Update table settings conditions) =
+    let long = length-map settings (filled_setting values) in
+    (λ some. omega (arith, long), λ some. omega (arith, long))
+something-filled values (statement.Select distinct (items.Named names) table joins conditions) = (λ some. some, λ some. some)
+something-filled values other = (λ some. tt, λ some. tt)

@@ -91,11 +91,7 @@ word-ends_item characters word no_dot no_null e =
 
 pub operator-ends_item : (o : Op) (characters : List ℕ) → characters ≡ operator_text o → EndsItem characters
 operator-ends_item op.Eq characters e = word-ends_item characters (operator_text op.Eq) refl refl e
-operator-ends_item op.Ne characters e = word-ends_item characters (operator_text op.Ne) refl refl e
-operator-ends_item op.Lt characters e = word-ends_item characters (operator_text op.Lt) refl refl e
-operator-ends_item op.Le characters e = word-ends_item characters (operator_text op.Le) refl refl e
-operator-ends_item op.Gt characters e = word-ends_item characters (operator_text op.Gt) refl refl e
-operator-ends_item op.Ge characters e = word-ends_item characters (operator_text op.Ge) refl refl e
+operator-ends_item other characters e = word-ends_item characters (operator_text other) refl refl e
 
 -- ---- values
 

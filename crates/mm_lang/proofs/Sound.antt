@@ -22,24 +22,15 @@ use Rattle.plain_statements.specs.StatementSpelling.{marks, written, written_wit
 use Rattle.plain_statements.proofs.Spelled.{written-none}
 use Rattle.mm_lang.specs.Parsing.{IsWhole}
 use Rattle.mm_lang.specs.Statements.{slot_symbol, word_of, behind_by, CompletesStatement}
-use Rattle.mm_lang.proofs.Filled.{literal, symbols-filled, filled-something}
+use Rattle.mm_lang.proofs.Filled.{literal, symbols-filled, something-filled}
 use Rattle.mm_lang.proofs.Parts.{Part, Plain, At, symbol_by, slots_in, IsWell, HasParts, statement-parts}
 use Rattle.mm_lang.proofs.Written.{blanks-marks, FirstSymbol, IsMark, IsOther, KeepsLine, TakesNext, first-symbol, keeps-line}
 
 -- ---- a symbol of a command is no question mark
 
 mark-apart : (m : Mark) → mark_text m ≢ codes "?"
-mark-apart Open = different (mark_text Open) (codes "?") refl
-mark-apart Close = different (mark_text Close) (codes "?") refl
-mark-apart Comma = different (mark_text Comma) (codes "?") refl
-mark-apart Dot = different (mark_text Dot) (codes "?") refl
-mark-apart Star = different (mark_text Star) (codes "?") refl
 mark-apart (Operator op.Eq) = different (codes "=") (codes "?") refl
-mark-apart (Operator op.Ne) = different (codes "<>") (codes "?") refl
-mark-apart (Operator op.Lt) = different (codes "<") (codes "?") refl
-mark-apart (Operator op.Le) = different (codes "<=") (codes "?") refl
-mark-apart (Operator op.Gt) = different (codes ">") (codes "?") refl
-mark-apart (Operator op.Ge) = different (codes ">=") (codes "?") refl
+mark-apart other = different (mark_text other) (codes "?") refl
 
 run-apart : (characters : List ℕ) → IsRun characters → characters ≢ codes "?"
 run-apart characters run e =
@@ -50,13 +41,9 @@ text-apart : (text : List ℕ) → text_literal text ≢ codes "?"
 text-apart text e = cc
 
 pub symbol-apart : (characters : List ℕ) (x : Symbol) → IsWellFormed x → IsSymbol characters x → characters ≢ codes "?"
-symbol-apart characters (Keyword word) well is = run-apart characters (symbol-run characters (Keyword word) tt well is)
-symbol-apart characters (Name name) well is = run-apart characters (symbol-run characters (Name name) tt well is)
-symbol-apart characters (Literal value.Null) well is = run-apart characters (symbol-run characters (Literal value.Null) tt well is)
-symbol-apart characters (Literal (value.Int z)) well is = run-apart characters (symbol-run characters (Literal (value.Int z)) tt well is)
 symbol-apart characters (Literal (value.Text text)) well is = λ e. text-apart text (sym is ∙ e)
-symbol-apart characters (Count n) well is = run-apart characters (symbol-run characters (Count n) tt well is)
 symbol-apart characters (Sign mark) well is = λ e. mark-apart mark (sym is ∙ e)
+symbol-apart characters other well is = run-apart characters (symbol-run characters other tt well is)
 
 -- ---- literals that are written
 
@@ -207,6 +194,6 @@ statement-spelled line word rest s free e f (is, numbers) = (holes_of-range, spe
         filled-made values has.parts has.well line [] values whole long
         (record { all = refl; go_on = in_parts ∙ (holes_of-range ∙ ap (range_with_len 0) (sym long)); can = can }) in (
           contains-feed (written values line) (written-no_feed false values line can (contains-no_feed line free)),
-          filled-something values s is.some,
+          (something-filled values s).0 is.some,
           subst (λ symbols. IsMadeOf (written values line) symbols) (sym (has.made (literal values)) ∙ sym (symbols-filled values s)) made,
         )

@@ -20,8 +20,6 @@ free-gap : (symbol next : Symbol) → IsTrue (leaves_gap symbol) → gap symbol 
 free-gap (Sign Open) next free = cc
 free-gap (Sign Dot) next free = cc
 free-gap symbol (Sign Close) free = refl
-free-gap symbol (Sign Comma) free = refl
-free-gap symbol (Sign Dot) free = refl
 free-gap symbol next free = refl
 
 three-parts : (a b c d : List ℕ) → a ++ (b ++ (c ++ d)) ≡ (a ++ (b ++ c)) ++ d
