@@ -61,22 +61,22 @@ no-name line name not is = not (subst IsName (sym is.0) is.1)
 -- ---- symbols, one after another
 
 pub reads-append : (line : List ℕ) (xs ys : List Symbol) (mid rest : List ℕ) → Reads line xs mid → Reads mid ys rest → Reads line (xs ++ ys) rest
-reads-append line [] ys mid rest e reads = subst (λ l. Reads l ys rest) (sym e) reads
+reads-append line [] ys mid rest e reads = rw e reads
 reads-append line (x ∷ xs) ys mid rest (is, first) reads = (is, reads-append (after_lexeme line) xs ys mid rest first reads)
 
 pub reads-split : (line : List ℕ) (xs ys : List Symbol) (rest : List ℕ) → Reads line (xs ++ ys) rest
     → (mid : List ℕ) × Reads line xs mid × Reads mid ys rest
 reads-split line [] ys rest reads = (line, refl, reads)
 reads-split line (x ∷ xs) ys rest (is, reads) =
-    let parts : (mid : List ℕ) × Reads (after_lexeme line) xs mid × Reads mid ys rest = reads-split (after_lexeme line) xs ys rest reads in
-    (parts.0, (is, parts.1), parts.2)
+    let (mid, first, others) = reads-split (after_lexeme line) xs ys rest reads in
+    (mid, (is, first), others)
 
 pub reads-shorter : (line : List ℕ) (symbols : List Symbol) (rest : List ℕ) → Reads line symbols rest → length rest ≤ length line
 reads-shorter line [] rest e = omega (arith, ap length e)
 reads-shorter line (x ∷ xs) rest (is, reads) = omega (arith, length-lexeme line, reads-shorter (after_lexeme line) xs rest reads)
 
 pub reads-of_text : (line : List ℕ) (symbols : List Symbol) (rest : List ℕ) → IsOfText line → Reads line symbols rest → IsOfText rest
-reads-of_text line [] rest of e = subst IsOfText e of
+reads-of_text line [] rest of e = rw e at of
 reads-of_text line (x ∷ xs) rest of (is, reads) = reads-of_text (after_lexeme line) xs rest (of_text-after line of) reads
 
 -- ---- words and signs that end an item, and others
@@ -136,10 +136,8 @@ behind-column : {V : Type 0} (symbols : V → List Symbol) (line mid : List ℕ)
     → (y : ColName) (o : Op) (v : V) (other : List ℕ) → Reads line (name_symbols y ++ compared symbols o v) other
     → Reads mid (compared symbols o v) other
 behind-column symbols line mid column named y o v other reads =
-    let parts : (m : List ℕ) × Reads line (name_symbols y) m × Reads m (compared symbols o v) other =
-    reads-split line (name_symbols y) (compared symbols o v) other reads in
-    subst (λ l. Reads l (compared symbols o v) other)
-    (named.only y parts.0 parts.1 (operator-ends_item o (lexeme parts.0) parts.2.0)) parts.2
+    let (rest, first, behind) = reads-split line (name_symbols y) (compared symbols o v) other reads in
+    subst (λ l. Reads l (compared symbols o v) other) (named.only y rest first (operator-ends_item o (lexeme rest) behind.0)) behind
 
 pub begins-compared : {V : Type 0} (symbols : V → List Symbol) (line mid rest : List ℕ) (column : ColName) (o : Op) (v : V)
     → BeginsWith name_symbols line column mid → lexeme mid ≡ operator_text o → BeginsWith symbols (after_lexeme mid) v rest
@@ -153,9 +151,8 @@ pub begins-none_compared : {V : Type 0} (symbols : V → List Symbol) (line : Li
     → BeginsWithNone (compared_symbols symbols) line
 begins-none_compared symbols line not = record {
   none = λ of y other reads free.
-      let parts : (m : List ℕ) × Reads line (name_symbols y.0) m × Reads m (compared symbols y.1 y.2) other =
-      reads-split line (name_symbols y.0) (compared symbols y.1 y.2) other reads in
-      not.none of y.0 parts.0 parts.1 (operator-ends_item y.1 (lexeme parts.0) parts.2.0);
+      let (rest, first, behind) = reads-split line (name_symbols y.0) (compared symbols y.1 y.2) other reads in
+      not.none of y.0 rest first (operator-ends_item y.1 (lexeme rest) behind.0);
 }
 
 pub begins-no_operator : {V : Type 0} (symbols : V → List Symbol) (line mid : List ℕ) (column : ColName) → BeginsWith name_symbols line column mid
@@ -178,14 +175,14 @@ begins-nothing_compared symbols line mid column named not = record {
 pub begins-as : {X Y : Type 0} (symbols : X → List Symbol) (others : Y → List Symbol) (to : Y → X) → ((y : Y) → others y ≡ symbols (to y))
     → (line : List ℕ) (y : Y) (rest : List ℕ) → BeginsWith symbols line (to y) rest → BeginsWith others line y rest
 begins-as symbols others to same line y rest begins = record {
-  found = subst (λ ss. Reads line ss rest) (sym (same y)) begins.found;
-  only = λ z other reads free. begins.only (to z) other (subst (λ ss. Reads line ss other) (same z) reads) free;
+  found = rw (same y) begins.found;
+  only = λ z other reads free. begins.only (to z) other (rw (same z) at reads) free;
 }
 
 pub begins-none_as : {X Y : Type 0} (symbols : X → List Symbol) (others : Y → List Symbol) (to : Y → X) → ((y : Y) → others y ≡ symbols (to y))
     → (line : List ℕ) → BeginsWithNone symbols line → BeginsWithNone others line
 begins-none_as symbols others to same line not = record {
-  none = λ of z other reads free. not.none of (to z) other (subst (λ ss. Reads line ss other) (same z) reads) free;
+  none = λ of z other reads free. not.none of (to z) other (rw (same z) at reads) free;
 }
 
 -- Where the characters of the first symbol spell no value, if they are UTF-8, it is none.
@@ -197,5 +194,4 @@ value-utf8 line (value.Text text) of is = literal-utf8 line text of is
 
 pub no-literal : (line characters : List ℕ) → characters ≡ lexeme line
     → (IsUtf8 characters → (v : Value) → IsSymbol characters (Literal v) → ⊥) → IsOfText line → (v : Value) → IsSymbol (lexeme line) (Literal v) → ⊥
-no-literal line characters e not of v is =
-    not (subst IsUtf8 (sym e) (value-utf8 line v of is)) v (subst (λ w. IsSymbol w (Literal v)) (sym e) is)
+no-literal line characters e not of v is = not (rw e (value-utf8 line v of is)) v (subst (λ w. IsSymbol w (Literal v)) (sym e) is)

@@ -7,5 +7,4 @@ use Rattle.mm_lang.proofs.items.assigned.Goals as goal
 pub returns-in_err-value-clause-syntax : goal.returns-in_err-value-clause-syntax
 returns-in_err-value-clause-syntax g c = λ syntax.
     begins-none_assigned g.V.Item.symbols c.args.line.now
-    (subst (λ l. BeginsWithNone g.V.Item.symbols l) (c.in_ok-line.ensures.1 ∙ ap after_lexeme c.in_ok-column.ensures.name.2)
-    (c.in_err-value.ensures.syntax (passed-error c.from_residual-in_err-value.ensures.1 syntax)))
+    (rw (c.in_ok-line.ensures.1, c.in_ok-column.ensures.name.2) at (c.in_err-value.ensures.syntax (passed-error c.from_residual-in_err-value.ensures.1 syntax)))

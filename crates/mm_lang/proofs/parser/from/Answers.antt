@@ -18,7 +18,7 @@ returns-in_err-conditions-clause-syntax g c = λ syntax of.
     let behind : c.in_ok-table.behind_table.now ≡ after_lexeme (after_lexeme c.args.line.now) =
     c.in_ok-table.ensures.name.2 ∙ ap after_lexeme c.in_ok-front.ensures.1 in
     let text : IsOfText c.in_ok-table.behind_table.now =
-    subst IsOfText (sym behind) (of_text-after (after_lexeme c.args.line.now) (of_text-after c.args.line.now of)) in
+    rw behind (of_text-after (after_lexeme c.args.line.now) (of_text-after c.args.line.now of)) in
     no-conditions_behind g.C.Item.symbols c.args.line.now c.in_ok-table.behind_table.now c.in_ok-joins.joins.items c.in_ok-joins.rest.now behind
     c.in_ok-joins.ensures.joins
     (c.in_err-conditions.ensures.syntax (passed-error c.from_residual-in_err-conditions.ensures.1 syntax)

@@ -20,7 +20,7 @@ returns-in_err-conditions-clause-syntax g c = λ syntax of.
     let front : c.in_ok-front.front.now ≡ after_lexeme (after_lexeme c.args.line.now) =
     c.in_ok-front.ensures.1 ∙ ap after_lexeme c.in_ok-table.ensures.name.2 in
     let text : IsOfText c.in_ok-front.front.now =
-    subst IsOfText (sym front) (of_text-after (after_lexeme c.args.line.now) (of_text-after c.args.line.now of)) in
+    rw front (of_text-after (after_lexeme c.args.line.now) (of_text-after c.args.line.now of)) in
     no-tail_of_update g.S.Item.symbols g.C.Item.symbols c.args.line.now c.in_ok-front.front.now c.in_ok-settings.settings.items
     c.in_ok-settings.rest.now front c.in_ok-settings.ensures.items
     (c.in_err-conditions.ensures.syntax (passed-error c.from_residual-in_err-conditions.ensures.1 syntax)
@@ -32,11 +32,10 @@ returns-clause-parts g c =
     let front : c.in_ok-front.front.now ≡ after_lexeme (after_lexeme c.args.line.now) =
     c.in_ok-front.ensures.1 ∙ ap after_lexeme c.in_ok-table.ensures.name.2 in
     record {
-      is = subst IsName (sym c.in_ok-table.ensures.name.1) c.in_ok-table.ensures.name.0;
+      is = rw c.in_ok-table.ensures.name.1 c.in_ok-table.ensures.name.0;
       first = sym c.in_ok-table.ensures.name.1;
       sets = ap lexeme (sym c.in_ok-table.ensures.name.2) ∙ c.in_ok-front.ensures.0;
       rest = c.in_ok-settings.rest.now;
-      listed = subst (λ l. ReadsList g.S.Item.symbols (codes ",") l c.in_ok-settings.settings.items c.in_ok-settings.rest.now) front
-          c.in_ok-settings.ensures.items.found;
+      listed = rw front at c.in_ok-settings.ensures.items.found;
       tail = c.in_ok-conditions.ensures.conditions;
     }

@@ -6,4 +6,4 @@ use Rattle.mm_lang.proofs.line.Line.rest.Goals as goal
 pub returns-clause-of_text : goal.returns-clause-of_text
 returns-clause-of_text c =
     let line = c.self.inside in
-    subst IsOfText (sym c.self.invariant.3) (of_text-after line.text.now ([], c.self.invariant.0))
+    rw c.self.invariant.3 (of_text-after line.text.now ([], c.self.invariant.0))
