@@ -24,11 +24,11 @@ use Rattle.mm_lang.proofs.Utf8.{of_text-after, literal-utf8}
 
 -- ---- comparisons
 
-pub same-bytes : (xs ys zs : List ℕ) (r : Bool) → r ≡ true → r ≡ bytes_eq xs ys → ys ≡ zs → xs ≡ zs
-same-bytes xs ys zs r h e f = (bytes_eq-Decides xs ys).0 (sym e ∙ h) ∙ f
+pub lexeme-is : (line xs ys zs : List ℕ) (r : Bool) → xs ≡ lexeme line → r ≡ true → r ≡ bytes_eq xs ys → ys ≡ zs → lexeme line ≡ zs
+lexeme-is line xs ys zs r f h same g = sym f ∙ ((bytes_eq-Decides xs ys).0 (sym same ∙ h) ∙ g)
 
-pub other-bytes : (xs ys zs : List ℕ) (r : Bool) → r ≡ false → r ≡ bytes_eq xs ys → ys ≡ zs → xs ≢ zs
-other-bytes xs ys zs r h e f same = let both : bytes_eq xs ys ≡ true = (bytes_eq-Decides xs ys).1 (same ∙ sym f) in cc
+pub lexeme-is_not : (line xs ys zs : List ℕ) (r : Bool) → xs ≡ lexeme line → r ≡ false → r ≡ bytes_eq xs ys → ys ≡ zs → lexeme line ≢ zs
+lexeme-is_not line xs ys zs r f h same g is = different xs ys (sym same ∙ h) (f ∙ (is ∙ sym g))
 
 -- an error that a `?` passes on
 pub passed-error : {T U E : Type 0} {r : Result T E} {d e : E} → IsErrAnd r (λ y. y ≡ d) → r ≡ Err e → ◌≡◌ {A = Result U E} (Err d) (Err e)
@@ -41,19 +41,12 @@ run-ascii : (cs : List ℕ) → AllPass is_word_character cs → IsAscii cs
 run-ascii [] all = IsAscii-nil
 run-ascii (c ∷ cs) all = IsAscii-cons c cs (word-ascii c all.0) (run-ascii cs all.1)
 
-letters-ascii : (word : List ℕ) → IsRun word → is_word word ≡ true → IsAscii word
-letters-ascii [] run h = elim run [ ]
-letters-ascii (c ∷ cs) run h =
-    IsAscii-cons c cs (word-ascii c (letter-word c (and_parts (is_letter c) _ h).0)) (run-ascii cs run.2)
-
-pub name-utf8 : (name : List ℕ) → is_name name ≡ true → IsUtf8 name
-name-utf8 name h =
-    let word : is_word name ≡ true = (and_parts (is_word name) _ h).0 in
-    IsUtf8-from_ascii name (letters-ascii name (word-run name word) word)
-
 run-is_ascii : (cs : List ℕ) → IsRun cs → IsAscii cs
 run-is_ascii [] run = elim run [ ]
 run-is_ascii (c ∷ cs) run = IsAscii-cons c cs (begins-ascii c run.1) (run-ascii cs run.2)
+
+pub name-utf8 : (name : List ℕ) → is_name name ≡ true → IsUtf8 name
+name-utf8 name h = IsUtf8-from_ascii name (run-is_ascii name (word-run name (and_parts (is_word name) _ h).0))
 
 pub no-name : (line name : List ℕ) → (IsName (lexeme line) → ⊥) → IsSymbol (lexeme line) (Name name) → ⊥
 no-name line name not is = not (subst IsName (sym is.0) is.1)

@@ -19,15 +19,15 @@ other-test : (c : ℕ) (b : Bool) → (c == 39) ≡ b → c ≢ 39 → b ≡ fal
 other-test c true e other = absurd (other (eqb-true c 39 e))
 other-test c false e other = refl
 
-text_length-other : (c : ℕ) (cs : List ℕ) → c ≢ 39 → text_length (c ∷ cs) ≡ 1 + text_length cs
-text_length-other c [] other = refl
-text_length-other c (d ∷ cs) other = rw (other-test c (c == 39) refl other) refl
+pub text_length-plain : (c : ℕ) (cs : List ℕ) → (c == 39) ≡ false → text_length (c ∷ cs) ≡ 1 + text_length cs
+text_length-plain c [] plain = refl
+text_length-plain c (d ∷ cs) plain = rw plain refl
 
 part-at : (cs : List ℕ) (i : ℕ) → i < length cs → drop i cs ≡ get_or cs i 0 ∷ drop (i + 1) cs
 part-at cs i inside = rw add-one (drop-cons cs i 0 inside)
 
 pub quoted-other : (cs : List ℕ) (i : ℕ) → i < length cs → get_or cs i 0 ≢ 39 → text_length (drop i cs) ≡ 1 + text_length (drop (i + 1) cs)
-quoted-other cs i inside other = ap text_length (part-at cs i inside) ∙ text_length-other (get_or cs i 0) (drop (i + 1) cs) other
+quoted-other cs i inside other = ap text_length (part-at cs i inside) ∙ text_length-plain (get_or cs i 0) (drop (i + 1) cs) (other-test _ _ refl other)
 
 two-marks : (c d : ℕ) (cs : List ℕ) → c ≡ 39 → d ≡ 39 → text_length (c ∷ d ∷ cs) ≡ 2 + text_length cs
 two-marks c d cs first second = rw (first, second) refl

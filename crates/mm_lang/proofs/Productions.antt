@@ -16,7 +16,7 @@ use Rattle.plain_tables.specs.declared.command.Command.TheVariants.{Table, DropT
 use Rattle.plain_tables.proofs.FirstWords.{different, first_word, behind_word, split-word}
 use Rattle.mm_lang.specs.Parsing.{Reads, IsWhole, ReadsList, IsOfText, EndsItem, BeginsWithList, BeginsWithNoList, IsNameAndList, where_of, IsWhere, IsUpdate, IsDelete, Completes}
 use Rattle.mm_lang.proofs.Fronts.{no-name, reads-append, reads-split, not-word, word-ends_item}
-use Rattle.mm_lang.proofs.Lists.{list-some, list-spelled, spelled-list}
+use Rattle.mm_lang.proofs.Lists.{list-some, list-of_text, list-spelled, spelled-list}
 use Rattle.mm_lang.proofs.Utf8.{of_text-after}
 
 -- lists with commas between their items
@@ -265,13 +265,14 @@ no-settings settings_by conditions_by line front f not of table settings conditi
     (either-not _ (codes ",") refl refl begins)
 
 pub no-tail_of_update : {S C : Type 0} (settings_by : S → List Symbol) (conditions_by : C → List Symbol) (line front : List ℕ) (found : List S)
-    (behind : List ℕ) → front ≡ after_lexeme (after_lexeme line) → BeginsWithList settings_by (codes ",") front found behind
-    → ((conditions : List C) → IsWhere conditions_by behind conditions → ⊥)
+    (behind : List ℕ) → front ≡ after_lexeme (after_lexeme line) → BeginsWithList settings_by (codes ",") front found behind → IsOfText line
+    → (IsOfText behind → (conditions : List C) → IsWhere conditions_by behind conditions → ⊥)
     → (table : List ℕ) (settings : List S) (conditions : List C) → IsUpdate settings_by conditions_by line table settings conditions → ⊥
-no-tail_of_update settings_by conditions_by line front found behind f list not table settings conditions is =
+no-tail_of_update settings_by conditions_by line front found behind f list of not table settings conditions is =
     let begins = where-begins conditions_by is.rest conditions is.tail in
     let same : is.rest ≡ behind = list.only settings is.rest (rw f is.listed) (either-ends_item _ begins) (either-not _ (codes ",") refl refl begins) in
-    not conditions (rw same at is.tail)
+    let text : IsOfText front = rw f (of_text-after _ (of_text-after line of)) in
+    not (list-of_text settings_by (codes ",") front found behind text list.found) conditions (rw same at is.tail)
 
 -- ---- delete
 
@@ -281,10 +282,11 @@ delete-whole symbols line table rest conditions is e f tail =
     let behind : IsWhere symbols (after_lexeme line) conditions = rw f at tail in
     (behind.0, ((sym e, rw e is), behind.1), behind.2)
 
-pub no-tail_of_delete : {C : Type 0} (symbols : C → List Symbol) (line rest : List ℕ) → rest ≡ after_lexeme line
-    → ((conditions : List C) → IsWhere symbols rest conditions → ⊥)
+pub no-tail_of_delete : {C : Type 0} (symbols : C → List Symbol) (line rest : List ℕ) → rest ≡ after_lexeme line → IsOfText line
+    → (IsOfText rest → (conditions : List C) → IsWhere symbols rest conditions → ⊥)
     → (table : List ℕ) (conditions : List C) → IsDelete symbols line table conditions → ⊥
-no-tail_of_delete symbols line rest f not table conditions made = not conditions (rw f (made.0, made.1.1, made.2))
+no-tail_of_delete symbols line rest f of not table conditions made =
+    not (rw f (of_text-after line of)) conditions (rw f (made.0, made.1.1, made.2))
 
 pub delete-completed : (line table : List ℕ) (conditions : List Cond) → IsDelete condition_symbols line table conditions
     → Completes (codes "delete") line (Delete table conditions)

@@ -12,6 +12,7 @@ use Rattle.plain_tables.specs.declared.command.Items.{Items}
 use Rattle.plain_tables.specs.declared.command.Items.TheVariants as items
 use Rattle.plain_tables.specs.declared.command.Command.{Command}
 use Rattle.plain_tables.specs.declared.command.Command.TheVariants.{Select}
+use Rattle.plain_tables.proofs.FirstWords.{select-items}
 use Rattle.mm_lang.specs.Parsing.{Reads, IsWhole, IsOfText, BeginsWithList, BeginsWithNoList, NameSomething, BeginsWithItems, BeginsWithNoItems, BeginsWithDistinct, BeginsWithJoins, BeginsWithNoJoins, where_of, from_of, IsFrom, IsWhere, IsSelect, Completes}
 use Rattle.mm_lang.proofs.Fronts.{reads-append, reads-split, reads-of_text, not-word, word-ends_item, no-first}
 use Rattle.mm_lang.proofs.Lists.{list-some, list-first}
@@ -82,13 +83,14 @@ no-joins_behind symbols line behind f not of table joins conditions is =
     not.none (rw f (of_text-after _ (of_text-after line of))) joins rest (rw f reads) (either-ends_item _ begins) (either-not _ (codes "join") refl refl begins)
 
 pub no-conditions_behind : {C : Type 0} (symbols : C → List Symbol) (line behind : List ℕ) (found : List Join) (rest : List ℕ) → behind ≡ after_lexeme (after_lexeme line)
-    → BeginsWithJoins behind found rest → ((conditions : List C) → IsWhere symbols rest conditions → ⊥)
+    → BeginsWithJoins behind found rest → IsOfText line → (IsOfText rest → (conditions : List C) → IsWhere symbols rest conditions → ⊥)
     → (table : List ℕ) (joins : List Join) (conditions : List C) → IsFrom symbols line table joins conditions → ⊥
-no-conditions_behind symbols line behind found rest f begins not table joins conditions is =
+no-conditions_behind symbols line behind found rest f begins of not table joins conditions is =
     let (mid, reads, tail) = from-parts symbols line table joins conditions is in
     let first = where-begins symbols mid conditions tail in
     let same : mid ≡ rest = begins.only joins mid (rw f reads) (either-ends_item _ first) (either-not _ (codes "join") refl refl first) in
-    not conditions (rw same at tail)
+    let text : IsOfText behind = rw f (of_text-after _ (of_text-after line of)) in
+    not (reads-of_text behind (flat_map join_symbols found) rest text begins.found) conditions (rw same at tail)
 
 -- ---- select
 
@@ -114,11 +116,6 @@ names-something : (distinct : Bool) (items : Items) (table : List ℕ) (joins : 
 names-something distinct items.All table joins conditions some = tt
 names-something distinct (items.Named names) table joins conditions some = some
 
-name-something : (distinct : Bool) (items : Items) (table : List ℕ) (joins : List Join) (conditions : List Cond)
-    → NamesSomething (Select distinct items table joins conditions) → NameSomething items
-name-something distinct items.All table joins conditions some = tt
-name-something distinct (items.Named names) table joins conditions some = some
-
 pub select-completed : (line : List ℕ) (distinct : Bool) (items : Items) (table : List ℕ) (joins : List Join) (conditions : List Cond)
     → IsSelect condition_symbols line distinct items table joins conditions
     → Completes (codes "select") line (Select distinct items table joins conditions)
@@ -132,7 +129,7 @@ pub select-only : (line : List ℕ)
     → (command : Command) → Completes (codes "select") line command → ⊥
 select-only line not (Select distinct items table joins conditions) completes =
     not distinct items table joins conditions
-    (whole-select condition_symbols line distinct items table joins conditions (name-something distinct items table joins conditions completes.some)
+    (whole-select condition_symbols line distinct items table joins conditions (select-items distinct items table joins conditions completes.some)
     (rw (where_of-conditions conditions) (behind-first line (Select distinct items table joins conditions) completes)))
 select-only line not command completes = other-word line (codes "select") command refl completes
 
@@ -158,11 +155,12 @@ no-items symbols line found front begins not of distinct items table joins condi
     (behind-distinct symbols line found front begins distinct items table joins conditions is) is.tail.1.0
 
 pub no-from : {C : Type 0} (symbols : C → List Symbol) (line : List ℕ) (found : Bool) (front : List ℕ) (some : Items) (rest : List ℕ)
-    → BeginsWithDistinct line found front → BeginsWithItems front some rest
-    → ((table : List ℕ) (joins : List Join) (conditions : List C) → IsFrom symbols rest table joins conditions → ⊥)
+    → BeginsWithDistinct line found front → BeginsWithItems front some rest → IsOfText line
+    → (IsOfText rest → (table : List ℕ) (joins : List Join) (conditions : List C) → IsFrom symbols rest table joins conditions → ⊥)
     → (distinct : Bool) (items : Items) (table : List ℕ) (joins : List Join) (conditions : List C)
     → IsSelect symbols line distinct items table joins conditions → ⊥
-no-from symbols line found front some rest begins first not distinct items table joins conditions is =
+no-from symbols line found front some rest begins first of not distinct items table joins conditions is =
     let same : is.behind ≡ rest =
     first.only items is.behind is.some (behind-distinct symbols line found front begins distinct items table joins conditions is) is.tail.1.0 in
-    not table joins conditions (rw same at is.tail)
+    let text : IsOfText front = reads-of_text line (distinct_symbols found) front of begins.found in
+    not (reads-of_text front (items_symbols some) rest text first.found) table joins conditions (rw same at is.tail)

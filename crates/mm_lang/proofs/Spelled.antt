@@ -23,7 +23,6 @@ use Rattle.mm_lang.specs.declared.parser.CommandWord.{CommandWord}
 use Rattle.mm_lang.specs.declared.parser.CommandWord.TheVariants as word
 use Rattle.mm_lang.specs.Parsing.{Reads, IsWhole, Completes}
 use Rattle.mm_lang.specs.Words.{letters}
-use Rattle.mm_lang.proofs.Fronts.{same-bytes, other-bytes}
 
 -- ---- symbols whose keywords are words
 
@@ -183,11 +182,3 @@ pub unknown-word : (line : List ℕ) → ((w : CommandWord) → lexeme line ≢ 
 unknown-word line unknown command spells =
     let of = word-of command in
     unknown of.0 ((spelled-completes line command spells).0 ∙ of.1)
-
--- ---- the tests of the parser
-
-pub lexeme-is : (line xs ys zs : List ℕ) (r : Bool) → xs ≡ lexeme line → r ≡ true → r ≡ bytes_eq xs ys → ys ≡ zs → lexeme line ≡ zs
-lexeme-is line xs ys zs r f h same g = sym f ∙ same-bytes xs ys zs r h same g
-
-pub lexeme-is_not : (line xs ys zs : List ℕ) (r : Bool) → xs ≡ lexeme line → r ≡ false → r ≡ bytes_eq xs ys → ys ≡ zs → lexeme line ≢ zs
-lexeme-is_not line xs ys zs r f h same g is = other-bytes xs ys zs r h same g (f ∙ is)

@@ -15,6 +15,7 @@ use Rattle.plain_tables.proofs.Lexemes.{AllPass, StopsBefore, prefix_len-front, 
 use Rattle.plain_tables.proofs.Texts.{one_more, two_more}
 use Rattle.plain_statements.specs.StatementSpelling.{marks, marks_within, literal_apart, written, written_within}
 use Rattle.plain_statements.proofs.Spelled.{written-none}
+use Rattle.mm_lang.proofs.Marks.{text_length-plain}
 
 -- ---- characters that are neither quote marks nor question marks
 
@@ -97,11 +98,6 @@ ends-first : (c : ℕ) (line : List ℕ) → (c == 39) ≡ false → First c lin
 ends-first c line plain (Same rest e) = rw (e, plain) refl
 ends-first c line plain (Blank rest e) = rw e refl
 
--- a text goes on behind a character that is no quote mark
-goes-on : (c : ℕ) (cs : List ℕ) → (c == 39) ≡ false → text_length (c ∷ cs) ≡ 1 + text_length cs
-goes-on c [] plain = refl
-goes-on c (d ∷ cs) plain = rw plain refl
-
 -- a character of a text, outside of its marks
 quoted-at : (v : Value) (values : List Value) (c : ℕ) (cs : List ℕ) (b : Bool) → (c == 39) ≡ false → (c == 63) ≡ b
     → (written_within true (v ∷ values) (c ∷ cs) ≡ c ∷ written_within true (v ∷ values) cs) × (marks_within true (c ∷ cs) ≡ marks_within true cs)
@@ -116,10 +112,10 @@ keeps-other v values c cs plain k =
       front = c ∷ k.front;
       rest = k.rest;
       parts = ap (λ l. c ∷ l) k.parts;
-      long = goes-on c cs plain ∙ (ap (λ n. 1 + n) k.long ∙ one_more (length k.front));
+      long = text_length-plain c cs plain ∙ (ap (λ n. 1 + n) k.long ∙ one_more (length k.front));
       fills = step ∙ ap (λ l. c ∷ l) k.fills;
       written_long = ap text_length step
-          ∙ (goes-on c (written_within true (v ∷ values) cs) plain ∙ (ap (λ n. 1 + n) k.written_long ∙ one_more (length k.front)));
+          ∙ (text_length-plain c (written_within true (v ∷ values) cs) plain ∙ (ap (λ n. 1 + n) k.written_long ∙ one_more (length k.front)));
       holds = same ∙ k.holds;
     }
 

@@ -4,7 +4,8 @@ use Rattle.std.specs.Result.{result_ok}
 use lib.Chars.{codes}
 use Rattle.plain_tables.specs.Reading.{lexeme}
 use Rattle.plain_tables.specs.declared.command.Command.TheVariants.{Load}
-use Rattle.mm_lang.proofs.Spelled.{spelled, spelled-completes, not-spelled, lexeme-is, lexeme-is_not}
+use Rattle.mm_lang.proofs.Fronts.{lexeme-is, lexeme-is_not}
+use Rattle.mm_lang.proofs.Spelled.{spelled, spelled-completes, not-spelled}
 use Rattle.mm_lang.proofs.Productions.{load-completed, load-no_name, load-only}
 use Rattle.mm_lang.proofs.parser.block_length.Goals as goal
 

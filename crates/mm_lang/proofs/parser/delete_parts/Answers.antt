@@ -7,9 +7,8 @@ use Rattle.mm_lang.proofs.parser.delete_parts.Goals as goal
 
 pub returns-in_err-conditions-clause-syntax : goal.returns-in_err-conditions-clause-syntax
 returns-in_err-conditions-clause-syntax g c = λ syntax of.
-    no-tail_of_delete g.C.Item.symbols c.args.line.now c.in_ok-table.rest.now c.in_ok-table.ensures.name.2
-    (c.in_err-conditions.ensures.syntax (passed-error c.from_residual-in_err-conditions.ensures.1 syntax)
-    (rw c.in_ok-table.ensures.name.2 (of_text-after c.args.line.now of)))
+    no-tail_of_delete g.C.Item.symbols c.args.line.now _ c.in_ok-table.ensures.name.2 of
+    (c.in_err-conditions.ensures.syntax (passed-error c.from_residual-in_err-conditions.ensures.1 syntax))
 
 pub returns-clause-parts : goal.returns-clause-parts
 returns-clause-parts g c =

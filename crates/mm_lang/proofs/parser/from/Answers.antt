@@ -15,15 +15,8 @@ returns-in_err-joins-clause-syntax g c = λ syntax.
 
 pub returns-in_err-conditions-clause-syntax : goal.returns-in_err-conditions-clause-syntax
 returns-in_err-conditions-clause-syntax g c = λ syntax of.
-    let behind : c.in_ok-table.behind_table.now ≡ after_lexeme (after_lexeme c.args.line.now) =
-    c.in_ok-table.ensures.name.2 ∙ ap after_lexeme c.in_ok-front.ensures.1 in
-    let text : IsOfText c.in_ok-table.behind_table.now =
-    rw behind (of_text-after (after_lexeme c.args.line.now) (of_text-after c.args.line.now of)) in
-    no-conditions_behind g.C.Item.symbols c.args.line.now c.in_ok-table.behind_table.now c.in_ok-joins.joins.items c.in_ok-joins.rest.now behind
-    c.in_ok-joins.ensures.joins
-    (c.in_err-conditions.ensures.syntax (passed-error c.from_residual-in_err-conditions.ensures.1 syntax)
-    (reads-of_text c.in_ok-table.behind_table.now (flat_map join_symbols c.in_ok-joins.joins.items) c.in_ok-joins.rest.now text
-    c.in_ok-joins.ensures.joins.found))
+    no-conditions_behind g.C.Item.symbols c.args.line.now _ _ _ (c.in_ok-table.ensures.name.2 ∙ ap after_lexeme c.in_ok-front.ensures.1)
+    c.in_ok-joins.ensures.joins of (c.in_err-conditions.ensures.syntax (passed-error c.from_residual-in_err-conditions.ensures.1 syntax))
 
 pub returns-clause-parts : goal.returns-clause-parts
 returns-clause-parts g c =

@@ -11,13 +11,8 @@ returns-in_err-items-clause-syntax g c = λ syntax of.
 
 pub returns-in_err-table-clause-syntax : goal.returns-in_err-table-clause-syntax
 returns-in_err-table-clause-syntax g c = λ syntax of.
-    let front : IsOfText c.distinct-distinct.result.1.now =
-    reads-of_text c.args.line.now (distinct_symbols c.distinct-distinct.result.0) c.distinct-distinct.result.1.now of c.distinct-distinct.ensures.found in
-    let rest : IsOfText c.in_ok-items.rest.now =
-    reads-of_text c.distinct-distinct.result.1.now (items_symbols c.in_ok-items.items) c.in_ok-items.rest.now front c.in_ok-items.ensures.items.found in
-    no-from g.C.Item.symbols c.args.line.now c.distinct-distinct.result.0 c.distinct-distinct.result.1.now c.in_ok-items.items c.in_ok-items.rest.now
-    c.distinct-distinct.ensures c.in_ok-items.ensures.items
-    (c.in_err-table.ensures.syntax (passed-error c.from_residual-in_err-table.ensures.1 syntax) rest)
+    no-from g.C.Item.symbols c.args.line.now _ _ _ _ c.distinct-distinct.ensures c.in_ok-items.ensures.items of
+    (c.in_err-table.ensures.syntax (passed-error c.from_residual-in_err-table.ensures.1 syntax))
 
 pub returns-clause-parts : goal.returns-clause-parts
 returns-clause-parts g c = record {

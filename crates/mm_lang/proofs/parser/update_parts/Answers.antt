@@ -17,15 +17,8 @@ returns-in_err-settings-clause-syntax g c = λ syntax.
 
 pub returns-in_err-conditions-clause-syntax : goal.returns-in_err-conditions-clause-syntax
 returns-in_err-conditions-clause-syntax g c = λ syntax of.
-    let front : c.in_ok-front.front.now ≡ after_lexeme (after_lexeme c.args.line.now) =
-    c.in_ok-front.ensures.1 ∙ ap after_lexeme c.in_ok-table.ensures.name.2 in
-    let text : IsOfText c.in_ok-front.front.now =
-    rw front (of_text-after (after_lexeme c.args.line.now) (of_text-after c.args.line.now of)) in
-    no-tail_of_update g.S.Item.symbols g.C.Item.symbols c.args.line.now c.in_ok-front.front.now c.in_ok-settings.settings.items
-    c.in_ok-settings.rest.now front c.in_ok-settings.ensures.items
-    (c.in_err-conditions.ensures.syntax (passed-error c.from_residual-in_err-conditions.ensures.1 syntax)
-    (list-of_text g.S.Item.symbols (codes ",") c.in_ok-front.front.now c.in_ok-settings.settings.items c.in_ok-settings.rest.now text
-    c.in_ok-settings.ensures.items.found))
+    no-tail_of_update g.S.Item.symbols g.C.Item.symbols c.args.line.now _ _ _ (c.in_ok-front.ensures.1 ∙ ap after_lexeme c.in_ok-table.ensures.name.2)
+    c.in_ok-settings.ensures.items of (c.in_err-conditions.ensures.syntax (passed-error c.from_residual-in_err-conditions.ensures.1 syntax))
 
 pub returns-clause-parts : goal.returns-clause-parts
 returns-clause-parts g c =
