@@ -4,7 +4,7 @@ use Rattle.std.proofs.Common.{◌≡◌, ◌≢◌, ℕ, zero, suc, ◌+◌, Lis
 use Rattle.std.specs.List.{AllByRecursion, flat_map, range_with_len}
 use Rattle.std.proofs.Math.Seq.{get_or-append_seam}
 use lib.Chars.{codes}
-use Rattle.plain_tables.specs.Spelling.{Symbol, Keyword, Name, Literal, Count, Sign, symbol_text, is_blank, AreBlanks, IsSymbol, IsMadeOf, IsSpellableValue, Spells}
+use Rattle.plain_tables.specs.Spelling.{Symbol, Keyword, Name, Literal, Count, symbol_text, is_blank, IsSymbol, IsMadeOf, IsSpellableValue, Spells}
 use Rattle.plain_tables.specs.Reading.{behind_blanks, begins_run, lexeme_length, lexeme, after_lexeme}
 use Rattle.plain_tables.specs.declared.value.Value.{Value}
 use Rattle.plain_tables.specs.declared.value.Value.TheVariants as value

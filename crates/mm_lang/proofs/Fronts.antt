@@ -8,7 +8,7 @@ use Rattle.std.proofs.lemmas.Slice.Eq.{bytes_eq-Decides}
 use Rattle.std.proofs.lemmas.Str.{IsUtf8-from_ascii}
 use Rattle.std.proofs.lemmas.Str.Ascii.{IsAscii-nil, IsAscii-cons}
 use lib.Chars.{codes}
-use Rattle.plain_tables.specs.Names.{IsName, is_name, is_word, is_word_character, is_letter}
+use Rattle.plain_tables.specs.Names.{IsName, is_name, is_word, is_word_character}
 use Rattle.plain_tables.specs.Spelling.{Symbol, Name, Literal, Sign, Operator, operator_text, IsSymbol, value_symbols, kind_symbols, column_symbols, name_symbols}
 use Rattle.plain_tables.specs.Reading.{lexeme, after_lexeme}
 use Rattle.plain_tables.specs.declared.value.Value.{Value}
@@ -16,7 +16,7 @@ use Rattle.plain_tables.specs.declared.value.Value.TheVariants as value
 use Rattle.plain_tables.specs.declared.condition.Op.{Op}
 use Rattle.plain_tables.specs.declared.condition.Op.TheVariants as op
 use Rattle.plain_tables.specs.declared.condition.ColName.{ColName}
-use Rattle.plain_tables.proofs.Lexemes.{AllPass, IsRun, word-run, letter-word, word-ascii, begins-ascii, symbol-run, integer-run, length-lexeme}
+use Rattle.plain_tables.proofs.Lexemes.{AllPass, IsRun, word-run, word-ascii, begins-ascii, symbol-run, integer-run, length-lexeme}
 use Rattle.plain_tables.proofs.FirstWords.{different}
 use Rattle.plain_tables.proofs.SingleItems.{whole_name}
 use Rattle.mm_lang.specs.Parsing.{Reads, IsOfText, EndsItem, BeginsWith, BeginsWithNone, assigned_symbols, compared_symbols}

@@ -1,8 +1,8 @@
 -- Joining: a join, and the joins of a select, as they are read and as they are spelled.
-use Rattle.std.proofs.Common.{◌≡◌, ◌≢◌, ℕ, List, [], ◌∷◌, map, refl, sym, ◌∙◌, ap, arith, subst}
+use Rattle.std.proofs.Common.{◌≡◌, ◌≢◌, ℕ, List, [], ◌∷◌, refl, sym, ◌∙◌, ap, arith, subst}
 use Rattle.std.specs.List.{flat_map}
 use lib.Chars.{codes}
-use Rattle.plain_tables.specs.Spelling.{Symbol, Keyword, Sign, Operator, separated_by, side_symbols, joined_symbols, join_symbols}
+use Rattle.plain_tables.specs.Spelling.{Symbol, Keyword, Sign, Operator, side_symbols, joined_symbols, join_symbols}
 use Rattle.plain_tables.specs.Reading.{lexeme, after_lexeme}
 use Rattle.plain_tables.specs.declared.condition.Op.TheVariants as op
 use Rattle.plain_tables.specs.declared.command.Join.{Join}

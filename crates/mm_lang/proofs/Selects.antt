@@ -3,7 +3,7 @@ use Rattle.std.proofs.Common.{◌≡◌, ◌≢◌, ℕ, List, ◌∷◌, ◌++�
 use Rattle.std.specs.List.{flat_map}
 use lib.Chars.{codes}
 use Rattle.plain_tables.specs.Names.{IsName, is_name}
-use Rattle.plain_tables.specs.Spelling.{Symbol, Keyword, Name, name_symbols, condition_symbols, distinct_symbols, items_symbols, join_symbols, NamesSomething}
+use Rattle.plain_tables.specs.Spelling.{Symbol, Name, name_symbols, condition_symbols, distinct_symbols, items_symbols, join_symbols, NamesSomething}
 use Rattle.plain_tables.specs.Reading.{lexeme, after_lexeme}
 use Rattle.plain_tables.specs.declared.condition.ColName.{ColName}
 use Rattle.plain_tables.specs.declared.condition.Cond.{Cond}

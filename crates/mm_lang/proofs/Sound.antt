@@ -4,7 +4,7 @@ use Rattle.std.specs.Prelude.{◌==◌, ◌&&◌, not}
 use Rattle.std.specs.List.{AllByRecursion, Contains, flat_map, range_with_len}
 use Rattle.std.proofs.Math.Seq.{get_or-append_seam}
 use lib.Chars.{codes}
-use Rattle.plain_tables.specs.Spelling.{Symbol, Keyword, Name, Literal, Count, Sign, AreBlanks, IsSymbol, EndsBefore, IsMadeOf, symbol_text, mark_text, text_literal, IsSpellableValue, Mark, Open, Close, Comma, Dot, Star, Operator, Spells}
+use Rattle.plain_tables.specs.Spelling.{Symbol, Keyword, Literal, Sign, AreBlanks, IsSymbol, EndsBefore, IsMadeOf, symbol_text, mark_text, text_literal, IsSpellableValue, Mark, Operator, Spells}
 use Rattle.plain_tables.specs.Reading.{begins_run, lexeme, after_lexeme}
 use Rattle.plain_tables.specs.declared.value.Value.{Value}
 use Rattle.plain_tables.specs.declared.value.Value.TheVariants as value

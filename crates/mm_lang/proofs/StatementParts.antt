@@ -1,11 +1,11 @@
 -- Statement parts: what a line is behind a statement's first word, from what is read and numbered.
-use Rattle.std.proofs.Common.{◌≡◌, ◌+◌, ℕ, ◌<◌, List, [], ◌∷◌, ◌++◌, length, map, take, drop, Bool, refl, sym, ap, ◌∙◌, subst}
+use Rattle.std.proofs.Common.{◌≡◌, ◌+◌, ℕ, List, [], ◌∷◌, ◌++◌, length, map, take, drop, Bool, refl, sym, ap, ◌∙◌}
 use Rattle.std.specs.List.{flat_map}
 use Rattle.std.proofs.Math.Seq.{take-append_seam}
 use Rattle.std.proofs.lemmas.List.{length-map, map-id}
 use Rattle.std.proofs.lemmas.List.Concat.{flat_map-append}
 use lib.Chars.{codes}
-use Rattle.plain_tables.specs.Spelling.{Symbol, Keyword, Name, Sign, Open, Close, separated, separated_by, distinct_symbols, items_symbols, join_symbols}
+use Rattle.plain_tables.specs.Spelling.{Symbol, Keyword, separated_by}
 use Rattle.plain_tables.specs.declared.command.Items.{Items}
 use Rattle.plain_tables.specs.declared.command.Join.{Join}
 use Rattle.plain_tables.proofs.FirstWords.{different}
@@ -15,7 +15,7 @@ use Rattle.plain_statements.specs.declared.statement.SlotCond.{SlotCond}
 use Rattle.plain_statements.specs.declared.statement.Statement.{Statement}
 use Rattle.plain_statements.specs.declared.statement.Statement.TheVariants.{Insert, Update, Delete, Select}
 use Rattle.plain_statements.specs.StatementSpelling.{numbers_of}
-use Rattle.mm_lang.specs.Parsing.{IsWhole, IsNameAndList, where_of, IsUpdate, IsDelete, IsSelect}
+use Rattle.mm_lang.specs.Parsing.{IsNameAndList, where_of, IsUpdate, IsDelete, IsSelect}
 use Rattle.mm_lang.specs.Statements.{slot_symbol, slot_by, setting_by, condition_by, word_of, IsStatement, AreFrom, CompletesStatement}
 use Rattle.mm_lang.proofs.Lists.{list-some}
 use Rattle.mm_lang.proofs.Numbering.{from-append}

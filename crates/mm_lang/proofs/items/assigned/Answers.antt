@@ -1,6 +1,3 @@
-use Rattle.std.proofs.Common.{ap, ◌∙◌, subst}
-use Rattle.plain_tables.specs.Reading.{after_lexeme}
-use Rattle.mm_lang.specs.Parsing.{BeginsWithNone}
 use Rattle.mm_lang.proofs.Fronts.{passed-error, begins-none_assigned}
 use Rattle.mm_lang.proofs.items.assigned.Goals as goal
 

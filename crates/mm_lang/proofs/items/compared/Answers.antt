@@ -1,5 +1,3 @@
-use Rattle.std.proofs.Common.{subst}
-use Rattle.mm_lang.specs.Parsing.{BeginsWith, BeginsWithNone}
 use Rattle.mm_lang.proofs.Fronts.{passed-error, begins-compared, begins-none_compared, begins-no_operator, begins-nothing_compared}
 use Rattle.mm_lang.proofs.items.compared.Goals as goal
 

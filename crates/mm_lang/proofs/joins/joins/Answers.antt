@@ -1,4 +1,3 @@
-use Rattle.std.proofs.Common.{sym, subst}
 use Rattle.std.proofs.lemmas.Result.{IfOk-weaker}
 use lib.Chars.{codes}
 use Rattle.plain_tables.specs.Spelling.{joined_symbols}

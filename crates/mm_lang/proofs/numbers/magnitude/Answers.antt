@@ -1,7 +1,5 @@
-use Rattle.std.proofs.Common.{◌≡◌, length, get_or, take, true, false, sym, ◌∙◌, arith, subst}
-use Rattle.std.specs.Prelude.{◌==◌}
-use Rattle.std.specs.Char.{is_ascii_digit}
-use Rattle.std.specs.Str.Parse.{AllDigits, digits_value}
+use Rattle.std.proofs.Common.{◌≡◌, length, take, sym, ◌∙◌, arith}
+use Rattle.std.specs.Str.Parse.{digits_value}
 use Rattle.std.proofs.lemmas.Bool.{eqb-false}
 use Rattle.std.proofs.lemmas.List.{take_all}
 use Rattle.common_lemmas.proofs.Digits.{not-digits, more-digits, more-value, grows}

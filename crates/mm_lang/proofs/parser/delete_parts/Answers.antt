@@ -1,7 +1,4 @@
-use Rattle.std.proofs.Common.{subst, sym}
-use Rattle.mm_lang.specs.Parsing.{IsOfText}
 use Rattle.mm_lang.proofs.Fronts.{passed-error}
-use Rattle.mm_lang.proofs.Utf8.{of_text-after}
 use Rattle.mm_lang.proofs.Productions.{delete-whole, no-tail_of_delete}
 use Rattle.mm_lang.proofs.parser.delete_parts.Goals as goal
 

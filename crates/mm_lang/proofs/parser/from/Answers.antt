@@ -1,10 +1,6 @@
-use Rattle.std.proofs.Common.{◌≡◌, ap, subst, sym, ◌∙◌}
-use Rattle.std.specs.List.{flat_map}
-use Rattle.plain_tables.specs.Spelling.{join_symbols}
+use Rattle.std.proofs.Common.{ap, ◌∙◌}
 use Rattle.plain_tables.specs.Reading.{after_lexeme}
-use Rattle.mm_lang.specs.Parsing.{IsOfText}
-use Rattle.mm_lang.proofs.Fronts.{passed-error, reads-of_text}
-use Rattle.mm_lang.proofs.Utf8.{of_text-after}
+use Rattle.mm_lang.proofs.Fronts.{passed-error}
 use Rattle.mm_lang.proofs.Selects.{from-whole, no-joins_behind, no-conditions_behind}
 use Rattle.mm_lang.proofs.parser.from.Goals as goal
 

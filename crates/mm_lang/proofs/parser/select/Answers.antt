@@ -1,6 +1,3 @@
-use Rattle.std.proofs.Common.{subst, sym}
-use Rattle.plain_tables.specs.Spelling.{condition_symbols}
-use Rattle.mm_lang.specs.Parsing.{IsSelect}
 use Rattle.mm_lang.proofs.Fronts.{passed-error}
 use Rattle.mm_lang.proofs.Selects.{select-only, select-completed}
 use Rattle.mm_lang.proofs.parser.select.Goals as goal

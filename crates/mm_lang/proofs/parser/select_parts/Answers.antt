@@ -1,6 +1,4 @@
-use Rattle.plain_tables.specs.Spelling.{items_symbols, distinct_symbols}
-use Rattle.mm_lang.specs.Parsing.{IsOfText}
-use Rattle.mm_lang.proofs.Fronts.{passed-error, reads-of_text}
+use Rattle.mm_lang.proofs.Fronts.{passed-error}
 use Rattle.mm_lang.proofs.Selects.{no-items, no-from}
 use Rattle.mm_lang.proofs.parser.select_parts.Goals as goal
 

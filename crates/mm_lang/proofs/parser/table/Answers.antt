@@ -1,6 +1,3 @@
-use Rattle.std.proofs.Common.{subst, sym}
-use Rattle.plain_tables.specs.Spelling.{column_symbols}
-use Rattle.mm_lang.specs.Parsing.{IsNameAndList}
 use Rattle.mm_lang.proofs.Fronts.{passed-error}
 use Rattle.mm_lang.proofs.Productions.{table-only, table-completed}
 use Rattle.mm_lang.proofs.parser.table.Goals as goal

@@ -1,6 +1,3 @@
-use Rattle.std.proofs.Common.{subst, sym}
-use Rattle.plain_tables.specs.Spelling.{setting_symbols, condition_symbols}
-use Rattle.mm_lang.specs.Parsing.{IsUpdate}
 use Rattle.mm_lang.proofs.Fronts.{passed-error}
 use Rattle.mm_lang.proofs.Productions.{update-only, update-completed}
 use Rattle.mm_lang.proofs.parser.update.Goals as goal

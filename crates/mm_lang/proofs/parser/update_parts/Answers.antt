@@ -1,11 +1,6 @@
-use Rattle.std.proofs.Common.{◌≡◌, ap, subst, sym, ◌∙◌}
+use Rattle.std.proofs.Common.{◌≡◌, ap, sym, ◌∙◌}
 use Rattle.plain_tables.specs.Reading.{lexeme, after_lexeme}
-use Rattle.plain_tables.specs.Names.{IsName}
-use lib.Chars.{codes}
-use Rattle.mm_lang.specs.Parsing.{IsOfText, ReadsList}
 use Rattle.mm_lang.proofs.Fronts.{passed-error}
-use Rattle.mm_lang.proofs.Lists.{list-of_text}
-use Rattle.mm_lang.proofs.Utf8.{of_text-after}
 use Rattle.mm_lang.proofs.Productions.{no-settings, no-tail_of_update}
 use Rattle.mm_lang.proofs.parser.update_parts.Goals as goal
 

@@ -1,7 +1,5 @@
-use Rattle.std.proofs.Common.{◌≡◌, length, map, arith, ap, sym, ◌∙◌, subst}
-use Rattle.mm_lang.specs.Statements.{slot_symbol, setting_by, condition_by, CompletesStatement}
-use lib.Chars.{codes}
-use Rattle.plain_statements.specs.declared.statement.Statement.TheVariants as statement
+use Rattle.std.proofs.Common.{map, arith, ap, ◌∙◌}
+use Rattle.mm_lang.specs.Statements.{slot_symbol, setting_by, condition_by}
 use Rattle.mm_lang.proofs.Fronts.{passed-error}
 use Rattle.mm_lang.proofs.StatementParts.{update-done, written-back, update-none}
 use Rattle.mm_lang.proofs.statements.update.Goals as goal

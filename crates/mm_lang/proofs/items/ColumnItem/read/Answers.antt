@@ -1,6 +1,3 @@
-use Rattle.std.proofs.Common.{subst}
-use Rattle.plain_tables.specs.Spelling.{kind_symbols}
-use Rattle.mm_lang.specs.Parsing.{BeginsWithNone}
 use Rattle.mm_lang.proofs.Fronts.{passed-error, begins-no_column_kind}
 use Rattle.mm_lang.proofs.items.ColumnItem.read.Goals as goal
 

@@ -1,7 +1,3 @@
-use Rattle.std.proofs.Common.{ap, ◌∙◌, subst}
-use Rattle.plain_tables.specs.Spelling.{side_symbols}
-use Rattle.plain_tables.specs.Reading.{after_lexeme}
-use Rattle.mm_lang.specs.Parsing.{BeginsWith, BeginsWithNone}
 use Rattle.mm_lang.proofs.Fronts.{passed-error}
 use Rattle.mm_lang.proofs.Joining.{begins-no_left, begins-no_right}
 use Rattle.mm_lang.proofs.joins.JoinItem.read.Goals as goal

@@ -1,5 +1,4 @@
-use Rattle.std.proofs.Common.{[], sym, subst}
-use Rattle.mm_lang.specs.Parsing.{IsOfText}
+use Rattle.std.proofs.Common.{[]}
 use Rattle.mm_lang.proofs.Utf8.{of_text-after}
 use Rattle.mm_lang.proofs.line.Line.rest.Goals as goal
 
