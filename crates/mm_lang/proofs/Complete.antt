@@ -153,21 +153,23 @@ first-back : (part : Part) (parts : List Part) → IsWell part → AllByRecursio
     → IsSymbol (lexeme line) (symbol_by slot_symbol part) × ((m : ℕ) × (m ≡ marks (after_lexeme line)) × IsTold (after_lexeme line) m parts)
 first-back part parts well others line zero e (IsMark is takes) told = absurd (omega (arith, e, takes.holds))
 first-back part parts well others line (suc n) e (IsMark is takes) told =
-    let back : (b : Bool) → IsSymbol (symbol_text (Literal (telling b))) (symbol_by (each (telling b)) part)
-    × IsMadeOf (written (repeated (telling b) n) (after_lexeme line)) (map (symbol_by (each (telling b))) parts) =
-    λ b.
-    let (first, behind) = lexeme-of_made _ _ _ (part-well (telling b) part well) (told b) in
-    let (here, rest) = literal-lexeme b (repeated (telling b) n) line takes in
-    (rw here at first, behind-blank _ _ (parts-well (telling b) parts others) (rw rest at behind)) in
     (mark-part part well (λ b. (back b).0) line is, (n, omega (arith, e, takes.holds), λ b. (back b).1))
+  where
+    back : (b : Bool) → IsSymbol (symbol_text (Literal (telling b))) (symbol_by (each (telling b)) part)
+        × IsMadeOf (written (repeated (telling b) n) (after_lexeme line)) (map (symbol_by (each (telling b))) parts)
+    back b =
+        let (first, behind) = lexeme-of_made _ _ _ (part-well (telling b) part well) (told b) in
+        let (here, rest) = literal-lexeme b (repeated (telling b) n) line takes in
+        (rw here at first, behind-blank _ _ (parts-well (telling b) parts others) (rw rest at behind))
 first-back part parts well others line n e (IsOther not keeps) told =
-    let back : (b : Bool) → IsSymbol (lexeme line) (symbol_by (each (telling b)) part)
-    × IsMadeOf (written (repeated (telling b) n) (after_lexeme line)) (map (symbol_by (each (telling b))) parts) =
-    λ b.
-    let (first, behind) = lexeme-of_made _ _ _ (part-well (telling b) part well) (told b) in
-    let kept : KeepsLine (repeated (telling b) n) line = keeps-line (repeated (telling b) n) line keeps in
-    (rw kept.same at first, rw kept.rest at behind) in
     (other-part part (lexeme line) (λ b. (back b).0), (n, e ∙ (keeps-line [] line keeps).holds, λ b. (back b).1))
+  where
+    back : (b : Bool) → IsSymbol (lexeme line) (symbol_by (each (telling b)) part)
+        × IsMadeOf (written (repeated (telling b) n) (after_lexeme line)) (map (symbol_by (each (telling b))) parts)
+    back b =
+        let (first, behind) = lexeme-of_made _ _ _ (part-well (telling b) part well) (told b) in
+        let kept : KeepsLine (repeated (telling b) n) line = keeps-line (repeated (telling b) n) line keeps in
+        (rw kept.same at first, rw kept.rest at behind)
 
 end-back : (line : List ℕ) (n : ℕ) → n ≡ marks line → FirstSymbol line → IsTold line n [] → lexeme line ≡ []
 end-back line zero e (IsMark is takes) told = absurd (omega (arith, e, takes.holds))
