@@ -8,16 +8,14 @@ returns-in_err-column-clause-syntax g c = λ syntax.
 
 pub returns-in_err-op-clause-syntax : goal.returns-in_err-op-clause-syntax
 returns-in_err-op-clause-syntax g c = λ _.
-    begins-no_operator g.V.Item.symbols c.args.line.now c.in_ok-column.line.now c.in_ok-column.column c.in_ok-column.ensures.item
-    c.in_err-op.ensures
+    begins-no_operator g.V.Item.symbols c.args.line.now _ _ c.in_ok-column.ensures.item c.in_err-op.ensures
 
 pub returns-in_err-value-clause-syntax : goal.returns-in_err-value-clause-syntax
 returns-in_err-value-clause-syntax g c = λ syntax.
-    begins-nothing_compared g.V.Item.symbols c.args.line.now c.in_ok-column.line.now c.in_ok-column.column c.in_ok-column.ensures.item
+    begins-nothing_compared g.V.Item.symbols c.args.line.now _ _ c.in_ok-column.ensures.item
     (rw c.in_ok-op.ensures.1 at (c.in_err-value.ensures.syntax (passed-error c.from_residual-in_err-value.ensures.1 syntax)))
 
 pub returns-clause-item : goal.returns-clause-item
 returns-clause-item g c =
-    begins-compared g.V.Item.symbols c.args.line.now c.in_ok-column.line.now c.in_ok-value.line.now c.in_ok-column.column c.in_ok-op.op
-    c.in_ok-value.value c.in_ok-column.ensures.item c.in_ok-op.ensures.0
+    begins-compared g.V.Item.symbols c.args.line.now _ _ _ _ _ c.in_ok-column.ensures.item c.in_ok-op.ensures.0
     (rw c.in_ok-op.ensures.1 at c.in_ok-value.ensures.item)

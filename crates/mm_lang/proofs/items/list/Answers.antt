@@ -7,8 +7,8 @@ use Rattle.mm_lang.proofs.items.list.Goals as goal
 
 pub returns-in_err-item-clause-syntax : goal.returns-in_err-item-clause-syntax
 returns-in_err-item-clause-syntax g c = λ syntax.
-    has_read-no_item g.T.Item.symbols c.args.between.now c.args.line.now c.loop-items.items.items c.loop-items.rest.now c.requires.ends_item
-    c.loop-items.invariant (c.in_err-item.ensures.syntax (passed-error c.from_residual.ensures.1 syntax))
+    has_read-no_item g.T.Item.symbols _ _ _ _ c.requires.ends_item c.loop-items.invariant
+    (c.in_err-item.ensures.syntax (passed-error c.from_residual.ensures.1 syntax))
 
 pub loop-items-smaller : goal.loop-items-smaller
 loop-items-smaller g c =
@@ -24,11 +24,9 @@ loop-items-smaller g c =
 pub loop-items-preserved : goal.loop-items-preserved
 loop-items-preserved g c =
     rw (c.in_ok-push.ensures.items, c.in-Some.ensures.1)
-    (has_read-further g.T.Item.symbols c.args.between.now c.args.line.now c.loop-items.items.items c.loop-items.rest.now c.in_ok-item.item
-    c.in_ok-item.behind.now c.requires.ends_item c.loop-items.invariant c.in_ok-item.ensures.item c.in-Some.ensures.0)
+    (has_read-further g.T.Item.symbols _ _ _ _ _ _ c.requires.ends_item c.loop-items.invariant c.in_ok-item.ensures.item c.in-Some.ensures.0)
 
 pub returns-in-None-clause-items : goal.returns-in-None-clause-items
 returns-in-None-clause-items g c =
     rw c.in_ok-push.ensures.items
-    (has_read-last g.T.Item.symbols c.args.between.now c.args.line.now c.loop-items.items.items c.loop-items.rest.now c.in_ok-item.item
-    c.in_ok-item.behind.now c.requires.ends_item c.loop-items.invariant c.in_ok-item.ensures.item c.in-None.ensures)
+    (has_read-last g.T.Item.symbols _ _ _ _ _ _ c.requires.ends_item c.loop-items.invariant c.in_ok-item.ensures.item c.in-None.ensures)

@@ -9,5 +9,5 @@ returns-in_err-conditions-clause-syntax g c = λ syntax of.
 
 pub returns-clause-parts : goal.returns-clause-parts
 returns-clause-parts g c =
-    delete-whole g.C.Item.symbols c.args.line.now c.in_ok-table.table c.in_ok-table.rest.now c.in_ok-conditions.conditions.items
-    c.in_ok-table.ensures.name.0 c.in_ok-table.ensures.name.1 c.in_ok-table.ensures.name.2 c.in_ok-conditions.ensures.conditions
+    delete-whole g.C.Item.symbols c.args.line.now _ _ _ c.in_ok-table.ensures.name.0 c.in_ok-table.ensures.name.1 c.in_ok-table.ensures.name.2
+    c.in_ok-conditions.ensures.conditions

@@ -6,7 +6,7 @@ use Rattle.mm_lang.proofs.parser.from.Goals as goal
 
 pub returns-in_err-joins-clause-syntax : goal.returns-in_err-joins-clause-syntax
 returns-in_err-joins-clause-syntax g c = λ syntax.
-    no-joins_behind g.C.Item.symbols c.args.line.now c.in_ok-table.behind_table.now (c.in_ok-table.ensures.name.2 ∙ ap after_lexeme c.in_ok-front.ensures.1)
+    no-joins_behind g.C.Item.symbols c.args.line.now _ (c.in_ok-table.ensures.name.2 ∙ ap after_lexeme c.in_ok-front.ensures.1)
     (c.in_err-joins.ensures.syntax (passed-error c.from_residual-in_err-joins.ensures.1 syntax))
 
 pub returns-in_err-conditions-clause-syntax : goal.returns-in_err-conditions-clause-syntax
@@ -16,7 +16,5 @@ returns-in_err-conditions-clause-syntax g c = λ syntax of.
 
 pub returns-clause-parts : goal.returns-clause-parts
 returns-clause-parts g c =
-    from-whole g.C.Item.symbols c.args.line.now c.in_ok-front.front.now c.in_ok-table.table c.in_ok-table.behind_table.now c.in_ok-joins.rest.now
-    c.in_ok-joins.joins.items c.in_ok-conditions.conditions.items c.in_ok-front.ensures.0 c.in_ok-front.ensures.1
-    c.in_ok-table.ensures.name.0 c.in_ok-table.ensures.name.1 c.in_ok-table.ensures.name.2 c.in_ok-joins.ensures.joins
-    c.in_ok-conditions.ensures.conditions
+    from-whole g.C.Item.symbols c.args.line.now _ _ _ _ _ _ c.in_ok-front.ensures.0 c.in_ok-front.ensures.1 c.in_ok-table.ensures.name.0
+    c.in_ok-table.ensures.name.1 c.in_ok-table.ensures.name.2 c.in_ok-joins.ensures.joins c.in_ok-conditions.ensures.conditions

@@ -12,5 +12,4 @@ returns-in-Some-clause-items c = all-items c.args.line.now c.in-Some.rest.now c.
 
 pub returns-in_ok-names-in-None-clause-items : goal.returns-in_ok-names-in-None-clause-items
 returns-in_ok-names-in-None-clause-items c =
-    named-items c.args.line.now c.in_ok-names-in-None.names.items c.from_vec.result c.in_ok-names-in-None.rest.now c.in-None.ensures
-    c.from_vec.ensures c.in_ok-names-in-None.ensures.items
+    named-items c.args.line.now _ _ _ c.in-None.ensures c.from_vec.ensures c.in_ok-names-in-None.ensures.items

@@ -4,7 +4,7 @@ use Rattle.mm_lang.proofs.parser.select_parts.Goals as goal
 
 pub returns-in_err-items-clause-syntax : goal.returns-in_err-items-clause-syntax
 returns-in_err-items-clause-syntax g c = λ syntax of.
-    no-items g.C.Item.symbols c.args.line.now c.distinct-distinct.result.0 c.distinct-distinct.result.1.now c.distinct-distinct.ensures
+    no-items g.C.Item.symbols c.args.line.now _ _ c.distinct-distinct.ensures
     (c.in_err-items.ensures.syntax (passed-error c.from_residual.ensures.1 syntax)) of
 
 pub returns-in_err-table-clause-syntax : goal.returns-in_err-table-clause-syntax

@@ -6,8 +6,7 @@ use Rattle.mm_lang.proofs.parser.update_parts.Goals as goal
 
 pub returns-in_err-settings-clause-syntax : goal.returns-in_err-settings-clause-syntax
 returns-in_err-settings-clause-syntax g c = λ syntax.
-    no-settings g.S.Item.symbols g.C.Item.symbols c.args.line.now c.in_ok-front.front.now
-    (c.in_ok-front.ensures.1 ∙ ap after_lexeme c.in_ok-table.ensures.name.2)
+    no-settings g.S.Item.symbols g.C.Item.symbols c.args.line.now _ (c.in_ok-front.ensures.1 ∙ ap after_lexeme c.in_ok-table.ensures.name.2)
     (c.in_err-settings.ensures.syntax (passed-error c.from_residual-in_err-settings.ensures.1 syntax))
 
 pub returns-in_err-conditions-clause-syntax : goal.returns-in_err-conditions-clause-syntax
@@ -16,14 +15,11 @@ returns-in_err-conditions-clause-syntax g c = λ syntax of.
     c.in_ok-settings.ensures.items of (c.in_err-conditions.ensures.syntax (passed-error c.from_residual-in_err-conditions.ensures.1 syntax))
 
 pub returns-clause-parts : goal.returns-clause-parts
-returns-clause-parts g c =
-    let front : c.in_ok-front.front.now ≡ after_lexeme (after_lexeme c.args.line.now) =
-    c.in_ok-front.ensures.1 ∙ ap after_lexeme c.in_ok-table.ensures.name.2 in
-    record {
-      is = rw c.in_ok-table.ensures.name.1 c.in_ok-table.ensures.name.0;
-      first = sym c.in_ok-table.ensures.name.1;
-      sets = ap lexeme (sym c.in_ok-table.ensures.name.2) ∙ c.in_ok-front.ensures.0;
-      rest = c.in_ok-settings.rest.now;
-      listed = rw front at c.in_ok-settings.ensures.items.found;
-      tail = c.in_ok-conditions.ensures.conditions;
-    }
+returns-clause-parts g c = record {
+  is = rw c.in_ok-table.ensures.name.1 c.in_ok-table.ensures.name.0;
+  first = sym c.in_ok-table.ensures.name.1;
+  sets = rw c.in_ok-table.ensures.name.2 at c.in_ok-front.ensures.0;
+  rest = c.in_ok-settings.rest.now;
+  listed = rw (c.in_ok-front.ensures.1, c.in_ok-table.ensures.name.2) at c.in_ok-settings.ensures.items.found;
+  tail = c.in_ok-conditions.ensures.conditions;
+}
