@@ -3,7 +3,7 @@ use Rattle.std.proofs.Common.{◌≡◌, ◌≢◌, ℕ, ◌<◌, List, [], ◌�
 use Rattle.std.specs.Str.{bytes_eq}
 use lib.Chars.{codes}
 use Rattle.plain_tables.specs.Names.{IsName}
-use Rattle.plain_tables.specs.Spelling.{Symbol, Keyword, Name, Count, Sign, Open, Close, Comma, separated, column_symbols, index_symbols, value_symbols, setting_symbols, condition_symbols, where_symbols, NamesSomething}
+use Rattle.plain_tables.specs.Spelling.{Symbol, Keyword, Name, Count, Sign, IsSymbol, Open, Close, Comma, separated, column_symbols, index_symbols, value_symbols, setting_symbols, condition_symbols, where_symbols, NamesSomething}
 use Rattle.plain_tables.specs.Reading.{lexeme, after_lexeme}
 use Rattle.plain_tables.specs.declared.value.Value.{Value}
 use Rattle.plain_tables.specs.declared.schema.Column.{Column}
@@ -91,6 +91,16 @@ pub completed : (line : List ℕ) (command : Command) → NamesSomething command
     → Completes (first_word command) line command
 completed line command some made = record { some = some; symbols = behind_word command; first = (split-word command).0; made = made }
 
+-- ---- one symbol, and those behind it
+
+pub behind-symbol : (line rest : List ℕ) (x : Symbol) (symbols : List Symbol) → IsSymbol (lexeme line) x → rest ≡ after_lexeme line
+    → IsWhole rest symbols → IsWhole line (x ∷ symbols)
+behind-symbol line rest x symbols is f (end, reads, ends) = (end, (is, rw f at reads), ends)
+
+pub symbols-behind : (line rest : List ℕ) (x : Symbol) (symbols : List Symbol) → rest ≡ after_lexeme line → IsWhole line (x ∷ symbols)
+    → IsWhole rest symbols
+symbols-behind line rest x symbols f (end, (is, reads), ends) = (end, rw f reads, ends)
+
 -- ---- a name and a list in parentheses
 
 pub named-list : {X : Type 0} (symbols : X → List Symbol) (line name : List ℕ) (xs : List X) → IsNameAndList symbols line name xs
@@ -144,66 +154,25 @@ insert-only line not (Insert table values) completes =
     not table values (list-named value_symbols line table values completes.some (behind-first line (Insert table values) completes))
 insert-only line not command completes = other-word line (codes "insert") command refl completes
 
--- ---- index, drop and tables
+-- ---- index, drop, load and dump
 
 pub index-only : (line : List ℕ) → ((table column : List ℕ) (k : IndexKind) → IsWhole line (index_symbols table column k) → ⊥)
     → (command : Command) → Completes (codes "index") line command → ⊥
 index-only line not (Index table column k) completes = not table column k (behind-first line (Index table column k) completes)
 index-only line not command completes = other-word line (codes "index") command refl completes
 
-pub drop-table-completed : (line front table : List ℕ) → lexeme line ≡ codes "table" → front ≡ after_lexeme line
-    → IsWhole front (Name table ∷ []) → Completes (codes "drop") line (DropTable table)
-drop-table-completed line front table word f is =
-    let behind : IsWhole (after_lexeme line) (Name table ∷ []) = rw f at is in
-    completed line (DropTable table) tt (behind.0, (word, behind.1), behind.2)
-
-pub drop-index-completed : (line front table column : List ℕ) (k : IndexKind) → lexeme line ≡ codes "index" → front ≡ after_lexeme line
-    → IsWhole front (index_symbols table column k) → Completes (codes "drop") line (DropIndex table column k)
-drop-index-completed line front table column k word f is =
-    let behind : IsWhole (after_lexeme line) (index_symbols table column k) = rw f at is in
-    completed line (DropIndex table column k) tt (behind.0, (word, behind.1), behind.2)
-
-pub drop-table-only : (line front : List ℕ) → lexeme line ≡ codes "table" → front ≡ after_lexeme line
-    → ((table : List ℕ) → IsWhole front (Name table ∷ []) → ⊥) → (command : Command) → Completes (codes "drop") line command → ⊥
-drop-table-only line front word f not (DropTable table) completes =
-    let (rest, (is, made), end) = behind-first line (DropTable table) completes in
-    not table (rw f (rest, made, end))
-drop-table-only line front word f not (DropIndex table column k) completes =
-    let (rest, (is, made), end) = behind-first line (DropIndex table column k) completes in
-    different (codes "table") (codes "index") refl (sym word ∙ is)
-drop-table-only line front word f not command completes = other-word line (codes "drop") command refl completes
-
-pub drop-index-only : (line front : List ℕ) → lexeme line ≡ codes "index" → front ≡ after_lexeme line
-    → ((table column : List ℕ) (k : IndexKind) → IsWhole front (index_symbols table column k) → ⊥)
+pub drop-only : (line : List ℕ) → ((table : List ℕ) → IsWhole line (Keyword (codes "table") ∷ Name table ∷ []) → ⊥)
+    → ((table column : List ℕ) (k : IndexKind) → IsWhole line (Keyword (codes "index") ∷ index_symbols table column k) → ⊥)
     → (command : Command) → Completes (codes "drop") line command → ⊥
-drop-index-only line front word f not (DropTable table) completes =
-    let (rest, (is, made), end) = behind-first line (DropTable table) completes in
-    different (codes "index") (codes "table") refl (sym word ∙ is)
-drop-index-only line front word f not (DropIndex table column k) completes =
-    let (rest, (is, made), end) = behind-first line (DropIndex table column k) completes in
-    not table column k (rw f (rest, made, end))
-drop-index-only line front word f not command completes = other-word line (codes "drop") command refl completes
+drop-only line no_table no_index (DropTable table) completes = no_table table (behind-first line (DropTable table) completes)
+drop-only line no_table no_index (DropIndex table column k) completes =
+    no_index table column k (behind-first line (DropIndex table column k) completes)
+drop-only line no_table no_index command completes = other-word line (codes "drop") command refl completes
 
--- ---- load and dump
-
-pub load-completed : (line table rest : List ℕ) (bytes : ℕ) → IsName (lexeme line) → table ≡ lexeme line → rest ≡ after_lexeme line
-    → IsWhole rest (Count bytes ∷ []) → Completes (codes "load") line (Load table bytes)
-load-completed line table rest bytes is e f tail =
-    let behind : IsWhole (after_lexeme line) (Count bytes ∷ []) = rw f at tail in
-    completed line (Load table bytes) tt (behind.0, ((sym e, rw e is), behind.1), behind.2)
-
-pub load-no_name : (line : List ℕ) → (IsName (lexeme line) → ⊥) → (command : Command) → Completes (codes "load") line command → ⊥
-load-no_name line not (Load table bytes) completes =
-    let (rest, (is, made), end) = behind-first line (Load table bytes) completes in
-    no-name line table not is
-load-no_name line not command completes = other-word line (codes "load") command refl completes
-
-pub load-only : (line rest : List ℕ) → rest ≡ after_lexeme line → ((bytes : ℕ) → IsWhole rest (Count bytes ∷ []) → ⊥)
+pub load-only : (line : List ℕ) → ((table : List ℕ) (bytes : ℕ) → IsWhole line (Name table ∷ Count bytes ∷ []) → ⊥)
     → (command : Command) → Completes (codes "load") line command → ⊥
-load-only line rest f not (Load table bytes) completes =
-    let (end, (is, made), ends) = behind-first line (Load table bytes) completes in
-    not bytes (rw f (end, made, ends))
-load-only line rest f not command completes = other-word line (codes "load") command refl completes
+load-only line not (Load table bytes) completes = not table bytes (behind-first line (Load table bytes) completes)
+load-only line not command completes = other-word line (codes "load") command refl completes
 
 pub dump-only : (line : List ℕ) → ((table : List ℕ) → IsWhole line (Name table ∷ []) → ⊥)
     → (command : Command) → Completes (codes "dump") line command → ⊥
@@ -276,17 +245,11 @@ no-tail_of_update settings_by conditions_by line front found behind f list of no
 
 -- ---- delete
 
-pub delete-whole : {C : Type 0} (symbols : C → List Symbol) (line table rest : List ℕ) (conditions : List C) → IsName (lexeme line)
-    → table ≡ lexeme line → rest ≡ after_lexeme line → IsWhere symbols rest conditions → IsDelete symbols line table conditions
-delete-whole symbols line table rest conditions is e f tail =
-    let behind : IsWhere symbols (after_lexeme line) conditions = rw f at tail in
-    (behind.0, ((sym e, rw e is), behind.1), behind.2)
-
 pub no-tail_of_delete : {C : Type 0} (symbols : C → List Symbol) (line rest : List ℕ) → rest ≡ after_lexeme line → IsOfText line
     → (IsOfText rest → (conditions : List C) → IsWhere symbols rest conditions → ⊥)
     → (table : List ℕ) (conditions : List C) → IsDelete symbols line table conditions → ⊥
 no-tail_of_delete symbols line rest f of not table conditions made =
-    not (rw f (of_text-after line of)) conditions (rw f (made.0, made.1.1, made.2))
+    not (rw f (of_text-after line of)) conditions (symbols-behind line rest (Name table) (where_of symbols conditions) f made)
 
 pub delete-completed : (line table : List ℕ) (conditions : List Cond) → IsDelete condition_symbols line table conditions
     → Completes (codes "delete") line (Delete table conditions)

@@ -1,5 +1,7 @@
+use Rattle.std.proofs.Common.{sym}
+use Rattle.plain_tables.specs.Spelling.{Name}
 use Rattle.mm_lang.proofs.Fronts.{passed-error}
-use Rattle.mm_lang.proofs.Productions.{delete-whole, no-tail_of_delete}
+use Rattle.mm_lang.proofs.Productions.{behind-symbol, no-tail_of_delete}
 use Rattle.mm_lang.proofs.parser.delete_parts.Goals as goal
 
 pub returns-in_err-conditions-clause-syntax : goal.returns-in_err-conditions-clause-syntax
@@ -9,5 +11,5 @@ returns-in_err-conditions-clause-syntax g c = λ syntax of.
 
 pub returns-clause-parts : goal.returns-clause-parts
 returns-clause-parts g c =
-    delete-whole g.C.Item.symbols c.args.line.now _ _ _ c.in_ok-table.ensures.name.0 c.in_ok-table.ensures.name.1 c.in_ok-table.ensures.name.2
-    c.in_ok-conditions.ensures.conditions
+    behind-symbol c.args.line.now _ (Name c.in_ok-table.table) _ (sym c.in_ok-table.ensures.name.1, rw c.in_ok-table.ensures.name.1 c.in_ok-table.ensures.name.0)
+    c.in_ok-table.ensures.name.2 c.in_ok-conditions.ensures.conditions
