@@ -27,16 +27,11 @@ where-filled values (x ∷ xs) =
     ap (λ l. Keyword (codes "where") ∷ separated_by (Keyword (codes "and")) l) (map-map condition_symbols (filled_condition values) (x ∷ xs))
 
 behind-filled : (values : List Value) (s : Statement) → behind_word (filled values s) ≡ behind_by (literal values) s
-behind-filled values (statement.Insert table slots) =
-    ap (λ l. Name table ∷ Sign Open ∷ separated l ++ Sign Close ∷ []) (map-map value_symbols (slot_value values) slots)
+behind-filled values (statement.Insert table slots) = rw (map-map value_symbols (slot_value values) slots) refl
 behind-filled values (statement.Update table settings conditions) =
-    ap (λ l. Name table ∷ Keyword (codes "set") ∷ separated l ++ where_symbols (map (filled_condition values) conditions))
-    (map-map setting_symbols (filled_setting values) settings)
-    ∙ ap (λ l. Name table ∷ Keyword (codes "set") ∷ separated (map (setting_by (literal values)) settings) ++ l) (where-filled values conditions)
-behind-filled values (statement.Delete table conditions) = ap (λ l. Name table ∷ l) (where-filled values conditions)
-behind-filled values (statement.Select distinct items table joins conditions) =
-    ap (λ l. distinct_symbols distinct ++ (items_symbols items ++ Keyword (codes "from") ∷ Name table ∷ (flat_map join_symbols joins ++ l)))
-    (where-filled values conditions)
+    rw (map-map setting_symbols (filled_setting values) settings, where-filled values conditions) refl
+behind-filled values (statement.Delete table conditions) = rw (where-filled values conditions) refl
+behind-filled values (statement.Select distinct items table joins conditions) = rw (where-filled values conditions) refl
 
 pub word-filled : (values : List Value) (s : Statement) → first_word (filled values s) ≡ word_of s
 word-filled values (statement.Insert table slots) = refl

@@ -17,7 +17,7 @@ use plain_statements::{Slot, SlotCond, SlotSetting, Statement};
 use plain_tables::{Sequence, Text};
 use std::alloc::Global;
 
-// The statement that begins with a word, of which this is the rest. The others begin commands alone.
+// The statement that begins with a word, of which this is the rest. Some words begin commands alone.
 fn statement(alloc: Global, word: CommandWord, rest: &[u8]) -> Result<Statement, ParseRefusal>
     ensures statement { IfOk result (CompletesStatement (letters word) rest.now) }
     ensures syntax { IsErrOf result ParseRefusal.Syntax → IsOfText rest.now → (s : Statement) → IsStatement (letters word) rest.now s → ⊥ }
