@@ -2,6 +2,7 @@
 use Rattle.std.proofs.Common.{◌≡◌, List, [], ◌∷◌, ◌++◌, map, refl, sym, ap, ◌∙◌, subst, append-nil}
 use Rattle.std.specs.List.{AllByRecursion, flat_map}
 use Rattle.std.proofs.lemmas.List.{map-append, map-id}
+use Rattle.std.proofs.lemmas.Simd.{map-map}
 use Rattle.std.proofs.lemmas.List.Concat.{flat_map-append}
 use lib.Chars.{codes}
 use Rattle.plain_tables.specs.Spelling.{Symbol, Keyword, Name, Sign, Open, Close, Comma, Operator, separated_by, name_symbols, distinct_symbols, items_symbols, join_symbols}
@@ -47,10 +48,6 @@ pub record HasParts (by : (Slot → Symbol) → List Symbol) (slots : List Slot)
   pub has : slots_in parts ≡ slots
   pub well : AllByRecursion IsWell parts
 
-plain-map : (f : Slot → Symbol) (symbols : List Symbol) → symbols ≡ map (symbol_by f) (map Plain symbols)
-plain-map f [] = refl
-plain-map f (x ∷ symbols) = ap (λ l. x ∷ l) (plain-map f symbols)
-
 plain-slots : (symbols : List Symbol) → slots_in (map Plain symbols) ≡ []
 plain-slots [] = refl
 plain-slots (x ∷ symbols) = plain-slots symbols
@@ -62,7 +59,7 @@ plain-well (x ∷ symbols) well = (well.0, plain-well symbols well.1)
 plain-parts : (symbols : List Symbol) → AreWellFormed symbols → HasParts (λ f. symbols) []
 plain-parts symbols well = record {
   parts = map Plain symbols;
-  made = λ f. plain-map f symbols;
+  made = λ f. sym (map-map (symbol_by f) Plain symbols ∙ map-id symbols);
   has = plain-slots symbols;
   well = plain-well symbols well;
 }
