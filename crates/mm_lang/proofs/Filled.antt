@@ -1,10 +1,9 @@
 -- Filled: the symbols of the command that a statement is with values in its holes.
-use Rattle.std.proofs.Common.{◌≡◌, List, [], ◌∷◌, ◌++◌, map, refl, ap, ◌∙◌, arith}
+use Rattle.std.proofs.Common.{◌≡◌, List, [], ◌∷◌, map, refl, ap, ◌∙◌, arith}
 use Rattle.std.proofs.lemmas.List.{length-map}
 use Rattle.std.proofs.lemmas.Simd.{map-map}
-use Rattle.std.specs.List.{flat_map}
 use lib.Chars.{codes}
-use Rattle.plain_tables.specs.Spelling.{Symbol, Keyword, Name, Literal, Sign, Open, Close, separated, separated_by, symbols_of, value_symbols, setting_symbols, condition_symbols, distinct_symbols, items_symbols, join_symbols, where_symbols, NamesSomething}
+use Rattle.plain_tables.specs.Spelling.{Symbol, Keyword, Literal, separated_by, symbols_of, value_symbols, setting_symbols, condition_symbols, where_symbols, NamesSomething}
 use Rattle.plain_tables.specs.declared.value.Value.{Value}
 use Rattle.plain_tables.specs.declared.command.Items.TheVariants as items
 use Rattle.plain_tables.proofs.FirstWords.{first_word, behind_word, split-word}
@@ -14,7 +13,7 @@ use Rattle.plain_statements.specs.declared.statement.Statement.{Statement}
 use Rattle.plain_statements.specs.declared.statement.Statement.TheVariants as statement
 use Rattle.plain_statements.specs.Filling.{slot_value, filled_setting, filled_condition, filled}
 use Rattle.mm_lang.specs.Parsing.{where_of}
-use Rattle.mm_lang.specs.Statements.{setting_by, condition_by, word_of, behind_by, HasSomething}
+use Rattle.mm_lang.specs.Statements.{condition_by, word_of, behind_by, HasSomething}
 
 -- the literal of a slot's value
 abbrev pub literal : List Value → Slot → Symbol

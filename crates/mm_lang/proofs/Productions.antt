@@ -2,7 +2,6 @@
 use Rattle.std.proofs.Common.{◌≡◌, ◌≢◌, ℕ, ◌<◌, List, [], ◌∷◌, ◌++◌, length, map, false, ◌⊎◌, inl, inr, refl, sym, ◌∙◌, ap, arith}
 use Rattle.std.specs.Str.{bytes_eq}
 use lib.Chars.{codes}
-use Rattle.plain_tables.specs.Names.{IsName}
 use Rattle.plain_tables.specs.Spelling.{Symbol, Keyword, Name, Count, Sign, IsSymbol, Open, Close, Comma, separated, column_symbols, index_symbols, value_symbols, setting_symbols, condition_symbols, where_symbols, NamesSomething}
 use Rattle.plain_tables.specs.Reading.{lexeme, after_lexeme}
 use Rattle.plain_tables.specs.declared.value.Value.{Value}
@@ -15,7 +14,7 @@ use Rattle.plain_tables.specs.declared.command.Command.{Command}
 use Rattle.plain_tables.specs.declared.command.Command.TheVariants.{Table, DropTable, Index, DropIndex, Insert, Update, Delete, Load, Dump}
 use Rattle.plain_tables.proofs.FirstWords.{different, first_word, behind_word, split-word}
 use Rattle.mm_lang.specs.Parsing.{Reads, IsWhole, ReadsList, IsOfText, EndsItem, BeginsWithList, BeginsWithNoList, IsNameAndList, where_of, IsWhere, IsUpdate, IsDelete, Completes}
-use Rattle.mm_lang.proofs.Fronts.{no-name, reads-append, reads-split, not-word, word-ends_item}
+use Rattle.mm_lang.proofs.Fronts.{reads-append, reads-split, not-word, word-ends_item}
 use Rattle.mm_lang.proofs.Lists.{list-some, list-of_text, list-spelled, spelled-list}
 use Rattle.mm_lang.proofs.Utf8.{of_text-after}
 

@@ -2,7 +2,7 @@
 use Rattle.std.proofs.Common.{◌≡◌, ◌≢◌, ℕ, List, [], ◌∷◌, ◌++◌, map, Bool, true, false, Option, Some, None, refl, sym, ◌∙◌, ap, subst}
 use Rattle.std.specs.List.{AllByRecursion, Contains, flat_map}
 use lib.Chars.{codes}
-use Rattle.plain_tables.specs.Spelling.{Symbol, Keyword, Name, Literal, Sign, Open, Close, Comma, Operator, separated_by, symbols_of, kind_symbols, column_symbols, index_symbols, value_symbols, name_symbols, setting_symbols, condition_symbols, distinct_symbols, items_symbols, join_symbols, where_symbols, IsSymbol, IsMadeOf, Spells}
+use Rattle.plain_tables.specs.Spelling.{Symbol, Keyword, Name, Literal, Sign, Open, Close, Comma, Operator, separated_by, symbols_of, kind_symbols, column_symbols, index_symbols, value_symbols, name_symbols, setting_symbols, condition_symbols, distinct_symbols, items_symbols, join_symbols, where_symbols, IsMadeOf, Spells}
 use Rattle.plain_tables.specs.Reading.{lexeme, after_lexeme}
 use Rattle.plain_tables.specs.declared.schema.ColKind.{ColKind}
 use Rattle.plain_tables.specs.declared.schema.ColKind.TheVariants as kind
@@ -20,7 +20,7 @@ use Rattle.plain_tables.proofs.SingleItems.{whole_name}
 use Rattle.plain_tables.proofs.WellFormed.{index_word-word}
 use Rattle.mm_lang.specs.declared.parser.CommandWord.{CommandWord}
 use Rattle.mm_lang.specs.declared.parser.CommandWord.TheVariants as word
-use Rattle.mm_lang.specs.Parsing.{Reads, IsWhole, Completes}
+use Rattle.mm_lang.specs.Parsing.{IsWhole, Completes}
 use Rattle.mm_lang.specs.Words.{letters}
 
 -- ---- symbols whose keywords are words

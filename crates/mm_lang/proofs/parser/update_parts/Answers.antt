@@ -1,5 +1,5 @@
-use Rattle.std.proofs.Common.{◌≡◌, ap, sym, ◌∙◌}
-use Rattle.plain_tables.specs.Reading.{lexeme, after_lexeme}
+use Rattle.std.proofs.Common.{ap, sym, ◌∙◌}
+use Rattle.plain_tables.specs.Reading.{after_lexeme}
 use Rattle.mm_lang.proofs.Fronts.{passed-error}
 use Rattle.mm_lang.proofs.Productions.{no-settings, no-tail_of_update}
 use Rattle.mm_lang.proofs.parser.update_parts.Goals as goal
