@@ -23,19 +23,14 @@ use Rattle.plain_streams.specs.Runs.{IsEffect, too_long, not_utf8, not_a_command
 
 request_effect_keeps : (limits : Limits) (tables : Database) (request : Request) (e : Effect) → IsEffect limits tables request e
     → IsSound limits tables → IsSound limits e.database
-request_effect_keeps limits tables request e (too_long h) sound = sound
-request_effect_keeps limits tables request e (not_utf8 h u) sound = sound
-request_effect_keeps limits tables request e (not_a_command h s n) sound = sound
-request_effect_keeps limits tables request e (block_too_long n asks h) sound = sound
-request_effect_keeps limits tables request e (block_cut_short n asks few h) sound = sound
 request_effect_keeps limits tables request e (command c h s spells has) sound =
     effects_keep_sound (block_records request.block) limits tables c (spellable_are_given c (spelled-spellable (line_of request) c spells)) sound
+request_effect_keeps limits tables request e other sound = sound
 
 pub answer_keeps : (limits : Limits) (tables : Database) (request : Request) (answer : List ℕ) (after : Database)
     → Answers limits tables request answer after → IsSound limits tables → IsSound limits after
-answer_keeps limits tables request answer after (silent r s) sound = sound
 answer_keeps limits tables request answer after (effect e h) sound = request_effect_keeps limits tables request e h sound
-answer_keeps limits tables request answer after (no_memory r s has) sound = sound
+answer_keeps limits tables request answer after other sound = sound
 
 answers_keep : (limits : Limits) (tables : Database) (requests : List Request) (answers : List ℕ) (after : Database)
     → AnswersAll limits tables requests answers after → IsSound limits tables → IsSound limits after
@@ -77,7 +72,6 @@ request_keeps limits tables request e (command c h s spells has) =
 
 pub errors_change_nothing : (limits : Limits) (tables : Database) (request : Request) (answer words : List ℕ) (after : Database)
     → Answers limits tables request answer after → answer ≡ codes "error " ++ words → after ≡ tables
-errors_change_nothing limits tables request answer words after (silent r s) same = refl
 errors_change_nothing limits tables request answer words after (effect e h) same =
     let refusal = error_is_refused e.outcome words same in request_keeps limits tables request e h refusal.0 refusal.1
-errors_change_nothing limits tables request answer words after (no_memory r s has) same = refl
+errors_change_nothing limits tables request answer words after other same = refl

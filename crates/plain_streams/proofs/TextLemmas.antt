@@ -270,23 +270,18 @@ done-utf8 limits tables resolved.Tables sets all = all
 
 effect-utf8 : (limits : Limits) (tables : Database) (request : Request) (e : Effect) → IsEffect limits tables request e
     → AreTextsUtf8 tables → LeavesUtf8 e
-effect-utf8 limits tables request e (too_long h) all = all
-effect-utf8 limits tables request e (not_utf8 h u) all = all
-effect-utf8 limits tables request e (not_a_command h s n) all = all
-effect-utf8 limits tables request e (block_too_long n asks h) all = all
-effect-utf8 limits tables request e (block_cut_short n asks few h) all = all
 effect-utf8 limits tables request e (does c readable s spells has) all =
     let records : List Record = block_records request.block in
     let means : MeansUtf8 (resolved_of records tables c) =
     resolved-utf8 records tables c (spelled-stored (line_of request) c readable.utf8 spells) in
     effect_satisfies LeavesUtf8 records limits tables c (λ why. all)
     (λ r is. done-utf8 limits tables r (subst MeansUtf8 is means) all)
+effect-utf8 limits tables request e other all = all
 
 answer-utf8 : (limits : Limits) (tables : Database) (request : Request) (answer : List ℕ) (after : Database)
     → Answers limits tables request answer after → AreTextsUtf8 tables → AreTextsUtf8 after
-answer-utf8 limits tables request answer after (silent r s) all = all
 answer-utf8 limits tables request answer after (effect e h) all = effect-utf8 limits tables request e h all
-answer-utf8 limits tables request answer after (no_memory r s has) all = all
+answer-utf8 limits tables request answer after other all = all
 
 answers-utf8 : (limits : Limits) (tables : Database) (requests : List Request) (answers : List ℕ) (after : Database)
     → AnswersAll limits tables requests answers after → AreTextsUtf8 tables → AreTextsUtf8 after

@@ -189,12 +189,8 @@ plain_left found = result_map_both plain (λ why. why) found
 
 left_plain : (k : ℕ) (tables : Database) (o : Outcome)
     → doing.left_with k (plain tables) o ≡ plain_left (doing.left_with k tables o)
-left_plain k tables Done = refl
-left_plain k tables (Changed n) = refl
-left_plain k tables (Rows names rows) = refl
-left_plain k tables (Dumped name block) = refl
-left_plain k tables (Listed others) = refl
 left_plain k tables (Refused why) = refl
+left_plain k tables other = refl
 
 goes_on_plain : (next : Database → Result Database Refusal) (found : Result Database Refusal)
     → ((d : Database) → next (plain d) ≡ plain_left (next d))

@@ -77,10 +77,6 @@ other_rows_satisfy P tables others n (inr (old, new, there, alike, same)) here c
 pub rows_satisfy : (P : Database → Type 0) (limits : Limits) (tables : Database) (r : Resolved) (n : TableNumber) → rows_table r ≡ Some n → P tables
     → ((old new : Table) → slice_get tables n.0 ≡ Some old → record new { rows = old.rows } ≡ old → P (set tables n.0 new))
     → P (done limits tables r).database
-rows_satisfy P limits tables (resolved.Table name schema) m is old new = absurd (none-some m is)
-rows_satisfy P limits tables (resolved.DropTable n) m is old new = absurd (none-some m is)
-rows_satisfy P limits tables (resolved.Index n column k) m is old new = absurd (none-some m is)
-rows_satisfy P limits tables (resolved.DropIndex n column k) m is old new = absurd (none-some m is)
 rows_satisfy P limits tables (resolved.Insert n row) m is old new =
     let same : m ≡ n = sym (same_Some n m is) in
     of_table_satisfies (λ e. P e.database) n tables _ (λ r. old)
@@ -105,7 +101,7 @@ rows_satisfy P limits tables (resolved.Load n rows) m is old new =
 rows_satisfy P limits tables (resolved.Dump n) m is old new =
     of_table_satisfies (λ e. P e.database) n tables _ (λ r. old)
     (λ table there. checked_satisfies (λ e. P e.database) tables (dump_checks limits table) _ (λ r. old) (λ passed. old))
-rows_satisfy P limits tables resolved.Tables m is old new = absurd (none-some m is)
+rows_satisfy P limits tables other m is old new = absurd (none-some m is)
 
 pub own_rows_change : OwnRowsChange
 own_rows_change limits tables r n is =

@@ -68,12 +68,8 @@ insert_satisfies P limits tables n row old new =
 
 -- a record that isn't refused leaves the database of its effect
 pub left_is : (k : ℕ) (tables : Database) (o : Outcome) (new : Database) → left_with k tables o ≡ Ok new → tables ≡ new
-left_is k tables Done new h = same_Ok tables new h
-left_is k tables (Changed n) new h = same_Ok tables new h
-left_is k tables (Rows names rows) new h = same_Ok tables new h
-left_is k tables (Dumped name block) new h = same_Ok tables new h
-left_is k tables (Listed others) new h = same_Ok tables new h
 left_is k tables (Refused why) new h = absurd (not_Ok (in_record k why) new h)
+left_is k tables other new h = same_Ok tables new h
 
 -- where nothing is refused, neither what comes first is nor what comes next
 pub goes_on_parts : (next : Database → Result Database Refusal) (found : Result Database Refusal) (new : Database)

@@ -53,17 +53,8 @@ behind_word (Dump table) = Name table ∷ []
 behind_word Tables = []
 
 pub split-word : (command : Command) → (symbols_of command ≡ Keyword (first_word command) ∷ behind_word command) × IsTrue (is_word (first_word command))
-split-word (Table name schema) = (refl, refl)
-split-word (DropTable table) = (refl, refl)
-split-word (Index table column k) = (refl, refl)
-split-word (DropIndex table column k) = (refl, refl)
-split-word (Insert table values) = (refl, refl)
-split-word (Update table settings conditions) = (refl, refl)
-split-word (Delete table conditions) = (refl, refl)
 split-word (Select distinct items table joins conditions) = (simp append_assoc, refl)
-split-word (Load table bytes) = (refl, refl)
-split-word (Dump table) = (refl, refl)
-split-word Tables = (refl, refl)
+split-word other = (refl, refl)
 
 -- *, or one column or more
 abbrev pub HasItems : Items → Type 0

@@ -313,10 +313,6 @@ effects_keep_sound records limits tables c given sound =
 pub own_rows : (records : List Record) (tables : Database) (c : Command) (r : Resolved) → is_on_rows c ≡ true
     → resolved_of records tables c ≡ Ok r
     → rows_table r ≡ Some (number_of (table_of c) tables)
-own_rows records tables (command.Table name schema) r on h = absurd (false≢true on)
-own_rows records tables (command.DropTable name) r on h = absurd (false≢true on)
-own_rows records tables (command.Index name column k) r on h = absurd (false≢true on)
-own_rows records tables (command.DropIndex name column k) r on h = absurd (false≢true on)
 own_rows records tables (command.Insert name row) r on h =
     numbered_satisfies (λ q. rows_table q ≡ Some (number_of name tables)) name tables (λ table. insert_checks tables table row)
     (λ n table. resolved.Insert n row) r h (λ table there passed. refl)
@@ -335,7 +331,7 @@ own_rows records tables (command.Load name bytes) r on h =
 own_rows records tables (command.Dump name) r on h =
     numbered_satisfies (λ q. rows_table q ≡ Some (number_of name tables)) name tables (λ table. []) (λ n table. resolved.Dump n) r h
     (λ table there passed. refl)
-own_rows records tables command.Tables r on h = absurd (false≢true on)
+own_rows records tables other r on h = absurd (false≢true on)
 
 -- no command but a listing is resolved to one that shows indexes
 pub none_shown : (records : List Record) (tables : Database) (c : Command) (r : Resolved) → is_listing c ≡ false

@@ -189,8 +189,6 @@ resolved_plain records tables (command.DropTable name) other =
     (λ n t. meaning (drop_checks (plain tables) t) (resolved.DropTable n))
     (λ n t. same_checks (drop_checks (plain tables) (emptied t)) (drop_checks tables t) (resolved.DropTable n)
     (rw (referring_plain tables t.name) refl))
-resolved_plain records tables (command.Index name column k) other = absurd (false≢true (sym other))
-resolved_plain records tables (command.DropIndex name column k) other = absurd (false≢true (sym other))
 resolved_plain records tables (command.Insert name row) other =
     numbered_plain name tables (λ n t. meaning (insert_checks tables t row) (resolved.Insert n row))
     (λ n t. meaning (insert_checks (plain tables) t row) (resolved.Insert n row))
@@ -222,6 +220,7 @@ resolved_plain records tables (command.Load name bytes) other =
 resolved_plain records tables (command.Dump name) other =
     numbered_plain name tables (λ n t. Ok (resolved.Dump n)) (λ n t. Ok (resolved.Dump n)) (λ n t. refl)
 resolved_plain records tables command.Tables other = refl
+resolved_plain records tables on_indexes other = absurd (false≢true (sym other))
 
 pub resolved_by_schemas : (records : List Record) (tables others : Database) (c : Command) → is_on_indexes c ≡ false → map emptied tables ≡ map emptied others
     → resolved_of records tables c ≡ resolved_of records others c

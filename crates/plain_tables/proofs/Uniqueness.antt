@@ -4,7 +4,7 @@ use Rattle.std.specs.List.{flat_map}
 use Rattle.std.specs.Str.{bytes_eq}
 use lib.Chars.{codes}
 use Rattle.plain_tables.specs.Names.{is_word, is_name}
-use Rattle.plain_tables.specs.Spelling.{Close, Comma, Dot, Open, Star, Symbol, Keyword, Name, Count, Sign, column_symbols, index_symbols, value_symbols, name_symbols, setting_symbols, condition_symbols, where_symbols, distinct_symbols, joined_symbols, join_symbols, items_symbols, IsMadeOf, Spells, SpellsAtMostOne}
+use Rattle.plain_tables.specs.Spelling.{Close, Comma, Dot, Open, Star, Symbol, Keyword, Name, Count, Sign, column_symbols, index_symbols, value_symbols, name_symbols, setting_symbols, condition_symbols, where_symbols, distinct_symbols, joined_symbols, join_symbols, items_symbols, IsMadeOf, NamesSomething, SpellsAtMostOne}
 use Rattle.plain_tables.specs.Reading.{after_lexeme}
 use Rattle.plain_tables.specs.declared.schema.IndexKind.{IndexKind}
 use Rattle.plain_tables.specs.declared.condition.ColName.{ColName}
@@ -16,7 +16,7 @@ use Rattle.plain_tables.specs.declared.command.Items.TheVariants as items
 use Rattle.plain_tables.specs.declared.command.Command.{Command}
 use Rattle.plain_tables.specs.declared.command.Command.TheVariants.{Table, DropTable, Index, DropIndex, Insert, Update, Delete, Select, Load, Dump, Tables}
 use Rattle.plain_tables.proofs.Lexemes.{lexeme-of_made}
-use Rattle.plain_tables.proofs.FirstWords.{HasItems, first_word, from_symbols, select-items, different, spells-word}
+use Rattle.plain_tables.proofs.FirstWords.{HasItems, first_word, behind_word, from_symbols, select-items, different, spells-word}
 use Rattle.plain_tables.proofs.Lists.{NeverBegins, IsFixed, sign-fixed, word-fixed, fixed-no_fixed, fixed-no_name, fixed-no_end, HaveOneRest, fixed-ends_item, nothing-ends_item, IsOneItem, IsBetween, Ends, list_and, made-more, list-one}
 use Rattle.plain_tables.proofs.SingleItems.{whole_name, name-and, count-and, fixed-and, value-one, column-one, setting-one, name-one, condition-one, joined-one, joins-listed, index-one}
 
@@ -262,11 +262,11 @@ drop-index-one line table table' column column' j k made made' =
     index-one parts.0 table table' column column' j k parts.1 parts.2
 
 -- no line drops a table and an index
-table-no_index : (line table table' column : List ℕ) (k : IndexKind) → Spells line (DropTable table) → Spells line (DropIndex table' column k) → ⊥
-table-no_index line table table' column k spells spells' =
+table-no_index : (line : List ℕ) (symbols others : List Symbol) → IsMadeOf line (Keyword (codes "table") ∷ symbols)
+    → IsMadeOf line (Keyword (codes "index") ∷ others) → ⊥
+table-no_index line symbols others =
     fixed-no_fixed (Keyword (codes "table")) (Keyword (codes "index")) (codes "table") (codes "index") (word-fixed (codes "table") refl)
-    (word-fixed (codes "index") refl) refl (index_symbols table' column k) (after_lexeme line) (Name table ∷ [])
-    (spells-word line (DropTable table) spells).1 (spells-word line (DropIndex table' column k) spells').1
+    (word-fixed (codes "index") refl) refl others line symbols
 
 -- what stands behind a load
 load-one : (line table table' : List ℕ) (bytes bytes' : ℕ) → IsMadeOf line (Name table ∷ Count bytes ∷ [])
@@ -278,63 +278,49 @@ load-one line table table' bytes bytes' made made' =
 
 -- ---- commands
 
--- No line spells two commands with different first words.
-words-differ : (line : List ℕ) (c d : Command) → Spells line c → Spells line d → bytes_eq (first_word c) (first_word d) ≡ false → ⊥
-words-differ line c d spells spells' differ =
-    different (first_word c) (first_word d) differ (sym (spells-word line c spells).0 ∙ (spells-word line d spells').0)
+-- Behind the same first word, a line is made of the symbols of one command alone.
+behind_word-one : (line : List ℕ) (c d : Command) → NamesSomething c → NamesSomething d → first_word c ≡ first_word d
+    → IsMadeOf line (behind_word c) → IsMadeOf line (behind_word d) → c ≡ d
+behind_word-one line (Table name schema) (Table name' schema') some some' same made made' =
+    let both : (name ≡ name') × (schema.columns ≡ schema'.columns) =
+    in_parentheses-one column_symbols column-one line name name' schema.columns schema'.columns some some' made made' in
+    λ i. Table (both.0 i) (record { columns = both.1 i })
+behind_word-one line (DropTable table) (DropTable table') some some' same made made' =
+    ap DropTable (drop-table-one line table table' made made')
+behind_word-one line (DropTable table) (DropIndex table' column k) some some' same made made' =
+    absurd (table-no_index line (Name table ∷ []) (index_symbols table' column k) made made')
+behind_word-one line (DropIndex table column k) (DropTable table') some some' same made made' =
+    absurd (table-no_index line (Name table' ∷ []) (index_symbols table column k) made' made)
+behind_word-one line (Index table column j) (Index table' column' k) some some' same made made' =
+    let all : (table ≡ table') × (column ≡ column') × (j ≡ k) = index-one line table table' column column' j k made made' in
+    λ i. Index (all.0 i) (all.1 i) (all.2 i)
+behind_word-one line (DropIndex table column j) (DropIndex table' column' k) some some' same made made' =
+    let all : (table ≡ table') × (column ≡ column') × (j ≡ k) = drop-index-one line table table' column column' j k made made' in
+    λ i. DropIndex (all.0 i) (all.1 i) (all.2 i)
+behind_word-one line Tables Tables some some' same made made' = refl
+behind_word-one line (Insert table values) (Insert table' values') some some' same made made' =
+    let both : (table ≡ table') × (values ≡ values') =
+    in_parentheses-one value_symbols value-one line table table' values values' some some' made made' in
+    λ i. Insert (both.0 i) (both.1 i)
+behind_word-one line (Update table ss cs) (Update table' ts ds) some some' same made made' =
+    let all : (table ≡ table') × (ss ≡ ts) × (cs ≡ ds) = update-one line table table' ss ts cs ds some some' made made' in
+    λ i. Update (all.0 i) (all.1 i) (all.2 i)
+behind_word-one line (Delete table cs) (Delete table' ds) some some' same made made' =
+    let both : (table ≡ table') × (cs ≡ ds) = name-where-one line table table' cs ds made made' in
+    λ i. Delete (both.0 i) (both.1 i)
+behind_word-one line (Select d i table xs cs) (Select e j table' ys ds) some some' same made made' =
+    let all : (d ≡ e) × (i ≡ j) × (table ≡ table') × (xs ≡ ys) × (cs ≡ ds) =
+    select-one line d e i j table table' xs ys cs ds (select-items d i table xs cs some) (select-items e j table' ys ds some') made made' in
+    λ k. Select (all.0 k) (all.1 k) (all.2 k) (all.3 k) (all.4 k)
+behind_word-one line (Load table bytes) (Load table' bytes') some some' same made made' =
+    let both : (table ≡ table') × (bytes ≡ bytes') = load-one line table table' bytes bytes' made made' in
+    λ i. Load (both.0 i) (both.1 i)
+behind_word-one line (Dump table) (Dump table') some some' same made made' = ap Dump (name-and line table table' [] [] made made').0
+behind_word-one line c d some some' same made made' = absurd (different (first_word c) (first_word d) refl same)
 
 -- Law: no line spells two commands.
 pub spells-one : SpellsAtMostOne
-spells-one line (Table name schema) (Table name' schema') spells spells' =
-    let both : (name ≡ name') × (schema.columns ≡ schema'.columns) =
-    in_parentheses-one column_symbols column-one (after_lexeme line) name name' schema.columns schema'.columns spells.1 spells'.1
-    (spells-word line (Table name schema) spells).1 (spells-word line (Table name' schema') spells').1 in
-    λ i. Table (both.0 i) (record { columns = both.1 i })
-spells-one line (DropTable table) (DropTable table') spells spells' =
-    ap DropTable
-    (drop-table-one (after_lexeme line) table table'
-    (spells-word line (DropTable table) spells).1 (spells-word line (DropTable table') spells').1)
-spells-one line (DropTable table) (DropIndex table' column k) spells spells' =
-    absurd (table-no_index line table table' column k spells spells')
-spells-one line (DropIndex table column k) (DropTable table') spells spells' =
-    absurd (table-no_index line table' table column k spells' spells)
-spells-one line (Index table column j) (Index table' column' k) spells spells' =
-    let all : (table ≡ table') × (column ≡ column') × (j ≡ k) =
-    index-one (after_lexeme line) table table' column column' j k
-    (spells-word line (Index table column j) spells).1 (spells-word line (Index table' column' k) spells').1 in
-    λ i. Index (all.0 i) (all.1 i) (all.2 i)
-spells-one line (DropIndex table column j) (DropIndex table' column' k) spells spells' =
-    let all : (table ≡ table') × (column ≡ column') × (j ≡ k) =
-    drop-index-one (after_lexeme line) table table' column column' j k
-    (spells-word line (DropIndex table column j) spells).1 (spells-word line (DropIndex table' column' k) spells').1 in
-    λ i. DropIndex (all.0 i) (all.1 i) (all.2 i)
-spells-one line Tables Tables spells spells' = refl
-spells-one line (Insert table values) (Insert table' values') spells spells' =
-    let both : (table ≡ table') × (values ≡ values') =
-    in_parentheses-one value_symbols value-one (after_lexeme line) table table' values values' spells.1 spells'.1
-    (spells-word line (Insert table values) spells).1 (spells-word line (Insert table' values') spells').1 in
-    λ i. Insert (both.0 i) (both.1 i)
-spells-one line (Update table ss cs) (Update table' ts ds) spells spells' =
-    let all : (table ≡ table') × (ss ≡ ts) × (cs ≡ ds) =
-    update-one (after_lexeme line) table table' ss ts cs ds spells.1 spells'.1
-    (spells-word line (Update table ss cs) spells).1 (spells-word line (Update table' ts ds) spells').1 in
-    λ i. Update (all.0 i) (all.1 i) (all.2 i)
-spells-one line (Delete table cs) (Delete table' ds) spells spells' =
-    let both : (table ≡ table') × (cs ≡ ds) =
-    name-where-one (after_lexeme line) table table' cs ds
-    (spells-word line (Delete table cs) spells).1 (spells-word line (Delete table' ds) spells').1 in
-    λ i. Delete (both.0 i) (both.1 i)
-spells-one line (Select d i table xs cs) (Select e j table' ys ds) spells spells' =
-    let all : (d ≡ e) × (i ≡ j) × (table ≡ table') × (xs ≡ ys) × (cs ≡ ds) =
-    select-one (after_lexeme line) d e i j table table' xs ys cs ds (select-items d i table xs cs spells.1) (select-items e j table' ys ds spells'.1)
-    (spells-word line (Select d i table xs cs) spells).1 (spells-word line (Select e j table' ys ds) spells').1 in
-    λ k. Select (all.0 k) (all.1 k) (all.2 k) (all.3 k) (all.4 k)
-spells-one line (Load table bytes) (Load table' bytes') spells spells' =
-    let both : (table ≡ table') × (bytes ≡ bytes') =
-    load-one (after_lexeme line) table table' bytes bytes'
-    (spells-word line (Load table bytes) spells).1 (spells-word line (Load table' bytes') spells').1 in
-    λ i. Load (both.0 i) (both.1 i)
-spells-one line (Dump table) (Dump table') spells spells' =
-    ap Dump (name-and (after_lexeme line) table table' [] []
-    (spells-word line (Dump table) spells).1 (spells-word line (Dump table') spells').1).0
-spells-one line c d spells spells' = absurd (words-differ line c d spells spells' refl)
+spells-one line c d spells spells' =
+    let (word, made) = spells-word line c spells in
+    let (word', made') = spells-word line d spells' in
+    behind_word-one (after_lexeme line) c d spells.1 spells'.1 (sym word ∙ word') made made'
