@@ -19,18 +19,17 @@ use Rattle.plain_tables.proofs.Lexemes.{lexeme-of_made}
 pub different : (word other : List ℕ) → bytes_eq word other ≡ false → word ≢ other
 different word other test e = let same : bytes_eq word other ≡ true = (bytes_eq-Decides word other).1 e in cc
 
+-- the word of the first symbol, and the symbols behind it
+abbrev word_in_front : List Symbol → List ℕ
+word_in_front (Keyword word ∷ symbols) = word
+word_in_front symbols = []
+
+abbrev behind_front : List Symbol → List Symbol
+behind_front [] = []
+behind_front (symbol ∷ symbols) = symbols
+
 abbrev pub first_word : Command → List ℕ
-first_word (Table name schema) = codes "table"
-first_word (DropTable table) = codes "drop"
-first_word (Index table column k) = codes "index"
-first_word (DropIndex table column k) = codes "drop"
-first_word (Insert table values) = codes "insert"
-first_word (Update table settings conditions) = codes "update"
-first_word (Delete table conditions) = codes "delete"
-first_word (Select distinct items table joins conditions) = codes "select"
-first_word (Load table bytes) = codes "load"
-first_word (Dump table) = codes "dump"
-first_word Tables = codes "tables"
+first_word command = word_in_front (symbols_of command)
 
 -- from NAME {join ..} [where ..]
 abbrev pub from_symbols : List ℕ → List Join → List Cond → List Symbol
@@ -38,19 +37,9 @@ from_symbols table joins conditions =
     Keyword (codes "from") ∷ Name table ∷ (flat_map join_symbols joins ++ where_symbols conditions)
 
 abbrev pub behind_word : Command → List Symbol
-behind_word (Table name schema) = Name name ∷ Sign Open ∷ separated (map column_symbols schema.columns) ++ Sign Close ∷ []
-behind_word (DropTable table) = Keyword (codes "table") ∷ Name table ∷ []
-behind_word (Index table column k) = index_symbols table column k
-behind_word (DropIndex table column k) = Keyword (codes "index") ∷ index_symbols table column k
-behind_word (Insert table values) = Name table ∷ Sign Open ∷ separated (map value_symbols values) ++ Sign Close ∷ []
-behind_word (Update table settings conditions) =
-    Name table ∷ Keyword (codes "set") ∷ separated (map setting_symbols settings) ++ where_symbols conditions
-behind_word (Delete table conditions) = Name table ∷ where_symbols conditions
 behind_word (Select distinct items table joins conditions) =
     distinct_symbols distinct ++ (items_symbols items ++ from_symbols table joins conditions)
-behind_word (Load table bytes) = Name table ∷ Count bytes ∷ []
-behind_word (Dump table) = Name table ∷ []
-behind_word Tables = []
+behind_word other = behind_front (symbols_of other)
 
 pub split-word : (command : Command) → (symbols_of command ≡ Keyword (first_word command) ∷ behind_word command) × IsTrue (is_word (first_word command))
 split-word (Select distinct items table joins conditions) = (simp append_assoc, refl)
