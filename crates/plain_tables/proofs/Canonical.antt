@@ -18,7 +18,7 @@ use Rattle.plain_tables.proofs.WellFormed.{IsSpellableSymbol, command-spellable,
 
 -- ---- the text of a symbol is its characters
 
-abbrev HasText : Symbol → Type 0
+abbrev pub HasText : Symbol → Type 0
 HasText symbol = IsSymbol (symbol_text symbol) symbol
 
 pub integer-text : (z : ℤ) → FitsSigned w64 z → IsInteger (signed_decimal z) z
@@ -34,7 +34,7 @@ count-text n fits =
     let digits : IsNumeral 10 (decimal n) × (digits_value 10 (decimal n) ≡ n) = decimal_is_IsNumeral n (omega (arith, fits)) in
     (fits, digits.0, sym digits.1)
 
-symbol-text : (symbol : Symbol) → IsSpellableSymbol symbol → HasText symbol
+pub symbol-text : (symbol : Symbol) → IsSpellableSymbol symbol → HasText symbol
 symbol-text (Name name) can = (refl, can)
 symbol-text (Literal (value.Int z)) can = integer-text z can
 symbol-text (Count n) can = count-text n can
@@ -60,6 +60,12 @@ spaced-first : (symbol : Symbol) (symbols : List Symbol) → spaced (symbol ∷ 
 unfolding tail_of
 spaced-first symbol [] = sym (append-nil (symbol_text symbol))
 spaced-first symbol (next ∷ symbols) = refl
+
+-- No symbol goes on with a blank.
+pub blank-ends : (symbol : Symbol) (rest : List ℕ) → EndsBefore symbol (32 ∷ rest)
+blank-ends (Literal (value.Text text)) rest = refl
+blank-ends (Sign (Operator op.Lt)) rest = refl
+blank-ends symbol rest = refl
 
 -- A symbol ends before the gap that follows it, and before a sign.
 gap-ends : (symbol next : Symbol) (rest : List ℕ) → EndsBefore symbol (gap symbol next ++ (symbol_text next ++ rest))

@@ -7,6 +7,7 @@ use lib.Chars.{codes}
 use Rattle.plain_tables.specs.Names.{is_word}
 use Rattle.plain_tables.specs.Spelling.{Symbol, Keyword, Name, Count, Sign, Open, Close, separated, symbols_of, column_symbols, index_symbols, value_symbols, setting_symbols, items_symbols, distinct_symbols, join_symbols, where_symbols, IsMadeOf, NamesSomething, Spells}
 use Rattle.plain_tables.specs.Reading.{lexeme, after_lexeme}
+use Rattle.plain_tables.specs.ResolvedLaws.{NamesItems}
 use Rattle.plain_tables.specs.declared.condition.Cond.{Cond}
 use Rattle.plain_tables.specs.declared.command.Join.{Join}
 use Rattle.plain_tables.specs.declared.command.Items.{Items}
@@ -45,13 +46,8 @@ pub split-word : (command : Command) → (symbols_of command ≡ Keyword (first_
 split-word (Select distinct items table joins conditions) = (simp append_assoc, refl)
 split-word other = (refl, refl)
 
--- *, or one column or more
-abbrev pub HasItems : Items → Type 0
-HasItems items.All = Unit {0}
-HasItems (items.Named names) = 0 < length names
-
 pub select-items : (distinct : Bool) (i : Items) (table : List ℕ) (joins : List Join) (conditions : List Cond)
-    → NamesSomething (Select distinct i table joins conditions) → HasItems i
+    → NamesSomething (Select distinct i table joins conditions) → NamesItems i
 select-items distinct items.All table joins conditions some = tt
 select-items distinct (items.Named names) table joins conditions some = some
 

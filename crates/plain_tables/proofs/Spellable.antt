@@ -5,6 +5,7 @@ use Rattle.std.specs.List.{AllByRecursion, flat_map}
 use lib.Chars.{codes}
 use Rattle.plain_tables.specs.Names.{IsName}
 use Rattle.plain_tables.specs.Spelling.{Close, Comma, Symbol, Keyword, Sign, Operator, Literal, separated, kind_symbols, column_symbols, value_symbols, name_symbols, setting_symbols, condition_symbols, where_symbols, distinct_symbols, join_symbols, items_symbols, symbols_of, IsSymbol, IsMadeOf, NamesSomething, IsSpellableKind, IsSpellableColumn, IsSpellableValue, IsSpellableName, IsSpellableSetting, IsSpellableCondition, IsSpellableJoin, AreSpellableItems, IsSpellable, SpelledIsSpellable}
+use Rattle.plain_tables.specs.ResolvedLaws.{NamesItems}
 use Rattle.plain_tables.specs.declared.value.Value.{Value}
 use Rattle.plain_tables.specs.declared.value.Value.TheVariants as value
 use Rattle.plain_tables.specs.declared.schema.ColKind.{ColKind}
@@ -18,7 +19,7 @@ use Rattle.plain_tables.specs.declared.command.Items.{Items}
 use Rattle.plain_tables.specs.declared.command.Items.TheVariants as items
 use Rattle.plain_tables.specs.declared.command.Command.{Command}
 use Rattle.plain_tables.specs.declared.command.Command.TheVariants.{Table, DropTable, Index, DropIndex, Insert, Update, Delete, Select, Load, Dump, Tables}
-use Rattle.plain_tables.proofs.FirstWords.{HasItems, from_symbols, select-items, split-word}
+use Rattle.plain_tables.proofs.FirstWords.{from_symbols, select-items, split-word}
 use Rattle.plain_tables.proofs.Separated.{all-left, all-right, separated-each}
 use Rattle.plain_tables.proofs.LineFeeds.{HasNoFeed, contains-no_feed, literal-feed}
 
@@ -105,7 +106,7 @@ from-each table joins conditions all = (
   where-each conditions (all-right HasCharacters (flat_map join_symbols joins) (where_symbols conditions) all.1.1),
 )
 
-items-each : (items : Items) (more : List Symbol) → HasItems items → HaveCharacters (items_symbols items ++ more)
+items-each : (items : Items) (more : List Symbol) → NamesItems items → HaveCharacters (items_symbols items ++ more)
     → AreSpellableItems items × HaveCharacters more
 items-each items.All more some all = (tt, all.1)
 items-each (items.Named names) more some all =

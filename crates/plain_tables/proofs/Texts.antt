@@ -19,7 +19,7 @@ two_more n = omega arith
 pub one_more : (n : ℕ) → 1 + n ≡ suc n
 one_more n = omega arith
 
-text_length-plain : (c : ℕ) (cs : List ℕ) → (c == 39) ≡ false → text_length (c ∷ cs) ≡ 1 + text_length cs
+pub text_length-plain : (c : ℕ) (cs : List ℕ) → (c == 39) ≡ false → text_length (c ∷ cs) ≡ 1 + text_length cs
 text_length-plain c [] plain = refl
 text_length-plain c (d ∷ cs) plain = rw plain refl
 

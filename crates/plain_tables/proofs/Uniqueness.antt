@@ -6,6 +6,7 @@ use lib.Chars.{codes}
 use Rattle.plain_tables.specs.Names.{is_word, is_name}
 use Rattle.plain_tables.specs.Spelling.{Close, Comma, Dot, Open, Star, Symbol, Keyword, Name, Count, Sign, column_symbols, index_symbols, value_symbols, name_symbols, setting_symbols, condition_symbols, where_symbols, distinct_symbols, joined_symbols, join_symbols, items_symbols, IsMadeOf, NamesSomething, SpellsAtMostOne}
 use Rattle.plain_tables.specs.Reading.{after_lexeme}
+use Rattle.plain_tables.specs.ResolvedLaws.{NamesItems}
 use Rattle.plain_tables.specs.declared.schema.IndexKind.{IndexKind}
 use Rattle.plain_tables.specs.declared.condition.ColName.{ColName}
 use Rattle.plain_tables.specs.declared.condition.Cond.{Cond}
@@ -16,7 +17,7 @@ use Rattle.plain_tables.specs.declared.command.Items.TheVariants as items
 use Rattle.plain_tables.specs.declared.command.Command.{Command}
 use Rattle.plain_tables.specs.declared.command.Command.TheVariants.{Table, DropTable, Index, DropIndex, Insert, Update, Delete, Select, Load, Dump, Tables}
 use Rattle.plain_tables.proofs.Lexemes.{lexeme-of_made}
-use Rattle.plain_tables.proofs.FirstWords.{HasItems, first_word, behind_word, from_symbols, select-items, different, spells-word}
+use Rattle.plain_tables.proofs.FirstWords.{first_word, behind_word, from_symbols, select-items, different, spells-word}
 use Rattle.plain_tables.proofs.Lists.{NeverBegins, IsFixed, sign-fixed, word-fixed, fixed-no_fixed, fixed-no_name, fixed-no_end, HaveOneRest, fixed-ends_item, nothing-ends_item, IsOneItem, IsBetween, Ends, list_and, made-more, list-one}
 use Rattle.plain_tables.proofs.SingleItems.{whole_name, name-and, count-and, fixed-and, value-one, column-one, setting-one, name-one, condition-one, joined-one, joins-listed, index-one}
 
@@ -111,13 +112,13 @@ star-no_names : (names : List ColName) (more : List Symbol) → 0 < length names
     → NeverBegins (Sign Star) (list_and (Sign Comma) name_symbols names more)
 star-no_names = fixed-no_columns (Sign Star) (codes "*") (sign-fixed Star) refl
 
-distinct-no_items : (items : Items) (more : List Symbol) → HasItems items → NeverBegins (Keyword (codes "distinct")) (items_symbols items ++ more)
+distinct-no_items : (items : Items) (more : List Symbol) → NamesItems items → NeverBegins (Keyword (codes "distinct")) (items_symbols items ++ more)
 distinct-no_items items.All more some =
     fixed-no_fixed (Keyword (codes "distinct")) (Sign Star) (codes "distinct") (codes "*") (word-fixed (codes "distinct") refl) (sign-fixed Star) refl more
 distinct-no_items (items.Named names) more some =
     fixed-no_columns (Keyword (codes "distinct")) (codes "distinct") (word-fixed (codes "distinct") refl) refl names more some
 
-items-one : (line : List ℕ) (i j : Items) (m n : List Symbol) → HasItems i → HasItems j → Ends (Sign Comma) m → Ends (Sign Comma) n
+items-one : (line : List ℕ) (i j : Items) (m n : List Symbol) → NamesItems i → NamesItems j → Ends (Sign Comma) m → Ends (Sign Comma) n
     → IsMadeOf line (items_symbols i ++ m) → IsMadeOf line (items_symbols j ++ n) → (i ≡ j) × HaveOneRest m n
 items-one line items.All items.All m n has has' ends ends' made made' = (refl, fixed-and (Sign Star) tt line m n made made')
 items-one line items.All (items.Named names) m n has has' ends ends' made made' =
@@ -217,7 +218,7 @@ from-one line name name' xs ys cs ds made made' =
     (names.0, others.0, others.1)
 
 -- Either both begin with the word distinct, or neither does.
-distinct-one : (line : List ℕ) (d e : Bool) (i j : Items) (m n : List Symbol) → HasItems i → HasItems j
+distinct-one : (line : List ℕ) (d e : Bool) (i j : Items) (m n : List Symbol) → NamesItems i → NamesItems j
     → IsMadeOf line (distinct_symbols d ++ (items_symbols i ++ m)) → IsMadeOf line (distinct_symbols e ++ (items_symbols j ++ n))
     → (d ≡ e) × HaveOneRest (items_symbols i ++ m) (items_symbols j ++ n)
 distinct-one line true true i j m n has has' made made' =
@@ -230,7 +231,7 @@ abbrev select_symbols : Bool → Items → List ℕ → List Join → List Cond 
 select_symbols distinct items table joins conditions =
     distinct_symbols distinct ++ (items_symbols items ++ from_symbols table joins conditions)
 
-select-one : (line : List ℕ) (d e : Bool) (i j : Items) (name name' : List ℕ) (xs ys : List Join) (cs ds : List Cond) → HasItems i → HasItems j
+select-one : (line : List ℕ) (d e : Bool) (i j : Items) (name name' : List ℕ) (xs ys : List Join) (cs ds : List Cond) → NamesItems i → NamesItems j
     → IsMadeOf line (select_symbols d i name xs cs) → IsMadeOf line (select_symbols e j name' ys ds)
     → (d ≡ e) × (i ≡ j) × (name ≡ name') × (xs ≡ ys) × (cs ≡ ds)
 select-one line d e i j name name' xs ys cs ds has has' made made' =
