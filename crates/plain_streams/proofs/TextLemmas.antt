@@ -1,6 +1,6 @@
 -- Each request, and so each run, keeps the texts of a database UTF-8.
 use Rattle.std.proofs.Common.{◌≡◌, ℕ, List, [], ◌∷◌, ◌++◌, map, set, length, Bool, cond, sym, subst, Option, Some, None}
-use Rattle.std.specs.Prelude.{ℤ, Result, Ok, Err, IfSome, not, slice_get, zip, ◌&&◌, ◌==◌}
+use Rattle.std.specs.Prelude.{ℤ, Ok, IfOk, IfSome, not, slice_get, zip, ◌&&◌, ◌==◌}
 use Rattle.std.specs.List.{All, AllZip}
 use Rattle.std.specs.Option.{option_map, option_map_or}
 use Rattle.std.specs.Str.{is_utf8}
@@ -34,6 +34,7 @@ use Rattle.plain_tables.proofs.EffectLemmas.{checked_satisfies, of_table_satisfi
 use Rattle.common_lemmas.proofs.Elements.{All-at, All-remove, mapped_more}
 use Rattle.common_lemmas.proofs.Options.{option_map_or_satisfies}
 use Rattle.common_lemmas.proofs.Tests.{find_satisfies}
+use Rattle.plain_tables.proofs.Meanings.{satisfies, if_checked, if_numbered, if_on_column, if_read}
 use Rattle.plain_tables.proofs.RowLemmas.{All-with_row}
 use Rattle.plain_tables.proofs.SoundLemmas.{no_tables_are_sound}
 use Rattle.mm_csv.specs.BlockReading.{block_records}
@@ -119,29 +120,6 @@ SetsUtf8 (resolved.Update n assignments tests) = All (λ a. IsTextUtf8 a.value) 
 SetsUtf8 (resolved.Load n rows) = All (All IsTextUtf8) rows
 SetsUtf8 r = Unit {0}
 
--- the texts that a command is to store, if it isn't refused
-abbrev MeansUtf8 : Result Resolved Refusal → Type 0
-MeansUtf8 (Ok r) = SetsUtf8 r
-MeansUtf8 (Err why) = Unit {0}
-
-meaning-utf8 : (checks : List Check) (r : Resolved) → SetsUtf8 r → MeansUtf8 (meaning checks r)
-meaning-utf8 [] r is = is
-meaning-utf8 (c ∷ checks) r is =
-    cond_both c.refuses (Err c.refusal) (meaning checks r) MeansUtf8 (λ t. tt) (λ f. meaning-utf8 checks r is)
-
-numbered-utf8 : (name : List ℕ) (tables : Database) (means : TableNumber → Table → Result Resolved Refusal)
-    → ((table : Table) → MeansUtf8 (means (number_of name tables) table)) → MeansUtf8 (on_numbered name tables means)
-numbered-utf8 name tables means each =
-    option_map_or_satisfies MeansUtf8 (means (number_of name tables)) (table_named name tables) (Err NoSuchTable) tt
-    (λ table there. each table)
-
-column-utf8 : (column : List ℕ) (table : Table) (means : ColumnNumber → Result Resolved Refusal)
-    → ((c : ColumnNumber) → MeansUtf8 (means c)) → MeansUtf8 (on_column column table means)
-column-utf8 column table means each =
-    option_map_or_satisfies MeansUtf8 (λ place. means place.column)
-    (place_meant (own_columns table) (record { table = None; column = column })) (Err NoSuchColumn) tt
-    (λ place there. each place.column)
-
 assignments-utf8 : (columns : List JoinedColumn) (settings : List Setting) → All (λ s. IsTextUtf8 s.value) settings
     → All (λ a. IsTextUtf8 a.value) (assignments_of columns settings)
 assignments-utf8 columns [] all = All-nil (λ a. IsTextUtf8 a.value)
@@ -151,48 +129,29 @@ assignments-utf8 columns (s ∷ settings) all =
     (λ place meant. All-head (λ (t : Setting). IsTextUtf8 t.value) s settings all)
     (assignments-utf8 columns settings (All-tail (λ (t : Setting). IsTextUtf8 t.value) s settings all))
 
-load-utf8 : (n : TableNumber) (reading : Reading) → ReadsUtf8 reading → MeansUtf8 (load_of n reading)
-load-utf8 n (Rows rows) all = all
-load-utf8 n BadHeader all = tt
-load-utf8 n (BadRecord k) all = tt
-
-resolved-utf8 : (records : List Record) (tables : Database) (c : Command) → StoresUtf8 c → MeansUtf8 (resolved_of records tables c)
-resolved-utf8 records tables (command.Table name schema) stores =
-    meaning-utf8 (table_checks tables name schema) (resolved.Table name schema) tt
+resolved-utf8 : (records : List Record) (tables : Database) (c : Command) → StoresUtf8 c → IfOk (resolved_of records tables c) SetsUtf8
+resolved-utf8 records tables (command.Table name schema) stores = if_checked _ (table_checks tables name schema) _ (λ passed. tt)
 resolved-utf8 records tables (command.DropTable name) stores =
-    numbered-utf8 name tables (λ n table. meaning (drop_checks tables table) (resolved.DropTable n))
-    (λ table. meaning-utf8 (drop_checks tables table) (resolved.DropTable (number_of name tables)) tt)
+    if_numbered _ name tables _ (λ table there. if_checked _ (drop_checks tables table) _ (λ passed. tt))
 resolved-utf8 records tables (command.Index name column k) stores =
-    numbered-utf8 name tables (λ n table. on_column column table (λ c. meaning (index_checks table c k) (resolved.Index n c k)))
-    (λ table. column-utf8 column table (λ c. meaning (index_checks table c k) (resolved.Index (number_of name tables) c k))
-    (λ c. meaning-utf8 (index_checks table c k) (resolved.Index (number_of name tables) c k) tt))
+    if_numbered _ name tables _ (λ table there. if_on_column _ column table _
+    (λ place within. if_checked _ (index_checks table place.column k) _ (λ passed. tt)))
 resolved-utf8 records tables (command.DropIndex name column k) stores =
-    numbered-utf8 name tables (λ n table. on_column column table
-    (λ c. meaning (drop_index_checks table c k) (resolved.DropIndex n c k)))
-    (λ table. column-utf8 column table (λ c. meaning (drop_index_checks table c k) (resolved.DropIndex (number_of name tables) c k))
-    (λ c. meaning-utf8 (drop_index_checks table c k) (resolved.DropIndex (number_of name tables) c k) tt))
+    if_numbered _ name tables _ (λ table there. if_on_column _ column table _
+    (λ place within. if_checked _ (drop_index_checks table place.column k) _ (λ passed. tt)))
 resolved-utf8 records tables (command.Insert name row) stores =
-    numbered-utf8 name tables (λ n table. meaning (insert_checks tables table row) (resolved.Insert n row))
-    (λ table. meaning-utf8 (insert_checks tables table row) (resolved.Insert (number_of name tables) row) stores)
+    if_numbered _ name tables _ (λ table there. if_checked _ (insert_checks tables table row) _ (λ passed. stores))
 resolved-utf8 records tables (command.Update name settings conditions) stores =
-    numbered-utf8 name tables (λ n table. meaning (update_checks tables table settings conditions)
-    (resolved.Update n (assignments_of (own_columns table) settings) (tests_of (own_columns table) conditions)))
-    (λ table. meaning-utf8 (update_checks tables table settings conditions)
-    (resolved.Update (number_of name tables) (assignments_of (own_columns table) settings)
-    (tests_of (own_columns table) conditions))
-    (assignments-utf8 (own_columns table) settings stores))
+    if_numbered _ name tables _ (λ table there. if_checked _ (update_checks tables table settings conditions) _
+    (λ passed. assignments-utf8 (own_columns table) settings stores))
 resolved-utf8 records tables (command.Delete name conditions) stores =
-    numbered-utf8 name tables (λ n table. meaning (delete_checks tables table conditions)
-    (resolved.Delete n (tests_of (own_columns table) conditions)))
-    (λ table. meaning-utf8 (delete_checks tables table conditions)
-    (resolved.Delete (number_of name tables) (tests_of (own_columns table) conditions)) tt)
+    if_numbered _ name tables _ (λ table there. if_checked _ (delete_checks tables table conditions) _ (λ passed. tt))
 resolved-utf8 records tables (command.Select distinct its name joins conditions) stores =
-    meaning-utf8 (select_checks tables its name joins conditions) (select_of tables distinct its name joins conditions) tt
+    if_checked _ (select_checks tables its name joins conditions) _ (λ passed. tt)
 resolved-utf8 records tables (command.Load name bytes) stores =
-    numbered-utf8 name tables (λ n table. load_of n (table_reading tables table records))
-    (λ table. load-utf8 (number_of name tables) (table_reading tables table records) (reading-utf8 tables table records))
-resolved-utf8 records tables (command.Dump name) stores =
-    numbered-utf8 name tables (λ n table. Ok (resolved.Dump n)) (λ table. tt)
+    if_numbered _ name tables _ (λ table there. if_read _ _ (table_reading tables table records)
+    (λ rows read. subst ReadsUtf8 read (reading-utf8 tables table records)))
+resolved-utf8 records tables (command.Dump name) stores = if_numbered _ name tables _ (λ table there. tt)
 resolved-utf8 records tables command.Tables stores = tt
 
 -- ---- what is done
@@ -272,10 +231,10 @@ effect-utf8 : (limits : Limits) (tables : Database) (request : Request) (e : Eff
     → AreTextsUtf8 tables → LeavesUtf8 e
 effect-utf8 limits tables request e (does c readable s spells has) all =
     let records : List Record = block_records request.block in
-    let means : MeansUtf8 (resolved_of records tables c) =
+    let means : IfOk (resolved_of records tables c) SetsUtf8 =
     resolved-utf8 records tables c (spelled-stored (line_of request) c readable.utf8 spells) in
     effect_satisfies LeavesUtf8 records limits tables c (λ why. all)
-    (λ r is. done-utf8 limits tables r (subst MeansUtf8 is means) all)
+    (λ r is. done-utf8 limits tables r (satisfies SetsUtf8 (resolved_of records tables c) r is means) all)
 effect-utf8 limits tables request e other all = all
 
 answer-utf8 : (limits : Limits) (tables : Database) (request : Request) (answer : List ℕ) (after : Database)
