@@ -113,21 +113,6 @@ own_rows_change limits tables r n is =
 
 -- ---- refusals
 
-not_done : (why : Refusal) → Done ≡ Refused why → ⊥
-not_done why same = cc
-
-not_changed : (n : ℕ) (why : Refusal) → Changed n ≡ Refused why → ⊥
-not_changed n why same = cc
-
-not_rows : (names : List (List ℕ)) (rows : List Row) (why : Refusal) → Rows names rows ≡ Refused why → ⊥
-not_rows names rows why same = cc
-
-not_dumped : (name block : List ℕ) (why : Refusal) → Dumped name block ≡ Refused why → ⊥
-not_dumped name block why same = cc
-
-not_listed : (tables : Database) (why : Refusal) → Listed tables ≡ Refused why → ⊥
-not_listed tables why same = cc
-
 pub refusal_keeps : (tables : Database) (r : Refusal) → KeepsIfRefused tables (refused tables r)
 refusal_keeps tables r why same = refl
 
@@ -135,36 +120,32 @@ pub refused_update_keeps : RefusedUpdateKeeps
 refused_update_keeps tables n assignments picks =
     of_table_satisfies (KeepsIfRefused tables) n tables _ (refusal_keeps tables)
     (λ table there. checked_satisfies (KeepsIfRefused tables) tables (update_checks tables table assignments) _ (refusal_keeps tables)
-    (λ passed why same. absurd (not_changed _ why same)))
+    (λ passed why same. cc))
 
 pub refused_delete_keeps : RefusedDeleteKeeps
 refused_delete_keeps tables n picks =
     of_table_satisfies (KeepsIfRefused tables) n tables _ (refusal_keeps tables)
     (λ table there. checked_satisfies (KeepsIfRefused tables) tables (delete_checks tables table picks) _ (refusal_keeps tables)
-    (λ passed why same. absurd (not_changed _ why same)))
+    (λ passed why same. cc))
 
 pub refused_keeps : RefusedKeeps
-refused_keeps limits tables (resolved.Table name schema) = λ why same. absurd (not_done why same)
-refused_keeps limits tables (resolved.DropTable n) = λ why same. absurd (not_done why same)
 refused_keeps limits tables (resolved.Index n column k) =
-    of_table_satisfies (KeepsIfRefused tables) n tables _ (refusal_keeps tables) (λ table there why same. absurd (not_done why same))
+    of_table_satisfies (KeepsIfRefused tables) n tables _ (refusal_keeps tables) (λ table there why same. cc)
 refused_keeps limits tables (resolved.DropIndex n column k) =
-    of_table_satisfies (KeepsIfRefused tables) n tables _ (refusal_keeps tables) (λ table there why same. absurd (not_done why same))
+    of_table_satisfies (KeepsIfRefused tables) n tables _ (refusal_keeps tables) (λ table there why same. cc)
 refused_keeps limits tables (resolved.Insert n row) =
     of_table_satisfies (KeepsIfRefused tables) n tables _ (refusal_keeps tables)
     (λ table there. checked_satisfies (KeepsIfRefused tables) tables (insert_checks limits tables table row) _ (refusal_keeps tables)
-    (λ passed why same. absurd (not_changed _ why same)))
+    (λ passed why same. cc))
 refused_keeps limits tables (resolved.Update n assignments tests) = refused_update_keeps tables n assignments (passes_all tests)
 refused_keeps limits tables (resolved.Delete n tests) = refused_delete_keeps tables n (passes_all tests)
-refused_keeps limits tables (resolved.Select query) = λ why same. absurd (not_rows _ _ why same)
 refused_keeps limits tables (resolved.Load n rows) =
-    load_satisfies (KeepsIfRefused tables) limits tables n rows (refusal_keeps tables)
-    (λ new all why same. absurd (not_changed _ why same))
+    load_satisfies (KeepsIfRefused tables) limits tables n rows (refusal_keeps tables) (λ new all why same. cc)
 refused_keeps limits tables (resolved.Dump n) =
     of_table_satisfies (KeepsIfRefused tables) n tables _ (refusal_keeps tables)
     (λ table there. checked_satisfies (KeepsIfRefused tables) tables (dump_checks limits table) _ (refusal_keeps tables)
-    (λ passed why same. absurd (not_dumped _ _ why same)))
-refused_keeps limits tables resolved.Tables = λ why same. absurd (not_listed tables why same)
+    (λ passed why same. cc))
+refused_keeps limits tables other = λ why same. cc
 
 -- ---- update
 
