@@ -7,6 +7,7 @@ use Rattle.std.specs.Str.{bytes_eq}
 use Rattle.std.proofs.lemmas.Bool.{cases_Bool, or_parts, not-false, eqb-true}
 use Rattle.std.proofs.lemmas.List.{length-map}
 use Rattle.std.proofs.lemmas.List.Folds.{list_any-append}
+use Rattle.std.proofs.Math.Bool.{or_assoc}
 use Rattle.plain_tables.specs.Values.{is_null}
 use Rattle.plain_tables.specs.Tables.{Table}
 use Rattle.plain_tables.specs.Databases.{Database, table_named}
@@ -96,15 +97,9 @@ unless-first (check ∷ checks) r =
 
 -- ---- given values, and those to come
 
-or-assoc : (a b c : Bool) → (a || (b || c)) ≡ ((a || b) || c)
-or-assoc true b c = refl
-or-assoc false b c = refl
-
 or-swap : (a b c : Bool) → (a || (b || c)) ≡ (b || (a || c))
 or-swap true true c = refl
-or-swap true false c = refl
-or-swap false true c = refl
-or-swap false false c = refl
+or-swap a b c = refl
 
 -- whether this holds of the value of a slot
 abbrev pub holds : (Value → Need → Bool) → List Value → Needed → Bool
@@ -116,7 +111,7 @@ pub holds-apart : (test : Value → Need → Bool) (values : List Value) (needs 
 holds-apart test values [] = refl
 holds-apart test values ((Given v, need) ∷ needs) =
     ap (λ b. test v need || b) (holds-apart test values needs)
-    ∙ or-assoc (test v need) (list_any (is_given test) needs) (list_any (comes test values) (wants_of needs))
+    ∙ sym (or_assoc (test v need) (list_any (is_given test) needs) (list_any (comes test values) (wants_of needs)))
 holds-apart test values ((Hole n, need) ∷ needs) =
     ap (λ b. test (hole_value values n) need || b) (holds-apart test values needs)
     ∙ or-swap (test (hole_value values n) need) (list_any (is_given test) needs) (list_any (comes test values) (wants_of needs))
@@ -131,11 +126,9 @@ checked_values values needs late r =
 sorted : (w p g : Bool) (late : List Check) (r : Resolved)
     → (if w then Err WrongType else if p then Err TextTooLong else unless (if g then Some TextTooLong else first_refusal late) r)
     ≡ (if w then Err WrongType else if g || p then Err TextTooLong else meaning late r)
-sorted true p g late r = refl
-sorted false true true late r = refl
-sorted false true false late r = refl
-sorted false false true late r = refl
 sorted false false false late r = unless-first late r
+sorted false true true late r = refl
+sorted w p g late r = refl
 
 -- where no given value is wrong, to finish a resolution is to check all values
 pub finished-checked : (values : List Value) (needs : List Needed) (late : List Check) (t : Template) → list_any (is_given is_wrong) needs ≡ false
@@ -164,9 +157,7 @@ not-or (Some b) v = refl
 
 null-wanted : (takes ordered : Bool) → (not takes || ordered) ≡ not (takes && not ordered)
 null-wanted true true = refl
-null-wanted true false = refl
-null-wanted false true = refl
-null-wanted false false = refl
+null-wanted takes ordered = refl
 
 compared : (tables : Database) (k : ColKind) (v : Value) (o : Op)
     → (not (is_typed tables v k) || (is_null v && asks_order o)) ≡ is_wrong v (compared_need tables k o)

@@ -10,9 +10,8 @@ use Rattle.plain_tables.specs.declared.command.Items.TheVariants as items
 use Rattle.plain_tables.specs.declared.command.Command.TheVariants as command
 
 width : (v : Value) → IsSpellableValue v → HasWidth v
-width value.Null is = tt
 width (value.Int z) is = is
-width (value.Text text) is = tt
+width other is = tt
 
 named_items : (its : Items) → AreSpellableItems its → NamesItems its
 named_items items.All is = tt

@@ -38,19 +38,11 @@ operator-ends_item o more =
   where
     no_dot : (o : Op) → bytes_eq (codes ".") (operator_text o) ≡ false
     no_dot op.Eq = refl
-    no_dot op.Ne = refl
-    no_dot op.Lt = refl
-    no_dot op.Le = refl
-    no_dot op.Gt = refl
-    no_dot op.Ge = refl
+    no_dot other = refl
 
     no_null : (o : Op) → bytes_eq (codes "null") (operator_text o) ≡ false
     no_null op.Eq = refl
-    no_null op.Ne = refl
-    no_null op.Lt = refl
-    no_null op.Le = refl
-    no_null op.Gt = refl
-    no_null op.Ge = refl
+    no_null other = refl
 
 -- ---- one symbol more
 
