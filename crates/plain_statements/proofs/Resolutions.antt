@@ -185,13 +185,6 @@ row-past values tables (c ∷ columns) (s ∷ slots) same =
     ap (λ b. is_long (slot_value values s) || b)
     (row-past values tables columns slots (eq-eqb (length slots) (length columns) (let e = eqb-true (length (s ∷ slots)) (length (c ∷ columns)) same in omega (arith, e))))
 
--- a row's checks are those of its needs
-pub row-checked : (values : List Value) (tables : Database) (columns : List Column) (slots : List Slot) (r : Resolved) → (length slots == length columns) ≡ true
-    → (if has_mistyped tables columns (map (slot_value values) slots) then Err WrongType
-    else if list_any is_long (map (slot_value values) slots) then Err TextTooLong else Ok r)
-    ≡ checked_values values (row_needs tables columns slots) [] r
-row-checked values tables columns slots r same = rw (row-wrong values tables columns slots, row-past values tables columns slots same) refl
-
 -- a slot that is needed more, where its column is meant
 module _ (values : List Value) (slot : Slot) (need : JoinedColumn → Need) (found : Option JoinedColumn) (rest : List Needed) where
   abbrev needed : Option JoinedColumn → List Needed
@@ -335,21 +328,17 @@ insert-filled : (values : List Value) (tables : Database) (n : TableNumber) (slo
     → meaning (insert_checks tables table (map (slot_value values) slots)) (resolved.Insert n (map (slot_value values) slots))
     ≡ settled values (insert_means tables n slots table)
 insert-filled values tables n slots table =
+    let opened = finished-opened values (insert_first table slots) [] (row_needs tables table.columns slots) (template.Insert n slots) in
     elim (cases_Bool (length slots == length table.columns)) [
       | inl t ↦
           rw (
-            finished-opened values (insert_first table slots) [] (row_needs tables table.columns slots) (template.Insert n slots),
+            opened,
             length-map slots (slot_value values),
             row-wrong values tables table.columns slots,
             row-past values tables table.columns slots t,
             t,
           ) refl
-      | inr f ↦
-          rw (
-            finished-opened values (insert_first table slots) [] (row_needs tables table.columns slots) (template.Insert n slots),
-            length-map slots (slot_value values),
-            f,
-          ) refl
+      | inr f ↦ rw (opened, length-map slots (slot_value values), f) refl
     ]
 
 -- what a delete means of its table
@@ -522,25 +511,16 @@ on-found values f g same None = refl
 on-found values f g same (Some t) = same t
 
 pub settles : (tables : Database) (s : Statement) (values : List Value) → resolved_of [] tables (filled values s) ≡ settled values (resolution_of tables s)
-settles tables (statement.Insert name slots) values =
-    on-found values _ (insert_means tables (number_of name tables) slots) (insert-filled values tables (number_of name tables) slots) (table_named name tables)
+settles tables (statement.Insert name slots) values = on-found values _ _ (insert-filled values tables _ slots) (table_named name tables)
 settles tables (statement.Update name settings conditions) values =
-    on-found values _ (update_means tables (number_of name tables) settings conditions) (update-filled values tables (number_of name tables) settings conditions) (table_named name tables)
-settles tables (statement.Delete name conditions) values =
-    on-found values _ (delete_means tables (number_of name tables) conditions) (delete-filled values tables (number_of name tables) conditions) (table_named name tables)
+    on-found values _ _ (update-filled values tables _ settings conditions) (table_named name tables)
+settles tables (statement.Delete name conditions) values = on-found values _ _ (delete-filled values tables _ conditions) (table_named name tables)
 settles tables (statement.Select distinct its name joins conditions) values = select-filled values tables distinct its name joins conditions
 
 matched : (tables : Database) (s : Statement) (m : Meant) → ((values : List Value) → resolved_of [] tables (filled values s) ≡ settled values m)
     → MatchResult m (Resolves tables s) (Refuses tables s)
 matched tables s (Ok r) is = is
 matched tables s (Err why) is = is
-
--- where the filled command comes to the checks of its values, the statement means what is opened
-pub opened-matches : (tables : Database) (s : Statement) (needs : List Needed) (late : List Check) (t : Template) (m : Meant) → m ≡ opened needs late t
-    → ((values : List Value) → resolved_of [] tables (filled values s) ≡ checked_values values needs late (filled_template values t))
-    → MatchResult m (Resolves tables s) (Refuses tables s)
-opened-matches tables s needs late t m is checked =
-    matched tables s m (λ values. checked values ∙ sym (settled-opened values needs late t) ∙ ap (settled values) (sym is))
 
 pub filled_is_finished : FilledIsFinished
 filled_is_finished tables s = (resolution_of tables s, matched tables s (resolution_of tables s) (settles tables s))

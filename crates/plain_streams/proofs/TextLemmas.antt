@@ -30,7 +30,7 @@ use Rattle.plain_tables.specs.declared.numbers.TableNumber.{TableNumber}
 use Rattle.plain_tables.specs.declared.resolved.Assignment.{Assignment}
 use Rattle.plain_tables.specs.declared.resolved.Resolved.{Resolved}
 use Rattle.plain_tables.specs.declared.resolved.Resolved.TheVariants as resolved
-use Rattle.plain_tables.proofs.EffectLemmas.{checked_satisfies, of_table_satisfies, effect_satisfies, insert_satisfies, loaded_satisfies, load_satisfies}
+use Rattle.plain_tables.proofs.EffectLemmas.{of_table_satisfies, of_table_checked, effect_satisfies, insert_satisfies, loaded_satisfies, load_satisfies}
 use Rattle.common_lemmas.proofs.Elements.{All-at, All-remove, mapped_more}
 use Rattle.common_lemmas.proofs.Options.{option_map_or_satisfies}
 use Rattle.common_lemmas.proofs.Tests.{find_satisfies}
@@ -202,15 +202,13 @@ done-utf8 limits tables (resolved.DropIndex n column k) sets all =
     (λ table there. with-utf8 tables n table (without_index column k table) all there (λ texts. texts))
 done-utf8 limits tables (resolved.Insert n row) sets all = insert-utf8 limits tables n row sets all
 done-utf8 limits tables (resolved.Update n assignments tests) sets all =
-    of_table_satisfies LeavesUtf8 n tables _ (λ why. all)
-    (λ table there. checked_satisfies LeavesUtf8 tables (row_update_checks tables table assignments) _ (λ why. all)
-    (λ passed. with-utf8 tables n table (updated assignments (passes_all tests) table) all there
-    (updated-utf8 assignments (passes_all tests) table sets)))
+    of_table_checked LeavesUtf8 n tables (λ table. row_update_checks tables table assignments) _ (λ why. all)
+    (λ table there passed. with-utf8 tables n table (updated assignments (passes_all tests) table) all there
+    (updated-utf8 assignments (passes_all tests) table sets))
 done-utf8 limits tables (resolved.Delete n tests) sets all =
-    of_table_satisfies LeavesUtf8 n tables _ (λ why. all)
-    (λ table there. checked_satisfies LeavesUtf8 tables (row_delete_checks tables table (passes_all tests)) _ (λ why. all)
-    (λ passed. with-utf8 tables n table (without (passes_all tests) table) all there
-    (All-filter (λ row. not (passes_all tests row)) (All IsTextUtf8) table.rows)))
+    of_table_checked LeavesUtf8 n tables (λ table. row_delete_checks tables table (passes_all tests)) _ (λ why. all)
+    (λ table there passed. with-utf8 tables n table (without (passes_all tests) table) all there
+    (All-filter (λ row. not (passes_all tests row)) (All IsTextUtf8) table.rows))
 done-utf8 limits tables (resolved.Select query) sets all = all
 done-utf8 limits tables (resolved.Load n rows) sets all =
     load_satisfies LeavesUtf8 limits tables n rows (λ why. all)
@@ -221,8 +219,7 @@ done-utf8 limits tables (resolved.Load n rows) sets all =
     ))
     tables 1 rows new h (sets, all)).1)
 done-utf8 limits tables (resolved.Dump n) sets all =
-    of_table_satisfies LeavesUtf8 n tables _ (λ why. all)
-    (λ table there. checked_satisfies LeavesUtf8 tables (dump_checks limits table) _ (λ why. all) (λ passed. all))
+    of_table_checked LeavesUtf8 n tables (dump_checks limits) _ (λ why. all) (λ table there passed. all)
 done-utf8 limits tables resolved.Tables sets all = all
 
 -- ---- runs

@@ -42,6 +42,15 @@ pub of_table_satisfies : (P : Effect → Type 0) (n : TableNumber) (tables : Dat
 of_table_satisfies P n tables effect old new =
     option_map_or_satisfies P effect (slice_get tables n.0) (refused tables NoSuchTable) (old NoSuchTable) new
 
+-- the same of a command on a table behind checks
+pub of_table_checked : (P : Effect → Type 0) (n : TableNumber) (tables : Database) (checks : Table → List Check) (done : Table → Effect)
+    → ((r : Refusal) → P (refused tables r))
+    → ((table : Table) → slice_get tables n.0 ≡ Some table → AllByRecursion (λ c. c.refuses ≡ false) (checks table) → P (done table))
+    → P (on_table n tables (λ table. checked tables (checks table) (done table)))
+of_table_checked P n tables checks done old new =
+    of_table_satisfies P n tables (λ table. checked tables (checks table) (done table)) old
+    (λ table there. checked_satisfies P tables (checks table) (done table) old (new table there))
+
 resolved_satisfies : (P : Effect → Type 0) (limits : Limits) (tables : Database) (found : Result Resolved Refusal)
     → ((why : Refusal) → P (refused tables why)) → ((r : Resolved) → found ≡ Ok r → P (done limits tables r)) → P (effect_of_resolved limits tables found)
 resolved_satisfies P limits tables (Ok r) old new = new r refl
@@ -63,8 +72,7 @@ pub insert_satisfies : (P : Effect → Type 0) (limits : Limits) (tables : Datab
     → P (record { database = set tables n.0 (grown_by row table); outcome = Changed 1 }))
     → P (insert limits tables n row)
 insert_satisfies P limits tables n row old new =
-    of_table_satisfies P n tables _ old
-    (λ table there. checked_satisfies P tables (insert_checks limits tables table row) _ old (new table there))
+    of_table_checked P n tables (λ table. insert_checks limits tables table row) _ old new
 
 -- a record that isn't refused leaves the database of its effect
 pub left_is : (k : ℕ) (tables : Database) (o : Outcome) (new : Database) → left_with k tables o ≡ Ok new → tables ≡ new
