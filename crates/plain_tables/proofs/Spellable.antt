@@ -110,7 +110,7 @@ items-each : (items : Items) (more : List Symbol) → NamesItems items → HaveC
     → AreSpellableItems items × HaveCharacters more
 items-each items.All more some all = (tt, all.1)
 items-each (items.Named names) more some all =
-    let parts : AllByRecursion IsSpellableName names × HaveCharacters more = listed-each name_symbols IsSpellableName name-each names more all in
+    let parts = listed-each name_symbols IsSpellableName name-each names more all in
     ((some, parts.0), parts.1)
 
 -- Law: where the symbols of a command have characters, the command can be spelled.
@@ -123,19 +123,16 @@ symbols-spellable (DropIndex table column k) some all = (all.1.1.0.1.1, all.1.1.
 symbols-spellable (Insert table values) some all =
     (all.1.0.1.1, some, (listed-each value_symbols IsSpellableValue value-each values (Sign Close ∷ []) all.1.1.1).0)
 symbols-spellable (Update table settings conditions) some all =
-    let parts : AllByRecursion IsSpellableSetting settings × HaveCharacters (where_symbols conditions) =
-    listed-each setting_symbols IsSpellableSetting setting-each settings (where_symbols conditions) all.1.1.1 in
+    let parts = listed-each setting_symbols IsSpellableSetting setting-each settings (where_symbols conditions) all.1.1.1 in
     (all.1.0.1.1, some, parts.0, where-each conditions parts.1)
 symbols-spellable (Delete table conditions) some all = (all.1.0.1.1, where-each conditions all.1.1)
 symbols-spellable (Select distinct items table joins conditions) some all =
     let from : List Symbol = from_symbols table joins conditions in
     let split : HaveCharacters (Keyword (codes "select") ∷ (distinct_symbols distinct ++ (items_symbols items ++ from))) =
     subst HaveCharacters (split-word (Select distinct items table joins conditions)).0 all in
-    let list : AreSpellableItems items × HaveCharacters from =
-    items-each items from (select-items distinct items table joins conditions some)
+    let list = items-each items from (select-items distinct items table joins conditions some)
     (all-right HasCharacters (distinct_symbols distinct) (items_symbols items ++ from) split.1) in
-    let parts : IsName table × AllByRecursion IsSpellableJoin joins × AllByRecursion IsSpellableCondition conditions =
-    from-each table joins conditions list.1 in
+    let parts = from-each table joins conditions list.1 in
     (list.0, parts.0, parts.1, parts.2)
 symbols-spellable (Load table bytes) some all = (all.1.0.1.1, all.1.1.0.1.0)
 symbols-spellable (Dump table) some all = all.1.0.1.1

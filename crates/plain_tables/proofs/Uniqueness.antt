@@ -126,8 +126,7 @@ items-one line items.All (items.Named names) m n has has' ends ends' made made' 
 items-one line (items.Named names) items.All m n has has' ends ends' made made' =
     absurd (star-no_names names m has line n made' made)
 items-one line (items.Named names) (items.Named others) m n has has' ends ends' made made' =
-    let both : (names ≡ others) × HaveOneRest m n =
-    list-one (Sign Comma) name_symbols comma-between name-one line names others m n has has' ends ends' made made' in
+    let both = list-one (Sign Comma) name_symbols comma-between name-one line names others m n has has' ends ends' made made' in
     (ap items.Named both.0, both.1)
 
 -- ---- what stands behind a first word
@@ -139,11 +138,9 @@ in_parentheses-one : {X : Type 0} (symbols : X → List Symbol) → IsOneItem sy
 in_parentheses-one symbols one line name name' xs ys some some' made made' =
     let list : List Symbol = list_and (Sign Comma) symbols xs (Sign Close ∷ []) in
     let list' : List Symbol = list_and (Sign Comma) symbols ys (Sign Close ∷ []) in
-    let names : (name ≡ name') × HaveOneRest (Sign Open ∷ list) (Sign Open ∷ list') =
-    name-and line name name' (Sign Open ∷ list) (Sign Open ∷ list') made made' in
-    let lists : HaveOneRest list list' = fixed-and (Sign Open) tt names.1.0 list list' names.1.1 names.1.2 in
-    let items : (xs ≡ ys) × HaveOneRest (Sign Close ∷ []) (Sign Close ∷ []) =
-    list-one (Sign Comma) symbols comma-between one lists.0 xs ys (Sign Close ∷ []) (Sign Close ∷ []) some some'
+    let names = name-and line name name' (Sign Open ∷ list) (Sign Open ∷ list') made made' in
+    let lists = fixed-and (Sign Open) tt names.1.0 list list' names.1.1 names.1.2 in
+    let items = list-one (Sign Comma) symbols comma-between one lists.0 xs ys (Sign Close ∷ []) (Sign Close ∷ []) some some'
     (close-ends []) (close-ends []) lists.1 lists.2 in
     (names.0, items.0)
 
@@ -151,8 +148,7 @@ in_parentheses-one symbols one line name name' xs ys some some' made made' =
 name-where-one : (line name name' : List ℕ) (cs ds : List Cond) → IsMadeOf line (Name name ∷ where_symbols cs)
     → IsMadeOf line (Name name' ∷ where_symbols ds) → (name ≡ name') × (cs ≡ ds)
 name-where-one line name name' cs ds made made' =
-    let names : (name ≡ name') × HaveOneRest (where_symbols cs) (where_symbols ds) =
-    name-and line name name' (where_symbols cs) (where_symbols ds) made made' in
+    let names = name-and line name name' (where_symbols cs) (where_symbols ds) made made' in
     (names.0, where-one names.1.0 cs ds names.1.1 names.1.2)
 
 -- the settings of an update
@@ -164,9 +160,8 @@ set-one : (line : List ℕ) (ss ts : List Setting) (cs ds : List Cond) → 0 < l
 set-one line ss ts cs ds some some' made made' =
     let list : List Symbol = list_and (Sign Comma) setting_symbols ss (where_symbols cs) in
     let list' : List Symbol = list_and (Sign Comma) setting_symbols ts (where_symbols ds) in
-    let lists : HaveOneRest list list' = fixed-and (Keyword (codes "set")) refl line list list' made made' in
-    let items : (ss ≡ ts) × HaveOneRest (where_symbols cs) (where_symbols ds) =
-    list-one (Sign Comma) setting_symbols comma-between setting-one lists.0 ss ts (where_symbols cs) (where_symbols ds) some some'
+    let lists = fixed-and (Keyword (codes "set")) refl line list list' made made' in
+    let items = list-one (Sign Comma) setting_symbols comma-between setting-one lists.0 ss ts (where_symbols cs) (where_symbols ds) some some'
     (comma-ends cs) (comma-ends ds) lists.1 lists.2 in
     (items.0, where-one items.1.0 cs ds items.1.1 items.1.2)
 
@@ -174,9 +169,8 @@ update-one : (line name name' : List ℕ) (ss ts : List Setting) (cs ds : List C
     → IsMadeOf line (Name name ∷ set_symbols ss cs) → IsMadeOf line (Name name' ∷ set_symbols ts ds)
     → (name ≡ name') × (ss ≡ ts) × (cs ≡ ds)
 update-one line name name' ss ts cs ds some some' made made' =
-    let names : (name ≡ name') × HaveOneRest (set_symbols ss cs) (set_symbols ts ds) =
-    name-and line name name' (set_symbols ss cs) (set_symbols ts ds) made made' in
-    let others : (ss ≡ ts) × (cs ≡ ds) = set-one names.1.0 ss ts cs ds some some' names.1.1 names.1.2 in
+    let names = name-and line name name' (set_symbols ss cs) (set_symbols ts ds) made made' in
+    let others = set-one names.1.0 ss ts cs ds some some' names.1.1 names.1.2 in
     (names.0, others.0, others.1)
 
 -- the joins of a select
@@ -198,10 +192,8 @@ joins-one line (x ∷ xs) (y ∷ ys) cs ds made made' =
     let join : Symbol = Keyword (codes "join") in
     let list : List Symbol = list_and join joined_symbols (x ∷ xs) (where_symbols cs) in
     let list' : List Symbol = list_and join joined_symbols (y ∷ ys) (where_symbols ds) in
-    let lists : HaveOneRest list list' =
-    fixed-and join refl line list list' (made-listed line x xs (where_symbols cs) made) (made-listed line y ys (where_symbols ds) made') in
-    let items : (x ∷ xs ≡ y ∷ ys) × HaveOneRest (where_symbols cs) (where_symbols ds) =
-    list-one join joined_symbols join-between joined-one lists.0 (x ∷ xs) (y ∷ ys) (where_symbols cs) (where_symbols ds) (omega arith) (omega arith)
+    let lists = fixed-and join refl line list list' (made-listed line x xs (where_symbols cs) made) (made-listed line y ys (where_symbols ds) made') in
+    let items = list-one join joined_symbols join-between joined-one lists.0 (x ∷ xs) (y ∷ ys) (where_symbols cs) (where_symbols ds) (omega arith) (omega arith)
     (join-ends cs) (join-ends ds) lists.1 lists.2 in
     (items.0, where-one items.1.0 cs ds items.1.1 items.1.2)
 
@@ -211,10 +203,9 @@ from-one : (line name name' : List ℕ) (xs ys : List Join) (cs ds : List Cond) 
 from-one line name name' xs ys cs ds made made' =
     let tail : List Symbol = flat_map join_symbols xs ++ where_symbols cs in
     let tail' : List Symbol = flat_map join_symbols ys ++ where_symbols ds in
-    let named : HaveOneRest (Name name ∷ tail) (Name name' ∷ tail') =
-    fixed-and (Keyword (codes "from")) refl line (Name name ∷ tail) (Name name' ∷ tail') made made' in
-    let names : (name ≡ name') × HaveOneRest tail tail' = name-and named.0 name name' tail tail' named.1 named.2 in
-    let others : (xs ≡ ys) × (cs ≡ ds) = joins-one names.1.0 xs ys cs ds names.1.1 names.1.2 in
+    let named = fixed-and (Keyword (codes "from")) refl line (Name name ∷ tail) (Name name' ∷ tail') made made' in
+    let names = name-and named.0 name name' tail tail' named.1 named.2 in
+    let others = joins-one names.1.0 xs ys cs ds names.1.1 names.1.2 in
     (names.0, others.0, others.1)
 
 -- Either both begin with the word distinct, or neither does.
@@ -237,11 +228,9 @@ select-one : (line : List ℕ) (d e : Bool) (i j : Items) (name name' : List ℕ
 select-one line d e i j name name' xs ys cs ds has has' made made' =
     let from : List Symbol = from_symbols name xs cs in
     let from' : List Symbol = from_symbols name' ys ds in
-    let words : (d ≡ e) × HaveOneRest (items_symbols i ++ from) (items_symbols j ++ from') =
-    distinct-one line d e i j from from' has has' made made' in
-    let items : (i ≡ j) × HaveOneRest from from' =
-    items-one words.1.0 i j from from' has has' (from-ends _) (from-ends _) words.1.1 words.1.2 in
-    let others : (name ≡ name') × (xs ≡ ys) × (cs ≡ ds) = from-one items.1.0 name name' xs ys cs ds items.1.1 items.1.2 in
+    let words = distinct-one line d e i j from from' has has' made made' in
+    let items = items-one words.1.0 i j from from' has has' (from-ends _) (from-ends _) words.1.1 words.1.2 in
+    let others = from-one items.1.0 name name' xs ys cs ds items.1.1 items.1.2 in
     (words.0, items.0, others.0, others.1, others.2)
   where
     from-ends : (more : List Symbol) → Ends (Sign Comma) (Keyword (codes "from") ∷ more)
@@ -251,15 +240,13 @@ select-one line d e i j name name' xs ys cs ds has has' made made' =
 drop-table-one : (line table table' : List ℕ) → IsMadeOf line (Keyword (codes "table") ∷ Name table ∷ [])
     → IsMadeOf line (Keyword (codes "table") ∷ Name table' ∷ []) → table ≡ table'
 drop-table-one line table table' made made' =
-    let names : HaveOneRest (Name table ∷ []) (Name table' ∷ []) =
-    fixed-and (Keyword (codes "table")) refl line (Name table ∷ []) (Name table' ∷ []) made made' in
+    let names = fixed-and (Keyword (codes "table")) refl line (Name table ∷ []) (Name table' ∷ []) made made' in
     (name-and names.0 table table' [] [] names.1 names.2).0
 
 drop-index-one : (line table table' column column' : List ℕ) (j k : IndexKind) → IsMadeOf line (Keyword (codes "index") ∷ index_symbols table column j)
     → IsMadeOf line (Keyword (codes "index") ∷ index_symbols table' column' k) → (table ≡ table') × (column ≡ column') × (j ≡ k)
 drop-index-one line table table' column column' j k made made' =
-    let parts : HaveOneRest (index_symbols table column j) (index_symbols table' column' k) =
-    fixed-and (Keyword (codes "index")) refl line (index_symbols table column j) (index_symbols table' column' k) made made' in
+    let parts = fixed-and (Keyword (codes "index")) refl line (index_symbols table column j) (index_symbols table' column' k) made made' in
     index-one parts.0 table table' column column' j k parts.1 parts.2
 
 -- no line drops a table and an index
@@ -273,8 +260,7 @@ table-no_index line symbols others =
 load-one : (line table table' : List ℕ) (bytes bytes' : ℕ) → IsMadeOf line (Name table ∷ Count bytes ∷ [])
     → IsMadeOf line (Name table' ∷ Count bytes' ∷ []) → (table ≡ table') × (bytes ≡ bytes')
 load-one line table table' bytes bytes' made made' =
-    let names : (table ≡ table') × HaveOneRest (Count bytes ∷ []) (Count bytes' ∷ []) =
-    name-and line table table' (Count bytes ∷ []) (Count bytes' ∷ []) made made' in
+    let names = name-and line table table' (Count bytes ∷ []) (Count bytes' ∷ []) made made' in
     (names.0, (count-and names.1.0 bytes bytes' [] [] names.1.1 names.1.2).0)
 
 -- ---- commands
@@ -283,8 +269,7 @@ load-one line table table' bytes bytes' made made' =
 behind_word-one : (line : List ℕ) (c d : Command) → NamesSomething c → NamesSomething d → first_word c ≡ first_word d
     → IsMadeOf line (behind_word c) → IsMadeOf line (behind_word d) → c ≡ d
 behind_word-one line (Table name schema) (Table name' schema') some some' same made made' =
-    let both : (name ≡ name') × (schema.columns ≡ schema'.columns) =
-    in_parentheses-one column_symbols column-one line name name' schema.columns schema'.columns some some' made made' in
+    let both = in_parentheses-one column_symbols column-one line name name' schema.columns schema'.columns some some' made made' in
     λ i. Table (both.0 i) (record { columns = both.1 i })
 behind_word-one line (DropTable table) (DropTable table') some some' same made made' =
     ap DropTable (drop-table-one line table table' made made')
@@ -293,28 +278,26 @@ behind_word-one line (DropTable table) (DropIndex table' column k) some some' sa
 behind_word-one line (DropIndex table column k) (DropTable table') some some' same made made' =
     absurd (table-no_index line (Name table' ∷ []) (index_symbols table column k) made' made)
 behind_word-one line (Index table column j) (Index table' column' k) some some' same made made' =
-    let all : (table ≡ table') × (column ≡ column') × (j ≡ k) = index-one line table table' column column' j k made made' in
+    let all = index-one line table table' column column' j k made made' in
     λ i. Index (all.0 i) (all.1 i) (all.2 i)
 behind_word-one line (DropIndex table column j) (DropIndex table' column' k) some some' same made made' =
-    let all : (table ≡ table') × (column ≡ column') × (j ≡ k) = drop-index-one line table table' column column' j k made made' in
+    let all = drop-index-one line table table' column column' j k made made' in
     λ i. DropIndex (all.0 i) (all.1 i) (all.2 i)
 behind_word-one line Tables Tables some some' same made made' = refl
 behind_word-one line (Insert table values) (Insert table' values') some some' same made made' =
-    let both : (table ≡ table') × (values ≡ values') =
-    in_parentheses-one value_symbols value-one line table table' values values' some some' made made' in
+    let both = in_parentheses-one value_symbols value-one line table table' values values' some some' made made' in
     λ i. Insert (both.0 i) (both.1 i)
 behind_word-one line (Update table ss cs) (Update table' ts ds) some some' same made made' =
-    let all : (table ≡ table') × (ss ≡ ts) × (cs ≡ ds) = update-one line table table' ss ts cs ds some some' made made' in
+    let all = update-one line table table' ss ts cs ds some some' made made' in
     λ i. Update (all.0 i) (all.1 i) (all.2 i)
 behind_word-one line (Delete table cs) (Delete table' ds) some some' same made made' =
-    let both : (table ≡ table') × (cs ≡ ds) = name-where-one line table table' cs ds made made' in
+    let both = name-where-one line table table' cs ds made made' in
     λ i. Delete (both.0 i) (both.1 i)
 behind_word-one line (Select d i table xs cs) (Select e j table' ys ds) some some' same made made' =
-    let all : (d ≡ e) × (i ≡ j) × (table ≡ table') × (xs ≡ ys) × (cs ≡ ds) =
-    select-one line d e i j table table' xs ys cs ds (select-items d i table xs cs some) (select-items e j table' ys ds some') made made' in
+    let all = select-one line d e i j table table' xs ys cs ds (select-items d i table xs cs some) (select-items e j table' ys ds some') made made' in
     λ k. Select (all.0 k) (all.1 k) (all.2 k) (all.3 k) (all.4 k)
 behind_word-one line (Load table bytes) (Load table' bytes') some some' same made made' =
-    let both : (table ≡ table') × (bytes ≡ bytes') = load-one line table table' bytes bytes' made made' in
+    let both = load-one line table table' bytes bytes' made made' in
     λ i. Load (both.0 i) (both.1 i)
 behind_word-one line (Dump table) (Dump table') some some' same made made' = ap Dump (name-and line table table' [] [] made made').0
 behind_word-one line c d some some' same made made' = absurd (different (first_word c) (first_word d) refl same)
