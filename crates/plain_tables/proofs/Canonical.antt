@@ -113,7 +113,6 @@ names-something other can = tt
 -- Law: the canonical spelling of a command that can be spelled spells it.
 pub canonical-spells : CanonicalSpells
 canonical-spells command can =
-    let all : AllByRecursion HasText (symbols_of command) =
-    all-each IsSpellableSymbol HasText symbol-text (symbols_of command) (command-spellable command can) in
+    let all = all-each IsSpellableSymbol HasText symbol-text (symbols_of command) (command-spellable command can) in
     let made : IsMadeOf (canonical_spelling command) (symbols_of command) = spaced-made [] (symbols_of command) tt all in
     (made-no_line_feed command (canonical_spelling command) can made, names-something command can, made)

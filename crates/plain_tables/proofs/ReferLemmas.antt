@@ -102,8 +102,7 @@ pub refers_not_to_itself : (before after : Database) (n : ℕ) (table : Table) �
 refers_not_to_itself before [] n table there back apart = absurd (none-some table there)
 refers_not_to_itself before (t ∷ after) zero table there back apart =
     let others = AllPairs-behind (λ (t u : Table). t.name ≢ u.name) before t after apart in
-    let absent : is_some (table_named t.name before) ≡ false =
-    not_found (is_named t.name) before
+    let absent = not_found (is_named t.name) before
     (All-weaker (λ u. u.name ≢ t.name) (λ u. is_named t.name u ≡ false)
     (λ u other. false_from_ne_true (bytes_eq u.name t.name) (λ e. other ((bytes_eq-Decides u.name t.name).0 e))) before others) in
     subst (λ u. RefersElsewhere u.name u) (same_Some t table there)

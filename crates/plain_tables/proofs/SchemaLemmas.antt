@@ -98,8 +98,7 @@ numbered_plain name tables e f same = rw (table_named-map emptied (λ t. refl) n
 
 table_checks_plain : (tables : Database) (name : List ℕ) (schema : Schema) → table_checks (plain tables) name schema ≡ table_checks tables name schema
 table_checks_plain tables name schema =
-    let into : list_any (λ c. not (refers_into (plain tables) c)) schema.columns ≡ list_any (λ c. not (refers_into tables c)) schema.columns =
-    any_agree (λ c. not (refers_into (plain tables) c)) (λ c. not (refers_into tables c))
+    let into = any_agree (λ c. not (refers_into (plain tables) c)) (λ c. not (refers_into tables c))
     (λ c. ap not (referred_plain tables (referred c.kind))) schema.columns
     in
     let there : is_some (table_named name (plain tables)) ≡ is_some (table_named name tables) =
@@ -144,9 +143,7 @@ select_checks_plain tables its name joins conditions =
     any_agree (λ n. not (is_some (table_named n (plain tables)))) (λ n. not (is_some (table_named n tables)))
     (λ n. ap not (ap is_some (table_named-map emptied (λ t. refl) n tables) ∙ is_some-option_map emptied (table_named n tables))) names
     in
-    let sides : map (join_columns (plain tables)) all ≡ map (join_columns tables) all =
-    map_agree (join_columns (plain tables)) (join_columns tables) (sides_plain tables) all
-    in
+    let sides = map_agree (join_columns (plain tables)) (join_columns tables) (sides_plain tables) all in
     let differ : list_any (λ s. option_map_or (differ_in_type (plain tables)) s false) (map (join_columns tables) all)
     ≡ list_any (λ s. option_map_or (differ_in_type tables) s false) (map (join_columns tables) all) =
     any_agree (λ s. option_map_or (differ_in_type (plain tables)) s false) (λ s. option_map_or (differ_in_type tables) s false)

@@ -224,8 +224,7 @@ with_row-keeps row rows p new some =
     let below : Row → Bool = λ r. is_lt (key_cmp r row) in
     let above : Row → Bool = λ r. is_lt (key_cmp row r) in
     let others = fails_where_none (λ r. is_eq (key_cmp r row)) rows new in
-    let each : All (λ r. (below r ≡ true) ⊎ (above r ≡ true)) rows =
-    All-weaker (λ r. is_eq (key_cmp r row) ≡ false) (λ r. (below r ≡ true) ⊎ (above r ≡ true))
+    let each = All-weaker (λ r. is_eq (key_cmp r row) ≡ false) (λ r. (below r ≡ true) ⊎ (above r ≡ true))
     (λ r other. apart_by_key (key_cmp r row) r row refl other) rows others
     in
     let either : (list_any p (filter below rows) || list_any p (row ∷ filter above rows)) ≡ true =

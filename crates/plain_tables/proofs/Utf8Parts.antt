@@ -13,8 +13,7 @@ small xs c ys ascii = subst (λ n. n < 128) (sym (get_or-append_seam xs c ys 0))
 
 pub utf8-before : (xs : List ℕ) (c : ℕ) (ys : List ℕ) → c < 128 → IsUtf8 (xs ++ c ∷ ys) → IsUtf8 xs
 utf8-before xs c ys ascii utf8 =
-    let part : IsUtf8 (take (length xs) (xs ++ c ∷ ys)) =
-    IsUtf8-take (xs ++ c ∷ ys) (length xs) utf8 (IsCharBoundary-before_ascii (xs ++ c ∷ ys) (length xs) (within xs c ys) (small xs c ys ascii)) in
+    let part = IsUtf8-take (xs ++ c ∷ ys) (length xs) utf8 (IsCharBoundary-before_ascii (xs ++ c ∷ ys) (length xs) (within xs c ys) (small xs c ys ascii)) in
     rw take-append_seam at part
 
 one_later : (xs : List ℕ) (c : ℕ) (ys : List ℕ) → drop (length xs + 1) (xs ++ c ∷ ys) ≡ ys
@@ -25,8 +24,7 @@ one_later xs c ys =
 
 pub utf8-behind : (xs : List ℕ) (c : ℕ) (ys : List ℕ) → c < 128 → IsUtf8 (xs ++ c ∷ ys) → IsUtf8 ys
 utf8-behind xs c ys ascii utf8 =
-    let part : IsUtf8 (drop (length xs + 1) (xs ++ c ∷ ys)) =
-    IsUtf8-drop (xs ++ c ∷ ys) (length xs + 1) utf8 (IsCharBoundary-after_ascii (xs ++ c ∷ ys) (length xs) utf8 (within xs c ys) (small xs c ys ascii)) in
+    let part = IsUtf8-drop (xs ++ c ∷ ys) (length xs + 1) utf8 (IsCharBoundary-after_ascii (xs ++ c ∷ ys) (length xs) utf8 (within xs c ys) (small xs c ys ascii)) in
     subst IsUtf8 (one_later xs c ys) part
 
 -- a quote mark

@@ -417,8 +417,7 @@ own_tests : (tables : Database) (name : List ℕ) (table : Table) (conditions : 
 own_tests tables name table conditions there found =
     let columns : List JoinedColumn = own_columns table in
     let mean : All (MeansOne columns 1) conditions = all_mean (table ∷ []) (λ c. c.column) conditions found in
-    let all_on : filter (is_on_source columns 0) conditions ≡ conditions =
-    filter_all (is_on_source columns 0) conditions
+    let all_on = filter_all (is_on_source columns 0) conditions
     (All-weaker (MeansOne columns 1) (λ c. is_on_source columns 0 c ≡ true)
     (λ c one. rw one.1 (eq-eqb one.0.source 0 (let before = one.2 in omega arith))) conditions mean)
     in
