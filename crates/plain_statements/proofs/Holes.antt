@@ -173,12 +173,10 @@ below-one m (statement.Insert a xs) (statement.Insert b ys) p q d e =
     let slots : xs ≡ ys = lists-one (slot_value (nulls m)) (slot_value (texts m)) (IsBelow m) (slot-one m) xs ys p q (ap row_of d) (ap row_of e) in
     λ i. statement.Insert (table_of (d i)) (slots i)
 below-one m (statement.Update a ss cs) (statement.Update b ts ds) p q d e =
-    let settings : ss ≡ ts =
-    lists-one (filled_setting (nulls m)) (filled_setting (texts m)) (λ s. IsBelow m s.slot) (setting-one m) ss ts
+    let settings = lists-one (filled_setting (nulls m)) (filled_setting (texts m)) (λ s. IsBelow m s.slot) (setting-one m) ss ts
     (below-of_map m (λ s. s.slot) ss (all-left (IsBelow m) (map (λ s. s.slot) ss) (map (λ c. c.slot) cs) p))
     (below-of_map m (λ s. s.slot) ts (all-left (IsBelow m) (map (λ s. s.slot) ts) (map (λ c. c.slot) ds) q)) (ap settings_of d) (ap settings_of e) in
-    let conditions : cs ≡ ds =
-    conditions-one m cs ds (all-right (IsBelow m) (map (λ s. s.slot) ss) (map (λ c. c.slot) cs) p)
+    let conditions = conditions-one m cs ds (all-right (IsBelow m) (map (λ s. s.slot) ss) (map (λ c. c.slot) cs) p)
     (all-right (IsBelow m) (map (λ s. s.slot) ts) (map (λ c. c.slot) ds) q) (ap conditions_of d) (ap conditions_of e) in
     λ i. statement.Update (table_of (d i)) (settings i) (conditions i)
 below-one m (statement.Delete a cs) (statement.Delete b ds) p q d e =

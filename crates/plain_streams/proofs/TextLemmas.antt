@@ -228,8 +228,7 @@ effect-utf8 : (limits : Limits) (tables : Database) (request : Request) (e : Eff
     → AreTextsUtf8 tables → LeavesUtf8 e
 effect-utf8 limits tables request e (does c readable s spells has) all =
     let records : List Record = block_records request.block in
-    let means : IfOk (resolved_of records tables c) SetsUtf8 =
-    resolved-utf8 records tables c (spelled-stored (line_of request) c readable.utf8 spells) in
+    let means = resolved-utf8 records tables c (spelled-stored (line_of request) c readable.utf8 spells) in
     effect_satisfies LeavesUtf8 records limits tables c (λ why. all)
     (λ r is. done-utf8 limits tables r (satisfies SetsUtf8 (resolved_of records tables c) r is means) all)
 effect-utf8 limits tables request e other all = all
