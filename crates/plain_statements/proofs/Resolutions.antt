@@ -162,13 +162,11 @@ null-wanted takes ordered = refl
 compared : (tables : Database) (k : ColKind) (v : Value) (o : Op)
     → (not (is_typed tables v k) || (is_null v && asks_order o)) ≡ is_wrong v (compared_need tables k o)
 compared tables k value.Null o = null-wanted (takes_null k) (asks_order o)
-compared tables k (value.Int z) o = or_false (not (is_typed tables (value.Int z) k)) ∙ not-or (type_of tables k) (value.Int z)
-compared tables k (value.Text t) o = or_false (not (is_typed tables (value.Text t) k)) ∙ not-or (type_of tables k) (value.Text t)
+compared tables k v o = or_false (not (is_typed tables v k)) ∙ not-or (type_of tables k) v
 
 stored : (tables : Database) (k : ColKind) (v : Value) → not (is_typed tables v k) ≡ is_wrong v (stored_need tables k)
 stored tables k value.Null = refl
-stored tables k (value.Int z) = not-or (type_of tables k) (value.Int z)
-stored tables k (value.Text t) = not-or (type_of tables k) (value.Text t)
+stored tables k v = not-or (type_of tables k) v
 
 row-wrong : (values : List Value) (tables : Database) (columns : List Column) (slots : List Slot)
     → has_mistyped tables columns (map (slot_value values) slots) ≡ list_any (holds is_wrong values) (row_needs tables columns slots)

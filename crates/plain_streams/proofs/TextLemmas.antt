@@ -254,9 +254,8 @@ no_texts = All-nil HasTextsUtf8
 -- ---- dumps
 
 value-back : (column : Column) (v : Value) → IsTextUtf8 v → IsUnlikeNull column v → IsReadBack column v
-value-back column value.Null utf8 some = tt
-value-back column (value.Int z) utf8 some = tt
 value-back column (value.Text text) utf8 some = (utf8, some)
+value-back column other utf8 some = tt
 
 row-back : (columns : List Column) (row : Row) → All IsTextUtf8 row → AllZip IsUnlikeNull columns row
     → AllZip IsReadBack columns row

@@ -106,20 +106,13 @@ integer-run characters z (fits, (digits, numeral, inr (e, value))) = rw e (refl,
 -- The keywords of a grammar are words.
 abbrev pub IsWellFormed : Symbol → Type 0
 IsWellFormed (Keyword word) = IsTrue (is_word word)
-IsWellFormed (Name name) = Unit {0}
-IsWellFormed (Literal value) = Unit {0}
-IsWellFormed (Count n) = Unit {0}
-IsWellFormed (Sign mark) = Unit {0}
+IsWellFormed symbol = Unit {0}
 
 -- a word or a number
 abbrev pub IsWordOrNumber : Symbol → Type 0
-IsWordOrNumber (Keyword word) = Unit {0}
-IsWordOrNumber (Name name) = Unit {0}
-IsWordOrNumber (Literal value.Null) = Unit {0}
-IsWordOrNumber (Literal (value.Int z)) = Unit {0}
 IsWordOrNumber (Literal (value.Text text)) = ⊥
-IsWordOrNumber (Count n) = Unit {0}
 IsWordOrNumber (Sign mark) = ⊥
+IsWordOrNumber symbol = Unit {0}
 
 pub symbol-run : (characters : List ℕ) (symbol : Symbol) → IsWordOrNumber symbol → IsWellFormed symbol → IsSymbol characters symbol
     → IsRun characters
@@ -129,9 +122,8 @@ symbol-run characters (Name name) plain well is =
     rw is.0 (word-run name word)
 symbol-run characters (Literal value.Null) plain well is = rw is (word-run (codes "null") refl)
 symbol-run characters (Literal (value.Int z)) plain well is = integer-run characters z is
-symbol-run characters (Literal (value.Text text)) plain well is = elim plain [ ]
 symbol-run characters (Count n) plain well is = digits-run characters is.1
-symbol-run characters (Sign mark) plain well is = elim plain [ ]
+symbol-run characters other plain well is = absurd plain
 
 -- The characters are a run, and the symbol goes on as a run does.
 abbrev HasRun : List ℕ → Symbol → Type 0

@@ -53,26 +53,11 @@ record_told limits tables n k row (table, there, t) =
     let told : Effect → Type 0 = λ e. IsTold n k 1 (left_with k e.database e.outcome) in
     let here : option_map_or effect (slice_get tables n.0) (refused tables NoSuchTable) ≡ effect table =
     ap (λ found. option_map_or effect found (refused tables NoSuchTable)) there in
-    let one : Refusal = KeyExists (Some k) in
-    let two : Refusal = NoReferencedRow (Some k) in
-    let three : Refusal = TableFull (Some k) in
     subst told (sym here)
     (checked_each told tables (insert_checks limits tables table row)
     (record { database = set tables n.0 (grown_by row table); outcome = Changed 1 }) (
-      (k, omega arith, omega arith, Contains-head one (two ∷ three ∷ [])),
-      (
-        (k, omega arith, omega arith, Contains-cons one (two ∷ three ∷ []) two (Contains-head two (three ∷ []))),
-        (
-          (
-            k,
-            omega arith,
-            omega arith,
-            Contains-cons one (two ∷ three ∷ []) three
-                (Contains-cons two (three ∷ []) three (Contains-head three [])),
-          ),
-          tt,
-        ),
-      ),
+      (k, omega arith, omega arith, (0, omega arith, refl)),
+      ((k, omega arith, omega arith, (1, omega arith, refl)), ((k, omega arith, omega arith, (2, omega arith, refl)), tt)),
     )
     (λ passed. (grown_by row table, slice_get_set tables n.0 (grown_by row table) (slice_get_within tables n.0 table there), tt)))
 

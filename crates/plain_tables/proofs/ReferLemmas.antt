@@ -175,8 +175,7 @@ referred_elsewhere name (Some n) v others other h = All-cons (λ (r : Reference)
 reference_elsewhere : (name : List ℕ) (c : Column) (v : Value) (others : List Reference) → refers_to name c ≡ false
     → All (λ r. bytes_eq name r.0 ≡ false) others → All (λ r. bytes_eq name r.0 ≡ false) (cons_option (reference_of c v) others)
 reference_elsewhere name c value.Null others other h = h
-reference_elsewhere name c (value.Int z) others other h = referred_elsewhere name (referred c.kind) (value.Int z) others other h
-reference_elsewhere name c (value.Text text) others other h = referred_elsewhere name (referred c.kind) (value.Text text) others other h
+reference_elsewhere name c v others other h = referred_elsewhere name (referred c.kind) v others other h
 
 -- columns that refer elsewhere make references elsewhere
 pub references_elsewhere : (name : List ℕ) (columns : List Column) (row : Row) → list_any (refers_to name) columns ≡ false

@@ -141,8 +141,7 @@ assigned_once table (s ∷ settings) apart =
 own_kind : (k : ColKind) → is_some (referred k) ≡ false → is_some (own_type k) ≡ true
 own_kind kind.Int h = refl
 own_kind kind.Text h = refl
-own_kind (kind.Ref table) h = absurd (false≢true (sym h))
-own_kind (kind.RefOrNull table) h = absurd (false≢true (sym h))
+own_kind refers h = absurd (false≢true (sym h))
 
 first_keyed : (columns : List Column) → 0 < length columns → list_any (λ c. is_some (referred c.kind)) (take 1 columns) ≡ false
     → is_some (option_and_then (λ c. own_type c.kind) (slice_get columns 0)) ≡ true

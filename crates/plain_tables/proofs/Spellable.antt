@@ -41,8 +41,7 @@ made-each (symbol ∷ symbols) line free (blanks, characters, rest, are, is, end
 kind-each : (k : ColKind) → HaveCharacters (kind_symbols k) → IsSpellableKind k
 kind-each kind.Int all = tt
 kind-each kind.Text all = tt
-kind-each (kind.Ref t) all = all.1.0.1.1
-kind-each (kind.RefOrNull t) all = all.1.0.1.1
+kind-each refers all = all.1.0.1.1
 
 column-each : (column : Column) → HaveCharacters (column_symbols column) → IsSpellableColumn column
 column-each column all = (all.0.1.1, kind-each column.kind all.1)

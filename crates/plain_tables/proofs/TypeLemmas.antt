@@ -52,10 +52,7 @@ type_alike tables others same k = referred_type tables others same (referred k) 
 pub typed_alike : (tables others : Database) → AreKeyedAlike tables others → (v : Value) (k : ColKind)
     → is_typed tables v k ≡ is_typed others v k
 typed_alike tables others same value.Null k = refl
-typed_alike tables others same (value.Int z) k =
-    ap (λ t. option_map_or (has_type (value.Int z)) t false) (type_alike tables others same k)
-typed_alike tables others same (value.Text text) k =
-    ap (λ t. option_map_or (has_type (value.Text text)) t false) (type_alike tables others same k)
+typed_alike tables others same v k = ap (λ t. option_map_or (has_type v) t false) (type_alike tables others same k)
 
 pub row_alike : (tables others : Database) → AreKeyedAlike tables others → (columns : List Column) (row : Row)
     → has_mistyped tables columns row ≡ has_mistyped others columns row
