@@ -1,5 +1,5 @@
 -- Spelled: the laws of lines and statements.
-use Rattle.std.proofs.Common.{◌≡◌, ℕ, List, [], ◌∷◌, map, length, refl, sym, ap, ◌∙◌, subst, Some, arith}
+use Rattle.std.proofs.Common.{◌≡◌, ℕ, List, [], ◌∷◌, map, length, refl, sym, ap, ◌∙◌, subst, arith}
 use Rattle.std.specs.Prelude.{IfSome}
 use Rattle.std.specs.List.{AllByRecursion, flat_map, range_with_len}
 use Rattle.std.proofs.lemmas.List.FromFn.{length-map-range_with_len}
@@ -11,8 +11,6 @@ use Rattle.plain_tables.proofs.Separated.{all-append}
 use Rattle.plain_tables.proofs.Uniqueness.{spells-one}
 use Rattle.plain_statements.specs.declared.statement.Slot.{Slot}
 use Rattle.plain_statements.specs.declared.statement.Slot.TheVariants.{Given}
-use Rattle.plain_statements.specs.declared.statement.Statement.{Statement}
-use Rattle.plain_statements.specs.declared.statement.Statement.TheVariants as statement
 use Rattle.plain_statements.specs.Filling.{slot_value, filled_setting, filled_condition, filled}
 use Rattle.plain_statements.specs.StatementSpelling.{marks, written, numbers_of, slots_of, holes_of, given_setting, given_condition, given, SpellsAtMostOneStatement, CommandsAreStatements, StatementsWithoutMarks}
 use Rattle.plain_statements.proofs.Holes.{null_at, text_at, text_at-spellable, values_by, all-spellable, statements-one}

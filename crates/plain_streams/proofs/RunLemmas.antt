@@ -17,7 +17,7 @@ use Rattle.plain_tables.proofs.Spellable.{spelled-spellable}
 use Rattle.mm_csv.specs.BlockReading.{block_records}
 use Rattle.plain_streams.specs.Requests.{Request}
 use Rattle.plain_streams.specs.Division.{last_request}
-use Rattle.plain_streams.specs.Runs.{IsEffect, too_long, not_utf8, not_a_command, block_too_long, block_cut_short, command, Answers, silent, effect, no_memory, AnswersAll, RunsStaySound, line_of}
+use Rattle.plain_streams.specs.Runs.{IsEffect, too_long, not_utf8, not_a_command, block_too_long, block_cut_short, command, Answers, effect, AnswersAll, RunsStaySound, line_of}
 
 -- ---- sound databases
 

@@ -6,7 +6,7 @@ use Rattle.std.specs.Str.{IsUtf8}
 use Rattle.std.proofs.lemmas.Bool.{eqb-true}
 use Rattle.std.proofs.lemmas.List.Elements.{All-from_recursion}
 use Rattle.std.proofs.lemmas.Str.{IsUtf8-append}
-use Rattle.plain_tables.specs.Spelling.{Symbol, Keyword, Name, Literal, Count, Sign, Close, Comma, doubled, separated, value_symbols, setting_symbols, where_symbols, symbols_of, IsSymbol, IsMadeOf, Spells}
+use Rattle.plain_tables.specs.Spelling.{Symbol, Literal, Sign, Close, Comma, doubled, separated, value_symbols, setting_symbols, where_symbols, symbols_of, IsSymbol, IsMadeOf, Spells}
 use Rattle.plain_tables.specs.declared.value.Value.TheVariants as value
 use Rattle.plain_tables.specs.declared.command.Command.{Command}
 use Rattle.plain_tables.specs.declared.command.Command.TheVariants as command

@@ -1,6 +1,6 @@
 -- Each request, and so each run, keeps the texts of a database UTF-8.
 use Rattle.std.proofs.Common.{◌≡◌, ℕ, List, [], ◌∷◌, ◌++◌, map, set, length, Bool, cond, sym, subst, Option, Some, None}
-use Rattle.std.specs.Prelude.{ℤ, Ok, IfOk, IfSome, not, slice_get, zip, ◌&&◌, ◌==◌}
+use Rattle.std.specs.Prelude.{ℤ, IfOk, IfSome, not, slice_get, zip, ◌&&◌, ◌==◌}
 use Rattle.std.specs.List.{All, AllZip}
 use Rattle.std.specs.Option.{option_map, option_map_or}
 use Rattle.std.specs.Str.{is_utf8}
@@ -8,24 +8,21 @@ use Rattle.std.proofs.lemmas.Bool.{cond_both, and_parts}
 use Rattle.std.proofs.lemmas.List.Elements.{All-nil, All-cons, All-head, All-tail, All-append, All-set, All-map, All-filter, All-weaker}
 use Rattle.std.proofs.lemmas.Str.{IsUtf8-from_is_utf8}
 use Rattle.plain_tables.specs.Tables.{Table, Row}
-use Rattle.plain_tables.specs.Databases.{Database, is_named, table_named}
+use Rattle.plain_tables.specs.Databases.{Database, is_named}
 use Rattle.plain_tables.specs.Queries.{JoinedColumn, place_meant}
-use Rattle.plain_tables.specs.Effects.{Effect, Check, setting_name, new_table, grown_by, is_long}
+use Rattle.plain_tables.specs.Effects.{Effect, setting_name, new_table, grown_by, is_long}
 use Rattle.plain_tables.specs.CsvReading.{Record, BlockColumn, Reading, Rows, BadHeader, BadRecord, integer_of, plain_value, field_value, all_of, row_of, is_header, rows_reading, records_reading}
-use Rattle.plain_tables.specs.Resolving.{meaning, number_of, own_columns, on_numbered, on_column, tests_of, assignments_of, block_columns, table_reading, load_of, resolved_of, table_checks, drop_checks, index_checks, drop_index_checks, insert_checks, update_checks, delete_checks, select_checks, select_of}
+use Rattle.plain_tables.specs.Resolving.{own_columns, assignments_of, block_columns, table_reading, resolved_of, table_checks, drop_checks, index_checks, drop_index_checks, insert_checks, update_checks, delete_checks, select_checks}
 use Rattle.plain_tables.specs.Doing.{assigned, passes_all, dump_checks, delete_checks as row_delete_checks, update_checks as row_update_checks, updated, without, with_index, without_index, insert, done}
 use Rattle.plain_tables.specs.declared.value.Value.{Value}
 use Rattle.plain_tables.specs.declared.value.Value.TheVariants as value
 use Rattle.plain_tables.specs.declared.schema.BaseKind.{BaseKind}
 use Rattle.plain_tables.specs.declared.schema.BaseKind.TheVariants as kind
 use Rattle.plain_tables.specs.declared.schema.Column.{Column}
-use Rattle.plain_tables.specs.declared.refusal.Refusal.{Refusal}
-use Rattle.plain_tables.specs.declared.refusal.Refusal.TheVariants.{NoSuchTable, NoSuchColumn}
 use Rattle.plain_tables.specs.declared.command.Setting.{Setting}
 use Rattle.plain_tables.specs.declared.command.Limits.{Limits}
 use Rattle.plain_tables.specs.declared.command.Command.{Command}
 use Rattle.plain_tables.specs.declared.command.Command.TheVariants as command
-use Rattle.plain_tables.specs.declared.numbers.ColumnNumber.{ColumnNumber}
 use Rattle.plain_tables.specs.declared.numbers.TableNumber.{TableNumber}
 use Rattle.plain_tables.specs.declared.resolved.Assignment.{Assignment}
 use Rattle.plain_tables.specs.declared.resolved.Resolved.{Resolved}
@@ -41,7 +38,7 @@ use Rattle.mm_csv.specs.BlockReading.{block_records}
 use Rattle.plain_streams.specs.Requests.{Request}
 use Rattle.plain_streams.specs.Division.{last_request}
 use Rattle.plain_streams.specs.Dumps.{IsReadBack}
-use Rattle.plain_streams.specs.Runs.{IsEffect, too_long, not_utf8, not_a_command, block_too_long, block_cut_short, command as does, Answers, silent, effect, no_memory, AnswersAll, line_of}
+use Rattle.plain_streams.specs.Runs.{IsEffect, command as does, Answers, effect, AnswersAll, line_of}
 use Rattle.plain_streams.specs.Texts.{IsTextUtf8, HasTextsUtf8, AreTextsUtf8, IsUnlikeNull, ReachedAreReadBack, TextsStayUtf8, DumpsOfRunsLoadAgain}
 use Rattle.plain_streams.proofs.DumpLemmas.{dumps_load_again}
 use Rattle.plain_streams.proofs.RunLemmas.{runs_stay_sound}

@@ -12,7 +12,7 @@ use Rattle.std.proofs.lemmas.Simd.{map-map}
 use Rattle.plain_tables.specs.Tables.{Table, Row, has_key_of}
 use Rattle.plain_tables.specs.Databases.{Database, table_named}
 use Rattle.plain_tables.specs.Queries.{full_name}
-use Rattle.plain_tables.specs.Effects.{Effect, Check, Outcome, Done, Changed, Rows, Dumped, Listed, Refused, checked, grown_by, new_table}
+use Rattle.plain_tables.specs.Effects.{Effect, Check, Outcome, Done, Refused, checked, grown_by, new_table}
 use Rattle.plain_tables.specs.References.{Reference, references, table_references, is_held, is_to, is_referenced}
 use Rattle.plain_tables.specs.Resolving.{resolved_of}
 use Rattle.plain_tables.specs.Doing as doing

@@ -1,17 +1,17 @@
 -- Canonical: the canonical spelling of a command spells it.
-use Rattle.std.proofs.Common.{◌≡◌, ℕ, suc, ◌<◌, ◌^◌, List, [], ◌∷◌, ◌++◌, false, inl, inr, refl, sym, ap, arith, append-nil, subst}
+use Rattle.std.proofs.Common.{◌≡◌, ℕ, suc, ◌<◌, ◌^◌, List, [], ◌∷◌, ◌++◌, inl, inr, refl, sym, ap, arith, append-nil, subst}
 use Rattle.std.specs.Prelude.{ℤ, pos, negsuc, neg_ℤ, FitsSigned}
 use Rattle.std.specs.Int.{w64}
 use Rattle.std.specs.List.{AllByRecursion}
 use Rattle.std.specs.Fmt.{decimal, signed_decimal}
 use Rattle.std.specs.Str.Parse.{IsNumeral, digits_value}
 use Rattle.std.proofs.lemmas.Fmt.{decimal_is_IsNumeral}
-use Rattle.plain_tables.specs.Spelling.{Mark, Open, Close, Comma, Dot, Star, Operator, Symbol, Keyword, Name, Literal, Count, Sign, symbols_of, AreBlanks, IsInteger, IsCount, IsSymbol, goes_on_with, EndsBefore, IsMadeOf, NamesSomething, IsSpellable, symbol_text, gap, spaced, canonical_spelling, CanonicalSpells}
+use Rattle.plain_tables.specs.Spelling.{Open, Close, Comma, Dot, Star, Operator, Symbol, Name, Literal, Count, Sign, symbols_of, AreBlanks, IsInteger, IsCount, IsSymbol, EndsBefore, IsMadeOf, NamesSomething, IsSpellable, symbol_text, gap, spaced, canonical_spelling, CanonicalSpells}
 use Rattle.plain_tables.specs.declared.value.Value.TheVariants as value
 use Rattle.plain_tables.specs.declared.condition.Op.TheVariants as op
 use Rattle.plain_tables.specs.declared.command.Items.TheVariants as items
 use Rattle.plain_tables.specs.declared.command.Command.{Command}
-use Rattle.plain_tables.specs.declared.command.Command.TheVariants.{Table, DropTable, Index, DropIndex, Insert, Update, Delete, Select, Load, Dump, Tables}
+use Rattle.plain_tables.specs.declared.command.Command.TheVariants.{Table, Insert, Update, Select}
 use Rattle.plain_tables.proofs.Lexemes.{ends-never}
 use Rattle.plain_tables.proofs.Separated.{all-each}
 use Rattle.plain_tables.proofs.WellFormed.{IsSpellableSymbol, command-spellable, made-no_line_feed}

@@ -10,8 +10,8 @@ use Rattle.common_lemmas.proofs.Places.{slice_get-set_other, slice_get_set}
 use Rattle.plain_tables.specs.Tables.{Table, Row}
 use Rattle.plain_tables.specs.Databases.{Database}
 use Rattle.plain_tables.specs.Queries.{value_at}
-use Rattle.plain_tables.specs.Effects.{Done, Changed, Rows, Dumped, Listed, Refused, refused, grown_by}
-use Rattle.plain_tables.specs.Doing.{passes_all, assigned, insert_checks, loaded, dump_checks, update_checks, delete_checks, updated, without, done}
+use Rattle.plain_tables.specs.Effects.{refused, grown_by}
+use Rattle.plain_tables.specs.Doing.{passes_all, assigned, loaded, dump_checks, update_checks, delete_checks, updated, without, done}
 use Rattle.plain_tables.specs.ResolvedLaws.{rows_table, rowless, ChangesRowsOf, OwnRowsChange, KeepsIfRefused, RefusedKeeps, RefusedUpdateKeeps, RefusedDeleteKeeps, UpdateKeepsUnpicked, is_to_column, assigns_twice, HasAssigned, UpdateSetsPicked, DeletesThePicked}
 use Rattle.plain_tables.specs.declared.value.Value.TheVariants as value
 use Rattle.plain_tables.specs.declared.refusal.Refusal.{Refusal}

@@ -6,7 +6,7 @@ use Rattle.std.proofs.lemmas.Bool.{cond_both}
 use Rattle.plain_tables.specs.CsvReading.{Record}
 use Rattle.plain_tables.specs.Tables.{Table, Row}
 use Rattle.plain_tables.specs.Databases.{Database}
-use Rattle.plain_tables.specs.Effects.{Effect, Check, Outcome, Done, Changed, Rows, Dumped, Listed, Refused, refused, checked, grown_by}
+use Rattle.plain_tables.specs.Effects.{Effect, Check, Outcome, Changed, Refused, refused, checked, grown_by}
 use Rattle.plain_tables.specs.Resolving.{resolved_of}
 use Rattle.plain_tables.specs.Doing.{on_table, insert_checks, insert, in_record, left_with, goes_on, with_record, loaded, load_effect, load, done}
 use Rattle.plain_tables.specs.Commands.{effect_of_resolved, effect_of}

@@ -1,11 +1,11 @@
 -- First words: each command has a keyword in front.
-use Rattle.std.proofs.Common.{◌≡◌, ◌≢◌, ℕ, List, [], ◌<◌, ◌∷◌, ◌++◌, length, map, Bool, true, false, refl, append_assoc, subst, IsTrue}
+use Rattle.std.proofs.Common.{◌≡◌, ◌≢◌, ℕ, List, [], ◌∷◌, ◌++◌, Bool, true, false, refl, append_assoc, subst, IsTrue}
 use Rattle.std.specs.List.{flat_map}
 use Rattle.std.specs.Str.{bytes_eq}
 use Rattle.std.proofs.lemmas.Slice.Eq.{bytes_eq-Decides}
 use lib.Chars.{codes}
 use Rattle.plain_tables.specs.Names.{is_word}
-use Rattle.plain_tables.specs.Spelling.{Symbol, Keyword, Name, Count, Sign, Open, Close, separated, symbols_of, column_symbols, index_symbols, value_symbols, setting_symbols, items_symbols, distinct_symbols, join_symbols, where_symbols, IsMadeOf, NamesSomething, Spells}
+use Rattle.plain_tables.specs.Spelling.{Symbol, Keyword, Name, symbols_of, items_symbols, distinct_symbols, join_symbols, where_symbols, IsMadeOf, NamesSomething, Spells}
 use Rattle.plain_tables.specs.Reading.{lexeme, after_lexeme}
 use Rattle.plain_tables.specs.ResolvedLaws.{NamesItems}
 use Rattle.plain_tables.specs.declared.condition.Cond.{Cond}
@@ -13,7 +13,7 @@ use Rattle.plain_tables.specs.declared.command.Join.{Join}
 use Rattle.plain_tables.specs.declared.command.Items.{Items}
 use Rattle.plain_tables.specs.declared.command.Items.TheVariants as items
 use Rattle.plain_tables.specs.declared.command.Command.{Command}
-use Rattle.plain_tables.specs.declared.command.Command.TheVariants.{Table, DropTable, Index, DropIndex, Insert, Update, Delete, Select, Load, Dump, Tables}
+use Rattle.plain_tables.specs.declared.command.Command.TheVariants.{Select}
 use Rattle.plain_tables.proofs.Lexemes.{lexeme-of_made}
 
 -- Words that a comparison tells apart are different.

@@ -12,7 +12,7 @@ use Rattle.std.proofs.lemmas.List.{take-append-drop}
 use Rattle.std.proofs.lemmas.Bool.{and_parts, or_parts}
 use Rattle.std.proofs.lemmas.Bool.Decides.{nat_tests}
 use Rattle.plain_tables.specs.Names.{is_word, is_word_character, is_letter}
-use Rattle.plain_tables.specs.Spelling.{Mark, Open, Close, Comma, Dot, Star, Operator, mark_text, doubled, text_literal, Symbol, Keyword, Name, Literal, Count, Sign, IsInteger, AreBlanks, is_blank, IsSymbol, EndsBefore, IsMadeOf, goes_on_with}
+use Rattle.plain_tables.specs.Spelling.{Mark, Operator, mark_text, doubled, text_literal, Symbol, Keyword, Name, Literal, Count, Sign, IsInteger, AreBlanks, is_blank, IsSymbol, EndsBefore, IsMadeOf, goes_on_with}
 use Rattle.plain_tables.specs.declared.value.Value.TheVariants as value
 use Rattle.plain_tables.specs.declared.condition.Op.TheVariants as op
 use Rattle.plain_tables.specs.Reading.{behind_blanks, begins_run, is_operator, operator_length, length_behind, lexeme_length, lexeme, after_lexeme}

@@ -3,7 +3,7 @@ use Rattle.std.proofs.Common.{◌≡◌, ◌≢◌, ℕ, zero, suc, List, [], �
 use Rattle.std.specs.Prelude.{◌==◌}
 use Rattle.std.specs.List.{AllByRecursion, Contains, flat_map}
 use Rattle.plain_tables.specs.Names.{is_word_character}
-use Rattle.plain_tables.specs.Spelling.{Mark, Open, Close, Comma, Dot, Star, Operator, mark_text, doubled, text_literal}
+use Rattle.plain_tables.specs.Spelling.{Mark, Operator, mark_text, doubled, text_literal}
 use Rattle.plain_tables.specs.Reading.{begins_run}
 use Rattle.plain_tables.specs.declared.condition.Op.TheVariants as op
 use Rattle.plain_tables.proofs.Lexemes.{AllPass, IsRun}

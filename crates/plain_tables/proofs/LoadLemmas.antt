@@ -1,5 +1,5 @@
 -- Loads: that they go on from a load of the first rows, and what they answer.
-use Rattle.std.proofs.Common.{◌≡◌, ◌+◌, ◌<◌, ◌≤◌, ℕ, suc, set, length, arith, List, [], ◌∷◌, ◌++◌, refl, sym, ap, subst, Some}
+use Rattle.std.proofs.Common.{◌≡◌, ◌+◌, ◌<◌, ◌≤◌, ℕ, suc, set, length, arith, List, [], ◌∷◌, ◌++◌, refl, sym, ap, subst}
 use Rattle.std.specs.Prelude.{Result, Ok, Err}
 use Rattle.std.specs.List.{Contains, slice_get}
 use Rattle.std.specs.Option.{option_map_or}
@@ -10,11 +10,10 @@ use Rattle.plain_tables.specs.Effects.{Effect, Changed, refused, checked, grown_
 use Rattle.plain_tables.specs.Doing.{insert_checks, left_with, goes_on, with_record, loaded, load_effect}
 use Rattle.plain_tables.specs.ResolvedLaws.{OfTable, LoadGoesOn, record_refusals, IsLoad, all_rows, no_row, LoadsAreTold}
 use Rattle.plain_tables.specs.declared.refusal.Refusal.{Refusal}
-use Rattle.plain_tables.specs.declared.refusal.Refusal.TheVariants.{NoSuchTable, KeyExists, NoReferencedRow, TableFull}
+use Rattle.plain_tables.specs.declared.refusal.Refusal.TheVariants.{NoSuchTable}
 use Rattle.plain_tables.specs.declared.command.Limits.{Limits}
 use Rattle.plain_tables.specs.declared.numbers.TableNumber.{TableNumber}
 use Rattle.plain_tables.proofs.EffectLemmas.{checked_each}
-use Rattle.common_lemmas.proofs.Elements.{Contains-head, Contains-cons}
 use Rattle.common_lemmas.proofs.Places.{slice_get_set}
 
 -- ---- more rows

@@ -1,29 +1,26 @@
 -- A command is resolved only to one of these tables, with values that can stand there.
-use Rattle.std.proofs.Common.{◌≡◌, ◌≢◌, ◌<◌, ℕ, true, false, not, length, map, get_or, take, arith, List, [], ◌∷◌, inl, inr, refl, sym, ap, ◌∙◌, subst, Option, Some, None}
-use Rattle.std.specs.Prelude.{Result, Ok, Err, IfOk, if◌then◌else◌, ◌==◌, nat_lt, nat_le}
+use Rattle.std.proofs.Common.{◌≡◌, ◌≢◌, ◌<◌, ℕ, true, false, not, length, map, get_or, take, arith, List, [], ◌∷◌, refl, sym, ap, ◌∙◌, Option, Some, None}
+use Rattle.std.specs.Prelude.{Ok, IfOk, if◌then◌else◌, ◌==◌, nat_lt, nat_le}
 use Rattle.std.specs.List.{All, AllByRecursion, list_any, cons_option, slice_get}
-use Rattle.std.specs.Option.{is_some, option_map, option_map_or, option_and_then}
+use Rattle.std.specs.Option.{is_some, option_map, option_and_then}
 use Rattle.std.specs.Str.{bytes_eq}
 use Rattle.std.specs.declared.cmp.Ordering.TheVariants.{Less}
-use Rattle.std.proofs.lemmas.Bool.{cases_Bool, or_parts, or_from, not-false, both_ways, false≢true, eqb-true, ne_eqb, ltb-false, leb-false}
+use Rattle.std.proofs.lemmas.Bool.{or_parts, or_from, not-false, both_ways, false≢true, eqb-true, ne_eqb, ltb-false, leb-false}
 use Rattle.std.proofs.lemmas.List.Elements.{All-nil, All-head, All-tail, All-weaker}
-use Rattle.std.proofs.lemmas.List.Folds.{find_at, list_any_none}
+use Rattle.std.proofs.lemmas.List.Folds.{list_any_none}
 use Rattle.std.proofs.lemmas.Option.{same_Some}
 use Rattle.std.proofs.lemmas.Slice.Eq.{bytes_eq-Decides}
-use Rattle.plain_tables.specs.Tables.{Table, Row, key_cmp}
-use Rattle.plain_tables.specs.Databases.{Database, is_named, table_named}
+use Rattle.plain_tables.specs.Tables.{Table, key_cmp}
+use Rattle.plain_tables.specs.Databases.{Database}
 use Rattle.plain_tables.specs.Queries.{JoinedColumn, place_meant, places_meant}
 use Rattle.plain_tables.specs.Effects.{Check, repeats, is_long, setting_name}
 use Rattle.plain_tables.specs.References.{referred, own_type, refers_into, is_index, all_indexes, IsKeyTree, IsSound}
-use Rattle.plain_tables.specs.Resolving.{meaning, number_of, on_numbered, own_columns, on_column, tests_of, assignments_of, mistypes, is_mistyped, table_checks, drop_checks, index_checks, drop_index_checks, insert_checks, update_checks, delete_checks, select_checks, select_of, table_reading, load_of, resolved_of}
-use Rattle.plain_tables.specs.CsvReading.{Record, Rows}
+use Rattle.plain_tables.specs.Resolving.{meaning, number_of, on_numbered, own_columns, assignments_of, mistypes, is_mistyped, table_checks, drop_checks, index_checks, drop_index_checks, insert_checks, update_checks, delete_checks, select_checks, table_reading, resolved_of}
+use Rattle.plain_tables.specs.CsvReading.{Record}
 use Rattle.plain_tables.specs.ResolvedLaws.{HasWidth, IsGiven, IsStorable, IsDeclarable, IsIndexable, IsAssignable, is_to_column, assigns_twice, IsMeant, ResolvedAreMeant, CommandsKeepSound, shows_indexes, rows_table}
 use Rattle.plain_tables.specs.CommandLaws.{EffectsKeepSound, table_of, is_on_rows, is_listing}
 use Rattle.plain_tables.specs.declared.value.Value.{Value}
 use Rattle.plain_tables.specs.declared.value.Value.TheVariants as value
-use Rattle.plain_tables.specs.declared.condition.ColName.{ColName}
-use Rattle.plain_tables.specs.declared.refusal.Refusal.{Refusal}
-use Rattle.plain_tables.specs.declared.refusal.Refusal.TheVariants.{NoSuchTable, NoSuchColumn}
 use Rattle.plain_tables.specs.declared.schema.ColKind.{ColKind}
 use Rattle.plain_tables.specs.declared.schema.ColKind.TheVariants as kind
 use Rattle.plain_tables.specs.declared.schema.Column.{Column}
@@ -39,14 +36,12 @@ use Rattle.plain_tables.specs.declared.numbers.TableNumber.{TableNumber}
 use Rattle.plain_tables.specs.declared.numbers.Place.{Place}
 use Rattle.plain_tables.specs.declared.resolved.Assignment.{Assignment}
 use Rattle.plain_tables.specs.declared.resolved.Resolved.{Resolved}
-use Rattle.plain_tables.specs.declared.resolved.Resolved.TheVariants as resolved
-use Rattle.plain_tables.proofs.BlockLemmas.{read_insertable, load_found}
-use Rattle.plain_tables.proofs.ColumnLemmas.{column_within, named_there, first_behind_key}
+use Rattle.plain_tables.proofs.BlockLemmas.{read_insertable}
+use Rattle.plain_tables.proofs.ColumnLemmas.{named_there, first_behind_key}
 use Rattle.plain_tables.proofs.EffectLemmas.{effect_satisfies}
 use Rattle.common_lemmas.proofs.Pairs.{AllPairs-nil}
 use Rattle.common_lemmas.proofs.Tests.{fails_where_none}
 use Rattle.common_lemmas.proofs.Elements.{mapped_more}
-use Rattle.common_lemmas.proofs.Options.{not_Ok, same_Ok}
 use Rattle.plain_tables.proofs.Meanings.{satisfies, if_checked, if_numbered, if_on_column, if_read}
 use Rattle.plain_tables.proofs.NameLemmas.{columns_differ}
 use Rattle.plain_tables.proofs.SelectLemmas.{of_own_column, own_tests_meant, select_meant}

@@ -1,6 +1,6 @@
 -- Schemas: commands that aren't on indexes are resolved alike where tables have the same names and columns.
 use Rattle.std.proofs.Common.{◌≡◌, ◌+◌, ℕ, Bool, false, true, not, map, List, [], ◌∷◌, ◌++◌, refl, sym, ap, ◌∙◌, Option, Some, None}
-use Rattle.std.specs.Prelude.{Result, Ok, Err, ◌||◌, ◌&&◌}
+use Rattle.std.specs.Prelude.{Result, Err, ◌||◌, ◌&&◌}
 use Rattle.std.specs.List.{list_any, filter_map, flat_map, enumerate_from, position_or_len}
 use Rattle.std.specs.Option.{is_some, option_map, option_map_or, option_and_then}
 use Rattle.std.proofs.lemmas.Bool.{false≢true}
@@ -9,9 +9,9 @@ use Rattle.plain_tables.specs.Values.{is_null}
 use Rattle.plain_tables.specs.Tables.{Table}
 use Rattle.plain_tables.specs.Databases.{Database, is_named, table_named}
 use Rattle.plain_tables.specs.Queries.{JoinedColumn, source_columns, joined_columns, column_meant, sides_meant}
-use Rattle.plain_tables.specs.Effects.{Check, setting_name}
+use Rattle.plain_tables.specs.Effects.{setting_name}
 use Rattle.plain_tables.specs.References.{referred, key_type, type_of, same_type, is_typed, refers_into, refers_to, is_table_referenced}
-use Rattle.plain_tables.specs.Resolving.{meaning, number_of, on_numbered, own_columns, tests_of, assignments_of, asks_order, mistypes, is_mistyped, table_checks, drop_checks, insert_checks, update_checks, delete_checks, once, select_names, columns_of, behind, join_columns, differ_in_type, select_checks, joins_of, select_of, table_reading, load_of, resolved_of}
+use Rattle.plain_tables.specs.Resolving.{meaning, own_columns, asks_order, mistypes, is_mistyped, table_checks, once, select_names, columns_of, behind, join_columns, differ_in_type, select_checks, joins_of, select_of, resolved_of}
 use Rattle.plain_tables.specs.CsvReading.{Record}
 use Rattle.plain_tables.specs.Joining.{joined}
 use Rattle.plain_tables.specs.ResolvedLaws.{emptied, is_on_indexes}
@@ -25,7 +25,6 @@ use Rattle.plain_tables.specs.declared.command.Join.{Join}
 use Rattle.plain_tables.specs.declared.command.Setting.{Setting}
 use Rattle.plain_tables.specs.declared.command.Command.{Command}
 use Rattle.plain_tables.specs.declared.command.Command.TheVariants as command
-use Rattle.plain_tables.specs.declared.numbers.TableNumber.{TableNumber}
 use Rattle.plain_tables.specs.declared.resolved.Resolved.{Resolved}
 use Rattle.plain_tables.specs.declared.resolved.Resolved.TheVariants as resolved
 use Rattle.common_lemmas.proofs.Tests.{any_agree}

@@ -19,7 +19,7 @@ use Rattle.plain_tables.specs.Tables.{Table, Row, AreRising, key_cmp, has_key_of
 use Rattle.plain_tables.specs.Databases.{Database, is_named, table_named}
 use Rattle.plain_tables.specs.Effects.{new_table, grown_by}
 use Rattle.plain_tables.specs.References.{Reference, reference_of, references, table_references, is_held, is_to, is_referenced, is_typed, refers_into, refers_to, is_kind, is_index, CanHold, IsRowOf, IsKeyTree, IsSoundTable, IsSound}
-use Rattle.plain_tables.specs.Doing.{passes_all, assigned, assigned_references, insert_checks, insert, load, dump_checks, update_checks, delete_checks, updated, picked, without, with_index, without_index, done}
+use Rattle.plain_tables.specs.Doing.{passes_all, assigned, assigned_references, insert, load, dump_checks, update_checks, delete_checks, updated, picked, without, with_index, without_index, done}
 use Rattle.plain_tables.specs.ResolvedLaws.{OfTable, IsIndexable, IsInsertable, IsAssignable, AreAssignable, DoneKeepsSound, UpdateKeepsSound, DeleteKeepsSound}
 use Rattle.plain_tables.specs.declared.value.Value.{Value}
 use Rattle.plain_tables.specs.declared.schema.Column.{Column}

@@ -16,7 +16,7 @@ use Rattle.plain_tables.specs.Tables.{Table, Row}
 use Rattle.plain_tables.specs.Databases.{Database, table_named}
 use Rattle.plain_tables.specs.Queries.{JoinedColumn, joined_columns, fits_one, column_meant, place_meant, stands, side_name, named_items}
 use Rattle.plain_tables.specs.Effects.{misses, setting_name, condition_names}
-use Rattle.plain_tables.specs.Resolving.{number_of, own_columns, tests_of, assignments_of, is_mistyped, update_checks, delete_checks, once, select_names, columns_of, behind, join_columns, differ_in_type, select_checks, is_on_source, source_of, joins_of, select_of}
+use Rattle.plain_tables.specs.Resolving.{number_of, own_columns, tests_of, is_mistyped, update_checks, delete_checks, once, select_names, columns_of, behind, join_columns, differ_in_type, select_checks, is_on_source, source_of, joins_of}
 use Rattle.plain_tables.specs.ResolvedLaws.{AreJoins}
 use Rattle.plain_tables.specs.Joining.{Member, passes_all, value_of, are_equal, members_of}
 use Rattle.plain_tables.specs.QueryLaws.{table_rows, all_members, sources_of, each_passes, each_equal}
