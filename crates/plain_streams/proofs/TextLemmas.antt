@@ -1,5 +1,5 @@
 -- Each request, and so each run, keeps the texts of a database UTF-8.
-use Rattle.std.proofs.Common.{◌≡◌, ℕ, List, [], ◌∷◌, ◌++◌, map, set, length, Bool, cond, sym, subst, Option, Some, None}
+use Rattle.std.proofs.Common.{◌≡◌, ℕ, List, [], ◌∷◌, ◌++◌, map, set, length, Bool, cond, subst, Option, Some, None}
 use Rattle.std.specs.Prelude.{ℤ, IfOk, IfSome, not, slice_get, zip, ◌&&◌, ◌==◌}
 use Rattle.std.specs.List.{All, AllZip}
 use Rattle.std.specs.Option.{option_map, option_map_or}
@@ -38,10 +38,11 @@ use Rattle.mm_csv.specs.BlockReading.{block_records}
 use Rattle.plain_streams.specs.Requests.{Request}
 use Rattle.plain_streams.specs.Division.{last_request}
 use Rattle.plain_streams.specs.Dumps.{IsReadBack}
-use Rattle.plain_streams.specs.Runs.{IsEffect, command as does, Answers, effect, AnswersAll, line_of}
+use Rattle.plain_streams.specs.Runs.{IsEffect, command as does, Answers, effect, line_of}
 use Rattle.plain_streams.specs.Texts.{IsTextUtf8, HasTextsUtf8, AreTextsUtf8, IsUnlikeNull, ReachedAreReadBack, TextsStayUtf8, DumpsOfRunsLoadAgain}
 use Rattle.plain_streams.proofs.DumpLemmas.{dumps_load_again}
 use Rattle.plain_streams.proofs.RunLemmas.{runs_stay_sound}
+use Rattle.plain_streams.proofs.RunSteps.{AnswersAll-keeps}
 use Rattle.plain_streams.proofs.SpelledTexts.{StoresUtf8, spelled-stored}
 
 -- ---- records of a block
@@ -235,15 +236,9 @@ answer-utf8 : (limits : Limits) (tables : Database) (request : Request) (answer 
 answer-utf8 limits tables request answer after (effect e h) all = effect-utf8 limits tables request e h all
 answer-utf8 limits tables request answer after other all = all
 
-answers-utf8 : (limits : Limits) (tables : Database) (requests : List Request) (answers : List ℕ) (after : Database)
-    → AnswersAll limits tables requests answers after → AreTextsUtf8 tables → AreTextsUtf8 after
-answers-utf8 limits tables [] answers after h all = subst AreTextsUtf8 (sym h.1) all
-answers-utf8 limits tables (request ∷ requests) answers after (first, others, next, here, rest, joined) all =
-    answers-utf8 limits next requests others after rest (answer-utf8 limits tables request first next here all)
-
 pub texts_stay_utf8 : TextsStayUtf8
 texts_stay_utf8 limits from stream finished answers after (requests, rest, divides, run) all =
-    answers-utf8 limits from (requests ++ last_request finished rest) answers after run all
+    AnswersAll-keeps AreTextsUtf8 limits from (requests ++ last_request finished rest) answers after (answer-utf8 limits) run all
 
 pub no_texts : AreTextsUtf8 []
 no_texts = All-nil HasTextsUtf8
