@@ -28,17 +28,19 @@ HasShape t u = (t.name ≡ u.name) × (t.columns ≡ u.columns)
 pub has_own_shape : (t : Table) → HasShape t t
 has_own_shape t = (refl, refl)
 
-named_alike : (name : List ℕ) (tables others : Database) → AllZip HasShape tables others
-    → is_some (table_named name tables) ≡ is_some (table_named name others)
-named_alike name [] [] same = refl
-named_alike name [] (u ∷ others) same = absurd same
-named_alike name (t ∷ tables) [] same = absurd same
-named_alike name (t ∷ tables) (u ∷ others) same =
+-- What holds of two tables of one shape, and where none is found, holds of those that are found by a name.
+pub named_alike : (P : Option Table → Option Table → Type 0) → P None None → ((t u : Table) → HasShape t u → P (Some t) (Some u))
+    → (name : List ℕ) (tables others : Database) → AllZip HasShape tables others
+    → P (table_named name tables) (table_named name others)
+named_alike P none both name [] [] same = none
+named_alike P none both name [] (u ∷ others) same = absurd same
+named_alike P none both name (t ∷ tables) [] same = absurd same
+named_alike P none both name (t ∷ tables) (u ∷ others) same =
     elim (cases_Bool (is_named name t)) [
-      | inl e ↦ let e' : is_named name u ≡ true = subst (λ n. bytes_eq n name ≡ true) same.0.0 e in rw (e, e') refl
+      | inl e ↦ let e' : is_named name u ≡ true = subst (λ n. bytes_eq n name ≡ true) same.0.0 e in rw (e, e') (both t u same.0)
       | inr f ↦
           let f' : is_named name u ≡ false = subst (λ n. bytes_eq n name ≡ false) same.0.0 f in
-          rw (f, f') (named_alike name tables others same.1)
+          rw (f, f') (named_alike P none both name tables others same.1)
     ]
 
 -- what a column refers to is there in the one database if it is in the other
@@ -51,7 +53,8 @@ refers_as (Some name) tables others there h = there name h
 
 refers_alike : (tables others : Database) → AllZip HasShape tables others → (c : Column) → RefersInto tables c → RefersInto others c
 refers_alike tables others same c h =
-    refers_as (referred c.kind) tables others (λ name there. sym (named_alike name tables others same) ∙ there) h
+    refers_as (referred c.kind) tables others
+    (λ name there. sym (named_alike (λ a b. is_some a ≡ is_some b) refl (λ t u alike. refl) name tables others same) ∙ there) h
 
 pub refer_back_alike : (before before' after after' : Database) → AllZip HasShape before before' → AllZip HasShape after after'
     → ReferBack before after → ReferBack before' after'
