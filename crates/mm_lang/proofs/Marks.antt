@@ -9,6 +9,7 @@ use Rattle.std.specs.declared.str.Utf8Error.{Utf8Error}
 use Rattle.std.proofs.lemmas.Bool.{eqb-true}
 use Rattle.std.proofs.lemmas.List.Concat.{flat_map-append}
 use denote.Bor.{Bor}
+use Rattle.plain_tables.proofs.Texts.{text_length-plain}
 use Rattle.plain_tables.specs.Spelling.{doubled}
 use Rattle.plain_tables.specs.Reading.{text_length}
 use Rattle.plain_tables.proofs.Texts.{doubled-one}
@@ -18,10 +19,6 @@ use Rattle.plain_tables.proofs.Texts.{doubled-one}
 other-test : (c : ℕ) (b : Bool) → (c == 39) ≡ b → c ≢ 39 → b ≡ false
 other-test c true e other = absurd (other (eqb-true c 39 e))
 other-test c false e other = refl
-
-pub text_length-plain : (c : ℕ) (cs : List ℕ) → (c == 39) ≡ false → text_length (c ∷ cs) ≡ 1 + text_length cs
-text_length-plain c [] plain = refl
-text_length-plain c (d ∷ cs) plain = rw plain refl
 
 part-at : (cs : List ℕ) (i : ℕ) → i < length cs → drop i cs ≡ get_or cs i 0 ∷ drop (i + 1) cs
 part-at cs i inside = rw add-one (drop-cons cs i 0 inside)

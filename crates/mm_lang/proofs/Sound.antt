@@ -4,12 +4,12 @@ use Rattle.std.specs.Prelude.{◌==◌, ◌&&◌, not}
 use Rattle.std.specs.List.{AllByRecursion, Contains, flat_map, range_with_len}
 use Rattle.std.proofs.Math.Seq.{get_or-append_seam}
 use lib.Chars.{codes}
-use Rattle.plain_tables.specs.Spelling.{Symbol, Keyword, Literal, Sign, AreBlanks, IsSymbol, EndsBefore, IsMadeOf, symbol_text, mark_text, text_literal, IsSpellableValue, Mark, Operator, Spells}
+use Rattle.plain_tables.specs.Spelling.{Symbol, Keyword, Literal, Sign, AreBlanks, IsSymbol, IsMadeOf, symbol_text, mark_text, text_literal, IsSpellableValue, Mark, Operator, Spells}
 use Rattle.plain_tables.specs.Reading.{begins_run, lexeme, after_lexeme}
 use Rattle.plain_tables.specs.declared.value.Value.{Value}
 use Rattle.plain_tables.specs.declared.value.Value.TheVariants as value
 use Rattle.plain_tables.specs.declared.condition.Op.TheVariants as op
-use Rattle.plain_tables.proofs.Canonical.{integer-text}
+use Rattle.plain_tables.proofs.Canonical.{symbol-text, blank-ends}
 use Rattle.plain_tables.proofs.FirstWords.{different}
 use Rattle.plain_tables.proofs.Lexemes.{IsRun, IsWellFormed, symbol-run, made-from_lexeme, no_lexeme-blanks}
 use Rattle.plain_tables.proofs.LineFeeds.{HasNoFeed, contains-feed, contains-no_feed}
@@ -47,15 +47,6 @@ symbol-apart characters other well is = run-apart characters (symbol-run charact
 
 -- ---- literals that are written
 
-pub literal-text : (v : Value) → IsSpellableValue v → IsSymbol (symbol_text (Literal v)) (Literal v)
-literal-text value.Null can = refl
-literal-text (value.Int z) can = integer-text z can
-literal-text (value.Text text) can = refl
-
-literal-ends : (v : Value) (rest : List ℕ) → EndsBefore (Literal v) (32 ∷ rest)
-literal-ends value.Null rest = refl
-literal-ends other rest = refl
-
 blank-made : (line : List ℕ) (symbols : List Symbol) → IsMadeOf line symbols → IsMadeOf (32 ∷ line) symbols
 blank-made line [] made = (refl, made)
 blank-made line (x ∷ symbols) (blanks, characters, rest, are, is, ends, others, e) =
@@ -68,8 +59,8 @@ literal-made v blanks rest line symbols can are e made = (
   symbol_text (Literal v),
   32 ∷ rest,
   all-append _ blanks (32 ∷ []) are (refl, tt),
-  literal-text v can,
-  literal-ends v rest,
+  symbol-text (Literal v) can,
+  blank-ends (Literal v) rest,
   blank-made rest symbols made,
   e ∙ (simp append_assoc),
 )
@@ -144,7 +135,7 @@ holes-marks (At (Hole n) ∷ parts) well line (rest, (is, reads), end) =
 -- ---- no line feeds
 
 literal-no_feed : (v : Value) → IsSpellableValue v → HasNoFeed (symbol_text (Literal v))
-literal-no_feed v can = symbol-no_feed (symbol_text (Literal v)) (Literal v) can (literal-text v can)
+literal-no_feed v can = symbol-no_feed (symbol_text (Literal v)) (Literal v) can (symbol-text (Literal v) can)
 
 feed-at : (quoted : Bool) (v : Value) (vs : List Value) (c : ℕ) (cs : List ℕ) (a b : Bool) → (c == 39) ≡ a → ((c == 63) && not quoted) ≡ b
     → c ≢ 10 → IsSpellableValue v → ((q : Bool) → HasNoFeed (written_within q (v ∷ vs) cs)) → HasNoFeed (written_within quoted vs cs)

@@ -12,10 +12,9 @@ use Rattle.plain_tables.specs.Reading.{behind_blanks, begins_run, is_operator, o
 use Rattle.plain_tables.specs.declared.value.Value.{Value}
 use Rattle.plain_tables.specs.declared.value.Value.TheVariants as value
 use Rattle.plain_tables.proofs.Lexemes.{AllPass, StopsBefore, prefix_len-front, behind_blanks-front, lexeme-front, front-passes, rest-stops}
-use Rattle.plain_tables.proofs.Texts.{one_more, two_more}
+use Rattle.plain_tables.proofs.Texts.{one_more, two_more, text_length-plain}
 use Rattle.plain_statements.specs.StatementSpelling.{marks, marks_within, literal_apart, written, written_within}
 use Rattle.plain_statements.proofs.Spelled.{written-none}
-use Rattle.mm_lang.proofs.Marks.{text_length-plain}
 
 -- ---- characters that are neither quote marks nor question marks
 
