@@ -1,31 +1,32 @@
 -- Complete: a line that spells a statement is the statement's symbols, with a question mark for each hole. Two fillings tell: nulls,
 -- and empty texts.
-use Rattle.std.proofs.Common.{◌≡◌, ◌≢◌, ℕ, zero, suc, ◌+◌, List, [], ◌∷◌, ◌++◌, length, map, true, get_or, refl, sym, ap, ◌∙◌, subst, arith, append_assoc, length-append}
+use Rattle.std.proofs.Common.{◌≡◌, ◌≢◌, ℕ, zero, suc, ◌+◌, List, [], ◌∷◌, ◌++◌, length, map, Bool, true, false, get_or, refl, sym, ap, ◌∙◌, subst, arith, append_assoc, length-append}
 use Rattle.std.specs.List.{AllByRecursion, flat_map, range_with_len}
 use Rattle.std.proofs.Math.Seq.{get_or-append_seam}
 use lib.Chars.{codes}
-use Rattle.plain_tables.specs.Spelling.{Symbol, Keyword, Name, Literal, Count, Sign, AreBlanks, IsSymbol, IsMadeOf, IsSpellableValue, Spells}
-use Rattle.plain_tables.specs.Reading.{behind_blanks, begins_run, lexeme, after_lexeme}
+use Rattle.plain_tables.specs.Spelling.{Symbol, Keyword, Name, Literal, Count, symbol_text, is_blank, IsSymbol, IsMadeOf, IsSpellableValue, Spells}
+use Rattle.plain_tables.specs.Reading.{behind_blanks, begins_run, lexeme_length, lexeme, after_lexeme}
 use Rattle.plain_tables.specs.declared.value.Value.{Value}
 use Rattle.plain_tables.specs.declared.value.Value.TheVariants as value
 use Rattle.plain_tables.proofs.FirstWords.{different}
-use Rattle.plain_tables.proofs.Lexemes.{IsRun, IsWellFormed, symbol-run, lexeme-of_made, made-from_lexeme, blanks-no_lexeme}
+use Rattle.plain_tables.proofs.Lexemes.{StopsBefore, IsRun, IsWellFormed, symbol-run, lexeme-front, lexeme-of_made, made-from_lexeme, blanks-no_lexeme}
 use Rattle.plain_tables.proofs.LineFeeds.{contains-feed}
 use Rattle.plain_tables.proofs.Separated.{all-append}
+use Rattle.plain_tables.proofs.Texts.{one_more}
 use Rattle.plain_statements.specs.declared.statement.Slot.{Slot}
 use Rattle.plain_statements.specs.declared.statement.Slot.TheVariants.{Given, Hole}
 use Rattle.plain_statements.specs.declared.statement.Statement.{Statement}
-use Rattle.plain_statements.specs.declared.statement.Statement.TheVariants as statement
 use Rattle.plain_statements.specs.Filling.{filled}
 use Rattle.plain_statements.specs.StatementSpelling.{marks, written, numbers_of, slots_of, SpellsStatement}
 use Rattle.mm_lang.specs.Parsing.{IsWhole}
-use Rattle.mm_lang.specs.declared.statements.StatementWord.{StatementWord}
-use Rattle.mm_lang.specs.declared.statements.StatementWord.TheVariants as word
-use Rattle.mm_lang.specs.Statements.{slot_symbol, word_of, behind_by, statement_letters, IsStatement}
-use Rattle.mm_lang.proofs.Filled.{literal, symbols-filled, something-filled}
+use Rattle.mm_lang.specs.declared.parser.CommandWord.{CommandWord}
+use Rattle.mm_lang.specs.Words.{letters}
+use Rattle.mm_lang.specs.Statements.{slot_symbol, word_of, behind_by, IsStatement}
+use Rattle.mm_lang.proofs.Filled.{literal, word-filled, symbols-filled, something-filled}
 use Rattle.mm_lang.proofs.Parts.{Part, Plain, At, symbol_by, slots_in, IsWell, HasParts, statement-parts}
 use Rattle.mm_lang.proofs.Sound.{cons-parts}
-use Rattle.mm_lang.proofs.Written.{FirstSymbol, IsMark, IsOther, KeepsLine, TakesNext, first-symbol, keeps-line, front-lexeme}
+use Rattle.mm_lang.proofs.Spelled.{word-of}
+use Rattle.mm_lang.proofs.Written.{FirstSymbol, IsMark, IsOther, KeepsLine, TakesNext, first-symbol, keeps-line}
 
 -- ---- a blank in front
 
@@ -34,9 +35,6 @@ unfolding lexeme after_lexeme
 blank-lexeme line =
     let text : behind_blanks (32 ∷ line) ≡ behind_blanks line = rw one_more refl in
     (rw text refl, rw text refl)
-  where
-    one_more : (n : ℕ) → 1 + n ≡ suc n
-    one_more n = omega arith
 
 behind-blank : (line : List ℕ) (symbols : List Symbol) → AllByRecursion IsWellFormed symbols → IsMadeOf (32 ∷ line) symbols → IsMadeOf line symbols
 behind-blank line [] well made = made.1
@@ -65,8 +63,14 @@ abbrev each : Value → Slot → Symbol
 each v (Given w) = Literal w
 each v (Hole n) = Literal v
 
-abbrev empty : Value
-empty = value.Text []
+-- the two that tell: no symbol is the literal of both
+abbrev telling : Bool → Value
+telling true = value.Null
+telling false = value.Text []
+
+telling-spellable : (b : Bool) → IsSpellableValue (telling b)
+telling-spellable true = tt
+telling-spellable false = contains-feed [] tt
 
 -- Values of which each that is left is this one put it into each hole.
 each-hole : (v : Value) (values front : List Value) (n : ℕ) (parts : List Part) → values ≡ front ++ repeated v n
@@ -79,9 +83,7 @@ each-hole v values front zero (At (Hole k) ∷ parts) all numbers = cc
 each-hole v values front (suc n) (At (Hole k) ∷ parts) all numbers =
     let next = cons-parts k (length front) (flat_map numbers_of (slots_in parts)) (range_with_len (length front + 1) n) numbers in
     let long : length (front ++ v ∷ []) ≡ length front + 1 = omega (arith, length-append front (v ∷ [])) in
-    let one : get_or values k value.Null ≡ v =
-    ap (λ l. get_or l k value.Null) all
-    ∙ (ap (λ i. get_or (front ++ v ∷ repeated v n) i value.Null) next.0 ∙ get_or-append_seam front v (repeated v n) value.Null) in
+    let one : get_or values k value.Null ≡ v = rw (all, next.0) (get_or-append_seam front v (repeated v n) value.Null) in
     let others : map (symbol_by (literal values)) parts ≡ map (symbol_by (each v)) parts =
     each-hole v values (front ++ v ∷ []) n parts (all ∙ sym (append_assoc front (v ∷ []) (repeated v n)))
     (next.1 ∙ ap (λ i. range_with_len i n) (sym long)) in
@@ -89,44 +91,35 @@ each-hole v values front (suc n) (At (Hole k) ∷ parts) all numbers =
 
 -- ---- a symbol is not the literal of both
 
-run-no_text : (characters : List ℕ) → characters ≡ codes "''" → IsRun characters → ⊥
-run-no_text characters e run =
-    let text : IsRun (codes "''") = subst IsRun e run in
-    let both : begins_run 39 ≡ true = text.1 in cc
+run-no_text : IsRun (codes "''") → ⊥
+run-no_text run = let both : begins_run 39 ≡ true = run.1 in cc
 
 null-no_text : codes "null" ≢ codes "''"
 null-no_text = different (codes "null") (codes "''") refl
 
 symbol-one : (x : Symbol) → IsWellFormed x → IsSymbol (codes "null") x → IsSymbol (codes "''") x → ⊥
-symbol-one (Keyword word) well null text = null-no_text (null ∙ sym text)
 symbol-one (Name name) well null text = null-no_text (null.0 ∙ sym text.0)
-symbol-one (Literal value.Null) well null text = null-no_text (sym text)
-symbol-one (Literal (value.Int z)) well null text = run-no_text (codes "''") refl (symbol-run (codes "''") (Literal (value.Int z)) tt tt text)
+symbol-one (Literal (value.Int z)) well null text = run-no_text (symbol-run (codes "''") (Literal (value.Int z)) tt tt text)
 symbol-one (Literal (value.Text t)) well null text = cc
-symbol-one (Count n) well null text = run-no_text (codes "''") refl (symbol-run (codes "''") (Count n) tt tt text)
-symbol-one (Sign mark) well null text = null-no_text (null ∙ sym text)
+symbol-one (Count n) well null text = run-no_text (symbol-run (codes "''") (Count n) tt tt text)
+symbol-one other well null text = null-no_text (null ∙ sym text)
 
 -- ---- where a question mark stands
 
-null-lexeme : (values : List Value) (line : List ℕ) → (takes : TakesNext line)
-    → (lexeme (written (value.Null ∷ values) line) ≡ codes "null")
-    × (after_lexeme (written (value.Null ∷ values) line) ≡ 32 ∷ written values (after_lexeme line))
-null-lexeme values line takes =
-    let w : List ℕ = written values (after_lexeme line) in
-    let whole : written (value.Null ∷ values) line ≡ (takes.blanks ++ 32 ∷ []) ++ (codes "null" ++ 32 ∷ w) =
-    takes.fills value.Null values ∙ sym (append_assoc takes.blanks (32 ∷ []) (codes "null" ++ 32 ∷ w)) in
-    let front = front-lexeme (takes.blanks ++ 32 ∷ []) (codes "null") (32 ∷ w) (all-append _ takes.blanks (32 ∷ []) takes.are (refl, tt)) refl refl in
-    (ap lexeme whole ∙ front.0, ap after_lexeme whole ∙ front.1)
+telling-apart : (b : Bool) (rest : List ℕ) → StopsBefore is_blank (symbol_text (Literal (telling b)) ++ 32 ∷ rest)
+    × (lexeme_length (symbol_text (Literal (telling b)) ++ 32 ∷ rest) ≡ length (symbol_text (Literal (telling b))))
+telling-apart true rest = (refl, refl)
+telling-apart false rest = (refl, refl)
 
-text-lexeme : (values : List Value) (line : List ℕ) → (takes : TakesNext line)
-    → (lexeme (written (empty ∷ values) line) ≡ codes "''")
-    × (after_lexeme (written (empty ∷ values) line) ≡ 32 ∷ written values (after_lexeme line))
-text-lexeme values line takes =
-    let w : List ℕ = written values (after_lexeme line) in
-    let whole : written (empty ∷ values) line ≡ (takes.blanks ++ 32 ∷ []) ++ (codes "''" ++ 32 ∷ w) =
-    takes.fills empty values ∙ sym (append_assoc takes.blanks (32 ∷ []) (codes "''" ++ 32 ∷ w)) in
-    let front = front-lexeme (takes.blanks ++ 32 ∷ []) (codes "''") (32 ∷ w) (all-append _ takes.blanks (32 ∷ []) takes.are (refl, tt)) refl refl in
-    (ap lexeme whole ∙ front.0, ap after_lexeme whole ∙ front.1)
+literal-lexeme : (b : Bool) (values : List Value) (line : List ℕ) → (takes : TakesNext line)
+    → (lexeme (written (telling b ∷ values) line) ≡ symbol_text (Literal (telling b)))
+    × (after_lexeme (written (telling b ∷ values) line) ≡ 32 ∷ written values (after_lexeme line))
+literal-lexeme b values line takes =
+    let text : List ℕ = symbol_text (Literal (telling b)) in
+    let behind : List ℕ = 32 ∷ written values (after_lexeme line) in
+    let whole : written (telling b ∷ values) line ≡ (takes.blanks ++ 32 ∷ []) ++ (text ++ behind) = rw (takes.fills (telling b) values) (simp append_assoc) in
+    let (stops, long) = telling-apart b (written values (after_lexeme line)) in
+    rw whole (lexeme-front (takes.blanks ++ 32 ∷ []) text behind (all-append _ takes.blanks (32 ∷ []) takes.are (refl, tt)) stops long)
 
 -- ---- the line, from the written ones
 
@@ -139,70 +132,58 @@ parts-well : (v : Value) (parts : List Part) → AllByRecursion IsWell parts →
 parts-well v [] well = tt
 parts-well v (part ∷ parts) well = (part-well v part well.0, parts-well v parts well.1)
 
-mark-part : (part : Part) → IsWell part → IsSymbol (codes "null") (symbol_by (each value.Null) part) → IsSymbol (codes "''") (symbol_by (each empty) part)
+mark-part : (part : Part) → IsWell part → ((b : Bool) → IsSymbol (symbol_text (Literal (telling b))) (symbol_by (each (telling b)) part))
     → (line : List ℕ) → lexeme line ≡ codes "?" → IsSymbol (lexeme line) (symbol_by slot_symbol part)
-mark-part (Plain x) well null text line e = absurd (symbol-one x well null text)
-mark-part (At (Given w)) well null text line e = absurd (symbol-one (Literal w) tt null text)
-mark-part (At (Hole n)) well null text line e = e
+mark-part (Plain x) well is line e = absurd (symbol-one x well (is true) (is false))
+mark-part (At (Given w)) well is line e = absurd (symbol-one (Literal w) tt (is true) (is false))
+mark-part (At (Hole n)) well is line e = e
 
-other-part : (part : Part) (characters : List ℕ) → IsSymbol characters (symbol_by (each value.Null) part) → IsSymbol characters (symbol_by (each empty) part)
+other-part : (part : Part) (characters : List ℕ) → ((b : Bool) → IsSymbol characters (symbol_by (each (telling b)) part))
     → IsSymbol characters (symbol_by slot_symbol part)
-other-part (Plain x) characters null text = null
-other-part (At (Given w)) characters null text = null
-other-part (At (Hole n)) characters null text = absurd (null-no_text (sym null ∙ text))
+other-part (Plain x) characters is = is true
+other-part (At (Given w)) characters is = is true
+other-part (At (Hole n)) characters is = absurd (null-no_text (sym (is true) ∙ is false))
+
+-- The line is these parts, with one value, and with the other, in as many holes as are left.
+abbrev IsTold : List ℕ → ℕ → List Part → Type 0
+IsTold line n parts = (b : Bool) → IsMadeOf (written (repeated (telling b) n) line) (map (symbol_by (each (telling b))) parts)
 
 first-back : (part : Part) (parts : List Part) → IsWell part → AllByRecursion IsWell parts → (line : List ℕ) (n : ℕ) → n ≡ marks line → FirstSymbol line
-    → IsMadeOf (written (repeated value.Null n) line) (map (symbol_by (each value.Null)) (part ∷ parts))
-    → IsMadeOf (written (repeated empty n) line) (map (symbol_by (each empty)) (part ∷ parts))
-    → IsSymbol (lexeme line) (symbol_by slot_symbol part) × ((m : ℕ) × (m ≡ marks (after_lexeme line))
-    × IsMadeOf (written (repeated value.Null m) (after_lexeme line)) (map (symbol_by (each value.Null)) parts)
-    × IsMadeOf (written (repeated empty m) (after_lexeme line)) (map (symbol_by (each empty)) parts))
-first-back part parts well others line zero e (IsMark is takes) nulls texts = absurd (omega (arith, e, takes.holds))
-first-back part parts well others line (suc n) e (IsMark is takes) nulls texts =
-    let (null, null-behind) = lexeme-of_made _ (symbol_by (each value.Null) part) _ (part-well value.Null part well) nulls in
-    let (text, text-behind) = lexeme-of_made _ (symbol_by (each empty) part) _ (part-well empty part well) texts in
-    let at-null = null-lexeme (repeated value.Null n) line takes in
-    let at-text = text-lexeme (repeated empty n) line takes in (
-      mark-part part well (subst (λ l. IsSymbol l (symbol_by (each value.Null) part)) at-null.0 null)
-          (subst (λ l. IsSymbol l (symbol_by (each empty) part)) at-text.0 text) line is,
-      (
-        n,
-        omega (arith, e, takes.holds),
-        behind-blank _ _ (parts-well value.Null parts others) (subst (λ l. IsMadeOf l (map (symbol_by (each value.Null)) parts)) at-null.1 null-behind),
-        behind-blank _ _ (parts-well empty parts others) (subst (λ l. IsMadeOf l (map (symbol_by (each empty)) parts)) at-text.1 text-behind),
-      ),
-    )
-first-back part parts well others line n e (IsOther not keeps) nulls texts =
-    let (null, null-behind) = lexeme-of_made _ (symbol_by (each value.Null) part) _ (part-well value.Null part well) nulls in
-    let (text, text-behind) = lexeme-of_made _ (symbol_by (each empty) part) _ (part-well empty part well) texts in
-    let at-null : KeepsLine (repeated value.Null n) line = keeps-line (repeated value.Null n) line keeps in
-    let at-text : KeepsLine (repeated empty n) line = keeps-line (repeated empty n) line keeps in (
-      other-part part (lexeme line) (subst (λ l. IsSymbol l (symbol_by (each value.Null) part)) at-null.same null)
-          (subst (λ l. IsSymbol l (symbol_by (each empty) part)) at-text.same text),
-      (
-        n,
-        e ∙ at-null.holds,
-        subst (λ l. IsMadeOf l (map (symbol_by (each value.Null)) parts)) at-null.rest null-behind,
-        subst (λ l. IsMadeOf l (map (symbol_by (each empty)) parts)) at-text.rest text-behind,
-      ),
-    )
+    → IsTold line n (part ∷ parts)
+    → IsSymbol (lexeme line) (symbol_by slot_symbol part) × ((m : ℕ) × (m ≡ marks (after_lexeme line)) × IsTold (after_lexeme line) m parts)
+first-back part parts well others line zero e (IsMark is takes) told = absurd (omega (arith, e, takes.holds))
+first-back part parts well others line (suc n) e (IsMark is takes) told =
+    (mark-part part well (λ b. (back b).0) line is, (n, omega (arith, e, takes.holds), λ b. (back b).1))
+  where
+    back : (b : Bool) → IsSymbol (symbol_text (Literal (telling b))) (symbol_by (each (telling b)) part)
+        × IsMadeOf (written (repeated (telling b) n) (after_lexeme line)) (map (symbol_by (each (telling b))) parts)
+    back b =
+        let (first, behind) = lexeme-of_made _ _ _ (part-well (telling b) part well) (told b) in
+        let (here, rest) = literal-lexeme b (repeated (telling b) n) line takes in
+        (rw here at first, behind-blank _ _ (parts-well (telling b) parts others) (rw rest at behind))
+first-back part parts well others line n e (IsOther not keeps) told =
+    (other-part part (lexeme line) (λ b. (back b).0), (n, e ∙ (keeps-line [] line keeps).holds, λ b. (back b).1))
+  where
+    back : (b : Bool) → IsSymbol (lexeme line) (symbol_by (each (telling b)) part)
+        × IsMadeOf (written (repeated (telling b) n) (after_lexeme line)) (map (symbol_by (each (telling b))) parts)
+    back b =
+        let (first, behind) = lexeme-of_made _ _ _ (part-well (telling b) part well) (told b) in
+        let kept : KeepsLine (repeated (telling b) n) line = keeps-line (repeated (telling b) n) line keeps in
+        (rw kept.same at first, rw kept.rest at behind)
 
-end-back : (line : List ℕ) (n : ℕ) → n ≡ marks line → FirstSymbol line → AreBlanks (written (repeated value.Null n) line) → lexeme line ≡ []
-end-back line zero e (IsMark is takes) made = absurd (omega (arith, e, takes.holds))
-end-back line (suc n) e (IsMark is takes) made =
-    absurd (different (codes "null") [] refl (sym (null-lexeme (repeated value.Null n) line takes).0 ∙ blanks-no_lexeme _ made))
-end-back line n e (IsOther not keeps) made =
-    let k : KeepsLine (repeated value.Null n) line = keeps-line (repeated value.Null n) line keeps in
-    sym k.same ∙ blanks-no_lexeme _ made
+end-back : (line : List ℕ) (n : ℕ) → n ≡ marks line → FirstSymbol line → IsTold line n [] → lexeme line ≡ []
+end-back line zero e (IsMark is takes) told = absurd (omega (arith, e, takes.holds))
+end-back line (suc n) e (IsMark is takes) told =
+    absurd (different (codes "null") [] refl (sym (literal-lexeme true (repeated value.Null n) line takes).0 ∙ blanks-no_lexeme _ (told true)))
+end-back line n e (IsOther not keeps) told = sym (keeps-line (repeated value.Null n) line keeps).same ∙ blanks-no_lexeme _ (told true)
 
-whole-back : (parts : List Part) → AllByRecursion IsWell parts → (line : List ℕ) (n : ℕ) → n ≡ marks line
-    → IsMadeOf (written (repeated value.Null n) line) (map (symbol_by (each value.Null)) parts)
-    → IsMadeOf (written (repeated empty n) line) (map (symbol_by (each empty)) parts) → IsWhole line (map (symbol_by slot_symbol) parts)
-whole-back [] well line n e nulls texts = (line, refl, end-back line n e (first-symbol line) nulls)
-whole-back (part ∷ parts) well line n e nulls texts =
-    let (is, (m, f, null-behind, text-behind)) = first-back part parts well.0 well.1 line n e (first-symbol line) nulls texts in
-    let behind : IsWhole (after_lexeme line) (map (symbol_by slot_symbol) parts) = whole-back parts well.1 (after_lexeme line) m f null-behind text-behind in
-    (behind.0, (is, behind.1), behind.2)
+whole-back : (parts : List Part) → AllByRecursion IsWell parts → (line : List ℕ) (n : ℕ) → n ≡ marks line → IsTold line n parts
+    → IsWhole line (map (symbol_by slot_symbol) parts)
+whole-back [] well line n e told = (line, refl, end-back line n e (first-symbol line) told)
+whole-back (part ∷ parts) well line n e told =
+    let (is, (m, f, behind)) = first-back part parts well.0 well.1 line n e (first-symbol line) told in
+    let (rest, reads, end) = whole-back parts well.1 (after_lexeme line) m f behind in
+    (rest, (is, reads), end)
 
 -- ---- the whole line
 
@@ -211,7 +192,7 @@ pub spelled-statement : (line : List ℕ) (s : Statement) → SpellsStatement li
     → (lexeme line ≡ word_of s) × IsStatement (word_of s) (after_lexeme line) s
 spelled-statement line s (numbers, spells) = (
   whole.1.0,
-  record { first = refl; some = something-filled (repeated value.Null n) s (spelled value.Null tt).1; made = (whole.0, whole.1.1, whole.2) },
+  record { first = refl; some = (something-filled (repeated value.Null n) s).1 (spelled true).1; made = (whole.0, whole.1.1, whole.2) },
 )
   where
     n : ℕ
@@ -220,35 +201,28 @@ spelled-statement line s (numbers, spells) = (
     has : HasParts (λ g. Keyword (word_of s) ∷ behind_by g s) (slots_of s)
     has = statement-parts s
 
-    spelled : (v : Value) → IsSpellableValue v → Spells (written (repeated v n) line) (filled (repeated v n) s)
-    spelled v can = spells (repeated v n) (length-repeated v n) (all-repeated v can n)
+    spelled : (b : Bool) → Spells (written (repeated (telling b) n) line) (filled (repeated (telling b) n) s)
+    spelled b = spells (repeated (telling b) n) (length-repeated (telling b) n) (all-repeated (telling b) (telling-spellable b) n)
 
-    made : (v : Value) → IsSpellableValue v → IsMadeOf (written (repeated v n) line) (map (symbol_by (each v)) has.parts)
-    made v can =
-        subst (λ symbols. IsMadeOf (written (repeated v n) line) symbols)
-        (symbols-filled (repeated v n) s ∙ (has.made (literal (repeated v n))
-        ∙ each-hole v (repeated v n) [] n has.parts refl (ap (flat_map numbers_of) has.has ∙ numbers)))
-        (spelled v can).2
+    told : IsTold line n has.parts
+    told b =
+        subst (λ symbols. IsMadeOf (written (repeated (telling b) n) line) symbols)
+        (symbols-filled (repeated (telling b) n) s ∙ (has.made (literal (repeated (telling b) n))
+        ∙ each-hole (telling b) (repeated (telling b) n) [] n has.parts refl (ap (flat_map numbers_of) has.has ∙ numbers)))
+        (spelled b).2
 
     whole : IsWhole line (Keyword (word_of s) ∷ behind_by slot_symbol s)
     whole =
         subst (λ symbols. IsWhole line symbols) (sym (has.made slot_symbol))
-        (whole-back has.parts has.well line n refl (made value.Null tt) (made empty (contains-feed [] tt)))
+        (whole-back has.parts has.well line n refl told)
 
 pub not-statement : (line word rest : List ℕ) → lexeme line ≡ word → rest ≡ after_lexeme line
     → ((s : Statement) → IsStatement word rest s → ⊥) → (s : Statement) → SpellsStatement line s → ⊥
 not-statement line word rest e f not s spells =
     let (first, is) = spelled-statement line s spells in
-    not s (subst (λ w. IsStatement w rest s) (sym first ∙ e) (subst (λ r. IsStatement (word_of s) r s) (sym f) is))
+    not s (subst (λ w. IsStatement w rest s) (sym first ∙ e) (rw f is))
 
--- each statement begins with one of the words
-word-of : (s : Statement) → (w : StatementWord) × (word_of s ≡ statement_letters w)
-word-of (statement.Insert table slots) = (word.Insert, refl)
-word-of (statement.Update table settings conditions) = (word.Update, refl)
-word-of (statement.Delete table conditions) = (word.Delete, refl)
-word-of (statement.Select distinct items table joins conditions) = (word.Select, refl)
-
-pub unknown-statement : (line : List ℕ) → ((w : StatementWord) → lexeme line ≢ statement_letters w) → (s : Statement) → SpellsStatement line s → ⊥
+pub unknown-statement : (line : List ℕ) → ((w : CommandWord) → lexeme line ≢ letters w) → (s : Statement) → SpellsStatement line s → ⊥
 unknown-statement line unknown s spells =
-    let of = word-of s in
-    unknown of.0 ((spelled-statement line s spells).0 ∙ of.1)
+    let of = word-of (filled [] s) in
+    unknown of.0 ((spelled-statement line s spells).0 ∙ (sym (word-filled [] s) ∙ of.1))

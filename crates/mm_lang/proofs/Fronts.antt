@@ -1,13 +1,14 @@
 -- Fronts: what stands at the front of a line, symbol by symbol.
 use Rattle.std.proofs.Common.{◌≡◌, ◌≢◌, ℕ, ◌≤◌, List, [], ◌∷◌, ◌++◌, length, Option, Some, None, true, false, refl, sym, ◌∙◌, ap, arith, subst}
-use Rattle.std.specs.Prelude.{Bool, Result, Err}
+use Rattle.std.specs.Prelude.{Bool, Result, Ok, Err}
+use Rattle.std.specs.Result.{IsErrAnd}
 use Rattle.std.specs.Str.{IsUtf8, IsAscii, bytes_eq}
 use Rattle.std.proofs.lemmas.Bool.{and_parts}
 use Rattle.std.proofs.lemmas.Slice.Eq.{bytes_eq-Decides}
 use Rattle.std.proofs.lemmas.Str.{IsUtf8-from_ascii}
 use Rattle.std.proofs.lemmas.Str.Ascii.{IsAscii-nil, IsAscii-cons}
 use lib.Chars.{codes}
-use Rattle.plain_tables.specs.Names.{IsName, is_name, is_word, is_word_character, is_letter}
+use Rattle.plain_tables.specs.Names.{IsName, is_name, is_word, is_word_character}
 use Rattle.plain_tables.specs.Spelling.{Symbol, Name, Literal, Sign, Operator, operator_text, IsSymbol, value_symbols, kind_symbols, column_symbols, name_symbols}
 use Rattle.plain_tables.specs.Reading.{lexeme, after_lexeme}
 use Rattle.plain_tables.specs.declared.value.Value.{Value}
@@ -15,7 +16,7 @@ use Rattle.plain_tables.specs.declared.value.Value.TheVariants as value
 use Rattle.plain_tables.specs.declared.condition.Op.{Op}
 use Rattle.plain_tables.specs.declared.condition.Op.TheVariants as op
 use Rattle.plain_tables.specs.declared.condition.ColName.{ColName}
-use Rattle.plain_tables.proofs.Lexemes.{AllPass, IsRun, word-run, letter-word, word-ascii, begins-ascii, symbol-run, integer-run, length-lexeme}
+use Rattle.plain_tables.proofs.Lexemes.{AllPass, IsRun, word-run, word-ascii, begins-ascii, symbol-run, integer-run, length-lexeme}
 use Rattle.plain_tables.proofs.FirstWords.{different}
 use Rattle.plain_tables.proofs.SingleItems.{whole_name}
 use Rattle.mm_lang.specs.Parsing.{Reads, IsOfText, EndsItem, BeginsWith, BeginsWithNone, assigned_symbols, compared_symbols}
@@ -23,15 +24,16 @@ use Rattle.mm_lang.proofs.Utf8.{of_text-after, literal-utf8}
 
 -- ---- comparisons
 
-pub same-bytes : (xs ys zs : List ℕ) (r : Bool) → r ≡ true → r ≡ bytes_eq xs ys → ys ≡ zs → xs ≡ zs
-same-bytes xs ys zs r h e f = (bytes_eq-Decides xs ys).0 (sym e ∙ h) ∙ f
+pub lexeme-is : (line xs ys zs : List ℕ) (r : Bool) → xs ≡ lexeme line → r ≡ true → r ≡ bytes_eq xs ys → ys ≡ zs → lexeme line ≡ zs
+lexeme-is line xs ys zs r f h same g = sym f ∙ ((bytes_eq-Decides xs ys).0 (sym same ∙ h) ∙ g)
 
-pub other-bytes : (xs ys zs : List ℕ) (r : Bool) → r ≡ false → r ≡ bytes_eq xs ys → ys ≡ zs → xs ≢ zs
-other-bytes xs ys zs r h e f same = let both : bytes_eq xs ys ≡ true = (bytes_eq-Decides xs ys).1 (same ∙ sym f) in cc
+pub lexeme-is_not : (line xs ys zs : List ℕ) (r : Bool) → xs ≡ lexeme line → r ≡ false → r ≡ bytes_eq xs ys → ys ≡ zs → lexeme line ≢ zs
+lexeme-is_not line xs ys zs r f h same g is = different xs ys (sym same ∙ h) (f ∙ (is ∙ sym g))
 
 -- an error that a `?` passes on
-pub same-error : {T E : Type 0} (r : Result T E) (y d e : E) → r ≡ Err y → y ≡ d → r ≡ Err e → d ≡ e
-same-error r y d e p q h = cc
+pub passed-error : {T U E : Type 0} {r : Result T E} {d e : E} → IsErrAnd r (λ y. y ≡ d) → r ≡ Err e → ◌≡◌ {A = Result U E} (Err d) (Err e)
+passed-error {r = Ok x} is same = elim is [ ]
+passed-error {r = Err y} is same = cc
 
 -- ---- names
 
@@ -39,19 +41,12 @@ run-ascii : (cs : List ℕ) → AllPass is_word_character cs → IsAscii cs
 run-ascii [] all = IsAscii-nil
 run-ascii (c ∷ cs) all = IsAscii-cons c cs (word-ascii c all.0) (run-ascii cs all.1)
 
-letters-ascii : (word : List ℕ) → IsRun word → is_word word ≡ true → IsAscii word
-letters-ascii [] run h = elim run [ ]
-letters-ascii (c ∷ cs) run h =
-    IsAscii-cons c cs (word-ascii c (letter-word c (and_parts (is_letter c) _ h).0)) (run-ascii cs run.2)
-
-pub name-utf8 : (name : List ℕ) → is_name name ≡ true → IsUtf8 name
-name-utf8 name h =
-    let word : is_word name ≡ true = (and_parts (is_word name) _ h).0 in
-    IsUtf8-from_ascii name (letters-ascii name (word-run name word) word)
-
 run-is_ascii : (cs : List ℕ) → IsRun cs → IsAscii cs
 run-is_ascii [] run = elim run [ ]
 run-is_ascii (c ∷ cs) run = IsAscii-cons c cs (begins-ascii c run.1) (run-ascii cs run.2)
+
+pub name-utf8 : (name : List ℕ) → is_name name ≡ true → IsUtf8 name
+name-utf8 name h = IsUtf8-from_ascii name (run-is_ascii name (word-run name (and_parts (is_word name) _ h).0))
 
 pub no-name : (line name : List ℕ) → (IsName (lexeme line) → ⊥) → IsSymbol (lexeme line) (Name name) → ⊥
 no-name line name not is = not (subst IsName (sym is.0) is.1)
@@ -59,22 +54,22 @@ no-name line name not is = not (subst IsName (sym is.0) is.1)
 -- ---- symbols, one after another
 
 pub reads-append : (line : List ℕ) (xs ys : List Symbol) (mid rest : List ℕ) → Reads line xs mid → Reads mid ys rest → Reads line (xs ++ ys) rest
-reads-append line [] ys mid rest e reads = subst (λ l. Reads l ys rest) (sym e) reads
+reads-append line [] ys mid rest e reads = rw e reads
 reads-append line (x ∷ xs) ys mid rest (is, first) reads = (is, reads-append (after_lexeme line) xs ys mid rest first reads)
 
 pub reads-split : (line : List ℕ) (xs ys : List Symbol) (rest : List ℕ) → Reads line (xs ++ ys) rest
     → (mid : List ℕ) × Reads line xs mid × Reads mid ys rest
 reads-split line [] ys rest reads = (line, refl, reads)
 reads-split line (x ∷ xs) ys rest (is, reads) =
-    let parts : (mid : List ℕ) × Reads (after_lexeme line) xs mid × Reads mid ys rest = reads-split (after_lexeme line) xs ys rest reads in
-    (parts.0, (is, parts.1), parts.2)
+    let (mid, first, others) = reads-split (after_lexeme line) xs ys rest reads in
+    (mid, (is, first), others)
 
 pub reads-shorter : (line : List ℕ) (symbols : List Symbol) (rest : List ℕ) → Reads line symbols rest → length rest ≤ length line
 reads-shorter line [] rest e = omega (arith, ap length e)
 reads-shorter line (x ∷ xs) rest (is, reads) = omega (arith, length-lexeme line, reads-shorter (after_lexeme line) xs rest reads)
 
 pub reads-of_text : (line : List ℕ) (symbols : List Symbol) (rest : List ℕ) → IsOfText line → Reads line symbols rest → IsOfText rest
-reads-of_text line [] rest of e = subst IsOfText e of
+reads-of_text line [] rest of e = rw e at of
 reads-of_text line (x ∷ xs) rest of (is, reads) = reads-of_text (after_lexeme line) xs rest (of_text-after line of) reads
 
 -- ---- words and signs that end an item, and others
@@ -89,11 +84,7 @@ word-ends_item characters word no_dot no_null e =
 
 pub operator-ends_item : (o : Op) (characters : List ℕ) → characters ≡ operator_text o → EndsItem characters
 operator-ends_item op.Eq characters e = word-ends_item characters (operator_text op.Eq) refl refl e
-operator-ends_item op.Ne characters e = word-ends_item characters (operator_text op.Ne) refl refl e
-operator-ends_item op.Lt characters e = word-ends_item characters (operator_text op.Lt) refl refl e
-operator-ends_item op.Le characters e = word-ends_item characters (operator_text op.Le) refl refl e
-operator-ends_item op.Gt characters e = word-ends_item characters (operator_text op.Gt) refl refl e
-operator-ends_item op.Ge characters e = word-ends_item characters (operator_text op.Ge) refl refl e
+operator-ends_item other characters e = word-ends_item characters (operator_text other) refl refl e
 
 -- ---- values
 
@@ -138,10 +129,8 @@ behind-column : {V : Type 0} (symbols : V → List Symbol) (line mid : List ℕ)
     → (y : ColName) (o : Op) (v : V) (other : List ℕ) → Reads line (name_symbols y ++ compared symbols o v) other
     → Reads mid (compared symbols o v) other
 behind-column symbols line mid column named y o v other reads =
-    let parts : (m : List ℕ) × Reads line (name_symbols y) m × Reads m (compared symbols o v) other =
-    reads-split line (name_symbols y) (compared symbols o v) other reads in
-    subst (λ l. Reads l (compared symbols o v) other)
-    (named.only y parts.0 parts.1 (operator-ends_item o (lexeme parts.0) parts.2.0)) parts.2
+    let (rest, first, behind) = reads-split line (name_symbols y) (compared symbols o v) other reads in
+    subst (λ l. Reads l (compared symbols o v) other) (named.only y rest first (operator-ends_item o (lexeme rest) behind.0)) behind
 
 pub begins-compared : {V : Type 0} (symbols : V → List Symbol) (line mid rest : List ℕ) (column : ColName) (o : Op) (v : V)
     → BeginsWith name_symbols line column mid → lexeme mid ≡ operator_text o → BeginsWith symbols (after_lexeme mid) v rest
@@ -155,9 +144,8 @@ pub begins-none_compared : {V : Type 0} (symbols : V → List Symbol) (line : Li
     → BeginsWithNone (compared_symbols symbols) line
 begins-none_compared symbols line not = record {
   none = λ of y other reads free.
-      let parts : (m : List ℕ) × Reads line (name_symbols y.0) m × Reads m (compared symbols y.1 y.2) other =
-      reads-split line (name_symbols y.0) (compared symbols y.1 y.2) other reads in
-      not.none of y.0 parts.0 parts.1 (operator-ends_item y.1 (lexeme parts.0) parts.2.0);
+      let (rest, first, behind) = reads-split line (name_symbols y.0) (compared symbols y.1 y.2) other reads in
+      not.none of y.0 rest first (operator-ends_item y.1 (lexeme rest) behind.0);
 }
 
 pub begins-no_operator : {V : Type 0} (symbols : V → List Symbol) (line mid : List ℕ) (column : ColName) → BeginsWith name_symbols line column mid
@@ -180,14 +168,14 @@ begins-nothing_compared symbols line mid column named not = record {
 pub begins-as : {X Y : Type 0} (symbols : X → List Symbol) (others : Y → List Symbol) (to : Y → X) → ((y : Y) → others y ≡ symbols (to y))
     → (line : List ℕ) (y : Y) (rest : List ℕ) → BeginsWith symbols line (to y) rest → BeginsWith others line y rest
 begins-as symbols others to same line y rest begins = record {
-  found = subst (λ ss. Reads line ss rest) (sym (same y)) begins.found;
-  only = λ z other reads free. begins.only (to z) other (subst (λ ss. Reads line ss other) (same z) reads) free;
+  found = rw (same y) begins.found;
+  only = λ z other reads free. begins.only (to z) other (rw (same z) at reads) free;
 }
 
 pub begins-none_as : {X Y : Type 0} (symbols : X → List Symbol) (others : Y → List Symbol) (to : Y → X) → ((y : Y) → others y ≡ symbols (to y))
     → (line : List ℕ) → BeginsWithNone symbols line → BeginsWithNone others line
 begins-none_as symbols others to same line not = record {
-  none = λ of z other reads free. not.none of (to z) other (subst (λ ss. Reads line ss other) (same z) reads) free;
+  none = λ of z other reads free. not.none of (to z) other (rw (same z) at reads) free;
 }
 
 -- Where the characters of the first symbol spell no value, if they are UTF-8, it is none.
@@ -199,5 +187,4 @@ value-utf8 line (value.Text text) of is = literal-utf8 line text of is
 
 pub no-literal : (line characters : List ℕ) → characters ≡ lexeme line
     → (IsUtf8 characters → (v : Value) → IsSymbol characters (Literal v) → ⊥) → IsOfText line → (v : Value) → IsSymbol (lexeme line) (Literal v) → ⊥
-no-literal line characters e not of v is =
-    not (subst IsUtf8 (sym e) (value-utf8 line v of is)) v (subst (λ w. IsSymbol w (Literal v)) (sym e) is)
+no-literal line characters e not of v is = not (rw e (value-utf8 line v of is)) v (subst (λ w. IsSymbol w (Literal v)) (sym e) is)

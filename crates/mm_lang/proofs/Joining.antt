@@ -1,8 +1,8 @@
 -- Joining: a join, and the joins of a select, as they are read and as they are spelled.
-use Rattle.std.proofs.Common.{◌≡◌, ◌≢◌, ℕ, List, [], ◌∷◌, map, refl, sym, ◌∙◌, ap, arith, subst}
+use Rattle.std.proofs.Common.{◌≡◌, ◌≢◌, ℕ, List, [], ◌∷◌, refl, sym, ◌∙◌, ap, arith, subst}
 use Rattle.std.specs.List.{flat_map}
 use lib.Chars.{codes}
-use Rattle.plain_tables.specs.Spelling.{Symbol, Keyword, Sign, Operator, separated_by, side_symbols, joined_symbols, join_symbols}
+use Rattle.plain_tables.specs.Spelling.{Symbol, Keyword, Sign, Operator, side_symbols, joined_symbols, join_symbols}
 use Rattle.plain_tables.specs.Reading.{lexeme, after_lexeme}
 use Rattle.plain_tables.specs.declared.condition.Op.TheVariants as op
 use Rattle.plain_tables.specs.declared.command.Join.{Join}
@@ -50,37 +50,33 @@ ListsJoins line joins rest = ReadsList joined_symbols (codes "join") line joins 
 spelled-joins : (line : List ℕ) (x : Join) (xs : List Join) (rest : List ℕ) → Reads line (flat_map join_symbols (x ∷ xs)) rest
     → (lexeme line ≡ codes "join") × ListsJoins (after_lexeme line) (x ∷ xs) rest
 spelled-joins line x xs rest reads =
-    let join : Symbol = Keyword (codes "join") in
-    let listed : Reads line (join ∷ separated_by join (map joined_symbols (x ∷ xs))) rest = subst (λ ss. Reads line ss rest) (joins-listed x xs) reads in
-    (listed.0, spelled-list joined_symbols join (codes "join") (λ characters e. e) (after_lexeme line) (x ∷ xs) rest (omega arith) listed.1)
+    let (word, listed) = subst (λ ss. Reads line ss rest) (joins-listed x xs) reads in
+    (word, spelled-list joined_symbols (Keyword (codes "join")) (codes "join") (λ characters e. e) _ (x ∷ xs) rest (omega arith) listed)
 
 joins-spelled : (line : List ℕ) (joins : List Join) (rest : List ℕ) → lexeme line ≡ codes "join" → ListsJoins (after_lexeme line) joins rest
     → Reads line (flat_map join_symbols joins) rest
 joins-spelled line [] rest word reads = elim reads [ ]
 joins-spelled line (x ∷ xs) rest word reads =
-    let join : Symbol = Keyword (codes "join") in
     subst (λ ss. Reads line ss rest) (sym (joins-listed x xs))
-    (word, list-spelled joined_symbols join (codes "join") (λ characters e. e) (after_lexeme line) (x ∷ xs) rest reads)
+    (word, list-spelled joined_symbols (Keyword (codes "join")) (codes "join") (λ characters e. e) _ (x ∷ xs) rest reads)
 
 pub begins-no_join : (line : List ℕ) → lexeme line ≢ codes "join" → BeginsWithJoins line [] line
-begins-no_join line not = record { found = refl; only = λ others other reads free end. none-only line not others other reads }
+begins-no_join line not = record { found = refl; only = λ others other reads free end. none-only others other reads }
   where
-    none-only : (line : List ℕ) → lexeme line ≢ codes "join" → (others : List Join) (other : List ℕ)
-        → Reads line (flat_map join_symbols others) other → other ≡ line
-    none-only line not [] other reads = sym reads
-    none-only line not (x ∷ xs) other reads = absurd (not (spelled-joins line x xs other reads).0)
+    none-only : (others : List Join) (other : List ℕ) → Reads line (flat_map join_symbols others) other → other ≡ line
+    none-only [] other reads = sym reads
+    none-only (x ∷ xs) other reads = absurd (not (spelled-joins line x xs other reads).0)
 
 -- what a line with a `join` in front lists behind it
 behind-join : (line front : List ℕ) → lexeme line ≡ codes "join" → front ≡ after_lexeme line → (joins : List Join) (rest : List ℕ)
     → Reads line (flat_map join_symbols joins) rest → lexeme rest ≢ codes "join" → ListsJoins front joins rest
 behind-join line front word f [] rest reads end = absurd (end (ap lexeme (sym reads) ∙ word))
-behind-join line front word f (x ∷ xs) rest reads end =
-    subst (λ l. ListsJoins l (x ∷ xs) rest) (sym f) (spelled-joins line x xs rest reads).1
+behind-join line front word f (x ∷ xs) rest reads end = subst (λ l. ListsJoins l (x ∷ xs) rest) (sym f) (spelled-joins line x xs rest reads).1
 
 pub begins-joins : (line front : List ℕ) (joins : List Join) (rest : List ℕ) → lexeme line ≡ codes "join" → front ≡ after_lexeme line
     → BeginsWithList joined_symbols (codes "join") front joins rest → BeginsWithJoins line joins rest
 begins-joins line front joins rest word f list = record {
-  found = joins-spelled line joins rest word (subst (λ l. ListsJoins l joins rest) f list.found);
+  found = joins-spelled line joins rest word (rw f at list.found);
   only = λ others other reads free end. list.only others other (behind-join line front word f others other reads end) free end;
 }
 
@@ -88,5 +84,5 @@ pub begins-not_joins : (line front : List ℕ) → lexeme line ≡ codes "join" 
     → BeginsWithNoList joined_symbols (codes "join") front → BeginsWithNoJoins line
 begins-not_joins line front word f not = record {
   none = λ of others other reads free end.
-      not.none (subst IsOfText (sym f) (of_text-after line of)) others other (behind-join line front word f others other reads end) free end;
+      not.none (rw f (of_text-after line of)) others other (behind-join line front word f others other reads end) free end;
 }

@@ -41,10 +41,8 @@ pub spelled-list : {X : Type 0} (symbols : X → List Symbol) (between : Symbol)
 spelled-list symbols between word is line [] rest some reads = omega arith
 spelled-list symbols between word is line (x ∷ []) rest some reads = reads
 spelled-list symbols between word is line (x ∷ y ∷ xs) rest some reads =
-    let others : List Symbol = separated_by between (map symbols (y ∷ xs)) in
-    let parts : (mid : List ℕ) × Reads line (symbols x) mid × Reads mid (between ∷ others) rest =
-    reads-split line (symbols x) (between ∷ others) rest reads in
-    (parts.0, parts.1, is (lexeme parts.0) parts.2.0, spelled-list symbols between word is (after_lexeme parts.0) (y ∷ xs) rest (omega arith) parts.2.1)
+    let (mid, first, (sep, others)) = reads-split line (symbols x) (between ∷ separated_by between (map symbols (y ∷ xs))) rest reads in
+    (mid, first, is (lexeme mid) sep, spelled-list symbols between word is (after_lexeme mid) (y ∷ xs) rest (omega arith) others)
 
 -- ---- the reading of a list
 
@@ -79,12 +77,8 @@ put-first symbols between rest x behind first e (z ∷ zs) other reads = (behind
 
 -- ---- a separator behind an item
 
--- the items that a list still has behind those that are read
-abbrev Others : {X : Type 0} → (X → List Symbol) → List ℕ → List ℕ → List ℕ → Type 0
-Others {X} symbols between rest other = (zs : List X) × ReadsList symbols between rest zs other
-
 further-tail : {X : Type 0} (symbols : X → List Symbol) (between behind : List ℕ) → lexeme behind ≡ between → (other : List ℕ)
-    → lexeme other ≢ between → Tail symbols between behind other → Others symbols between (after_lexeme behind) other
+    → lexeme other ≢ between → Tail symbols between behind other → (zs : List X) × ReadsList symbols between (after_lexeme behind) zs other
 further-tail symbols between behind sep other end (Ends same) = absurd (end (ap lexeme same ∙ sep))
 further-tail symbols between behind sep other end (GoesOn ws g others) = (ws, others)
 
@@ -94,11 +88,10 @@ pub has_read-further : {X : Type 0} (symbols : X → List Symbol) (between line 
 has_read-further symbols between line items rest x behind ends read begins sep = record {
   of_text = λ of. of_text-after behind (reads-of_text rest (symbols x) behind (read.of_text of) begins.found);
   found = λ zs other reads.
-      subst (λ l. ReadsList symbols between line l other) (sym (append_assoc items (x ∷ []) zs))
-      (read.found (x ∷ zs) other (put-first symbols between rest x behind begins.found sep zs other reads));
+      rw (append_assoc items (x ∷ []) zs) (read.found (x ∷ zs) other (put-first symbols between rest x behind begins.found sep zs other reads));
   only = λ ys other reads free end.
-      let others : Others symbols between rest other = read.only ys other reads free end in
-      further-tail symbols between behind sep other end (first-item symbols between rest x behind ends begins others.0 other others.1 free);
+      let (zs, listed) = read.only ys other reads free end in
+      further-tail symbols between behind sep other end (first-item symbols between rest x behind ends begins zs other listed free);
 }
 
 -- ---- the last item
@@ -114,8 +107,8 @@ pub has_read-last : {X : Type 0} (symbols : X → List Symbol) (between line : L
 has_read-last symbols between line items rest x behind ends read begins end = record {
   found = read.found (x ∷ []) behind begins.found;
   only = λ ys other reads free last.
-      let others : Others symbols between rest other = read.only ys other reads free last in
-      last-tail symbols between behind end other (first-item symbols between rest x behind ends begins others.0 other others.1 free);
+      let (zs, listed) = read.only ys other reads free last in
+      last-tail symbols between behind end other (first-item symbols between rest x behind ends begins zs other listed free);
 }
 
 -- ---- no item
@@ -130,6 +123,6 @@ pub has_read-no_item : {X : Type 0} (symbols : X → List Symbol) (between line 
     → HasRead symbols between line items rest → BeginsWithNone symbols rest → BeginsWithNoList symbols between line
 has_read-no_item symbols between line items rest ends read not = record {
   none = λ of ys other reads free end.
-      let others : Others symbols between rest other = read.only ys other reads free end in
-      no-first symbols between rest ends (read.of_text of) not others.0 other free others.1;
+      let (zs, listed) = read.only ys other reads free end in
+      no-first symbols between rest ends (read.of_text of) not zs other free listed;
 }

@@ -9,6 +9,7 @@ use Rattle.std.specs.declared.str.Utf8Error.{Utf8Error}
 use Rattle.std.proofs.lemmas.Bool.{eqb-true}
 use Rattle.std.proofs.lemmas.List.Concat.{flat_map-append}
 use denote.Bor.{Bor}
+use Rattle.plain_tables.proofs.Texts.{text_length-plain}
 use Rattle.plain_tables.specs.Spelling.{doubled}
 use Rattle.plain_tables.specs.Reading.{text_length}
 use Rattle.plain_tables.proofs.Texts.{doubled-one}
@@ -19,15 +20,11 @@ other-test : (c : ℕ) (b : Bool) → (c == 39) ≡ b → c ≢ 39 → b ≡ fal
 other-test c true e other = absurd (other (eqb-true c 39 e))
 other-test c false e other = refl
 
-text_length-other : (c : ℕ) (cs : List ℕ) → c ≢ 39 → text_length (c ∷ cs) ≡ 1 + text_length cs
-text_length-other c [] other = refl
-text_length-other c (d ∷ cs) other = rw (other-test c (c == 39) refl other) refl
-
 part-at : (cs : List ℕ) (i : ℕ) → i < length cs → drop i cs ≡ get_or cs i 0 ∷ drop (i + 1) cs
 part-at cs i inside = rw add-one (drop-cons cs i 0 inside)
 
 pub quoted-other : (cs : List ℕ) (i : ℕ) → i < length cs → get_or cs i 0 ≢ 39 → text_length (drop i cs) ≡ 1 + text_length (drop (i + 1) cs)
-quoted-other cs i inside other = ap text_length (part-at cs i inside) ∙ text_length-other (get_or cs i 0) (drop (i + 1) cs) other
+quoted-other cs i inside other = ap text_length (part-at cs i inside) ∙ text_length-plain (get_or cs i 0) (drop (i + 1) cs) (other-test _ _ refl other)
 
 two-marks : (c d : ℕ) (cs : List ℕ) → c ≡ 39 → d ≡ 39 → text_length (c ∷ d ∷ cs) ≡ 2 + text_length cs
 two-marks c d cs first second = rw (first, second) refl

@@ -2,6 +2,8 @@
 use Rattle.std.proofs.Common.{◌≡◌, List, [], ◌∷◌, ◌++◌, map, refl, sym, ap, ◌∙◌, subst, append-nil}
 use Rattle.std.specs.List.{AllByRecursion, flat_map}
 use Rattle.std.proofs.lemmas.List.{map-append, map-id}
+use Rattle.std.proofs.lemmas.Simd.{map-map}
+use Rattle.std.proofs.lemmas.List.Concat.{flat_map-append}
 use lib.Chars.{codes}
 use Rattle.plain_tables.specs.Spelling.{Symbol, Keyword, Name, Sign, Open, Close, Comma, Operator, separated_by, name_symbols, distinct_symbols, items_symbols, join_symbols}
 use Rattle.plain_tables.specs.declared.condition.Op.TheVariants as op
@@ -28,10 +30,12 @@ symbol_by f (Plain x) = x
 symbol_by f (At s) = f s
 
 -- the slots among parts
+abbrev slots_at : Part → List Slot
+slots_at (Plain x) = []
+slots_at (At s) = s ∷ []
+
 abbrev pub slots_in : List Part → List Slot
-slots_in [] = []
-slots_in (Plain x ∷ parts) = slots_in parts
-slots_in (At s ∷ parts) = s ∷ slots_in parts
+slots_in parts = flat_map slots_at parts
 
 abbrev pub IsWell : Part → Type 0
 IsWell (Plain x) = IsWellFormed x
@@ -44,10 +48,6 @@ pub record HasParts (by : (Slot → Symbol) → List Symbol) (slots : List Slot)
   pub has : slots_in parts ≡ slots
   pub well : AllByRecursion IsWell parts
 
-plain-map : (f : Slot → Symbol) (symbols : List Symbol) → symbols ≡ map (symbol_by f) (map Plain symbols)
-plain-map f [] = refl
-plain-map f (x ∷ symbols) = ap (λ l. x ∷ l) (plain-map f symbols)
-
 plain-slots : (symbols : List Symbol) → slots_in (map Plain symbols) ≡ []
 plain-slots [] = refl
 plain-slots (x ∷ symbols) = plain-slots symbols
@@ -59,7 +59,7 @@ plain-well (x ∷ symbols) well = (well.0, plain-well symbols well.1)
 plain-parts : (symbols : List Symbol) → AreWellFormed symbols → HasParts (λ f. symbols) []
 plain-parts symbols well = record {
   parts = map Plain symbols;
-  made = λ f. plain-map f symbols;
+  made = λ f. sym (map-map (symbol_by f) Plain symbols ∙ map-id symbols);
   has = plain-slots symbols;
   well = plain-well symbols well;
 }
@@ -76,17 +76,11 @@ word-parts x well by slots p = record {
 slot-parts : (s : Slot) → HasParts (λ f. f s ∷ []) (s ∷ [])
 slot-parts s = record { parts = At s ∷ []; made = λ f. refl; has = refl; well = (tt, tt) }
 
-slots-append : (ps qs : List Part) → slots_in (ps ++ qs) ≡ slots_in ps ++ slots_in qs
-slots-append [] qs = refl
-slots-append (Plain x ∷ ps) qs = slots-append ps qs
-slots-append (At s ∷ ps) qs = ap (λ l. s ∷ l) (slots-append ps qs)
-
 append-parts : (a b : (Slot → Symbol) → List Symbol) (xs ys : List Slot) → HasParts a xs → HasParts b ys → HasParts (λ f. a f ++ b f) (xs ++ ys)
 append-parts a b xs ys p q = record {
   parts = p.parts ++ q.parts;
-  made = λ f.
-      ap (λ l. l ++ b f) (p.made f) ∙ (ap (λ l. map (symbol_by f) p.parts ++ l) (q.made f) ∙ sym (map-append (symbol_by f) p.parts q.parts));
-  has = slots-append p.parts q.parts ∙ (ap (λ l. l ++ slots_in q.parts) p.has ∙ ap (λ l. xs ++ l) q.has);
+  made = λ f. rw (p.made f, q.made f) (sym (map-append (symbol_by f) p.parts q.parts));
+  has = rw (flat_map-append, p.has, q.has) refl;
   well = all-append IsWell p.parts q.parts p.well q.well;
 }
 
@@ -95,26 +89,21 @@ separated-parts : {X : Type 0} (symbols : (Slot → Symbol) → X → List Symbo
 separated-parts symbols slot between well each [] = plain-parts [] tt
 separated-parts symbols slot between well each (x ∷ []) = each x
 separated-parts symbols slot between well each (x ∷ y ∷ xs) =
-    append-parts (λ f. symbols f x) (λ f. between ∷ separated_by between (map (symbols f) (y ∷ xs))) (slot x ∷ []) (map slot (y ∷ xs)) (each x)
-    (word-parts between well (λ f. separated_by between (map (symbols f) (y ∷ xs))) (map slot (y ∷ xs))
-    (separated-parts symbols slot between well each (y ∷ xs)))
+    append-parts (λ f. symbols f x) _ (slot x ∷ []) (map slot (y ∷ xs)) (each x)
+    (word-parts between well _ _ (separated-parts symbols slot between well each (y ∷ xs)))
 
 setting-parts : (s : SlotSetting) → HasParts (λ f. setting_by f s) (s.slot ∷ [])
-setting-parts s =
-    word-parts (Name s.column) tt (λ f. Sign (Operator op.Eq) ∷ f s.slot ∷ []) (s.slot ∷ [])
-    (word-parts (Sign (Operator op.Eq)) tt (λ f. f s.slot ∷ []) (s.slot ∷ []) (slot-parts s.slot))
+setting-parts s = word-parts (Name s.column) tt _ _ (word-parts (Sign (Operator op.Eq)) tt _ _ (slot-parts s.slot))
 
 condition-parts : (c : SlotCond) → HasParts (λ f. condition_by f c) (c.slot ∷ [])
 condition-parts c =
-    append-parts (λ f. name_symbols c.column) (λ f. Sign (Operator c.op) ∷ f c.slot ∷ []) [] (c.slot ∷ [])
-    (plain-parts (name_symbols c.column) (whole-well c.column.table c.column.column))
-    (word-parts (Sign (Operator c.op)) tt (λ f. f c.slot ∷ []) (c.slot ∷ []) (slot-parts c.slot))
+    append-parts (λ f. name_symbols c.column) _ [] _ (plain-parts (name_symbols c.column) (whole-well c.column.table c.column.column))
+    (word-parts (Sign (Operator c.op)) tt _ _ (slot-parts c.slot))
 
 where-parts : (conditions : List SlotCond) → HasParts (λ f. where_of (condition_by f) conditions) (map (λ c. c.slot) conditions)
 where-parts [] = plain-parts [] tt
 where-parts (x ∷ xs) =
-    word-parts (Keyword (codes "where")) refl (λ f. separated_by (Keyword (codes "and")) (map (condition_by f) (x ∷ xs))) (map (λ c. c.slot) (x ∷ xs))
-    (separated-parts condition_by (λ c. c.slot) (Keyword (codes "and")) refl condition-parts (x ∷ xs))
+    word-parts (Keyword (codes "where")) refl _ _ (separated-parts condition_by (λ c. c.slot) (Keyword (codes "and")) refl condition-parts (x ∷ xs))
 
 behind-parts : (s : Statement) → HasParts (λ f. behind_by f s) (slots_of s)
 behind-parts (statement.Insert table slots) =
@@ -128,7 +117,7 @@ behind-parts (statement.Update table settings conditions) =
     (map (λ s. s.slot) settings) (map (λ c. c.slot) conditions)
     (separated-parts setting_by (λ s. s.slot) (Sign Comma) tt setting-parts settings) (where-parts conditions)))
 behind-parts (statement.Delete table conditions) =
-    word-parts (Name table) tt (λ f. where_of (condition_by f) conditions) (map (λ c. c.slot) conditions) (where-parts conditions)
+    word-parts (Name table) tt _ _ (where-parts conditions)
 behind-parts (statement.Select distinct items table joins conditions) =
     let slots : List Slot = map (λ c. c.slot) conditions in
     append-parts (λ f. distinct_symbols distinct) _ [] slots (plain-parts (distinct_symbols distinct) (distinct-well distinct))
@@ -139,10 +128,8 @@ behind-parts (statement.Select distinct items table joins conditions) =
 
 word-well : (s : Statement) → IsWellFormed (Keyword (word_of s))
 word-well (statement.Insert table slots) = refl
-word-well (statement.Update table settings conditions) = refl
-word-well (statement.Delete table conditions) = refl
-word-well (statement.Select distinct items table joins conditions) = refl
+word-well other = refl
 
 -- Law: the symbols of a statement are parts, with its slots among them.
 pub statement-parts : (s : Statement) → HasParts (λ f. Keyword (word_of s) ∷ behind_by f s) (slots_of s)
-statement-parts s = word-parts (Keyword (word_of s)) (word-well s) (λ f. behind_by f s) (slots_of s) (behind-parts s)
+statement-parts s = word-parts (Keyword (word_of s)) (word-well s) _ _ (behind-parts s)

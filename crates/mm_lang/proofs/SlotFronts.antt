@@ -9,8 +9,7 @@ use Rattle.plain_statements.specs.declared.statement.Slot.{Slot}
 use Rattle.plain_statements.specs.declared.statement.Slot.TheVariants.{Given, Hole}
 use Rattle.mm_lang.specs.Parsing.{Reads, IsOfText, BeginsWithNone}
 use Rattle.mm_lang.specs.Statements.{slot_symbol, slot_by}
-use Rattle.mm_lang.proofs.Fronts.{no-literal}
-use Rattle.mm_lang.proofs.Spelled.{lexeme-is_not}
+use Rattle.mm_lang.proofs.Fronts.{lexeme-is_not, no-literal}
 
 pub begins-no_slot : (line characters mark : List ℕ) (r : Bool) → characters ≡ lexeme line → r ≡ false → r ≡ bytes_eq characters mark
     → mark ≡ codes "?" → (IsUtf8 characters → (v : Value) → IsSymbol characters (Literal v) → ⊥) → BeginsWithNone (slot_by slot_symbol) line

@@ -4,12 +4,12 @@ use Rattle.std.specs.Prelude.{◌==◌, ◌&&◌, not}
 use Rattle.std.specs.List.{AllByRecursion, Contains, flat_map, range_with_len}
 use Rattle.std.proofs.Math.Seq.{get_or-append_seam}
 use lib.Chars.{codes}
-use Rattle.plain_tables.specs.Spelling.{Symbol, Keyword, Name, Literal, Count, Sign, AreBlanks, IsSymbol, EndsBefore, IsMadeOf, symbol_text, mark_text, text_literal, IsSpellableValue, Mark, Open, Close, Comma, Dot, Star, Operator, Spells}
+use Rattle.plain_tables.specs.Spelling.{Symbol, Keyword, Literal, Sign, AreBlanks, IsSymbol, IsMadeOf, symbol_text, mark_text, text_literal, IsSpellableValue, Mark, Operator, Spells}
 use Rattle.plain_tables.specs.Reading.{begins_run, lexeme, after_lexeme}
 use Rattle.plain_tables.specs.declared.value.Value.{Value}
 use Rattle.plain_tables.specs.declared.value.Value.TheVariants as value
 use Rattle.plain_tables.specs.declared.condition.Op.TheVariants as op
-use Rattle.plain_tables.proofs.Canonical.{integer-text}
+use Rattle.plain_tables.proofs.Canonical.{symbol-text, blank-ends}
 use Rattle.plain_tables.proofs.FirstWords.{different}
 use Rattle.plain_tables.proofs.Lexemes.{IsRun, IsWellFormed, symbol-run, made-from_lexeme, no_lexeme-blanks}
 use Rattle.plain_tables.proofs.LineFeeds.{HasNoFeed, contains-feed, contains-no_feed}
@@ -19,26 +19,18 @@ use Rattle.plain_statements.specs.declared.statement.Slot.TheVariants.{Given, Ho
 use Rattle.plain_statements.specs.declared.statement.Statement.{Statement}
 use Rattle.plain_statements.specs.Filling.{filled}
 use Rattle.plain_statements.specs.StatementSpelling.{marks, written, written_within, numbers_of, holes_of, slots_of, SpellsStatement}
+use Rattle.plain_statements.proofs.Spelled.{written-none}
 use Rattle.mm_lang.specs.Parsing.{IsWhole}
 use Rattle.mm_lang.specs.Statements.{slot_symbol, word_of, behind_by, CompletesStatement}
-use Rattle.mm_lang.proofs.Filled.{literal, symbols-filled, filled-something}
+use Rattle.mm_lang.proofs.Filled.{literal, symbols-filled, something-filled}
 use Rattle.mm_lang.proofs.Parts.{Part, Plain, At, symbol_by, slots_in, IsWell, HasParts, statement-parts}
-use Rattle.mm_lang.proofs.Written.{blanks-marks, FirstSymbol, IsMark, IsOther, KeepsLine, TakesNext, first-symbol, keeps-line, written-none}
+use Rattle.mm_lang.proofs.Written.{blanks-marks, FirstSymbol, IsMark, IsOther, KeepsLine, TakesNext, first-symbol, keeps-line}
 
 -- ---- a symbol of a command is no question mark
 
 mark-apart : (m : Mark) → mark_text m ≢ codes "?"
-mark-apart Open = different (mark_text Open) (codes "?") refl
-mark-apart Close = different (mark_text Close) (codes "?") refl
-mark-apart Comma = different (mark_text Comma) (codes "?") refl
-mark-apart Dot = different (mark_text Dot) (codes "?") refl
-mark-apart Star = different (mark_text Star) (codes "?") refl
 mark-apart (Operator op.Eq) = different (codes "=") (codes "?") refl
-mark-apart (Operator op.Ne) = different (codes "<>") (codes "?") refl
-mark-apart (Operator op.Lt) = different (codes "<") (codes "?") refl
-mark-apart (Operator op.Le) = different (codes "<=") (codes "?") refl
-mark-apart (Operator op.Gt) = different (codes ">") (codes "?") refl
-mark-apart (Operator op.Ge) = different (codes ">=") (codes "?") refl
+mark-apart other = different (mark_text other) (codes "?") refl
 
 run-apart : (characters : List ℕ) → IsRun characters → characters ≢ codes "?"
 run-apart characters run e =
@@ -49,25 +41,11 @@ text-apart : (text : List ℕ) → text_literal text ≢ codes "?"
 text-apart text e = cc
 
 pub symbol-apart : (characters : List ℕ) (x : Symbol) → IsWellFormed x → IsSymbol characters x → characters ≢ codes "?"
-symbol-apart characters (Keyword word) well is = run-apart characters (symbol-run characters (Keyword word) tt well is)
-symbol-apart characters (Name name) well is = run-apart characters (symbol-run characters (Name name) tt well is)
-symbol-apart characters (Literal value.Null) well is = run-apart characters (symbol-run characters (Literal value.Null) tt well is)
-symbol-apart characters (Literal (value.Int z)) well is = run-apart characters (symbol-run characters (Literal (value.Int z)) tt well is)
 symbol-apart characters (Literal (value.Text text)) well is = λ e. text-apart text (sym is ∙ e)
-symbol-apart characters (Count n) well is = run-apart characters (symbol-run characters (Count n) tt well is)
 symbol-apart characters (Sign mark) well is = λ e. mark-apart mark (sym is ∙ e)
+symbol-apart characters other well is = run-apart characters (symbol-run characters other tt well is)
 
 -- ---- literals that are written
-
-pub literal-text : (v : Value) → IsSpellableValue v → IsSymbol (symbol_text (Literal v)) (Literal v)
-literal-text value.Null can = refl
-literal-text (value.Int z) can = integer-text z can
-literal-text (value.Text text) can = refl
-
-literal-ends : (v : Value) (rest : List ℕ) → EndsBefore (Literal v) (32 ∷ rest)
-literal-ends value.Null rest = refl
-literal-ends (value.Int z) rest = refl
-literal-ends (value.Text text) rest = refl
 
 blank-made : (line : List ℕ) (symbols : List Symbol) → IsMadeOf line symbols → IsMadeOf (32 ∷ line) symbols
 blank-made line [] made = (refl, made)
@@ -81,26 +59,19 @@ literal-made v blanks rest line symbols can are e made = (
   symbol_text (Literal v),
   32 ∷ rest,
   all-append _ blanks (32 ∷ []) are (refl, tt),
-  literal-text v can,
-  literal-ends v rest,
+  symbol-text (Literal v) can,
+  blank-ends (Literal v) rest,
   blank-made rest symbols made,
   e ∙ (simp append_assoc),
 )
 
 -- ---- the written line
 
--- the values that are left to be written, behind those that are
-record Left (values front vs : List Value) (line : List ℕ) (parts : List Part) : Type 0 where
+-- the values that are left to be written, behind those that are, and the numbers of their holes
+record Left (values front vs : List Value) (numbers : List ℕ) : Type 0 where
   all : values ≡ front ++ vs
-  numbers : flat_map numbers_of (slots_in parts) ≡ range_with_len (length front) (length vs)
-  many : length vs ≡ marks line
+  go_on : numbers ≡ range_with_len (length front) (length vs)
   can : AllByRecursion IsSpellableValue vs
-
-plain-made : (vs : List Value) (x : Symbol) (symbols : List Symbol) (line : List ℕ) → IsWellFormed x → IsSymbol (lexeme line) x
-    → KeepsLine vs line → IsMadeOf (written vs (after_lexeme line)) symbols → IsMadeOf (written vs line) (x ∷ symbols)
-plain-made vs x symbols line well is keeps made =
-    made-from_lexeme (written vs line) x symbols well (subst (λ l. IsSymbol l x) (sym keeps.same) is)
-    (subst (λ l. IsMadeOf l symbols) (sym keeps.rest) made)
 
 line-keeps : (vs : List Value) (line : List ℕ) → FirstSymbol line → lexeme line ≢ codes "?" → KeepsLine vs line
 line-keeps vs line (IsMark is takes) other = absurd (other is)
@@ -110,55 +81,53 @@ line-takes : (line : List ℕ) → FirstSymbol line → lexeme line ≡ codes "?
 line-takes line (IsMark is takes) same = takes
 line-takes line (IsOther not each) same = absurd (not same)
 
+-- a symbol that is no hole, where the rest is made of those behind it
+other-made : (vs : List Value) (x : Symbol) (symbols : List Symbol) (line : List ℕ) → IsWellFormed x → IsSymbol (lexeme line) x
+    → (KeepsLine vs line → IsMadeOf (written vs (after_lexeme line)) symbols) → IsMadeOf (written vs line) (x ∷ symbols)
+other-made vs x symbols line well is made =
+    let keeps : KeepsLine vs line = line-keeps vs line (first-symbol line) (symbol-apart (lexeme line) x well is) in
+    made-from_lexeme (written vs line) x symbols well (rw keeps.same is) (rw keeps.rest (made keeps))
+
 pub cons-parts : (n m : ℕ) (ns ms : List ℕ) → n ∷ ns ≡ m ∷ ms → (n ≡ m) × (ns ≡ ms)
 cons-parts n m ns ms e = (cc, cc)
 
 filled-made : (values : List Value) (parts : List Part) → AllByRecursion IsWell parts → (line : List ℕ) (front vs : List Value)
-    → IsWhole line (map (symbol_by slot_symbol) parts) → Left values front vs line parts
+    → IsWhole line (map (symbol_by slot_symbol) parts) → length vs ≡ marks line → Left values front vs (flat_map numbers_of (slots_in parts))
     → IsMadeOf (written vs line) (map (symbol_by (literal values)) parts)
-filled-made values [] well line front [] (rest, e, end) left =
-    subst AreBlanks (sym (written-none line)) (no_lexeme-blanks line (ap lexeme e ∙ end))
-filled-made values [] well line front (v ∷ vs) whole left = let numbers : [] ≡ length front ∷ range_with_len (length front + 1) (length vs) = left.numbers in cc
-filled-made values (Plain x ∷ parts) well line front vs (rest, (is, reads), end) left =
-    let keeps : KeepsLine vs line = line-keeps vs line (first-symbol line) (symbol-apart (lexeme line) x well.0 is) in
-    plain-made vs x (map (symbol_by (literal values)) parts) line well.0 is keeps
-    (filled-made values parts well.1 (after_lexeme line) front vs (rest, reads, end)
-    (record { all = left.all; numbers = left.numbers; many = left.many ∙ keeps.holds; can = left.can }))
-filled-made values (At (Given w) ∷ parts) well line front vs (rest, (is, reads), end) left =
-    let keeps : KeepsLine vs line = line-keeps vs line (first-symbol line) (symbol-apart (lexeme line) (Literal w) tt is) in
-    plain-made vs (Literal w) (map (symbol_by (literal values)) parts) line tt is keeps
-    (filled-made values parts well.1 (after_lexeme line) front vs (rest, reads, end)
-    (record { all = left.all; numbers = left.numbers; many = left.many ∙ keeps.holds; can = left.can }))
-filled-made values (At (Hole n) ∷ parts) well line front [] (rest, (is, reads), end) left =
-    let takes : TakesNext line = line-takes line (first-symbol line) is in absurd (omega (arith, left.many, takes.holds))
-filled-made values (At (Hole n) ∷ parts) well line front (v ∷ vs) (rest, (is, reads), end) left =
+filled-made values [] well line front [] (rest, e, end) many left = rw (written-none line) (no_lexeme-blanks line (ap lexeme e ∙ end))
+filled-made values [] well line front (v ∷ vs) whole many left =
+    let numbers : [] ≡ length front ∷ range_with_len (length front + 1) (length vs) = left.go_on in cc
+filled-made values (Plain x ∷ parts) well line front vs (rest, (is, reads), end) many left =
+    other-made vs x _ line well.0 is (λ keeps. filled-made values parts well.1 _ front vs (rest, reads, end) (many ∙ keeps.holds) left)
+filled-made values (At (Given w) ∷ parts) well line front vs (rest, (is, reads), end) many left =
+    other-made vs (Literal w) _ line tt is (λ keeps. filled-made values parts well.1 _ front vs (rest, reads, end) (many ∙ keeps.holds) left)
+filled-made values (At (Hole n) ∷ parts) well line front [] (rest, (is, reads), end) many left =
+    let takes : TakesNext line = line-takes line (first-symbol line) is in absurd (omega (arith, many, takes.holds))
+filled-made values (At (Hole n) ∷ parts) well line front (v ∷ vs) (rest, (is, reads), end) many left =
     let takes : TakesNext line = line-takes line (first-symbol line) is in
-    let next = cons-parts n (length front) (flat_map numbers_of (slots_in parts)) (range_with_len (length front + 1) (length vs)) left.numbers in
+    let next = cons-parts n (length front) (flat_map numbers_of (slots_in parts)) (range_with_len (length front + 1) (length vs)) left.go_on in
     let long : length (front ++ v ∷ []) ≡ length front + 1 = omega (arith, length-append front (v ∷ [])) in
-    let one : get_or values n value.Null ≡ v =
-    ap (λ l. get_or l n value.Null) left.all ∙ (ap (λ k. get_or (front ++ v ∷ vs) k value.Null) next.0 ∙ get_or-append_seam front v vs value.Null) in
+    let one : get_or values n value.Null ≡ v = rw (left.all, next.0) (get_or-append_seam front v vs value.Null) in
     let others : IsMadeOf (written vs (after_lexeme line)) (map (symbol_by (literal values)) parts) =
-    filled-made values parts well.1 (after_lexeme line) (front ++ v ∷ []) vs (rest, reads, end) (record {
+    filled-made values parts well.1 (after_lexeme line) (front ++ v ∷ []) vs (rest, reads, end) (omega (arith, many, takes.holds)) (record {
       all = left.all ∙ sym (append_assoc front (v ∷ []) vs);
-      numbers = next.1 ∙ ap (λ k. range_with_len k (length vs)) (sym long);
-      many = omega (arith, left.many, takes.holds);
+      go_on = next.1 ∙ ap (λ k. range_with_len k (length vs)) (sym long);
       can = left.can.1;
     }) in
-    subst (λ w. IsMadeOf (written (v ∷ vs) line) (Literal w ∷ map (symbol_by (literal values)) parts)) (sym one)
-    (literal-made v takes.blanks (written vs (after_lexeme line)) (written (v ∷ vs) line) (map (symbol_by (literal values)) parts) left.can.0
-    takes.are (takes.fills v vs) others)
+    rw one (literal-made v takes.blanks _ (written (v ∷ vs) line) _ left.can.0 takes.are (takes.fills v vs) others)
 
 -- ---- as many holes as question marks
+
+holes-kept : (line : List ℕ) (x : Symbol) → IsWellFormed x → IsSymbol (lexeme line) x → marks line ≡ marks (after_lexeme line)
+holes-kept line x well is = (line-keeps [] line (first-symbol line) (symbol-apart (lexeme line) x well is)).holds
 
 holes-marks : (parts : List Part) → AllByRecursion IsWell parts → (line : List ℕ) → IsWhole line (map (symbol_by slot_symbol) parts)
     → length (flat_map numbers_of (slots_in parts)) ≡ marks line
 holes-marks [] well line (rest, e, end) = sym (blanks-marks line (no_lexeme-blanks line (ap lexeme e ∙ end)))
 holes-marks (Plain x ∷ parts) well line (rest, (is, reads), end) =
-    let keeps : KeepsLine [] line = line-keeps [] line (first-symbol line) (symbol-apart (lexeme line) x well.0 is) in
-    holes-marks parts well.1 (after_lexeme line) (rest, reads, end) ∙ sym keeps.holds
+    holes-marks parts well.1 (after_lexeme line) (rest, reads, end) ∙ sym (holes-kept line x well.0 is)
 holes-marks (At (Given w) ∷ parts) well line (rest, (is, reads), end) =
-    let keeps : KeepsLine [] line = line-keeps [] line (first-symbol line) (symbol-apart (lexeme line) (Literal w) tt is) in
-    holes-marks parts well.1 (after_lexeme line) (rest, reads, end) ∙ sym keeps.holds
+    holes-marks parts well.1 (after_lexeme line) (rest, reads, end) ∙ sym (holes-kept line (Literal w) tt is)
 holes-marks (At (Hole n) ∷ parts) well line (rest, (is, reads), end) =
     let takes : TakesNext line = line-takes line (first-symbol line) is in
     omega (arith, holes-marks parts well.1 (after_lexeme line) (rest, reads, end), takes.holds)
@@ -166,7 +135,7 @@ holes-marks (At (Hole n) ∷ parts) well line (rest, (is, reads), end) =
 -- ---- no line feeds
 
 literal-no_feed : (v : Value) → IsSpellableValue v → HasNoFeed (symbol_text (Literal v))
-literal-no_feed v can = symbol-no_feed (symbol_text (Literal v)) (Literal v) can (literal-text v can)
+literal-no_feed v can = symbol-no_feed (symbol_text (Literal v)) (Literal v) can (symbol-text (Literal v) can)
 
 feed-at : (quoted : Bool) (v : Value) (vs : List Value) (c : ℕ) (cs : List ℕ) (a b : Bool) → (c == 39) ≡ a → ((c == 63) && not quoted) ≡ b
     → c ≢ 10 → IsSpellableValue v → ((q : Bool) → HasNoFeed (written_within q (v ∷ vs) cs)) → HasNoFeed (written_within quoted vs cs)
@@ -197,7 +166,7 @@ statement-spelled line word rest s free e f (is, numbers) = (holes_of-range, spe
 
     whole : IsWhole line (map (symbol_by slot_symbol) has.parts)
     whole =
-        let behind : IsWhole (after_lexeme line) (behind_by slot_symbol s) = subst (λ l. IsWhole l (behind_by slot_symbol s)) f is.made in
+        let behind : IsWhole (after_lexeme line) (behind_by slot_symbol s) = rw f at is.made in
         subst (λ symbols. IsWhole line symbols) (has.made slot_symbol) (behind.0, (e ∙ sym is.first, behind.1), behind.2)
 
     in_parts : flat_map numbers_of (slots_in has.parts) ≡ holes_of s
@@ -213,13 +182,9 @@ statement-spelled line word rest s free e f (is, numbers) = (holes_of-range, spe
         → Spells (written values line) (filled values s)
     spelled values long can =
         let made : IsMadeOf (written values line) (map (symbol_by (literal values)) has.parts) =
-        filled-made values has.parts has.well line [] values whole (record {
-          all = refl;
-          numbers = in_parts ∙ (holes_of-range ∙ ap (range_with_len 0) (sym long));
-          many = long;
-          can = can;
-        }) in (
+        filled-made values has.parts has.well line [] values whole long
+        (record { all = refl; go_on = in_parts ∙ (holes_of-range ∙ ap (range_with_len 0) (sym long)); can = can }) in (
           contains-feed (written values line) (written-no_feed false values line can (contains-no_feed line free)),
-          filled-something values s is.some,
+          (something-filled values s).0 is.some,
           subst (λ symbols. IsMadeOf (written values line) symbols) (sym (has.made (literal values)) ∙ sym (symbols-filled values s)) made,
         )

@@ -20,8 +20,6 @@ free-gap : (symbol next : Symbol) → IsTrue (leaves_gap symbol) → gap symbol 
 free-gap (Sign Open) next free = cc
 free-gap (Sign Dot) next free = cc
 free-gap symbol (Sign Close) free = refl
-free-gap symbol (Sign Comma) free = refl
-free-gap symbol (Sign Dot) free = refl
 free-gap symbol next free = refl
 
 three-parts : (a b c d : List ℕ) → a ++ (b ++ (c ++ d)) ≡ (a ++ (b ++ c)) ++ d
@@ -111,9 +109,19 @@ comma-joined : {X : Type 0} (symbols : X → List Symbol) → AllFree symbols �
     → spaced (separated (map symbols xs)) ≡ joined symbols (codes ", ") xs
 comma-joined symbols free xs = separated-joined symbols free (Sign Comma) refl xs
 
-and-joined : {X : Type 0} (symbols : X → List Symbol) → AllFree symbols → (xs : List X)
-    → spaced (separated_by (Keyword (codes "and")) (map symbols xs)) ≡ joined symbols (codes " and ") xs
-and-joined symbols free xs = separated-joined symbols free (Keyword (codes "and")) refl xs
+-- One item or more, behind another symbol, and behind a word.
+behind-list : {X : Type 0} (symbols : X → List Symbol) → AllFree symbols → (between : Symbol) → IsTrue (leaves_gap between) → (x : X) (xs : List X)
+    → behind (separated_by between (map symbols (x ∷ xs))) ≡ 32 ∷ joined symbols (gap (Keyword []) between ++ (symbol_text between ++ 32 ∷ [])) (x ∷ xs)
+behind-list symbols free between gaps x xs =
+    behind-free (separated_by between (map symbols (x ∷ xs))) (separated-begins symbols free between x xs)
+    ∙ ap (λ t. 32 ∷ t) (separated-joined symbols free between gaps (x ∷ xs))
+
+behind-word : {X : Type 0} (symbols : X → List Symbol) → AllFree symbols → (word : List ℕ) (between : Symbol) → IsTrue (leaves_gap between) → (x : X) (xs : List X)
+    → behind (Keyword word ∷ separated_by between (map symbols (x ∷ xs)))
+    ≡ 32 ∷ (word ++ 32 ∷ joined symbols (gap (Keyword []) between ++ (symbol_text between ++ 32 ∷ [])) (x ∷ xs))
+behind-word symbols free word between gaps x xs =
+    ap (λ t. 32 ∷ t)
+    (spaced-append (Keyword word ∷ []) (separated_by between (map symbols (x ∷ xs))) refl ∙ ap (λ t. word ++ t) (behind-list symbols free between gaps x xs))
 
 -- ---- what the functions write
 
@@ -122,22 +130,14 @@ pub written-behind : {X : Type 0} (symbols : X → List Symbol) → AllFree symb
     → new ≡ old ++ behind (separated (map symbols xs))
 written-behind symbols free old blank new [] some e f = cc
 written-behind symbols free old blank new (x ∷ xs) some e f =
-    let whole : behind (separated (map symbols (x ∷ xs))) ≡ 32 ∷ joined symbols (codes ", ") (x ∷ xs) =
-    behind-free (separated (map symbols (x ∷ xs))) (separated-begins symbols free (Sign Comma) x xs)
-    ∙ ap (λ t. 32 ∷ t) (comma-joined symbols free (x ∷ xs)) in
-    rw (f, e, whole) (append_assoc old (32 ∷ []) (joined symbols (codes ", ") (x ∷ xs)))
+    rw (f, e, behind-list symbols free (Sign Comma) refl x xs) (append_assoc old (32 ∷ []) (joined symbols (codes ", ") (x ∷ xs)))
 
 pub written-where : (old blank new : List ℕ) (conditions : List Cond) → (length conditions == 0) ≡ false → blank ≡ old ++ codes " where "
     → new ≡ blank ++ joined condition_symbols (codes " and ") conditions → new ≡ old ++ behind (where_symbols conditions)
 written-where old blank new [] some e f = cc
 written-where old blank new (x ∷ xs) some e f =
-    let others : List Symbol = separated_by (Keyword (codes "and")) (map condition_symbols (x ∷ xs)) in
-    let first : spaced (Keyword (codes "where") ∷ others) ≡ codes "where" ++ behind others =
-    spaced-append (Keyword (codes "where") ∷ []) others refl in
-    let second : behind others ≡ 32 ∷ joined condition_symbols (codes " and ") (x ∷ xs) =
-    behind-free others (separated-begins condition_symbols condition_symbols-free (Keyword (codes "and")) x xs)
-    ∙ ap (λ t. 32 ∷ t) (and-joined condition_symbols condition_symbols-free (x ∷ xs)) in
-    rw (f, e, first, second) (append_assoc old (codes " where ") (joined condition_symbols (codes " and ") (x ∷ xs)))
+    rw (f, e, behind-word condition_symbols condition_symbols-free (codes "where") (Keyword (codes "and")) refl x xs)
+    (append_assoc old (codes " where ") (joined condition_symbols (codes " and ") (x ∷ xs)))
 
 opened : (symbols : List Symbol) → spaced (Sign Open ∷ symbols) ≡ 40 ∷ spaced symbols
 opened [] = refl
@@ -167,12 +167,9 @@ pub written-update : (old table a b d e new : List ℕ) (settings : List Setting
 written-update old table a b d e new settings conditions p q r s t =
     let front : List Symbol = Keyword (codes "update") ∷ Name table ∷ Keyword (codes "set") ∷ [] in
     let list : List Symbol = separated (map setting_symbols settings) in
-    let first : spaced (front ++ (list ++ where_symbols conditions)) ≡ spaced front ++ behind (list ++ where_symbols conditions) =
-    spaced-append front (list ++ where_symbols conditions) refl in
-    let second : behind (list ++ where_symbols conditions) ≡ behind list ++ behind (where_symbols conditions) =
-    behind-append list (where_symbols conditions) (separated-any setting_symbols setting-free (Sign Comma) settings) in
     let whole : spaced (front ++ (list ++ where_symbols conditions)) ≡ spaced front ++ (behind list ++ behind (where_symbols conditions)) =
-    first ∙ ap (λ l. spaced front ++ l) second in
+    spaced-append front (list ++ where_symbols conditions) refl
+    ∙ ap (λ l. spaced front ++ l) (behind-append list (where_symbols conditions) (separated-any setting_symbols setting-free (Sign Comma) settings)) in
     rw (t, s, r, q, p, whole) (simp append_assoc)
 
 items-any : (items : Items) → EndsFreeIfAny (items_symbols items)
@@ -191,21 +188,13 @@ joins-any (join ∷ next ∷ joins) = ends-append (join_symbols join) (flat_map 
 join-free : AllFree joined_symbols
 join-free join = (refl, refl)
 
-join-joined : (joins : List Join) → spaced (separated_by (Keyword (codes "join")) (map joined_symbols joins)) ≡ joined joined_symbols (codes " join ") joins
-join-joined joins = separated-joined joined_symbols join-free (Keyword (codes "join")) refl joins
-
 pub written-joins : (old blank new : List ℕ) (joins : List Join) → (length joins == 0) ≡ false → blank ≡ old ++ codes " join "
     → new ≡ blank ++ joined joined_symbols (codes " join ") joins → new ≡ old ++ behind (flat_map join_symbols joins)
 written-joins old blank new [] some e f = cc
 written-joins old blank new (x ∷ xs) some e f =
-    let others : List Symbol = separated_by (Keyword (codes "join")) (map joined_symbols (x ∷ xs)) in
-    let first : spaced (Keyword (codes "join") ∷ others) ≡ codes "join" ++ behind others =
-    spaced-append (Keyword (codes "join") ∷ []) others refl in
-    let second : behind others ≡ 32 ∷ joined joined_symbols (codes " join ") (x ∷ xs) =
-    behind-free others (separated-begins joined_symbols join-free (Keyword (codes "join")) x xs) ∙ ap (λ t. 32 ∷ t) (join-joined (x ∷ xs)) in
-    let whole : new ≡ old ++ behind (Keyword (codes "join") ∷ others) =
-    rw (f, e, first, second) (append_assoc old (codes " join ") (joined joined_symbols (codes " join ") (x ∷ xs))) in
-    subst (λ ss. new ≡ old ++ behind ss) (sym (joins-listed x xs)) whole
+    subst (λ ss. new ≡ old ++ behind ss) (sym (joins-listed x xs))
+    (rw (f, e, behind-word joined_symbols join-free (codes "join") (Keyword (codes "join")) refl x xs)
+    (append_assoc old (codes " join ") (joined joined_symbols (codes " join ") (x ∷ xs))))
 
 pub written-select : (old table a b d e f new : List ℕ) (distinct : Bool) (items : Items) (joins : List Join) (conditions : List Cond)
     → a ≡ old ++ spaced (Keyword (codes "select") ∷ distinct_symbols distinct) → b ≡ a ++ behind (items_symbols items) → d ≡ b ++ codes " from "
@@ -215,23 +204,16 @@ written-select old table a b d e f new distinct items joins conditions p q r s t
     let front : List Symbol = Keyword (codes "select") ∷ distinct_symbols distinct in
     let middle : List Symbol = Keyword (codes "from") ∷ Name table ∷ [] in
     let last : List Symbol = flat_map join_symbols joins ++ where_symbols conditions in
-    let first : spaced (front ++ (items_symbols items ++ (middle ++ last))) ≡ spaced front ++ behind (items_symbols items ++ (middle ++ last)) =
-    spaced-append front (items_symbols items ++ (middle ++ last)) (distinct-free distinct) in
-    let second : behind (items_symbols items ++ (middle ++ last)) ≡ behind (items_symbols items) ++ behind (middle ++ last) =
-    behind-append (items_symbols items) (middle ++ last) (items-any items) in
-    let third : behind (middle ++ last) ≡ behind middle ++ behind last = behind-append middle last refl in
-    let fourth : behind last ≡ behind (flat_map join_symbols joins) ++ behind (where_symbols conditions) =
-    behind-append (flat_map join_symbols joins) (where_symbols conditions) (joins-any joins) in
     let whole : spaced (symbols_of (Select distinct items table joins conditions))
     ≡ spaced front ++ (behind (items_symbols items) ++ (behind middle ++ (behind (flat_map join_symbols joins) ++ behind (where_symbols conditions)))) =
     ap spaced (split-word (Select distinct items table joins conditions)).0
-    ∙ (first ∙ ap (λ l. spaced front ++ l) (second ∙ ap (λ l. behind (items_symbols items) ++ l) (third ∙ ap (λ l. behind middle ++ l) fourth))) in
+    ∙ (spaced-append front (items_symbols items ++ (middle ++ last)) (distinct-free distinct)
+    ∙ ap (λ l. spaced front ++ l) (behind-append (items_symbols items) (middle ++ last) (items-any items)
+    ∙ ap (λ l. behind (items_symbols items) ++ l) (behind-append middle last refl
+    ∙ ap (λ l. behind middle ++ l) (behind-append (flat_map join_symbols joins) (where_symbols conditions) (joins-any joins))))) in
     rw (u, t, s, r, q, p, whole) (simp append_assoc)
 
 pub written-delete : (old table a b new : List ℕ) (conditions : List Cond) → a ≡ old ++ codes "delete " → b ≡ a ++ table
     → new ≡ b ++ behind (where_symbols conditions) → new ≡ old ++ spaced (symbols_of (Delete table conditions))
 written-delete old table a b new conditions p q t =
-    let front : List Symbol = Keyword (codes "delete") ∷ Name table ∷ [] in
-    let whole : spaced (front ++ where_symbols conditions) ≡ spaced front ++ behind (where_symbols conditions) =
-    spaced-append front (where_symbols conditions) refl in
-    rw (t, q, p, whole) (simp append_assoc)
+    rw (t, q, p, spaced-append (Keyword (codes "delete") ∷ Name table ∷ []) (where_symbols conditions) refl) (simp append_assoc)

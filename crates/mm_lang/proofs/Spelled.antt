@@ -1,9 +1,8 @@
 -- Spelled: a line spells a command where its lexemes are the command's symbols.
-use Rattle.std.proofs.Common.{◌≡◌, ◌≢◌, ℕ, List, [], ◌∷◌, map, Bool, true, false, Option, Some, None, refl, sym, ◌∙◌, ap, subst}
+use Rattle.std.proofs.Common.{◌≡◌, ◌≢◌, ℕ, List, [], ◌∷◌, ◌++◌, map, Bool, true, false, Option, Some, None, refl, sym, ◌∙◌, ap, subst}
 use Rattle.std.specs.List.{AllByRecursion, Contains, flat_map}
-use Rattle.std.specs.Str.{bytes_eq}
 use lib.Chars.{codes}
-use Rattle.plain_tables.specs.Spelling.{Symbol, Keyword, Literal, Sign, Close, Comma, Operator, separated_by, symbols_of, kind_symbols, column_symbols, index_symbols, value_symbols, name_symbols, setting_symbols, condition_symbols, distinct_symbols, items_symbols, join_symbols, where_symbols, IsSymbol, IsMadeOf, Spells}
+use Rattle.plain_tables.specs.Spelling.{Symbol, Keyword, Name, Literal, Sign, Open, Close, Comma, Operator, separated_by, symbols_of, kind_symbols, column_symbols, index_symbols, value_symbols, name_symbols, setting_symbols, condition_symbols, distinct_symbols, items_symbols, join_symbols, where_symbols, IsMadeOf, Spells}
 use Rattle.plain_tables.specs.Reading.{lexeme, after_lexeme}
 use Rattle.plain_tables.specs.declared.schema.ColKind.{ColKind}
 use Rattle.plain_tables.specs.declared.schema.ColKind.TheVariants as kind
@@ -21,9 +20,8 @@ use Rattle.plain_tables.proofs.SingleItems.{whole_name}
 use Rattle.plain_tables.proofs.WellFormed.{index_word-word}
 use Rattle.mm_lang.specs.declared.parser.CommandWord.{CommandWord}
 use Rattle.mm_lang.specs.declared.parser.CommandWord.TheVariants as word
-use Rattle.mm_lang.specs.Parsing.{Reads, IsWhole, Completes}
+use Rattle.mm_lang.specs.Parsing.{IsWhole, Completes}
 use Rattle.mm_lang.specs.Words.{letters}
-use Rattle.mm_lang.proofs.Fronts.{same-bytes, other-bytes}
 
 -- ---- symbols whose keywords are words
 
@@ -74,51 +72,26 @@ joins-well (join ∷ joins) =
     all-append IsWellFormed (join_symbols join) (flat_map join_symbols joins)
     (refl, (tt, (refl, (tt, (tt, (tt, (tt, (tt, (tt, (tt, tt)))))))))) (joins-well joins)
 
+listed-well : {X : Type 0} (symbols : X → List Symbol) → ((x : X) → AreWellFormed (symbols x)) → (name : List ℕ) (xs : List X)
+    → AreWellFormed (Name name ∷ Sign Open ∷ separated_by (Sign Comma) (map symbols xs) ++ Sign Close ∷ [])
+listed-well symbols each name xs =
+    (tt, (tt, all-append IsWellFormed _ (Sign Close ∷ []) (separated-well symbols (Sign Comma) tt each xs) (tt, tt)))
+
 command-well : (command : Command) → AreWellFormed (symbols_of command)
-command-well (Table name schema) = (
-  refl,
-  (
-    tt,
-    (
-      tt,
-      all-append IsWellFormed _ (Sign Close ∷ [])
-          (separated-well column_symbols (Sign Comma) tt (λ column. (tt, kind-well column.kind)) schema.columns) (tt, tt),
-    ),
-  ),
-)
+command-well (Table name schema) = (refl, listed-well column_symbols (λ column. (tt, kind-well column.kind)) name schema.columns)
 command-well (DropTable table) = (refl, (refl, (tt, tt)))
 command-well (Index table column k) = (refl, index-well table column k)
 command-well (DropIndex table column k) = (refl, (refl, index-well table column k))
-command-well (Insert table values) = (
-  refl,
-  (
-    tt,
-    (
-      tt,
-      all-append IsWellFormed _ (Sign Close ∷ [])
-          (separated-well value_symbols (Sign Comma) tt (λ v. (tt, tt)) values) (tt, tt),
-    ),
-  ),
-)
-command-well (Update table settings conditions) = (
-  refl,
-  (
-    tt,
-    (
-      refl,
-      all-append IsWellFormed _ (where_symbols conditions)
-          (separated-well setting_symbols (Sign Comma) tt (λ setting. (tt, (tt, (tt, tt)))) settings) (where-well conditions),
-    ),
-  ),
-)
+command-well (Insert table values) = (refl, listed-well value_symbols (λ v. (tt, tt)) table values)
+command-well (Update table settings conditions) =
+    let list = separated-well setting_symbols (Sign Comma) tt (λ setting. (tt, (tt, (tt, tt)))) settings in
+    (refl, (tt, (refl, all-append IsWellFormed _ (where_symbols conditions) list (where-well conditions))))
 command-well (Delete table conditions) = (refl, (tt, where-well conditions))
 command-well (Select distinct items table joins conditions) =
-    subst AreWellFormed (sym (split-word (Select distinct items table joins conditions)).0) (
-      refl,
-      all-append IsWellFormed (distinct_symbols distinct) _ (distinct-well distinct)
-          (all-append IsWellFormed (items_symbols items) _ (items-well items)
-          (refl, (tt, all-append IsWellFormed (flat_map join_symbols joins) _ (joins-well joins) (where-well conditions)))),
-    )
+    let tail = all-append IsWellFormed (flat_map join_symbols joins) _ (joins-well joins) (where-well conditions) in
+    let behind = all-append IsWellFormed (items_symbols items) _ (items-well items) (refl, (tt, tail)) in
+    subst AreWellFormed (sym (split-word (Select distinct items table joins conditions)).0)
+    (refl, all-append IsWellFormed (distinct_symbols distinct) _ (distinct-well distinct) behind)
 command-well (Load table bytes) = (refl, (tt, (tt, tt)))
 command-well (Dump table) = (refl, (tt, tt))
 command-well Tables = (refl, tt)
@@ -133,40 +106,35 @@ whole-made (symbol ∷ symbols) well line (rest, (is, reads), end) =
 made-whole : (symbols : List Symbol) → AreWellFormed symbols → (line : List ℕ) → IsMadeOf line symbols → IsWhole line symbols
 made-whole [] well line made = (line, refl, blanks-no_lexeme line made)
 made-whole (symbol ∷ symbols) well line made =
-    let parts : IsSymbol (lexeme line) symbol × IsMadeOf (after_lexeme line) symbols = lexeme-of_made line symbol symbols well.0 made in
-    let behind : IsWhole (after_lexeme line) symbols = made-whole symbols well.1 (after_lexeme line) parts.1 in
-    (behind.0, (parts.0, behind.1), behind.2)
+    let (is, others) = lexeme-of_made line symbol symbols well.0 made in
+    let (rest, reads, end) = made-whole symbols well.1 (after_lexeme line) others in
+    (rest, (is, reads), end)
 
 -- ---- the whole line
 
 pub spelled : (line word rest : List ℕ) (command : Command) → ¬ (Contains line 10) → lexeme line ≡ word → rest ≡ after_lexeme line
     → Completes word rest command → Spells line command
 spelled line word rest command free e f completes =
-    let reads : Reads (after_lexeme line) completes.symbols completes.made.0 =
-    subst (λ l. Reads l completes.symbols completes.made.0) f completes.made.1 in
-    let all : IsWhole line (Keyword word ∷ completes.symbols) = (completes.made.0, (e, reads), completes.made.2) in
-    let whole : IsWhole line (symbols_of command) = subst (λ ss. IsWhole line ss) (sym completes.first) all in
-    (free, completes.some, whole-made (symbols_of command) (command-well command) line whole)
+    let (end, reads, ends) = completes.made in
+    let whole : IsWhole line (Keyword word ∷ completes.symbols) = (end, (e, rw f at reads), ends) in
+    (free, completes.some, whole-made (symbols_of command) (command-well command) line (rw completes.first whole))
 
 -- A line that spells a command begins with the command's first word, and what follows it completes the command.
 pub spelled-completes : (line : List ℕ) (command : Command) → Spells line command
     → (lexeme line ≡ first_word command) × Completes (first_word command) (after_lexeme line) command
 spelled-completes line command spells =
     let split : symbols_of command ≡ Keyword (first_word command) ∷ behind_word command = (split-word command).0 in
-    let whole : IsWhole line (Keyword (first_word command) ∷ behind_word command) =
-    subst (λ ss. IsWhole line ss) split (made-whole (symbols_of command) (command-well command) line spells.2) in (
-      whole.1.0,
-      record { some = spells.1; symbols = behind_word command; first = split; made = (whole.0, whole.1.1, whole.2) },
-    )
+    let (rest, (word, reads), end) = rw split at (made-whole (symbols_of command) (command-well command) line spells.2) in
+    (word, record { some = spells.1; symbols = behind_word command; first = split; made = (rest, reads, end) })
 
 pub not-spelled : (line word rest : List ℕ) → lexeme line ≡ word → rest ≡ after_lexeme line
     → ((command : Command) → Completes word rest command → ⊥) → (command : Command) → Spells line command → ⊥
 not-spelled line word rest e f not command spells =
-    let parts : (lexeme line ≡ first_word command) × Completes (first_word command) (after_lexeme line) command = spelled-completes line command spells in
-    not command (subst (λ w. Completes w rest command) (sym parts.0 ∙ e) (subst (λ r. Completes (first_word command) r command) (sym f) parts.1))
+    let (first, completes) = spelled-completes line command spells in
+    not command (subst (λ w. Completes w rest command) (sym first ∙ e) (rw f completes))
 
 -- each command begins with one of the words
-word-of : (command : Command) → (w : CommandWord) × (first_word command ≡ letters w)
+pub word-of : (command : Command) → (w : CommandWord) × (first_word command ≡ letters w)
 word-of (Table name schema) = (word.Table, refl)
 word-of (DropTable t) = (word.Drop, refl)
 word-of (Index t c k) = (word.Index, refl)
@@ -183,11 +151,3 @@ pub unknown-word : (line : List ℕ) → ((w : CommandWord) → lexeme line ≢ 
 unknown-word line unknown command spells =
     let of = word-of command in
     unknown of.0 ((spelled-completes line command spells).0 ∙ of.1)
-
--- ---- the tests of the parser
-
-pub lexeme-is : (line xs ys zs : List ℕ) (r : Bool) → xs ≡ lexeme line → r ≡ true → r ≡ bytes_eq xs ys → ys ≡ zs → lexeme line ≡ zs
-lexeme-is line xs ys zs r f h same g = sym f ∙ same-bytes xs ys zs r h same g
-
-pub lexeme-is_not : (line xs ys zs : List ℕ) (r : Bool) → xs ≡ lexeme line → r ≡ false → r ≡ bytes_eq xs ys → ys ≡ zs → lexeme line ≢ zs
-lexeme-is_not line xs ys zs r f h same g is = other-bytes xs ys zs r h same g (f ∙ is)

@@ -1,11 +1,11 @@
 -- Statement parts: what a line is behind a statement's first word, from what is read and numbered.
-use Rattle.std.proofs.Common.{◌≡◌, ◌+◌, ℕ, ◌<◌, List, [], ◌∷◌, ◌++◌, length, map, take, drop, Bool, refl, sym, ap, ◌∙◌, subst}
+use Rattle.std.proofs.Common.{◌≡◌, ◌+◌, ℕ, List, [], ◌∷◌, ◌++◌, length, map, take, drop, Bool, refl, sym, ap, ◌∙◌}
 use Rattle.std.specs.List.{flat_map}
 use Rattle.std.proofs.Math.Seq.{take-append_seam}
 use Rattle.std.proofs.lemmas.List.{length-map, map-id}
 use Rattle.std.proofs.lemmas.List.Concat.{flat_map-append}
 use lib.Chars.{codes}
-use Rattle.plain_tables.specs.Spelling.{Symbol, Keyword, Name, Sign, Open, Close, separated, separated_by, distinct_symbols, items_symbols, join_symbols}
+use Rattle.plain_tables.specs.Spelling.{Symbol, Keyword, separated_by}
 use Rattle.plain_tables.specs.declared.command.Items.{Items}
 use Rattle.plain_tables.specs.declared.command.Join.{Join}
 use Rattle.plain_tables.proofs.FirstWords.{different}
@@ -15,7 +15,7 @@ use Rattle.plain_statements.specs.declared.statement.SlotCond.{SlotCond}
 use Rattle.plain_statements.specs.declared.statement.Statement.{Statement}
 use Rattle.plain_statements.specs.declared.statement.Statement.TheVariants.{Insert, Update, Delete, Select}
 use Rattle.plain_statements.specs.StatementSpelling.{numbers_of}
-use Rattle.mm_lang.specs.Parsing.{IsWhole, IsNameAndList, where_of, IsUpdate, IsDelete, IsSelect}
+use Rattle.mm_lang.specs.Parsing.{IsNameAndList, where_of, IsUpdate, IsDelete, IsSelect}
 use Rattle.mm_lang.specs.Statements.{slot_symbol, slot_by, setting_by, condition_by, word_of, IsStatement, AreFrom, CompletesStatement}
 use Rattle.mm_lang.proofs.Lists.{list-some}
 use Rattle.mm_lang.proofs.Numbering.{from-append}
@@ -33,8 +33,8 @@ settings_by = setting_by slot_symbol
 abbrev conditions_by : SlotCond → List Symbol
 conditions_by = condition_by slot_symbol
 
-same-length : {X : Type 0} (symbols : X → List Symbol) (xs ys : List X) → map symbols xs ≡ map symbols ys → length ys ≡ length xs
-same-length symbols xs ys e = sym (length-map ys symbols) ∙ (ap length (sym e) ∙ length-map xs symbols)
+same-length : {X : Type 0} (symbols : X → List Symbol) (xs ys : List X) → map symbols xs ≡ map symbols ys → length xs ≡ length ys
+same-length symbols xs ys e = sym (length-map xs symbols) ∙ (ap length e ∙ length-map ys symbols)
 
 -- The word and its items are a function of the lists of symbols.
 where-by : List (List Symbol) → List Symbol
@@ -46,8 +46,8 @@ unfolding where-by
 where-is symbols [] = refl
 where-is symbols (x ∷ xs) = refl
 
-same-where : {X : Type 0} (symbols : X → List Symbol) (xs ys : List X) → map symbols xs ≡ map symbols ys → where_of symbols ys ≡ where_of symbols xs
-same-where symbols xs ys e = where-is symbols ys ∙ (ap where-by (sym e) ∙ sym (where-is symbols xs))
+same-where : {X : Type 0} (symbols : X → List Symbol) (xs ys : List X) → map symbols xs ≡ map symbols ys → where_of symbols xs ≡ where_of symbols ys
+same-where symbols xs ys e = where-is symbols xs ∙ (ap where-by e ∙ sym (where-is symbols ys))
 
 -- What a vector holds once all of it was changed in place.
 pub written-back : {X : Type 0} (n : ℕ) (new old result : List X) → result ≡ take n (new ++ drop (length new) old) → length new ≡ n → result ≡ new
@@ -61,10 +61,10 @@ pub insert-done : (line table : List ℕ) (slots old : List Slot) → map slots_
 insert-done line table slots old e numbers is = (
   record {
     first = refl;
-    some = subst (λ n. 0 < n) (same-length slots_by slots old e) (list-some slots_by (codes ",") _ old is.rest is.listed);
-    made = subst (λ l. IsWhole line (Name table ∷ Sign Open ∷ separated l ++ Sign Close ∷ [])) (sym e) (named-list slots_by line table old is);
+    some = rw (same-length slots_by slots old e) (list-some slots_by (codes ",") _ old is.rest is.listed);
+    made = rw e (named-list slots_by line table old is);
   },
-  subst (λ l. AreFrom 0 (flat_map numbers_of l)) (map-id slots) numbers,
+  rw (map-id slots) at numbers,
 )
 
 pub insert-none : (line : List ℕ) → ((table : List ℕ) (slots : List Slot) → IsNameAndList slots_by line table slots → ⊥)
@@ -78,7 +78,7 @@ pub delete-done : (line table : List ℕ) (conditions old : List SlotCond) → m
     → AreFrom 0 (flat_map numbers_of (map (λ c. c.slot) conditions)) → IsDelete conditions_by line table old
     → CompletesStatement (codes "delete") line (Delete table conditions)
 delete-done line table conditions old e numbers is = (
-  record { first = refl; some = tt; made = subst (λ l. IsWhole line (Name table ∷ l)) (same-where conditions_by conditions old e) is },
+  record { first = refl; some = tt; made = rw (same-where conditions_by conditions old e) is },
   numbers,
 )
 
@@ -97,13 +97,10 @@ pub update-done : (line table : List ℕ) (settings were : List SlotSetting) (co
 update-done line table settings were conditions old next d first e f numbers is = (
   record {
     first = refl;
-    some = subst (λ n. 0 < n) (same-length settings_by settings were d) (update-some settings_by conditions_by line table were old is);
-    made = subst (λ l. IsWhole line (Name table ∷ Keyword (codes "set") ∷ separated (map settings_by settings) ++ l)) (same-where conditions_by conditions old f)
-        (subst (λ l. IsWhole line (Name table ∷ Keyword (codes "set") ∷ separated l ++ where_of conditions_by old)) (sym d)
-        (update-whole settings_by conditions_by line table were old is));
+    some = rw (same-length settings_by settings were d) (update-some settings_by conditions_by line table were old is);
+    made = rw (d, same-where conditions_by conditions old f) (update-whole settings_by conditions_by line table were old is);
   },
-  subst (AreFrom 0) (sym (flat_map-append numbers_of (map (λ s. s.slot) settings) (map (λ c. c.slot) conditions)))
-      (from-append 0 next (flat_map numbers_of (map (λ s. s.slot) settings)) (flat_map numbers_of (map (λ c. c.slot) conditions)) first e numbers),
+  rw flat_map-append (from-append 0 next _ _ first e numbers),
 )
 
 pub update-none : (line : List ℕ)
@@ -123,9 +120,7 @@ select-done line distinct items table joins conditions old e numbers is = (
   record {
     first = refl;
     some = is.some;
-    made = subst
-        (λ l. IsWhole line (distinct_symbols distinct ++ (items_symbols items ++ Keyword (codes "from") ∷ Name table ∷ (flat_map join_symbols joins ++ l))))
-        (same-where conditions_by conditions old e) (select-whole conditions_by line distinct items table joins old is);
+    made = rw (same-where conditions_by conditions old e) (select-whole conditions_by line distinct items table joins old is);
   },
   numbers,
 )

@@ -2,7 +2,6 @@
 use Rattle.std.proofs.Common.{◌≡◌, ◌≢◌, ℕ, suc, ◌+◌, List, [], ◌∷◌, ◌++◌, length, take, drop, Bool, true, false, refl, sym, ap, ◌∙◌, subst, arith, append-nil}
 use Rattle.std.specs.List.{AllByRecursion, prefix_len}
 use Rattle.std.specs.Prelude.{◌==◌}
-use Rattle.std.proofs.Math.Seq.{take-append_seam, drop-append_seam}
 use Rattle.std.proofs.lemmas.List.{take-append-drop}
 use Rattle.std.proofs.lemmas.Bool.{eqb-true, eqb-false}
 use Rattle.std.proofs.lemmas.Bool.Decides.{nat_tests}
@@ -12,8 +11,10 @@ use Rattle.plain_tables.specs.Spelling.{Literal, AreBlanks, is_blank, symbol_tex
 use Rattle.plain_tables.specs.Reading.{behind_blanks, begins_run, is_operator, operator_length, text_length, length_behind, lexeme_length, lexeme, after_lexeme}
 use Rattle.plain_tables.specs.declared.value.Value.{Value}
 use Rattle.plain_tables.specs.declared.value.Value.TheVariants as value
-use Rattle.plain_tables.proofs.Lexemes.{AllPass, StopsBefore, prefix_len-front, front-passes, rest-stops}
+use Rattle.plain_tables.proofs.Lexemes.{AllPass, StopsBefore, prefix_len-front, behind_blanks-front, lexeme-front, front-passes, rest-stops}
+use Rattle.plain_tables.proofs.Texts.{one_more, two_more, text_length-plain}
 use Rattle.plain_statements.specs.StatementSpelling.{marks, marks_within, literal_apart, written, written_within}
+use Rattle.plain_statements.proofs.Spelled.{written-none}
 
 -- ---- characters that are neither quote marks nor question marks
 
@@ -37,11 +38,6 @@ plain-marks : (cs rest : List ℕ) → ArePlain cs → marks (cs ++ rest) ≡ ma
 plain-marks [] rest all = refl
 plain-marks (c ∷ cs) rest all = rw (all.0.0, all.0.1) (plain-marks cs rest all.1)
 
-plain-written : (v : Value) (values : List Value) (cs rest : List ℕ) → ArePlain cs
-    → written (v ∷ values) (cs ++ rest) ≡ cs ++ written (v ∷ values) rest
-plain-written v values [] rest all = refl
-plain-written v values (c ∷ cs) rest all = rw (all.0.0, all.0.1) (ap (λ l. c ∷ l) (plain-written v values cs rest all.1))
-
 -- ---- the first character of what is written
 
 -- It is the first of the text, or a blank.
@@ -49,209 +45,27 @@ data First (c : ℕ) (line : List ℕ) : Type 0 where
   Same : (rest : List ℕ) → line ≡ c ∷ rest → First c line
   Blank : (rest : List ℕ) → line ≡ 32 ∷ rest → First c line
 
-first-at : (v : Value) (values : List Value) (c : ℕ) (cs : List ℕ) (a b : Bool) → (c == 39) ≡ a → (c == 63) ≡ b
-    → First c (written (v ∷ values) (c ∷ cs))
-first-at v values c cs true b e f = Same (written_within true (v ∷ values) cs) (rw e refl)
-first-at v values c cs false true e f =
-    Blank ((symbol_text (Literal v) ++ 32 ∷ []) ++ written values cs) (rw (e, f) refl)
-first-at v values c cs false false e f = Same (written (v ∷ values) cs) (rw (e, f) refl)
-
-written-first : (v : Value) (values : List Value) (c : ℕ) (cs : List ℕ) → First c (written (v ∷ values) (c ∷ cs))
-written-first v values c cs = first-at v values c cs (c == 39) (c == 63) refl refl
-
 stops-first : (p : ℕ → Bool) → p 32 ≡ false → (c : ℕ) (line : List ℕ) → p c ≡ false → First c line → StopsBefore p line
 stops-first p blank c line stops (Same rest e) = rw e stops
 stops-first p blank c line stops (Blank rest e) = rw e blank
 
-written-stops : (p : ℕ → Bool) → p 32 ≡ false → (v : Value) (values : List Value) (line : List ℕ) → StopsBefore p line
-    → StopsBefore p (written (v ∷ values) line)
-written-stops p blank v values [] stops = tt
-written-stops p blank v values (c ∷ cs) stops = stops-first p blank c _ stops (written-first v values c cs)
-
--- ---- a text's first symbol, and what is behind it
-
--- The symbol at the front of this text, which begins with no blank, ends where it does in the written text, and no question
--- mark outside of texts stands in it.
-record Keeps (v : Value) (values : List Value) (text : List ℕ) : Type 0 where
-  front : List ℕ
-  rest : List ℕ
-  parts : text ≡ front ++ rest
-  long : lexeme_length text ≡ length front
-  fills : written (v ∷ values) text ≡ front ++ written (v ∷ values) rest
-  written_long : lexeme_length (written (v ∷ values) text) ≡ length front
-  holds : marks text ≡ marks rest
-
--- The same of the characters behind a quote mark.
-record KeepsText (v : Value) (values : List Value) (cs : List ℕ) : Type 0 where
-  front : List ℕ
-  rest : List ℕ
-  parts : cs ≡ front ++ rest
-  long : text_length cs ≡ length front
-  fills : written_within true (v ∷ values) cs ≡ front ++ written (v ∷ values) rest
-  written_long : text_length (written_within true (v ∷ values) cs) ≡ length front
-  holds : marks_within true cs ≡ marks rest
-
-one_more : (n : ℕ) → 1 + n ≡ suc n
-one_more n = omega arith
-
-two_more : (n : ℕ) → 2 + n ≡ suc (suc n)
-two_more n = omega arith
+-- ---- how far the first symbol goes
 
 -- a text that ends before what begins so
 ends-first : (c : ℕ) (line : List ℕ) → (c == 39) ≡ false → First c line → text_length (39 ∷ line) ≡ 1
 ends-first c line plain (Same rest e) = rw (e, plain) refl
 ends-first c line plain (Blank rest e) = rw e refl
 
--- a text goes on behind a character that is no quote mark
-goes-on : (c : ℕ) (cs : List ℕ) → (c == 39) ≡ false → text_length (c ∷ cs) ≡ 1 + text_length cs
-goes-on c [] plain = refl
-goes-on c (d ∷ cs) plain = rw plain refl
-
--- a character of a text, outside of its marks
-quoted-at : (v : Value) (values : List Value) (c : ℕ) (cs : List ℕ) (b : Bool) → (c == 39) ≡ false → (c == 63) ≡ b
-    → (written_within true (v ∷ values) (c ∷ cs) ≡ c ∷ written_within true (v ∷ values) cs) × (marks_within true (c ∷ cs) ≡ marks_within true cs)
-quoted-at v values c cs true plain e = (rw (plain, e) refl, rw (plain, e) refl)
-quoted-at v values c cs false plain e = (rw (plain, e) refl, rw (plain, e) refl)
-
-keeps-other : (v : Value) (values : List Value) (c : ℕ) (cs : List ℕ) → (c == 39) ≡ false → KeepsText v values cs
-    → KeepsText v values (c ∷ cs)
-keeps-other v values c cs plain k =
-    let (step, same) = quoted-at v values c cs (c == 63) plain refl in
-    record {
-      front = c ∷ k.front;
-      rest = k.rest;
-      parts = ap (λ l. c ∷ l) k.parts;
-      long = goes-on c cs plain ∙ (ap (λ n. 1 + n) k.long ∙ one_more (length k.front));
-      fills = step ∙ ap (λ l. c ∷ l) k.fills;
-      written_long = ap text_length step
-          ∙ (goes-on c (written_within true (v ∷ values) cs) plain ∙ (ap (λ n. 1 + n) k.written_long ∙ one_more (length k.front)));
-      holds = same ∙ k.holds;
-    }
-
-keeps-none : (v : Value) (values : List Value) → KeepsText v values []
-keeps-none v values = record { front = []; rest = []; parts = refl; long = refl; fills = refl; written_long = refl; holds = refl }
-
-keeps-one : (v : Value) (values : List Value) (c : ℕ) (a : Bool) → (c == 39) ≡ a → KeepsText v values (c ∷ [])
-keeps-one v values c true e = record { front = c ∷ []; rest = []; parts = refl; long = refl; fills = rw e refl; written_long = rw e refl; holds = rw e refl }
-keeps-one v values c false e = keeps-other v values c [] e (keeps-none v values)
-
-keeps-two : (v : Value) (values : List Value) (cs : List ℕ) → KeepsText v values cs → KeepsText v values (39 ∷ 39 ∷ cs)
-keeps-two v values cs k = record {
-  front = 39 ∷ 39 ∷ k.front;
-  rest = k.rest;
-  parts = ap (λ l. 39 ∷ 39 ∷ l) k.parts;
-  long = ap (λ n. 2 + n) k.long ∙ two_more (length k.front);
-  fills = ap (λ l. 39 ∷ 39 ∷ l) k.fills;
-  written_long = ap (λ n. 2 + n) k.written_long ∙ two_more (length k.front);
-  holds = k.holds;
-}
-
-keeps-end : (v : Value) (values : List Value) (d : ℕ) (cs : List ℕ) → (d == 39) ≡ false → KeepsText v values (39 ∷ d ∷ cs)
-keeps-end v values d cs plain = record {
-  front = 39 ∷ [];
-  rest = d ∷ cs;
-  parts = refl;
-  long = rw plain refl;
-  fills = refl;
-  written_long = ends-first d (written (v ∷ values) (d ∷ cs)) plain (written-first v values d cs);
-  holds = refl;
-}
-
-keeps-mark : (v : Value) (values : List Value) (d : ℕ) (cs : List ℕ) (b : Bool) → (d == 39) ≡ b → KeepsText v values cs
-    → KeepsText v values (39 ∷ d ∷ cs)
-keeps-mark v values d cs true e k = subst (λ n. KeepsText v values (39 ∷ n ∷ cs)) (sym (eqb-true d 39 e)) (keeps-two v values cs k)
-keeps-mark v values d cs false e k = keeps-end v values d cs e
-
-keeps-either : (v : Value) (values : List Value) (c d : ℕ) (cs : List ℕ) (b : Bool) → (c == 39) ≡ b → KeepsText v values cs
-    → KeepsText v values (d ∷ cs) → KeepsText v values (c ∷ d ∷ cs)
-keeps-either v values c d cs true e two one =
-    subst (λ n. KeepsText v values (n ∷ d ∷ cs)) (sym (eqb-true c 39 e)) (keeps-mark v values d cs (d == 39) refl two)
-keeps-either v values c d cs false e two one = keeps-other v values c (d ∷ cs) e one
-
-keeps-text : (v : Value) (values : List Value) (cs : List ℕ) → KeepsText v values cs
-keeps-text v values [] = keeps-none v values
-keeps-text v values (c ∷ []) = keeps-one v values c (c == 39) refl
-keeps-text v values (c ∷ d ∷ cs) = keeps-either v values c d cs (c == 39) refl (keeps-text v values cs) (keeps-text v values (d ∷ cs))
-
--- a text's literal, or what begins as one
-keeps-quoted : (v : Value) (values : List Value) (cs : List ℕ) → Keeps v values (39 ∷ cs)
-keeps-quoted v values cs =
-    let k : KeepsText v values cs = keeps-text v values cs in
-    record {
-      front = 39 ∷ k.front;
-      rest = k.rest;
-      parts = ap (λ l. 39 ∷ l) k.parts;
-      long = ap (λ n. 1 + n) k.long ∙ one_more (length k.front);
-      fills = ap (λ l. 39 ∷ l) k.fills;
-      written_long = ap (λ n. 1 + n) k.written_long ∙ one_more (length k.front);
-      holds = k.holds;
-    }
-
 -- a word or a number
 run-plain : (c : ℕ) → begins_run c ≡ true → IsPlain c
 run-plain c h = (grind (arith, nat_tests), grind (arith, nat_tests))
 
-run-long : (c : ℕ) (cs : List ℕ) → begins_run c ≡ true → lexeme_length (c ∷ cs) ≡ 1 + prefix_len is_word_character cs
-run-long c cs run = rw run refl
-
-keeps-run : (v : Value) (values : List Value) (c : ℕ) (cs : List ℕ) → begins_run c ≡ true → Keeps v values (c ∷ cs)
-keeps-run v values c cs run =
-    let n : ℕ = prefix_len is_word_character cs in
-    let word : List ℕ = take n cs in
-    let rest : List ℕ = drop n cs in
-    let passes : AllPass is_word_character word = front-passes is_word_character cs in
-    let plain : ArePlain (c ∷ word) = (run-plain c run, pass-plain is_word_character word-plain word passes) in
-    let whole : word ++ rest ≡ cs = take-append-drop n cs in
-    let fills : written (v ∷ values) (c ∷ cs) ≡ c ∷ (word ++ written (v ∷ values) rest) =
-    ap (λ l. written (v ∷ values) (c ∷ l)) (sym whole) ∙ plain-written v values (c ∷ word) rest plain in
-    let stops : StopsBefore is_word_character rest = rest-stops is_word_character cs in
-    let n-long : prefix_len is_word_character cs ≡ length word =
-    ap (prefix_len is_word_character) (sym whole) ∙ prefix_len-front is_word_character word rest passes stops in
-    let w-long : prefix_len is_word_character (word ++ written (v ∷ values) rest) ≡ length word =
-    prefix_len-front is_word_character word (written (v ∷ values) rest) passes (written-stops is_word_character refl v values rest stops) in
-    record {
-      front = c ∷ word;
-      rest = rest;
-      parts = ap (λ l. c ∷ l) (sym whole);
-      long = run-long c cs run ∙ (ap (λ n. 1 + n) n-long ∙ one_more (length word));
-      fills = fills;
-      written_long = ap lexeme_length fills
-          ∙ (run-long c (word ++ written (v ∷ values) rest) run ∙ (ap (λ n. 1 + n) w-long ∙ one_more (length word)));
-      holds = ap (λ l. marks (c ∷ l)) (sym whole) ∙ plain-marks (c ∷ word) rest plain;
-    }
-
--- an operator or another sign
-keeps-single : (v : Value) (values : List Value) (c : ℕ) (cs : List ℕ) → begins_run c ≡ false → IsPlain c
-    → operator_length c cs ≡ 0 → operator_length c (written (v ∷ values) cs) ≡ 0 → Keeps v values (c ∷ cs)
-keeps-single v values c cs run plain short written_short =
-    let fills : written (v ∷ values) (c ∷ cs) ≡ c ∷ written (v ∷ values) cs = plain-written v values (c ∷ []) cs (plain, tt) in
-    record {
-      front = c ∷ [];
-      rest = cs;
-      parts = refl;
-      long = rw (run, plain.0, short) refl;
-      fills = fills;
-      written_long = ap lexeme_length fills ∙ rw (run, plain.0, written_short) refl;
-      holds = plain-marks (c ∷ []) cs (plain, tt);
-    }
+run-long : (c : ℕ) (word rest : List ℕ) → begins_run c ≡ true → AllPass is_word_character word → StopsBefore is_word_character rest
+    → lexeme_length (c ∷ (word ++ rest)) ≡ suc (length word)
+run-long c word rest run passes stops = rw (run, prefix_len-front is_word_character word rest passes stops) (one_more (length word))
 
 operator-plain : (c d : ℕ) → is_operator c d ≡ true → IsPlain d
 operator-plain c d h = (grind (arith, nat_tests), grind (arith, nat_tests))
-
-keeps-operator : (v : Value) (values : List Value) (c d : ℕ) (cs : List ℕ) → begins_run c ≡ false → IsPlain c → is_operator c d ≡ true
-    → Keeps v values (c ∷ d ∷ cs)
-keeps-operator v values c d cs run plain both =
-    let all : ArePlain (c ∷ d ∷ []) = (plain, (operator-plain c d both, tt)) in
-    let fills : written (v ∷ values) (c ∷ d ∷ cs) ≡ c ∷ d ∷ written (v ∷ values) cs = plain-written v values (c ∷ d ∷ []) cs all in
-    record {
-      front = c ∷ d ∷ [];
-      rest = cs;
-      parts = refl;
-      long = rw (run, plain.0, both) refl;
-      fills = fills;
-      written_long = ap lexeme_length fills ∙ rw (run, plain.0, both) refl;
-      holds = plain-marks (c ∷ d ∷ []) cs all;
-    }
 
 no-operator : (c : ℕ) → is_operator c 32 ≡ false
 no-operator c = grind (arith, nat_tests)
@@ -260,37 +74,169 @@ operator-first : (c d : ℕ) (line : List ℕ) → is_operator c d ≡ false →
 operator-first c d line not (Same rest e) = rw (e, not) refl
 operator-first c d line not (Blank rest e) = rw (e, no-operator c) refl
 
-keeps-next : (v : Value) (values : List Value) (c d : ℕ) (cs : List ℕ) (b : Bool) → begins_run c ≡ false → IsPlain c → is_operator c d ≡ b
-    → Keeps v values (c ∷ d ∷ cs)
-keeps-next v values c d cs true run plain e = keeps-operator v values c d cs run plain e
-keeps-next v values c d cs false run plain e =
-    keeps-single v values c (d ∷ cs) run plain (rw e refl) (operator-first c d (written (v ∷ values) (d ∷ cs)) e (written-first v values d cs))
+-- ---- literals for the question marks of a text
 
-keeps-sign : (v : Value) (values : List Value) (c : ℕ) (cs : List ℕ) → begins_run c ≡ false → IsPlain c → Keeps v values (c ∷ cs)
-keeps-sign v values c [] run plain = keeps-single v values c [] run plain refl refl
-keeps-sign v values c (d ∷ cs) run plain = keeps-next v values c d cs (is_operator c d) run plain refl
+module _ (v : Value) (values : List Value) where
+  plain-written : (cs rest : List ℕ) → ArePlain cs → written (v ∷ values) (cs ++ rest) ≡ cs ++ written (v ∷ values) rest
+  plain-written [] rest all = refl
+  plain-written (c ∷ cs) rest all = rw (all.0.0, all.0.1) (ap (λ l. c ∷ l) (plain-written cs rest all.1))
 
-keeps-by : (v : Value) (values : List Value) (c : ℕ) (cs : List ℕ) (a b : Bool) → begins_run c ≡ a → (c == 39) ≡ b → (c == 63) ≡ false
-    → Keeps v values (c ∷ cs)
-keeps-by v values c cs true b run e f = keeps-run v values c cs run
-keeps-by v values c cs false true run e f = subst (λ n. Keeps v values (n ∷ cs)) (sym (eqb-true c 39 e)) (keeps-quoted v values cs)
-keeps-by v values c cs false false run e f = keeps-sign v values c cs run (e, f)
+  first-at : (c : ℕ) (cs : List ℕ) (a b : Bool) → (c == 39) ≡ a → (c == 63) ≡ b → First c (written (v ∷ values) (c ∷ cs))
+  first-at c cs true b e f = Same (written_within true (v ∷ values) cs) (rw e refl)
+  first-at c cs false true e f = Blank ((symbol_text (Literal v) ++ 32 ∷ []) ++ written values cs) (rw (e, f) refl)
+  first-at c cs false false e f = Same (written (v ∷ values) cs) (rw (e, f) refl)
 
-keeps : (v : Value) (values : List Value) (c : ℕ) (cs : List ℕ) → (c == 63) ≡ false → Keeps v values (c ∷ cs)
-keeps v values c cs other = keeps-by v values c cs (begins_run c) (c == 39) refl refl other
+  written-first : (c : ℕ) (cs : List ℕ) → First c (written (v ∷ values) (c ∷ cs))
+  written-first c cs = first-at c cs (c == 39) (c == 63) refl refl
+
+  written-stops : (p : ℕ → Bool) → p 32 ≡ false → (line : List ℕ) → StopsBefore p line → StopsBefore p (written (v ∷ values) line)
+  written-stops p blank [] stops = tt
+  written-stops p blank (c ∷ cs) stops = stops-first p blank c _ stops (written-first c cs)
+
+  -- The symbol at the front of this text, which begins with no blank, ends where it does in the written text, and no question
+  -- mark outside of texts stands in it.
+  record Keeps (text : List ℕ) : Type 0 where
+    front : List ℕ
+    rest : List ℕ
+    parts : text ≡ front ++ rest
+    long : lexeme_length text ≡ length front
+    fills : written (v ∷ values) text ≡ front ++ written (v ∷ values) rest
+    written_long : lexeme_length (written (v ∷ values) text) ≡ length front
+    holds : marks text ≡ marks rest
+
+  -- The same of the characters behind a quote mark.
+  record KeepsText (cs : List ℕ) : Type 0 where
+    front : List ℕ
+    rest : List ℕ
+    parts : cs ≡ front ++ rest
+    long : text_length cs ≡ length front
+    fills : written_within true (v ∷ values) cs ≡ front ++ written (v ∷ values) rest
+    written_long : text_length (written_within true (v ∷ values) cs) ≡ length front
+    holds : marks_within true cs ≡ marks rest
+
+  -- a character of a text, outside of its marks
+  quoted-at : (c : ℕ) (cs : List ℕ) (b : Bool) → (c == 39) ≡ false → (c == 63) ≡ b
+      → (written_within true (v ∷ values) (c ∷ cs) ≡ c ∷ written_within true (v ∷ values) cs) × (marks_within true (c ∷ cs) ≡ marks_within true cs)
+  quoted-at c cs true plain e = (rw (plain, e) refl, rw (plain, e) refl)
+  quoted-at c cs false plain e = (rw (plain, e) refl, rw (plain, e) refl)
+
+  keeps-other : (c : ℕ) (cs : List ℕ) → (c == 39) ≡ false → KeepsText cs → KeepsText (c ∷ cs)
+  keeps-other c cs plain k =
+      let (step, same) = quoted-at c cs (c == 63) plain refl in
+      record {
+        front = c ∷ k.front;
+        rest = k.rest;
+        parts = ap (λ l. c ∷ l) k.parts;
+        long = text_length-plain c cs plain ∙ (ap (λ n. 1 + n) k.long ∙ one_more (length k.front));
+        fills = step ∙ ap (λ l. c ∷ l) k.fills;
+        written_long = ap text_length step
+            ∙ (text_length-plain c (written_within true (v ∷ values) cs) plain ∙ (ap (λ n. 1 + n) k.written_long ∙ one_more (length k.front)));
+        holds = same ∙ k.holds;
+      }
+
+  keeps-none : KeepsText []
+  keeps-none = record { front = []; rest = []; parts = refl; long = refl; fills = refl; written_long = refl; holds = refl }
+
+  keeps-one : (c : ℕ) (a : Bool) → (c == 39) ≡ a → KeepsText (c ∷ [])
+  keeps-one c true e = record { front = c ∷ []; rest = []; parts = refl; long = refl; fills = rw e refl; written_long = rw e refl; holds = rw e refl }
+  keeps-one c false e = keeps-other c [] e keeps-none
+
+  keeps-two : (cs : List ℕ) → KeepsText cs → KeepsText (39 ∷ 39 ∷ cs)
+  keeps-two cs k = record {
+    front = 39 ∷ 39 ∷ k.front;
+    rest = k.rest;
+    parts = ap (λ l. 39 ∷ 39 ∷ l) k.parts;
+    long = ap (λ n. 2 + n) k.long ∙ two_more (length k.front);
+    fills = ap (λ l. 39 ∷ 39 ∷ l) k.fills;
+    written_long = ap (λ n. 2 + n) k.written_long ∙ two_more (length k.front);
+    holds = k.holds;
+  }
+
+  keeps-end : (d : ℕ) (cs : List ℕ) → (d == 39) ≡ false → KeepsText (39 ∷ d ∷ cs)
+  keeps-end d cs plain = record {
+    front = 39 ∷ [];
+    rest = d ∷ cs;
+    parts = refl;
+    long = rw plain refl;
+    fills = refl;
+    written_long = ends-first d (written (v ∷ values) (d ∷ cs)) plain (written-first d cs);
+    holds = refl;
+  }
+
+  keeps-mark : (d : ℕ) (cs : List ℕ) (b : Bool) → (d == 39) ≡ b → KeepsText cs → KeepsText (39 ∷ d ∷ cs)
+  keeps-mark d cs true e k = subst (λ n. KeepsText (39 ∷ n ∷ cs)) (sym (eqb-true d 39 e)) (keeps-two cs k)
+  keeps-mark d cs false e k = keeps-end d cs e
+
+  keeps-either : (c d : ℕ) (cs : List ℕ) (b : Bool) → (c == 39) ≡ b → KeepsText cs → KeepsText (d ∷ cs) → KeepsText (c ∷ d ∷ cs)
+  keeps-either c d cs true e two one = subst (λ n. KeepsText (n ∷ d ∷ cs)) (sym (eqb-true c 39 e)) (keeps-mark d cs (d == 39) refl two)
+  keeps-either c d cs false e two one = keeps-other c (d ∷ cs) e one
+
+  keeps-text : (cs : List ℕ) → KeepsText cs
+  keeps-text [] = keeps-none
+  keeps-text (c ∷ []) = keeps-one c (c == 39) refl
+  keeps-text (c ∷ d ∷ cs) = keeps-either c d cs (c == 39) refl (keeps-text cs) (keeps-text (d ∷ cs))
+
+  -- a text's literal, or what begins as one
+  keeps-quoted : (cs : List ℕ) → Keeps (39 ∷ cs)
+  keeps-quoted cs =
+      let k : KeepsText cs = keeps-text cs in
+      record {
+        front = 39 ∷ k.front;
+        rest = k.rest;
+        parts = ap (λ l. 39 ∷ l) k.parts;
+        long = ap (λ n. 1 + n) k.long ∙ one_more (length k.front);
+        fills = ap (λ l. 39 ∷ l) k.fills;
+        written_long = ap (λ n. 1 + n) k.written_long ∙ one_more (length k.front);
+        holds = k.holds;
+      }
+
+  -- Plain characters that are the first symbol, of the text and of the written one.
+  keeps-plain : (front rest : List ℕ) → ArePlain front → lexeme_length (front ++ rest) ≡ length front
+      → lexeme_length (front ++ written (v ∷ values) rest) ≡ length front → Keeps (front ++ rest)
+  keeps-plain front rest plain long written_long = record {
+    front = front;
+    rest = rest;
+    parts = refl;
+    long = long;
+    fills = plain-written front rest plain;
+    written_long = ap lexeme_length (plain-written front rest plain) ∙ written_long;
+    holds = plain-marks front rest plain;
+  }
+
+  keeps-run : (c : ℕ) (cs : List ℕ) → begins_run c ≡ true → Keeps (c ∷ cs)
+  keeps-run c cs run =
+      let n : ℕ = prefix_len is_word_character cs in
+      let passes : AllPass is_word_character (take n cs) = front-passes is_word_character cs in
+      let stops : StopsBefore is_word_character (drop n cs) = rest-stops is_word_character cs in
+      subst (λ l. Keeps (c ∷ l)) (take-append-drop n cs)
+      (keeps-plain (c ∷ take n cs) (drop n cs) (run-plain c run, pass-plain is_word_character word-plain (take n cs) passes)
+      (run-long c _ _ run passes stops) (run-long c _ _ run passes (written-stops is_word_character refl (drop n cs) stops)))
+
+  -- an operator or another sign
+  keeps-single : (c : ℕ) (cs : List ℕ) → begins_run c ≡ false → IsPlain c
+      → operator_length c cs ≡ 0 → operator_length c (written (v ∷ values) cs) ≡ 0 → Keeps (c ∷ cs)
+  keeps-single c cs run plain short written_short =
+      keeps-plain (c ∷ []) cs (plain, tt) (rw (run, plain.0, short) refl) (rw (run, plain.0, written_short) refl)
+
+  keeps-next : (c d : ℕ) (cs : List ℕ) (b : Bool) → begins_run c ≡ false → IsPlain c → is_operator c d ≡ b → Keeps (c ∷ d ∷ cs)
+  keeps-next c d cs true run plain e =
+      keeps-plain (c ∷ d ∷ []) cs (plain, (operator-plain c d e, tt)) (rw (run, plain.0, e) refl) (rw (run, plain.0, e) refl)
+  keeps-next c d cs false run plain e =
+      keeps-single c (d ∷ cs) run plain (rw e refl) (operator-first c d (written (v ∷ values) (d ∷ cs)) e (written-first d cs))
+
+  keeps-sign : (c : ℕ) (cs : List ℕ) → begins_run c ≡ false → IsPlain c → Keeps (c ∷ cs)
+  keeps-sign c [] run plain = keeps-single c [] run plain refl refl
+  keeps-sign c (d ∷ cs) run plain = keeps-next c d cs (is_operator c d) run plain refl
+
+  keeps-by : (c : ℕ) (cs : List ℕ) (a b : Bool) → begins_run c ≡ a → (c == 39) ≡ b → (c == 63) ≡ false → Keeps (c ∷ cs)
+  keeps-by c cs true b run e f = keeps-run c cs run
+  keeps-by c cs false true run e f = subst (λ n. Keeps (n ∷ cs)) (sym (eqb-true c 39 e)) (keeps-quoted cs)
+  keeps-by c cs false false run e f = keeps-sign c cs run (e, f)
+
+  keeps : (c : ℕ) (cs : List ℕ) → (c == 63) ≡ false → Keeps (c ∷ cs)
+  keeps c cs other = keeps-by c cs (begins_run c) (c == 39) refl refl other
 
 -- ---- a line's first symbol, and what is behind it
-
-text-lexeme : (blanks text : List ℕ) → AreBlanks blanks → StopsBefore is_blank text → behind_blanks (blanks ++ text) ≡ text
-text-lexeme blanks text are stops = rw (prefix_len-front is_blank blanks text are stops, drop-append_seam) refl
-
-pub front-lexeme : (blanks front rest : List ℕ) → AreBlanks blanks → StopsBefore is_blank (front ++ rest)
-    → lexeme_length (front ++ rest) ≡ length front
-    → (lexeme (blanks ++ (front ++ rest)) ≡ front) × (after_lexeme (blanks ++ (front ++ rest)) ≡ rest)
-unfolding lexeme after_lexeme
-front-lexeme blanks front rest are stops long =
-    let text : behind_blanks (blanks ++ (front ++ rest)) ≡ front ++ rest = text-lexeme blanks (front ++ rest) are stops in
-    (rw (text, long, take-append_seam) refl, rw (text, long, drop-append_seam) refl)
 
 -- The first symbol of the line is no question mark, and stands in the written line too, with the rest, written, behind it.
 pub record KeepsLine (values : List Value) (line : List ℕ) : Type 0 where
@@ -314,7 +260,7 @@ blanks-marks blanks are = ap marks (sym (append-nil blanks)) ∙ plain-marks bla
 empty-keeps : (v : Value) (values : List Value) (blanks : List ℕ) → AreBlanks blanks → KeepsLine (v ∷ values) (blanks ++ [])
 empty-keeps v values blanks are =
     let same : written (v ∷ values) (blanks ++ []) ≡ blanks ++ [] = plain-written v values blanks [] (blanks-plain blanks are) in
-    let front = front-lexeme blanks [] [] are tt refl in
+    let front = lexeme-front blanks [] [] are tt refl in
     record {
       same = ap lexeme same;
       rest = ap after_lexeme same ∙ (front.1 ∙ ap (written (v ∷ values)) (sym front.1));
@@ -334,8 +280,8 @@ other-keeps v values blanks c cs are stops other =
     let filled : written (v ∷ values) (blanks ++ c ∷ cs) ≡ blanks ++ (k.front ++ w) =
     plain-written v values blanks (c ∷ cs) (blanks-plain blanks are) ∙ ap (λ l. blanks ++ l) k.fills in
     let whole : blanks ++ c ∷ cs ≡ blanks ++ (k.front ++ k.rest) = ap (λ l. blanks ++ l) k.parts in
-    let here = front-lexeme blanks k.front k.rest are (subst (StopsBefore is_blank) k.parts stops) (ap lexeme_length (sym k.parts) ∙ k.long) in
-    let there = front-lexeme blanks k.front w are (subst (StopsBefore is_blank) k.fills (stays-stopped v values c cs (c == 39) refl other stops))
+    let here = lexeme-front blanks k.front k.rest are (subst (StopsBefore is_blank) k.parts stops) (ap lexeme_length (sym k.parts) ∙ k.long) in
+    let there = lexeme-front blanks k.front w are (subst (StopsBefore is_blank) k.fills (stays-stopped v values c cs (c == 39) refl other stops))
     (ap lexeme_length (sym k.fills) ∙ k.written_long) in
     let behind : after_lexeme (blanks ++ c ∷ cs) ≡ k.rest = ap after_lexeme whole ∙ here.1 in
     record {
@@ -350,7 +296,7 @@ mark-length (d ∷ cs) = refl
 
 mark-takes : (blanks cs : List ℕ) → AreBlanks blanks → (lexeme (blanks ++ 63 ∷ cs) ≡ codes "?") × TakesNext (blanks ++ 63 ∷ cs)
 mark-takes blanks cs are =
-    let front = front-lexeme blanks (63 ∷ []) cs are refl (mark-length cs) in (
+    let front = lexeme-front blanks (63 ∷ []) cs are refl (mark-length cs) in (
       front.0,
       record {
         blanks = blanks;
@@ -370,7 +316,7 @@ first-character : (blanks : List ℕ) (c : ℕ) (cs : List ℕ) → AreBlanks bl
     → lexeme (blanks ++ c ∷ cs) ≡ c ∷ take (length_behind c cs) cs
 unfolding lexeme
 first-character blanks c cs are stops =
-    let text : behind_blanks (blanks ++ c ∷ cs) ≡ c ∷ cs = text-lexeme blanks (c ∷ cs) are stops in
+    let text : behind_blanks (blanks ++ c ∷ cs) ≡ c ∷ cs = behind_blanks-front blanks (c ∷ cs) are stops in
     rw (text, one_more) refl
 
 by-first : (blanks : List ℕ) (c : ℕ) (cs : List ℕ) (b : Bool) → AreBlanks blanks → is_blank c ≡ false → (c == 63) ≡ b
@@ -386,7 +332,7 @@ by-first blanks c cs false are stops e = IsOther (λ is. eqb-false c 63 e (same-
 
 by-text : (blanks text : List ℕ) → AreBlanks blanks → StopsBefore is_blank text → FirstSymbol (blanks ++ text)
 by-text blanks [] are stops =
-    let front = front-lexeme blanks [] [] are tt refl in
+    let front = lexeme-front blanks [] [] are tt refl in
     IsOther (λ is. let both : [] ≡ 63 ∷ [] = sym front.0 ∙ is in cc) (λ v values. empty-keeps v values blanks are)
 by-text blanks (c ∷ cs) are stops = by-first blanks c cs (c == 63) are stops refl
 
@@ -396,10 +342,6 @@ first-symbol line =
     (by-text (take (prefix_len is_blank line) line) (behind_blanks line) (front-passes is_blank line) (rest-stops is_blank line))
 
 -- ---- any values
-
-pub written-none : (line : List ℕ) → written [] line ≡ line
-written-none [] = refl
-written-none (c ∷ cs) = refl
 
 pub keeps-line : (values : List Value) (line : List ℕ) → ((v : Value) (values : List Value) → KeepsLine (v ∷ values) line) → KeepsLine values line
 keeps-line [] line each = record {

@@ -10,8 +10,6 @@ use Rattle.plain_statements.specs.declared.statement.SlotCond.{SlotCond}
 use Rattle.plain_statements.specs.declared.statement.Statement.{Statement}
 use Rattle.plain_statements.specs.declared.statement.Statement.TheVariants as statement
 use Rattle.plain_statements.specs.StatementSpelling.{holes_of}
-use Rattle.mm_lang.specs.declared.statements.StatementWord.{StatementWord}
-use Rattle.mm_lang.specs.declared.statements.StatementWord.TheVariants as word
 use Rattle.mm_lang.specs.Parsing.{IsWhole, NameSomething, assigned_symbols, compared_symbols, where_of, from_of}
 
 -- ---- slots, and what has one
@@ -34,13 +32,6 @@ abbrev pub condition_by : (Slot → Symbol) → SlotCond → List Symbol
 condition_by f c = compared_symbols (slot_by f) (c.column, c.op, c.slot)
 
 -- ---- statements
-
--- the letters of a word
-abbrev pub statement_letters : StatementWord → List ℕ
-statement_letters word.Delete = codes "delete"
-statement_letters word.Insert = codes "insert"
-statement_letters word.Select = codes "select"
-statement_letters word.Update = codes "update"
 
 -- the word that a statement begins with
 abbrev pub word_of : Statement → List ℕ

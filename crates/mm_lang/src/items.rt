@@ -9,11 +9,11 @@ ghost use Rattle.mm_lang.specs.Printing.{IsFree, joined, kind_symbols-free, colu
 
 use crate::ParseRefusal;
 use crate::lexemes::split_lexeme;
-use crate::numbers::{integer, push_integer};
+use crate::numbers::push_integer;
 use crate::sink::Sink;
 use crate::symbols::{after, expect, name, operator};
 use crate::texts::{push_text, text};
-use plain_tables::{ColKind, ColName, Column, Cond, NoMemory, Op, Setting, Text, Value};
+use plain_tables::{ColKind, ColName, Column, Cond, NoMemory, Op, Setting, Text, Value, integer};
 use std::alloc::Global;
 
 /// What a line can have a list of.

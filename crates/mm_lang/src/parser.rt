@@ -37,8 +37,8 @@ pub(crate) enum CommandWord {
     Update,
 }
 
-// The word of a command that these characters are.
-fn command_word(characters: &[u8]) -> Option<CommandWord>
+/// The word of a command that these characters are.
+pub(crate) fn command_word(characters: &[u8]) -> Option<CommandWord>
     ensures { MatchOption result ((w : Word) → characters.now ≢ letters w) (λ w. characters.now ≡ letters w) }
 {
     match characters {

@@ -1,52 +1,33 @@
 //! Statements: the commands on rows, with a `?` where a value may stand.
 
-ghost use Rattle.std.specs.Prelude.{◌≡◌, ◌≢◌, codes, IfOk, IsErrOf, MatchOption};
+ghost use Rattle.std.specs.Prelude.{◌≡◌, ◌≢◌, codes, IfOk, IsErrOf};
 ghost use Rattle.plain_statements.specs.declared.statement.Statement.{Statement};
 ghost use Rattle.plain_statements.specs.StatementSpelling.{SpellsStatement};
-ghost use Rattle.mm_lang.specs.declared.statements.StatementWord.{StatementWord as Word};
+ghost use Rattle.mm_lang.specs.Words.{letters};
 ghost use Rattle.mm_lang.specs.Parsing.{IsOfText};
-ghost use Rattle.mm_lang.specs.Statements.{IsStatement, CompletesStatement, statement_letters};
+ghost use Rattle.mm_lang.specs.Statements.{IsStatement, CompletesStatement};
 
 use crate::ParseRefusal;
 use crate::line::Line;
-use crate::parser::{SelectParts, delete_parts, name_and_list, select_parts, update_parts};
+use crate::parser::{
+    CommandWord, SelectParts, command_word, delete_parts, name_and_list, select_parts, update_parts,
+};
 use crate::slots::number_holes;
 use plain_statements::{Slot, SlotCond, SlotSetting, Statement};
 use plain_tables::{Sequence, Text};
 use std::alloc::Global;
 
-/// The word that a statement begins with.
-#[derive(Clone, Copy)]
-pub(crate) enum StatementWord {
-    Delete,
-    Insert,
-    Select,
-    Update,
-}
-
-// The word of a statement that these characters are.
-fn statement_word(characters: &[u8]) -> Option<StatementWord>
-    ensures { MatchOption result ((w : Word) → characters.now ≢ statement_letters w) (λ w. characters.now ≡ statement_letters w) }
-{
-    match characters {
-        b"insert" => Some(StatementWord::Insert),
-        b"select" => Some(StatementWord::Select),
-        b"update" => Some(StatementWord::Update),
-        b"delete" => Some(StatementWord::Delete),
-        _ => None,
-    }
-}
-
-// The statement that begins with a word, of which this is the rest.
-fn statement(alloc: Global, word: StatementWord, rest: &[u8]) -> Result<Statement, ParseRefusal>
-    ensures statement { IfOk result (CompletesStatement (statement_letters word) rest.now) }
-    ensures syntax { IsErrOf result ParseRefusal.Syntax → IsOfText rest.now → (s : Statement) → IsStatement (statement_letters word) rest.now s → ⊥ }
+// The statement that begins with a word, of which this is the rest. Some words begin commands alone.
+fn statement(alloc: Global, word: CommandWord, rest: &[u8]) -> Result<Statement, ParseRefusal>
+    ensures statement { IfOk result (CompletesStatement (letters word) rest.now) }
+    ensures syntax { IsErrOf result ParseRefusal.Syntax → IsOfText rest.now → (s : Statement) → IsStatement (letters word) rest.now s → ⊥ }
 {
     match word {
-        StatementWord::Delete => delete(alloc, rest),
-        StatementWord::Insert => insert(alloc, rest),
-        StatementWord::Select => select(alloc, rest),
-        StatementWord::Update => update(alloc, rest),
+        CommandWord::Delete => delete(alloc, rest),
+        CommandWord::Insert => insert(alloc, rest),
+        CommandWord::Select => select(alloc, rest),
+        CommandWord::Update => update(alloc, rest),
+        _ => Err(ParseRefusal::Syntax),
     }
 }
 
@@ -57,7 +38,7 @@ pub fn parse_statement(alloc: Global, line: &Line<'_>) -> Result<Statement, Pars
     ensures statement { IfOk result (λ s. SpellsStatement line.now s) }
     ensures syntax { IsErrOf result ParseRefusal.Syntax → (s : Statement) → SpellsStatement line.now s → ⊥ }
 {
-    let Some(word) = statement_word(line.word()) else {
+    let Some(word) = command_word(line.word()) else {
         return Err(ParseRefusal::Syntax);
     };
     statement(alloc, word, line.rest())

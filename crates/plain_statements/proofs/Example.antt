@@ -2,28 +2,18 @@
 use Rattle.std.proofs.Common.{◌≡◌, ℕ, List, [], ◌∷◌, ◌++◌, length, refl, sym, ap, subst, append_assoc, arith}
 use Rattle.std.specs.List.{AllByRecursion}
 use lib.Chars.{codes}
-use Rattle.plain_tables.specs.Spelling.{Symbol, Keyword, Name, Literal, Sign, Open, Close, Comma, IsSymbol, EndsBefore, IsMadeOf, symbol_text, IsSpellableValue, Spells}
+use Rattle.plain_tables.specs.Spelling.{Symbol, Keyword, Name, Literal, Sign, Open, Close, Comma, IsMadeOf, symbol_text, IsSpellableValue, Spells}
 use Rattle.plain_tables.specs.declared.value.Value.{Value}
 use Rattle.plain_tables.specs.declared.value.Value.TheVariants as value
 use Rattle.plain_tables.specs.declared.command.Command.{Command}
 use Rattle.plain_tables.specs.declared.command.Command.TheVariants as command
-use Rattle.plain_tables.proofs.Canonical.{integer-text}
+use Rattle.plain_tables.proofs.Canonical.{symbol-text, blank-ends}
 use Rattle.plain_tables.proofs.LineFeeds.{contains-feed}
 use Rattle.plain_tables.proofs.WellFormed.{made-no_line_feed}
 use Rattle.plain_statements.specs.declared.statement.Slot.TheVariants.{Given, Hole}
 use Rattle.plain_statements.specs.declared.statement.Statement.TheVariants as statement
 use Rattle.plain_statements.specs.Filling.{filled}
 use Rattle.plain_statements.specs.StatementSpelling.{written, QuestionMarksAreHoles}
-
-literal-text : (v : Value) → IsSpellableValue v → IsSymbol (symbol_text (Literal v)) (Literal v)
-literal-text value.Null can = refl
-literal-text (value.Int z) can = integer-text z can
-literal-text (value.Text text) can = refl
-
-literal-ends : (v : Value) (rest : List ℕ) → EndsBefore (Literal v) (32 ∷ rest)
-literal-ends value.Null rest = refl
-literal-ends (value.Int z) rest = refl
-literal-ends (value.Text text) rest = refl
 
 -- the line's symbols, from the last one to the first
 abbrev behind_hole : List Symbol
@@ -40,7 +30,7 @@ comma-made = (32 ∷ [], codes ",", codes " 'a?b')", (refl, tt), refl, refl, tex
 
 hole-made : (v : Value) → IsSpellableValue v → IsMadeOf (32 ∷ symbol_text (Literal v) ++ codes " , 'a?b')") (Literal v ∷ behind_hole)
 hole-made v can =
-    (32 ∷ [], symbol_text (Literal v), codes " , 'a?b')", (refl, tt), literal-text v can, literal-ends v (codes ", 'a?b')"), comma-made, refl)
+    (32 ∷ [], symbol_text (Literal v), codes " , 'a?b')", (refl, tt), symbol-text (Literal v) can, blank-ends (Literal v) (codes ", 'a?b')"), comma-made, refl)
 
 abbrev row_line : Value → List ℕ
 row_line v = 32 ∷ symbol_text (Literal v) ++ codes " , 'a?b')"

@@ -1,14 +1,17 @@
 -- Holes: two fillings of a statement tell which values it has, and where its holes are.
-use Rattle.std.proofs.Common.{◌≡◌, Bool, ℕ, zero, suc, ◌+◌, ◌<◌, List, [], ◌∷◌, map, length, refl, sym, ap, ◌∙◌, arith}
+use Rattle.std.proofs.Common.{◌≡◌, Bool, false, ℕ, zero, suc, ◌+◌, ◌<◌, List, [], ◌∷◌, map, length, refl, sym, ap, ◌∙◌, arith}
 use Rattle.std.specs.List.{AllByRecursion, flat_map, range_with_len}
 use Rattle.std.proofs.lemmas.List.FromFn.{get_or-map-range_with_len}
 use Rattle.plain_tables.specs.Spelling.{AreBlanks, is_blank, IsSpellableValue}
+use Rattle.plain_tables.specs.CommandLaws.{table_of}
 use Rattle.plain_tables.specs.declared.value.Value.{Value}
 use Rattle.plain_tables.specs.declared.value.Value.TheVariants as value
 use Rattle.plain_tables.specs.declared.condition.Cond.{Cond}
 use Rattle.plain_tables.specs.declared.command.Setting.{Setting}
 use Rattle.plain_tables.specs.declared.command.Join.{Join}
 use Rattle.plain_tables.specs.declared.command.Items.{Items}
+use Rattle.plain_tables.specs.declared.command.Items.TheVariants as items
+use Rattle.plain_tables.specs.declared.command.Command.{Command}
 use Rattle.plain_tables.specs.declared.command.Command.TheVariants as command
 use Rattle.plain_tables.proofs.FirstWords.{different, first_word}
 use Rattle.plain_tables.proofs.LineFeeds.{contains-feed, passing-no_feed}
@@ -49,6 +52,12 @@ text_at-spellable n = contains-feed (blanks n) (passing-no_feed is_blank refl (b
 abbrev pub values_by : (ℕ → Value) → ℕ → List Value
 values_by f m = map f (range_with_len 0 m)
 
+abbrev pub nulls : ℕ → List Value
+nulls m = values_by null_at m
+
+abbrev pub texts : ℕ → List Value
+texts m = values_by text_at m
+
 pub all-spellable : (f : ℕ → Value) → ((n : ℕ) → IsSpellableValue (f n)) → (a n : ℕ) → AllByRecursion IsSpellableValue (map f (range_with_len a n))
 all-spellable f each a zero = tt
 all-spellable f each a (suc n) = (each a, all-spellable f each (a + 1) n)
@@ -84,8 +93,8 @@ below-of_map m slot (x ∷ xs) all = (all.0, below-of_map m slot xs all.1)
 hole-value : (f : ℕ → Value) (m n : ℕ) → n < m → slot_value (values_by f m) (Hole n) ≡ f n
 hole-value f m n below = get_or-map-range_with_len f 0 m n n value.Null below (omega arith)
 
-slot-one : (m : ℕ) (x y : Slot) → IsBelow m x → IsBelow m y → slot_value (values_by null_at m) x ≡ slot_value (values_by null_at m) y
-    → slot_value (values_by text_at m) x ≡ slot_value (values_by text_at m) y → x ≡ y
+slot-one : (m : ℕ) (x y : Slot) → IsBelow m x → IsBelow m y → slot_value (nulls m) x ≡ slot_value (nulls m) y
+    → slot_value (texts m) x ≡ slot_value (texts m) y → x ≡ y
 slot-one m (Given v) (Given w) p q d e = ap Given d
 slot-one m (Given v) (Hole n) p q d e =
     let null : v ≡ value.Null = d ∙ hole-value null_at m n q in
@@ -101,15 +110,15 @@ slot-one m (Hole j) (Hole k) p q d e =
     ap Hole (sym (length-blanks j) ∙ (ap length same ∙ length-blanks k))
 
 setting-one : (m : ℕ) (x y : SlotSetting) → IsBelow m x.slot → IsBelow m y.slot
-    → filled_setting (values_by null_at m) x ≡ filled_setting (values_by null_at m) y
-    → filled_setting (values_by text_at m) x ≡ filled_setting (values_by text_at m) y → x ≡ y
+    → filled_setting (nulls m) x ≡ filled_setting (nulls m) y
+    → filled_setting (texts m) x ≡ filled_setting (texts m) y → x ≡ y
 setting-one m x y p q d e =
     let slots : x.slot ≡ y.slot = slot-one m x.slot y.slot p q (ap (λ s. s.value) d) (ap (λ s. s.value) e) in
     λ i. record { column = (d i).column; slot = slots i }
 
 condition-one : (m : ℕ) (x y : SlotCond) → IsBelow m x.slot → IsBelow m y.slot
-    → filled_condition (values_by null_at m) x ≡ filled_condition (values_by null_at m) y
-    → filled_condition (values_by text_at m) x ≡ filled_condition (values_by text_at m) y → x ≡ y
+    → filled_condition (nulls m) x ≡ filled_condition (nulls m) y
+    → filled_condition (texts m) x ≡ filled_condition (texts m) y → x ≡ y
 condition-one m x y p q d e =
     let slots : x.slot ≡ y.slot = slot-one m x.slot y.slot p q (ap (λ c. c.value) d) (ap (λ c. c.value) e) in
     λ i. record { column = (d i).column; op = (d i).op; slot = slots i }
@@ -131,64 +140,51 @@ lists-one f g P one (x ∷ xs) (y ∷ ys) p q d e =
     λ i. head i ∷ tail i
 
 conditions-one : (m : ℕ) (cs ds : List SlotCond) → AreBelow m (map (λ c. c.slot) cs) → AreBelow m (map (λ c. c.slot) ds)
-    → map (filled_condition (values_by null_at m)) cs ≡ map (filled_condition (values_by null_at m)) ds
-    → map (filled_condition (values_by text_at m)) cs ≡ map (filled_condition (values_by text_at m)) ds → cs ≡ ds
+    → map (filled_condition (nulls m)) cs ≡ map (filled_condition (nulls m)) ds
+    → map (filled_condition (texts m)) cs ≡ map (filled_condition (texts m)) ds → cs ≡ ds
 conditions-one m cs ds p q d e =
-    lists-one (filled_condition (values_by null_at m)) (filled_condition (values_by text_at m)) (λ c. IsBelow m c.slot) (condition-one m) cs ds
+    lists-one (filled_condition (nulls m)) (filled_condition (texts m)) (λ c. IsBelow m c.slot) (condition-one m) cs ds
     (below-of_map m (λ c. c.slot) cs p) (below-of_map m (λ c. c.slot) ds q) d e
 
 -- ---- statements
 
-abbrev nulls : ℕ → List Value
-nulls m = values_by null_at m
+-- the parts of a command that another one lacks
+abbrev row_of : Command → List Value
+row_of (command.Insert table row) = row
+row_of other = []
 
-abbrev texts : ℕ → List Value
-texts m = values_by text_at m
+abbrev settings_of : Command → List Setting
+settings_of (command.Update table settings conditions) = settings
+settings_of other = []
 
-insert-parts : (a b : List ℕ) (xs ys : List Value) → command.Insert a xs ≡ command.Insert b ys → (a ≡ b) × (xs ≡ ys)
-insert-parts a b xs ys e = (cc, cc)
+abbrev conditions_of : Command → List Cond
+conditions_of (command.Update table settings conditions) = conditions
+conditions_of (command.Delete table conditions) = conditions
+conditions_of (command.Select distinct its table joins conditions) = conditions
+conditions_of other = []
 
-update-parts : (a b : List ℕ) (ss ts : List Setting) (cs ds : List Cond) → command.Update a ss cs ≡ command.Update b ts ds
-    → (a ≡ b) × (ss ≡ ts) × (cs ≡ ds)
-update-parts a b ss ts cs ds e = (cc, cc, cc)
-
-delete-parts : (a b : List ℕ) (cs ds : List Cond) → command.Delete a cs ≡ command.Delete b ds → (a ≡ b) × (cs ≡ ds)
-delete-parts a b cs ds e = (cc, cc)
-
-select-parts : (b d : Bool) (x y : Items) (a t : List ℕ) (js ks : List Join) (cs ds : List Cond)
-    → command.Select b x a js cs ≡ command.Select d y t ks ds → (b ≡ d) × (x ≡ y) × (a ≡ t) × (js ≡ ks) × (cs ≡ ds)
-select-parts b d x y a t js ks cs ds e = (cc, cc, cc, cc, cc)
+abbrev select_of : Command → Bool × Items × List Join
+select_of (command.Select distinct its table joins conditions) = (distinct, its, joins)
+select_of other = (false, items.All, [])
 
 below-one : (m : ℕ) (s t : Statement) → AreBelow m (slots_of s) → AreBelow m (slots_of t) → filled (nulls m) s ≡ filled (nulls m) t
     → filled (texts m) s ≡ filled (texts m) t → s ≡ t
 below-one m (statement.Insert a xs) (statement.Insert b ys) p q d e =
-    let first = insert-parts a b (map (slot_value (nulls m)) xs) (map (slot_value (nulls m)) ys) d in
-    let second = insert-parts a b (map (slot_value (texts m)) xs) (map (slot_value (texts m)) ys) e in
-    let slots : xs ≡ ys = lists-one (slot_value (nulls m)) (slot_value (texts m)) (IsBelow m) (slot-one m) xs ys p q first.1 second.1 in
-    λ i. statement.Insert (first.0 i) (slots i)
+    let slots : xs ≡ ys = lists-one (slot_value (nulls m)) (slot_value (texts m)) (IsBelow m) (slot-one m) xs ys p q (ap row_of d) (ap row_of e) in
+    λ i. statement.Insert (table_of (d i)) (slots i)
 below-one m (statement.Update a ss cs) (statement.Update b ts ds) p q d e =
-    let first = update-parts a b (map (filled_setting (nulls m)) ss) (map (filled_setting (nulls m)) ts)
-    (map (filled_condition (nulls m)) cs) (map (filled_condition (nulls m)) ds) d in
-    let second = update-parts a b (map (filled_setting (texts m)) ss) (map (filled_setting (texts m)) ts)
-    (map (filled_condition (texts m)) cs) (map (filled_condition (texts m)) ds) e in
-    let settings : ss ≡ ts =
-    lists-one (filled_setting (nulls m)) (filled_setting (texts m)) (λ s. IsBelow m s.slot) (setting-one m) ss ts
+    let settings = lists-one (filled_setting (nulls m)) (filled_setting (texts m)) (λ s. IsBelow m s.slot) (setting-one m) ss ts
     (below-of_map m (λ s. s.slot) ss (all-left (IsBelow m) (map (λ s. s.slot) ss) (map (λ c. c.slot) cs) p))
-    (below-of_map m (λ s. s.slot) ts (all-left (IsBelow m) (map (λ s. s.slot) ts) (map (λ c. c.slot) ds) q)) first.1 second.1 in
-    let conditions : cs ≡ ds =
-    conditions-one m cs ds (all-right (IsBelow m) (map (λ s. s.slot) ss) (map (λ c. c.slot) cs) p)
-    (all-right (IsBelow m) (map (λ s. s.slot) ts) (map (λ c. c.slot) ds) q) first.2 second.2 in
-    λ i. statement.Update (first.0 i) (settings i) (conditions i)
+    (below-of_map m (λ s. s.slot) ts (all-left (IsBelow m) (map (λ s. s.slot) ts) (map (λ c. c.slot) ds) q)) (ap settings_of d) (ap settings_of e) in
+    let conditions = conditions-one m cs ds (all-right (IsBelow m) (map (λ s. s.slot) ss) (map (λ c. c.slot) cs) p)
+    (all-right (IsBelow m) (map (λ s. s.slot) ts) (map (λ c. c.slot) ds) q) (ap conditions_of d) (ap conditions_of e) in
+    λ i. statement.Update (table_of (d i)) (settings i) (conditions i)
 below-one m (statement.Delete a cs) (statement.Delete b ds) p q d e =
-    let first = delete-parts a b (map (filled_condition (nulls m)) cs) (map (filled_condition (nulls m)) ds) d in
-    let second = delete-parts a b (map (filled_condition (texts m)) cs) (map (filled_condition (texts m)) ds) e in
-    let conditions : cs ≡ ds = conditions-one m cs ds p q first.1 second.1 in
-    λ i. statement.Delete (first.0 i) (conditions i)
+    let conditions : cs ≡ ds = conditions-one m cs ds p q (ap conditions_of d) (ap conditions_of e) in
+    λ i. statement.Delete (table_of (d i)) (conditions i)
 below-one m (statement.Select b x a js cs) (statement.Select b' x' a' ks ds) p q d e =
-    let first = select-parts b b' x x' a a' js ks (map (filled_condition (nulls m)) cs) (map (filled_condition (nulls m)) ds) d in
-    let second = select-parts b b' x x' a a' js ks (map (filled_condition (texts m)) cs) (map (filled_condition (texts m)) ds) e in
-    let conditions : cs ≡ ds = conditions-one m cs ds p q first.4 second.4 in
-    λ i. statement.Select (first.0 i) (first.1 i) (first.2 i) (first.3 i) (conditions i)
+    let conditions : cs ≡ ds = conditions-one m cs ds p q (ap conditions_of d) (ap conditions_of e) in
+    λ i. statement.Select (select_of (d i)).0 (select_of (d i)).1 (table_of (d i)) (select_of (d i)).2 (conditions i)
 below-one m s t p q d e =
     absurd (different (first_word (filled (nulls m) s)) (first_word (filled (nulls m) t)) refl (ap first_word d))
 

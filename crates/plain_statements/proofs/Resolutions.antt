@@ -7,6 +7,7 @@ use Rattle.std.specs.Str.{bytes_eq}
 use Rattle.std.proofs.lemmas.Bool.{cases_Bool, or_parts, not-false, eqb-true}
 use Rattle.std.proofs.lemmas.List.{length-map}
 use Rattle.std.proofs.lemmas.List.Folds.{list_any-append}
+use Rattle.std.proofs.Math.Bool.{or_assoc}
 use Rattle.plain_tables.specs.Values.{is_null}
 use Rattle.plain_tables.specs.Tables.{Table}
 use Rattle.plain_tables.specs.Databases.{Database, table_named}
@@ -96,15 +97,9 @@ unless-first (check ∷ checks) r =
 
 -- ---- given values, and those to come
 
-or-assoc : (a b c : Bool) → (a || (b || c)) ≡ ((a || b) || c)
-or-assoc true b c = refl
-or-assoc false b c = refl
-
 or-swap : (a b c : Bool) → (a || (b || c)) ≡ (b || (a || c))
 or-swap true true c = refl
-or-swap true false c = refl
-or-swap false true c = refl
-or-swap false false c = refl
+or-swap a b c = refl
 
 -- whether this holds of the value of a slot
 abbrev pub holds : (Value → Need → Bool) → List Value → Needed → Bool
@@ -116,7 +111,7 @@ pub holds-apart : (test : Value → Need → Bool) (values : List Value) (needs 
 holds-apart test values [] = refl
 holds-apart test values ((Given v, need) ∷ needs) =
     ap (λ b. test v need || b) (holds-apart test values needs)
-    ∙ or-assoc (test v need) (list_any (is_given test) needs) (list_any (comes test values) (wants_of needs))
+    ∙ sym (or_assoc (test v need) (list_any (is_given test) needs) (list_any (comes test values) (wants_of needs)))
 holds-apart test values ((Hole n, need) ∷ needs) =
     ap (λ b. test (hole_value values n) need || b) (holds-apart test values needs)
     ∙ or-swap (test (hole_value values n) need) (list_any (is_given test) needs) (list_any (comes test values) (wants_of needs))
@@ -131,11 +126,9 @@ checked_values values needs late r =
 sorted : (w p g : Bool) (late : List Check) (r : Resolved)
     → (if w then Err WrongType else if p then Err TextTooLong else unless (if g then Some TextTooLong else first_refusal late) r)
     ≡ (if w then Err WrongType else if g || p then Err TextTooLong else meaning late r)
-sorted true p g late r = refl
-sorted false true true late r = refl
-sorted false true false late r = refl
-sorted false false true late r = refl
 sorted false false false late r = unless-first late r
+sorted false true true late r = refl
+sorted w p g late r = refl
 
 -- where no given value is wrong, to finish a resolution is to check all values
 pub finished-checked : (values : List Value) (needs : List Needed) (late : List Check) (t : Template) → list_any (is_given is_wrong) needs ≡ false
@@ -164,20 +157,16 @@ not-or (Some b) v = refl
 
 null-wanted : (takes ordered : Bool) → (not takes || ordered) ≡ not (takes && not ordered)
 null-wanted true true = refl
-null-wanted true false = refl
-null-wanted false true = refl
-null-wanted false false = refl
+null-wanted takes ordered = refl
 
 compared : (tables : Database) (k : ColKind) (v : Value) (o : Op)
     → (not (is_typed tables v k) || (is_null v && asks_order o)) ≡ is_wrong v (compared_need tables k o)
 compared tables k value.Null o = null-wanted (takes_null k) (asks_order o)
-compared tables k (value.Int z) o = or_false (not (is_typed tables (value.Int z) k)) ∙ not-or (type_of tables k) (value.Int z)
-compared tables k (value.Text t) o = or_false (not (is_typed tables (value.Text t) k)) ∙ not-or (type_of tables k) (value.Text t)
+compared tables k v o = or_false (not (is_typed tables v k)) ∙ not-or (type_of tables k) v
 
 stored : (tables : Database) (k : ColKind) (v : Value) → not (is_typed tables v k) ≡ is_wrong v (stored_need tables k)
 stored tables k value.Null = refl
-stored tables k (value.Int z) = not-or (type_of tables k) (value.Int z)
-stored tables k (value.Text t) = not-or (type_of tables k) (value.Text t)
+stored tables k v = not-or (type_of tables k) v
 
 row-wrong : (values : List Value) (tables : Database) (columns : List Column) (slots : List Slot)
     → has_mistyped tables columns (map (slot_value values) slots) ≡ list_any (holds is_wrong values) (row_needs tables columns slots)
@@ -193,13 +182,6 @@ row-past values tables (c ∷ columns) [] same = refl
 row-past values tables (c ∷ columns) (s ∷ slots) same =
     ap (λ b. is_long (slot_value values s) || b)
     (row-past values tables columns slots (eq-eqb (length slots) (length columns) (let e = eqb-true (length (s ∷ slots)) (length (c ∷ columns)) same in omega (arith, e))))
-
--- a row's checks are those of its needs
-pub row-checked : (values : List Value) (tables : Database) (columns : List Column) (slots : List Slot) (r : Resolved) → (length slots == length columns) ≡ true
-    → (if has_mistyped tables columns (map (slot_value values) slots) then Err WrongType
-    else if list_any is_long (map (slot_value values) slots) then Err TextTooLong else Ok r)
-    ≡ checked_values values (row_needs tables columns slots) [] r
-row-checked values tables columns slots r same = rw (row-wrong values tables columns slots, row-past values tables columns slots same) refl
 
 -- a slot that is needed more, where its column is meant
 module _ (values : List Value) (slot : Slot) (need : JoinedColumn → Need) (found : Option JoinedColumn) (rest : List Needed) where
@@ -344,21 +326,17 @@ insert-filled : (values : List Value) (tables : Database) (n : TableNumber) (slo
     → meaning (insert_checks tables table (map (slot_value values) slots)) (resolved.Insert n (map (slot_value values) slots))
     ≡ settled values (insert_means tables n slots table)
 insert-filled values tables n slots table =
+    let opened = finished-opened values (insert_first table slots) [] (row_needs tables table.columns slots) (template.Insert n slots) in
     elim (cases_Bool (length slots == length table.columns)) [
       | inl t ↦
           rw (
-            finished-opened values (insert_first table slots) [] (row_needs tables table.columns slots) (template.Insert n slots),
+            opened,
             length-map slots (slot_value values),
             row-wrong values tables table.columns slots,
             row-past values tables table.columns slots t,
             t,
           ) refl
-      | inr f ↦
-          rw (
-            finished-opened values (insert_first table slots) [] (row_needs tables table.columns slots) (template.Insert n slots),
-            length-map slots (slot_value values),
-            f,
-          ) refl
+      | inr f ↦ rw (opened, length-map slots (slot_value values), f) refl
     ]
 
 -- what a delete means of its table
@@ -531,25 +509,16 @@ on-found values f g same None = refl
 on-found values f g same (Some t) = same t
 
 pub settles : (tables : Database) (s : Statement) (values : List Value) → resolved_of [] tables (filled values s) ≡ settled values (resolution_of tables s)
-settles tables (statement.Insert name slots) values =
-    on-found values _ (insert_means tables (number_of name tables) slots) (insert-filled values tables (number_of name tables) slots) (table_named name tables)
+settles tables (statement.Insert name slots) values = on-found values _ _ (insert-filled values tables _ slots) (table_named name tables)
 settles tables (statement.Update name settings conditions) values =
-    on-found values _ (update_means tables (number_of name tables) settings conditions) (update-filled values tables (number_of name tables) settings conditions) (table_named name tables)
-settles tables (statement.Delete name conditions) values =
-    on-found values _ (delete_means tables (number_of name tables) conditions) (delete-filled values tables (number_of name tables) conditions) (table_named name tables)
+    on-found values _ _ (update-filled values tables _ settings conditions) (table_named name tables)
+settles tables (statement.Delete name conditions) values = on-found values _ _ (delete-filled values tables _ conditions) (table_named name tables)
 settles tables (statement.Select distinct its name joins conditions) values = select-filled values tables distinct its name joins conditions
 
 matched : (tables : Database) (s : Statement) (m : Meant) → ((values : List Value) → resolved_of [] tables (filled values s) ≡ settled values m)
     → MatchResult m (Resolves tables s) (Refuses tables s)
 matched tables s (Ok r) is = is
 matched tables s (Err why) is = is
-
--- where the filled command comes to the checks of its values, the statement means what is opened
-pub opened-matches : (tables : Database) (s : Statement) (needs : List Needed) (late : List Check) (t : Template) (m : Meant) → m ≡ opened needs late t
-    → ((values : List Value) → resolved_of [] tables (filled values s) ≡ checked_values values needs late (filled_template values t))
-    → MatchResult m (Resolves tables s) (Refuses tables s)
-opened-matches tables s needs late t m is checked =
-    matched tables s m (λ values. checked values ∙ sym (settled-opened values needs late t) ∙ ap (settled values) (sym is))
 
 pub filled_is_finished : FilledIsFinished
 filled_is_finished tables s = (resolution_of tables s, matched tables s (resolution_of tables s) (settles tables s))

@@ -10,9 +10,7 @@ use Rattle.plain_statements.specs.Laws.{ResolutionStays}
 
 filled_is_on_rows : (values : List Value) (s : Statement) → is_on_indexes (filled values s) ≡ false
 filled_is_on_rows values (statement.Insert name slots) = refl
-filled_is_on_rows values (statement.Update name slots conds) = refl
-filled_is_on_rows values (statement.Delete name conds) = refl
-filled_is_on_rows values (statement.Select distinct its name joins conds) = refl
+filled_is_on_rows values other = refl
 
 pub resolution-stays : ResolutionStays
 resolution-stays tables others s r alike resolves values =

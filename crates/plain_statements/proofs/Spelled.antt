@@ -1,5 +1,6 @@
 -- Spelled: the laws of lines and statements.
-use Rattle.std.proofs.Common.{◌≡◌, ℕ, List, [], ◌∷◌, map, length, refl, sym, ap, ◌∙◌, subst, Some, arith}
+use Rattle.std.proofs.Common.{◌≡◌, ℕ, List, [], ◌∷◌, map, length, refl, sym, ap, ◌∙◌, subst, arith}
+use Rattle.std.specs.Prelude.{IfSome}
 use Rattle.std.specs.List.{AllByRecursion, flat_map, range_with_len}
 use Rattle.std.proofs.lemmas.List.FromFn.{length-map-range_with_len}
 use Rattle.plain_tables.specs.Spelling.{IsSpellableValue, Spells}
@@ -10,8 +11,6 @@ use Rattle.plain_tables.proofs.Separated.{all-append}
 use Rattle.plain_tables.proofs.Uniqueness.{spells-one}
 use Rattle.plain_statements.specs.declared.statement.Slot.{Slot}
 use Rattle.plain_statements.specs.declared.statement.Slot.TheVariants.{Given}
-use Rattle.plain_statements.specs.declared.statement.Statement.{Statement}
-use Rattle.plain_statements.specs.declared.statement.Statement.TheVariants as statement
 use Rattle.plain_statements.specs.Filling.{slot_value, filled_setting, filled_condition, filled}
 use Rattle.plain_statements.specs.StatementSpelling.{marks, written, numbers_of, slots_of, holes_of, given_setting, given_condition, given, SpellsAtMostOneStatement, CommandsAreStatements, StatementsWithoutMarks}
 use Rattle.plain_statements.proofs.Holes.{null_at, text_at, text_at-spellable, values_by, all-spellable, statements-one}
@@ -42,24 +41,14 @@ map-back : {X Y : Type 0} (f : Y → X) (g : X → Y) → ((x : X) → f (g x) �
 map-back f g back [] = refl
 map-back f g back (x ∷ xs) = rw (back x, map-back f g back xs) refl
 
-given-filled : (values : List Value) (c : Command) (s : Statement) → given c ≡ Some s → filled values s ≡ c
-given-filled values (command.Insert table row) s e =
-    let same : statement.Insert table (map Given row) ≡ s = cc in
-    subst (λ t. filled values t ≡ command.Insert table row) same
-    (rw (map-back (slot_value values) Given (λ v. refl) row) refl)
-given-filled values (command.Update table settings conditions) s e =
-    let same : statement.Update table (map given_setting settings) (map given_condition conditions) ≡ s = cc in
-    subst (λ t. filled values t ≡ command.Update table settings conditions) same
-    (rw (map-back (filled_setting values) given_setting (λ x. refl) settings, map-back (filled_condition values) given_condition (λ x. refl) conditions) refl)
-given-filled values (command.Delete table conditions) s e =
-    let same : statement.Delete table (map given_condition conditions) ≡ s = cc in
-    subst (λ t. filled values t ≡ command.Delete table conditions) same
-    (rw (map-back (filled_condition values) given_condition (λ x. refl) conditions) refl)
-given-filled values (command.Select distinct items table joins conditions) s e =
-    let same : statement.Select distinct items table joins (map given_condition conditions) ≡ s = cc in
-    subst (λ t. filled values t ≡ command.Select distinct items table joins conditions) same
-    (rw (map-back (filled_condition values) given_condition (λ x. refl) conditions) refl)
-given-filled values c s e = cc
+given-filled : (values : List Value) (c : Command) → IfSome (given c) (λ s. filled values s ≡ c)
+given-filled values (command.Insert table row) = rw (map-back (slot_value values) Given (λ v. refl) row) refl
+given-filled values (command.Update table settings conditions) =
+    rw (map-back (filled_setting values) given_setting (λ x. refl) settings, map-back (filled_condition values) given_condition (λ x. refl) conditions) refl
+given-filled values (command.Delete table conditions) = rw (map-back (filled_condition values) given_condition (λ x. refl) conditions) refl
+given-filled values (command.Select distinct items table joins conditions) =
+    rw (map-back (filled_condition values) given_condition (λ x. refl) conditions) refl
+given-filled values other = tt
 
 -- slots of which none is a hole
 abbrev AreGiven : List Slot → Type 0
@@ -78,34 +67,29 @@ slots-given : {X Y : Type 0} (slot : Y → Slot) (g : X → Y) → ((x : X) → 
 slots-given slot g each [] = tt
 slots-given slot g each (x ∷ xs) = (each x, slots-given slot g each xs)
 
-given-slots : (c : Command) (s : Statement) → given c ≡ Some s → AreGiven (slots_of s)
-given-slots (command.Insert table row) s e =
-    let same : statement.Insert table (map Given row) ≡ s = cc in
-    subst (λ t. AreGiven (slots_of t)) same (values-given row)
-given-slots (command.Update table settings conditions) s e =
-    let same : statement.Update table (map given_setting settings) (map given_condition conditions) ≡ s = cc in
-    subst (λ t. AreGiven (slots_of t)) same
-    (all-append (λ x. numbers_of x ≡ []) (map (λ x. x.slot) (map given_setting settings)) (map (λ x. x.slot) (map given_condition conditions))
-    (slots-given (λ x. x.slot) given_setting (λ x. refl) settings) (slots-given (λ x. x.slot) given_condition (λ x. refl) conditions))
-given-slots (command.Delete table conditions) s e =
-    let same : statement.Delete table (map given_condition conditions) ≡ s = cc in
-    subst (λ t. AreGiven (slots_of t)) same (slots-given (λ x. x.slot) given_condition (λ x. refl) conditions)
-given-slots (command.Select distinct items table joins conditions) s e =
-    let same : statement.Select distinct items table joins (map given_condition conditions) ≡ s = cc in
-    subst (λ t. AreGiven (slots_of t)) same (slots-given (λ x. x.slot) given_condition (λ x. refl) conditions)
-given-slots c s e = cc
+given-slots : (c : Command) → IfSome (given c) (λ s. AreGiven (slots_of s))
+given-slots (command.Insert table row) = values-given row
+given-slots (command.Update table settings conditions) =
+    all-append (λ x. numbers_of x ≡ []) (map (λ x. x.slot) (map given_setting settings)) (map (λ x. x.slot) (map given_condition conditions))
+    (slots-given (λ x. x.slot) given_setting (λ x. refl) settings) (slots-given (λ x. x.slot) given_condition (λ x. refl) conditions)
+given-slots (command.Delete table conditions) = slots-given (λ x. x.slot) given_condition (λ x. refl) conditions
+given-slots (command.Select distinct items table joins conditions) = slots-given (λ x. x.slot) given_condition (λ x. refl) conditions
+given-slots other = tt
 
 none-long : (values : List Value) → length values ≡ 0 → values ≡ []
 none-long [] e = refl
 none-long (v ∷ values) e = absurd (omega arith)
 
 pub commands_are_statements : CommandsAreStatements
-commands_are_statements line c s e = (λ values. given-filled values c s e, λ none spells. (numbers none, spelled none spells))
+commands_are_statements line c s e = (filling, λ none spells. (numbers none, spelled none spells))
   where
+    filling : (values : List Value) → filled values s ≡ c
+    filling values = subst (λ found. IfSome found (λ t. filled values t ≡ c)) e (given-filled values c)
+
     numbers : marks line ≡ 0 → holes_of s ≡ range_with_len 0 (marks line)
-    numbers none = given-none (slots_of s) (given-slots c s e) ∙ ap (range_with_len 0) (sym none)
+    numbers none =
+        given-none (slots_of s) (subst (λ found. IfSome found (λ t. AreGiven (slots_of t))) e (given-slots c)) ∙ ap (range_with_len 0) (sym none)
 
     spelled : marks line ≡ 0 → Spells line c → (values : List Value) → length values ≡ marks line → AllByRecursion IsSpellableValue values
         → Spells (written values line) (filled values s)
-    spelled none spells values long can =
-        rw (none-long values (long ∙ none), written-none line, given-filled [] c s e) spells
+    spelled none spells values long can = rw (none-long values (long ∙ none), written-none line, filling []) spells

@@ -74,10 +74,7 @@ key-of_own tables kind.Int k (value.Int z) type holds = (sym (same_Some base.Int
 key-of_own tables kind.Int k (value.Text text) type holds = absurd holds
 key-of_own tables kind.Text k (value.Int z) type holds = absurd holds
 key-of_own tables kind.Text k (value.Text text) type holds = (sym (same_Some base.Text k type), holds)
-key-of_own tables (kind.Ref name) k (value.Int z) type holds = absurd (none-some k type)
-key-of_own tables (kind.Ref name) k (value.Text text) type holds = absurd (none-some k type)
-key-of_own tables (kind.RefOrNull name) k (value.Int z) type holds = absurd (none-some k type)
-key-of_own tables (kind.RefOrNull name) k (value.Text text) type holds = absurd (none-some k type)
+key-of_own tables refers k v type holds = absurd (none-some k type)
 
 pub key-value : (w v : Value) → is_eq (key_cmp (w ∷ []) (v ∷ [])) ≡ true → w ≡ v
 key-value w v same = by (key_cmp (w ∷ []) (v ∷ [])) refl same
@@ -125,14 +122,9 @@ key-fits c k (value.Text text) null key read = (key.0, read.0, short-text text k
 holds-key : (limits : Limits) (tables : Database) (c : ColKind) (k : BaseKind) (v : Value) → IsSound limits tables → type_of tables c ≡ Some k
     → CanHold tables c v → IsKey k v
 holds-key limits tables c k value.Null sound type holds = tt
-holds-key limits tables kind.Int k (value.Int z) sound type holds = key-of_own tables kind.Int k (value.Int z) type holds
-holds-key limits tables kind.Int k (value.Text text) sound type holds = absurd holds
-holds-key limits tables kind.Text k (value.Int z) sound type holds = absurd holds
-holds-key limits tables kind.Text k (value.Text text) sound type holds = key-of_own tables kind.Text k (value.Text text) type holds
-holds-key limits tables (kind.Ref name) k (value.Int z) sound type holds = key-held limits tables name k (value.Int z) sound type holds
-holds-key limits tables (kind.Ref name) k (value.Text text) sound type holds = key-held limits tables name k (value.Text text) sound type holds
-holds-key limits tables (kind.RefOrNull name) k (value.Int z) sound type holds = key-held limits tables name k (value.Int z) sound type holds
-holds-key limits tables (kind.RefOrNull name) k (value.Text text) sound type holds = key-held limits tables name k (value.Text text) sound type holds
+holds-key limits tables (kind.Ref name) k v sound type holds = key-held limits tables name k v sound type holds
+holds-key limits tables (kind.RefOrNull name) k v sound type holds = key-held limits tables name k v sound type holds
+holds-key limits tables own k v sound type holds = key-of_own tables own k v type holds
 
 value-fits : (limits : Limits) (tables : Database) (c : Column) (b : BlockColumn) (v : Value) → IsSound limits tables → block_column tables c ≡ Some b
     → CanHold tables c.kind v → IsReadBack c v → Fits b v

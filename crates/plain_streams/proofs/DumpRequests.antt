@@ -79,8 +79,7 @@ no-return (c ∷ cs) (suc i) all = no-return cs i all.1
 load-shown : (name : List ℕ) (n : ℕ) → IsName name → n < 2 ^ 63 → AreShown (canonical_spelling (Load name n))
 load-shown name n named small =
     let digits = count-shown n small in
-    let rest : AreShown (name ++ 32 ∷ decimal n) =
-    all-append IsShown name (32 ∷ decimal n) (name-shown name named) ((omega arith, omega arith), digits) in
+    let rest = all-append IsShown name (32 ∷ decimal n) (name-shown name named) ((omega arith, omega arith), digits) in
     ((omega arith, omega arith), ((omega arith, omega arith), ((omega arith, omega arith), ((omega arith, omega arith), ((omega arith, omega arith), rest)))))
 
 load-short : (name : List ℕ) (n : ℕ) → IsName name → n < 2 ^ 63 → length (canonical_spelling (Load name n)) ≤ 8192

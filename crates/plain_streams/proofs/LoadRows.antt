@@ -62,14 +62,9 @@ held-more tables others c v refs = by c.kind v
         → list_all (is_held others) refs ≡ true
         → list_all (is_held others) (cons_option (reference_of (record { name = c.name; kind = k }) w) refs) ≡ true
     by k value.Null same holds rest = rest
-    by kind.Int (value.Int z) same holds rest = rest
-    by kind.Int (value.Text text) same holds rest = absurd holds
-    by kind.Text (value.Int z) same holds rest = absurd holds
-    by kind.Text (value.Text text) same holds rest = rest
-    by (kind.Ref name) (value.Int z) same holds rest = rw (same, holds, rest) refl
-    by (kind.Ref name) (value.Text text) same holds rest = rw (same, holds, rest) refl
-    by (kind.RefOrNull name) (value.Int z) same holds rest = rw (same, holds, rest) refl
-    by (kind.RefOrNull name) (value.Text text) same holds rest = rw (same, holds, rest) refl
+    by (kind.Ref name) w same holds rest = rw (same, holds, rest) refl
+    by (kind.RefOrNull name) w same holds rest = rw (same, holds, rest) refl
+    by own w same holds rest = rest
 
 all-held : (tables others : Database) (columns : List Column) (row : Row) → SameReferred tables others columns → IsRowOf tables columns row
     → list_all (is_held others) (references columns row) ≡ true

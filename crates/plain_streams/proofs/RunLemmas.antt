@@ -1,8 +1,8 @@
 -- Each request, and so each run, keeps a database sound, and changes nothing where its answer is an error.
-use Rattle.std.proofs.Common.{◌≡◌, ℕ, List, [], ◌∷◌, ◌++◌, arith, refl, sym, ap, subst, get_or}
+use Rattle.std.proofs.Common.{◌≡◌, ℕ, List, [], ◌∷◌, ◌++◌, arith, refl, ap, get_or}
 use lib.Chars.{codes}
 use Rattle.plain_tables.specs.Databases.{Database}
-use Rattle.plain_tables.specs.Effects.{Effect, Outcome, Done, Changed, Rows, Dumped, Listed, Refused}
+use Rattle.plain_tables.specs.Effects.{Effect, Outcome, Listed, Refused}
 use Rattle.plain_tables.specs.References.{IsSound}
 use Rattle.plain_tables.specs.AnswerText.{answer_text}
 use Rattle.plain_tables.specs.ResolvedLaws.{KeepsIfRefused}
@@ -15,37 +15,27 @@ use Rattle.plain_tables.proofs.GivenLemmas.{spellable_are_given}
 use Rattle.plain_tables.proofs.ResolvedLemmas.{effects_keep_sound}
 use Rattle.plain_tables.proofs.Spellable.{spelled-spellable}
 use Rattle.mm_csv.specs.BlockReading.{block_records}
+use Rattle.plain_streams.proofs.RunSteps.{AnswersAll-keeps}
 use Rattle.plain_streams.specs.Requests.{Request}
 use Rattle.plain_streams.specs.Division.{last_request}
-use Rattle.plain_streams.specs.Runs.{IsEffect, too_long, not_utf8, not_a_command, block_too_long, block_cut_short, command, Answers, silent, effect, no_memory, AnswersAll, RunsStaySound, line_of}
+use Rattle.plain_streams.specs.Runs.{IsEffect, too_long, not_utf8, not_a_command, block_too_long, block_cut_short, command, Answers, effect, RunsStaySound, line_of}
 
 -- ---- sound databases
 
 request_effect_keeps : (limits : Limits) (tables : Database) (request : Request) (e : Effect) → IsEffect limits tables request e
     → IsSound limits tables → IsSound limits e.database
-request_effect_keeps limits tables request e (too_long h) sound = sound
-request_effect_keeps limits tables request e (not_utf8 h u) sound = sound
-request_effect_keeps limits tables request e (not_a_command h s n) sound = sound
-request_effect_keeps limits tables request e (block_too_long n asks h) sound = sound
-request_effect_keeps limits tables request e (block_cut_short n asks few h) sound = sound
 request_effect_keeps limits tables request e (command c h s spells has) sound =
     effects_keep_sound (block_records request.block) limits tables c (spellable_are_given c (spelled-spellable (line_of request) c spells)) sound
+request_effect_keeps limits tables request e other sound = sound
 
 pub answer_keeps : (limits : Limits) (tables : Database) (request : Request) (answer : List ℕ) (after : Database)
     → Answers limits tables request answer after → IsSound limits tables → IsSound limits after
-answer_keeps limits tables request answer after (silent r s) sound = sound
 answer_keeps limits tables request answer after (effect e h) sound = request_effect_keeps limits tables request e h sound
-answer_keeps limits tables request answer after (no_memory r s has) sound = sound
-
-answers_keep : (limits : Limits) (tables : Database) (requests : List Request) (answers : List ℕ) (after : Database)
-    → AnswersAll limits tables requests answers after → IsSound limits tables → IsSound limits after
-answers_keep limits tables [] answers after h sound = subst (IsSound limits) (sym h.1) sound
-answers_keep limits tables (request ∷ requests) answers after (first, others, next, here, rest, joined) sound =
-    answers_keep limits next requests others after rest (answer_keeps limits tables request first next here sound)
+answer_keeps limits tables request answer after other sound = sound
 
 pub runs_stay_sound : RunsStaySound
 runs_stay_sound limits from stream finished answers after sound (requests, rest, divides, all) =
-    answers_keep limits from (requests ++ last_request finished rest) answers after all sound
+    AnswersAll-keeps (IsSound limits) limits from (requests ++ last_request finished rest) answers after (answer_keeps limits) all sound
 
 -- ---- errors
 
@@ -53,18 +43,11 @@ runs_stay_sound limits from stream finished answers after sound (requests, rest,
 begins_otherwise : (first : ℕ) (rest words : List ℕ) → first ∷ rest ≡ codes "error " ++ words → first ≡ 101
 begins_otherwise first rest words same = ap (λ (s : List ℕ). get_or s 0 0) same
 
-listing_is_no_error : (tables : Database) (words : List ℕ) → answer_text (Listed tables) ≡ codes "error " ++ words → ⊥
-listing_is_no_error [] words same = let first = begins_otherwise 111 _ words same in omega arith
-listing_is_no_error (t ∷ tables) words same = let first = begins_otherwise 116 _ words same in omega arith
-
 -- an answer that begins with error is that of a refusal
 pub error_is_refused : (o : Outcome) (words : List ℕ) → answer_text o ≡ codes "error " ++ words → (why : Refusal) × (o ≡ Refused why)
-error_is_refused Done words same = let first = begins_otherwise 111 _ words same in absurd (omega arith)
-error_is_refused (Changed n) words same = let first = begins_otherwise 111 _ words same in absurd (omega arith)
-error_is_refused (Rows names rows) words same = let first = begins_otherwise 114 _ words same in absurd (omega arith)
-error_is_refused (Dumped name block) words same = let first = begins_otherwise 108 _ words same in absurd (omega arith)
-error_is_refused (Listed tables) words same = absurd (listing_is_no_error tables words same)
 error_is_refused (Refused why) words same = (why, refl)
+error_is_refused (Listed []) words same = let first = begins_otherwise _ _ words same in absurd (omega arith)
+error_is_refused other words same = let first = begins_otherwise _ _ words same in absurd (omega arith)
 
 request_keeps : (limits : Limits) (tables : Database) (request : Request) (e : Effect) → IsEffect limits tables request e → KeepsIfRefused tables e
 request_keeps limits tables request e (too_long h) = refusal_keeps tables LineTooLong
@@ -77,7 +60,6 @@ request_keeps limits tables request e (command c h s spells has) =
 
 pub errors_change_nothing : (limits : Limits) (tables : Database) (request : Request) (answer words : List ℕ) (after : Database)
     → Answers limits tables request answer after → answer ≡ codes "error " ++ words → after ≡ tables
-errors_change_nothing limits tables request answer words after (silent r s) same = refl
 errors_change_nothing limits tables request answer words after (effect e h) same =
     let refusal = error_is_refused e.outcome words same in request_keeps limits tables request e h refusal.0 refusal.1
-errors_change_nothing limits tables request answer words after (no_memory r s has) same = refl
+errors_change_nothing limits tables request answer words after other same = refl

@@ -6,7 +6,7 @@ use Rattle.std.specs.Str.{IsUtf8}
 use Rattle.std.proofs.lemmas.Bool.{eqb-true}
 use Rattle.std.proofs.lemmas.List.Elements.{All-from_recursion}
 use Rattle.std.proofs.lemmas.Str.{IsUtf8-append}
-use Rattle.plain_tables.specs.Spelling.{Symbol, Keyword, Name, Literal, Count, Sign, Close, Comma, doubled, separated, value_symbols, setting_symbols, where_symbols, symbols_of, IsSymbol, IsMadeOf, Spells}
+use Rattle.plain_tables.specs.Spelling.{Symbol, Literal, Sign, Close, Comma, doubled, separated, value_symbols, setting_symbols, where_symbols, symbols_of, IsSymbol, IsMadeOf, Spells}
 use Rattle.plain_tables.specs.declared.value.Value.TheVariants as value
 use Rattle.plain_tables.specs.declared.command.Command.{Command}
 use Rattle.plain_tables.specs.declared.command.Command.TheVariants as command
@@ -48,18 +48,13 @@ IsSymbolUtf8 symbol = Unit {0}
 
 symbol-utf8 : (front characters rest : List ℕ) (symbol : Symbol) → IsSymbol characters symbol
     → IsUtf8 (front ++ (characters ++ rest)) → IsSymbolUtf8 symbol
-symbol-utf8 front characters rest (Keyword word) is utf8 = tt
-symbol-utf8 front characters rest (Name name) is utf8 = tt
-symbol-utf8 front characters rest (Literal value.Null) is utf8 = tt
-symbol-utf8 front characters rest (Literal (value.Int z)) is utf8 = tt
 symbol-utf8 front characters rest (Literal (value.Text text)) is utf8 =
     let inner : List ℕ = flat_map doubled text in
     let whole : front ++ (characters ++ rest) ≡ front ++ 39 ∷ (inner ++ 39 ∷ rest) =
     ap (λ cs. front ++ (cs ++ rest)) is ∙ ap (λ cs. front ++ 39 ∷ cs) (append_assoc inner (39 ∷ []) rest) in
     let behind : IsUtf8 (inner ++ 39 ∷ rest) = utf8-behind front 39 (inner ++ 39 ∷ rest) (omega arith) (subst IsUtf8 whole utf8) in
     undoubled [] text (utf8-before inner 39 rest (omega arith) behind)
-symbol-utf8 front characters rest (Count n) is utf8 = tt
-symbol-utf8 front characters rest (Sign mark) is utf8 = tt
+symbol-utf8 front characters rest other is utf8 = tt
 
 made-utf8 : (symbols : List Symbol) (front line : List ℕ) → IsUtf8 (front ++ line) → IsMadeOf line symbols
     → AllByRecursion IsSymbolUtf8 symbols
@@ -80,10 +75,6 @@ StoresUtf8 (command.Update name settings conditions) = All (λ s. IsTextUtf8 s.v
 StoresUtf8 c = Unit {0}
 
 symbols-stored : (c : Command) → AllByRecursion IsSymbolUtf8 (symbols_of c) → StoresUtf8 c
-symbols-stored (command.Table name schema) all = tt
-symbols-stored (command.DropTable name) all = tt
-symbols-stored (command.Index name column k) all = tt
-symbols-stored (command.DropIndex name column k) all = tt
 symbols-stored (command.Insert name row) all =
     All-from_recursion IsTextUtf8 row
     (separated-each IsSymbolUtf8 (Sign Comma) value_symbols IsTextUtf8 (λ v each. each.0) row
@@ -92,11 +83,7 @@ symbols-stored (command.Update name settings conditions) all =
     All-from_recursion (λ s. IsTextUtf8 s.value) settings
     (separated-each IsSymbolUtf8 (Sign Comma) setting_symbols (λ s. IsTextUtf8 s.value) (λ s each. each.1.1.0) settings
     (all-left IsSymbolUtf8 (separated (map setting_symbols settings)) (where_symbols conditions) all.1.1.1))
-symbols-stored (command.Delete name conditions) all = tt
-symbols-stored (command.Select distinct its name joins conditions) all = tt
-symbols-stored (command.Load name bytes) all = tt
-symbols-stored (command.Dump name) all = tt
-symbols-stored command.Tables all = tt
+symbols-stored other all = tt
 
 pub spelled-stored : (line : List ℕ) (c : Command) → IsUtf8 line → Spells line c → StoresUtf8 c
 spelled-stored line c utf8 spells = symbols-stored c (made-utf8 (symbols_of c) [] line utf8 spells.2)

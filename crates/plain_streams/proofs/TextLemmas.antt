@@ -1,6 +1,6 @@
 -- Each request, and so each run, keeps the texts of a database UTF-8.
-use Rattle.std.proofs.Common.{◌≡◌, ℕ, List, [], ◌∷◌, ◌++◌, map, set, length, Bool, cond, sym, subst, Option, Some, None}
-use Rattle.std.specs.Prelude.{ℤ, Result, Ok, Err, IfSome, not, slice_get, zip, ◌&&◌, ◌==◌}
+use Rattle.std.proofs.Common.{◌≡◌, ℕ, List, [], ◌∷◌, ◌++◌, map, set, length, Bool, cond, subst, Option, Some, None}
+use Rattle.std.specs.Prelude.{ℤ, IfOk, IfSome, not, slice_get, zip, ◌&&◌, ◌==◌}
 use Rattle.std.specs.List.{All, AllZip}
 use Rattle.std.specs.Option.{option_map, option_map_or}
 use Rattle.std.specs.Str.{is_utf8}
@@ -8,42 +8,41 @@ use Rattle.std.proofs.lemmas.Bool.{cond_both, and_parts}
 use Rattle.std.proofs.lemmas.List.Elements.{All-nil, All-cons, All-head, All-tail, All-append, All-set, All-map, All-filter, All-weaker}
 use Rattle.std.proofs.lemmas.Str.{IsUtf8-from_is_utf8}
 use Rattle.plain_tables.specs.Tables.{Table, Row}
-use Rattle.plain_tables.specs.Databases.{Database, is_named, table_named}
+use Rattle.plain_tables.specs.Databases.{Database, is_named}
 use Rattle.plain_tables.specs.Queries.{JoinedColumn, place_meant}
-use Rattle.plain_tables.specs.Effects.{Effect, Check, setting_name, new_table, grown_by, is_long}
+use Rattle.plain_tables.specs.Effects.{Effect, setting_name, new_table, grown_by, is_long}
 use Rattle.plain_tables.specs.CsvReading.{Record, BlockColumn, Reading, Rows, BadHeader, BadRecord, integer_of, plain_value, field_value, all_of, row_of, is_header, rows_reading, records_reading}
-use Rattle.plain_tables.specs.Resolving.{meaning, number_of, own_columns, on_numbered, on_column, tests_of, assignments_of, block_columns, table_reading, load_of, resolved_of, table_checks, drop_checks, index_checks, drop_index_checks, insert_checks, update_checks, delete_checks, select_checks, select_of}
+use Rattle.plain_tables.specs.Resolving.{own_columns, assignments_of, block_columns, table_reading, resolved_of, table_checks, drop_checks, index_checks, drop_index_checks, insert_checks, update_checks, delete_checks, select_checks}
 use Rattle.plain_tables.specs.Doing.{assigned, passes_all, dump_checks, delete_checks as row_delete_checks, update_checks as row_update_checks, updated, without, with_index, without_index, insert, done}
 use Rattle.plain_tables.specs.declared.value.Value.{Value}
 use Rattle.plain_tables.specs.declared.value.Value.TheVariants as value
 use Rattle.plain_tables.specs.declared.schema.BaseKind.{BaseKind}
 use Rattle.plain_tables.specs.declared.schema.BaseKind.TheVariants as kind
 use Rattle.plain_tables.specs.declared.schema.Column.{Column}
-use Rattle.plain_tables.specs.declared.refusal.Refusal.{Refusal}
-use Rattle.plain_tables.specs.declared.refusal.Refusal.TheVariants.{NoSuchTable, NoSuchColumn}
 use Rattle.plain_tables.specs.declared.command.Setting.{Setting}
 use Rattle.plain_tables.specs.declared.command.Limits.{Limits}
 use Rattle.plain_tables.specs.declared.command.Command.{Command}
 use Rattle.plain_tables.specs.declared.command.Command.TheVariants as command
-use Rattle.plain_tables.specs.declared.numbers.ColumnNumber.{ColumnNumber}
 use Rattle.plain_tables.specs.declared.numbers.TableNumber.{TableNumber}
 use Rattle.plain_tables.specs.declared.resolved.Assignment.{Assignment}
 use Rattle.plain_tables.specs.declared.resolved.Resolved.{Resolved}
 use Rattle.plain_tables.specs.declared.resolved.Resolved.TheVariants as resolved
-use Rattle.plain_tables.proofs.EffectLemmas.{checked_satisfies, of_table_satisfies, effect_satisfies, insert_satisfies, loaded_satisfies, load_satisfies}
+use Rattle.plain_tables.proofs.EffectLemmas.{of_table_satisfies, of_table_checked, effect_satisfies, insert_satisfies, loaded_satisfies, load_satisfies}
 use Rattle.common_lemmas.proofs.Elements.{All-at, All-remove, mapped_more}
 use Rattle.common_lemmas.proofs.Options.{option_map_or_satisfies}
 use Rattle.common_lemmas.proofs.Tests.{find_satisfies}
+use Rattle.plain_tables.proofs.Meanings.{satisfies, if_checked, if_numbered, if_on_column, if_read}
 use Rattle.plain_tables.proofs.RowLemmas.{All-with_row}
 use Rattle.plain_tables.proofs.SoundLemmas.{no_tables_are_sound}
 use Rattle.mm_csv.specs.BlockReading.{block_records}
 use Rattle.plain_streams.specs.Requests.{Request}
 use Rattle.plain_streams.specs.Division.{last_request}
 use Rattle.plain_streams.specs.Dumps.{IsReadBack}
-use Rattle.plain_streams.specs.Runs.{IsEffect, too_long, not_utf8, not_a_command, block_too_long, block_cut_short, command as does, Answers, silent, effect, no_memory, AnswersAll, line_of}
+use Rattle.plain_streams.specs.Runs.{IsEffect, command as does, Answers, effect, line_of}
 use Rattle.plain_streams.specs.Texts.{IsTextUtf8, HasTextsUtf8, AreTextsUtf8, IsUnlikeNull, ReachedAreReadBack, TextsStayUtf8, DumpsOfRunsLoadAgain}
 use Rattle.plain_streams.proofs.DumpLemmas.{dumps_load_again}
 use Rattle.plain_streams.proofs.RunLemmas.{runs_stay_sound}
+use Rattle.plain_streams.proofs.RunSteps.{AnswersAll-keeps}
 use Rattle.plain_streams.proofs.SpelledTexts.{StoresUtf8, spelled-stored}
 
 -- ---- records of a block
@@ -119,29 +118,6 @@ SetsUtf8 (resolved.Update n assignments tests) = All (λ a. IsTextUtf8 a.value) 
 SetsUtf8 (resolved.Load n rows) = All (All IsTextUtf8) rows
 SetsUtf8 r = Unit {0}
 
--- the texts that a command is to store, if it isn't refused
-abbrev MeansUtf8 : Result Resolved Refusal → Type 0
-MeansUtf8 (Ok r) = SetsUtf8 r
-MeansUtf8 (Err why) = Unit {0}
-
-meaning-utf8 : (checks : List Check) (r : Resolved) → SetsUtf8 r → MeansUtf8 (meaning checks r)
-meaning-utf8 [] r is = is
-meaning-utf8 (c ∷ checks) r is =
-    cond_both c.refuses (Err c.refusal) (meaning checks r) MeansUtf8 (λ t. tt) (λ f. meaning-utf8 checks r is)
-
-numbered-utf8 : (name : List ℕ) (tables : Database) (means : TableNumber → Table → Result Resolved Refusal)
-    → ((table : Table) → MeansUtf8 (means (number_of name tables) table)) → MeansUtf8 (on_numbered name tables means)
-numbered-utf8 name tables means each =
-    option_map_or_satisfies MeansUtf8 (means (number_of name tables)) (table_named name tables) (Err NoSuchTable) tt
-    (λ table there. each table)
-
-column-utf8 : (column : List ℕ) (table : Table) (means : ColumnNumber → Result Resolved Refusal)
-    → ((c : ColumnNumber) → MeansUtf8 (means c)) → MeansUtf8 (on_column column table means)
-column-utf8 column table means each =
-    option_map_or_satisfies MeansUtf8 (λ place. means place.column)
-    (place_meant (own_columns table) (record { table = None; column = column })) (Err NoSuchColumn) tt
-    (λ place there. each place.column)
-
 assignments-utf8 : (columns : List JoinedColumn) (settings : List Setting) → All (λ s. IsTextUtf8 s.value) settings
     → All (λ a. IsTextUtf8 a.value) (assignments_of columns settings)
 assignments-utf8 columns [] all = All-nil (λ a. IsTextUtf8 a.value)
@@ -151,48 +127,29 @@ assignments-utf8 columns (s ∷ settings) all =
     (λ place meant. All-head (λ (t : Setting). IsTextUtf8 t.value) s settings all)
     (assignments-utf8 columns settings (All-tail (λ (t : Setting). IsTextUtf8 t.value) s settings all))
 
-load-utf8 : (n : TableNumber) (reading : Reading) → ReadsUtf8 reading → MeansUtf8 (load_of n reading)
-load-utf8 n (Rows rows) all = all
-load-utf8 n BadHeader all = tt
-load-utf8 n (BadRecord k) all = tt
-
-resolved-utf8 : (records : List Record) (tables : Database) (c : Command) → StoresUtf8 c → MeansUtf8 (resolved_of records tables c)
-resolved-utf8 records tables (command.Table name schema) stores =
-    meaning-utf8 (table_checks tables name schema) (resolved.Table name schema) tt
+resolved-utf8 : (records : List Record) (tables : Database) (c : Command) → StoresUtf8 c → IfOk (resolved_of records tables c) SetsUtf8
+resolved-utf8 records tables (command.Table name schema) stores = if_checked _ (table_checks tables name schema) _ (λ passed. tt)
 resolved-utf8 records tables (command.DropTable name) stores =
-    numbered-utf8 name tables (λ n table. meaning (drop_checks tables table) (resolved.DropTable n))
-    (λ table. meaning-utf8 (drop_checks tables table) (resolved.DropTable (number_of name tables)) tt)
+    if_numbered _ name tables _ (λ table there. if_checked _ (drop_checks tables table) _ (λ passed. tt))
 resolved-utf8 records tables (command.Index name column k) stores =
-    numbered-utf8 name tables (λ n table. on_column column table (λ c. meaning (index_checks table c k) (resolved.Index n c k)))
-    (λ table. column-utf8 column table (λ c. meaning (index_checks table c k) (resolved.Index (number_of name tables) c k))
-    (λ c. meaning-utf8 (index_checks table c k) (resolved.Index (number_of name tables) c k) tt))
+    if_numbered _ name tables _ (λ table there. if_on_column _ column table _
+    (λ place within. if_checked _ (index_checks table place.column k) _ (λ passed. tt)))
 resolved-utf8 records tables (command.DropIndex name column k) stores =
-    numbered-utf8 name tables (λ n table. on_column column table
-    (λ c. meaning (drop_index_checks table c k) (resolved.DropIndex n c k)))
-    (λ table. column-utf8 column table (λ c. meaning (drop_index_checks table c k) (resolved.DropIndex (number_of name tables) c k))
-    (λ c. meaning-utf8 (drop_index_checks table c k) (resolved.DropIndex (number_of name tables) c k) tt))
+    if_numbered _ name tables _ (λ table there. if_on_column _ column table _
+    (λ place within. if_checked _ (drop_index_checks table place.column k) _ (λ passed. tt)))
 resolved-utf8 records tables (command.Insert name row) stores =
-    numbered-utf8 name tables (λ n table. meaning (insert_checks tables table row) (resolved.Insert n row))
-    (λ table. meaning-utf8 (insert_checks tables table row) (resolved.Insert (number_of name tables) row) stores)
+    if_numbered _ name tables _ (λ table there. if_checked _ (insert_checks tables table row) _ (λ passed. stores))
 resolved-utf8 records tables (command.Update name settings conditions) stores =
-    numbered-utf8 name tables (λ n table. meaning (update_checks tables table settings conditions)
-    (resolved.Update n (assignments_of (own_columns table) settings) (tests_of (own_columns table) conditions)))
-    (λ table. meaning-utf8 (update_checks tables table settings conditions)
-    (resolved.Update (number_of name tables) (assignments_of (own_columns table) settings)
-    (tests_of (own_columns table) conditions))
-    (assignments-utf8 (own_columns table) settings stores))
+    if_numbered _ name tables _ (λ table there. if_checked _ (update_checks tables table settings conditions) _
+    (λ passed. assignments-utf8 (own_columns table) settings stores))
 resolved-utf8 records tables (command.Delete name conditions) stores =
-    numbered-utf8 name tables (λ n table. meaning (delete_checks tables table conditions)
-    (resolved.Delete n (tests_of (own_columns table) conditions)))
-    (λ table. meaning-utf8 (delete_checks tables table conditions)
-    (resolved.Delete (number_of name tables) (tests_of (own_columns table) conditions)) tt)
+    if_numbered _ name tables _ (λ table there. if_checked _ (delete_checks tables table conditions) _ (λ passed. tt))
 resolved-utf8 records tables (command.Select distinct its name joins conditions) stores =
-    meaning-utf8 (select_checks tables its name joins conditions) (select_of tables distinct its name joins conditions) tt
+    if_checked _ (select_checks tables its name joins conditions) _ (λ passed. tt)
 resolved-utf8 records tables (command.Load name bytes) stores =
-    numbered-utf8 name tables (λ n table. load_of n (table_reading tables table records))
-    (λ table. load-utf8 (number_of name tables) (table_reading tables table records) (reading-utf8 tables table records))
-resolved-utf8 records tables (command.Dump name) stores =
-    numbered-utf8 name tables (λ n table. Ok (resolved.Dump n)) (λ table. tt)
+    if_numbered _ name tables _ (λ table there. if_read _ _ (table_reading tables table records)
+    (λ rows read. subst ReadsUtf8 read (reading-utf8 tables table records)))
+resolved-utf8 records tables (command.Dump name) stores = if_numbered _ name tables _ (λ table there. tt)
 resolved-utf8 records tables command.Tables stores = tt
 
 -- ---- what is done
@@ -243,15 +200,13 @@ done-utf8 limits tables (resolved.DropIndex n column k) sets all =
     (λ table there. with-utf8 tables n table (without_index column k table) all there (λ texts. texts))
 done-utf8 limits tables (resolved.Insert n row) sets all = insert-utf8 limits tables n row sets all
 done-utf8 limits tables (resolved.Update n assignments tests) sets all =
-    of_table_satisfies LeavesUtf8 n tables _ (λ why. all)
-    (λ table there. checked_satisfies LeavesUtf8 tables (row_update_checks tables table assignments) _ (λ why. all)
-    (λ passed. with-utf8 tables n table (updated assignments (passes_all tests) table) all there
-    (updated-utf8 assignments (passes_all tests) table sets)))
+    of_table_checked LeavesUtf8 n tables (λ table. row_update_checks tables table assignments) _ (λ why. all)
+    (λ table there passed. with-utf8 tables n table (updated assignments (passes_all tests) table) all there
+    (updated-utf8 assignments (passes_all tests) table sets))
 done-utf8 limits tables (resolved.Delete n tests) sets all =
-    of_table_satisfies LeavesUtf8 n tables _ (λ why. all)
-    (λ table there. checked_satisfies LeavesUtf8 tables (row_delete_checks tables table (passes_all tests)) _ (λ why. all)
-    (λ passed. with-utf8 tables n table (without (passes_all tests) table) all there
-    (All-filter (λ row. not (passes_all tests row)) (All IsTextUtf8) table.rows)))
+    of_table_checked LeavesUtf8 n tables (λ table. row_delete_checks tables table (passes_all tests)) _ (λ why. all)
+    (λ table there passed. with-utf8 tables n table (without (passes_all tests) table) all there
+    (All-filter (λ row. not (passes_all tests row)) (All IsTextUtf8) table.rows))
 done-utf8 limits tables (resolved.Select query) sets all = all
 done-utf8 limits tables (resolved.Load n rows) sets all =
     load_satisfies LeavesUtf8 limits tables n rows (λ why. all)
@@ -262,41 +217,28 @@ done-utf8 limits tables (resolved.Load n rows) sets all =
     ))
     tables 1 rows new h (sets, all)).1)
 done-utf8 limits tables (resolved.Dump n) sets all =
-    of_table_satisfies LeavesUtf8 n tables _ (λ why. all)
-    (λ table there. checked_satisfies LeavesUtf8 tables (dump_checks limits table) _ (λ why. all) (λ passed. all))
+    of_table_checked LeavesUtf8 n tables (dump_checks limits) _ (λ why. all) (λ table there passed. all)
 done-utf8 limits tables resolved.Tables sets all = all
 
 -- ---- runs
 
 effect-utf8 : (limits : Limits) (tables : Database) (request : Request) (e : Effect) → IsEffect limits tables request e
     → AreTextsUtf8 tables → LeavesUtf8 e
-effect-utf8 limits tables request e (too_long h) all = all
-effect-utf8 limits tables request e (not_utf8 h u) all = all
-effect-utf8 limits tables request e (not_a_command h s n) all = all
-effect-utf8 limits tables request e (block_too_long n asks h) all = all
-effect-utf8 limits tables request e (block_cut_short n asks few h) all = all
 effect-utf8 limits tables request e (does c readable s spells has) all =
     let records : List Record = block_records request.block in
-    let means : MeansUtf8 (resolved_of records tables c) =
-    resolved-utf8 records tables c (spelled-stored (line_of request) c readable.utf8 spells) in
+    let means = resolved-utf8 records tables c (spelled-stored (line_of request) c readable.utf8 spells) in
     effect_satisfies LeavesUtf8 records limits tables c (λ why. all)
-    (λ r is. done-utf8 limits tables r (subst MeansUtf8 is means) all)
+    (λ r is. done-utf8 limits tables r (satisfies SetsUtf8 (resolved_of records tables c) r is means) all)
+effect-utf8 limits tables request e other all = all
 
 answer-utf8 : (limits : Limits) (tables : Database) (request : Request) (answer : List ℕ) (after : Database)
     → Answers limits tables request answer after → AreTextsUtf8 tables → AreTextsUtf8 after
-answer-utf8 limits tables request answer after (silent r s) all = all
 answer-utf8 limits tables request answer after (effect e h) all = effect-utf8 limits tables request e h all
-answer-utf8 limits tables request answer after (no_memory r s has) all = all
-
-answers-utf8 : (limits : Limits) (tables : Database) (requests : List Request) (answers : List ℕ) (after : Database)
-    → AnswersAll limits tables requests answers after → AreTextsUtf8 tables → AreTextsUtf8 after
-answers-utf8 limits tables [] answers after h all = subst AreTextsUtf8 (sym h.1) all
-answers-utf8 limits tables (request ∷ requests) answers after (first, others, next, here, rest, joined) all =
-    answers-utf8 limits next requests others after rest (answer-utf8 limits tables request first next here all)
+answer-utf8 limits tables request answer after other all = all
 
 pub texts_stay_utf8 : TextsStayUtf8
 texts_stay_utf8 limits from stream finished answers after (requests, rest, divides, run) all =
-    answers-utf8 limits from (requests ++ last_request finished rest) answers after run all
+    AnswersAll-keeps AreTextsUtf8 limits from (requests ++ last_request finished rest) answers after (answer-utf8 limits) run all
 
 pub no_texts : AreTextsUtf8 []
 no_texts = All-nil HasTextsUtf8
@@ -304,9 +246,8 @@ no_texts = All-nil HasTextsUtf8
 -- ---- dumps
 
 value-back : (column : Column) (v : Value) → IsTextUtf8 v → IsUnlikeNull column v → IsReadBack column v
-value-back column value.Null utf8 some = tt
-value-back column (value.Int z) utf8 some = tt
 value-back column (value.Text text) utf8 some = (utf8, some)
+value-back column other utf8 some = tt
 
 row-back : (columns : List Column) (row : Row) → All IsTextUtf8 row → AllZip IsUnlikeNull columns row
     → AllZip IsReadBack columns row

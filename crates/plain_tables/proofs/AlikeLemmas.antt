@@ -12,7 +12,7 @@ use Rattle.std.proofs.lemmas.Simd.{map-map}
 use Rattle.plain_tables.specs.Tables.{Table, Row, has_key_of}
 use Rattle.plain_tables.specs.Databases.{Database, table_named}
 use Rattle.plain_tables.specs.Queries.{full_name}
-use Rattle.plain_tables.specs.Effects.{Effect, Check, Outcome, Done, Changed, Rows, Dumped, Listed, Refused, checked, grown_by, new_table}
+use Rattle.plain_tables.specs.Effects.{Effect, Check, Outcome, Done, Refused, checked, grown_by, new_table}
 use Rattle.plain_tables.specs.References.{Reference, references, table_references, is_held, is_to, is_referenced}
 use Rattle.plain_tables.specs.Resolving.{resolved_of}
 use Rattle.plain_tables.specs.Doing as doing
@@ -189,12 +189,8 @@ plain_left found = result_map_both plain (λ why. why) found
 
 left_plain : (k : ℕ) (tables : Database) (o : Outcome)
     → doing.left_with k (plain tables) o ≡ plain_left (doing.left_with k tables o)
-left_plain k tables Done = refl
-left_plain k tables (Changed n) = refl
-left_plain k tables (Rows names rows) = refl
-left_plain k tables (Dumped name block) = refl
-left_plain k tables (Listed others) = refl
 left_plain k tables (Refused why) = refl
+left_plain k tables other = refl
 
 goes_on_plain : (next : Database → Result Database Refusal) (found : Result Database Refusal)
     → ((d : Database) → next (plain d) ≡ plain_left (next d))
@@ -223,49 +219,37 @@ load_plain limits tables n rows =
     ap (load_effect (plain tables) rows) (loaded_plain limits n 1 rows tables) ∙ load_effect_plain tables rows
     (loaded limits tables n 1 rows)
 
+-- an effect that is another's but for the indexes
+same_but_indexes : (e f : Effect) → e ≡ bare f → bare e ≡ bare f
+same_but_indexes e f same = ap bare same ∙ bare_twice f
+
 done_plain : (limits : Limits) (tables : Database) (r : Resolved) → shows_indexes r ≡ false → bare (done limits (plain tables) r) ≡ bare (done limits tables r)
 done_plain limits tables (resolved.Table name schema) other =
-    ap (λ d. left_with Done (plain d)) (sym (map_push unindexed tables (new_table name schema)))
-    ∙ bare_twice (done limits tables (resolved.Table name schema))
-done_plain limits tables (resolved.DropTable n) other =
-    ap (λ d. left_with Done (plain d)) (removed_plain tables n.0)
-    ∙ bare_twice (done limits tables (resolved.DropTable n))
+    same_but_indexes _ _ (ap (left_with Done) (sym (map_push unindexed tables (new_table name schema))))
+done_plain limits tables (resolved.DropTable n) other = same_but_indexes _ _ (ap (left_with Done) (removed_plain tables n.0))
 done_plain limits tables (resolved.Index n column k) other =
     reindexed n tables _ _ (λ t. indexes_changed tables n.0 (with_index column k (unindexed t)) (with_index column k t) Done refl)
 done_plain limits tables (resolved.DropIndex n column k) other =
     reindexed n tables _ _ (λ t. indexes_changed tables n.0 (without_index column k (unindexed t)) (without_index column k t) Done refl)
-done_plain limits tables (resolved.Insert n row) other =
-    ap bare (insert_plain limits tables n row) ∙ bare_twice (done limits tables (resolved.Insert n row))
+done_plain limits tables (resolved.Insert n row) other = same_but_indexes _ _ (insert_plain limits tables n row)
 done_plain limits tables (resolved.Update n assignments tests) other =
-    let same : done limits (plain tables) (resolved.Update n assignments tests) ≡ bare (done limits tables (resolved.Update n assignments tests)) =
-    on_table_plain n tables _ _
+    same_but_indexes _ _ (on_table_plain n tables _ _
     (λ t. changed_plain tables (doing.update_checks tables t assignments) (doing.update_checks (plain tables) (unindexed t) assignments) n.0
-    (updated assignments (passes_all tests) t) _ (rw (all_held_plain tables (assigned_references t assignments)) refl))
-    in
-    ap bare same ∙ bare_twice (done limits tables (resolved.Update n assignments tests))
+    (updated assignments (passes_all tests) t) _ (rw (all_held_plain tables (assigned_references t assignments)) refl)))
 done_plain limits tables (resolved.Delete n tests) other =
-    let same : done limits (plain tables) (resolved.Delete n tests) ≡ bare (done limits tables (resolved.Delete n tests)) =
-    on_table_plain n tables _ _
+    same_but_indexes _ _ (on_table_plain n tables _ _
     (λ t. changed_plain tables (doing.delete_checks tables t (passes_all tests)) (doing.delete_checks (plain tables) (unindexed t) (passes_all tests)) n.0
-    (without (passes_all tests) t) _ (rw (referenced_plain tables t.name (picked (passes_all tests) t)) refl))
-    in
-    ap bare same ∙ bare_twice (done limits tables (resolved.Delete n tests))
+    (without (passes_all tests) t) _ (rw (referenced_plain tables t.name (picked (passes_all tests) t)) refl)))
 done_plain limits tables (resolved.Select query) other =
-    let same : (done limits (plain tables) (resolved.Select query)).outcome ≡ (done limits tables (resolved.Select query)).outcome =
-    rw (
+    same_but_indexes _ _ (rw (
       joined_plain tables query.source query.joins,
       headings_plain (joined_tables tables query.source query.joins) query.shown,
       members_plain tables query.source query.joins,
-    ) refl
-    in
-    ap (λ o. left_with o (plain (plain tables))) same ∙ bare_twice (done limits tables (resolved.Select query))
-done_plain limits tables (resolved.Load n rows) other =
-    ap bare (load_plain limits tables n rows) ∙ bare_twice (done limits tables (resolved.Load n rows))
+    ) refl)
+done_plain limits tables (resolved.Load n rows) other = same_but_indexes _ _ (load_plain limits tables n rows)
 done_plain limits tables (resolved.Dump n) other =
-    let same : done limits (plain tables) (resolved.Dump n) ≡ bare (done limits tables (resolved.Dump n)) =
-    on_table_plain n tables _ _ (λ t. checked_as tables (doing.dump_checks limits t) (left_with _ tables)
-    (left_with _ (plain tables)) refl) in
-    ap bare same ∙ bare_twice (done limits tables (resolved.Dump n))
+    same_but_indexes _ _ (on_table_plain n tables _ _
+    (λ t. checked_as tables (doing.dump_checks limits t) (left_with _ tables) (left_with _ (plain tables)) refl))
 done_plain limits tables resolved.Tables other = absurd (false≢true (sym other))
 
 pub done_alike : DoneAlike

@@ -1,6 +1,6 @@
 -- Blocks: the rows that records are read as in a table can be inserted into it.
 use Rattle.std.proofs.Common.{◌≡◌, ◌^◌, ℕ, true, false, not, length, map, arith, List, [], ◌∷◌, inl, inr, refl, sym, ap, subst, Option, Some, None}
-use Rattle.std.specs.Prelude.{Ok, zip, ℤ, pos, negsuc, FitsSigned, ◌==◌, ◌&&◌, nat_lt}
+use Rattle.std.specs.Prelude.{zip, ℤ, pos, negsuc, FitsSigned, ◌==◌, ◌&&◌, nat_lt}
 use Rattle.std.specs.Int.{w64}
 use Rattle.std.specs.List.{All}
 use Rattle.std.specs.Option.{option_map_or}
@@ -12,19 +12,15 @@ use Rattle.plain_tables.specs.Tables.{Table, Row}
 use Rattle.plain_tables.specs.Databases.{Database}
 use Rattle.plain_tables.specs.Effects.{is_long}
 use Rattle.plain_tables.specs.References.{takes_null, type_of, has_type, is_typed}
-use Rattle.plain_tables.specs.CsvReading.{Record, BlockColumn, Reading, Rows, BadHeader, BadRecord, is_numeral, digits_of, number_of, has_64_bits, integer_of, plain_value, field_value, all_of, row_of, is_header, rows_reading, records_reading}
-use Rattle.plain_tables.specs.Resolving.{has_mistyped, block_column, block_columns, table_reading, load_of}
+use Rattle.plain_tables.specs.CsvReading.{Record, BlockColumn, Rows, BadHeader, BadRecord, is_numeral, digits_of, number_of, has_64_bits, integer_of, plain_value, field_value, all_of, row_of, is_header, rows_reading, records_reading}
+use Rattle.plain_tables.specs.Resolving.{has_mistyped, block_column, block_columns, table_reading}
 use Rattle.plain_tables.specs.ResolvedLaws.{IsStorable, IsInsertable}
 use Rattle.plain_tables.specs.declared.value.Value.{Value}
 use Rattle.plain_tables.specs.declared.value.Value.TheVariants as value
-use Rattle.plain_tables.specs.declared.refusal.Refusal.TheVariants as refusal
 use Rattle.plain_tables.specs.declared.schema.BaseKind.{BaseKind}
 use Rattle.plain_tables.specs.declared.schema.BaseKind.TheVariants as kind
 use Rattle.plain_tables.specs.declared.schema.Column.{Column}
-use Rattle.plain_tables.specs.declared.numbers.TableNumber.{TableNumber}
-use Rattle.plain_tables.specs.declared.resolved.Resolved.{Resolved}
-use Rattle.plain_tables.specs.declared.resolved.Resolved.TheVariants as resolved
-use Rattle.common_lemmas.proofs.Options.{not_Ok, same_Ok, option_map_some}
+use Rattle.common_lemmas.proofs.Options.{option_map_some}
 
 -- ---- all of a list
 
@@ -162,9 +158,3 @@ read_insertable tables table records rows h =
     let (behind, read) = block_read blocks records rows reading in
     all_satisfy (λ row. IsInsertable tables row table) (row_of blocks) behind rows read
     (λ fields row there. row_insertable tables table blocks fields row of there)
-
-pub load_found : (n : TableNumber) (reading : Reading) (q : Resolved) → load_of n reading ≡ Ok q
-    → (rows : List Row) × (reading ≡ Rows rows) × (resolved.Load n rows ≡ q)
-load_found n (Rows rows) q h = (rows, refl, same_Ok (resolved.Load n rows) q h)
-load_found n BadHeader q h = absurd (not_Ok refusal.BadHeader q h)
-load_found n (BadRecord k) q h = absurd (not_Ok (refusal.BadRecord k) q h)

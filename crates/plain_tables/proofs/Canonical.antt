@@ -1,23 +1,24 @@
 -- Canonical: the canonical spelling of a command spells it.
-use Rattle.std.proofs.Common.{◌≡◌, ℕ, suc, ◌<◌, ◌^◌, List, [], ◌∷◌, ◌++◌, false, inl, inr, refl, sym, ap, arith, append-nil, subst}
+use Rattle.std.proofs.Common.{◌≡◌, ℕ, suc, ◌<◌, ◌^◌, List, [], ◌∷◌, ◌++◌, inl, inr, refl, sym, ap, arith, append-nil, subst}
 use Rattle.std.specs.Prelude.{ℤ, pos, negsuc, neg_ℤ, FitsSigned}
 use Rattle.std.specs.Int.{w64}
 use Rattle.std.specs.List.{AllByRecursion}
 use Rattle.std.specs.Fmt.{decimal, signed_decimal}
 use Rattle.std.specs.Str.Parse.{IsNumeral, digits_value}
 use Rattle.std.proofs.lemmas.Fmt.{decimal_is_IsNumeral}
-use Rattle.plain_tables.specs.Spelling.{Mark, Open, Close, Comma, Dot, Star, Operator, Symbol, Keyword, Name, Literal, Count, Sign, symbols_of, AreBlanks, IsInteger, IsCount, IsSymbol, goes_on_with, EndsBefore, IsMadeOf, NamesSomething, IsSpellable, symbol_text, gap, spaced, canonical_spelling, CanonicalSpells}
+use Rattle.plain_tables.specs.Spelling.{Open, Close, Comma, Dot, Star, Operator, Symbol, Name, Literal, Count, Sign, symbols_of, AreBlanks, IsInteger, IsCount, IsSymbol, EndsBefore, IsMadeOf, NamesSomething, IsSpellable, symbol_text, gap, spaced, canonical_spelling, CanonicalSpells}
 use Rattle.plain_tables.specs.declared.value.Value.TheVariants as value
 use Rattle.plain_tables.specs.declared.condition.Op.TheVariants as op
 use Rattle.plain_tables.specs.declared.command.Items.TheVariants as items
 use Rattle.plain_tables.specs.declared.command.Command.{Command}
-use Rattle.plain_tables.specs.declared.command.Command.TheVariants.{Table, DropTable, Index, DropIndex, Insert, Update, Delete, Select, Load, Dump, Tables}
+use Rattle.plain_tables.specs.declared.command.Command.TheVariants.{Table, Insert, Update, Select}
+use Rattle.plain_tables.proofs.Lexemes.{ends-never}
 use Rattle.plain_tables.proofs.Separated.{all-each}
 use Rattle.plain_tables.proofs.WellFormed.{IsSpellableSymbol, command-spellable, made-no_line_feed}
 
 -- ---- the text of a symbol is its characters
 
-abbrev HasText : Symbol → Type 0
+abbrev pub HasText : Symbol → Type 0
 HasText symbol = IsSymbol (symbol_text symbol) symbol
 
 pub integer-text : (z : ℤ) → FitsSigned w64 z → IsInteger (signed_decimal z) z
@@ -33,14 +34,11 @@ count-text n fits =
     let digits : IsNumeral 10 (decimal n) × (digits_value 10 (decimal n) ≡ n) = decimal_is_IsNumeral n (omega (arith, fits)) in
     (fits, digits.0, sym digits.1)
 
-symbol-text : (symbol : Symbol) → IsSpellableSymbol symbol → HasText symbol
-symbol-text (Keyword word) can = refl
+pub symbol-text : (symbol : Symbol) → IsSpellableSymbol symbol → HasText symbol
 symbol-text (Name name) can = (refl, can)
-symbol-text (Literal value.Null) can = refl
 symbol-text (Literal (value.Int z)) can = integer-text z can
-symbol-text (Literal (value.Text text)) can = refl
 symbol-text (Count n) can = count-text n can
-symbol-text (Sign mark) can = refl
+symbol-text other can = refl
 
 -- ---- the gaps
 
@@ -63,54 +61,27 @@ unfolding tail_of
 spaced-first symbol [] = sym (append-nil (symbol_text symbol))
 spaced-first symbol (next ∷ symbols) = refl
 
--- A sign that goes on with nothing ends before anything.
-ends-never : (mark : Mark) → ((c : ℕ) → goes_on_with (Sign mark) c ≡ false) → (rest : List ℕ) → EndsBefore (Sign mark) rest
-ends-never mark never [] = tt
-ends-never mark never (c ∷ rest) = never c
+-- No symbol goes on with a blank.
+pub blank-ends : (symbol : Symbol) (rest : List ℕ) → EndsBefore symbol (32 ∷ rest)
+blank-ends (Literal (value.Text text)) rest = refl
+blank-ends (Sign (Operator op.Lt)) rest = refl
+blank-ends symbol rest = refl
 
 -- A symbol ends before the gap that follows it, and before a sign.
 gap-ends : (symbol next : Symbol) (rest : List ℕ) → EndsBefore symbol (gap symbol next ++ (symbol_text next ++ rest))
-gap-ends (Keyword word) (Sign Close) rest = refl
-gap-ends (Keyword word) (Sign Comma) rest = refl
-gap-ends (Keyword word) (Sign Dot) rest = refl
-gap-ends (Keyword word) next rest = refl
-gap-ends (Name name) (Sign Close) rest = refl
-gap-ends (Name name) (Sign Comma) rest = refl
-gap-ends (Name name) (Sign Dot) rest = refl
-gap-ends (Name name) next rest = refl
+gap-ends (Sign Open) next rest = ends-never (Sign Open) _ (λ c. refl)
+gap-ends (Sign Close) next rest = ends-never (Sign Close) _ (λ c. refl)
+gap-ends (Sign Comma) next rest = ends-never (Sign Comma) _ (λ c. refl)
+gap-ends (Sign Dot) next rest = ends-never (Sign Dot) _ (λ c. refl)
+gap-ends (Sign Star) next rest = ends-never (Sign Star) _ (λ c. refl)
+gap-ends (Sign (Operator op.Eq)) next rest = ends-never (Sign (Operator op.Eq)) _ (λ c. refl)
+gap-ends (Sign (Operator op.Ne)) next rest = ends-never (Sign (Operator op.Ne)) _ (λ c. refl)
+gap-ends (Sign (Operator op.Le)) next rest = ends-never (Sign (Operator op.Le)) _ (λ c. refl)
+gap-ends (Sign (Operator op.Ge)) next rest = ends-never (Sign (Operator op.Ge)) _ (λ c. refl)
 gap-ends (Literal value.Null) (Sign Close) rest = refl
-gap-ends (Literal value.Null) (Sign Comma) rest = refl
-gap-ends (Literal value.Null) (Sign Dot) rest = refl
-gap-ends (Literal value.Null) next rest = refl
-gap-ends (Literal (value.Int z)) (Sign Close) rest = refl
-gap-ends (Literal (value.Int z)) (Sign Comma) rest = refl
-gap-ends (Literal (value.Int z)) (Sign Dot) rest = refl
-gap-ends (Literal (value.Int z)) next rest = refl
-gap-ends (Literal (value.Text text)) (Sign Close) rest = refl
-gap-ends (Literal (value.Text text)) (Sign Comma) rest = refl
-gap-ends (Literal (value.Text text)) (Sign Dot) rest = refl
-gap-ends (Literal (value.Text text)) next rest = refl
-gap-ends (Count n) (Sign Close) rest = refl
-gap-ends (Count n) (Sign Comma) rest = refl
-gap-ends (Count n) (Sign Dot) rest = refl
-gap-ends (Count n) next rest = refl
-gap-ends (Sign (Operator op.Lt)) (Sign Close) rest = refl
-gap-ends (Sign (Operator op.Lt)) (Sign Comma) rest = refl
-gap-ends (Sign (Operator op.Lt)) (Sign Dot) rest = refl
-gap-ends (Sign (Operator op.Lt)) next rest = refl
-gap-ends (Sign (Operator op.Gt)) (Sign Close) rest = refl
-gap-ends (Sign (Operator op.Gt)) (Sign Comma) rest = refl
-gap-ends (Sign (Operator op.Gt)) (Sign Dot) rest = refl
-gap-ends (Sign (Operator op.Gt)) next rest = refl
-gap-ends (Sign Open) next rest = ends-never Open (λ c. refl) (gap (Sign Open) next ++ (symbol_text next ++ rest))
-gap-ends (Sign Close) next rest = ends-never Close (λ c. refl) (gap (Sign Close) next ++ (symbol_text next ++ rest))
-gap-ends (Sign Comma) next rest = ends-never Comma (λ c. refl) (gap (Sign Comma) next ++ (symbol_text next ++ rest))
-gap-ends (Sign Dot) next rest = ends-never Dot (λ c. refl) (gap (Sign Dot) next ++ (symbol_text next ++ rest))
-gap-ends (Sign Star) next rest = ends-never Star (λ c. refl) (gap (Sign Star) next ++ (symbol_text next ++ rest))
-gap-ends (Sign (Operator op.Eq)) next rest = ends-never (Operator op.Eq) (λ c. refl) (gap (Sign (Operator op.Eq)) next ++ (symbol_text next ++ rest))
-gap-ends (Sign (Operator op.Ne)) next rest = ends-never (Operator op.Ne) (λ c. refl) (gap (Sign (Operator op.Ne)) next ++ (symbol_text next ++ rest))
-gap-ends (Sign (Operator op.Le)) next rest = ends-never (Operator op.Le) (λ c. refl) (gap (Sign (Operator op.Le)) next ++ (symbol_text next ++ rest))
-gap-ends (Sign (Operator op.Ge)) next rest = ends-never (Operator op.Ge) (λ c. refl) (gap (Sign (Operator op.Ge)) next ++ (symbol_text next ++ rest))
+gap-ends symbol (Sign Comma) rest = refl
+gap-ends symbol (Sign Dot) rest = refl
+gap-ends symbol next rest = refl
 
 -- ---- the whole line
 
@@ -134,22 +105,14 @@ spaced-made blanks (symbol ∷ next ∷ symbols) are all =
 
 names-something : (command : Command) → IsSpellable command → NamesSomething command
 names-something (Table name schema) can = can.1
-names-something (DropTable table) can = tt
-names-something (Index table column k) can = tt
-names-something (DropIndex table column k) can = tt
 names-something (Insert table values) can = can.1
 names-something (Update table settings conditions) can = can.1
-names-something (Delete table conditions) can = tt
-names-something (Select distinct items.All table joins conditions) can = tt
 names-something (Select distinct (items.Named names) table joins conditions) can = can.0.0
-names-something (Load table bytes) can = tt
-names-something (Dump table) can = tt
-names-something Tables can = tt
+names-something other can = tt
 
 -- Law: the canonical spelling of a command that can be spelled spells it.
 pub canonical-spells : CanonicalSpells
 canonical-spells command can =
-    let all : AllByRecursion HasText (symbols_of command) =
-    all-each IsSpellableSymbol HasText symbol-text (symbols_of command) (command-spellable command can) in
+    let all = all-each IsSpellableSymbol HasText symbol-text (symbols_of command) (command-spellable command can) in
     let made : IsMadeOf (canonical_spelling command) (symbols_of command) = spaced-made [] (symbols_of command) tt all in
     (made-no_line_feed command (canonical_spelling command) can made, names-something command can, made)

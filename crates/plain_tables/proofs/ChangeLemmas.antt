@@ -10,8 +10,8 @@ use Rattle.common_lemmas.proofs.Places.{slice_get-set_other, slice_get_set}
 use Rattle.plain_tables.specs.Tables.{Table, Row}
 use Rattle.plain_tables.specs.Databases.{Database}
 use Rattle.plain_tables.specs.Queries.{value_at}
-use Rattle.plain_tables.specs.Effects.{Done, Changed, Rows, Dumped, Listed, Refused, refused, grown_by}
-use Rattle.plain_tables.specs.Doing.{passes_all, assigned, insert_checks, loaded, dump_checks, update_checks, delete_checks, updated, without, done}
+use Rattle.plain_tables.specs.Effects.{refused, grown_by}
+use Rattle.plain_tables.specs.Doing.{passes_all, assigned, loaded, dump_checks, update_checks, delete_checks, updated, without, done}
 use Rattle.plain_tables.specs.ResolvedLaws.{rows_table, rowless, ChangesRowsOf, OwnRowsChange, KeepsIfRefused, RefusedKeeps, RefusedUpdateKeeps, RefusedDeleteKeeps, UpdateKeepsUnpicked, is_to_column, assigns_twice, HasAssigned, UpdateSetsPicked, DeletesThePicked}
 use Rattle.plain_tables.specs.declared.value.Value.TheVariants as value
 use Rattle.plain_tables.specs.declared.refusal.Refusal.{Refusal}
@@ -20,7 +20,7 @@ use Rattle.plain_tables.specs.declared.numbers.TableNumber.{TableNumber}
 use Rattle.plain_tables.specs.declared.resolved.Assignment.{Assignment}
 use Rattle.plain_tables.specs.declared.resolved.Resolved.{Resolved}
 use Rattle.plain_tables.specs.declared.resolved.Resolved.TheVariants as resolved
-use Rattle.plain_tables.proofs.EffectLemmas.{checked_satisfies, of_table_satisfies, insert_satisfies, loaded_satisfies, load_satisfies}
+use Rattle.plain_tables.proofs.EffectLemmas.{of_table_satisfies, of_table_checked, insert_satisfies, loaded_satisfies, load_satisfies}
 use Rattle.common_lemmas.proofs.Elements.{AllZip-map}
 use Rattle.common_lemmas.proofs.Filters.{filter_others, filter_again}
 
@@ -77,35 +77,23 @@ other_rows_satisfy P tables others n (inr (old, new, there, alike, same)) here c
 pub rows_satisfy : (P : Database → Type 0) (limits : Limits) (tables : Database) (r : Resolved) (n : TableNumber) → rows_table r ≡ Some n → P tables
     → ((old new : Table) → slice_get tables n.0 ≡ Some old → record new { rows = old.rows } ≡ old → P (set tables n.0 new))
     → P (done limits tables r).database
-rows_satisfy P limits tables (resolved.Table name schema) m is old new = absurd (none-some m is)
-rows_satisfy P limits tables (resolved.DropTable n) m is old new = absurd (none-some m is)
-rows_satisfy P limits tables (resolved.Index n column k) m is old new = absurd (none-some m is)
-rows_satisfy P limits tables (resolved.DropIndex n column k) m is old new = absurd (none-some m is)
 rows_satisfy P limits tables (resolved.Insert n row) m is old new =
-    let same : m ≡ n = sym (same_Some n m is) in
-    of_table_satisfies (λ e. P e.database) n tables _ (λ r. old)
-    (λ table there. checked_satisfies (λ e. P e.database) tables (insert_checks limits tables table row) _ (λ r. old)
-    (λ passed. (rw same at new) table (grown_by row table) there refl))
+    insert_satisfies (λ e. P e.database) limits tables n row (λ r. old)
+    (λ table there passed. (rw (← same_Some n m is) at new) table (grown_by row table) there refl)
 rows_satisfy P limits tables (resolved.Update n assignments tests) m is old new =
-    let same : m ≡ n = sym (same_Some n m is) in
-    of_table_satisfies (λ e. P e.database) n tables _ (λ r. old)
-    (λ table there. checked_satisfies (λ e. P e.database) tables (update_checks tables table assignments) _ (λ r. old)
-    (λ passed. (rw same at new) table (updated assignments (passes_all tests) table) there refl))
+    of_table_checked (λ e. P e.database) n tables (λ table. update_checks tables table assignments) _ (λ r. old)
+    (λ table there passed. (rw (← same_Some n m is) at new) table (updated assignments (passes_all tests) table) there refl)
 rows_satisfy P limits tables (resolved.Delete n tests) m is old new =
-    let same : m ≡ n = sym (same_Some n m is) in
-    of_table_satisfies (λ e. P e.database) n tables _ (λ r. old)
-    (λ table there. checked_satisfies (λ e. P e.database) tables (delete_checks tables table (passes_all tests)) _ (λ r. old)
-    (λ passed. (rw same at new) table (without (passes_all tests) table) there refl))
+    of_table_checked (λ e. P e.database) n tables (λ table. delete_checks tables table (passes_all tests)) _ (λ r. old)
+    (λ table there passed. (rw (← same_Some n m is) at new) table (without (passes_all tests) table) there refl)
 rows_satisfy P limits tables (resolved.Select query) m is old new = old
 rows_satisfy P limits tables (resolved.Load n rows) m is old new =
-    let same : m ≡ n = sym (same_Some n m is) in
     load_satisfies (λ e. P e.database) limits tables n rows (λ why. old)
     (λ others all. other_rows_satisfy P tables others n (loaded_has_other_rows limits tables n 1 rows others all) old
-    (rw same at new))
+    (rw (← same_Some n m is) at new))
 rows_satisfy P limits tables (resolved.Dump n) m is old new =
-    of_table_satisfies (λ e. P e.database) n tables _ (λ r. old)
-    (λ table there. checked_satisfies (λ e. P e.database) tables (dump_checks limits table) _ (λ r. old) (λ passed. old))
-rows_satisfy P limits tables resolved.Tables m is old new = absurd (none-some m is)
+    of_table_checked (λ e. P e.database) n tables (dump_checks limits) _ (λ r. old) (λ table there passed. old)
+rows_satisfy P limits tables other m is old new = absurd (none-some m is)
 
 pub own_rows_change : OwnRowsChange
 own_rows_change limits tables r n is =
@@ -117,58 +105,33 @@ own_rows_change limits tables r n is =
 
 -- ---- refusals
 
-not_done : (why : Refusal) → Done ≡ Refused why → ⊥
-not_done why same = cc
-
-not_changed : (n : ℕ) (why : Refusal) → Changed n ≡ Refused why → ⊥
-not_changed n why same = cc
-
-not_rows : (names : List (List ℕ)) (rows : List Row) (why : Refusal) → Rows names rows ≡ Refused why → ⊥
-not_rows names rows why same = cc
-
-not_dumped : (name block : List ℕ) (why : Refusal) → Dumped name block ≡ Refused why → ⊥
-not_dumped name block why same = cc
-
-not_listed : (tables : Database) (why : Refusal) → Listed tables ≡ Refused why → ⊥
-not_listed tables why same = cc
-
 pub refusal_keeps : (tables : Database) (r : Refusal) → KeepsIfRefused tables (refused tables r)
 refusal_keeps tables r why same = refl
 
 pub refused_update_keeps : RefusedUpdateKeeps
 refused_update_keeps tables n assignments picks =
-    of_table_satisfies (KeepsIfRefused tables) n tables _ (refusal_keeps tables)
-    (λ table there. checked_satisfies (KeepsIfRefused tables) tables (update_checks tables table assignments) _ (refusal_keeps tables)
-    (λ passed why same. absurd (not_changed _ why same)))
+    of_table_checked (KeepsIfRefused tables) n tables (λ table. update_checks tables table assignments) _ (refusal_keeps tables)
+    (λ table there passed why same. cc)
 
 pub refused_delete_keeps : RefusedDeleteKeeps
 refused_delete_keeps tables n picks =
-    of_table_satisfies (KeepsIfRefused tables) n tables _ (refusal_keeps tables)
-    (λ table there. checked_satisfies (KeepsIfRefused tables) tables (delete_checks tables table picks) _ (refusal_keeps tables)
-    (λ passed why same. absurd (not_changed _ why same)))
+    of_table_checked (KeepsIfRefused tables) n tables (λ table. delete_checks tables table picks) _ (refusal_keeps tables)
+    (λ table there passed why same. cc)
 
 pub refused_keeps : RefusedKeeps
-refused_keeps limits tables (resolved.Table name schema) = λ why same. absurd (not_done why same)
-refused_keeps limits tables (resolved.DropTable n) = λ why same. absurd (not_done why same)
 refused_keeps limits tables (resolved.Index n column k) =
-    of_table_satisfies (KeepsIfRefused tables) n tables _ (refusal_keeps tables) (λ table there why same. absurd (not_done why same))
+    of_table_satisfies (KeepsIfRefused tables) n tables _ (refusal_keeps tables) (λ table there why same. cc)
 refused_keeps limits tables (resolved.DropIndex n column k) =
-    of_table_satisfies (KeepsIfRefused tables) n tables _ (refusal_keeps tables) (λ table there why same. absurd (not_done why same))
+    of_table_satisfies (KeepsIfRefused tables) n tables _ (refusal_keeps tables) (λ table there why same. cc)
 refused_keeps limits tables (resolved.Insert n row) =
-    of_table_satisfies (KeepsIfRefused tables) n tables _ (refusal_keeps tables)
-    (λ table there. checked_satisfies (KeepsIfRefused tables) tables (insert_checks limits tables table row) _ (refusal_keeps tables)
-    (λ passed why same. absurd (not_changed _ why same)))
+    insert_satisfies (KeepsIfRefused tables) limits tables n row (refusal_keeps tables) (λ table there passed why same. cc)
 refused_keeps limits tables (resolved.Update n assignments tests) = refused_update_keeps tables n assignments (passes_all tests)
 refused_keeps limits tables (resolved.Delete n tests) = refused_delete_keeps tables n (passes_all tests)
-refused_keeps limits tables (resolved.Select query) = λ why same. absurd (not_rows _ _ why same)
 refused_keeps limits tables (resolved.Load n rows) =
-    load_satisfies (KeepsIfRefused tables) limits tables n rows (refusal_keeps tables)
-    (λ new all why same. absurd (not_changed _ why same))
+    load_satisfies (KeepsIfRefused tables) limits tables n rows (refusal_keeps tables) (λ new all why same. cc)
 refused_keeps limits tables (resolved.Dump n) =
-    of_table_satisfies (KeepsIfRefused tables) n tables _ (refusal_keeps tables)
-    (λ table there. checked_satisfies (KeepsIfRefused tables) tables (dump_checks limits table) _ (refusal_keeps tables)
-    (λ passed why same. absurd (not_dumped _ _ why same)))
-refused_keeps limits tables resolved.Tables = λ why same. absurd (not_listed tables why same)
+    of_table_checked (KeepsIfRefused tables) n tables (dump_checks limits) _ (refusal_keeps tables) (λ table there passed why same. cc)
+refused_keeps limits tables other = λ why same. cc
 
 -- ---- update
 

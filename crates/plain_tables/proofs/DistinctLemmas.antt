@@ -102,9 +102,7 @@ later_too : (r row : Row) (rows others : List Row) → Rise (r ∷ rows) → Con
 later_too r row rows others rise there in_others =
     elim (Contains-cons_cases r others row in_others) [
       | inl here ↦
-          let below : row_cmp r row ≡ Less =
-          All-contains (λ t. row_cmp r t ≡ Less) rows row (AllPairs-head (λ t u. row_cmp t u ≡ Less) r rows rise) there
-          in
+          let below = All-contains (λ t. row_cmp r t ≡ Less) rows row (AllPairs-head (λ t u. row_cmp t u ≡ Less) r rows rise) there in
           absurd (not_below row (subst (λ t. row_cmp t row ≡ Less) (sym here) below))
       | inr later ↦ later
     ]
@@ -118,8 +116,7 @@ rising_are_one (r ∷ rows) (s ∷ others) rise up same =
     let up_too : Rise (r ∷ others) = subst (λ t. Rise (t ∷ others)) (sym first) up in
     let all : HaveTheSame (r ∷ rows) (r ∷ others) = subst (λ t. HaveTheSame (r ∷ rows) (t ∷ others)) (sym first) same in
     let R : Row → Row → Type 0 = λ t u. row_cmp t u ≡ Less in
-    let rest : rows ≡ others =
-    rising_are_one rows others (AllPairs-tail R r rows rise) (AllPairs-tail R s others up)
+    let rest = rising_are_one rows others (AllPairs-tail R r rows rise) (AllPairs-tail R s others up)
     (λ row. (
       λ there. later_too r row rows others rise there ((all row).0 (Contains-cons r rows row there)),
       λ there. later_too r row others rows up_too there ((all row).1 (Contains-cons r others row there)),

@@ -6,7 +6,7 @@ use Rattle.std.proofs.lemmas.Bool.{cond_both}
 use Rattle.plain_tables.specs.CsvReading.{Record}
 use Rattle.plain_tables.specs.Tables.{Table, Row}
 use Rattle.plain_tables.specs.Databases.{Database}
-use Rattle.plain_tables.specs.Effects.{Effect, Check, Outcome, Done, Changed, Rows, Dumped, Listed, Refused, refused, checked, grown_by}
+use Rattle.plain_tables.specs.Effects.{Effect, Check, Outcome, Changed, Refused, refused, checked, grown_by}
 use Rattle.plain_tables.specs.Resolving.{resolved_of}
 use Rattle.plain_tables.specs.Doing.{on_table, insert_checks, insert, in_record, left_with, goes_on, with_record, loaded, load_effect, load, done}
 use Rattle.plain_tables.specs.Commands.{effect_of_resolved, effect_of}
@@ -42,6 +42,15 @@ pub of_table_satisfies : (P : Effect → Type 0) (n : TableNumber) (tables : Dat
 of_table_satisfies P n tables effect old new =
     option_map_or_satisfies P effect (slice_get tables n.0) (refused tables NoSuchTable) (old NoSuchTable) new
 
+-- the same of a command on a table behind checks
+pub of_table_checked : (P : Effect → Type 0) (n : TableNumber) (tables : Database) (checks : Table → List Check) (done : Table → Effect)
+    → ((r : Refusal) → P (refused tables r))
+    → ((table : Table) → slice_get tables n.0 ≡ Some table → AllByRecursion (λ c. c.refuses ≡ false) (checks table) → P (done table))
+    → P (on_table n tables (λ table. checked tables (checks table) (done table)))
+of_table_checked P n tables checks done old new =
+    of_table_satisfies P n tables (λ table. checked tables (checks table) (done table)) old
+    (λ table there. checked_satisfies P tables (checks table) (done table) old (new table there))
+
 resolved_satisfies : (P : Effect → Type 0) (limits : Limits) (tables : Database) (found : Result Resolved Refusal)
     → ((why : Refusal) → P (refused tables why)) → ((r : Resolved) → found ≡ Ok r → P (done limits tables r)) → P (effect_of_resolved limits tables found)
 resolved_satisfies P limits tables (Ok r) old new = new r refl
@@ -63,17 +72,12 @@ pub insert_satisfies : (P : Effect → Type 0) (limits : Limits) (tables : Datab
     → P (record { database = set tables n.0 (grown_by row table); outcome = Changed 1 }))
     → P (insert limits tables n row)
 insert_satisfies P limits tables n row old new =
-    of_table_satisfies P n tables _ old
-    (λ table there. checked_satisfies P tables (insert_checks limits tables table row) _ old (new table there))
+    of_table_checked P n tables (λ table. insert_checks limits tables table row) _ old new
 
 -- a record that isn't refused leaves the database of its effect
 pub left_is : (k : ℕ) (tables : Database) (o : Outcome) (new : Database) → left_with k tables o ≡ Ok new → tables ≡ new
-left_is k tables Done new h = same_Ok tables new h
-left_is k tables (Changed n) new h = same_Ok tables new h
-left_is k tables (Rows names rows) new h = same_Ok tables new h
-left_is k tables (Dumped name block) new h = same_Ok tables new h
-left_is k tables (Listed others) new h = same_Ok tables new h
 left_is k tables (Refused why) new h = absurd (not_Ok (in_record k why) new h)
+left_is k tables other new h = same_Ok tables new h
 
 -- where nothing is refused, neither what comes first is nor what comes next
 pub goes_on_parts : (next : Database → Result Database Refusal) (found : Result Database Refusal) (new : Database)

@@ -1,36 +1,36 @@
 -- First words: each command has a keyword in front.
-use Rattle.std.proofs.Common.{◌≡◌, ◌≢◌, ℕ, List, [], ◌<◌, ◌∷◌, ◌++◌, length, map, Bool, true, false, refl, append_assoc, subst, IsTrue}
+use Rattle.std.proofs.Common.{◌≡◌, ◌≢◌, ℕ, List, [], ◌∷◌, ◌++◌, Bool, true, false, refl, append_assoc, subst, IsTrue}
 use Rattle.std.specs.List.{flat_map}
 use Rattle.std.specs.Str.{bytes_eq}
 use Rattle.std.proofs.lemmas.Slice.Eq.{bytes_eq-Decides}
 use lib.Chars.{codes}
 use Rattle.plain_tables.specs.Names.{is_word}
-use Rattle.plain_tables.specs.Spelling.{Symbol, Keyword, Name, Count, Sign, Open, Close, separated, symbols_of, column_symbols, index_symbols, value_symbols, setting_symbols, items_symbols, distinct_symbols, join_symbols, where_symbols, IsMadeOf, NamesSomething, Spells}
+use Rattle.plain_tables.specs.Spelling.{Symbol, Keyword, Name, symbols_of, items_symbols, distinct_symbols, join_symbols, where_symbols, IsMadeOf, NamesSomething, Spells}
 use Rattle.plain_tables.specs.Reading.{lexeme, after_lexeme}
+use Rattle.plain_tables.specs.ResolvedLaws.{NamesItems}
 use Rattle.plain_tables.specs.declared.condition.Cond.{Cond}
 use Rattle.plain_tables.specs.declared.command.Join.{Join}
 use Rattle.plain_tables.specs.declared.command.Items.{Items}
 use Rattle.plain_tables.specs.declared.command.Items.TheVariants as items
 use Rattle.plain_tables.specs.declared.command.Command.{Command}
-use Rattle.plain_tables.specs.declared.command.Command.TheVariants.{Table, DropTable, Index, DropIndex, Insert, Update, Delete, Select, Load, Dump, Tables}
+use Rattle.plain_tables.specs.declared.command.Command.TheVariants.{Select}
 use Rattle.plain_tables.proofs.Lexemes.{lexeme-of_made}
 
 -- Words that a comparison tells apart are different.
 pub different : (word other : List ℕ) → bytes_eq word other ≡ false → word ≢ other
 different word other test e = let same : bytes_eq word other ≡ true = (bytes_eq-Decides word other).1 e in cc
 
+-- the word of the first symbol, and the symbols behind it
+abbrev word_in_front : List Symbol → List ℕ
+word_in_front (Keyword word ∷ symbols) = word
+word_in_front symbols = []
+
+abbrev behind_front : List Symbol → List Symbol
+behind_front [] = []
+behind_front (symbol ∷ symbols) = symbols
+
 abbrev pub first_word : Command → List ℕ
-first_word (Table name schema) = codes "table"
-first_word (DropTable table) = codes "drop"
-first_word (Index table column k) = codes "index"
-first_word (DropIndex table column k) = codes "drop"
-first_word (Insert table values) = codes "insert"
-first_word (Update table settings conditions) = codes "update"
-first_word (Delete table conditions) = codes "delete"
-first_word (Select distinct items table joins conditions) = codes "select"
-first_word (Load table bytes) = codes "load"
-first_word (Dump table) = codes "dump"
-first_word Tables = codes "tables"
+first_word command = word_in_front (symbols_of command)
 
 -- from NAME {join ..} [where ..]
 abbrev pub from_symbols : List ℕ → List Join → List Cond → List Symbol
@@ -38,40 +38,16 @@ from_symbols table joins conditions =
     Keyword (codes "from") ∷ Name table ∷ (flat_map join_symbols joins ++ where_symbols conditions)
 
 abbrev pub behind_word : Command → List Symbol
-behind_word (Table name schema) = Name name ∷ Sign Open ∷ separated (map column_symbols schema.columns) ++ Sign Close ∷ []
-behind_word (DropTable table) = Keyword (codes "table") ∷ Name table ∷ []
-behind_word (Index table column k) = index_symbols table column k
-behind_word (DropIndex table column k) = Keyword (codes "index") ∷ index_symbols table column k
-behind_word (Insert table values) = Name table ∷ Sign Open ∷ separated (map value_symbols values) ++ Sign Close ∷ []
-behind_word (Update table settings conditions) =
-    Name table ∷ Keyword (codes "set") ∷ separated (map setting_symbols settings) ++ where_symbols conditions
-behind_word (Delete table conditions) = Name table ∷ where_symbols conditions
 behind_word (Select distinct items table joins conditions) =
     distinct_symbols distinct ++ (items_symbols items ++ from_symbols table joins conditions)
-behind_word (Load table bytes) = Name table ∷ Count bytes ∷ []
-behind_word (Dump table) = Name table ∷ []
-behind_word Tables = []
+behind_word other = behind_front (symbols_of other)
 
 pub split-word : (command : Command) → (symbols_of command ≡ Keyword (first_word command) ∷ behind_word command) × IsTrue (is_word (first_word command))
-split-word (Table name schema) = (refl, refl)
-split-word (DropTable table) = (refl, refl)
-split-word (Index table column k) = (refl, refl)
-split-word (DropIndex table column k) = (refl, refl)
-split-word (Insert table values) = (refl, refl)
-split-word (Update table settings conditions) = (refl, refl)
-split-word (Delete table conditions) = (refl, refl)
 split-word (Select distinct items table joins conditions) = (simp append_assoc, refl)
-split-word (Load table bytes) = (refl, refl)
-split-word (Dump table) = (refl, refl)
-split-word Tables = (refl, refl)
-
--- *, or one column or more
-abbrev pub HasItems : Items → Type 0
-HasItems items.All = Unit {0}
-HasItems (items.Named names) = 0 < length names
+split-word other = (refl, refl)
 
 pub select-items : (distinct : Bool) (i : Items) (table : List ℕ) (joins : List Join) (conditions : List Cond)
-    → NamesSomething (Select distinct i table joins conditions) → HasItems i
+    → NamesSomething (Select distinct i table joins conditions) → NamesItems i
 select-items distinct items.All table joins conditions some = tt
 select-items distinct (items.Named names) table joins conditions some = some
 

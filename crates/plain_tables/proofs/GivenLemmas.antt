@@ -10,9 +10,8 @@ use Rattle.plain_tables.specs.declared.command.Items.TheVariants as items
 use Rattle.plain_tables.specs.declared.command.Command.TheVariants as command
 
 width : (v : Value) → IsSpellableValue v → HasWidth v
-width value.Null is = tt
 width (value.Int z) is = is
-width (value.Text text) is = tt
+width other is = tt
 
 named_items : (its : Items) → AreSpellableItems its → NamesItems its
 named_items items.All is = tt
@@ -24,16 +23,10 @@ spellable_are_given (command.Table name schema) is = (
   is.1,
   All-weaker IsSpellableColumn (λ c. IsName c.name) (λ c s. s.0) schema.columns (All-from_recursion IsSpellableColumn schema.columns is.2),
 )
-spellable_are_given (command.DropTable name) is = tt
-spellable_are_given (command.Index name column k) is = tt
-spellable_are_given (command.DropIndex name column k) is = tt
 spellable_are_given (command.Insert name row) is =
     All-weaker IsSpellableValue HasWidth width row (All-from_recursion IsSpellableValue row is.2)
 spellable_are_given (command.Update name settings conditions) is =
     All-weaker IsSpellableSetting (λ s. HasWidth s.value) (λ s can. width s.value can.1) settings
     (All-from_recursion IsSpellableSetting settings is.2)
-spellable_are_given (command.Delete name conditions) is = tt
 spellable_are_given (command.Select distinct its name joins conditions) is = named_items its is.0
-spellable_are_given (command.Load name bytes) is = tt
-spellable_are_given (command.Dump name) is = tt
-spellable_are_given command.Tables is = tt
+spellable_are_given other is = tt

@@ -32,13 +32,10 @@ typed_held : (tables : Database) (k : ColKind) (v : Value) → is_typed tables v
     → CanHold tables k v
 typed_held tables k value.Null typed storable held = typed
 typed_held tables kind.Int (value.Int z) typed storable held = storable
-typed_held tables kind.Int (value.Text text) typed storable held = absurd (false≢true typed)
-typed_held tables kind.Text (value.Int z) typed storable held = absurd (false≢true typed)
 typed_held tables kind.Text (value.Text text) typed storable held = storable
-typed_held tables (kind.Ref name) (value.Int z) typed storable held = held (name, value.Int z) refl
-typed_held tables (kind.Ref name) (value.Text text) typed storable held = held (name, value.Text text) refl
-typed_held tables (kind.RefOrNull name) (value.Int z) typed storable held = held (name, value.Int z) refl
-typed_held tables (kind.RefOrNull name) (value.Text text) typed storable held = held (name, value.Text text) refl
+typed_held tables (kind.Ref name) v typed storable held = held (name, v) refl
+typed_held tables (kind.RefOrNull name) v typed storable held = held (name, v) refl
+typed_held tables k v typed storable held = absurd (false≢true typed)
 
 pub can_hold : (tables : Database) (column : Column) (v : Value) → is_typed tables v column.kind ≡ true → IsStorable v
     → IsHeldOf tables column v → CanHold tables column.kind v
@@ -51,14 +48,9 @@ StaysHeld tables others r = is_held tables r ≡ true → is_held others r ≡ t
 stays_of_kind : (tables others : Database) (k : ColKind) (v : Value)
     → ((r : Reference) → reference_of (of_kind k) v ≡ Some r → StaysHeld tables others r) → CanHold tables k v → CanHold others k v
 stays_of_kind tables others k value.Null stays h = h
-stays_of_kind tables others kind.Int (value.Int z) stays h = h
-stays_of_kind tables others kind.Int (value.Text text) stays h = h
-stays_of_kind tables others kind.Text (value.Int z) stays h = h
-stays_of_kind tables others kind.Text (value.Text text) stays h = h
-stays_of_kind tables others (kind.Ref name) (value.Int z) stays h = stays (name, value.Int z) refl h
-stays_of_kind tables others (kind.Ref name) (value.Text text) stays h = stays (name, value.Text text) refl h
-stays_of_kind tables others (kind.RefOrNull name) (value.Int z) stays h = stays (name, value.Int z) refl h
-stays_of_kind tables others (kind.RefOrNull name) (value.Text text) stays h = stays (name, value.Text text) refl h
+stays_of_kind tables others (kind.Ref name) v stays h = stays (name, v) refl h
+stays_of_kind tables others (kind.RefOrNull name) v stays h = stays (name, v) refl h
+stays_of_kind tables others k v stays h = h
 
 pub can_still_hold : (tables others : Database) (k : ColKind) (v : Value) → ((r : Reference) → StaysHeld tables others r) → CanHold tables k v
     → CanHold others k v
@@ -82,18 +74,9 @@ row_held tables (c ∷ columns) (v ∷ row) same typed storable held =
 
 holds_of_kind : (tables : Database) (k : ColKind) (v : Value) → CanHold tables k v → IsHeldOf tables (of_kind k) v
 holds_of_kind tables k value.Null can r e = absurd (none-some r e)
-holds_of_kind tables kind.Int (value.Int z) can r e = absurd (none-some r e)
-holds_of_kind tables kind.Int (value.Text text) can r e = absurd can
-holds_of_kind tables kind.Text (value.Int z) can r e = absurd can
-holds_of_kind tables kind.Text (value.Text text) can r e = absurd (none-some r e)
-holds_of_kind tables (kind.Ref name) (value.Int z) can r e =
-    subst (λ m. is_held tables m ≡ true) (same_Some (name, value.Int z) r e) can
-holds_of_kind tables (kind.Ref name) (value.Text text) can r e =
-    subst (λ m. is_held tables m ≡ true) (same_Some (name, value.Text text) r e) can
-holds_of_kind tables (kind.RefOrNull name) (value.Int z) can r e =
-    subst (λ m. is_held tables m ≡ true) (same_Some (name, value.Int z) r e) can
-holds_of_kind tables (kind.RefOrNull name) (value.Text text) can r e =
-    subst (λ m. is_held tables m ≡ true) (same_Some (name, value.Text text) r e) can
+holds_of_kind tables (kind.Ref name) v can r e = subst (λ m. is_held tables m ≡ true) (same_Some (name, v) r e) can
+holds_of_kind tables (kind.RefOrNull name) v can r e = subst (λ m. is_held tables m ≡ true) (same_Some (name, v) r e) can
+holds_of_kind tables k v can r e = absurd (none-some r e)
 
 -- what a row refers to is held where its columns can hold it
 pub row_holds : (tables : Database) (columns : List Column) (row : Row) → IsRowOf tables columns row

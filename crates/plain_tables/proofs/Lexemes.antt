@@ -12,7 +12,7 @@ use Rattle.std.proofs.lemmas.List.{take-append-drop}
 use Rattle.std.proofs.lemmas.Bool.{and_parts, or_parts}
 use Rattle.std.proofs.lemmas.Bool.Decides.{nat_tests}
 use Rattle.plain_tables.specs.Names.{is_word, is_word_character, is_letter}
-use Rattle.plain_tables.specs.Spelling.{Mark, Open, Close, Comma, Dot, Star, Operator, mark_text, doubled, text_literal, Symbol, Keyword, Name, Literal, Count, Sign, IsInteger, AreBlanks, is_blank, IsSymbol, EndsBefore, IsMadeOf, goes_on_with}
+use Rattle.plain_tables.specs.Spelling.{Mark, Operator, mark_text, doubled, text_literal, Symbol, Keyword, Name, Literal, Count, Sign, IsInteger, AreBlanks, is_blank, IsSymbol, EndsBefore, IsMadeOf, goes_on_with}
 use Rattle.plain_tables.specs.declared.value.Value.TheVariants as value
 use Rattle.plain_tables.specs.declared.condition.Op.TheVariants as op
 use Rattle.plain_tables.specs.Reading.{behind_blanks, begins_run, is_operator, operator_length, length_behind, lexeme_length, lexeme, after_lexeme}
@@ -106,20 +106,13 @@ integer-run characters z (fits, (digits, numeral, inr (e, value))) = rw e (refl,
 -- The keywords of a grammar are words.
 abbrev pub IsWellFormed : Symbol → Type 0
 IsWellFormed (Keyword word) = IsTrue (is_word word)
-IsWellFormed (Name name) = Unit {0}
-IsWellFormed (Literal value) = Unit {0}
-IsWellFormed (Count n) = Unit {0}
-IsWellFormed (Sign mark) = Unit {0}
+IsWellFormed symbol = Unit {0}
 
 -- a word or a number
 abbrev pub IsWordOrNumber : Symbol → Type 0
-IsWordOrNumber (Keyword word) = Unit {0}
-IsWordOrNumber (Name name) = Unit {0}
-IsWordOrNumber (Literal value.Null) = Unit {0}
-IsWordOrNumber (Literal (value.Int z)) = Unit {0}
 IsWordOrNumber (Literal (value.Text text)) = ⊥
-IsWordOrNumber (Count n) = Unit {0}
 IsWordOrNumber (Sign mark) = ⊥
+IsWordOrNumber symbol = Unit {0}
 
 pub symbol-run : (characters : List ℕ) (symbol : Symbol) → IsWordOrNumber symbol → IsWellFormed symbol → IsSymbol characters symbol
     → IsRun characters
@@ -129,9 +122,8 @@ symbol-run characters (Name name) plain well is =
     rw is.0 (word-run name word)
 symbol-run characters (Literal value.Null) plain well is = rw is (word-run (codes "null") refl)
 symbol-run characters (Literal (value.Int z)) plain well is = integer-run characters z is
-symbol-run characters (Literal (value.Text text)) plain well is = elim plain [ ]
 symbol-run characters (Count n) plain well is = digits-run characters is.1
-symbol-run characters (Sign mark) plain well is = elim plain [ ]
+symbol-run characters other plain well is = absurd plain
 
 -- The characters are a run, and the symbol goes on as a run does.
 abbrev HasRun : List ℕ → Symbol → Type 0
@@ -149,13 +141,9 @@ abbrev HasShape : List ℕ → Symbol → Type 0
 HasShape characters symbol = HasRun characters symbol ⊎ (HasText characters symbol ⊎ HasSign characters symbol)
 
 symbol-shape : (characters : List ℕ) (symbol : Symbol) → IsWellFormed symbol → IsSymbol characters symbol → HasShape characters symbol
-symbol-shape characters (Keyword word) well is = inl (symbol-run characters (Keyword word) tt well is, λ c. refl)
-symbol-shape characters (Name name) well is = inl (symbol-run characters (Name name) tt well is, λ c. refl)
-symbol-shape characters (Literal value.Null) well is = inl (symbol-run characters (Literal value.Null) tt well is, λ c. refl)
-symbol-shape characters (Literal (value.Int z)) well is = inl (symbol-run characters (Literal (value.Int z)) tt well is, λ c. refl)
 symbol-shape characters (Literal (value.Text text)) well is = inr (inl (text, is, λ c. refl))
-symbol-shape characters (Count n) well is = inl (symbol-run characters (Count n) tt well is, λ c. refl)
 symbol-shape characters (Sign mark) well is = inr (inr (mark, is, λ c. refl))
+symbol-shape characters symbol well is = inl (symbol-run characters symbol tt well is, λ c. refl)
 
 -- ---- from the symbol to its length
 
@@ -187,25 +175,11 @@ text-length text rest free =
     rw (append_assoc inner (39 ∷ []) rest, text_length-literal text rest free, length-append inner (39 ∷ [])) (one_more (length inner + 1))
 
 sign-length : (mark : Mark) (rest : List ℕ) → EndsBefore (Sign mark) rest → lexeme_length (mark_text mark ++ rest) ≡ length (mark_text mark)
-sign-length (Operator op.Ne) rest ends = refl
-sign-length (Operator op.Le) rest ends = refl
-sign-length (Operator op.Ge) rest ends = refl
 sign-length (Operator op.Lt) (c ∷ cs) ends = rw ends refl
 sign-length (Operator op.Gt) (c ∷ cs) ends = rw ends refl
-sign-length (Operator op.Eq) (c ∷ cs) ends = refl
 sign-length (Operator op.Eq) [] ends = refl
-sign-length (Operator op.Lt) [] ends = refl
-sign-length (Operator op.Gt) [] ends = refl
-sign-length Open [] ends = refl
-sign-length Open (c ∷ cs) ends = refl
-sign-length Close [] ends = refl
-sign-length Close (c ∷ cs) ends = refl
-sign-length Comma [] ends = refl
-sign-length Comma (c ∷ cs) ends = refl
-sign-length Dot [] ends = refl
-sign-length Dot (c ∷ cs) ends = refl
-sign-length Star [] ends = refl
-sign-length Star (c ∷ cs) ends = refl
+sign-length mark [] ends = refl
+sign-length mark (c ∷ cs) ends = refl
 
 shape-length : (characters rest : List ℕ) (symbol : Symbol) → HasShape characters symbol → EndsBefore symbol rest
     → lexeme_length (characters ++ rest) ≡ length characters
@@ -219,17 +193,8 @@ run-no_blank [] rest run = elim run [ ]
 run-no_blank (c ∷ cs) rest run = run.0
 
 sign-no_blank : (mark : Mark) (rest : List ℕ) → StopsBefore is_blank (mark_text mark ++ rest)
-sign-no_blank Open rest = refl
-sign-no_blank Close rest = refl
-sign-no_blank Comma rest = refl
-sign-no_blank Dot rest = refl
-sign-no_blank Star rest = refl
 sign-no_blank (Operator op.Eq) rest = refl
-sign-no_blank (Operator op.Ne) rest = refl
-sign-no_blank (Operator op.Lt) rest = refl
-sign-no_blank (Operator op.Le) rest = refl
-sign-no_blank (Operator op.Gt) rest = refl
-sign-no_blank (Operator op.Ge) rest = refl
+sign-no_blank mark rest = refl
 
 shape-no_blank : (characters rest : List ℕ) (symbol : Symbol) → HasShape characters symbol → StopsBefore is_blank (characters ++ rest)
 shape-no_blank characters rest symbol (inl (run, same)) = run-no_blank characters rest run
@@ -281,7 +246,8 @@ text-ends (c ∷ cs) characters e =
     let first : c ≡ 39 = (lexeme-first c 39 cs _ e).0 in
     rw (one_more, first) (behind_text-free cs)
 
-ends-never : (symbol : Symbol) (rest : List ℕ) → ((c : ℕ) → goes_on_with symbol c ≡ false) → EndsBefore symbol rest
+-- A symbol that goes on with nothing ends before anything.
+pub ends-never : (symbol : Symbol) (rest : List ℕ) → ((c : ℕ) → goes_on_with symbol c ≡ false) → EndsBefore symbol rest
 ends-never symbol [] same = tt
 ends-never symbol (c ∷ cs) same = same c
 
@@ -298,23 +264,14 @@ operator-ends symbol first same [] e = tt
 operator-ends symbol first same (c ∷ cs) e = operator-ends-at symbol first same c cs (is_operator first c) refl e
 
 sign-ends : (text : List ℕ) (mark : Mark) → take (lexeme_length text) text ≡ mark_text mark → EndsBefore (Sign mark) (drop (lexeme_length text) text)
-sign-ends text Open e = ends-never (Sign Open) _ (λ c. refl)
-sign-ends text Close e = ends-never (Sign Close) _ (λ c. refl)
-sign-ends text Comma e = ends-never (Sign Comma) _ (λ c. refl)
-sign-ends text Dot e = ends-never (Sign Dot) _ (λ c. refl)
-sign-ends text Star e = ends-never (Sign Star) _ (λ c. refl)
-sign-ends text (Operator op.Eq) e = ends-never (Sign (Operator op.Eq)) _ (λ c. refl)
-sign-ends text (Operator op.Ne) e = ends-never (Sign (Operator op.Ne)) _ (λ c. refl)
-sign-ends text (Operator op.Le) e = ends-never (Sign (Operator op.Le)) _ (λ c. refl)
-sign-ends text (Operator op.Ge) e = ends-never (Sign (Operator op.Ge)) _ (λ c. refl)
-sign-ends [] (Operator op.Lt) e = tt
+sign-ends [] mark e = tt
 sign-ends (c ∷ cs) (Operator op.Lt) e =
     let parts : (c ≡ 60) × (take (length_behind c cs) cs ≡ []) = lexeme-first c 60 cs [] e in
     rw (one_more, parts.0) (operator-ends (Sign (Operator op.Lt)) 60 (λ d no. (or_parts ((d == 61) || (d == 62)) false no).0) cs (rw parts.0 at parts.1))
-sign-ends [] (Operator op.Gt) e = tt
 sign-ends (c ∷ cs) (Operator op.Gt) e =
     let parts : (c ≡ 62) × (take (length_behind c cs) cs ≡ []) = lexeme-first c 62 cs [] e in
     rw (one_more, parts.0) (operator-ends (Sign (Operator op.Gt)) 62 (λ d no. no) cs (rw parts.0 at parts.1))
+sign-ends text mark e = ends-never (Sign mark) _ (λ c. refl)
 
 ends-word : (symbol : Symbol) (rest : List ℕ) → ((c : ℕ) → goes_on_with symbol c ≡ is_word_character c)
     → StopsBefore is_word_character rest → EndsBefore symbol rest

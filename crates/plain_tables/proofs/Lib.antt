@@ -18,6 +18,7 @@ pub mod LineFeeds
 pub mod ListLemmas
 pub mod Lists
 pub mod LoadLemmas
+pub mod Meanings
 pub mod MeantLemmas
 pub mod NameLemmas
 pub mod ProductLemmas

@@ -3,7 +3,7 @@ use Rattle.std.proofs.Common.{◌≡◌, ◌≢◌, ℕ, zero, suc, List, [], �
 use Rattle.std.specs.Prelude.{◌==◌}
 use Rattle.std.specs.List.{AllByRecursion, Contains, flat_map}
 use Rattle.plain_tables.specs.Names.{is_word_character}
-use Rattle.plain_tables.specs.Spelling.{Mark, Open, Close, Comma, Dot, Star, Operator, mark_text, doubled, text_literal}
+use Rattle.plain_tables.specs.Spelling.{Mark, Operator, mark_text, doubled, text_literal}
 use Rattle.plain_tables.specs.Reading.{begins_run}
 use Rattle.plain_tables.specs.declared.condition.Op.TheVariants as op
 use Rattle.plain_tables.proofs.Lexemes.{AllPass, IsRun}
@@ -35,17 +35,10 @@ run-no_feed (c ∷ cs) run =
     ((λ e. let here : begins_run 10 ≡ true = ap begins_run (sym e) ∙ run.1 in cc), passing-no_feed is_word_character refl cs run.2)
 
 pub mark-no_feed : (mark : Mark) → HasNoFeed (mark_text mark)
-mark-no_feed Open = ((λ e. omega arith), tt)
-mark-no_feed Close = ((λ e. omega arith), tt)
-mark-no_feed Comma = ((λ e. omega arith), tt)
-mark-no_feed Dot = ((λ e. omega arith), tt)
-mark-no_feed Star = ((λ e. omega arith), tt)
-mark-no_feed (Operator op.Eq) = ((λ e. omega arith), tt)
 mark-no_feed (Operator op.Ne) = ((λ e. omega arith), ((λ e. omega arith), tt))
-mark-no_feed (Operator op.Lt) = ((λ e. omega arith), tt)
 mark-no_feed (Operator op.Le) = ((λ e. omega arith), ((λ e. omega arith), tt))
-mark-no_feed (Operator op.Gt) = ((λ e. omega arith), tt)
 mark-no_feed (Operator op.Ge) = ((λ e. omega arith), ((λ e. omega arith), tt))
+mark-no_feed mark = ((λ e. omega arith), tt)
 
 -- ---- texts
 

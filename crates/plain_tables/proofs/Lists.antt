@@ -102,25 +102,21 @@ pub list-one : {X : Type 0} (between : Symbol) (symbols : X → List Symbol) →
 list-one between symbols is one line [] ys m n some some' ends ends' made made' = absurd (omega arith)
 list-one between symbols is one line (x ∷ xs) [] m n some some' ends ends' made made' = absurd (omega arith)
 list-one between symbols is one line (x ∷ []) (y ∷ []) m n some some' ends ends' made made' =
-    let both : (x ≡ y) × HaveOneRest m n = one line x y m n ends.ends_item ends'.ends_item made made' in
+    let both = one line x y m n ends.ends_item ends'.ends_item made made' in
     ((λ i. both.0 i ∷ []), both.1)
 list-one between symbols is one line (x ∷ []) (y ∷ z ∷ ys) m n some some' ends ends' made made' =
     let more : List Symbol = list_and between symbols (z ∷ ys) n in
-    let both : (x ≡ y) × HaveOneRest m (between ∷ more) =
-    one line x y m (between ∷ more) ends.ends_item (is.ends_item more) made (made-more between symbols line y z ys n made') in
+    let both = one line x y m (between ∷ more) ends.ends_item (is.ends_item more) made (made-more between symbols line y z ys n made') in
     absurd (ends.no_more both.1.0 more both.1.2 both.1.1)
 list-one between symbols is one line (x ∷ z ∷ xs) (y ∷ []) m n some some' ends ends' made made' =
     let more : List Symbol = list_and between symbols (z ∷ xs) m in
-    let both : (x ≡ y) × HaveOneRest (between ∷ more) n =
-    one line x y (between ∷ more) n (is.ends_item more) ends'.ends_item (made-more between symbols line x z xs m made) made' in
+    let both = one line x y (between ∷ more) n (is.ends_item more) ends'.ends_item (made-more between symbols line x z xs m made) made' in
     absurd (ends'.no_more both.1.0 more both.1.1 both.1.2)
 list-one between symbols is one line (x ∷ z ∷ xs) (y ∷ w ∷ ys) m n some some' ends ends' made made' =
     let more : List Symbol = list_and between symbols (z ∷ xs) m in
     let more' : List Symbol = list_and between symbols (w ∷ ys) n in
-    let both : (x ≡ y) × HaveOneRest (between ∷ more) (between ∷ more') =
-    one line x y (between ∷ more) (between ∷ more') (is.ends_item more) (is.ends_item more')
+    let both = one line x y (between ∷ more) (between ∷ more') (is.ends_item more) (is.ends_item more')
     (made-more between symbols line x z xs m made) (made-more between symbols line y w ys n made') in
-    let others : (z ∷ xs ≡ w ∷ ys) × HaveOneRest m n =
-    list-one between symbols is one (after_lexeme both.1.0) (z ∷ xs) (w ∷ ys) m n (omega arith) (omega arith) ends ends'
+    let others = list-one between symbols is one (after_lexeme both.1.0) (z ∷ xs) (w ∷ ys) m n (omega arith) (omega arith) ends ends'
     (lexeme-of_made both.1.0 between more is.well both.1.1).1 (lexeme-of_made both.1.0 between more' is.well both.1.2).1 in
     ((λ i. both.0 i ∷ others.0 i), others.1)

@@ -1,5 +1,5 @@
 -- Loads: that they go on from a load of the first rows, and what they answer.
-use Rattle.std.proofs.Common.{◌≡◌, ◌+◌, ◌<◌, ◌≤◌, ℕ, suc, set, length, arith, List, [], ◌∷◌, ◌++◌, refl, sym, ap, subst, Some}
+use Rattle.std.proofs.Common.{◌≡◌, ◌+◌, ◌<◌, ◌≤◌, ℕ, suc, set, length, arith, List, [], ◌∷◌, ◌++◌, refl, sym, ap, subst}
 use Rattle.std.specs.Prelude.{Result, Ok, Err}
 use Rattle.std.specs.List.{Contains, slice_get}
 use Rattle.std.specs.Option.{option_map_or}
@@ -10,11 +10,10 @@ use Rattle.plain_tables.specs.Effects.{Effect, Changed, refused, checked, grown_
 use Rattle.plain_tables.specs.Doing.{insert_checks, left_with, goes_on, with_record, loaded, load_effect}
 use Rattle.plain_tables.specs.ResolvedLaws.{OfTable, LoadGoesOn, record_refusals, IsLoad, all_rows, no_row, LoadsAreTold}
 use Rattle.plain_tables.specs.declared.refusal.Refusal.{Refusal}
-use Rattle.plain_tables.specs.declared.refusal.Refusal.TheVariants.{NoSuchTable, KeyExists, NoReferencedRow, TableFull}
+use Rattle.plain_tables.specs.declared.refusal.Refusal.TheVariants.{NoSuchTable}
 use Rattle.plain_tables.specs.declared.command.Limits.{Limits}
 use Rattle.plain_tables.specs.declared.numbers.TableNumber.{TableNumber}
 use Rattle.plain_tables.proofs.EffectLemmas.{checked_each}
-use Rattle.common_lemmas.proofs.Elements.{Contains-head, Contains-cons}
 use Rattle.common_lemmas.proofs.Places.{slice_get_set}
 
 -- ---- more rows
@@ -53,26 +52,11 @@ record_told limits tables n k row (table, there, t) =
     let told : Effect → Type 0 = λ e. IsTold n k 1 (left_with k e.database e.outcome) in
     let here : option_map_or effect (slice_get tables n.0) (refused tables NoSuchTable) ≡ effect table =
     ap (λ found. option_map_or effect found (refused tables NoSuchTable)) there in
-    let one : Refusal = KeyExists (Some k) in
-    let two : Refusal = NoReferencedRow (Some k) in
-    let three : Refusal = TableFull (Some k) in
     subst told (sym here)
     (checked_each told tables (insert_checks limits tables table row)
     (record { database = set tables n.0 (grown_by row table); outcome = Changed 1 }) (
-      (k, omega arith, omega arith, Contains-head one (two ∷ three ∷ [])),
-      (
-        (k, omega arith, omega arith, Contains-cons one (two ∷ three ∷ []) two (Contains-head two (three ∷ []))),
-        (
-          (
-            k,
-            omega arith,
-            omega arith,
-            Contains-cons one (two ∷ three ∷ []) three
-                (Contains-cons two (three ∷ []) three (Contains-head three [])),
-          ),
-          tt,
-        ),
-      ),
+      (k, omega arith, omega arith, (0, omega arith, refl)),
+      ((k, omega arith, omega arith, (1, omega arith, refl)), ((k, omega arith, omega arith, (2, omega arith, refl)), tt)),
     )
     (λ passed. (grown_by row table, slice_get_set tables n.0 (grown_by row table) (slice_get_within tables n.0 table there), tt)))
 

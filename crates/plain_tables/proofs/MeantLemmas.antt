@@ -98,8 +98,7 @@ none_fits side k (t ∷ tables) others =
     let test : JoinedColumn → Bool = fits (side_name side) in
     let apart : bytes_eq side.table t.name ≡ false = differs_false side.table t.name (All-head (λ u. side.table ≢ u.name) t tables others) in
     let made : ℕ × Column → JoinedColumn = λ c. record { table = t.name; place = record { source = k; column = column_number c.0 }; column = c.1 } in
-    let first : filter test (source_columns (k, t)) ≡ [] =
-    filter_none test (source_columns (k, t))
+    let first = filter_none test (source_columns (k, t))
     (All-map (λ j. test j ≡ false) made (enumerate_from 0 t.columns)
     (λ i d l. rw apart (and_false (bytes_eq side.column (get_or (enumerate_from 0 t.columns) i d).1.name))))
     in
@@ -164,11 +163,8 @@ place_own front rest own side joined differ meant =
     let apart : (u : Table) → Differ own u → side.table ≢ u.name = λ u other.
     apart_from (own ∷ []) side joined u meant (All-cons (λ t. Differ t u) own [] other (All-nil (λ t. Differ t u)))
     in
-    let none_before : filter test before ≡ [] =
-    none_fits side 0 front (λ k d l. apart (get_or front k d) (λ same. AllPairs-behind Differ front own rest differ k d l (sym same)))
-    in
-    let none_behind : filter test behind ≡ [] =
-    none_fits side (length front + 1) rest
+    let none_before = none_fits side 0 front (λ k d l. apart (get_or front k d) (λ same. AllPairs-behind Differ front own rest differ k d l (sym same))) in
+    let none_behind = none_fits side (length front + 1) rest
     (λ k d l. apart (get_or rest k d) (AllPairs-head Differ own rest (AllPairs-back Differ front (own ∷ rest) differ) k d l))
     in
     let columns : joined_columns (front ++ own ∷ rest) ≡ before ++ (here ++ behind) =

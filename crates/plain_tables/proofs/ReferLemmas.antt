@@ -28,17 +28,19 @@ HasShape t u = (t.name ≡ u.name) × (t.columns ≡ u.columns)
 pub has_own_shape : (t : Table) → HasShape t t
 has_own_shape t = (refl, refl)
 
-named_alike : (name : List ℕ) (tables others : Database) → AllZip HasShape tables others
-    → is_some (table_named name tables) ≡ is_some (table_named name others)
-named_alike name [] [] same = refl
-named_alike name [] (u ∷ others) same = absurd same
-named_alike name (t ∷ tables) [] same = absurd same
-named_alike name (t ∷ tables) (u ∷ others) same =
+-- What holds of two tables of one shape, and where none is found, holds of those that are found by a name.
+pub named_alike : (P : Option Table → Option Table → Type 0) → P None None → ((t u : Table) → HasShape t u → P (Some t) (Some u))
+    → (name : List ℕ) (tables others : Database) → AllZip HasShape tables others
+    → P (table_named name tables) (table_named name others)
+named_alike P none both name [] [] same = none
+named_alike P none both name [] (u ∷ others) same = absurd same
+named_alike P none both name (t ∷ tables) [] same = absurd same
+named_alike P none both name (t ∷ tables) (u ∷ others) same =
     elim (cases_Bool (is_named name t)) [
-      | inl e ↦ let e' : is_named name u ≡ true = subst (λ n. bytes_eq n name ≡ true) same.0.0 e in rw (e, e') refl
+      | inl e ↦ let e' : is_named name u ≡ true = subst (λ n. bytes_eq n name ≡ true) same.0.0 e in rw (e, e') (both t u same.0)
       | inr f ↦
           let f' : is_named name u ≡ false = subst (λ n. bytes_eq n name ≡ false) same.0.0 f in
-          rw (f, f') (named_alike name tables others same.1)
+          rw (f, f') (named_alike P none both name tables others same.1)
     ]
 
 -- what a column refers to is there in the one database if it is in the other
@@ -51,7 +53,8 @@ refers_as (Some name) tables others there h = there name h
 
 refers_alike : (tables others : Database) → AllZip HasShape tables others → (c : Column) → RefersInto tables c → RefersInto others c
 refers_alike tables others same c h =
-    refers_as (referred c.kind) tables others (λ name there. sym (named_alike name tables others same) ∙ there) h
+    refers_as (referred c.kind) tables others
+    (λ name there. sym (named_alike (λ a b. is_some a ≡ is_some b) refl (λ t u alike. refl) name tables others same) ∙ there) h
 
 pub refer_back_alike : (before before' after after' : Database) → AllZip HasShape before before' → AllZip HasShape after after'
     → ReferBack before after → ReferBack before' after'
@@ -102,8 +105,7 @@ pub refers_not_to_itself : (before after : Database) (n : ℕ) (table : Table) �
 refers_not_to_itself before [] n table there back apart = absurd (none-some table there)
 refers_not_to_itself before (t ∷ after) zero table there back apart =
     let others = AllPairs-behind (λ (t u : Table). t.name ≢ u.name) before t after apart in
-    let absent : is_some (table_named t.name before) ≡ false =
-    not_found (is_named t.name) before
+    let absent = not_found (is_named t.name) before
     (All-weaker (λ u. u.name ≢ t.name) (λ u. is_named t.name u ≡ false)
     (λ u other. false_from_ne_true (bytes_eq u.name t.name) (λ e. other ((bytes_eq-Decides u.name t.name).0 e))) before others) in
     subst (λ u. RefersElsewhere u.name u) (same_Some t table there)
@@ -176,8 +178,7 @@ referred_elsewhere name (Some n) v others other h = All-cons (λ (r : Reference)
 reference_elsewhere : (name : List ℕ) (c : Column) (v : Value) (others : List Reference) → refers_to name c ≡ false
     → All (λ r. bytes_eq name r.0 ≡ false) others → All (λ r. bytes_eq name r.0 ≡ false) (cons_option (reference_of c v) others)
 reference_elsewhere name c value.Null others other h = h
-reference_elsewhere name c (value.Int z) others other h = referred_elsewhere name (referred c.kind) (value.Int z) others other h
-reference_elsewhere name c (value.Text text) others other h = referred_elsewhere name (referred c.kind) (value.Text text) others other h
+reference_elsewhere name c v others other h = referred_elsewhere name (referred c.kind) v others other h
 
 -- columns that refer elsewhere make references elsewhere
 pub references_elsewhere : (name : List ℕ) (columns : List Column) (row : Row) → list_any (refers_to name) columns ≡ false

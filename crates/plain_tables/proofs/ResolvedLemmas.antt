@@ -1,29 +1,26 @@
 -- A command is resolved only to one of these tables, with values that can stand there.
-use Rattle.std.proofs.Common.{◌≡◌, ◌≢◌, ◌<◌, ℕ, true, false, not, length, map, get_or, take, arith, List, [], ◌∷◌, inl, inr, refl, sym, ap, ◌∙◌, subst, Option, Some, None}
-use Rattle.std.specs.Prelude.{Result, Ok, Err, ◌==◌, nat_lt, nat_le}
+use Rattle.std.proofs.Common.{◌≡◌, ◌≢◌, ◌<◌, ℕ, true, false, not, length, map, get_or, take, arith, List, [], ◌∷◌, refl, sym, ap, ◌∙◌, Option, Some, None}
+use Rattle.std.specs.Prelude.{Ok, IfOk, if◌then◌else◌, ◌==◌, nat_lt, nat_le}
 use Rattle.std.specs.List.{All, AllByRecursion, list_any, cons_option, slice_get}
-use Rattle.std.specs.Option.{is_some, option_map, option_map_or, option_and_then}
+use Rattle.std.specs.Option.{is_some, option_map, option_and_then}
 use Rattle.std.specs.Str.{bytes_eq}
 use Rattle.std.specs.declared.cmp.Ordering.TheVariants.{Less}
-use Rattle.std.proofs.lemmas.Bool.{cases_Bool, or_parts, or_from, not-false, both_ways, false≢true, eqb-true, ne_eqb, ltb-false, leb-false}
+use Rattle.std.proofs.lemmas.Bool.{or_parts, or_from, not-false, both_ways, false≢true, eqb-true, ne_eqb, ltb-false, leb-false}
 use Rattle.std.proofs.lemmas.List.Elements.{All-nil, All-head, All-tail, All-weaker}
-use Rattle.std.proofs.lemmas.List.Folds.{find_at, list_any_none}
+use Rattle.std.proofs.lemmas.List.Folds.{list_any_none}
 use Rattle.std.proofs.lemmas.Option.{same_Some}
 use Rattle.std.proofs.lemmas.Slice.Eq.{bytes_eq-Decides}
-use Rattle.plain_tables.specs.Tables.{Table, Row, key_cmp}
-use Rattle.plain_tables.specs.Databases.{Database, is_named, table_named}
+use Rattle.plain_tables.specs.Tables.{Table, key_cmp}
+use Rattle.plain_tables.specs.Databases.{Database}
 use Rattle.plain_tables.specs.Queries.{JoinedColumn, place_meant, places_meant}
 use Rattle.plain_tables.specs.Effects.{Check, repeats, is_long, setting_name}
 use Rattle.plain_tables.specs.References.{referred, own_type, refers_into, is_index, all_indexes, IsKeyTree, IsSound}
-use Rattle.plain_tables.specs.Resolving.{meaning, number_of, on_numbered, own_columns, on_column, tests_of, assignments_of, mistypes, is_mistyped, table_checks, drop_checks, index_checks, drop_index_checks, insert_checks, update_checks, delete_checks, select_checks, select_of, table_reading, load_of, resolved_of}
-use Rattle.plain_tables.specs.CsvReading.{Record, Rows}
+use Rattle.plain_tables.specs.Resolving.{meaning, number_of, on_numbered, own_columns, assignments_of, mistypes, is_mistyped, table_checks, drop_checks, index_checks, drop_index_checks, insert_checks, update_checks, delete_checks, select_checks, table_reading, resolved_of}
+use Rattle.plain_tables.specs.CsvReading.{Record}
 use Rattle.plain_tables.specs.ResolvedLaws.{HasWidth, IsGiven, IsStorable, IsDeclarable, IsIndexable, IsAssignable, is_to_column, assigns_twice, IsMeant, ResolvedAreMeant, CommandsKeepSound, shows_indexes, rows_table}
 use Rattle.plain_tables.specs.CommandLaws.{EffectsKeepSound, table_of, is_on_rows, is_listing}
 use Rattle.plain_tables.specs.declared.value.Value.{Value}
 use Rattle.plain_tables.specs.declared.value.Value.TheVariants as value
-use Rattle.plain_tables.specs.declared.condition.ColName.{ColName}
-use Rattle.plain_tables.specs.declared.refusal.Refusal.{Refusal}
-use Rattle.plain_tables.specs.declared.refusal.Refusal.TheVariants.{NoSuchTable, NoSuchColumn}
 use Rattle.plain_tables.specs.declared.schema.ColKind.{ColKind}
 use Rattle.plain_tables.specs.declared.schema.ColKind.TheVariants as kind
 use Rattle.plain_tables.specs.declared.schema.Column.{Column}
@@ -39,48 +36,23 @@ use Rattle.plain_tables.specs.declared.numbers.TableNumber.{TableNumber}
 use Rattle.plain_tables.specs.declared.numbers.Place.{Place}
 use Rattle.plain_tables.specs.declared.resolved.Assignment.{Assignment}
 use Rattle.plain_tables.specs.declared.resolved.Resolved.{Resolved}
-use Rattle.plain_tables.specs.declared.resolved.Resolved.TheVariants as resolved
-use Rattle.plain_tables.proofs.BlockLemmas.{read_insertable, load_found}
-use Rattle.plain_tables.proofs.ColumnLemmas.{column_within, named_there, first_behind_key}
+use Rattle.plain_tables.proofs.BlockLemmas.{read_insertable}
+use Rattle.plain_tables.proofs.ColumnLemmas.{named_there, first_behind_key}
 use Rattle.plain_tables.proofs.EffectLemmas.{effect_satisfies}
 use Rattle.common_lemmas.proofs.Pairs.{AllPairs-nil}
 use Rattle.common_lemmas.proofs.Tests.{fails_where_none}
 use Rattle.common_lemmas.proofs.Elements.{mapped_more}
-use Rattle.common_lemmas.proofs.Options.{not_Ok, same_Ok}
+use Rattle.plain_tables.proofs.Meanings.{satisfies, if_checked, if_numbered, if_on_column, if_read}
 use Rattle.plain_tables.proofs.NameLemmas.{columns_differ}
 use Rattle.plain_tables.proofs.SelectLemmas.{of_own_column, own_tests_meant, select_meant}
 use Rattle.plain_tables.proofs.SoundLemmas.{done_keeps_sound}
 
 -- ---- checks
 
--- where checks let a command pass, none of them refuses
-passes_checks : (checks : List Check) (r q : Resolved) → meaning checks r ≡ Ok q
-    → AllByRecursion (λ c. c.refuses ≡ false) checks × (r ≡ q)
-passes_checks [] r q h = (tt, same_Ok r q h)
-passes_checks (c ∷ checks) r q h =
-    elim (cases_Bool c.refuses) [
-      | inl t ↦ absurd (not_Ok c.refusal q (rw t at h))
-      | inr f ↦ let rest = passes_checks checks r q (rw f at h) in ((f, rest.0), rest.1)
-    ]
-
 -- What holds of a command behind checks, where they pass, holds of what it means.
 pub checked_satisfies : (P : Resolved → Type 0) (checks : List Check) (r q : Resolved) → meaning checks r ≡ Ok q
     → (AllByRecursion (λ c. c.refuses ≡ false) checks → P r) → P q
-checked_satisfies P checks r q h holds =
-    let passed = passes_checks checks r q h in subst P passed.1 (holds passed.0)
-
-table_found : (found : Option Table) (means : Table → Result Resolved Refusal) (q : Resolved)
-    → option_map_or means found (Err NoSuchTable) ≡ Ok q → (table : Table) × (found ≡ Some table) × (means table ≡ Ok q)
-table_found None means q h = absurd (not_Ok NoSuchTable q h)
-table_found (Some table) means q h = (table, refl, h)
-
--- a command on the table of a name means what it means of the table that is found
-numbered_found : (name : List ℕ) (tables : Database) (means : TableNumber → Table → Result Resolved Refusal) (q : Resolved)
-    → on_numbered name tables means ≡ Ok q
-    → (table : Table) × (slice_get tables (number_of name tables).0 ≡ Some table) × (means (number_of name tables) table ≡ Ok q)
-numbered_found name tables means q h =
-    let found = table_found (table_named name tables) (means (number_of name tables)) q h in
-    (found.0, sym (find_at (is_named name) tables) ∙ found.1, found.2)
+checked_satisfies P checks r q h holds = satisfies P (meaning checks r) q h (if_checked P checks r holds)
 
 -- What holds of the command that a table gives behind checks, where they pass, holds of the command on the table of a name.
 pub numbered_satisfies : (P : Resolved → Type 0) (name : List ℕ) (tables : Database) (checks : Table → List Check)
@@ -90,29 +62,8 @@ pub numbered_satisfies : (P : Resolved → Type 0) (name : List ℕ) (tables : D
     → P (gives (number_of name tables) table))
     → P q
 numbered_satisfies P name tables checks gives q h holds =
-    let found = numbered_found name tables (λ n table. meaning (checks table) (gives n table)) q h in
-    checked_satisfies P (checks found.0) (gives (number_of name tables) found.0) q found.2 (holds found.0 found.1)
-
-column_found : (found : Option Place) (means : ColumnNumber → Result Resolved Refusal) (q : Resolved)
-    → option_map_or (λ place. means place.column) found (Err NoSuchColumn) ≡ Ok q
-    → (place : Place) × (found ≡ Some place) × (means place.column ≡ Ok q)
-column_found None means q h = absurd (not_Ok NoSuchColumn q h)
-column_found (Some place) means q h = (place, refl, h)
-
--- the same of a command on a column of the table
-column_satisfies : (P : Resolved → Type 0) (name column : List ℕ) (tables : Database) (checks : Table → ColumnNumber → List Check)
-    (gives : TableNumber → ColumnNumber → Resolved) (q : Resolved)
-    → on_numbered name tables (λ n table. on_column column table (λ c. meaning (checks table c) (gives n c))) ≡ Ok q
-    → ((table : Table) (c : ColumnNumber) → slice_get tables (number_of name tables).0 ≡ Some table → c.0 < length table.columns
-    → AllByRecursion (λ k. k.refuses ≡ false) (checks table c) → P (gives (number_of name tables) c))
-    → P q
-column_satisfies P name column tables checks gives q h holds =
-    let n : TableNumber = number_of name tables in
-    let found = numbered_found name tables (λ m table. on_column column table (λ c. meaning (checks table c) (gives m c))) q h in
-    let own : ColName = record { table = None; column = column } in
-    let there = column_found (place_meant (own_columns found.0) own) (λ c. meaning (checks found.0 c) (gives n c)) q found.2 in
-    let c : ColumnNumber = there.0.column in
-    checked_satisfies P (checks found.0 c) (gives n c) q there.2 (holds found.0 c found.1 (column_within found.0 own there.0 there.1))
+    satisfies P (on_numbered name tables (λ n table. meaning (checks table) (gives n table))) q h
+    (if_numbered P name tables _ (λ table there. if_checked P (checks table) _ (holds table there)))
 
 -- ---- values
 
@@ -185,8 +136,7 @@ assigned_once table (s ∷ settings) apart =
 own_kind : (k : ColKind) → is_some (referred k) ≡ false → is_some (own_type k) ≡ true
 own_kind kind.Int h = refl
 own_kind kind.Text h = refl
-own_kind (kind.Ref table) h = absurd (false≢true (sym h))
-own_kind (kind.RefOrNull table) h = absurd (false≢true (sym h))
+own_kind refers h = absurd (false≢true (sym h))
 
 first_keyed : (columns : List Column) → 0 < length columns → list_any (λ c. is_some (referred c.kind)) (take 1 columns) ≡ false
     → is_some (option_and_then (λ c. own_type c.kind) (slice_get columns 0)) ≡ true
@@ -229,37 +179,22 @@ indexable table c k within none =
       no_key_tree = λ own. both_ways (is_index c k (0, index.Tree)) parts.0 (rw (own.0, own.1) refl);
     }
 
--- ---- a load
-
--- What holds of the load of each list of rows that the records may be read as holds of the load of the table of a name.
-load_is : (P : Resolved → Type 0) (name : List ℕ) (tables : Database) (records : List Record) (q : Resolved)
-    → on_numbered name tables (λ n table. load_of n (table_reading tables table records)) ≡ Ok q
-    → ((table : Table) (rows : List Row) → slice_get tables (number_of name tables).0 ≡ Some table
-    → table_reading tables table records ≡ Rows rows → P (resolved.Load (number_of name tables) rows))
-    → P q
-load_is P name tables records q h holds =
-    let found = numbered_found name tables (λ n table. load_of n (table_reading tables table records)) q h in
-    let read = load_found (number_of name tables) (table_reading tables found.0 records) q found.2 in
-    subst P read.2 (holds found.0 read.0 found.1 read.1)
-
 -- ---- every command
 
-pub resolved_are_meant : ResolvedAreMeant
-resolved_are_meant records limits tables (command.Table name schema) r given h =
-    checked_satisfies (IsMeant limits tables) (table_checks tables name schema) (resolved.Table name schema) r h
-    (λ passed. declarable limits tables name schema given passed)
-resolved_are_meant records limits tables (command.DropTable name) r given h =
-    numbered_satisfies (IsMeant limits tables) name tables (λ table. drop_checks tables table) (λ n table. resolved.DropTable n) r h
-    (λ table there passed. (table, there, passed.0))
-resolved_are_meant records limits tables (command.Index name column k) r given h =
-    column_satisfies (IsMeant limits tables) name column tables (λ table c. index_checks table c k) (λ n c. resolved.Index n c k) r h
-    (λ table c there within passed. (table, there, indexable table c k within passed.0))
-resolved_are_meant records limits tables (command.DropIndex name column k) r given h =
-    column_satisfies (IsMeant limits tables) name column tables (λ table c. drop_index_checks table c k) (λ n c. resolved.DropIndex n c k) r h
-    (λ table c there within passed. (table, there, tt))
-resolved_are_meant records limits tables (command.Insert name row) r given h =
-    numbered_satisfies (IsMeant limits tables) name tables (λ table. insert_checks tables table row) (λ n table. resolved.Insert n row) r h
-    (λ table there passed. (
+meant : (records : List Record) (limits : Limits) (tables : Database) (c : Command) → IsGiven c
+    → IfOk (resolved_of records tables c) (IsMeant limits tables)
+meant records limits tables (command.Table name schema) given =
+    if_checked _ (table_checks tables name schema) _ (declarable limits tables name schema given)
+meant records limits tables (command.DropTable name) given =
+    if_numbered _ name tables _ (λ table there. if_checked _ (drop_checks tables table) _ (λ passed. (table, there, passed.0)))
+meant records limits tables (command.Index name column k) given =
+    if_numbered _ name tables _ (λ table there. if_on_column _ column table _
+    (λ place within. if_checked _ (index_checks table place.column k) _ (λ passed. (table, there, indexable table place.column k within passed.0))))
+meant records limits tables (command.DropIndex name column k) given =
+    if_numbered _ name tables _ (λ table there. if_on_column _ column table _
+    (λ place within. if_checked _ (drop_index_checks table place.column k) _ (λ passed. (table, there, tt))))
+meant records limits tables (command.Insert name row) given =
+    if_numbered _ name tables _ (λ table there. if_checked _ (insert_checks tables table row) _ (λ passed. (
       table,
       there,
       record {
@@ -267,11 +202,9 @@ resolved_are_meant records limits tables (command.Insert name row) r given h =
         typed = passed.1.0;
         storable = λ k d l. storable_value (get_or row k d) (fails_where_none is_long row passed.1.1.0 k d l) (given k d l);
       },
-    ))
-resolved_are_meant records limits tables (command.Update name settings conditions) r given h =
-    numbered_satisfies (IsMeant limits tables) name tables (λ table. update_checks tables table settings conditions)
-    (λ n table. resolved.Update n (assignments_of (own_columns table) settings) (tests_of (own_columns table) conditions)) r h
-    (λ table there passed.
+    )))
+meant records limits tables (command.Update name settings conditions) given =
+    if_numbered _ name tables _ (λ table there. if_checked _ (update_checks tables table settings conditions) _ (λ passed.
     let typed = or_parts (list_any (λ s. mistypes tables (own_columns table) (setting_name s) s.value) settings)
     (list_any (is_mistyped tables (own_columns table)) conditions) passed.1.1.0 in (
       table,
@@ -283,22 +216,22 @@ resolved_are_meant records limits tables (command.Update name settings condition
         },
         own_tests_meant tables table conditions typed.1,
       ),
-    ))
-resolved_are_meant records limits tables (command.Delete name conditions) r given h =
-    numbered_satisfies (IsMeant limits tables) name tables (λ table. delete_checks tables table conditions)
-    (λ n table. resolved.Delete n (tests_of (own_columns table) conditions)) r h
-    (λ table there passed. (table, there, own_tests_meant tables table conditions passed.1.0))
-resolved_are_meant records limits tables (command.Select distinct its name joins conditions) r given h =
-    checked_satisfies (IsMeant limits tables) (select_checks tables its name joins conditions)
-    (select_of tables distinct its name joins conditions) r h
-    (λ passed. select_meant limits tables distinct its name joins conditions given passed)
-resolved_are_meant records limits tables (command.Load name bytes) r given h =
-    load_is (IsMeant limits tables) name tables records r h
-    (λ table rows there read. (table, there, read_insertable tables table records rows read))
-resolved_are_meant records limits tables (command.Dump name) r given h =
-    numbered_satisfies (IsMeant limits tables) name tables (λ table. []) (λ n table. resolved.Dump n) r h
-    (λ table there passed. (table, there, tt))
-resolved_are_meant records limits tables command.Tables r given h = subst (IsMeant limits tables) (same_Ok resolved.Tables r h) tt
+    )))
+meant records limits tables (command.Delete name conditions) given =
+    if_numbered _ name tables _ (λ table there. if_checked _ (delete_checks tables table conditions) _
+    (λ passed. (table, there, own_tests_meant tables table conditions passed.1.0)))
+meant records limits tables (command.Select distinct its name joins conditions) given =
+    if_checked _ (select_checks tables its name joins conditions) _ (select_meant limits tables distinct its name joins conditions given)
+meant records limits tables (command.Load name bytes) given =
+    if_numbered _ name tables _ (λ table there. if_read _ _ (table_reading tables table records)
+    (λ rows read. (table, there, read_insertable tables table records rows read)))
+meant records limits tables (command.Dump name) given =
+    if_numbered _ name tables _ (λ table there. (table, there, tt))
+meant records limits tables command.Tables given = tt
+
+pub resolved_are_meant : ResolvedAreMeant
+resolved_are_meant records limits tables c r given h =
+    satisfies (IsMeant limits tables) (resolved_of records tables c) r h (meant records limits tables c given)
 
 pub commands_keep_sound : CommandsKeepSound
 commands_keep_sound records limits tables c r given h sound =
@@ -309,64 +242,44 @@ effects_keep_sound records limits tables c given sound =
     effect_satisfies (λ e. IsSound limits e.database) records limits tables c (λ why. sound)
     (λ r h. commands_keep_sound records limits tables c r given h sound)
 
+-- The resolved command is on the rows of the table that the command is on the rows of, if it is, and shows indexes where
+-- the command is a listing.
+abbrev IsLike : Database → Command → Resolved → Type 0
+IsLike tables c r =
+    (rows_table r ≡ (if is_on_rows c then Some (number_of (table_of c) tables) else None)) × (shows_indexes r ≡ is_listing c)
+
+like : (records : List Record) (tables : Database) (c : Command) → IfOk (resolved_of records tables c) (IsLike tables c)
+like records tables (command.Table name schema) = if_checked _ (table_checks tables name schema) _ (λ passed. (refl, refl))
+like records tables (command.DropTable name) =
+    if_numbered _ name tables _ (λ table there. if_checked _ (drop_checks tables table) _ (λ passed. (refl, refl)))
+like records tables (command.Index name column k) =
+    if_numbered _ name tables _ (λ table there. if_on_column _ column table _
+    (λ place within. if_checked _ (index_checks table place.column k) _ (λ passed. (refl, refl))))
+like records tables (command.DropIndex name column k) =
+    if_numbered _ name tables _ (λ table there. if_on_column _ column table _
+    (λ place within. if_checked _ (drop_index_checks table place.column k) _ (λ passed. (refl, refl))))
+like records tables (command.Insert name row) =
+    if_numbered _ name tables _ (λ table there. if_checked _ (insert_checks tables table row) _ (λ passed. (refl, refl)))
+like records tables (command.Update name settings conditions) =
+    if_numbered _ name tables _ (λ table there. if_checked _ (update_checks tables table settings conditions) _ (λ passed. (refl, refl)))
+like records tables (command.Delete name conditions) =
+    if_numbered _ name tables _ (λ table there. if_checked _ (delete_checks tables table conditions) _ (λ passed. (refl, refl)))
+like records tables (command.Select distinct its name joins conditions) =
+    if_checked _ (select_checks tables its name joins conditions) _ (λ passed. (refl, refl))
+like records tables (command.Load name bytes) =
+    if_numbered _ name tables _ (λ table there. if_read _ _ (table_reading tables table records) (λ rows read. (refl, refl)))
+like records tables (command.Dump name) = if_numbered _ name tables _ (λ table there. (refl, refl))
+like records tables command.Tables = (refl, refl)
+
 -- a command on rows is resolved to one on the rows of its table
 pub own_rows : (records : List Record) (tables : Database) (c : Command) (r : Resolved) → is_on_rows c ≡ true
     → resolved_of records tables c ≡ Ok r
     → rows_table r ≡ Some (number_of (table_of c) tables)
-own_rows records tables (command.Table name schema) r on h = absurd (false≢true on)
-own_rows records tables (command.DropTable name) r on h = absurd (false≢true on)
-own_rows records tables (command.Index name column k) r on h = absurd (false≢true on)
-own_rows records tables (command.DropIndex name column k) r on h = absurd (false≢true on)
-own_rows records tables (command.Insert name row) r on h =
-    numbered_satisfies (λ q. rows_table q ≡ Some (number_of name tables)) name tables (λ table. insert_checks tables table row)
-    (λ n table. resolved.Insert n row) r h (λ table there passed. refl)
-own_rows records tables (command.Update name settings conditions) r on h =
-    numbered_satisfies (λ q. rows_table q ≡ Some (number_of name tables)) name tables (λ table. update_checks tables table settings conditions)
-    (λ n table. resolved.Update n (assignments_of (own_columns table) settings) (tests_of (own_columns table) conditions)) r h
-    (λ table there passed. refl)
-own_rows records tables (command.Delete name conditions) r on h =
-    numbered_satisfies (λ q. rows_table q ≡ Some (number_of name tables)) name tables (λ table. delete_checks tables table conditions)
-    (λ n table. resolved.Delete n (tests_of (own_columns table) conditions)) r h (λ table there passed. refl)
-own_rows records tables (command.Select distinct its name joins conditions) r on h =
-    checked_satisfies (λ q. rows_table q ≡ Some (number_of name tables)) (select_checks tables its name joins conditions)
-    (select_of tables distinct its name joins conditions) r h (λ passed. refl)
-own_rows records tables (command.Load name bytes) r on h =
-    load_is (λ q. rows_table q ≡ Some (number_of name tables)) name tables records r h (λ table rows there read. refl)
-own_rows records tables (command.Dump name) r on h =
-    numbered_satisfies (λ q. rows_table q ≡ Some (number_of name tables)) name tables (λ table. []) (λ n table. resolved.Dump n) r h
-    (λ table there passed. refl)
-own_rows records tables command.Tables r on h = absurd (false≢true on)
+own_rows records tables c r on h =
+    rw on at (satisfies (IsLike tables c) (resolved_of records tables c) r h (like records tables c)).0
 
 -- no command but a listing is resolved to one that shows indexes
 pub none_shown : (records : List Record) (tables : Database) (c : Command) (r : Resolved) → is_listing c ≡ false
     → resolved_of records tables c ≡ Ok r → shows_indexes r ≡ false
-none_shown records tables (command.Table name schema) r other h =
-    checked_satisfies (λ q. shows_indexes q ≡ false) (table_checks tables name schema) (resolved.Table name schema) r h (λ passed. refl)
-none_shown records tables (command.DropTable name) r other h =
-    numbered_satisfies (λ q. shows_indexes q ≡ false) name tables (λ table. drop_checks tables table) (λ n table. resolved.DropTable n) r h
-    (λ table there passed. refl)
-none_shown records tables (command.Index name column k) r other h =
-    column_satisfies (λ q. shows_indexes q ≡ false) name column tables (λ table c. index_checks table c k) (λ n c. resolved.Index n c k) r h
-    (λ table c there within passed. refl)
-none_shown records tables (command.DropIndex name column k) r other h =
-    column_satisfies (λ q. shows_indexes q ≡ false) name column tables (λ table c. drop_index_checks table c k) (λ n c. resolved.DropIndex n c k) r h
-    (λ table c there within passed. refl)
-none_shown records tables (command.Insert name row) r other h =
-    numbered_satisfies (λ q. shows_indexes q ≡ false) name tables (λ table. insert_checks tables table row)
-    (λ n table. resolved.Insert n row) r h (λ table there passed. refl)
-none_shown records tables (command.Update name settings conditions) r other h =
-    numbered_satisfies (λ q. shows_indexes q ≡ false) name tables (λ table. update_checks tables table settings conditions)
-    (λ n table. resolved.Update n (assignments_of (own_columns table) settings) (tests_of (own_columns table) conditions)) r h
-    (λ table there passed. refl)
-none_shown records tables (command.Delete name conditions) r other h =
-    numbered_satisfies (λ q. shows_indexes q ≡ false) name tables (λ table. delete_checks tables table conditions)
-    (λ n table. resolved.Delete n (tests_of (own_columns table) conditions)) r h (λ table there passed. refl)
-none_shown records tables (command.Select distinct its name joins conditions) r other h =
-    checked_satisfies (λ q. shows_indexes q ≡ false) (select_checks tables its name joins conditions)
-    (select_of tables distinct its name joins conditions) r h (λ passed. refl)
-none_shown records tables (command.Load name bytes) r other h =
-    load_is (λ q. shows_indexes q ≡ false) name tables records r h (λ table rows there read. refl)
-none_shown records tables (command.Dump name) r other h =
-    numbered_satisfies (λ q. shows_indexes q ≡ false) name tables (λ table. []) (λ n table. resolved.Dump n) r h
-    (λ table there passed. refl)
-none_shown records tables command.Tables r other h = absurd (false≢true (sym other))
+none_shown records tables c r other h =
+    (satisfies (IsLike tables c) (resolved_of records tables c) r h (like records tables c)).1 ∙ other

@@ -1,17 +1,17 @@
 -- Schemas: commands that aren't on indexes are resolved alike where tables have the same names and columns.
 use Rattle.std.proofs.Common.{◌≡◌, ◌+◌, ℕ, Bool, false, true, not, map, List, [], ◌∷◌, ◌++◌, refl, sym, ap, ◌∙◌, Option, Some, None}
-use Rattle.std.specs.Prelude.{Result, Ok, Err, ◌||◌, ◌&&◌}
-use Rattle.std.specs.List.{list_any, filter_map, flat_map, enumerate_from}
+use Rattle.std.specs.Prelude.{Result, Err, ◌||◌, ◌&&◌}
+use Rattle.std.specs.List.{list_any, filter_map, flat_map, enumerate_from, position_or_len}
 use Rattle.std.specs.Option.{is_some, option_map, option_map_or, option_and_then}
 use Rattle.std.proofs.lemmas.Bool.{false≢true}
 use Rattle.std.proofs.lemmas.List.{length-map}
 use Rattle.plain_tables.specs.Values.{is_null}
 use Rattle.plain_tables.specs.Tables.{Table}
-use Rattle.plain_tables.specs.Databases.{Database, table_named}
+use Rattle.plain_tables.specs.Databases.{Database, is_named, table_named}
 use Rattle.plain_tables.specs.Queries.{JoinedColumn, source_columns, joined_columns, column_meant, sides_meant}
-use Rattle.plain_tables.specs.Effects.{Check, setting_name}
+use Rattle.plain_tables.specs.Effects.{setting_name}
 use Rattle.plain_tables.specs.References.{referred, key_type, type_of, same_type, is_typed, refers_into, refers_to, is_table_referenced}
-use Rattle.plain_tables.specs.Resolving.{meaning, number_of, on_numbered, own_columns, tests_of, assignments_of, asks_order, mistypes, is_mistyped, table_checks, drop_checks, insert_checks, update_checks, delete_checks, once, select_names, columns_of, behind, join_columns, differ_in_type, select_checks, joins_of, select_of, table_reading, load_of, resolved_of}
+use Rattle.plain_tables.specs.Resolving.{meaning, own_columns, asks_order, mistypes, is_mistyped, table_checks, once, select_names, columns_of, behind, join_columns, differ_in_type, select_checks, joins_of, select_of, resolved_of}
 use Rattle.plain_tables.specs.CsvReading.{Record}
 use Rattle.plain_tables.specs.Joining.{joined}
 use Rattle.plain_tables.specs.ResolvedLaws.{emptied, is_on_indexes}
@@ -25,7 +25,6 @@ use Rattle.plain_tables.specs.declared.command.Join.{Join}
 use Rattle.plain_tables.specs.declared.command.Setting.{Setting}
 use Rattle.plain_tables.specs.declared.command.Command.{Command}
 use Rattle.plain_tables.specs.declared.command.Command.TheVariants as command
-use Rattle.plain_tables.specs.declared.numbers.TableNumber.{TableNumber}
 use Rattle.plain_tables.specs.declared.resolved.Resolved.{Resolved}
 use Rattle.plain_tables.specs.declared.resolved.Resolved.TheVariants as resolved
 use Rattle.common_lemmas.proofs.Tests.{any_agree}
@@ -83,27 +82,22 @@ referred_plain tables (Some name) = ap is_some (table_named-map emptied (λ t. r
 abbrev Means : Type 0
 Means = Result Resolved Refusal
 
-numbered_found : (found : Option Table) (e f : Table → Means) → ((t : Table) → f (emptied t) ≡ e t)
+found_plain : (found : Option Table) (e f : Table → Means) → ((t : Table) → f (emptied t) ≡ e t)
     → option_map_or f (option_map emptied found) (Err NoSuchTable) ≡ option_map_or e found (Err NoSuchTable)
-numbered_found None e f same = refl
-numbered_found (Some t) e f same = same t
+found_plain None e f same = refl
+found_plain (Some t) e f same = same t
 
-numbered_plain : (name : List ℕ) (tables : Database) (e f : TableNumber → Table → Means) → ((n : TableNumber) (t : Table) → f n (emptied t) ≡ e n t)
-    → on_numbered name (plain tables) f ≡ on_numbered name tables e
-numbered_plain name tables e f same =
-    let number : ℕ → TableNumber = λ place. record { 0 = place } in
-    ap (λ place. option_map_or (f (number place)) (table_named name (plain tables)) (Err NoSuchTable)) (place-map emptied (λ t. refl) name tables)
-    ∙ ap (λ found. option_map_or (f (number_of name tables)) found (Err NoSuchTable)) (table_named-map emptied (λ t. refl) name tables)
-    ∙ numbered_found (table_named name tables) (e (number_of name tables)) (f (number_of name tables)) (same (number_of name tables))
+-- the number of the table of a name, and a command on that table
+same_number : (name : List ℕ) (tables : Database) → position_or_len (is_named name) (plain tables) ≡ position_or_len (is_named name) tables
+same_number name tables = place-map emptied (λ t. refl) name tables
 
--- the same checks let the same command pass
-same_checks : (checks others : List Check) (r : Resolved) → checks ≡ others → meaning checks r ≡ meaning others r
-same_checks checks others r same = ap (λ cs. meaning cs r) same
+numbered_plain : (name : List ℕ) (tables : Database) (e f : Table → Means) → ((t : Table) → f (emptied t) ≡ e t)
+    → option_map_or f (table_named name (plain tables)) (Err NoSuchTable) ≡ option_map_or e (table_named name tables) (Err NoSuchTable)
+numbered_plain name tables e f same = rw (table_named-map emptied (λ t. refl) name tables) (found_plain (table_named name tables) e f same)
 
 table_checks_plain : (tables : Database) (name : List ℕ) (schema : Schema) → table_checks (plain tables) name schema ≡ table_checks tables name schema
 table_checks_plain tables name schema =
-    let into : list_any (λ c. not (refers_into (plain tables) c)) schema.columns ≡ list_any (λ c. not (refers_into tables c)) schema.columns =
-    any_agree (λ c. not (refers_into (plain tables) c)) (λ c. not (refers_into tables c))
+    let into = any_agree (λ c. not (refers_into (plain tables) c)) (λ c. not (refers_into tables c))
     (λ c. ap not (referred_plain tables (referred c.kind))) schema.columns
     in
     let there : is_some (table_named name (plain tables)) ≡ is_some (table_named name tables) =
@@ -148,9 +142,7 @@ select_checks_plain tables its name joins conditions =
     any_agree (λ n. not (is_some (table_named n (plain tables)))) (λ n. not (is_some (table_named n tables)))
     (λ n. ap not (ap is_some (table_named-map emptied (λ t. refl) n tables) ∙ is_some-option_map emptied (table_named n tables))) names
     in
-    let sides : map (join_columns (plain tables)) all ≡ map (join_columns tables) all =
-    map_agree (join_columns (plain tables)) (join_columns tables) (sides_plain tables) all
-    in
+    let sides = map_agree (join_columns (plain tables)) (join_columns tables) (sides_plain tables) all in
     let differ : list_any (λ s. option_map_or (differ_in_type (plain tables)) s false) (map (join_columns tables) all)
     ≡ list_any (λ s. option_map_or (differ_in_type tables) s false) (map (join_columns tables) all) =
     any_agree (λ s. option_map_or (differ_in_type (plain tables)) s false) (λ s. option_map_or (differ_in_type tables) s false)
@@ -162,7 +154,7 @@ joins_plain : (tables : Database) (columns : List JoinedColumn) (conditions : Li
     → joins_of (plain tables) columns conditions joins ≡ joins_of tables columns conditions joins
 joins_plain tables columns conditions [] = refl
 joins_plain tables columns conditions (join ∷ joins) =
-    rw (sides_plain tables join, place-map emptied (λ t. refl) join.1.table tables, joins_plain tables columns conditions joins) refl
+    rw (sides_plain tables join, same_number join.1.table tables, joins_plain tables columns conditions joins) refl
 
 select_plain : (tables : Database) (distinct : Bool) (its : Items) (name : List ℕ) (joins : List Join) (conditions : List Cond)
     → select_of (plain tables) distinct its name joins conditions ≡ select_of tables distinct its name joins conditions
@@ -170,7 +162,7 @@ select_plain tables distinct its name joins conditions =
     let columns : List JoinedColumn = columns_of tables (select_names name joins) in
     rw (
       columns_of_plain tables (select_names name joins),
-      place-map emptied (λ t. refl) name tables,
+      same_number name tables,
       joins_plain tables columns conditions (behind (name ∷ []) joins),
     ) refl
 
@@ -182,46 +174,23 @@ referring_plain (t ∷ tables) name = ap (λ b. list_any (refers_to name) t.colu
 resolved_plain : (records : List Record) (tables : Database) (c : Command) → is_on_indexes c ≡ false
     → resolved_of records (plain tables) c ≡ resolved_of records tables c
 resolved_plain records tables (command.Table name schema) other =
-    same_checks (table_checks (plain tables) name schema) (table_checks tables name schema) (resolved.Table name schema)
-    (table_checks_plain tables name schema)
+    λ i. meaning (table_checks_plain tables name schema i) (resolved.Table name schema)
 resolved_plain records tables (command.DropTable name) other =
-    numbered_plain name tables (λ n t. meaning (drop_checks tables t) (resolved.DropTable n))
-    (λ n t. meaning (drop_checks (plain tables) t) (resolved.DropTable n))
-    (λ n t. same_checks (drop_checks (plain tables) (emptied t)) (drop_checks tables t) (resolved.DropTable n)
-    (rw (referring_plain tables t.name) refl))
-resolved_plain records tables (command.Index name column k) other = absurd (false≢true (sym other))
-resolved_plain records tables (command.DropIndex name column k) other = absurd (false≢true (sym other))
+    numbered_plain name tables _ _ (λ t. rw (same_number name tables, referring_plain tables t.name) refl)
 resolved_plain records tables (command.Insert name row) other =
-    numbered_plain name tables (λ n t. meaning (insert_checks tables t row) (resolved.Insert n row))
-    (λ n t. meaning (insert_checks (plain tables) t row) (resolved.Insert n row))
-    (λ n t. same_checks (insert_checks (plain tables) (emptied t) row) (insert_checks tables t row) (resolved.Insert n row)
-    (rw (row_alike (plain tables) tables (keyed_plain tables) t.columns row) refl))
+    numbered_plain name tables _ _ (λ t. rw (same_number name tables, row_alike (plain tables) tables (keyed_plain tables) t.columns row) refl)
 resolved_plain records tables (command.Update name settings conditions) other =
-    numbered_plain name tables
-    (λ n t. meaning (update_checks tables t settings conditions)
-    (resolved.Update n (assignments_of (own_columns t) settings) (tests_of (own_columns t) conditions)))
-    (λ n t. meaning (update_checks (plain tables) t settings conditions)
-    (resolved.Update n (assignments_of (own_columns t) settings) (tests_of (own_columns t) conditions)))
-    (λ n t. same_checks (update_checks (plain tables) (emptied t) settings conditions) (update_checks tables t settings conditions)
-    (resolved.Update n (assignments_of (own_columns t) settings) (tests_of (own_columns t) conditions))
-    (rw (settings_plain tables (own_columns t) settings, conditions_plain tables (own_columns t) conditions) refl))
+    numbered_plain name tables _ _
+    (λ t. rw (same_number name tables, settings_plain tables (own_columns t) settings, conditions_plain tables (own_columns t) conditions) refl)
 resolved_plain records tables (command.Delete name conditions) other =
-    numbered_plain name tables
-    (λ n t. meaning (delete_checks tables t conditions) (resolved.Delete n (tests_of (own_columns t) conditions)))
-    (λ n t. meaning (delete_checks (plain tables) t conditions) (resolved.Delete n (tests_of (own_columns t) conditions)))
-    (λ n t. same_checks (delete_checks (plain tables) (emptied t) conditions) (delete_checks tables t conditions)
-    (resolved.Delete n (tests_of (own_columns t) conditions)) (rw (conditions_plain tables (own_columns t) conditions) refl))
+    numbered_plain name tables _ _ (λ t. rw (same_number name tables, conditions_plain tables (own_columns t) conditions) refl)
 resolved_plain records tables (command.Select distinct its name joins conditions) other =
-    same_checks (select_checks (plain tables) its name joins conditions) (select_checks tables its name joins conditions)
-    (select_of (plain tables) distinct its name joins conditions) (select_checks_plain tables its name joins conditions)
-    ∙ ap (meaning (select_checks tables its name joins conditions)) (select_plain tables distinct its name joins conditions)
+    λ i. meaning (select_checks_plain tables its name joins conditions i) (select_plain tables distinct its name joins conditions i)
 resolved_plain records tables (command.Load name bytes) other =
-    numbered_plain name tables (λ n t. load_of n (table_reading tables t records))
-    (λ n t. load_of n (table_reading (plain tables) t records))
-    (λ n t. ap (load_of n) (reading_alike (plain tables) tables (keyed_plain tables) t records))
-resolved_plain records tables (command.Dump name) other =
-    numbered_plain name tables (λ n t. Ok (resolved.Dump n)) (λ n t. Ok (resolved.Dump n)) (λ n t. refl)
+    numbered_plain name tables _ _ (λ t. rw (same_number name tables, reading_alike (plain tables) tables (keyed_plain tables) t records) refl)
+resolved_plain records tables (command.Dump name) other = numbered_plain name tables _ _ (λ t. rw (same_number name tables) refl)
 resolved_plain records tables command.Tables other = refl
+resolved_plain records tables on_indexes other = absurd (false≢true (sym other))
 
 pub resolved_by_schemas : (records : List Record) (tables others : Database) (c : Command) → is_on_indexes c ≡ false → map emptied tables ≡ map emptied others
     → resolved_of records tables c ≡ resolved_of records others c

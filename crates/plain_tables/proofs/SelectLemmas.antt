@@ -113,8 +113,7 @@ pub once_apart : (names : List (List ℕ)) → repeats bytes_eq names ≡ false 
 once_apart [] apart = refl
 once_apart (name ∷ names) apart =
     let parts = or_parts (list_any (bytes_eq name) names) (repeats bytes_eq names) apart in
-    let others : filter (λ other. not (bytes_eq name other)) names ≡ names =
-    filter_all (λ other. not (bytes_eq name other)) names
+    let others = filter_all (λ other. not (bytes_eq name other)) names
     (All-weaker (λ other. bytes_eq name other ≡ false) (λ other. not (bytes_eq name other) ≡ true)
     (λ other differ. not_from_false (bytes_eq name other) differ) names (fails_where_none (bytes_eq name) names parts.0))
     in
@@ -146,9 +145,7 @@ pub record AreNamed (tables : Database) (among : List Table) (before : List (Lis
 pub names_on : (tables : Database) (among : List Table) (before : List (List ℕ)) (join : Join) (joins : List Join)
     → AreNamed tables among before (join ∷ joins) → AreNamed tables among (before ++ join.table ∷ []) joins
 names_on tables among before join joins names =
-    let same : before ++ join.table ∷ [] ++ map (λ j. j.table) joins ≡ before ++ (join.table ∷ map (λ j. j.table) joins) =
-    append_assoc before (join.table ∷ []) (map (λ j. j.table) joins)
-    in
+    let same = append_assoc before (join.table ∷ []) (map (λ j. j.table) joins) in
     record {
       are = ap (tables_named tables) same ∙ names.are;
       apart = ap (repeats bytes_eq) same ∙ names.apart;
@@ -170,9 +167,7 @@ next_table tables among before join joins names =
     let there = or_parts (list_any (lacks tables) before) (lacks tables join.table || list_any (lacks tables) rest)
     (sym (list_any-append (lacks tables) before (join.table ∷ rest)) ∙ names.there) in
     let next = some_table (table_named join.table tables) (or_parts (lacks tables join.table) (list_any (lacks tables) rest) there.1).0 in
-    let many : length (tables_named tables before) ≡ length before =
-    length-filter_map (λ name. table_named name tables) before (λ name. is_some (table_named name tables)) (λ name is. is) there.0
-    in
+    let many = length-filter_map (λ name. table_named name tables) before (λ name. is_some (table_named name tables)) (λ name is. is) there.0 in
     let all : tables_named tables before ++ next.0 ∷ tables_named tables rest ≡ among =
     ap (λ o. tables_named tables before ++ cons_option o (tables_named tables rest)) (sym next.1)
     ∙ sym (filter_map-append (λ name. table_named name tables) before (join.table ∷ rest)) ∙ names.are

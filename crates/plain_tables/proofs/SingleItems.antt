@@ -38,19 +38,11 @@ operator-ends_item o more =
   where
     no_dot : (o : Op) → bytes_eq (codes ".") (operator_text o) ≡ false
     no_dot op.Eq = refl
-    no_dot op.Ne = refl
-    no_dot op.Lt = refl
-    no_dot op.Le = refl
-    no_dot op.Gt = refl
-    no_dot op.Ge = refl
+    no_dot other = refl
 
     no_null : (o : Op) → bytes_eq (codes "null") (operator_text o) ≡ false
     no_null op.Eq = refl
-    no_null op.Ne = refl
-    no_null op.Lt = refl
-    no_null op.Le = refl
-    no_null op.Gt = refl
-    no_null op.Ge = refl
+    no_null other = refl
 
 -- ---- one symbol more
 
@@ -67,29 +59,25 @@ behind-one symbol other well well' line m n made made' =
 pub name-and : (line name name' : List ℕ) (m n : List Symbol) → IsMadeOf line (Name name ∷ m) → IsMadeOf line (Name name' ∷ n)
     → (name ≡ name') × HaveOneRest m n
 name-and line name name' m n made made' =
-    let both : IsSymbol (lexeme line) (Name name) × IsSymbol (lexeme line) (Name name') × IsMadeOf (after_lexeme line) m × IsMadeOf (after_lexeme line) n =
-    behind-one (Name name) (Name name') tt tt line m n made made' in
+    let both = behind-one (Name name) (Name name') tt tt line m n made made' in
     (sym both.0.0 ∙ both.1.0, (after_lexeme line, both.2, both.3))
 
 literal-and : (line : List ℕ) (v w : Value) (m n : List Symbol) → IsMadeOf line (Literal v ∷ m) → IsMadeOf line (Literal w ∷ n)
     → (v ≡ w) × HaveOneRest m n
 literal-and line v w m n made made' =
-    let both : IsSymbol (lexeme line) (Literal v) × IsSymbol (lexeme line) (Literal w) × IsMadeOf (after_lexeme line) m × IsMadeOf (after_lexeme line) n =
-    behind-one (Literal v) (Literal w) tt tt line m n made made' in
+    let both = behind-one (Literal v) (Literal w) tt tt line m n made made' in
     (Literal-only (lexeme line) w v both.1 both.0, (after_lexeme line, both.2, both.3))
 
 pub count-and : (line : List ℕ) (k l : ℕ) (m n : List Symbol) → IsMadeOf line (Count k ∷ m) → IsMadeOf line (Count l ∷ n)
     → (k ≡ l) × HaveOneRest m n
 count-and line k l m n made made' =
-    let both : IsSymbol (lexeme line) (Count k) × IsSymbol (lexeme line) (Count l) × IsMadeOf (after_lexeme line) m × IsMadeOf (after_lexeme line) n =
-    behind-one (Count k) (Count l) tt tt line m n made made' in
+    let both = behind-one (Count k) (Count l) tt tt line m n made made' in
     (both.0.2 ∙ sym both.1.2, (after_lexeme line, both.2, both.3))
 
 operator-and : (line : List ℕ) (o p : Op) (m n : List Symbol) → IsMadeOf line (Sign (Operator o) ∷ m) → IsMadeOf line (Sign (Operator p) ∷ n)
     → (o ≡ p) × HaveOneRest m n
 operator-and line o p m n made made' =
-    let both : (lexeme line ≡ operator_text o) × (lexeme line ≡ operator_text p) × IsMadeOf (after_lexeme line) m × IsMadeOf (after_lexeme line) n =
-    behind-one (Sign (Operator o)) (Sign (Operator p)) tt tt line m n made made' in
+    let both = behind-one (Sign (Operator o)) (Sign (Operator p)) tt tt line m n made made' in
     (operator-one o p (sym both.0 ∙ both.1), (after_lexeme line, both.2, both.3))
 
 -- a symbol that both sides have, as a keyword or a sign
@@ -125,42 +113,39 @@ kinds-differ line j k m n differ made made' =
 reference-and : (line s t : List ℕ) (m n : List Symbol) → IsMadeOf line (Keyword (codes "ref") ∷ Name s ∷ m)
     → IsMadeOf line (Keyword (codes "ref") ∷ Name t ∷ n) → (s ≡ t) × HaveOneRest m n
 reference-and line s t m n made made' =
-    let behind : HaveOneRest (Name s ∷ m) (Name t ∷ n) = fixed-and (Keyword (codes "ref")) refl line (Name s ∷ m) (Name t ∷ n) made made' in
+    let behind = fixed-and (Keyword (codes "ref")) refl line (Name s ∷ m) (Name t ∷ n) made made' in
     name-and behind.0 s t m n behind.1 behind.2
 
 kind-one : IsOneItem kind_symbols
 kind-one line kind.Int kind.Int m n free free' made made' = (refl, fixed-and (Keyword (codes "int")) refl line m n made made')
 kind-one line kind.Text kind.Text m n free free' made made' = (refl, fixed-and (Keyword (codes "text")) refl line m n made made')
 kind-one line (kind.Ref s) (kind.Ref t) m n free free' made made' =
-    let both : (s ≡ t) × HaveOneRest m n = reference-and line s t m n made made' in
+    let both = reference-and line s t m n made made' in
     (ap kind.Ref both.0, both.1)
 kind-one line (kind.Ref s) (kind.RefOrNull t) m n free free' made made' =
-    let both : (s ≡ t) × HaveOneRest m (Keyword (codes "null") ∷ n) = reference-and line s t m (Keyword (codes "null") ∷ n) made made' in
+    let both = reference-and line s t m (Keyword (codes "null") ∷ n) made made' in
     absurd (free.no_null both.1.0 n both.1.2 both.1.1)
 kind-one line (kind.RefOrNull s) (kind.Ref t) m n free free' made made' =
-    let both : (s ≡ t) × HaveOneRest (Keyword (codes "null") ∷ m) n = reference-and line s t (Keyword (codes "null") ∷ m) n made made' in
+    let both = reference-and line s t (Keyword (codes "null") ∷ m) n made made' in
     absurd (free'.no_null both.1.0 m both.1.1 both.1.2)
 kind-one line (kind.RefOrNull s) (kind.RefOrNull t) m n free free' made made' =
     let null : Symbol = Keyword (codes "null") in
-    let both : (s ≡ t) × HaveOneRest (null ∷ m) (null ∷ n) = reference-and line s t (null ∷ m) (null ∷ n) made made' in
+    let both = reference-and line s t (null ∷ m) (null ∷ n) made made' in
     (ap kind.RefOrNull both.0, fixed-and null refl both.1.0 m n both.1.1 both.1.2)
 kind-one line j k m n free free' made made' = absurd (kinds-differ line j k m n refl made made')
 
 pub column-one : IsOneItem column_symbols
 column-one line c d m n free free' made made' =
-    let names : (c.name ≡ d.name) × HaveOneRest (kind_symbols c.kind ++ m) (kind_symbols d.kind ++ n) =
-    name-and line c.name d.name (kind_symbols c.kind ++ m) (kind_symbols d.kind ++ n) made made' in
-    let kinds : (c.kind ≡ d.kind) × HaveOneRest m n = kind-one names.1.0 c.kind d.kind m n free free' names.1.1 names.1.2 in
+    let names = name-and line c.name d.name (kind_symbols c.kind ++ m) (kind_symbols d.kind ++ n) made made' in
+    let kinds = kind-one names.1.0 c.kind d.kind m n free free' names.1.1 names.1.2 in
     ((λ i. record { name = names.0 i; kind = kinds.0 i }), kinds.1)
 
 pub setting-one : IsOneItem setting_symbols
 setting-one line s t m n free free' made made' =
     let eq : Symbol = Sign (Operator op.Eq) in
-    let names : (s.column ≡ t.column) × HaveOneRest (eq ∷ Literal s.value ∷ m) (eq ∷ Literal t.value ∷ n) =
-    name-and line s.column t.column (eq ∷ Literal s.value ∷ m) (eq ∷ Literal t.value ∷ n) made made' in
-    let behind : HaveOneRest (Literal s.value ∷ m) (Literal t.value ∷ n) =
-    fixed-and eq tt names.1.0 (Literal s.value ∷ m) (Literal t.value ∷ n) names.1.1 names.1.2 in
-    let values : (s.value ≡ t.value) × HaveOneRest m n = literal-and behind.0 s.value t.value m n behind.1 behind.2 in
+    let names = name-and line s.column t.column (eq ∷ Literal s.value ∷ m) (eq ∷ Literal t.value ∷ n) made made' in
+    let behind = fixed-and eq tt names.1.0 (Literal s.value ∷ m) (Literal t.value ∷ n) names.1.1 names.1.2 in
+    let values = literal-and behind.0 s.value t.value m n behind.1 behind.2 in
     ((λ i. record { column = names.0 i; value = values.0 i }), values.1)
 
 -- the symbols of a column's name, by its parts
@@ -171,29 +156,25 @@ whole_name table column = name_symbols (record { table = table; column = column 
 bare-no_whole : (line column table column' : List ℕ) (m n : List Symbol) → NeverBegins (Sign Dot) m → IsMadeOf line (Name column ∷ m)
     → IsMadeOf line (Name table ∷ Sign Dot ∷ Name column' ∷ n) → ⊥
 bare-no_whole line column table column' m n free made made' =
-    let both : (column ≡ table) × HaveOneRest m (Sign Dot ∷ Name column' ∷ n) =
-    name-and line column table m (Sign Dot ∷ Name column' ∷ n) made made' in
+    let both = name-and line column table m (Sign Dot ∷ Name column' ∷ n) made made' in
     free both.1.0 (Name column' ∷ n) both.1.2 both.1.1
 
 whole-one : (line : List ℕ) (table table' : Option (List ℕ)) (column column' : List ℕ) (m n : List Symbol)
     → NeverBegins (Sign Dot) m → NeverBegins (Sign Dot) n → IsMadeOf line (whole_name table column ++ m)
     → IsMadeOf line (whole_name table' column' ++ n) → (table ≡ table') × (column ≡ column') × HaveOneRest m n
 whole-one line None None c d m n free free' made made' =
-    let both : (c ≡ d) × HaveOneRest m n = name-and line c d m n made made' in (refl, both.0, both.1)
+    let both = name-and line c d m n made made' in (refl, both.0, both.1)
 whole-one line None (Some t) c d m n free free' made made' = absurd (bare-no_whole line c t d m n free made made')
 whole-one line (Some t) None c d m n free free' made made' = absurd (bare-no_whole line d t c n m free' made' made)
 whole-one line (Some s) (Some t) c d m n free free' made made' =
-    let tables : (s ≡ t) × HaveOneRest (Sign Dot ∷ Name c ∷ m) (Sign Dot ∷ Name d ∷ n) =
-    name-and line s t (Sign Dot ∷ Name c ∷ m) (Sign Dot ∷ Name d ∷ n) made made' in
-    let behind : HaveOneRest (Name c ∷ m) (Name d ∷ n) =
-    fixed-and (Sign Dot) tt tables.1.0 (Name c ∷ m) (Name d ∷ n) tables.1.1 tables.1.2 in
-    let columns : (c ≡ d) × HaveOneRest m n = name-and behind.0 c d m n behind.1 behind.2 in
+    let tables = name-and line s t (Sign Dot ∷ Name c ∷ m) (Sign Dot ∷ Name d ∷ n) made made' in
+    let behind = fixed-and (Sign Dot) tt tables.1.0 (Name c ∷ m) (Name d ∷ n) tables.1.1 tables.1.2 in
+    let columns = name-and behind.0 c d m n behind.1 behind.2 in
     (ap Some tables.0, columns.0, columns.1)
 
 pub name-one : IsOneItem name_symbols
 name-one line x y m n free free' made made' =
-    let both : (x.table ≡ y.table) × (x.column ≡ y.column) × HaveOneRest m n =
-    whole-one line x.table y.table x.column y.column m n free.no_dot free'.no_dot made made' in
+    let both = whole-one line x.table y.table x.column y.column m n free.no_dot free'.no_dot made made' in
     ((λ i. record { table = both.0 i; column = both.1 i }), both.2)
 
 -- what a condition says of its column
@@ -206,23 +187,19 @@ condition-more line c more made = subst (λ ss. IsMadeOf line ss) (append_assoc 
 
 pub condition-one : IsOneItem condition_symbols
 condition-one line c d m n free free' made made' =
-    let names : (c.column ≡ d.column) × HaveOneRest (comparison c m) (comparison d n) =
-    name-one line c.column d.column (comparison c m) (comparison d n) (operator-ends_item c.op (Literal c.value ∷ m))
+    let names = name-one line c.column d.column (comparison c m) (comparison d n) (operator-ends_item c.op (Literal c.value ∷ m))
     (operator-ends_item d.op (Literal d.value ∷ n)) (condition-more line c m made) (condition-more line d n made') in
-    let operators : (c.op ≡ d.op) × HaveOneRest (Literal c.value ∷ m) (Literal d.value ∷ n) =
-    operator-and names.1.0 c.op d.op (Literal c.value ∷ m) (Literal d.value ∷ n) names.1.1 names.1.2 in
-    let values : (c.value ≡ d.value) × HaveOneRest m n = literal-and operators.1.0 c.value d.value m n operators.1.1 operators.1.2 in
+    let operators = operator-and names.1.0 c.op d.op (Literal c.value ∷ m) (Literal d.value ∷ n) names.1.1 names.1.2 in
+    let values = literal-and operators.1.0 c.value d.value m n operators.1.1 operators.1.2 in
     ((λ i. record { column = names.0 i; op = operators.0 i; value = values.0 i }), values.1)
 
 -- ---- joins
 
 side-one : IsOneItem side_symbols
 side-one line s t m n free free' made made' =
-    let tables : (s.table ≡ t.table) × HaveOneRest (Sign Dot ∷ Name s.column ∷ m) (Sign Dot ∷ Name t.column ∷ n) =
-    name-and line s.table t.table (Sign Dot ∷ Name s.column ∷ m) (Sign Dot ∷ Name t.column ∷ n) made made' in
-    let behind : HaveOneRest (Name s.column ∷ m) (Name t.column ∷ n) =
-    fixed-and (Sign Dot) tt tables.1.0 (Name s.column ∷ m) (Name t.column ∷ n) tables.1.1 tables.1.2 in
-    let columns : (s.column ≡ t.column) × HaveOneRest m n = name-and behind.0 s.column t.column m n behind.1 behind.2 in
+    let tables = name-and line s.table t.table (Sign Dot ∷ Name s.column ∷ m) (Sign Dot ∷ Name t.column ∷ n) made made' in
+    let behind = fixed-and (Sign Dot) tt tables.1.0 (Name s.column ∷ m) (Name t.column ∷ n) tables.1.1 tables.1.2 in
+    let columns = name-and behind.0 s.column t.column m n behind.1 behind.2 in
     ((λ i. record { table = tables.0 i; column = columns.0 i }), columns.1)
 
 -- two sides with = between them
@@ -231,11 +208,9 @@ sides-one : (line : List ℕ) (s t s' t' : JoinSide) (m n : List Symbol) → End
     → IsMadeOf line (side_symbols s' ++ Sign (Operator op.Eq) ∷ side_symbols t' ++ n) → (s ≡ s') × (t ≡ t') × HaveOneRest m n
 sides-one line s t s' t' m n free free' made made' =
     let eq : Symbol = Sign (Operator op.Eq) in
-    let lefts : (s ≡ s') × HaveOneRest (eq ∷ side_symbols t ++ m) (eq ∷ side_symbols t' ++ n) =
-    side-one line s s' (eq ∷ side_symbols t ++ m) (eq ∷ side_symbols t' ++ n) (operator-ends_item op.Eq _) (operator-ends_item op.Eq _) made made' in
-    let behind : HaveOneRest (side_symbols t ++ m) (side_symbols t' ++ n) =
-    fixed-and eq tt lefts.1.0 (side_symbols t ++ m) (side_symbols t' ++ n) lefts.1.1 lefts.1.2 in
-    let rights : (t ≡ t') × HaveOneRest m n = side-one behind.0 t t' m n free free' behind.1 behind.2 in
+    let lefts = side-one line s s' (eq ∷ side_symbols t ++ m) (eq ∷ side_symbols t' ++ n) (operator-ends_item op.Eq _) (operator-ends_item op.Eq _) made made' in
+    let behind = fixed-and eq tt lefts.1.0 (side_symbols t ++ m) (side_symbols t' ++ n) lefts.1.1 lefts.1.2 in
+    let rights = side-one behind.0 t t' m n free free' behind.1 behind.2 in
     (lefts.0, rights.0, rights.1)
 
 pub joined-one : IsOneItem joined_symbols
@@ -243,11 +218,9 @@ joined-one line x y m n free free' made made' =
     let on : Symbol = Keyword (codes "on") in
     let sides : List Symbol = side_symbols x.left ++ Sign (Operator op.Eq) ∷ side_symbols x.right ++ m in
     let sides' : List Symbol = side_symbols y.left ++ Sign (Operator op.Eq) ∷ side_symbols y.right ++ n in
-    let tables : (x.table ≡ y.table) × HaveOneRest (on ∷ sides) (on ∷ sides') =
-    name-and line x.table y.table (on ∷ sides) (on ∷ sides') made made' in
-    let behind : HaveOneRest sides sides' = fixed-and on refl tables.1.0 sides sides' tables.1.1 tables.1.2 in
-    let both : (x.left ≡ y.left) × (x.right ≡ y.right) × HaveOneRest m n =
-    sides-one behind.0 x.left x.right y.left y.right m n free free' behind.1 behind.2 in
+    let tables = name-and line x.table y.table (on ∷ sides) (on ∷ sides') made made' in
+    let behind = fixed-and on refl tables.1.0 sides sides' tables.1.1 tables.1.2 in
+    let both = sides-one behind.0 x.left x.right y.left y.right m n free free' behind.1 behind.2 in
     ((λ i. record { table = tables.0 i; left = both.0 i; right = both.1 i }), both.2)
 
 -- Joins, one or more, are a list of joined tables with a join before each.
@@ -268,10 +241,7 @@ pub index-one : (line table table' column column' : List ℕ) (j k : IndexKind) 
 index-one line table table' column column' j k made made' =
     let first : Symbol = Keyword (index_word j) in
     let second : Symbol = Keyword (index_word k) in
-    let tables : (table ≡ table') × HaveOneRest (Name column ∷ first ∷ []) (Name column' ∷ second ∷ []) =
-    name-and line table table' (Name column ∷ first ∷ []) (Name column' ∷ second ∷ []) made made' in
-    let columns : (column ≡ column') × HaveOneRest (first ∷ []) (second ∷ []) =
-    name-and tables.1.0 column column' (first ∷ []) (second ∷ []) tables.1.1 tables.1.2 in
-    let words : (lexeme columns.1.0 ≡ index_word j) × (lexeme columns.1.0 ≡ index_word k) × IsMadeOf (after_lexeme columns.1.0) [] × IsMadeOf (after_lexeme columns.1.0) [] =
-    behind-one first second (index_word-word j) (index_word-word k) columns.1.0 [] [] columns.1.1 columns.1.2 in
+    let tables = name-and line table table' (Name column ∷ first ∷ []) (Name column' ∷ second ∷ []) made made' in
+    let columns = name-and tables.1.0 column column' (first ∷ []) (second ∷ []) tables.1.1 tables.1.2 in
+    let words = behind-one first second (index_word-word j) (index_word-word k) columns.1.0 [] [] columns.1.1 columns.1.2 in
     (tables.0, columns.0, index_word-one j k (sym words.0 ∙ words.1))

@@ -19,7 +19,7 @@ use Rattle.plain_tables.specs.Tables.{Table, Row, AreRising, key_cmp, has_key_of
 use Rattle.plain_tables.specs.Databases.{Database, is_named, table_named}
 use Rattle.plain_tables.specs.Effects.{new_table, grown_by}
 use Rattle.plain_tables.specs.References.{Reference, reference_of, references, table_references, is_held, is_to, is_referenced, is_typed, refers_into, refers_to, is_kind, is_index, CanHold, IsRowOf, IsKeyTree, IsSoundTable, IsSound}
-use Rattle.plain_tables.specs.Doing.{passes_all, assigned, assigned_references, insert_checks, insert, load, dump_checks, update_checks, delete_checks, updated, picked, without, with_index, without_index, done}
+use Rattle.plain_tables.specs.Doing.{passes_all, assigned, assigned_references, insert, load, dump_checks, update_checks, delete_checks, updated, picked, without, with_index, without_index, done}
 use Rattle.plain_tables.specs.ResolvedLaws.{OfTable, IsIndexable, IsInsertable, IsAssignable, AreAssignable, DoneKeepsSound, UpdateKeepsSound, DeleteKeepsSound}
 use Rattle.plain_tables.specs.declared.value.Value.{Value}
 use Rattle.plain_tables.specs.declared.schema.Column.{Column}
@@ -30,7 +30,7 @@ use Rattle.plain_tables.specs.declared.numbers.ColumnNumber.{ColumnNumber}
 use Rattle.plain_tables.specs.declared.numbers.TableNumber.{TableNumber}
 use Rattle.plain_tables.specs.declared.resolved.Assignment.{Assignment}
 use Rattle.plain_tables.specs.declared.resolved.Resolved.TheVariants as resolved
-use Rattle.plain_tables.proofs.EffectLemmas.{checked_satisfies, of_table_satisfies, insert_satisfies, loaded_satisfies, load_satisfies}
+use Rattle.plain_tables.proofs.EffectLemmas.{of_table_satisfies, of_table_checked, insert_satisfies, loaded_satisfies, load_satisfies}
 use Rattle.plain_tables.proofs.HeldLemmas.{StaysHeld, KeepsKey, keeps_itself, held_stays, RowsFit, rows_stay, row_held, row_stays, row_set, can_hold, can_still_hold}
 use Rattle.common_lemmas.proofs.Pairs.{AllPairs-nil, AllPairs-set_alike}
 use Rattle.common_lemmas.proofs.Elements.{All-at, All-remove, All-cons_option, All-from_list_all, AllZip-set}
@@ -224,8 +224,7 @@ with_row-keeps row rows p new some =
     let below : Row → Bool = λ r. is_lt (key_cmp r row) in
     let above : Row → Bool = λ r. is_lt (key_cmp row r) in
     let others = fails_where_none (λ r. is_eq (key_cmp r row)) rows new in
-    let each : All (λ r. (below r ≡ true) ⊎ (above r ≡ true)) rows =
-    All-weaker (λ r. is_eq (key_cmp r row) ≡ false) (λ r. (below r ≡ true) ⊎ (above r ≡ true))
+    let each = All-weaker (λ r. is_eq (key_cmp r row) ≡ false) (λ r. (below r ≡ true) ⊎ (above r ≡ true))
     (λ r other. apart_by_key (key_cmp r row) r row refl other) rows others
     in
     let either : (list_any p (filter below rows) || list_any p (row ∷ filter above rows)) ≡ true =
@@ -241,9 +240,7 @@ with_row-keeps row rows p new some =
 insert_keeps : (limits : Limits) (tables : Database) (n : TableNumber) (row : Row) → IsSound limits tables
     → OfTable n tables (IsInsertable tables row) → IsSound limits (done limits tables (resolved.Insert n row)).database
 insert_keeps limits tables n row sound of =
-    of_table_satisfies (λ e. IsSound limits e.database) n tables _ (λ r. sound)
-    (λ table there. checked_satisfies (λ e. IsSound limits e.database) tables (insert_checks limits tables table row) _ (λ r. sound)
-    (λ passed.
+    insert_satisfies (λ e. IsSound limits e.database) limits tables n row (λ r. sound) (λ table there passed.
     let can : IsInsertable tables row table = of_found n tables (IsInsertable tables row) table of there in
     let table_sound : IsSoundTable limits table = All-at (IsSoundTable limits) tables n.0 table sound.each there in
     let new : Table = grown_by row table in
@@ -257,7 +254,7 @@ insert_keeps limits tables n row sound of =
     (All-with_row (IsRowOf (set tables n.0 new) table.columns) row table.rows
     (row_stays tables (set tables n.0 new) table.columns row (each_stays tables n.0 table new there keeps (references table.columns row))
     (row_held tables table.columns row can.counted can.typed can.storable held))
-    (old_fit limits tables n.0 table new sound there keeps))))
+    (old_fit limits tables n.0 table new sound there keeps)))
 
 -- rows that can be inserted into the table of a number
 abbrev pub CanTake : TableNumber → List Row → Database → Type 0
@@ -336,9 +333,8 @@ assigned_key tables table assignments row can =
 
 pub update_keeps_sound : UpdateKeepsSound
 update_keeps_sound limits tables n assignments picks sound of =
-    of_table_satisfies (λ e. IsSound limits e.database) n tables _ (λ r. sound)
-    (λ table there. checked_satisfies (λ e. IsSound limits e.database) tables (update_checks tables table assignments) _ (λ r. sound)
-    (λ passed.
+    of_table_checked (λ e. IsSound limits e.database) n tables (λ table. update_checks tables table assignments) _ (λ r. sound)
+    (λ table there passed.
     let can = assigned_held tables table assignments
     (of_found n tables (AreAssignable tables assignments) table of there).each
     (All-from_list_all (is_held tables) (assigned_references table assignments) (not-false _ passed.0)) in
@@ -360,7 +356,7 @@ update_keeps_sound limits tables n assignments picks sound of =
     (λ t. assigned_satisfies (IsRowOf others table.columns) tables table assignments row can
     (λ old a one h. row_set others table.columns old a.column.0 a.value
     (λ c at. can_still_hold tables others c.kind a.value stay (one.1 c at)) h) fits)
-    (λ t. fits)) table.rows (old_fit limits tables n.0 table new sound there keeps)))))
+    (λ t. fits)) table.rows (old_fit limits tables n.0 table new sound there keeps))))
 
 -- ---- rows taken out
 
@@ -383,9 +379,8 @@ other_key name row r named other = rw named at other
 
 pub delete_keeps_sound : DeleteKeepsSound
 delete_keeps_sound limits tables n picks sound =
-    of_table_satisfies (λ e. IsSound limits e.database) n tables _ (λ r. sound)
-    (λ table there. checked_satisfies (λ e. IsSound limits e.database) tables (delete_checks tables table picks) _ (λ r. sound)
-    (λ passed.
+    of_table_checked (λ e. IsSound limits e.database) n tables (λ table. delete_checks tables table picks) _ (λ r. sound)
+    (λ table there passed.
     let table_sound : IsSoundTable limits table = All-at (IsSoundTable limits) tables n.0 table sound.each there in
     let new : Table = without picks table in
     let others : Database = set tables n.0 new in
@@ -406,7 +401,7 @@ delete_keeps_sound limits tables n picks sound =
     (let both = length-filter_both picks (λ row. not (picks row)) (λ row. refl) table.rows in let few = table_sound.few_rows in omega arith))
     stay
     (All-filter (λ row. not (picks row)) (IsRowOf others table.columns) table.rows
-    (All-at (RowsFit others) tables n.0 table (rows_stay tables others stay sound.rows_fit) there))))
+    (All-at (RowsFit others) tables n.0 table (rows_stay tables others stay sound.rows_fit) there)))
 
 -- ---- every command
 
@@ -431,7 +426,5 @@ done_keeps_sound limits tables (resolved.Delete n tests) sound meant = delete_ke
 done_keeps_sound limits tables (resolved.Select query) sound meant = sound
 done_keeps_sound limits tables (resolved.Load n rows) sound meant = load_keeps limits tables n rows sound meant
 done_keeps_sound limits tables (resolved.Dump n) sound meant =
-    of_table_satisfies (λ e. IsSound limits e.database) n tables _ (λ r. sound)
-    (λ table there. checked_satisfies (λ e. IsSound limits e.database) tables (dump_checks limits table) _ (λ r. sound)
-    (λ passed. sound))
+    of_table_checked (λ e. IsSound limits e.database) n tables (dump_checks limits) _ (λ r. sound) (λ table there passed. sound)
 done_keeps_sound limits tables resolved.Tables sound meant = sound

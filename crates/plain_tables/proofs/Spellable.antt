@@ -5,6 +5,7 @@ use Rattle.std.specs.List.{AllByRecursion, flat_map}
 use lib.Chars.{codes}
 use Rattle.plain_tables.specs.Names.{IsName}
 use Rattle.plain_tables.specs.Spelling.{Close, Comma, Symbol, Keyword, Sign, Operator, Literal, separated, kind_symbols, column_symbols, value_symbols, name_symbols, setting_symbols, condition_symbols, where_symbols, distinct_symbols, join_symbols, items_symbols, symbols_of, IsSymbol, IsMadeOf, NamesSomething, IsSpellableKind, IsSpellableColumn, IsSpellableValue, IsSpellableName, IsSpellableSetting, IsSpellableCondition, IsSpellableJoin, AreSpellableItems, IsSpellable, SpelledIsSpellable}
+use Rattle.plain_tables.specs.ResolvedLaws.{NamesItems}
 use Rattle.plain_tables.specs.declared.value.Value.{Value}
 use Rattle.plain_tables.specs.declared.value.Value.TheVariants as value
 use Rattle.plain_tables.specs.declared.schema.ColKind.{ColKind}
@@ -18,7 +19,7 @@ use Rattle.plain_tables.specs.declared.command.Items.{Items}
 use Rattle.plain_tables.specs.declared.command.Items.TheVariants as items
 use Rattle.plain_tables.specs.declared.command.Command.{Command}
 use Rattle.plain_tables.specs.declared.command.Command.TheVariants.{Table, DropTable, Index, DropIndex, Insert, Update, Delete, Select, Load, Dump, Tables}
-use Rattle.plain_tables.proofs.FirstWords.{HasItems, from_symbols, select-items, split-word}
+use Rattle.plain_tables.proofs.FirstWords.{from_symbols, select-items, split-word}
 use Rattle.plain_tables.proofs.Separated.{all-left, all-right, separated-each}
 use Rattle.plain_tables.proofs.LineFeeds.{HasNoFeed, contains-no_feed, literal-feed}
 
@@ -40,8 +41,7 @@ made-each (symbol ∷ symbols) line free (blanks, characters, rest, are, is, end
 kind-each : (k : ColKind) → HaveCharacters (kind_symbols k) → IsSpellableKind k
 kind-each kind.Int all = tt
 kind-each kind.Text all = tt
-kind-each (kind.Ref t) all = all.1.0.1.1
-kind-each (kind.RefOrNull t) all = all.1.0.1.1
+kind-each refers all = all.1.0.1.1
 
 column-each : (column : Column) → HaveCharacters (column_symbols column) → IsSpellableColumn column
 column-each column all = (all.0.1.1, kind-each column.kind all.1)
@@ -105,11 +105,11 @@ from-each table joins conditions all = (
   where-each conditions (all-right HasCharacters (flat_map join_symbols joins) (where_symbols conditions) all.1.1),
 )
 
-items-each : (items : Items) (more : List Symbol) → HasItems items → HaveCharacters (items_symbols items ++ more)
+items-each : (items : Items) (more : List Symbol) → NamesItems items → HaveCharacters (items_symbols items ++ more)
     → AreSpellableItems items × HaveCharacters more
 items-each items.All more some all = (tt, all.1)
 items-each (items.Named names) more some all =
-    let parts : AllByRecursion IsSpellableName names × HaveCharacters more = listed-each name_symbols IsSpellableName name-each names more all in
+    let parts = listed-each name_symbols IsSpellableName name-each names more all in
     ((some, parts.0), parts.1)
 
 -- Law: where the symbols of a command have characters, the command can be spelled.
@@ -122,19 +122,16 @@ symbols-spellable (DropIndex table column k) some all = (all.1.1.0.1.1, all.1.1.
 symbols-spellable (Insert table values) some all =
     (all.1.0.1.1, some, (listed-each value_symbols IsSpellableValue value-each values (Sign Close ∷ []) all.1.1.1).0)
 symbols-spellable (Update table settings conditions) some all =
-    let parts : AllByRecursion IsSpellableSetting settings × HaveCharacters (where_symbols conditions) =
-    listed-each setting_symbols IsSpellableSetting setting-each settings (where_symbols conditions) all.1.1.1 in
+    let parts = listed-each setting_symbols IsSpellableSetting setting-each settings (where_symbols conditions) all.1.1.1 in
     (all.1.0.1.1, some, parts.0, where-each conditions parts.1)
 symbols-spellable (Delete table conditions) some all = (all.1.0.1.1, where-each conditions all.1.1)
 symbols-spellable (Select distinct items table joins conditions) some all =
     let from : List Symbol = from_symbols table joins conditions in
     let split : HaveCharacters (Keyword (codes "select") ∷ (distinct_symbols distinct ++ (items_symbols items ++ from))) =
     subst HaveCharacters (split-word (Select distinct items table joins conditions)).0 all in
-    let list : AreSpellableItems items × HaveCharacters from =
-    items-each items from (select-items distinct items table joins conditions some)
+    let list = items-each items from (select-items distinct items table joins conditions some)
     (all-right HasCharacters (distinct_symbols distinct) (items_symbols items ++ from) split.1) in
-    let parts : IsName table × AllByRecursion IsSpellableJoin joins × AllByRecursion IsSpellableCondition conditions =
-    from-each table joins conditions list.1 in
+    let parts = from-each table joins conditions list.1 in
     (list.0, parts.0, parts.1, parts.2)
 symbols-spellable (Load table bytes) some all = (all.1.0.1.1, all.1.1.0.1.0)
 symbols-spellable (Dump table) some all = all.1.0.1.1

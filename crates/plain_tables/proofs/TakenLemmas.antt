@@ -65,8 +65,7 @@ rows_around row (r ∷ rows) rise new =
           rw (below, key_cmp-one_way r row below) (ap (λ rs. r ∷ rs) (rows_around row rows (AllPairs-tail R r rows rise) parts.1))
       | inr above ↦
           let first : key_cmp row r ≡ Less = is_lt-Less (key_cmp row r) above in
-          let later : All (λ s. is_lt (key_cmp row s) ≡ true) rows =
-          All-weaker (R r) (λ s. is_lt (key_cmp row s) ≡ true) (λ s h. ap is_lt (key_cmp_total.trans row r s first h)) rows
+          let later = All-weaker (R r) (λ s. is_lt (key_cmp row s) ≡ true) (λ s h. ap is_lt (key_cmp_total.trans row r s first h)) rows
           (AllPairs-head R r rows rise)
           in
           let none = filter_none (λ s. is_lt (key_cmp s row)) rows
@@ -88,8 +87,7 @@ taken_out row rows rise new =
     (All-weaker (λ r. below r ≡ true) (λ r. other r ≡ true)
     (λ r h. not_from_false (is_eq (key_cmp row r)) (one_key row r ∙ is_eq_apart (key_cmp r row) h)) (filter below rows)
     (filter_passes below rows)) in
-    let higher : filter other (filter above rows) ≡ filter above rows =
-    filter_all other (filter above rows)
+    let higher = filter_all other (filter above rows)
     (All-weaker (λ r. above r ≡ true) (λ r. other r ≡ true)
     (λ r h. not_from_false (is_eq (key_cmp row r)) (is_eq_apart (key_cmp row r) h)) (filter above rows)
     (filter_passes above rows)) in
@@ -202,8 +200,7 @@ named_at (t ∷ tables) zero table there apart =
     let named : is_named table.name t ≡ true = (bytes_eq-Decides t.name table.name).1 (ap (λ u. u.name) here) in
     rw named there
 named_at (t ∷ tables) (suc n) table there apart =
-    let other : t.name ≢ table.name =
-    All-at (λ u. t.name ≢ u.name) tables n table (AllPairs-head (λ t u. t.name ≢ u.name) t tables apart) there in
+    let other = All-at (λ u. t.name ≢ u.name) tables n table (AllPairs-head (λ t u. t.name ≢ u.name) t tables apart) there in
     let unnamed : is_named table.name t ≡ false = false_from_ne_true (bytes_eq t.name table.name)
     (λ e. other ((bytes_eq-Decides t.name table.name).0 e)) in
     rw unnamed (named_at tables n table there (AllPairs-tail (λ t u. t.name ≢ u.name) t tables apart))
@@ -289,8 +286,7 @@ load_can_be_taken_back limits tables new n k rows sound (table, there, t) all =
     let last : Table = having table after in
     let others : Database = set tables n.0 last in
     let made : Database → ℕ → Effect = λ d count. record { database = d; outcome = Changed count } in
-    let gone : delete others n picks ≡ made (set others n.0 (without picks last)) (length (picked picks last)) =
-    deleted others n last picks (slice_get_set tables n.0 last (slice_get_within tables n.0 table there))
+    let gone = deleted others n last picks (slice_get_set tables n.0 last (slice_get_within tables n.0 table there))
     (none_referenced limits tables n.0 table rows after sound there put.fresh) in
     let back : set others n.0 (without picks last) ≡ tables =
     set-set tables n.0 last (without picks last) ∙ ap (λ rs. set tables n.0 (having table rs)) put.kept

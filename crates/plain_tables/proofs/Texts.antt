@@ -19,7 +19,7 @@ two_more n = omega arith
 pub one_more : (n : ℕ) → 1 + n ≡ suc n
 one_more n = omega arith
 
-text_length-plain : (c : ℕ) (cs : List ℕ) → (c == 39) ≡ false → text_length (c ∷ cs) ≡ 1 + text_length cs
+pub text_length-plain : (c : ℕ) (cs : List ℕ) → (c == 39) ≡ false → text_length (c ∷ cs) ≡ 1 + text_length cs
 text_length-plain c [] plain = refl
 text_length-plain c (d ∷ cs) plain = rw plain refl
 
@@ -78,8 +78,7 @@ behind_mark-one [] [] e = refl
 behind_mark-one [] (d ∷ t) e = absurd (closed-no_more d (flat_map doubled t) (d == 39) refl (rw append_assoc at e))
 behind_mark-one (c ∷ s) [] e = absurd (closed-no_more c (flat_map doubled s) (c == 39) refl (rw append_assoc at (sym e)))
 behind_mark-one (c ∷ s) (d ∷ t) e =
-    let parts : (c ≡ d) × (flat_map doubled s ++ 39 ∷ [] ≡ flat_map doubled t ++ 39 ∷ []) =
-    doubled-one c d _ _ (c == 39) (d == 39) refl refl (rw (append_assoc (doubled c), append_assoc (doubled d)) at e) in
+    let parts = doubled-one c d _ _ (c == 39) (d == 39) refl refl (rw (append_assoc (doubled c), append_assoc (doubled d)) at e) in
     let others : s ≡ t = behind_mark-one s t parts.1 in λ i. parts.0 i ∷ others i
 
 -- Law: the characters of a text's literal are one text's alone.

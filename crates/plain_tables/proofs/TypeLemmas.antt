@@ -1,12 +1,10 @@
 -- Types of columns, and of rows, in two databases of which tables of one name have keys of one type.
-use Rattle.std.proofs.Common.{◌≡◌, ℕ, map, true, false, List, [], ◌∷◌, inl, inr, refl, ap, subst, Option, Some, None}
+use Rattle.std.proofs.Common.{◌≡◌, ℕ, map, false, List, refl, ap, subst, Option, Some, None}
 use Rattle.std.specs.Prelude.{not, zip}
 use Rattle.std.specs.List.{AllZip, slice_get}
 use Rattle.std.specs.Option.{option_map, option_map_or, option_and_then}
-use Rattle.std.specs.Str.{bytes_eq}
-use Rattle.std.proofs.lemmas.Bool.{cases_Bool}
 use Rattle.plain_tables.specs.Tables.{Table, Row}
-use Rattle.plain_tables.specs.Databases.{Database, is_named, table_named}
+use Rattle.plain_tables.specs.Databases.{Database, table_named}
 use Rattle.plain_tables.specs.References.{referred, takes_null, own_type, key_type, type_of, has_type, is_typed}
 use Rattle.plain_tables.specs.CsvReading.{Record, BadHeader, all_of, records_reading}
 use Rattle.plain_tables.specs.Resolving.{has_mistyped, block_column, table_reading}
@@ -18,7 +16,7 @@ use Rattle.plain_tables.specs.declared.schema.ColKind.{ColKind}
 use Rattle.plain_tables.specs.declared.schema.Column.{Column}
 use Rattle.common_lemmas.proofs.Tests.{any_agree}
 use Rattle.common_lemmas.proofs.Maps.{map_agree}
-use Rattle.plain_tables.proofs.ReferLemmas.{HasShape}
+use Rattle.plain_tables.proofs.ReferLemmas.{HasShape, named_alike}
 
 -- tables of one name have keys of one type
 abbrev pub AreKeyedAlike : Database → Database → Type 0
@@ -27,18 +25,9 @@ AreKeyedAlike tables others =
 
 -- tables of the same names and columns have such keys
 pub shaped_keyed : (tables others : Database) → AllZip HasShape tables others → AreKeyedAlike tables others
-shaped_keyed [] [] same name = refl
-shaped_keyed [] (u ∷ others) same name = absurd same
-shaped_keyed (t ∷ tables) [] same name = absurd same
-shaped_keyed (t ∷ tables) (u ∷ others) same name =
-    elim (cases_Bool (is_named name t)) [
-      | inl e ↦
-          let e' : is_named name u ≡ true = subst (λ n. bytes_eq n name ≡ true) same.0.0 e in
-          rw (e, e') (ap (λ columns. option_and_then (λ c. own_type c.kind) (slice_get columns 0)) same.0.1)
-      | inr f ↦
-          let f' : is_named name u ≡ false = subst (λ n. bytes_eq n name ≡ false) same.0.0 f in
-          rw (f, f') (shaped_keyed tables others same.1 name)
-    ]
+shaped_keyed tables others same name =
+    named_alike (λ a b. option_and_then key_type a ≡ option_and_then key_type b) refl
+    (λ t u alike. ap (λ columns. option_and_then (λ c. own_type c.kind) (slice_get columns 0)) alike.1) name tables others same
 
 referred_type : (tables others : Database) → AreKeyedAlike tables others → (found : Option (List ℕ)) (own : Option BaseKind)
     → option_map_or (λ name. option_and_then key_type (table_named name tables)) found own
@@ -52,10 +41,7 @@ type_alike tables others same k = referred_type tables others same (referred k) 
 pub typed_alike : (tables others : Database) → AreKeyedAlike tables others → (v : Value) (k : ColKind)
     → is_typed tables v k ≡ is_typed others v k
 typed_alike tables others same value.Null k = refl
-typed_alike tables others same (value.Int z) k =
-    ap (λ t. option_map_or (has_type (value.Int z)) t false) (type_alike tables others same k)
-typed_alike tables others same (value.Text text) k =
-    ap (λ t. option_map_or (has_type (value.Text text)) t false) (type_alike tables others same k)
+typed_alike tables others same v k = ap (λ t. option_map_or (has_type v) t false) (type_alike tables others same k)
 
 pub row_alike : (tables others : Database) → AreKeyedAlike tables others → (columns : List Column) (row : Row)
     → has_mistyped tables columns row ≡ has_mistyped others columns row

@@ -4,8 +4,9 @@ use Rattle.std.specs.List.{flat_map}
 use Rattle.std.specs.Str.{bytes_eq}
 use lib.Chars.{codes}
 use Rattle.plain_tables.specs.Names.{is_word, is_name}
-use Rattle.plain_tables.specs.Spelling.{Close, Comma, Dot, Open, Star, Symbol, Keyword, Name, Count, Sign, column_symbols, index_symbols, value_symbols, name_symbols, setting_symbols, condition_symbols, where_symbols, distinct_symbols, joined_symbols, join_symbols, items_symbols, IsMadeOf, Spells, SpellsAtMostOne}
+use Rattle.plain_tables.specs.Spelling.{Close, Comma, Dot, Open, Star, Symbol, Keyword, Name, Count, Sign, column_symbols, index_symbols, value_symbols, name_symbols, setting_symbols, condition_symbols, where_symbols, distinct_symbols, joined_symbols, join_symbols, items_symbols, IsMadeOf, NamesSomething, SpellsAtMostOne}
 use Rattle.plain_tables.specs.Reading.{after_lexeme}
+use Rattle.plain_tables.specs.ResolvedLaws.{NamesItems}
 use Rattle.plain_tables.specs.declared.schema.IndexKind.{IndexKind}
 use Rattle.plain_tables.specs.declared.condition.ColName.{ColName}
 use Rattle.plain_tables.specs.declared.condition.Cond.{Cond}
@@ -16,7 +17,7 @@ use Rattle.plain_tables.specs.declared.command.Items.TheVariants as items
 use Rattle.plain_tables.specs.declared.command.Command.{Command}
 use Rattle.plain_tables.specs.declared.command.Command.TheVariants.{Table, DropTable, Index, DropIndex, Insert, Update, Delete, Select, Load, Dump, Tables}
 use Rattle.plain_tables.proofs.Lexemes.{lexeme-of_made}
-use Rattle.plain_tables.proofs.FirstWords.{HasItems, first_word, from_symbols, select-items, different, spells-word}
+use Rattle.plain_tables.proofs.FirstWords.{first_word, behind_word, from_symbols, select-items, different, spells-word}
 use Rattle.plain_tables.proofs.Lists.{NeverBegins, IsFixed, sign-fixed, word-fixed, fixed-no_fixed, fixed-no_name, fixed-no_end, HaveOneRest, fixed-ends_item, nothing-ends_item, IsOneItem, IsBetween, Ends, list_and, made-more, list-one}
 use Rattle.plain_tables.proofs.SingleItems.{whole_name, name-and, count-and, fixed-and, value-one, column-one, setting-one, name-one, condition-one, joined-one, joins-listed, index-one}
 
@@ -111,13 +112,13 @@ star-no_names : (names : List ColName) (more : List Symbol) → 0 < length names
     → NeverBegins (Sign Star) (list_and (Sign Comma) name_symbols names more)
 star-no_names = fixed-no_columns (Sign Star) (codes "*") (sign-fixed Star) refl
 
-distinct-no_items : (items : Items) (more : List Symbol) → HasItems items → NeverBegins (Keyword (codes "distinct")) (items_symbols items ++ more)
+distinct-no_items : (items : Items) (more : List Symbol) → NamesItems items → NeverBegins (Keyword (codes "distinct")) (items_symbols items ++ more)
 distinct-no_items items.All more some =
     fixed-no_fixed (Keyword (codes "distinct")) (Sign Star) (codes "distinct") (codes "*") (word-fixed (codes "distinct") refl) (sign-fixed Star) refl more
 distinct-no_items (items.Named names) more some =
     fixed-no_columns (Keyword (codes "distinct")) (codes "distinct") (word-fixed (codes "distinct") refl) refl names more some
 
-items-one : (line : List ℕ) (i j : Items) (m n : List Symbol) → HasItems i → HasItems j → Ends (Sign Comma) m → Ends (Sign Comma) n
+items-one : (line : List ℕ) (i j : Items) (m n : List Symbol) → NamesItems i → NamesItems j → Ends (Sign Comma) m → Ends (Sign Comma) n
     → IsMadeOf line (items_symbols i ++ m) → IsMadeOf line (items_symbols j ++ n) → (i ≡ j) × HaveOneRest m n
 items-one line items.All items.All m n has has' ends ends' made made' = (refl, fixed-and (Sign Star) tt line m n made made')
 items-one line items.All (items.Named names) m n has has' ends ends' made made' =
@@ -125,8 +126,7 @@ items-one line items.All (items.Named names) m n has has' ends ends' made made' 
 items-one line (items.Named names) items.All m n has has' ends ends' made made' =
     absurd (star-no_names names m has line n made' made)
 items-one line (items.Named names) (items.Named others) m n has has' ends ends' made made' =
-    let both : (names ≡ others) × HaveOneRest m n =
-    list-one (Sign Comma) name_symbols comma-between name-one line names others m n has has' ends ends' made made' in
+    let both = list-one (Sign Comma) name_symbols comma-between name-one line names others m n has has' ends ends' made made' in
     (ap items.Named both.0, both.1)
 
 -- ---- what stands behind a first word
@@ -138,11 +138,9 @@ in_parentheses-one : {X : Type 0} (symbols : X → List Symbol) → IsOneItem sy
 in_parentheses-one symbols one line name name' xs ys some some' made made' =
     let list : List Symbol = list_and (Sign Comma) symbols xs (Sign Close ∷ []) in
     let list' : List Symbol = list_and (Sign Comma) symbols ys (Sign Close ∷ []) in
-    let names : (name ≡ name') × HaveOneRest (Sign Open ∷ list) (Sign Open ∷ list') =
-    name-and line name name' (Sign Open ∷ list) (Sign Open ∷ list') made made' in
-    let lists : HaveOneRest list list' = fixed-and (Sign Open) tt names.1.0 list list' names.1.1 names.1.2 in
-    let items : (xs ≡ ys) × HaveOneRest (Sign Close ∷ []) (Sign Close ∷ []) =
-    list-one (Sign Comma) symbols comma-between one lists.0 xs ys (Sign Close ∷ []) (Sign Close ∷ []) some some'
+    let names = name-and line name name' (Sign Open ∷ list) (Sign Open ∷ list') made made' in
+    let lists = fixed-and (Sign Open) tt names.1.0 list list' names.1.1 names.1.2 in
+    let items = list-one (Sign Comma) symbols comma-between one lists.0 xs ys (Sign Close ∷ []) (Sign Close ∷ []) some some'
     (close-ends []) (close-ends []) lists.1 lists.2 in
     (names.0, items.0)
 
@@ -150,8 +148,7 @@ in_parentheses-one symbols one line name name' xs ys some some' made made' =
 name-where-one : (line name name' : List ℕ) (cs ds : List Cond) → IsMadeOf line (Name name ∷ where_symbols cs)
     → IsMadeOf line (Name name' ∷ where_symbols ds) → (name ≡ name') × (cs ≡ ds)
 name-where-one line name name' cs ds made made' =
-    let names : (name ≡ name') × HaveOneRest (where_symbols cs) (where_symbols ds) =
-    name-and line name name' (where_symbols cs) (where_symbols ds) made made' in
+    let names = name-and line name name' (where_symbols cs) (where_symbols ds) made made' in
     (names.0, where-one names.1.0 cs ds names.1.1 names.1.2)
 
 -- the settings of an update
@@ -163,9 +160,8 @@ set-one : (line : List ℕ) (ss ts : List Setting) (cs ds : List Cond) → 0 < l
 set-one line ss ts cs ds some some' made made' =
     let list : List Symbol = list_and (Sign Comma) setting_symbols ss (where_symbols cs) in
     let list' : List Symbol = list_and (Sign Comma) setting_symbols ts (where_symbols ds) in
-    let lists : HaveOneRest list list' = fixed-and (Keyword (codes "set")) refl line list list' made made' in
-    let items : (ss ≡ ts) × HaveOneRest (where_symbols cs) (where_symbols ds) =
-    list-one (Sign Comma) setting_symbols comma-between setting-one lists.0 ss ts (where_symbols cs) (where_symbols ds) some some'
+    let lists = fixed-and (Keyword (codes "set")) refl line list list' made made' in
+    let items = list-one (Sign Comma) setting_symbols comma-between setting-one lists.0 ss ts (where_symbols cs) (where_symbols ds) some some'
     (comma-ends cs) (comma-ends ds) lists.1 lists.2 in
     (items.0, where-one items.1.0 cs ds items.1.1 items.1.2)
 
@@ -173,9 +169,8 @@ update-one : (line name name' : List ℕ) (ss ts : List Setting) (cs ds : List C
     → IsMadeOf line (Name name ∷ set_symbols ss cs) → IsMadeOf line (Name name' ∷ set_symbols ts ds)
     → (name ≡ name') × (ss ≡ ts) × (cs ≡ ds)
 update-one line name name' ss ts cs ds some some' made made' =
-    let names : (name ≡ name') × HaveOneRest (set_symbols ss cs) (set_symbols ts ds) =
-    name-and line name name' (set_symbols ss cs) (set_symbols ts ds) made made' in
-    let others : (ss ≡ ts) × (cs ≡ ds) = set-one names.1.0 ss ts cs ds some some' names.1.1 names.1.2 in
+    let names = name-and line name name' (set_symbols ss cs) (set_symbols ts ds) made made' in
+    let others = set-one names.1.0 ss ts cs ds some some' names.1.1 names.1.2 in
     (names.0, others.0, others.1)
 
 -- the joins of a select
@@ -197,10 +192,8 @@ joins-one line (x ∷ xs) (y ∷ ys) cs ds made made' =
     let join : Symbol = Keyword (codes "join") in
     let list : List Symbol = list_and join joined_symbols (x ∷ xs) (where_symbols cs) in
     let list' : List Symbol = list_and join joined_symbols (y ∷ ys) (where_symbols ds) in
-    let lists : HaveOneRest list list' =
-    fixed-and join refl line list list' (made-listed line x xs (where_symbols cs) made) (made-listed line y ys (where_symbols ds) made') in
-    let items : (x ∷ xs ≡ y ∷ ys) × HaveOneRest (where_symbols cs) (where_symbols ds) =
-    list-one join joined_symbols join-between joined-one lists.0 (x ∷ xs) (y ∷ ys) (where_symbols cs) (where_symbols ds) (omega arith) (omega arith)
+    let lists = fixed-and join refl line list list' (made-listed line x xs (where_symbols cs) made) (made-listed line y ys (where_symbols ds) made') in
+    let items = list-one join joined_symbols join-between joined-one lists.0 (x ∷ xs) (y ∷ ys) (where_symbols cs) (where_symbols ds) (omega arith) (omega arith)
     (join-ends cs) (join-ends ds) lists.1 lists.2 in
     (items.0, where-one items.1.0 cs ds items.1.1 items.1.2)
 
@@ -210,14 +203,13 @@ from-one : (line name name' : List ℕ) (xs ys : List Join) (cs ds : List Cond) 
 from-one line name name' xs ys cs ds made made' =
     let tail : List Symbol = flat_map join_symbols xs ++ where_symbols cs in
     let tail' : List Symbol = flat_map join_symbols ys ++ where_symbols ds in
-    let named : HaveOneRest (Name name ∷ tail) (Name name' ∷ tail') =
-    fixed-and (Keyword (codes "from")) refl line (Name name ∷ tail) (Name name' ∷ tail') made made' in
-    let names : (name ≡ name') × HaveOneRest tail tail' = name-and named.0 name name' tail tail' named.1 named.2 in
-    let others : (xs ≡ ys) × (cs ≡ ds) = joins-one names.1.0 xs ys cs ds names.1.1 names.1.2 in
+    let named = fixed-and (Keyword (codes "from")) refl line (Name name ∷ tail) (Name name' ∷ tail') made made' in
+    let names = name-and named.0 name name' tail tail' named.1 named.2 in
+    let others = joins-one names.1.0 xs ys cs ds names.1.1 names.1.2 in
     (names.0, others.0, others.1)
 
 -- Either both begin with the word distinct, or neither does.
-distinct-one : (line : List ℕ) (d e : Bool) (i j : Items) (m n : List Symbol) → HasItems i → HasItems j
+distinct-one : (line : List ℕ) (d e : Bool) (i j : Items) (m n : List Symbol) → NamesItems i → NamesItems j
     → IsMadeOf line (distinct_symbols d ++ (items_symbols i ++ m)) → IsMadeOf line (distinct_symbols e ++ (items_symbols j ++ n))
     → (d ≡ e) × HaveOneRest (items_symbols i ++ m) (items_symbols j ++ n)
 distinct-one line true true i j m n has has' made made' =
@@ -230,17 +222,15 @@ abbrev select_symbols : Bool → Items → List ℕ → List Join → List Cond 
 select_symbols distinct items table joins conditions =
     distinct_symbols distinct ++ (items_symbols items ++ from_symbols table joins conditions)
 
-select-one : (line : List ℕ) (d e : Bool) (i j : Items) (name name' : List ℕ) (xs ys : List Join) (cs ds : List Cond) → HasItems i → HasItems j
+select-one : (line : List ℕ) (d e : Bool) (i j : Items) (name name' : List ℕ) (xs ys : List Join) (cs ds : List Cond) → NamesItems i → NamesItems j
     → IsMadeOf line (select_symbols d i name xs cs) → IsMadeOf line (select_symbols e j name' ys ds)
     → (d ≡ e) × (i ≡ j) × (name ≡ name') × (xs ≡ ys) × (cs ≡ ds)
 select-one line d e i j name name' xs ys cs ds has has' made made' =
     let from : List Symbol = from_symbols name xs cs in
     let from' : List Symbol = from_symbols name' ys ds in
-    let words : (d ≡ e) × HaveOneRest (items_symbols i ++ from) (items_symbols j ++ from') =
-    distinct-one line d e i j from from' has has' made made' in
-    let items : (i ≡ j) × HaveOneRest from from' =
-    items-one words.1.0 i j from from' has has' (from-ends _) (from-ends _) words.1.1 words.1.2 in
-    let others : (name ≡ name') × (xs ≡ ys) × (cs ≡ ds) = from-one items.1.0 name name' xs ys cs ds items.1.1 items.1.2 in
+    let words = distinct-one line d e i j from from' has has' made made' in
+    let items = items-one words.1.0 i j from from' has has' (from-ends _) (from-ends _) words.1.1 words.1.2 in
+    let others = from-one items.1.0 name name' xs ys cs ds items.1.1 items.1.2 in
     (words.0, items.0, others.0, others.1, others.2)
   where
     from-ends : (more : List Symbol) → Ends (Sign Comma) (Keyword (codes "from") ∷ more)
@@ -250,91 +240,71 @@ select-one line d e i j name name' xs ys cs ds has has' made made' =
 drop-table-one : (line table table' : List ℕ) → IsMadeOf line (Keyword (codes "table") ∷ Name table ∷ [])
     → IsMadeOf line (Keyword (codes "table") ∷ Name table' ∷ []) → table ≡ table'
 drop-table-one line table table' made made' =
-    let names : HaveOneRest (Name table ∷ []) (Name table' ∷ []) =
-    fixed-and (Keyword (codes "table")) refl line (Name table ∷ []) (Name table' ∷ []) made made' in
+    let names = fixed-and (Keyword (codes "table")) refl line (Name table ∷ []) (Name table' ∷ []) made made' in
     (name-and names.0 table table' [] [] names.1 names.2).0
 
 drop-index-one : (line table table' column column' : List ℕ) (j k : IndexKind) → IsMadeOf line (Keyword (codes "index") ∷ index_symbols table column j)
     → IsMadeOf line (Keyword (codes "index") ∷ index_symbols table' column' k) → (table ≡ table') × (column ≡ column') × (j ≡ k)
 drop-index-one line table table' column column' j k made made' =
-    let parts : HaveOneRest (index_symbols table column j) (index_symbols table' column' k) =
-    fixed-and (Keyword (codes "index")) refl line (index_symbols table column j) (index_symbols table' column' k) made made' in
+    let parts = fixed-and (Keyword (codes "index")) refl line (index_symbols table column j) (index_symbols table' column' k) made made' in
     index-one parts.0 table table' column column' j k parts.1 parts.2
 
 -- no line drops a table and an index
-table-no_index : (line table table' column : List ℕ) (k : IndexKind) → Spells line (DropTable table) → Spells line (DropIndex table' column k) → ⊥
-table-no_index line table table' column k spells spells' =
+table-no_index : (line : List ℕ) (symbols others : List Symbol) → IsMadeOf line (Keyword (codes "table") ∷ symbols)
+    → IsMadeOf line (Keyword (codes "index") ∷ others) → ⊥
+table-no_index line symbols others =
     fixed-no_fixed (Keyword (codes "table")) (Keyword (codes "index")) (codes "table") (codes "index") (word-fixed (codes "table") refl)
-    (word-fixed (codes "index") refl) refl (index_symbols table' column k) (after_lexeme line) (Name table ∷ [])
-    (spells-word line (DropTable table) spells).1 (spells-word line (DropIndex table' column k) spells').1
+    (word-fixed (codes "index") refl) refl others line symbols
 
 -- what stands behind a load
 load-one : (line table table' : List ℕ) (bytes bytes' : ℕ) → IsMadeOf line (Name table ∷ Count bytes ∷ [])
     → IsMadeOf line (Name table' ∷ Count bytes' ∷ []) → (table ≡ table') × (bytes ≡ bytes')
 load-one line table table' bytes bytes' made made' =
-    let names : (table ≡ table') × HaveOneRest (Count bytes ∷ []) (Count bytes' ∷ []) =
-    name-and line table table' (Count bytes ∷ []) (Count bytes' ∷ []) made made' in
+    let names = name-and line table table' (Count bytes ∷ []) (Count bytes' ∷ []) made made' in
     (names.0, (count-and names.1.0 bytes bytes' [] [] names.1.1 names.1.2).0)
 
 -- ---- commands
 
--- No line spells two commands with different first words.
-words-differ : (line : List ℕ) (c d : Command) → Spells line c → Spells line d → bytes_eq (first_word c) (first_word d) ≡ false → ⊥
-words-differ line c d spells spells' differ =
-    different (first_word c) (first_word d) differ (sym (spells-word line c spells).0 ∙ (spells-word line d spells').0)
+-- Behind the same first word, a line is made of the symbols of one command alone.
+behind_word-one : (line : List ℕ) (c d : Command) → NamesSomething c → NamesSomething d → first_word c ≡ first_word d
+    → IsMadeOf line (behind_word c) → IsMadeOf line (behind_word d) → c ≡ d
+behind_word-one line (Table name schema) (Table name' schema') some some' same made made' =
+    let both = in_parentheses-one column_symbols column-one line name name' schema.columns schema'.columns some some' made made' in
+    λ i. Table (both.0 i) (record { columns = both.1 i })
+behind_word-one line (DropTable table) (DropTable table') some some' same made made' =
+    ap DropTable (drop-table-one line table table' made made')
+behind_word-one line (DropTable table) (DropIndex table' column k) some some' same made made' =
+    absurd (table-no_index line (Name table ∷ []) (index_symbols table' column k) made made')
+behind_word-one line (DropIndex table column k) (DropTable table') some some' same made made' =
+    absurd (table-no_index line (Name table' ∷ []) (index_symbols table column k) made' made)
+behind_word-one line (Index table column j) (Index table' column' k) some some' same made made' =
+    let all = index-one line table table' column column' j k made made' in
+    λ i. Index (all.0 i) (all.1 i) (all.2 i)
+behind_word-one line (DropIndex table column j) (DropIndex table' column' k) some some' same made made' =
+    let all = drop-index-one line table table' column column' j k made made' in
+    λ i. DropIndex (all.0 i) (all.1 i) (all.2 i)
+behind_word-one line Tables Tables some some' same made made' = refl
+behind_word-one line (Insert table values) (Insert table' values') some some' same made made' =
+    let both = in_parentheses-one value_symbols value-one line table table' values values' some some' made made' in
+    λ i. Insert (both.0 i) (both.1 i)
+behind_word-one line (Update table ss cs) (Update table' ts ds) some some' same made made' =
+    let all = update-one line table table' ss ts cs ds some some' made made' in
+    λ i. Update (all.0 i) (all.1 i) (all.2 i)
+behind_word-one line (Delete table cs) (Delete table' ds) some some' same made made' =
+    let both = name-where-one line table table' cs ds made made' in
+    λ i. Delete (both.0 i) (both.1 i)
+behind_word-one line (Select d i table xs cs) (Select e j table' ys ds) some some' same made made' =
+    let all = select-one line d e i j table table' xs ys cs ds (select-items d i table xs cs some) (select-items e j table' ys ds some') made made' in
+    λ k. Select (all.0 k) (all.1 k) (all.2 k) (all.3 k) (all.4 k)
+behind_word-one line (Load table bytes) (Load table' bytes') some some' same made made' =
+    let both = load-one line table table' bytes bytes' made made' in
+    λ i. Load (both.0 i) (both.1 i)
+behind_word-one line (Dump table) (Dump table') some some' same made made' = ap Dump (name-and line table table' [] [] made made').0
+behind_word-one line c d some some' same made made' = absurd (different (first_word c) (first_word d) refl same)
 
 -- Law: no line spells two commands.
 pub spells-one : SpellsAtMostOne
-spells-one line (Table name schema) (Table name' schema') spells spells' =
-    let both : (name ≡ name') × (schema.columns ≡ schema'.columns) =
-    in_parentheses-one column_symbols column-one (after_lexeme line) name name' schema.columns schema'.columns spells.1 spells'.1
-    (spells-word line (Table name schema) spells).1 (spells-word line (Table name' schema') spells').1 in
-    λ i. Table (both.0 i) (record { columns = both.1 i })
-spells-one line (DropTable table) (DropTable table') spells spells' =
-    ap DropTable
-    (drop-table-one (after_lexeme line) table table'
-    (spells-word line (DropTable table) spells).1 (spells-word line (DropTable table') spells').1)
-spells-one line (DropTable table) (DropIndex table' column k) spells spells' =
-    absurd (table-no_index line table table' column k spells spells')
-spells-one line (DropIndex table column k) (DropTable table') spells spells' =
-    absurd (table-no_index line table' table column k spells' spells)
-spells-one line (Index table column j) (Index table' column' k) spells spells' =
-    let all : (table ≡ table') × (column ≡ column') × (j ≡ k) =
-    index-one (after_lexeme line) table table' column column' j k
-    (spells-word line (Index table column j) spells).1 (spells-word line (Index table' column' k) spells').1 in
-    λ i. Index (all.0 i) (all.1 i) (all.2 i)
-spells-one line (DropIndex table column j) (DropIndex table' column' k) spells spells' =
-    let all : (table ≡ table') × (column ≡ column') × (j ≡ k) =
-    drop-index-one (after_lexeme line) table table' column column' j k
-    (spells-word line (DropIndex table column j) spells).1 (spells-word line (DropIndex table' column' k) spells').1 in
-    λ i. DropIndex (all.0 i) (all.1 i) (all.2 i)
-spells-one line Tables Tables spells spells' = refl
-spells-one line (Insert table values) (Insert table' values') spells spells' =
-    let both : (table ≡ table') × (values ≡ values') =
-    in_parentheses-one value_symbols value-one (after_lexeme line) table table' values values' spells.1 spells'.1
-    (spells-word line (Insert table values) spells).1 (spells-word line (Insert table' values') spells').1 in
-    λ i. Insert (both.0 i) (both.1 i)
-spells-one line (Update table ss cs) (Update table' ts ds) spells spells' =
-    let all : (table ≡ table') × (ss ≡ ts) × (cs ≡ ds) =
-    update-one (after_lexeme line) table table' ss ts cs ds spells.1 spells'.1
-    (spells-word line (Update table ss cs) spells).1 (spells-word line (Update table' ts ds) spells').1 in
-    λ i. Update (all.0 i) (all.1 i) (all.2 i)
-spells-one line (Delete table cs) (Delete table' ds) spells spells' =
-    let both : (table ≡ table') × (cs ≡ ds) =
-    name-where-one (after_lexeme line) table table' cs ds
-    (spells-word line (Delete table cs) spells).1 (spells-word line (Delete table' ds) spells').1 in
-    λ i. Delete (both.0 i) (both.1 i)
-spells-one line (Select d i table xs cs) (Select e j table' ys ds) spells spells' =
-    let all : (d ≡ e) × (i ≡ j) × (table ≡ table') × (xs ≡ ys) × (cs ≡ ds) =
-    select-one (after_lexeme line) d e i j table table' xs ys cs ds (select-items d i table xs cs spells.1) (select-items e j table' ys ds spells'.1)
-    (spells-word line (Select d i table xs cs) spells).1 (spells-word line (Select e j table' ys ds) spells').1 in
-    λ k. Select (all.0 k) (all.1 k) (all.2 k) (all.3 k) (all.4 k)
-spells-one line (Load table bytes) (Load table' bytes') spells spells' =
-    let both : (table ≡ table') × (bytes ≡ bytes') =
-    load-one (after_lexeme line) table table' bytes bytes'
-    (spells-word line (Load table bytes) spells).1 (spells-word line (Load table' bytes') spells').1 in
-    λ i. Load (both.0 i) (both.1 i)
-spells-one line (Dump table) (Dump table') spells spells' =
-    ap Dump (name-and (after_lexeme line) table table' [] []
-    (spells-word line (Dump table) spells).1 (spells-word line (Dump table') spells').1).0
-spells-one line c d spells spells' = absurd (words-differ line c d spells spells' refl)
+spells-one line c d spells spells' =
+    let (word, made) = spells-word line c spells in
+    let (word', made') = spells-word line d spells' in
+    behind_word-one (after_lexeme line) c d spells.1 spells'.1 (sym word ∙ word') made made'

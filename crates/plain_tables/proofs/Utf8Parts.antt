@@ -1,5 +1,5 @@
 -- UTF-8: what stands on either side of an ASCII character.
-use Rattle.std.proofs.Common.{◌≡◌, ℕ, ◌+◌, ◌<◌, List, [], ◌∷◌, ◌++◌, length, take, drop, get_or, refl, sym, arith, subst, append_assoc, length-append}
+use Rattle.std.proofs.Common.{◌≡◌, ℕ, ◌+◌, ◌<◌, List, [], ◌∷◌, ◌++◌, length, drop, get_or, refl, sym, arith, subst, append_assoc, length-append}
 use Rattle.std.specs.Str.{IsUtf8}
 use Rattle.std.proofs.Math.Seq.{take-append_seam, drop-append_seam, get_or-append_seam}
 use Rattle.std.proofs.lemmas.Str.{IsUtf8-take, IsUtf8-drop, IsUtf8-from_ascii, IsCharBoundary-before_ascii, IsCharBoundary-after_ascii}
@@ -13,8 +13,7 @@ small xs c ys ascii = subst (λ n. n < 128) (sym (get_or-append_seam xs c ys 0))
 
 pub utf8-before : (xs : List ℕ) (c : ℕ) (ys : List ℕ) → c < 128 → IsUtf8 (xs ++ c ∷ ys) → IsUtf8 xs
 utf8-before xs c ys ascii utf8 =
-    let part : IsUtf8 (take (length xs) (xs ++ c ∷ ys)) =
-    IsUtf8-take (xs ++ c ∷ ys) (length xs) utf8 (IsCharBoundary-before_ascii (xs ++ c ∷ ys) (length xs) (within xs c ys) (small xs c ys ascii)) in
+    let part = IsUtf8-take (xs ++ c ∷ ys) (length xs) utf8 (IsCharBoundary-before_ascii (xs ++ c ∷ ys) (length xs) (within xs c ys) (small xs c ys ascii)) in
     rw take-append_seam at part
 
 one_later : (xs : List ℕ) (c : ℕ) (ys : List ℕ) → drop (length xs + 1) (xs ++ c ∷ ys) ≡ ys
@@ -25,8 +24,7 @@ one_later xs c ys =
 
 pub utf8-behind : (xs : List ℕ) (c : ℕ) (ys : List ℕ) → c < 128 → IsUtf8 (xs ++ c ∷ ys) → IsUtf8 ys
 utf8-behind xs c ys ascii utf8 =
-    let part : IsUtf8 (drop (length xs + 1) (xs ++ c ∷ ys)) =
-    IsUtf8-drop (xs ++ c ∷ ys) (length xs + 1) utf8 (IsCharBoundary-after_ascii (xs ++ c ∷ ys) (length xs) utf8 (within xs c ys) (small xs c ys ascii)) in
+    let part = IsUtf8-drop (xs ++ c ∷ ys) (length xs + 1) utf8 (IsCharBoundary-after_ascii (xs ++ c ∷ ys) (length xs) utf8 (within xs c ys) (small xs c ys ascii)) in
     subst IsUtf8 (one_later xs c ys) part
 
 -- a quote mark

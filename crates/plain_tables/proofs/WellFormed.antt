@@ -146,11 +146,8 @@ command-spellable Tables is = (refl, tt)
 pub symbol-no_feed : (characters : List ℕ) (symbol : Symbol) → IsSpellableSymbol symbol → IsSymbol characters symbol → HasNoFeed characters
 symbol-no_feed characters (Sign mark) can is = rw is (mark-no_feed mark)
 symbol-no_feed characters (Keyword word) can is = run-no_feed characters (symbol-run characters (Keyword word) tt can is)
-symbol-no_feed characters (Name name) can is = run-no_feed characters (symbol-run characters (Name name) tt tt is)
-symbol-no_feed characters (Literal value.Null) can is = run-no_feed characters (symbol-run characters (Literal value.Null) tt tt is)
-symbol-no_feed characters (Literal (value.Int z)) can is = run-no_feed characters (symbol-run characters (Literal (value.Int z)) tt tt is)
 symbol-no_feed characters (Literal (value.Text text)) can is = rw is (literal-no_feed text can)
-symbol-no_feed characters (Count n) can is = run-no_feed characters (symbol-run characters (Count n) tt tt is)
+symbol-no_feed characters symbol can is = run-no_feed characters (symbol-run characters symbol tt tt is)
 
 made-no_feed : (symbols : List Symbol) → AreSpellableSymbols symbols → (line : List ℕ) → IsMadeOf line symbols → HasNoFeed line
 made-no_feed [] can line made = passing-no_feed is_blank refl line made

@@ -16,7 +16,7 @@ use Rattle.plain_tables.specs.Tables.{Table, Row}
 use Rattle.plain_tables.specs.Databases.{Database, table_named}
 use Rattle.plain_tables.specs.Queries.{JoinedColumn, joined_columns, fits_one, column_meant, place_meant, stands, side_name, named_items}
 use Rattle.plain_tables.specs.Effects.{misses, setting_name, condition_names}
-use Rattle.plain_tables.specs.Resolving.{number_of, own_columns, tests_of, assignments_of, is_mistyped, update_checks, delete_checks, once, select_names, columns_of, behind, join_columns, differ_in_type, select_checks, is_on_source, source_of, joins_of, select_of}
+use Rattle.plain_tables.specs.Resolving.{number_of, own_columns, tests_of, is_mistyped, update_checks, delete_checks, once, select_names, columns_of, behind, join_columns, differ_in_type, select_checks, is_on_source, source_of, joins_of}
 use Rattle.plain_tables.specs.ResolvedLaws.{AreJoins}
 use Rattle.plain_tables.specs.Joining.{Member, passes_all, value_of, are_equal, members_of}
 use Rattle.plain_tables.specs.QueryLaws.{table_rows, all_members, sources_of, each_passes, each_equal}
@@ -41,7 +41,7 @@ use Rattle.common_lemmas.proofs.Maps.{length-filter_map}
 use Rattle.plain_tables.proofs.MeantLemmas.{Differ, has_name, tables_differ, place_before, place_own}
 use Rattle.plain_tables.proofs.SelectLemmas.{once_apart, repeats_front, some_table, lacks, AreNamed, names_on, next_table, numbered, zip_parts, either_of, some_sides, joins_meant}
 use Rattle.plain_tables.proofs.ProductLemmas.{product_filtered}
-use Rattle.plain_tables.proofs.ResolvedLemmas.{checked_satisfies, numbered_satisfies}
+use Rattle.plain_tables.proofs.Meanings.{satisfies, if_checked, if_numbered}
 
 -- ---- the tables of names
 
@@ -176,15 +176,10 @@ compared_alike : (v w : Value) → is_eq (value_cmp v w) ≡ is_eq (value_cmp w 
 compared_alike v w = ap is_eq (value_cmp_total.antisymm v w) ∙ is_eq-reverse (value_cmp w v)
 
 pub equal_either_way : (v w : Value) → are_equal v w ≡ are_equal w v
-equal_either_way value.Null value.Null = refl
-equal_either_way value.Null (value.Int b) = refl
-equal_either_way value.Null (value.Text t) = refl
-equal_either_way (value.Int a) value.Null = refl
-equal_either_way (value.Text s) value.Null = refl
 equal_either_way (value.Int a) (value.Int b) = ap (λ x. x && true) (compared_alike (value.Int a) (value.Int b))
-equal_either_way (value.Int a) (value.Text t) = refl
-equal_either_way (value.Text s) (value.Int b) = refl
 equal_either_way (value.Text s) (value.Text t) = ap (λ x. x && true) (compared_alike (value.Text s) (value.Text t))
+equal_either_way value.Null (value.Int b) = refl
+equal_either_way v w = refl
 
 -- two sides of a join behind so many tables mean these columns
 abbrev MeanColumns : List JoinedColumn → ℕ → JoinedColumn × JoinedColumn → JoinSide → JoinSide → Type 0
@@ -387,19 +382,17 @@ MeetsTheWritten tables name joins conditions r = Unit {0}
 
 pub selects_meet_the_written : SelectsMeetTheWritten
 selects_meet_the_written records tables distinct its name joins conditions query h =
-    checked_satisfies (MeetsTheWritten tables name joins conditions) (select_checks tables its name joins conditions)
-    (select_of tables distinct its name joins conditions) (resolved.Select query) h
-    (λ passed.
+    satisfies (MeetsTheWritten tables name joins conditions) _ (resolved.Select query) h
+    (if_checked _ (select_checks tables its name joins conditions) _ (λ passed.
     let are = has_passed tables its name joins conditions passed in
     select_met tables (tables_named tables (once (select_names name joins))) name joins conditions are.named are.joined are.typed are.found
-    ∙ ap (λ ns. members_meeting (tables_named tables ns) joins conditions) are.once_each)
+    ∙ ap (λ ns. members_meeting (tables_named tables ns) joins conditions) are.once_each))
 
 pub selected_names_mean : SelectedNamesMean
 selected_names_mean records tables distinct its name joins conditions r h =
     let names : List (List ℕ) = select_names name joins in
-    checked_satisfies (λ q. AllNamesMean tables its names joins conditions) (select_checks tables its name joins conditions)
-    (select_of tables distinct its name joins conditions) r h
-    (λ passed.
+    satisfies (λ q. AllNamesMean tables its names joins conditions) _ r h
+    (if_checked _ (select_checks tables its name joins conditions) _ (λ passed.
     let are = has_passed tables its name joins conditions passed in
     let among : List Table = tables_named tables (once names) in
     let same : among ≡ tables_named tables names = ap (tables_named tables) are.once_each in
@@ -413,7 +406,7 @@ selected_names_mean records tables distinct its name joins conditions r h =
           (subst (λ k. All (MeansOne (joined_columns among) k) conditions) many (all_mean among (λ c. c.column) conditions are.found));
       of_joins = subst (λ ts. All (MeansItsTable (joined_columns ts)) (enumerate_from 1 joins)) same
           (joins_mean tables among (name ∷ []) joins are.named are.joined);
-    })
+    }))
 
 -- ---- update and delete
 
@@ -424,8 +417,7 @@ own_tests : (tables : Database) (name : List ℕ) (table : Table) (conditions : 
 own_tests tables name table conditions there found =
     let columns : List JoinedColumn = own_columns table in
     let mean : All (MeansOne columns 1) conditions = all_mean (table ∷ []) (λ c. c.column) conditions found in
-    let all_on : filter (is_on_source columns 0) conditions ≡ conditions =
-    filter_all (is_on_source columns 0) conditions
+    let all_on = filter_all (is_on_source columns 0) conditions
     (All-weaker (MeansOne columns 1) (λ c. is_on_source columns 0 c ≡ true)
     (λ c one. rw one.1 (eq-eqb one.0.source 0 (let before = one.2 in omega arith))) conditions mean)
     in
@@ -449,17 +441,15 @@ OfTests tables name conditions r = Unit {0}
 
 pub updates_test_the_written : UpdatesTestTheWritten
 updates_test_the_written records tables name settings conditions n assignments tests h =
-    numbered_satisfies (OfTests tables name conditions) name tables (λ table. update_checks tables table settings conditions)
-    (λ m table. resolved.Update m (assignments_of (own_columns table) settings) (tests_of (own_columns table) conditions))
-    (resolved.Update n assignments tests) h
-    (λ table there passed.
+    satisfies (OfTests tables name conditions) _ (resolved.Update n assignments tests) h
+    (if_numbered _ name tables _ (λ table there. if_checked _ (update_checks tables table settings conditions) _ (λ passed.
     let columns : List JoinedColumn = own_columns table in
     let found = or_parts (misses columns (map setting_name settings)) (misses columns (condition_names conditions))
     (sym (list_any-append (λ c. not (fits_one columns c)) (map setting_name settings) (condition_names conditions)) ∙ passed.0) in
-    own_tests tables name table conditions there found.1)
+    own_tests tables name table conditions there found.1)))
 
 pub deletes_test_the_written : DeletesTestTheWritten
 deletes_test_the_written records tables name conditions n tests h =
-    numbered_satisfies (OfTests tables name conditions) name tables (λ table. delete_checks tables table conditions)
-    (λ m table. resolved.Delete m (tests_of (own_columns table) conditions)) (resolved.Delete n tests) h
-    (λ table there passed. own_tests tables name table conditions there passed.0)
+    satisfies (OfTests tables name conditions) _ (resolved.Delete n tests) h
+    (if_numbered _ name tables _ (λ table there. if_checked _ (delete_checks tables table conditions) _
+    (λ passed. own_tests tables name table conditions there passed.0)))

@@ -17,6 +17,7 @@
 mod command;
 pub mod command_laws;
 mod condition;
+mod digits;
 mod hash;
 pub mod laws;
 mod numbers;
@@ -37,6 +38,7 @@ pub mod written_laws;
 
 pub use command::{Command, Items, Join, JoinSide, LONGEST_BLOCK, Limits, MOST_ROWS, Setting};
 pub use condition::{ColName, Cond, Op};
+pub use digits::{integer, magnitude};
 pub use hash::{hash_of, hash_of_sought};
 pub use no_memory::NoMemory;
 pub use numbers::{ColumnNumber, Place, TableNumber};

@@ -1,13 +1,7 @@
-use Rattle.std.proofs.Common.{ap, ◌∙◌, Err, subst}
-use Rattle.std.proofs.lemmas.Result.{err_from_is_err_and}
-use Rattle.plain_tables.specs.Reading.{after_lexeme}
-use Rattle.mm_lang.specs.Parsing.{BeginsWithNone}
-use Rattle.mm_lang.proofs.Fronts.{same-error, begins-none_assigned}
+use Rattle.mm_lang.proofs.Fronts.{passed-error, begins-none_assigned}
 use Rattle.mm_lang.proofs.items.assigned.Goals as goal
 
 pub returns-in_err-value-clause-syntax : goal.returns-in_err-value-clause-syntax
 returns-in_err-value-clause-syntax g c = λ syntax.
-    let p = err_from_is_err_and c.from_residual-in_err-value.result c.from_residual-in_err-value.ensures.1 in
     begins-none_assigned g.V.Item.symbols c.args.line.now
-    (subst (λ l. BeginsWithNone g.V.Item.symbols l) (c.in_ok-line.ensures.1 ∙ ap after_lexeme c.in_ok-column.ensures.name.2)
-    (c.in_err-value.ensures.syntax (ap Err (same-error c.from_residual-in_err-value.result p.0 _ _ p.1 p.2 syntax))))
+    (rw (c.in_ok-line.ensures.1, c.in_ok-column.ensures.name.2) at (c.in_err-value.ensures.syntax (passed-error c.from_residual-in_err-value.ensures.1 syntax)))

@@ -1,16 +1,14 @@
 -- Each separator takes the reading one item on, and anything else ends it.
-use Rattle.std.proofs.Common.{ap, arith, length, Err}
-use Rattle.std.proofs.lemmas.Result.{err_from_is_err_and}
+use Rattle.std.proofs.Common.{ap, arith, length}
 use Rattle.plain_tables.proofs.Lexemes.{length-lexeme}
-use Rattle.mm_lang.proofs.Fronts.{same-error, reads-shorter}
+use Rattle.mm_lang.proofs.Fronts.{passed-error, reads-shorter}
 use Rattle.mm_lang.proofs.Lists.{has_read-further, has_read-last, has_read-no_item}
 use Rattle.mm_lang.proofs.items.list.Goals as goal
 
 pub returns-in_err-item-clause-syntax : goal.returns-in_err-item-clause-syntax
 returns-in_err-item-clause-syntax g c = λ syntax.
-    let p = err_from_is_err_and c.from_residual.result c.from_residual.ensures.1 in
-    has_read-no_item g.T.Item.symbols c.args.between.now c.args.line.now c.loop-items.items.items c.loop-items.rest.now c.requires.ends_item
-    c.loop-items.invariant (c.in_err-item.ensures.syntax (ap Err (same-error c.from_residual.result p.0 _ _ p.1 p.2 syntax)))
+    has_read-no_item g.T.Item.symbols _ _ _ _ c.requires.ends_item c.loop-items.invariant
+    (c.in_err-item.ensures.syntax (passed-error c.from_residual.ensures.1 syntax))
 
 pub loop-items-smaller : goal.loop-items-smaller
 loop-items-smaller g c =
@@ -26,11 +24,9 @@ loop-items-smaller g c =
 pub loop-items-preserved : goal.loop-items-preserved
 loop-items-preserved g c =
     rw (c.in_ok-push.ensures.items, c.in-Some.ensures.1)
-    (has_read-further g.T.Item.symbols c.args.between.now c.args.line.now c.loop-items.items.items c.loop-items.rest.now c.in_ok-item.item
-    c.in_ok-item.behind.now c.requires.ends_item c.loop-items.invariant c.in_ok-item.ensures.item c.in-Some.ensures.0)
+    (has_read-further g.T.Item.symbols _ _ _ _ _ _ c.requires.ends_item c.loop-items.invariant c.in_ok-item.ensures.item c.in-Some.ensures.0)
 
 pub returns-in-None-clause-items : goal.returns-in-None-clause-items
 returns-in-None-clause-items g c =
     rw c.in_ok-push.ensures.items
-    (has_read-last g.T.Item.symbols c.args.between.now c.args.line.now c.loop-items.items.items c.loop-items.rest.now c.in_ok-item.item
-    c.in_ok-item.behind.now c.requires.ends_item c.loop-items.invariant c.in_ok-item.ensures.item c.in-None.ensures)
+    (has_read-last g.T.Item.symbols _ _ _ _ _ _ c.requires.ends_item c.loop-items.invariant c.in_ok-item.ensures.item c.in-None.ensures)

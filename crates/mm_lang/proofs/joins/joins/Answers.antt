@@ -1,4 +1,3 @@
-use Rattle.std.proofs.Common.{sym, subst}
 use Rattle.std.proofs.lemmas.Result.{IfOk-weaker}
 use lib.Chars.{codes}
 use Rattle.plain_tables.specs.Spelling.{joined_symbols}
@@ -8,7 +7,7 @@ use Rattle.mm_lang.proofs.joins.joins.Goals as goal
 
 pub returns-in-None-clause-joins : goal.returns-in-None-clause-joins
 returns-in-None-clause-joins c =
-    subst (λ l. BeginsWithJoins c.args.line.now l c.args.line.now) (sym c.new.ensures.items) (begins-no_join c.args.line.now c.in-None.ensures)
+    rw c.new.ensures.items (begins-no_join c.args.line.now c.in-None.ensures)
 
 pub returns-in-Some-clause-joins : goal.returns-in-Some-clause-joins
 returns-in-Some-clause-joins c =

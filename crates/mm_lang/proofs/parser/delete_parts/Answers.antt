@@ -1,19 +1,15 @@
-use Rattle.std.proofs.Common.{ap, subst, sym, Err}
-use Rattle.std.proofs.lemmas.Result.{err_from_is_err_and}
-use Rattle.mm_lang.specs.Parsing.{IsOfText}
-use Rattle.mm_lang.proofs.Fronts.{same-error}
-use Rattle.mm_lang.proofs.Utf8.{of_text-after}
-use Rattle.mm_lang.proofs.Productions.{delete-whole, no-tail_of_delete}
+use Rattle.std.proofs.Common.{sym}
+use Rattle.plain_tables.specs.Spelling.{Name}
+use Rattle.mm_lang.proofs.Fronts.{passed-error}
+use Rattle.mm_lang.proofs.Productions.{behind-symbol, no-tail_of_delete}
 use Rattle.mm_lang.proofs.parser.delete_parts.Goals as goal
 
 pub returns-in_err-conditions-clause-syntax : goal.returns-in_err-conditions-clause-syntax
 returns-in_err-conditions-clause-syntax g c = λ syntax of.
-    let p = err_from_is_err_and c.from_residual-in_err-conditions.result c.from_residual-in_err-conditions.ensures.1 in
-    no-tail_of_delete g.C.Item.symbols c.args.line.now c.in_ok-table.rest.now c.in_ok-table.ensures.name.2
-    (c.in_err-conditions.ensures.syntax (ap Err (same-error c.from_residual-in_err-conditions.result p.0 _ _ p.1 p.2 syntax))
-    (subst IsOfText (sym c.in_ok-table.ensures.name.2) (of_text-after c.args.line.now of)))
+    no-tail_of_delete g.C.Item.symbols c.args.line.now _ c.in_ok-table.ensures.name.2 of
+    (c.in_err-conditions.ensures.syntax (passed-error c.from_residual-in_err-conditions.ensures.1 syntax))
 
 pub returns-clause-parts : goal.returns-clause-parts
 returns-clause-parts g c =
-    delete-whole g.C.Item.symbols c.args.line.now c.in_ok-table.table c.in_ok-table.rest.now c.in_ok-conditions.conditions.items
-    c.in_ok-table.ensures.name.0 c.in_ok-table.ensures.name.1 c.in_ok-table.ensures.name.2 c.in_ok-conditions.ensures.conditions
+    behind-symbol c.args.line.now _ (Name c.in_ok-table.table) _ (sym c.in_ok-table.ensures.name.1, rw c.in_ok-table.ensures.name.1 c.in_ok-table.ensures.name.0)
+    c.in_ok-table.ensures.name.2 c.in_ok-conditions.ensures.conditions

@@ -1,36 +1,20 @@
-use Rattle.std.proofs.Common.{◌≡◌, ap, subst, sym, ◌∙◌, Err}
-use Rattle.std.proofs.lemmas.Result.{err_from_is_err_and}
-use Rattle.std.specs.List.{flat_map}
-use Rattle.plain_tables.specs.Spelling.{join_symbols}
+use Rattle.std.proofs.Common.{ap, ◌∙◌}
 use Rattle.plain_tables.specs.Reading.{after_lexeme}
-use Rattle.mm_lang.specs.Parsing.{IsOfText}
-use Rattle.mm_lang.proofs.Fronts.{same-error, reads-of_text}
-use Rattle.mm_lang.proofs.Utf8.{of_text-after}
+use Rattle.mm_lang.proofs.Fronts.{passed-error}
 use Rattle.mm_lang.proofs.Selects.{from-whole, no-joins_behind, no-conditions_behind}
 use Rattle.mm_lang.proofs.parser.from.Goals as goal
 
 pub returns-in_err-joins-clause-syntax : goal.returns-in_err-joins-clause-syntax
 returns-in_err-joins-clause-syntax g c = λ syntax.
-    let p = err_from_is_err_and c.from_residual-in_err-joins.result c.from_residual-in_err-joins.ensures.1 in
-    no-joins_behind g.C.Item.symbols c.args.line.now c.in_ok-table.behind_table.now (c.in_ok-table.ensures.name.2 ∙ ap after_lexeme c.in_ok-front.ensures.1)
-    (c.in_err-joins.ensures.syntax (ap Err (same-error c.from_residual-in_err-joins.result p.0 _ _ p.1 p.2 syntax)))
+    no-joins_behind g.C.Item.symbols c.args.line.now _ (c.in_ok-table.ensures.name.2 ∙ ap after_lexeme c.in_ok-front.ensures.1)
+    (c.in_err-joins.ensures.syntax (passed-error c.from_residual-in_err-joins.ensures.1 syntax))
 
 pub returns-in_err-conditions-clause-syntax : goal.returns-in_err-conditions-clause-syntax
 returns-in_err-conditions-clause-syntax g c = λ syntax of.
-    let p = err_from_is_err_and c.from_residual-in_err-conditions.result c.from_residual-in_err-conditions.ensures.1 in
-    let behind : c.in_ok-table.behind_table.now ≡ after_lexeme (after_lexeme c.args.line.now) =
-    c.in_ok-table.ensures.name.2 ∙ ap after_lexeme c.in_ok-front.ensures.1 in
-    let text : IsOfText c.in_ok-table.behind_table.now =
-    subst IsOfText (sym behind) (of_text-after (after_lexeme c.args.line.now) (of_text-after c.args.line.now of)) in
-    no-conditions_behind g.C.Item.symbols c.args.line.now c.in_ok-table.behind_table.now c.in_ok-joins.joins.items c.in_ok-joins.rest.now behind
-    c.in_ok-joins.ensures.joins
-    (c.in_err-conditions.ensures.syntax (ap Err (same-error c.from_residual-in_err-conditions.result p.0 _ _ p.1 p.2 syntax))
-    (reads-of_text c.in_ok-table.behind_table.now (flat_map join_symbols c.in_ok-joins.joins.items) c.in_ok-joins.rest.now text
-    c.in_ok-joins.ensures.joins.found))
+    no-conditions_behind g.C.Item.symbols c.args.line.now _ _ _ (c.in_ok-table.ensures.name.2 ∙ ap after_lexeme c.in_ok-front.ensures.1)
+    c.in_ok-joins.ensures.joins of (c.in_err-conditions.ensures.syntax (passed-error c.from_residual-in_err-conditions.ensures.1 syntax))
 
 pub returns-clause-parts : goal.returns-clause-parts
 returns-clause-parts g c =
-    from-whole g.C.Item.symbols c.args.line.now c.in_ok-front.front.now c.in_ok-table.table c.in_ok-table.behind_table.now c.in_ok-joins.rest.now
-    c.in_ok-joins.joins.items c.in_ok-conditions.conditions.items c.in_ok-front.ensures.0 c.in_ok-front.ensures.1
-    c.in_ok-table.ensures.name.0 c.in_ok-table.ensures.name.1 c.in_ok-table.ensures.name.2 c.in_ok-joins.ensures.joins
-    c.in_ok-conditions.ensures.conditions
+    from-whole g.C.Item.symbols c.args.line.now _ _ _ _ _ _ c.in_ok-front.ensures.0 c.in_ok-front.ensures.1 c.in_ok-table.ensures.name.0
+    c.in_ok-table.ensures.name.1 c.in_ok-table.ensures.name.2 c.in_ok-joins.ensures.joins c.in_ok-conditions.ensures.conditions

@@ -1,20 +1,11 @@
-use Rattle.std.proofs.Common.{ap, subst, sym, Err}
-use Rattle.std.proofs.lemmas.Result.{err_from_is_err_and}
-use Rattle.plain_tables.specs.Spelling.{condition_symbols}
-use Rattle.mm_lang.specs.Parsing.{IsSelect}
-use Rattle.mm_lang.proofs.Fronts.{same-error}
+use Rattle.mm_lang.proofs.Fronts.{passed-error}
 use Rattle.mm_lang.proofs.Selects.{select-only, select-completed}
 use Rattle.mm_lang.proofs.parser.select.Goals as goal
 
 pub returns-in_err-parts-clause-syntax : goal.returns-in_err-parts-clause-syntax
 returns-in_err-parts-clause-syntax c = λ syntax of.
-    let p = err_from_is_err_and c.from_residual.result c.from_residual.ensures.1 in
-    select-only c.args.line.now (c.in_err-parts.ensures.syntax (ap Err (same-error c.from_residual.result p.0 _ _ p.1 p.2 syntax)) of)
+    select-only c.args.line.now (c.in_err-parts.ensures.syntax (passed-error c.from_residual.ensures.1 syntax) of)
 
 pub returns-clause-command : goal.returns-clause-command
 returns-clause-command c =
-    let s = c.in_ok-parts.parts in
-    select-completed c.args.line.now s.distinct s.items s.table c.from_vec.result c.from_vec-2.result
-    (subst (λ l. IsSelect condition_symbols c.args.line.now s.distinct s.items s.table l c.from_vec-2.result) (sym c.from_vec.ensures)
-    (subst (λ l. IsSelect condition_symbols c.args.line.now s.distinct s.items s.table s.joins.items l) (sym c.from_vec-2.ensures)
-    c.in_ok-parts.ensures.parts))
+    rw (c.from_vec.ensures, c.from_vec-2.ensures) (select-completed c.args.line.now _ _ _ _ _ c.in_ok-parts.ensures.parts)

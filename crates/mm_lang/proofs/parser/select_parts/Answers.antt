@@ -1,27 +1,16 @@
-use Rattle.std.proofs.Common.{ap, Err}
-use Rattle.std.proofs.lemmas.Result.{err_from_is_err_and}
-use Rattle.plain_tables.specs.Spelling.{items_symbols, distinct_symbols}
-use Rattle.mm_lang.specs.Parsing.{IsOfText}
-use Rattle.mm_lang.proofs.Fronts.{same-error, reads-of_text}
+use Rattle.mm_lang.proofs.Fronts.{passed-error}
 use Rattle.mm_lang.proofs.Selects.{no-items, no-from}
 use Rattle.mm_lang.proofs.parser.select_parts.Goals as goal
 
 pub returns-in_err-items-clause-syntax : goal.returns-in_err-items-clause-syntax
 returns-in_err-items-clause-syntax g c = λ syntax of.
-    let p = err_from_is_err_and c.from_residual.result c.from_residual.ensures.1 in
-    no-items g.C.Item.symbols c.args.line.now c.distinct-distinct.result.0 c.distinct-distinct.result.1.now c.distinct-distinct.ensures
-    (c.in_err-items.ensures.syntax (ap Err (same-error c.from_residual.result p.0 _ _ p.1 p.2 syntax))) of
+    no-items g.C.Item.symbols c.args.line.now _ _ c.distinct-distinct.ensures
+    (c.in_err-items.ensures.syntax (passed-error c.from_residual.ensures.1 syntax)) of
 
 pub returns-in_err-table-clause-syntax : goal.returns-in_err-table-clause-syntax
 returns-in_err-table-clause-syntax g c = λ syntax of.
-    let p = err_from_is_err_and c.from_residual-in_err-table.result c.from_residual-in_err-table.ensures.1 in
-    let front : IsOfText c.distinct-distinct.result.1.now =
-    reads-of_text c.args.line.now (distinct_symbols c.distinct-distinct.result.0) c.distinct-distinct.result.1.now of c.distinct-distinct.ensures.found in
-    let rest : IsOfText c.in_ok-items.rest.now =
-    reads-of_text c.distinct-distinct.result.1.now (items_symbols c.in_ok-items.items) c.in_ok-items.rest.now front c.in_ok-items.ensures.items.found in
-    no-from g.C.Item.symbols c.args.line.now c.distinct-distinct.result.0 c.distinct-distinct.result.1.now c.in_ok-items.items c.in_ok-items.rest.now
-    c.distinct-distinct.ensures c.in_ok-items.ensures.items
-    (c.in_err-table.ensures.syntax (ap Err (same-error c.from_residual-in_err-table.result p.0 _ _ p.1 p.2 syntax)) rest)
+    no-from g.C.Item.symbols c.args.line.now _ _ _ _ c.distinct-distinct.ensures c.in_ok-items.ensures.items of
+    (c.in_err-table.ensures.syntax (passed-error c.from_residual-in_err-table.ensures.1 syntax))
 
 pub returns-clause-parts : goal.returns-clause-parts
 returns-clause-parts g c = record {

@@ -1,17 +1,10 @@
-use Rattle.std.proofs.Common.{ap, subst, sym, Err}
-use Rattle.std.proofs.lemmas.Result.{err_from_is_err_and}
-use Rattle.plain_tables.specs.Spelling.{column_symbols}
-use Rattle.mm_lang.specs.Parsing.{IsNameAndList}
-use Rattle.mm_lang.proofs.Fronts.{same-error}
+use Rattle.mm_lang.proofs.Fronts.{passed-error}
 use Rattle.mm_lang.proofs.Productions.{table-only, table-completed}
 use Rattle.mm_lang.proofs.parser.table.Goals as goal
 
 pub returns-in_err-name-clause-syntax : goal.returns-in_err-name-clause-syntax
 returns-in_err-name-clause-syntax c = λ syntax of.
-    let p = err_from_is_err_and c.from_residual.result c.from_residual.ensures.1 in
-    table-only c.args.line.now (c.in_err-name.ensures.syntax (ap Err (same-error c.from_residual.result p.0 _ _ p.1 p.2 syntax)) of)
+    table-only c.args.line.now (c.in_err-name.ensures.syntax (passed-error c.from_residual.ensures.1 syntax) of)
 
 pub returns-clause-command : goal.returns-clause-command
-returns-clause-command c =
-    table-completed c.args.line.now c.in_ok-name.name (record { columns = c.from_vec.result })
-    (subst (λ l. IsNameAndList column_symbols c.args.line.now c.in_ok-name.name l) (sym c.from_vec.ensures) c.in_ok-name.ensures.both)
+returns-clause-command c = rw c.from_vec.ensures (table-completed c.args.line.now _ _ c.in_ok-name.ensures.both)

@@ -1,19 +1,11 @@
-use Rattle.std.proofs.Common.{ap, subst, sym, Err}
-use Rattle.std.proofs.lemmas.Result.{err_from_is_err_and}
-use Rattle.plain_tables.specs.Spelling.{setting_symbols, condition_symbols}
-use Rattle.mm_lang.specs.Parsing.{IsUpdate}
-use Rattle.mm_lang.proofs.Fronts.{same-error}
+use Rattle.mm_lang.proofs.Fronts.{passed-error}
 use Rattle.mm_lang.proofs.Productions.{update-only, update-completed}
 use Rattle.mm_lang.proofs.parser.update.Goals as goal
 
 pub returns-in_err-table-clause-syntax : goal.returns-in_err-table-clause-syntax
 returns-in_err-table-clause-syntax c = λ syntax of.
-    let p = err_from_is_err_and c.from_residual.result c.from_residual.ensures.1 in
-    update-only c.args.line.now (c.in_err-table.ensures.syntax (ap Err (same-error c.from_residual.result p.0 _ _ p.1 p.2 syntax)) of)
+    update-only c.args.line.now (c.in_err-table.ensures.syntax (passed-error c.from_residual.ensures.1 syntax) of)
 
 pub returns-clause-command : goal.returns-clause-command
 returns-clause-command c =
-    update-completed c.args.line.now c.in_ok-table.table c.from_vec.result c.from_vec-2.result
-    (subst (λ l. IsUpdate setting_symbols condition_symbols c.args.line.now c.in_ok-table.table l c.from_vec-2.result) (sym c.from_vec.ensures)
-    (subst (λ l. IsUpdate setting_symbols condition_symbols c.args.line.now c.in_ok-table.table c.in_ok-table.settings.items l) (sym c.from_vec-2.ensures)
-    c.in_ok-table.ensures.parts))
+    rw (c.from_vec.ensures, c.from_vec-2.ensures) (update-completed c.args.line.now _ _ _ c.in_ok-table.ensures.parts)

@@ -1,45 +1,25 @@
-use Rattle.std.proofs.Common.{◌≡◌, ap, subst, sym, ◌∙◌, Err}
-use Rattle.std.proofs.lemmas.Result.{err_from_is_err_and}
-use Rattle.plain_tables.specs.Reading.{lexeme, after_lexeme}
-use Rattle.plain_tables.specs.Names.{IsName}
-use lib.Chars.{codes}
-use Rattle.mm_lang.specs.Parsing.{IsOfText, ReadsList}
-use Rattle.mm_lang.proofs.Fronts.{same-error}
-use Rattle.mm_lang.proofs.Lists.{list-of_text}
-use Rattle.mm_lang.proofs.Utf8.{of_text-after}
+use Rattle.std.proofs.Common.{ap, sym, ◌∙◌}
+use Rattle.plain_tables.specs.Reading.{after_lexeme}
+use Rattle.mm_lang.proofs.Fronts.{passed-error}
 use Rattle.mm_lang.proofs.Productions.{no-settings, no-tail_of_update}
 use Rattle.mm_lang.proofs.parser.update_parts.Goals as goal
 
 pub returns-in_err-settings-clause-syntax : goal.returns-in_err-settings-clause-syntax
 returns-in_err-settings-clause-syntax g c = λ syntax.
-    let p = err_from_is_err_and c.from_residual-in_err-settings.result c.from_residual-in_err-settings.ensures.1 in
-    no-settings g.S.Item.symbols g.C.Item.symbols c.args.line.now c.in_ok-front.front.now
-    (c.in_ok-front.ensures.1 ∙ ap after_lexeme c.in_ok-table.ensures.name.2)
-    (c.in_err-settings.ensures.syntax (ap Err (same-error c.from_residual-in_err-settings.result p.0 _ _ p.1 p.2 syntax)))
+    no-settings g.S.Item.symbols g.C.Item.symbols c.args.line.now _ (c.in_ok-front.ensures.1 ∙ ap after_lexeme c.in_ok-table.ensures.name.2)
+    (c.in_err-settings.ensures.syntax (passed-error c.from_residual-in_err-settings.ensures.1 syntax))
 
 pub returns-in_err-conditions-clause-syntax : goal.returns-in_err-conditions-clause-syntax
 returns-in_err-conditions-clause-syntax g c = λ syntax of.
-    let p = err_from_is_err_and c.from_residual-in_err-conditions.result c.from_residual-in_err-conditions.ensures.1 in
-    let front : c.in_ok-front.front.now ≡ after_lexeme (after_lexeme c.args.line.now) =
-    c.in_ok-front.ensures.1 ∙ ap after_lexeme c.in_ok-table.ensures.name.2 in
-    let text : IsOfText c.in_ok-front.front.now =
-    subst IsOfText (sym front) (of_text-after (after_lexeme c.args.line.now) (of_text-after c.args.line.now of)) in
-    no-tail_of_update g.S.Item.symbols g.C.Item.symbols c.args.line.now c.in_ok-front.front.now c.in_ok-settings.settings.items
-    c.in_ok-settings.rest.now front c.in_ok-settings.ensures.items
-    (c.in_err-conditions.ensures.syntax (ap Err (same-error c.from_residual-in_err-conditions.result p.0 _ _ p.1 p.2 syntax))
-    (list-of_text g.S.Item.symbols (codes ",") c.in_ok-front.front.now c.in_ok-settings.settings.items c.in_ok-settings.rest.now text
-    c.in_ok-settings.ensures.items.found))
+    no-tail_of_update g.S.Item.symbols g.C.Item.symbols c.args.line.now _ _ _ (c.in_ok-front.ensures.1 ∙ ap after_lexeme c.in_ok-table.ensures.name.2)
+    c.in_ok-settings.ensures.items of (c.in_err-conditions.ensures.syntax (passed-error c.from_residual-in_err-conditions.ensures.1 syntax))
 
 pub returns-clause-parts : goal.returns-clause-parts
-returns-clause-parts g c =
-    let front : c.in_ok-front.front.now ≡ after_lexeme (after_lexeme c.args.line.now) =
-    c.in_ok-front.ensures.1 ∙ ap after_lexeme c.in_ok-table.ensures.name.2 in
-    record {
-      is = subst IsName (sym c.in_ok-table.ensures.name.1) c.in_ok-table.ensures.name.0;
-      first = sym c.in_ok-table.ensures.name.1;
-      sets = ap lexeme (sym c.in_ok-table.ensures.name.2) ∙ c.in_ok-front.ensures.0;
-      rest = c.in_ok-settings.rest.now;
-      listed = subst (λ l. ReadsList g.S.Item.symbols (codes ",") l c.in_ok-settings.settings.items c.in_ok-settings.rest.now) front
-          c.in_ok-settings.ensures.items.found;
-      tail = c.in_ok-conditions.ensures.conditions;
-    }
+returns-clause-parts g c = record {
+  is = rw c.in_ok-table.ensures.name.1 c.in_ok-table.ensures.name.0;
+  first = sym c.in_ok-table.ensures.name.1;
+  sets = rw c.in_ok-table.ensures.name.2 at c.in_ok-front.ensures.0;
+  rest = c.in_ok-settings.rest.now;
+  listed = rw (c.in_ok-front.ensures.1, c.in_ok-table.ensures.name.2) at c.in_ok-settings.ensures.items.found;
+  tail = c.in_ok-conditions.ensures.conditions;
+}

@@ -1,21 +1,15 @@
-use Rattle.std.proofs.Common.{◌≡◌, length, map, arith, ap, sym, ◌∙◌, subst, Err}
-use Rattle.std.proofs.lemmas.Result.{err_from_is_err_and}
-use Rattle.mm_lang.specs.Statements.{slot_symbol, condition_by, CompletesStatement}
-use lib.Chars.{codes}
-use Rattle.plain_statements.specs.declared.statement.Statement.TheVariants as statement
-use Rattle.mm_lang.proofs.Fronts.{same-error}
+use Rattle.std.proofs.Common.{map, arith, ap, ◌∙◌}
+use Rattle.mm_lang.specs.Statements.{slot_symbol, condition_by}
+use Rattle.mm_lang.proofs.Fronts.{passed-error}
 use Rattle.mm_lang.proofs.StatementParts.{delete-done, written-back, delete-none}
 use Rattle.mm_lang.proofs.statements.delete.Goals as goal
 
 pub returns-in_err-table-clause-syntax : goal.returns-in_err-table-clause-syntax
 returns-in_err-table-clause-syntax c = λ syntax of.
-    let p = err_from_is_err_and c.from_residual.result c.from_residual.ensures.1 in
-    delete-none c.args.line.now (c.in_err-table.ensures.syntax (ap Err (same-error c.from_residual.result p.0 _ _ p.1 p.2 syntax)) of)
+    delete-none c.args.line.now (c.in_err-table.ensures.syntax (passed-error c.from_residual.ensures.1 syntax) of)
 
 pub returns-clause-statement : goal.returns-clause-statement
 returns-clause-statement c =
-    let long : length c.number_holes.new.items ≡ c.in_ok-table.conditions.len = omega (arith, c.as_mut_slice.ensures.len) in
-    let held : c.from_vec.result ≡ c.number_holes.new.items = written-back _ _ _ _ c.from_vec.ensures long in
-    subst (λ l. CompletesStatement (codes "delete") c.args.line.now (statement.Delete c.in_ok-table.table l)) (sym held)
-    (delete-done c.args.line.now c.in_ok-table.table c.number_holes.new.items c.in_ok-table.conditions.items
-    (c.in_ok-number_holes.ensures.symbols ∙ ap (map (condition_by slot_symbol)) c.as_mut_slice.ensures.value) c.in_ok-number_holes.ensures.numbers c.in_ok-table.ensures.parts)
+    rw (written-back c.in_ok-table.conditions.len c.number_holes.new.items _ _ c.from_vec.ensures (omega (arith, c.as_mut_slice.ensures.len)))
+    (delete-done c.args.line.now c.in_ok-table.table _ _ (c.in_ok-number_holes.ensures.symbols ∙ ap (map (condition_by slot_symbol)) c.as_mut_slice.ensures.value)
+    c.in_ok-number_holes.ensures.numbers c.in_ok-table.ensures.parts)

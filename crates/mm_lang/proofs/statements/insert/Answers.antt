@@ -1,21 +1,15 @@
-use Rattle.std.proofs.Common.{◌≡◌, length, map, arith, ap, sym, ◌∙◌, subst, Err}
-use Rattle.std.proofs.lemmas.Result.{err_from_is_err_and}
-use Rattle.mm_lang.specs.Statements.{slot_symbol, slot_by, CompletesStatement}
-use lib.Chars.{codes}
-use Rattle.plain_statements.specs.declared.statement.Statement.TheVariants as statement
-use Rattle.mm_lang.proofs.Fronts.{same-error}
+use Rattle.std.proofs.Common.{map, arith, ap, ◌∙◌}
+use Rattle.mm_lang.specs.Statements.{slot_symbol, slot_by}
+use Rattle.mm_lang.proofs.Fronts.{passed-error}
 use Rattle.mm_lang.proofs.StatementParts.{insert-done, written-back, insert-none}
 use Rattle.mm_lang.proofs.statements.insert.Goals as goal
 
 pub returns-in_err-table-clause-syntax : goal.returns-in_err-table-clause-syntax
 returns-in_err-table-clause-syntax c = λ syntax of.
-    let p = err_from_is_err_and c.from_residual.result c.from_residual.ensures.1 in
-    insert-none c.args.line.now (c.in_err-table.ensures.syntax (ap Err (same-error c.from_residual.result p.0 _ _ p.1 p.2 syntax)) of)
+    insert-none c.args.line.now (c.in_err-table.ensures.syntax (passed-error c.from_residual.ensures.1 syntax) of)
 
 pub returns-clause-statement : goal.returns-clause-statement
 returns-clause-statement c =
-    let long : length c.number_holes.new.items ≡ c.in_ok-table.slots.len = omega (arith, c.as_mut_slice.ensures.len) in
-    let held : c.from_vec.result ≡ c.number_holes.new.items = written-back _ _ _ _ c.from_vec.ensures long in
-    subst (λ l. CompletesStatement (codes "insert") c.args.line.now (statement.Insert c.in_ok-table.table l)) (sym held)
-    (insert-done c.args.line.now c.in_ok-table.table c.number_holes.new.items c.in_ok-table.slots.items
-    (c.in_ok-number_holes.ensures.symbols ∙ ap (map (slot_by slot_symbol)) c.as_mut_slice.ensures.value) c.in_ok-number_holes.ensures.numbers c.in_ok-table.ensures.both)
+    rw (written-back c.in_ok-table.slots.len c.number_holes.new.items _ _ c.from_vec.ensures (omega (arith, c.as_mut_slice.ensures.len)))
+    (insert-done c.args.line.now c.in_ok-table.table _ _ (c.in_ok-number_holes.ensures.symbols ∙ ap (map (slot_by slot_symbol)) c.as_mut_slice.ensures.value)
+    c.in_ok-number_holes.ensures.numbers c.in_ok-table.ensures.both)

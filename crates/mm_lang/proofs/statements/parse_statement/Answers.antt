@@ -3,7 +3,8 @@ use Rattle.std.proofs.Common.{◌≡◌, ◌∙◌, sym}
 use Rattle.std.proofs.lemmas.Result.{IfOk-weaker}
 use Rattle.plain_tables.specs.Reading.{lexeme}
 use Rattle.plain_statements.specs.StatementSpelling.{SpellsStatement}
-use Rattle.mm_lang.specs.Statements.{CompletesStatement, statement_letters}
+use Rattle.mm_lang.specs.Words.{letters}
+use Rattle.mm_lang.specs.Statements.{CompletesStatement}
 use Rattle.mm_lang.proofs.Complete.{not-statement, unknown-statement}
 use Rattle.mm_lang.proofs.Sound.{statement-spelled}
 use Rattle.mm_lang.proofs.statements.parse_statement.Goals as goal
@@ -13,12 +14,12 @@ returns-in_default-clause-syntax c = λ _. unknown-statement c.args.line.now (λ
 
 pub returns-clause-statement : goal.returns-clause-statement
 returns-clause-statement c =
-    let word : lexeme c.args.line.now ≡ statement_letters c.in-Some.word = sym c.word.ensures ∙ c.in-Some.ensures in
-    IfOk-weaker c.statement.result (CompletesStatement (statement_letters c.in-Some.word) c.rest.result.now) (SpellsStatement c.args.line.now)
-    (λ s. statement-spelled c.args.line.now (statement_letters c.in-Some.word) c.rest.result.now s c.rest.ensures.unbroken word c.rest.ensures.rest)
+    let word : lexeme c.args.line.now ≡ letters c.in-Some.word = sym c.word.ensures ∙ c.in-Some.ensures in
+    IfOk-weaker c.statement.result (CompletesStatement (letters c.in-Some.word) c.rest.result.now) (SpellsStatement c.args.line.now)
+    (λ s. statement-spelled c.args.line.now (letters c.in-Some.word) c.rest.result.now s c.rest.ensures.unbroken word c.rest.ensures.rest)
     c.statement.ensures.statement
 
 pub returns-clause-syntax : goal.returns-clause-syntax
 returns-clause-syntax c = λ syntax.
-    let word : lexeme c.args.line.now ≡ statement_letters c.in-Some.word = sym c.word.ensures ∙ c.in-Some.ensures in
-    not-statement c.args.line.now (statement_letters c.in-Some.word) c.rest.result.now word c.rest.ensures.rest (c.statement.ensures.syntax syntax c.rest.ensures.of_text)
+    let word : lexeme c.args.line.now ≡ letters c.in-Some.word = sym c.word.ensures ∙ c.in-Some.ensures in
+    not-statement c.args.line.now (letters c.in-Some.word) c.rest.result.now word c.rest.ensures.rest (c.statement.ensures.syntax syntax c.rest.ensures.of_text)

@@ -1,25 +1,18 @@
-use Rattle.std.proofs.Common.{◌≡◌, rules, length, map, arith, ap, sym, ◌∙◌, subst, Err}
-use Rattle.std.proofs.lemmas.Result.{err_from_is_err_and}
-use Rattle.mm_lang.specs.Statements.{slot_symbol, condition_by, CompletesStatement}
-use lib.Chars.{codes}
-use Rattle.plain_statements.specs.declared.statement.Statement.TheVariants as statement
-use Rattle.mm_lang.proofs.Fronts.{same-error}
+use Rattle.std.proofs.Common.{◌≡◌, rules, map, arith, ap, ◌∙◌}
+use Rattle.mm_lang.specs.Statements.{slot_symbol, condition_by}
+use Rattle.mm_lang.proofs.Fronts.{passed-error}
 use Rattle.mm_lang.proofs.StatementParts.{select-done, written-back, select-none}
 use Rattle.mm_lang.proofs.statements.select.Goals as goal
 
 pub returns-in_err-distinct-clause-syntax : goal.returns-in_err-distinct-clause-syntax
 returns-in_err-distinct-clause-syntax c = λ syntax of.
-    let p = err_from_is_err_and c.from_residual.result c.from_residual.ensures.1 in
-    select-none c.args.line.now (c.in_err-distinct.ensures.syntax (ap Err (same-error c.from_residual.result p.0 _ _ p.1 p.2 syntax)) of)
+    select-none c.args.line.now (c.in_err-distinct.ensures.syntax (passed-error c.from_residual.ensures.1 syntax) of)
 
 pub returns-clause-statement : goal.returns-clause-statement
 returns-clause-statement c =
     let parts = c.in_ok-distinct.field-0 in
     let joined : c.from_vec.result ≡ parts.joins.items = search rules in
-    let long : length c.number_holes.new.items ≡ c.in_ok-distinct.field-0.conditions.len = omega (arith, c.as_mut_slice.ensures.len) in
-    let held : c.from_vec-2.result ≡ c.number_holes.new.items = written-back _ _ _ _ c.from_vec-2.ensures long in
     let old : c.as_mut_slice.result.now ≡ parts.conditions.items = search rules in
-    subst (λ l. CompletesStatement (codes "select") c.args.line.now (statement.Select parts.distinct parts.items parts.table l c.from_vec-2.result)) (sym joined)
-    (subst (λ l. CompletesStatement (codes "select") c.args.line.now (statement.Select parts.distinct parts.items parts.table parts.joins.items l)) (sym held)
-    (select-done c.args.line.now parts.distinct parts.items parts.table parts.joins.items c.number_holes.new.items parts.conditions.items
-    (c.in_ok-number_holes.ensures.symbols ∙ ap (map (condition_by slot_symbol)) old) c.in_ok-number_holes.ensures.numbers c.in_ok-distinct.ensures.parts))
+    rw (joined, written-back c.in_ok-distinct.field-0.conditions.len c.number_holes.new.items _ _ c.from_vec-2.ensures (omega (arith, c.as_mut_slice.ensures.len)))
+    (select-done c.args.line.now _ _ _ _ _ _ (c.in_ok-number_holes.ensures.symbols ∙ ap (map (condition_by slot_symbol)) old)
+    c.in_ok-number_holes.ensures.numbers c.in_ok-distinct.ensures.parts)

@@ -1,15 +1,13 @@
-use Rattle.std.proofs.Common.{ap, Err, subst}
-use Rattle.std.proofs.lemmas.Result.{err_from_is_err_and}
+use Rattle.std.proofs.Common.{subst}
 use Rattle.plain_tables.specs.Spelling.{IsSymbol, Literal}
-use Rattle.mm_lang.proofs.Fronts.{same-error, begins-value, begins-no_value, no-literal}
+use Rattle.mm_lang.proofs.Fronts.{passed-error, begins-value, begins-no_value, no-literal}
 use Rattle.mm_lang.proofs.items.ValueItem.read.Goals as goal
 
 pub returns-in_err-value-clause-syntax : goal.returns-in_err-value-clause-syntax
 returns-in_err-value-clause-syntax c = λ syntax.
-    let p = err_from_is_err_and c.from_residual.result c.from_residual.ensures.1 in
     begins-no_value c.args.line.now
     (no-literal c.args.line.now c.split_lexeme.result.0.now c.split_lexeme.ensures.lexeme
-    (c.in_err-value.ensures.syntax (ap Err (same-error c.from_residual.result p.0 _ _ p.1 p.2 syntax))))
+    (c.in_err-value.ensures.syntax (passed-error c.from_residual.ensures.1 syntax)))
 
 pub returns-clause-item : goal.returns-clause-item
 returns-clause-item c =

@@ -1,24 +1,14 @@
-use Rattle.std.proofs.Common.{ap, ◌∙◌, Err, subst}
-use Rattle.std.proofs.lemmas.Result.{err_from_is_err_and}
-use Rattle.plain_tables.specs.Spelling.{side_symbols}
-use Rattle.plain_tables.specs.Reading.{after_lexeme}
-use Rattle.mm_lang.specs.Parsing.{BeginsWith, BeginsWithNone}
-use Rattle.mm_lang.proofs.Fronts.{same-error}
+use Rattle.mm_lang.proofs.Fronts.{passed-error}
 use Rattle.mm_lang.proofs.Joining.{begins-no_left, begins-no_right}
 use Rattle.mm_lang.proofs.joins.JoinItem.read.Goals as goal
 
 pub returns-in_err-left-clause-syntax : goal.returns-in_err-left-clause-syntax
 returns-in_err-left-clause-syntax c = λ syntax.
-    let p = err_from_is_err_and c.from_residual-in_err-left.result c.from_residual-in_err-left.ensures.1 in
     begins-no_left c.args.line.now
-    (subst (λ l. BeginsWithNone side_symbols l) (c.in_ok-line.ensures.1 ∙ ap after_lexeme c.in_ok-table.ensures.name.2)
-    (c.in_err-left.ensures.syntax (ap Err (same-error c.from_residual-in_err-left.result p.0 _ _ p.1 p.2 syntax))))
+    (rw (c.in_ok-line.ensures.1, c.in_ok-table.ensures.name.2) at (c.in_err-left.ensures.syntax (passed-error c.from_residual-in_err-left.ensures.1 syntax)))
 
 pub returns-in_err-right-clause-syntax : goal.returns-in_err-right-clause-syntax
 returns-in_err-right-clause-syntax c = λ syntax.
-    let p = err_from_is_err_and c.from_residual-in_err-right.result c.from_residual-in_err-right.ensures.1 in
     begins-no_right c.args.line.now c.in_ok-left.left c.in_ok-left.line.now
-    (subst (λ l. BeginsWith side_symbols l c.in_ok-left.left c.in_ok-left.line.now)
-    (c.in_ok-line.ensures.1 ∙ ap after_lexeme c.in_ok-table.ensures.name.2) c.in_ok-left.ensures.item)
-    (subst (λ l. BeginsWithNone side_symbols l) c.in_ok-line-2.ensures.1
-    (c.in_err-right.ensures.syntax (ap Err (same-error c.from_residual-in_err-right.result p.0 _ _ p.1 p.2 syntax))))
+    (rw (c.in_ok-line.ensures.1, c.in_ok-table.ensures.name.2) at c.in_ok-left.ensures.item)
+    (rw c.in_ok-line-2.ensures.1 at (c.in_err-right.ensures.syntax (passed-error c.from_residual-in_err-right.ensures.1 syntax)))

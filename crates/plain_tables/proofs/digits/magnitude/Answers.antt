@@ -5,7 +5,7 @@ use Rattle.std.specs.Str.Parse.{AllDigits, digits_value}
 use Rattle.std.proofs.lemmas.Bool.{eqb-false}
 use Rattle.std.proofs.lemmas.List.{take_all}
 use Rattle.common_lemmas.proofs.Digits.{not-digits, more-digits, more-value, grows}
-use Rattle.mm_csv.proofs.numbers.magnitude.Goals as goal
+use Rattle.plain_tables.proofs.digits.magnitude.Goals as goal
 
 pub returns-then-not-is_ascii_digit : goal.returns-then-not-is_ascii_digit
 returns-then-not-is_ascii_digit c = λ both.

@@ -1,6 +1,6 @@
 use Rattle.std.proofs.Common.{◌≡◌, ◌<◌, ◌^◌, take}
 use Rattle.std.specs.Str.Parse.{AllDigits, digits_value}
-use Rattle.mm_csv.proofs.numbers.magnitude.Given as goal
+use Rattle.plain_tables.proofs.digits.magnitude.Given as goal
 
 -- the number of the digits so far
 abbrev pub invariant-loop-c : goal.invariant-loop-c
