@@ -1,12 +1,12 @@
 -- Querying: what comes of the command that a line spells.
-use Rattle.std.proofs.Common.{◌≡◌, ◌≢◌, ◌∙◌, ℕ, true, false, List, [], refl, sym, ap, subst, ⊎_elim, Ok, Err, Result}
+use Rattle.std.proofs.Common.{◌≡◌, ◌≢◌, ◌∙◌, ℕ, true, false, List, [], refl, sym, ap, subst, ⊎_elim, Ok, Err, Result, IfOk}
 use Rattle.std.proofs.lemmas.Bool.{false≢true}
 use Rattle.plain_tables.specs.Commands.{effect_of_resolved}
 use Rattle.plain_tables.specs.CsvReading.{Record}
 use Rattle.plain_tables.specs.Databases.{Database}
 use Rattle.plain_tables.specs.Doing.{done}
 use Rattle.plain_tables.specs.ResolvedLaws.{IsMeant}
-use Rattle.plain_tables.specs.Resolving.{assignments_of, delete_checks, insert_checks, own_columns, resolved_of, select_checks, select_of, tests_of, update_checks}
+use Rattle.plain_tables.specs.Resolving.{delete_checks, insert_checks, resolved_of, select_checks, update_checks}
 use Rattle.plain_tables.specs.Spelling.{Spells}
 use Rattle.plain_tables.specs.declared.command.Command.{Command}
 use Rattle.plain_tables.specs.declared.command.Command.TheVariants as command
@@ -16,7 +16,8 @@ use Rattle.plain_tables.specs.declared.refusal.Refusal.TheVariants as refusal
 use Rattle.plain_tables.specs.declared.resolved.Resolved.{Resolved}
 use Rattle.plain_tables.specs.declared.resolved.Resolved.TheVariants as resolved
 use Rattle.plain_tables.proofs.GivenLemmas.{spellable_are_given}
-use Rattle.plain_tables.proofs.ResolvedLemmas.{checked_satisfies, numbered_satisfies, resolved_are_meant}
+use Rattle.plain_tables.proofs.Meanings.{satisfies, if_checked, if_numbered}
+use Rattle.plain_tables.proofs.ResolvedLemmas.{resolved_are_meant}
 use Rattle.plain_tables.proofs.Spellable.{spelled-spellable}
 use Rattle.plain_tables.proofs.Uniqueness.{spells-one}
 use Rattle.plain_streams.specs.Requests.{IsReadable}
@@ -36,23 +37,20 @@ blockless records tables (command.Delete table conditions) is = refl
 blockless records tables (command.Select distinct items table joins conditions) is = refl
 blockless records tables c is = absurd (false≢true is)
 
-statement-rows : (tables : Database) (c : Command) (r : Resolved) → is_statement c ≡ true → resolved_of [] tables c ≡ Ok r → IsOfRows r
-statement-rows tables (command.Insert name row) r is h =
-    numbered_satisfies IsOfRows name tables (λ table. insert_checks tables table row) (λ n table. resolved.Insert n row) r h (λ table there passed. tt)
-statement-rows tables (command.Update name settings conditions) r is h =
-    numbered_satisfies IsOfRows name tables (λ table. update_checks tables table settings conditions)
-    (λ n table. resolved.Update n (assignments_of (own_columns table) settings) (tests_of (own_columns table) conditions)) r h
-    (λ table there passed. tt)
-statement-rows tables (command.Delete name conditions) r is h =
-    numbered_satisfies IsOfRows name tables (λ table. delete_checks tables table conditions)
-    (λ n table. resolved.Delete n (tests_of (own_columns table) conditions)) r h (λ table there passed. tt)
-statement-rows tables (command.Select distinct items name joins conditions) r is h =
-    checked_satisfies IsOfRows (select_checks tables items name joins conditions) (select_of tables distinct items name joins conditions) r h
-    (λ passed. tt)
-statement-rows tables c r is h = absurd (false≢true is)
+statement-rows : (tables : Database) (c : Command) → is_statement c ≡ true → IfOk (resolved_of [] tables c) IsOfRows
+statement-rows tables (command.Insert name row) is =
+    if_numbered _ name tables _ (λ table there. if_checked _ (insert_checks tables table row) _ (λ passed. tt))
+statement-rows tables (command.Update name settings conditions) is =
+    if_numbered _ name tables _ (λ table there. if_checked _ (update_checks tables table settings conditions) _ (λ passed. tt))
+statement-rows tables (command.Delete name conditions) is =
+    if_numbered _ name tables _ (λ table there. if_checked _ (delete_checks tables table conditions) _ (λ passed. tt))
+statement-rows tables (command.Select distinct items name joins conditions) is =
+    if_checked _ (select_checks tables items name joins conditions) _ (λ passed. tt)
+statement-rows tables c is = absurd (false≢true is)
 
 pub meaning-rows : (tables : Database) (line : List ℕ) (r : Resolved) → IsMeaningOfLine tables line (Ok r) → IsOfRows r
-meaning-rows tables line r m = statement-rows tables m.command r m.statement m.means
+meaning-rows tables line r m =
+    satisfies IsOfRows (resolved_of [] tables m.command) r m.means (statement-rows tables m.command m.statement)
 
 pub meaning-meant : (limits : Limits) (tables : Database) (line : List ℕ) (r : Resolved) → IsMeaningOfLine tables line (Ok r) → IsMeant limits tables r
 meaning-meant limits tables line r m =

@@ -1,5 +1,5 @@
 -- Requests: an answer to a request whose line declares and drops no table leaves the names and columns of tables.
-use Rattle.std.proofs.Common.{◌≡◌, ◌∙◌, ℕ, zero, suc, Bool, List, [], ◌∷◌, map, set, slice_get, true, false, refl, sym, ap, subst, inl, inr, Option, Some, None, Ok, Err}
+use Rattle.std.proofs.Common.{◌≡◌, ◌∙◌, ℕ, zero, suc, Bool, List, [], ◌∷◌, map, set, slice_get, true, false, refl, sym, ap, subst, inl, inr, Option, Some, None, Ok, Err, IfOk}
 use Rattle.std.specs.Option.{option_map_or}
 use Rattle.std.proofs.lemmas.Bool.{cases_Bool, false≢true}
 use Rattle.plain_tables.specs.CommandLaws.{table_of}
@@ -8,7 +8,7 @@ use Rattle.plain_tables.specs.Doing.{done, with_index, without_index}
 use Rattle.plain_tables.specs.Effects.{Check, Effect}
 use Rattle.plain_tables.specs.Queries.{place_meant}
 use Rattle.plain_tables.specs.ResolvedLaws.{emptied}
-use Rattle.plain_tables.specs.Resolving.{drop_index_checks, index_checks, meaning, number_of, own_columns, resolved_of}
+use Rattle.plain_tables.specs.Resolving.{drop_index_checks, index_checks, meaning, number_of, on_column, on_numbered, resolved_of}
 use Rattle.plain_tables.specs.Spelling.{Spells}
 use Rattle.plain_tables.specs.Tables.{Table}
 use Rattle.plain_tables.specs.CsvReading.{Record}
@@ -16,13 +16,15 @@ use Rattle.plain_tables.specs.declared.command.Command.{Command}
 use Rattle.plain_tables.specs.declared.command.Command.TheVariants as command
 use Rattle.plain_tables.specs.declared.command.Limits.{Limits}
 use Rattle.plain_tables.specs.declared.numbers.ColumnNumber.{ColumnNumber}
+use Rattle.plain_tables.specs.declared.numbers.TableNumber.{TableNumber}
 use Rattle.plain_tables.specs.declared.numbers.Place.{Place}
 use Rattle.plain_tables.specs.declared.refusal.Refusal.TheVariants.{NoSuchColumn, NoSuchTable}
 use Rattle.plain_tables.specs.declared.resolved.Resolved.{Resolved}
 use Rattle.plain_tables.specs.declared.resolved.Resolved.TheVariants as resolved
 use Rattle.plain_tables.proofs.ChangeLemmas.{own_rows_change, map_set_alike}
 use Rattle.plain_tables.proofs.EffectLemmas.{effect_satisfies, of_table_satisfies}
-use Rattle.plain_tables.proofs.ResolvedLemmas.{checked_satisfies, own_rows}
+use Rattle.plain_tables.proofs.Meanings.{satisfies, if_checked, if_numbered, if_on_column}
+use Rattle.plain_tables.proofs.ResolvedLemmas.{own_rows}
 use Rattle.mm_csv.specs.BlockReading.{block_records}
 use Rattle.plain_streams.specs.Requests.{Request, without_return}
 use Rattle.plain_streams.specs.Runs.{Answers, IsEffect, line_of}
@@ -37,38 +39,29 @@ use Rattle.mm_statements.proofs.RightLemmas.{stays-right}
 abbrev SameSchemas : Database → Database → Type 0
 SameSchemas old new = map emptied new ≡ map emptied old
 
--- ---- indexes
-
--- what holds of a command on each column holds of what one on a column of a name means
-column-means : (P : Resolved → Type 0) (found : Option Table) (place : Table → Option Place) (checks : Table → ColumnNumber → List Check)
-    (gives : ColumnNumber → Resolved) (r : Resolved)
-    → option_map_or (λ table. option_map_or (λ p. meaning (checks table p.column) (gives p.column)) (place table) (Err NoSuchColumn)) found (Err NoSuchTable) ≡ Ok r
-    → ((c : ColumnNumber) → P (gives c)) → P r
-column-means P None place checks gives r is holds = cc
-column-means P (Some table) place checks gives r is holds = by-place (place table) is
-  where
-    by-place : (o : Option Place) → option_map_or (λ p. meaning (checks table p.column) (gives p.column)) o (Err NoSuchColumn) ≡ Ok r → P r
-    by-place None same = cc
-    by-place (Some p) same = checked_satisfies P (checks table p.column) (gives p.column) r same (λ passed. holds p.column)
-
 -- ---- commands
+
+-- what an index is declared or dropped of has the same names and columns
+index-schemas : (limits : Limits) (tables : Database) (name column : List ℕ) (checks : Table → ColumnNumber → List Check) (gives : TableNumber → ColumnNumber → Resolved)
+    → ((n : TableNumber) (c : ColumnNumber) → SameSchemas tables (done limits tables (gives n c)).database)
+    → IfOk (on_numbered name tables (λ n table. on_column column table (λ c. meaning (checks table c) (gives n c))))
+    (λ r. SameSchemas tables (done limits tables r).database)
+index-schemas limits tables name column checks gives same =
+    if_numbered _ name tables _ (λ table there. if_on_column _ column table _
+    (λ place within. if_checked _ (checks table place.column) _ (λ passed. same (number_of name tables) place.column)))
 
 resolved-schemas : (records : List Record) (limits : Limits) (tables : Database) (c : Command) (r : Resolved) → declares c ≡ false
     → resolved_of records tables c ≡ Ok r → SameSchemas tables (done limits tables r).database
 resolved-schemas records limits tables (command.Table name schema) r not is = absurd (false≢true (sym not))
 resolved-schemas records limits tables (command.DropTable name) r not is = absurd (false≢true (sym not))
 resolved-schemas records limits tables (command.Index name column k) r not is =
-    column-means (λ q. SameSchemas tables (done limits tables q).database) (table_named name tables)
-    (λ table. place_meant (own_columns table) (record { table = None; column = column })) (λ table c. index_checks table c k)
-    (λ c. resolved.Index (number_of name tables) c k) r is
-    (λ c. of_table_satisfies (λ e. SameSchemas tables e.database) (number_of name tables) tables _ (λ why. refl)
-    (λ table there. map_set_alike emptied tables (number_of name tables).0 table (with_index c k table) there refl))
+    satisfies _ _ r is (index-schemas limits tables name column (λ table c. index_checks table c k) (λ n c. resolved.Index n c k)
+    (λ n c. of_table_satisfies (λ e. SameSchemas tables e.database) n tables _ (λ why. refl)
+    (λ table there. map_set_alike emptied tables n.0 table (with_index c k table) there refl)))
 resolved-schemas records limits tables (command.DropIndex name column k) r not is =
-    column-means (λ q. SameSchemas tables (done limits tables q).database) (table_named name tables)
-    (λ table. place_meant (own_columns table) (record { table = None; column = column })) (λ table c. drop_index_checks table c k)
-    (λ c. resolved.DropIndex (number_of name tables) c k) r is
-    (λ c. of_table_satisfies (λ e. SameSchemas tables e.database) (number_of name tables) tables _ (λ why. refl)
-    (λ table there. map_set_alike emptied tables (number_of name tables).0 table (without_index c k table) there refl))
+    satisfies _ _ r is (index-schemas limits tables name column (λ table c. drop_index_checks table c k) (λ n c. resolved.DropIndex n c k)
+    (λ n c. of_table_satisfies (λ e. SameSchemas tables e.database) n tables _ (λ why. refl)
+    (λ table there. map_set_alike emptied tables n.0 table (without_index c k table) there refl)))
 resolved-schemas records limits tables command.Tables r not is =
     let same : resolved.Tables ≡ r = cc in subst (λ q. SameSchemas tables (done limits tables q).database) same refl
 resolved-schemas records limits tables c r not is =

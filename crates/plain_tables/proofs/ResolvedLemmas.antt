@@ -47,24 +47,6 @@ use Rattle.plain_tables.proofs.NameLemmas.{columns_differ}
 use Rattle.plain_tables.proofs.SelectLemmas.{of_own_column, own_tests_meant, select_meant}
 use Rattle.plain_tables.proofs.SoundLemmas.{done_keeps_sound}
 
--- ---- checks
-
--- What holds of a command behind checks, where they pass, holds of what it means.
-pub checked_satisfies : (P : Resolved → Type 0) (checks : List Check) (r q : Resolved) → meaning checks r ≡ Ok q
-    → (AllByRecursion (λ c. c.refuses ≡ false) checks → P r) → P q
-checked_satisfies P checks r q h holds = satisfies P (meaning checks r) q h (if_checked P checks r holds)
-
--- What holds of the command that a table gives behind checks, where they pass, holds of the command on the table of a name.
-pub numbered_satisfies : (P : Resolved → Type 0) (name : List ℕ) (tables : Database) (checks : Table → List Check)
-    (gives : TableNumber → Table → Resolved) (q : Resolved)
-    → on_numbered name tables (λ n table. meaning (checks table) (gives n table)) ≡ Ok q
-    → ((table : Table) → slice_get tables (number_of name tables).0 ≡ Some table → AllByRecursion (λ c. c.refuses ≡ false) (checks table)
-    → P (gives (number_of name tables) table))
-    → P q
-numbered_satisfies P name tables checks gives q h holds =
-    satisfies P (on_numbered name tables (λ n table. meaning (checks table) (gives n table))) q h
-    (if_numbered P name tables _ (λ table there. if_checked P (checks table) _ (holds table there)))
-
 -- ---- values
 
 storable_value : (v : Value) → is_long v ≡ false → HasWidth v → IsStorable v
