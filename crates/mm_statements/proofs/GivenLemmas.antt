@@ -38,8 +38,7 @@ module _ (values : List Value) (all : All HasWidth values) where
       All-map (λ (x : Setting). HasWidth x.value) (filled_setting values) settings
       (All-weaker (λ x. HasWidth (slot_value others x.slot)) (λ x. HasWidth (slot_value values x.slot)) (λ x. slot-width others x.slot) settings
       (All-from_map (λ (x : Setting). HasWidth x.value) (filled_setting others) settings given))
-  given-with others (statement.Delete table conditions) given = tt
-  given-with others (statement.Select distinct items table joins conditions) given = given
+  given-with others s given = given
 
   pub filled-given : (line : List ℕ) (s : Statement) → SpellsStatement line s → IsGiven (filled values s)
   filled-given line s spells =
