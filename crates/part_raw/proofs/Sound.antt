@@ -275,7 +275,7 @@ module _ {T : Type 0} where
       }
 
   -- a partition with no block gets one
-  module _ (blocks : Blocks T) (occupancies : List Occupancy) (new : List (Option T)) (o o' : Occupancy) (first : Option ℕ) (part : ℕ) (is : IsStore blocks occupancies 0 first) (within : part < length blocks)
+  module _ (blocks : Blocks T) (occupancies : List Occupancy) (new : List (Option T)) (o : Occupancy) (first : Option ℕ) (part : ℕ) (is : IsStore blocks occupancies 0 first) (within : part < length blocks)
       (read : o ≡ get_or occupancies part o) (bare : o.has_block ≡ false) (vacant : IsVacant new) where
     pub no_slots : length (slots_at blocks part) ≡ 0
     no_slots = elim (cases_eq (length (slots_at blocks part)) 0) [
@@ -297,8 +297,8 @@ module _ {T : Type 0} where
     clear : (slot : ℕ) → slot < 256 → is_set o.held.words slot ≡ false
     clear slot in_range = (bits_of blocks occupancies o part is.mapped within read).bits slot in_range ∙ ap is_some (was_vacant slot)
 
-    pub IsStore-refill : o'.held.words ≡ o.held.words → o'.has_block ≡ true → o'.next_open ≡ first → IsStore (set blocks part new) (set occupancies part o') 256 (Some part)
-    IsStore-refill words block next =
+    pub IsStore-refill : (o' : Occupancy) → o'.held.words ≡ o.held.words → o'.has_block ≡ true → o'.next_open ≡ first → IsStore (set blocks part new) (set occupancies part o') 256 (Some part)
+    IsStore-refill o' words block next =
         let free : vacancies new ≡ 256 = all_vacant new vacant.empty ∙ vacant.count in
         let was_free : vacancies (slots_at blocks part) ≡ 0 = no_vacancy_of_none (slots_at blocks part) no_slots in
         let opened = has_vacancy_yes new (omega (arith, free)) in

@@ -1,8 +1,5 @@
-use Rattle.std.proofs.Common.{◌≡◌, ℕ, ◌+◌, ◌<◌, true, false, length, arith, ap, refl, sym, subst, ◌∙◌}
-use Rattle.part_raw.specs.declared.store.Occupancy.{Occupancy}
+use Rattle.std.proofs.Common.{◌≡◌, ◌+◌, ◌<◌, length, arith, ap, refl, sym, ◌∙◌}
 use Rattle.part_raw.specs.Store.{store}
-use Rattle.part_raw.specs.Open.{IsStocked}
-use Rattle.part_raw.proofs.Bitmaps.{mapped-read}
 use Rattle.part_raw.proofs.Parts.{read_block}
 use Rattle.part_raw.proofs.Stocked.{few_here, as_many}
 use Rattle.part_raw.proofs.Filled.{bare_block, refilled_stocked, refill_tuples, refill_slots}
@@ -29,27 +26,21 @@ overflow_cast-self g c = omega (arith, few_here _ _ _ _ _ _ _ c.self.invariant.0
 pub invariant_of-self : goal.invariant_of-self
 invariant_of-self g c =
     let none : c.self.inside.free ≡ 0 = omega (arith, c.if-self-gt0.false) in
-    let was = subst (λ (n : ℕ). IsStocked c.self.inside.counted c.self.inside.width c.self.inside.blocks.items c.self.inside.counts.items c.self.inside.occupancies.items n c.self.inside.first_open) none c.self.invariant.0 in
     let o = c.index_mut-occupancy.result.now in
-    let o' : Occupancy = record { held = o.held; next_open = c.self.inside.first_open; has_block = true } in
     let within : c.bare_from-bare.result < length c.self.inside.blocks.items = omega (arith, c.if-bare-len.false, c.len.ensures, c.self.inside.blocks.ok) in
     let among : c.bare_from-bare.result < length c.self.inside.occupancies.items = omega (arith, within, as_many _ _ _ _ _ _ _ c.self.invariant.0) in
-    let bare = sym (mapped-read (λ (x : Occupancy). x.has_block) c.self.inside.occupancies.items c.bare_from-bare.result o false among c.index_mut-occupancy.ensures.value) ∙ c.bare_from-bare.ensures among in
     let new = c.replace.ensures.after ∙ c.in_ok-block.ensures in
     rw c.set_counts.ensures (
-      refilled_stocked _ _ _ _ _ _ was c.bare_from-bare.result c.replace.new.dest o o' within c.index_mut-occupancy.ensures.value bare new _ c.in_ok-counts.ensures refl refl refl,
-      ap (λ n. n + 256) c.self.invariant.1 ∙ sym (refill_slots _ _ _ _ _ _ was c.bare_from-bare.result c.replace.new.dest o o' within c.index_mut-occupancy.ensures.value bare new _ c.in_ok-counts.ensures),
+      refilled_stocked _ _ _ _ _ _ _ c.self.invariant.0 none c.bare_from-bare.result c.replace.new.dest o within c.index_mut-occupancy.ensures.value (c.bare_from-bare.ensures among) new _ c.in_ok-counts.ensures _ refl refl refl,
+      ap (λ n. n + 256) c.self.invariant.1 ∙ sym (refill_slots _ _ _ _ _ _ _ c.self.invariant.0 none c.bare_from-bare.result c.replace.new.dest o within c.index_mut-occupancy.ensures.value (c.bare_from-bare.ensures among) new _ c.in_ok-counts.ensures),
     )
 
 pub returns-clause-ok : goal.returns-clause-ok
 returns-clause-ok g c =
     let none : c.self.inside.free ≡ 0 = omega (arith, c.if-self-gt0.false) in
-    let was = subst (λ (n : ℕ). IsStocked c.self.inside.counted c.self.inside.width c.self.inside.blocks.items c.self.inside.counts.items c.self.inside.occupancies.items n c.self.inside.first_open) none c.self.invariant.0 in
     let o = c.index_mut-occupancy.result.now in
-    let o' : Occupancy = record { held = o.held; next_open = c.self.inside.first_open; has_block = true } in
     let within : c.bare_from-bare.result < length c.self.inside.blocks.items = omega (arith, c.if-bare-len.false, c.len.ensures, c.self.inside.blocks.ok) in
     let among : c.bare_from-bare.result < length c.self.inside.occupancies.items = omega (arith, within, as_many _ _ _ _ _ _ _ c.self.invariant.0) in
-    let bare = sym (mapped-read (λ (x : Occupancy). x.has_block) c.self.inside.occupancies.items c.bare_from-bare.result o false among c.index_mut-occupancy.ensures.value) ∙ c.bare_from-bare.ensures among in
-    let same = refill_tuples _ _ _ _ _ _ was c.bare_from-bare.result c.replace.new.dest o o' within c.index_mut-occupancy.ensures.value bare (c.replace.ensures.after ∙ c.in_ok-block.ensures) _ c.in_ok-counts.ensures in
+    let same = refill_tuples _ _ _ _ _ _ _ c.self.invariant.0 none c.bare_from-bare.result c.replace.new.dest o within c.index_mut-occupancy.ensures.value (c.bare_from-bare.ensures among) (c.replace.ensures.after ∙ c.in_ok-block.ensures) _ c.in_ok-counts.ensures in
     let free = free_reserved_none c.self.inside.free (omega (arith, c.if-self-gt0.false)) in
     rw (← c.self.view_is) (rw c.set_counts.ensures (λ i. store c.self.inside.width (same i) (free i) c.self.inside.counted))
