@@ -21,13 +21,11 @@ Equal-from_reverse Greater e = cc
 
 pub is_eq-reverse : (o : Ordering) → is_eq (ordering_reverse o) ≡ is_eq o
 is_eq-reverse Less = refl
-is_eq-reverse Equal = refl
-is_eq-reverse Greater = refl
+is_eq-reverse o = refl
 
 pub ordering_index_within : (o : Ordering) → ordering_index o ≤ 2
 ordering_index_within Less = omega arith
-ordering_index_within Equal = omega arith
-ordering_index_within Greater = omega arith
+ordering_index_within o = omega arith
 
 -- below what is less, and above what is greater
 pub Less-below : (o p : Ordering) → p ≡ Less → ordering_index o ≤ ordering_index p → o ≡ Less
@@ -43,8 +41,7 @@ Greater-above Less p e h = absurd (omega (arith, h, ap ordering_index e))
 -- one order, and a second where the first tells nothing apart
 pub then-Equal : (o : Ordering) → ordering_then o Equal ≡ o
 then-Equal Less = refl
-then-Equal Equal = refl
-then-Equal Greater = refl
+then-Equal o = refl
 
 pub then_first : (o p : Ordering) → ordering_then o p ≡ Less → (o ≡ Less) ⊎ (o ≡ Equal)
 then_first Less p e = inl refl

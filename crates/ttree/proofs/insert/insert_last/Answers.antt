@@ -1,10 +1,11 @@
-use Rattle.std.proofs.Common.{◌≡◌, ◌∙◌, ◌-◌, ◌<◌, ◌≤◌, ℕ, List, [], get_or, length, Ordering, ap, subst, sym, lit<, arith, rules}
+use Rattle.std.proofs.Common.{◌≡◌, ◌∙◌, ◌-◌, ◌<◌, ℕ, List, [], get_or, length, Ordering, ap, subst, sym, lit<, arith, rules}
 use Rattle.std.specs.List.{All}
 use Rattle.std.specs.declared.cmp.Ordering.TheVariants.{Less}
 use Rattle.part_raw.specs.declared.tuple_ref.TupleRef.{TupleRef}
 use Rattle.mm_index.specs.Order.{insert_placed}
 use Rattle.mm_index.specs.Range.{NeverFalls}
 use Rattle.mm_index.proofs.Placed.{insert_placed_split}
+use Rattle.common_lemmas.proofs.Orders.{is_lt-Less}
 use Rattle.ttree_node.specs.Tree.{Tree, Zipper, Label, whole, list, items_of, list_after, list_until, list_from}
 use Rattle.ttree_node.specs.Editor.{position, tree_at}
 use Rattle.ttree_node.specs.Seen.{tree_of}
@@ -12,7 +13,7 @@ use Rattle.ttree.specs.Searching.{IsGap}
 use Rattle.ttree.proofs.Cuts.{list_cut}
 use Rattle.ttree.proofs.Descent.{All-here, some_here}
 use Rattle.ttree.proofs.Ends.{items_in_each, none_in_gap}
-use Rattle.ttree.proofs.LastNode.{gap-last, lt_is_Less}
+use Rattle.ttree.proofs.LastNode.{gap-last}
 use Rattle.ttree.proofs.insert.insert_last.Goals as goal
 
 abbrev none : TupleRef
@@ -75,7 +76,7 @@ returns-clause-none g c =
     let some : 0 < length (items_of w.here) = some_here g.row.MAX t w same (items_in_each g.row.MIN g.row.MAX t c.requires.fit) c.to_rightmost.ensures.node in
     let after : list_after w.above ≡ [] = c.to_rightmost.ensures.behind ∙ ap (λ (y : Zipper (Label TupleRef)). list_after y.above) c.edit-editor.ensures.root in
     let less : place (get_or (items_of w.here) (length (items_of w.here) - 1) none) ≡ Less =
-    rw (c.items.ensures, c.items-count.ensures) at (sym c.place.ensures.value ∙ lt_is_Less c.place.result (sym c.is_lt.ensures ∙ c.if-not-is_lt.false)) in
+    rw (c.items.ensures, c.items-count.ensures) at (sym c.place.ensures.value ∙ is_lt-Less c.place.result (sym c.is_lt.ensures ∙ c.if-not-is_lt.false)) in
     let in_order : NeverFalls place (list (whole w)) = subst (λ (u : Tree (Label TupleRef)). NeverFalls place (list u)) (sym same) c.requires.in_order in
     λ last. none_in_gap t w same place (length (items_of w.here)) (gap-last place w in_order none some c.to_rightmost.ensures.open after less)
 
@@ -88,7 +89,7 @@ returns-clause-list g c =
     let some : 0 < length (items_of w.here) = some_here g.row.MAX t w same (items_in_each g.row.MIN g.row.MAX t c.requires.fit) c.to_rightmost.ensures.node in
     let after : list_after w.above ≡ [] = c.to_rightmost.ensures.behind ∙ ap (λ (y : Zipper (Label TupleRef)). list_after y.above) c.edit-editor.ensures.root in
     let less : place (get_or (items_of w.here) (length (items_of w.here) - 1) none) ≡ Less =
-    rw (c.items.ensures, c.items-count.ensures) at (sym c.place.ensures.value ∙ lt_is_Less c.place.result (sym c.is_lt.ensures ∙ c.if-not-is_lt.false)) in
+    rw (c.items.ensures, c.items-count.ensures) at (sym c.place.ensures.value ∙ is_lt-Less c.place.result (sym c.is_lt.ensures ∙ c.if-not-is_lt.false)) in
     let in_order : NeverFalls place (list (whole w)) = subst (λ (u : Tree (Label TupleRef)). NeverFalls place (list u)) (sym same) c.requires.in_order in
     let n : ℕ = length c.items-count.result.now in
     let gap : IsGap place w n =
