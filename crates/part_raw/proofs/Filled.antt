@@ -25,18 +25,18 @@ use Rattle.part_raw.proofs.Tables.{Changes, open_within, open_has_slot, open_has
 
 -- ---- a free slot of the first partition that has one is filled
 
-module _ {T : Type 0} (counted : Bool) (width : ℕ) (blocks : List (List (Option T))) (counts : List (List ℕ)) (occupancies : List Occupancy) (free part : ℕ)
+module _ {T : Type 0} {counted : Bool} {width : ℕ} {blocks : List (List (Option T))} {counts : List (List ℕ)} {occupancies : List Occupancy} {free part : ℕ}
     (is : IsStocked counted width blocks counts occupancies free (Some part)) where
   pub first_within : part < length blocks
   first_within = omega (arith, open_within width (shelves_of blocks counts) occupancies free part is.table, length-shelves_of blocks counts)
 
   pub first_has_slot : (block : List (Option T)) → block ≡ get_or blocks part block → 0 < vacancies (rows_in width block)
   first_has_slot block read =
-      omega (arith, vacancies-shown width block (get_or counts part []), open_has_slot width (shelves_of blocks counts) occupancies free part is.table (shelf block (get_or counts part [])) (read_here counted width blocks counts occupancies free (Some part) is part block first_within read))
+      omega (arith, vacancies-shown width block (get_or counts part []), open_has_slot width (shelves_of blocks counts) occupancies free part is.table (shelf block (get_or counts part [])) (read_here is part block first_within read))
 
   pub first_there : (block : List (Option T)) → block ≡ get_or blocks part block → 0 < length block
   first_there block read =
-      open_has_places width (shelves_of blocks counts) occupancies free part is.table (shelf block (get_or counts part [])) (read_here counted width blocks counts occupancies free (Some part) is part block first_within read)
+      open_has_places width (shelves_of blocks counts) occupancies free part is.table (shelf block (get_or counts part [])) (read_here is part block first_within read)
 
   module _ (block new : List (Option T)) (o o' : Occupancy) (slot : ℕ) (cells : List T) (counts' : List (List ℕ)) (wide : length cells ≡ width) (read : block ≡ get_or blocks part block) (read_bits : o ≡ get_or occupancies part o) (same_block : o'.has_block ≡ o.has_block)
       (laid : IsLaid (length cells) new) (bits : IsPartition o'.held.words (rows_in (length cells) new)) (in_range : slot < 256) (fresh : get_or (rows_in (length cells) block) slot None ≡ None)
@@ -53,7 +53,7 @@ module _ {T : Type 0} (counted : Bool) (width : ℕ) (blocks : List (List (Optio
     filling : Changes width shelves occupancies was_here is_here o o' part slot (Some (tuple cells 0))
     filling = record {
       within = omega (arith, first_within, length-shelves_of blocks counts);
-      read = read_here counted width blocks counts occupancies free (Some part) is part block first_within read;
+      read = read_here is part block first_within read;
       read_bits = read_bits;
       laid = subst (λ (n : ℕ). IsLaid n new) wide laid;
       bits = bits-shown width new (set (get_or counts part []) slot 0) o'.held.words (subst (λ (n : ℕ). IsPartition o'.held.words (rows_in n new)) wide bits);
@@ -102,7 +102,7 @@ module _ {T : Type 0} (counted : Bool) (width : ℕ) (blocks : List (List (Optio
 
 -- ---- a partition more
 
-module _ {T : Type 0} (counted : Bool) (width : ℕ) (blocks : List (List (Option T))) (counts : List (List ℕ)) (occupancies : List Occupancy) (free : ℕ) (first : Option ℕ)
+module _ {T : Type 0} {counted : Bool} {width : ℕ} {blocks : List (List (Option T))} {counts : List (List ℕ)} {occupancies : List Occupancy} {free : ℕ} {first : Option ℕ}
     (stocked : IsStocked counted width blocks counts occupancies free first) (none_free : free ≡ 0) (new : List (Option T)) (next : Option (List ℕ)) (empty : new ≡ replicate (256 * width) None) (made : is_some next ≡ counted) (are_zeros : IfSome next (λ its. its ≡ zeros true)) where
   before_push : IsStocked counted width blocks counts occupancies 0 first
   before_push = subst (λ (n : ℕ). IsStocked counted width blocks counts occupancies n first) none_free stocked
@@ -155,22 +155,22 @@ module _ {T : Type 0} (counted : Bool) (width : ℕ) (blocks : List (List (Optio
 -- ---- a partition that gave its block back gets one again
 
 -- it has no places
-pub bare_block : {T : Type 0} (counted : Bool) (width : ℕ) (blocks : List (List (Option T))) (counts : List (List ℕ)) (occupancies : List Occupancy) (free : ℕ) (first : Option ℕ) → IsStocked counted width blocks counts occupancies free first
+pub bare_block : {T : Type 0} {counted : Bool} {width : ℕ} {blocks : List (List (Option T))} {counts : List (List ℕ)} {occupancies : List Occupancy} {free : ℕ} {first : Option ℕ} → IsStocked counted width blocks counts occupancies free first
     → (part : ℕ) → part < length blocks → has_block_at occupancies part ≡ false → get_or blocks part [] ≡ []
-bare_block counted width blocks counts occupancies free first is part within bare =
+bare_block {width = width} {blocks = blocks} is part within bare =
     let block = get_or blocks part [] in
     let rows = mapped-read (rows_in width) blocks part block [] within (default_read blocks part within) in
-    let told = told_here_at counted width blocks counts occupancies free first is part within in
+    let told = told_here_at is part within in
     rows_in-none width block (λ some. true≢false (sym (lt-ltb 0 (length (rows_in width block)) some) ∙ ap (λ l. nat_lt 0 (length l)) (sym rows) ∙ sym told ∙ bare))
 
-module _ {T : Type 0} (counted : Bool) (width : ℕ) (blocks : List (List (Option T))) (counts : List (List ℕ)) (occupancies : List Occupancy) (free : ℕ) (first : Option ℕ)
+module _ {T : Type 0} {counted : Bool} {width : ℕ} {blocks : List (List (Option T))} {counts : List (List ℕ)} {occupancies : List Occupancy} {free : ℕ} {first : Option ℕ}
     (stocked : IsStocked counted width blocks counts occupancies free first) (none_free : free ≡ 0) (part : ℕ) (new : List (Option T)) (o : Occupancy) (within : part < length blocks) (read : o ≡ get_or occupancies part o) (no_block : has_block_at occupancies part ≡ false)
     (empty : new ≡ replicate (256 * width) None) (own : List ℕ) (are_zeros : own ≡ zeros counted) where
   before_refill : IsStocked counted width blocks counts occupancies 0 first
   before_refill = subst (λ (n : ℕ). IsStocked counted width blocks counts occupancies n first) none_free stocked
 
   bare : o.has_block ≡ false
-  bare = sym (mapped-read (λ (x : Occupancy). x.has_block) occupancies part o false (omega (arith, within, as_many counted width blocks counts occupancies free first stocked)) read) ∙ no_block
+  bare = sym (mapped-read (λ (x : Occupancy). x.has_block) occupancies part o false (omega (arith, within, as_many stocked)) read) ∙ no_block
 
   abbrev its : Shelf T
   its = shelf new (get_or (set counts part own) part [])

@@ -28,7 +28,7 @@ default_read [] k within = absurd (omega (arith, within))
 default_read (x ∷ l) zero within = refl
 default_read (x ∷ l) (suc k) within = default_read l k (omega (arith, within))
 
-module _ {T : Type 0} (counted : Bool) (width : ℕ) (blocks : List (List (Option T))) (counts : List (List ℕ)) (occupancies : List Occupancy) (free : ℕ) (first : Option ℕ)
+module _ {T : Type 0} {counted : Bool} {width : ℕ} {blocks : List (List (Option T))} {counts : List (List ℕ)} {occupancies : List Occupancy} {free : ℕ} {first : Option ℕ}
     (is : IsStocked counted width blocks counts occupancies free first) where
   abbrev shelves : List (Shelf T)
   shelves = shelves_of blocks counts

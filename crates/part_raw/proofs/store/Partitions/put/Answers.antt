@@ -16,38 +16,38 @@ unreachable-requires g c =
 pub index_mut-occupancy-requires : goal.index_mut-occupancy-requires
 index_mut-occupancy-requires g c =
     let is = rw c.in-Some.is at c.self.invariant.0 in
-    omega (arith, first_within _ _ _ _ _ _ _ is, as_many _ _ _ _ _ _ _ is, c.self.inside.occupancies.ok)
+    omega (arith, first_within is, as_many is, c.self.inside.occupancies.ok)
 
 pub index_mut-block-requires : goal.index_mut-block-requires
-index_mut-block-requires g c = let is = rw c.in-Some.is at c.self.invariant.0 in omega (arith, first_within _ _ _ _ _ _ _ is, c.self.inside.blocks.ok)
+index_mut-block-requires g c = let is = rw c.in-Some.is at c.self.invariant.0 in omega (arith, first_within is, c.self.inside.blocks.ok)
 
 pub fill-slot-requires-clause-laid : goal.fill-slot-requires-clause-laid
 fill-slot-requires-clause-laid g c =
     let is = rw c.in-Some.is at c.self.invariant.0 in
     let wide = rw (← c.self.view_is) at c.requires.width in
-    subst (λ (n : ℕ). IsLaid n c.index_mut-block.result.now) (sym wide) (laid_here _ _ _ _ _ _ _ is c.in-Some.part c.index_mut-block.result.now (first_within _ _ _ _ _ _ _ is) c.index_mut-block.ensures.value (first_there _ _ _ _ _ _ _ is c.index_mut-block.result.now c.index_mut-block.ensures.value))
+    subst (λ (n : ℕ). IsLaid n c.index_mut-block.result.now) (sym wide) (laid_here is c.in-Some.part c.index_mut-block.result.now (first_within is) c.index_mut-block.ensures.value (first_there is c.index_mut-block.result.now c.index_mut-block.ensures.value))
 
 pub fill-slot-requires-clause-bits : goal.fill-slot-requires-clause-bits
 fill-slot-requires-clause-bits g c =
     let is = rw c.in-Some.is at c.self.invariant.0 in
     let wide = rw (← c.self.view_is) at c.requires.width in
     subst (λ (n : ℕ). IsPartition c.index_mut-occupancy.result.now.held.words (rows_in n c.index_mut-block.result.now)) (sym wide)
-    (bits_here _ _ _ _ _ _ _ is c.in-Some.part c.index_mut-block.result.now c.index_mut-occupancy.result.now (first_within _ _ _ _ _ _ _ is) c.index_mut-block.ensures.value c.index_mut-occupancy.ensures.value (first_there _ _ _ _ _ _ _ is c.index_mut-block.result.now c.index_mut-block.ensures.value))
+    (bits_here is c.in-Some.part c.index_mut-block.result.now c.index_mut-occupancy.result.now (first_within is) c.index_mut-block.ensures.value c.index_mut-occupancy.ensures.value (first_there is c.index_mut-block.result.now c.index_mut-block.ensures.value))
 
 pub fill-slot-requires-clause-free : goal.fill-slot-requires-clause-free
 fill-slot-requires-clause-free g c =
     let is = rw c.in-Some.is at c.self.invariant.0 in
     let wide = rw (← c.self.view_is) at c.requires.width in
-    subst (λ (n : ℕ). 0 < vacancies (rows_in n c.index_mut-block.result.now)) (sym wide) (first_has_slot _ _ _ _ _ _ _ is c.index_mut-block.result.now c.index_mut-block.ensures.value)
+    subst (λ (n : ℕ). 0 < vacancies (rows_in n c.index_mut-block.result.now)) (sym wide) (first_has_slot is c.index_mut-block.result.now c.index_mut-block.ensures.value)
 
 pub invariant_of-self : goal.invariant_of-self
 invariant_of-self g c =
     let is = rw c.in-Some.is at c.self.invariant.0 in
     let wide = rw (← c.self.view_is) at c.requires.width in
     let some = rw (← c.self.view_is) at c.requires.room in (
-      filled_full _ _ _ _ _ _ _ is c.index_mut-block.result.now c.fill-slot.new.block c.index_mut-occupancy.result.now _ c.fill-slot.result c.args.cells.now.items _ wide c.index_mut-block.ensures.value c.index_mut-occupancy.ensures.value refl
+      filled_full is c.index_mut-block.result.now c.fill-slot.new.block c.index_mut-occupancy.result.now _ c.fill-slot.result c.args.cells.now.items _ wide c.index_mut-block.ensures.value c.index_mut-occupancy.ensures.value refl
           c.fill-slot.ensures.laid c.fill-slot.ensures.bits c.fill-slot.ensures.slot c.fill-slot.ensures.fresh c.fill-slot.ensures.slots c.set_count_at.ensures some (c.is_full.ensures.0 c.if-is_full.true),
-      c.self.invariant.1 ∙ sym (filled_slots _ _ _ _ _ _ _ is c.index_mut-block.result.now c.fill-slot.new.block c.index_mut-occupancy.result.now (record { held = c.fill-slot.new.held; next_open = None; has_block = c.index_mut-occupancy.result.now.has_block }) c.fill-slot.result c.args.cells.now.items _ wide
+      c.self.invariant.1 ∙ sym (filled_slots is c.index_mut-block.result.now c.fill-slot.new.block c.index_mut-occupancy.result.now (record { held = c.fill-slot.new.held; next_open = None; has_block = c.index_mut-occupancy.result.now.has_block }) c.fill-slot.result c.args.cells.now.items _ wide
           c.index_mut-block.ensures.value c.index_mut-occupancy.ensures.value refl c.fill-slot.ensures.laid c.fill-slot.ensures.bits c.fill-slot.ensures.slot c.fill-slot.ensures.fresh c.fill-slot.ensures.slots c.set_count_at.ensures),
     )
 
@@ -57,22 +57,22 @@ invariant_of-self-else-is_full g c =
     let wide = rw (← c.self.view_is) at c.requires.width in
     let some = rw (← c.self.view_is) at c.requires.room in (
       rw c.in-Some.is
-          (filled_open _ _ _ _ _ _ _ is c.index_mut-block.result.now c.fill-slot.new.block c.index_mut-occupancy.result.now _ c.fill-slot.result c.args.cells.now.items _ wide c.index_mut-block.ensures.value c.index_mut-occupancy.ensures.value refl
+          (filled_open is c.index_mut-block.result.now c.fill-slot.new.block c.index_mut-occupancy.result.now _ c.fill-slot.result c.args.cells.now.items _ wide c.index_mut-block.ensures.value c.index_mut-occupancy.ensures.value refl
           c.fill-slot.ensures.laid c.fill-slot.ensures.bits c.fill-slot.ensures.slot c.fill-slot.ensures.fresh c.fill-slot.ensures.slots c.set_count_at.ensures some
           (λ full. true≢false (sym (c.is_full.ensures.1 full) ∙ c.if-is_full.false)) refl),
-      c.self.invariant.1 ∙ sym (filled_slots _ _ _ _ _ _ _ is c.index_mut-block.result.now c.fill-slot.new.block c.index_mut-occupancy.result.now (record { held = c.fill-slot.new.held; next_open = None; has_block = c.index_mut-occupancy.result.now.has_block }) c.fill-slot.result c.args.cells.now.items _ wide
+      c.self.invariant.1 ∙ sym (filled_slots is c.index_mut-block.result.now c.fill-slot.new.block c.index_mut-occupancy.result.now (record { held = c.fill-slot.new.held; next_open = None; has_block = c.index_mut-occupancy.result.now.has_block }) c.fill-slot.result c.args.cells.now.items _ wide
           c.index_mut-block.ensures.value c.index_mut-occupancy.ensures.value refl c.fill-slot.ensures.laid c.fill-slot.ensures.bits c.fill-slot.ensures.slot c.fill-slot.ensures.fresh c.fill-slot.ensures.slots c.set_count_at.ensures),
     )
 
 pub to-r-requires-clause-part : goal.to-r-requires-clause-part
-to-r-requires-clause-part g c = let is = rw c.in-Some.is at c.self.invariant.0 in omega (arith, first_within _ _ _ _ _ _ _ is, few_here _ _ _ _ _ _ _ is)
+to-r-requires-clause-part g c = let is = rw c.in-Some.is at c.self.invariant.0 in omega (arith, first_within is, few_here is)
 
 pub returns-then-is_full-clause-fresh : goal.returns-then-is_full-clause-fresh
 returns-then-is_full-clause-fresh g c =
     let is = rw c.in-Some.is at c.self.invariant.0 in
     let wide = rw (← c.self.view_is) at c.requires.width in
     rw (← c.self.view_is, c.to-r.ensures)
-    (filled_fresh _ _ _ _ _ _ _ is c.index_mut-block.result.now c.fill-slot.new.block c.index_mut-occupancy.result.now (record { held = c.fill-slot.new.held; next_open = None; has_block = c.index_mut-occupancy.result.now.has_block }) c.fill-slot.result c.args.cells.now.items _ wide
+    (filled_fresh is c.index_mut-block.result.now c.fill-slot.new.block c.index_mut-occupancy.result.now (record { held = c.fill-slot.new.held; next_open = None; has_block = c.index_mut-occupancy.result.now.has_block }) c.fill-slot.result c.args.cells.now.items _ wide
     c.index_mut-block.ensures.value c.index_mut-occupancy.ensures.value refl c.fill-slot.ensures.laid c.fill-slot.ensures.bits c.fill-slot.ensures.slot c.fill-slot.ensures.fresh c.fill-slot.ensures.slots c.set_count_at.ensures)
 
 pub returns-then-is_full-clause-tuples : goal.returns-then-is_full-clause-tuples
@@ -80,7 +80,7 @@ returns-then-is_full-clause-tuples g c =
     let is = rw c.in-Some.is at c.self.invariant.0 in
     let wide = rw (← c.self.view_is) at c.requires.width in
     rw (← c.self.view_is, c.to-r.ensures)
-    (filled_tuples _ _ _ _ _ _ _ is c.index_mut-block.result.now c.fill-slot.new.block c.index_mut-occupancy.result.now (record { held = c.fill-slot.new.held; next_open = None; has_block = c.index_mut-occupancy.result.now.has_block }) c.fill-slot.result c.args.cells.now.items _ wide
+    (filled_tuples is c.index_mut-block.result.now c.fill-slot.new.block c.index_mut-occupancy.result.now (record { held = c.fill-slot.new.held; next_open = None; has_block = c.index_mut-occupancy.result.now.has_block }) c.fill-slot.result c.args.cells.now.items _ wide
     c.index_mut-block.ensures.value c.index_mut-occupancy.ensures.value refl c.fill-slot.ensures.laid c.fill-slot.ensures.bits c.fill-slot.ensures.slot c.fill-slot.ensures.fresh c.fill-slot.ensures.slots c.set_count_at.ensures)
 
 pub returns-else-is_full-clause-fresh : goal.returns-else-is_full-clause-fresh
@@ -88,7 +88,7 @@ returns-else-is_full-clause-fresh g c =
     let is = rw c.in-Some.is at c.self.invariant.0 in
     let wide = rw (← c.self.view_is) at c.requires.width in
     rw (← c.self.view_is, c.to-r.ensures)
-    (filled_fresh _ _ _ _ _ _ _ is c.index_mut-block.result.now c.fill-slot.new.block c.index_mut-occupancy.result.now (record { held = c.fill-slot.new.held; next_open = None; has_block = c.index_mut-occupancy.result.now.has_block }) c.fill-slot.result c.args.cells.now.items _ wide
+    (filled_fresh is c.index_mut-block.result.now c.fill-slot.new.block c.index_mut-occupancy.result.now (record { held = c.fill-slot.new.held; next_open = None; has_block = c.index_mut-occupancy.result.now.has_block }) c.fill-slot.result c.args.cells.now.items _ wide
     c.index_mut-block.ensures.value c.index_mut-occupancy.ensures.value refl c.fill-slot.ensures.laid c.fill-slot.ensures.bits c.fill-slot.ensures.slot c.fill-slot.ensures.fresh c.fill-slot.ensures.slots c.set_count_at.ensures)
 
 pub returns-else-is_full-clause-tuples : goal.returns-else-is_full-clause-tuples
@@ -96,5 +96,5 @@ returns-else-is_full-clause-tuples g c =
     let is = rw c.in-Some.is at c.self.invariant.0 in
     let wide = rw (← c.self.view_is) at c.requires.width in
     rw (← c.self.view_is, c.to-r.ensures)
-    (filled_tuples _ _ _ _ _ _ _ is c.index_mut-block.result.now c.fill-slot.new.block c.index_mut-occupancy.result.now (record { held = c.fill-slot.new.held; next_open = None; has_block = c.index_mut-occupancy.result.now.has_block }) c.fill-slot.result c.args.cells.now.items _ wide
+    (filled_tuples is c.index_mut-block.result.now c.fill-slot.new.block c.index_mut-occupancy.result.now (record { held = c.fill-slot.new.held; next_open = None; has_block = c.index_mut-occupancy.result.now.has_block }) c.fill-slot.result c.args.cells.now.items _ wide
     c.index_mut-block.ensures.value c.index_mut-occupancy.ensures.value refl c.fill-slot.ensures.laid c.fill-slot.ensures.bits c.fill-slot.ensures.slot c.fill-slot.ensures.fresh c.fill-slot.ensures.slots c.set_count_at.ensures)

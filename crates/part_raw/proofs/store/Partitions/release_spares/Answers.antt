@@ -19,7 +19,7 @@ pub release_empty-requires-clause-kept : goal.release_empty-requires-clause-kept
 release_empty-requires-clause-kept g c = record { laid = c.self.invariant.0.table.laid; mapped = c.self.invariant.0.table.store.mapped }
 
 pub release_empty-requires-clause-few : goal.release_empty-requires-clause-few
-release_empty-requires-clause-few g c = few_here _ _ _ _ _ _ _ c.self.invariant.0
+release_empty-requires-clause-few g c = few_here c.self.invariant.0
 
 pub overflow_sub-self : goal.overflow_sub-self
 overflow_sub-self g c = omega (arith, c.release_empty.ensures.slots, c.self.invariant.1)
@@ -28,7 +28,7 @@ pub relink-self-inside-requires : goal.relink-self-inside-requires
 relink-self-inside-requires g c =
     let now_long = length-shelves_of c.pop_bare.new.blocks.items c.pop_bare.new.counts.items in
     let shown_long = length-tables c.self.inside.width (shelves_of c.pop_bare.new.blocks.items c.pop_bare.new.counts.items) in
-    omega (arith, c.pop_bare.ensures.kept.mapped.as_many, shown_long, now_long, c.pop_bare.ensures.fewer, c.release_empty.ensures.as_many, few_here _ _ _ _ _ _ _ c.self.invariant.0)
+    omega (arith, c.pop_bare.ensures.kept.mapped.as_many, shown_long, now_long, c.pop_bare.ensures.fewer, c.release_empty.ensures.as_many, few_here c.self.invariant.0)
 
 released : (g : Over) (c : After-relink-self-inside g) → IsReleased c.self.inside.width (shelves_of c.self.inside.blocks.items c.self.inside.counts.items) (shelves_of c.pop_bare.new.blocks.items c.pop_bare.new.counts.items) c.self.inside.occupancies.items c.relink-self-inside.new.occupancies.items c.pop_bare.new.occupancies.items c.self.inside.free c.self.inside.first_open c.release_empty.result
 released g c =

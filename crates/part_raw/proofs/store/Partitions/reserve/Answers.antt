@@ -9,30 +9,30 @@ use Rattle.part_raw.proofs.store.Partitions.reserve.Goals as goal
 pub let_go-requires : goal.let_go-requires
 let_go-requires g c =
     let within : c.bare_from-bare.result < length c.self.inside.blocks.items = omega (arith, c.if-bare-len.false, c.len.ensures, c.self.inside.blocks.ok) in
-    let among : c.bare_from-bare.result < length c.self.inside.occupancies.items = omega (arith, within, as_many _ _ _ _ _ _ _ c.self.invariant.0) in
+    let among : c.bare_from-bare.result < length c.self.inside.occupancies.items = omega (arith, within, as_many c.self.invariant.0) in
     c.replace.ensures.value ∙ sym (read_block c.self.inside.blocks.items c.index_mut.result.now c.bare_from-bare.result within c.index_mut.ensures.value)
-    ∙ bare_block _ _ _ _ _ _ _ c.self.invariant.0 c.bare_from-bare.result within (c.bare_from-bare.ensures among)
+    ∙ bare_block c.self.invariant.0 c.bare_from-bare.result within (c.bare_from-bare.ensures among)
 
 pub index_mut-occupancy-requires : goal.index_mut-occupancy-requires
-index_mut-occupancy-requires g c = omega (arith, as_many _ _ _ _ _ _ _ c.self.invariant.0, c.if-bare-len.false, c.len.ensures, c.self.inside.blocks.ok, c.self.inside.occupancies.ok)
+index_mut-occupancy-requires g c = omega (arith, as_many c.self.invariant.0, c.if-bare-len.false, c.len.ensures, c.self.inside.blocks.ok, c.self.inside.occupancies.ok)
 
 pub returns-then-bare-len-clause-ok : goal.returns-then-bare-len-clause-ok
 returns-then-bare-len-clause-ok g c =
     rw (← free_reserved_none c.args.self.now.free (omega (arith, c.if-self-gt0.false, ap (λ s. s.free) c.self.view_is))) c.push_partition.ensures.ok
 
 pub overflow_cast-self : goal.overflow_cast-self
-overflow_cast-self g c = omega (arith, few_here _ _ _ _ _ _ _ c.self.invariant.0, c.if-bare-len.false, c.len.ensures, c.self.inside.blocks.ok)
+overflow_cast-self g c = omega (arith, few_here c.self.invariant.0, c.if-bare-len.false, c.len.ensures, c.self.inside.blocks.ok)
 
 pub invariant_of-self : goal.invariant_of-self
 invariant_of-self g c =
     let none : c.self.inside.free ≡ 0 = omega (arith, c.if-self-gt0.false) in
     let o = c.index_mut-occupancy.result.now in
     let within : c.bare_from-bare.result < length c.self.inside.blocks.items = omega (arith, c.if-bare-len.false, c.len.ensures, c.self.inside.blocks.ok) in
-    let among : c.bare_from-bare.result < length c.self.inside.occupancies.items = omega (arith, within, as_many _ _ _ _ _ _ _ c.self.invariant.0) in
+    let among : c.bare_from-bare.result < length c.self.inside.occupancies.items = omega (arith, within, as_many c.self.invariant.0) in
     let new = c.replace.ensures.after ∙ c.in_ok-block.ensures in
     rw c.set_counts.ensures (
-      refilled_stocked _ _ _ _ _ _ _ c.self.invariant.0 none c.bare_from-bare.result c.replace.new.dest o within c.index_mut-occupancy.ensures.value (c.bare_from-bare.ensures among) new _ c.in_ok-counts.ensures _ refl refl refl,
-      ap (λ n. n + 256) c.self.invariant.1 ∙ sym (refill_slots _ _ _ _ _ _ _ c.self.invariant.0 none c.bare_from-bare.result c.replace.new.dest o within c.index_mut-occupancy.ensures.value (c.bare_from-bare.ensures among) new _ c.in_ok-counts.ensures),
+      refilled_stocked c.self.invariant.0 none c.bare_from-bare.result c.replace.new.dest o within c.index_mut-occupancy.ensures.value (c.bare_from-bare.ensures among) new _ c.in_ok-counts.ensures _ refl refl refl,
+      ap (λ n. n + 256) c.self.invariant.1 ∙ sym (refill_slots c.self.invariant.0 none c.bare_from-bare.result c.replace.new.dest o within c.index_mut-occupancy.ensures.value (c.bare_from-bare.ensures among) new _ c.in_ok-counts.ensures),
     )
 
 pub returns-clause-ok : goal.returns-clause-ok
@@ -40,7 +40,7 @@ returns-clause-ok g c =
     let none : c.self.inside.free ≡ 0 = omega (arith, c.if-self-gt0.false) in
     let o = c.index_mut-occupancy.result.now in
     let within : c.bare_from-bare.result < length c.self.inside.blocks.items = omega (arith, c.if-bare-len.false, c.len.ensures, c.self.inside.blocks.ok) in
-    let among : c.bare_from-bare.result < length c.self.inside.occupancies.items = omega (arith, within, as_many _ _ _ _ _ _ _ c.self.invariant.0) in
-    let same = refill_tuples _ _ _ _ _ _ _ c.self.invariant.0 none c.bare_from-bare.result c.replace.new.dest o within c.index_mut-occupancy.ensures.value (c.bare_from-bare.ensures among) (c.replace.ensures.after ∙ c.in_ok-block.ensures) _ c.in_ok-counts.ensures in
+    let among : c.bare_from-bare.result < length c.self.inside.occupancies.items = omega (arith, within, as_many c.self.invariant.0) in
+    let same = refill_tuples c.self.invariant.0 none c.bare_from-bare.result c.replace.new.dest o within c.index_mut-occupancy.ensures.value (c.bare_from-bare.ensures among) (c.replace.ensures.after ∙ c.in_ok-block.ensures) _ c.in_ok-counts.ensures in
     let free = free_reserved_none c.self.inside.free (omega (arith, c.if-self-gt0.false)) in
     rw (← c.self.view_is) (rw c.set_counts.ensures (λ i. store c.self.inside.width (same i) (free i) c.self.inside.counted))
