@@ -89,7 +89,7 @@ module _ {T : Type 0} {counted : Bool} {width : ℕ} {blocks : List (List (Optio
 
   -- ---- what is found under a reference
 
-  module _ (r : TupleRef) (part slot : ℕ) (names : part ≡ part_of r) (names_slot : slot ≡ slot_of r) (held : IsSome (get (tuples_of (tables width shelves)) r)) where
+  module _ (r : TupleRef) {part slot : ℕ} (names : part ≡ part_of r) (names_slot : slot ≡ slot_of r) (held : IsSome (get (tuples_of (tables width shelves)) r)) where
     pub part_within : part < length blocks
     part_within = omega (arith, table_within width shelves r part names held, length-shelves_of blocks counts)
 
@@ -123,19 +123,22 @@ module _ {T : Type 0} {counted : Bool} {width : ℕ} {blocks : List (List (Optio
 
     -- ---- a slot is freed
 
-    module _ (block new : List (Option T)) (o o' : Occupancy) (read : block ≡ get_or blocks part block) (read_bits : o ≡ get_or occupancies part o) (same_block : o'.has_block ≡ o.has_block) (laid : IsLaid width new)
-        (bits : IsPartition o'.held.words (rows_in width new)) (slots : rows_in width new ≡ set (rows_in width block) slot None) where
-      freeing : Changes width shelves occupancies (here part block) (here part new) o o' part slot None
-      freeing = record {
+    module _ {block new : List (Option T)} {o : Occupancy} {words : List ℕ} (read : block ≡ get_or blocks part block) (read_bits : o ≡ get_or occupancies part o) (laid : IsLaid width new)
+        (bits : IsPartition words (rows_in width new)) (slots : rows_in width new ≡ set (rows_in width block) slot None) where
+      abbrev freed : Option ℕ → Occupancy
+      freed next = record { held = record { words = words }; next_open = next; has_block = o.has_block }
+
+      freeing : (next : Option ℕ) → Changes width shelves occupancies (here part block) (here part new) o (freed next) part slot None
+      freeing next = record {
         within = among part part_within;
         read = read_here part block part_within read;
         read_bits = read_bits;
         laid = laid;
-        bits = bits-shown width new (get_or counts part []) o'.held.words bits;
+        bits = bits-shown width new (get_or counts part []) words bits;
         in_range = slot_in_range;
         slots = shown-freed width block (get_or counts part []) new slot slots;
         some = there_here block read;
-        same_block = same_block;
+        same_block = refl;
       }
 
       stock : (occupancies' : List Occupancy) (free' : ℕ) (first' : Option ℕ) → IsTable width (set shelves part (here part new)) occupancies' free' first' → IsStocked counted width (set blocks part new) counts occupancies' free' first'
@@ -145,21 +148,21 @@ module _ {T : Type 0} {counted : Bool} {width : ℕ} {blocks : List (List (Optio
         table = subst (λ (s : List (Shelf T)). IsTable width s occupancies' free' first') (sym (shelves_of-set blocks counts part new)) table;
       }
 
-      pub stocked_full : ((slot : ℕ) → slot < 256 → is_set o.held.words slot ≡ true) → o'.next_open ≡ first → IsStocked counted width (set blocks part new) counts (set occupancies part o') (free + 1) (Some part)
-      stocked_full full next =
+      pub stocked_full : ((slot : ℕ) → slot < 256 → is_set o.held.words slot ≡ true) → IsStocked counted width (set blocks part new) counts (set occupancies part (freed first)) (free + 1) (Some part)
+      stocked_full full =
           let t = is_some-Some _ held in
-          stock (set occupancies part o') (free + 1) (Some part)
-          (take_full width shelves occupancies (here part block) (here part new) o o' part slot free first t.0 is.table freeing
+          stock (set occupancies part (freed first)) (free + 1) (Some part)
+          (take_full width shelves occupancies (here part block) (here part new) o (freed first) part slot free first t.0 is.table (freeing first)
           (bits-shown width block (get_or counts part []) o.held.words (bits_held block o read read_bits))
-          (counted-get (rows_in width block) (get_or counts part []) slot ∙ sym (found_here block read) ∙ t.1) full next)
+          (counted-get (rows_in width block) (get_or counts part []) slot ∙ sym (found_here block read) ∙ t.1) full refl)
 
-      pub stocked_open : (((slot : ℕ) → slot < 256 → is_set o.held.words slot ≡ true) → ⊥) → o'.next_open ≡ o.next_open → IsStocked counted width (set blocks part new) counts (set occupancies part o') (free + 1) first
-      stocked_open still next =
+      pub stocked_open : (((slot : ℕ) → slot < 256 → is_set o.held.words slot ≡ true) → ⊥) → IsStocked counted width (set blocks part new) counts (set occupancies part (freed o.next_open)) (free + 1) first
+      stocked_open still =
           let t = is_some-Some _ held in
-          stock (set occupancies part o') (free + 1) first
-          (take_open width shelves occupancies (here part block) (here part new) o o' part slot free first t.0 is.table freeing
+          stock (set occupancies part (freed o.next_open)) (free + 1) first
+          (take_open width shelves occupancies (here part block) (here part new) o (freed o.next_open) part slot free first t.0 is.table (freeing o.next_open)
           (bits-shown width block (get_or counts part []) o.held.words (bits_held block o read read_bits))
-          (counted-get (rows_in width block) (get_or counts part []) slot ∙ sym (found_here block read) ∙ t.1) still next)
+          (counted-get (rows_in width block) (get_or counts part []) slot ∙ sym (found_here block read) ∙ t.1) still refl)
 
       pub freed_slots : sum_by length (tables width (shelves_of (set blocks part new) counts)) ≡ sum_by length (tables width shelves)
       freed_slots =
@@ -169,11 +172,11 @@ module _ {T : Type 0} {counted : Bool} {width : ℕ} {blocks : List (List (Optio
       pub freed_tuples : tuples_of (tables width (shelves_of (set blocks part new) counts)) ≡ remove (tuples_of (tables width shelves)) r
       freed_tuples =
           ap (λ (s : List (Shelf T)). tuples_of (tables width s)) (shelves_of-set blocks counts part new)
-          ∙ rows-taken width shelves occupancies (here part block) (here part new) o o' part slot r names names_slot freeing
+          ∙ rows-taken width shelves occupancies (here part block) (here part new) o (freed None) part slot r names names_slot (freeing None)
 
     -- ---- a row is another, or its count
 
-    module _ (block new : List (Option T)) (t : Tuple T) (cells : List T) (read : block ≡ get_or blocks part block) (was : get (tuples_of (tables width shelves)) r ≡ Some t) (laid : IsLaid width new)
+    module _ {block new : List (Option T)} {t : Tuple T} (cells : List T) (read : block ≡ get_or blocks part block) (was : get (tuples_of (tables width shelves)) r ≡ Some t) (laid : IsLaid width new)
         (slots : rows_in width new ≡ set (rows_in width block) slot (Some cells)) where
       shown_was : get_or (tuples_in width (here part block)) slot None ≡ Some t
       shown_was = counted-get (rows_in width block) (get_or counts part []) slot ∙ sym (found_here block read) ∙ was

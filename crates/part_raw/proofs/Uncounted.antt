@@ -80,7 +80,7 @@ module _ {T : Type 0} {kept : Bool} {width : ℕ} {blocks : List (List (Option T
   pub uncounted_zero : kept ≡ false → (r : TupleRef) (t : Tuple T) → get (tuples_of now) r ≡ Some t → t.count ≡ 0
   uncounted_zero uncounted r t held =
       sym (ap (λ c. get_or (get_or c (part_of r) []) (slot_of r) 0) (sym (uncounted_none kept (length blocks) counts uncounted is.beside))
-      ∙ count_here is r (part_of r) (slot_of r) refl refl (ap is_some held) t held)
+      ∙ count_here is r refl refl (ap is_some held) t held)
 
   -- ---- counts that are 0 go
 

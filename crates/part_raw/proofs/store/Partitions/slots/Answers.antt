@@ -14,5 +14,5 @@ returns-clause-most g c = omega (arith, few_here c.self.invariant.0, c.len.ensur
 
 pub returns-clause-within : goal.returns-clause-within
 returns-clause-within g c r held =
-    let part = part_within c.self.invariant.0 r (part_of r) (slot_of r) refl refl (rw (← c.self.view_is) at held) in
+    let part = part_within c.self.invariant.0 r refl refl (rw (← c.self.view_is) at held) in
     omega (arith, part, c.len.ensures, c.self.inside.blocks.ok)

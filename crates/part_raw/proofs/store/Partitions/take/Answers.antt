@@ -8,66 +8,66 @@ use Rattle.part_raw.proofs.store.Partitions.take.Goals as goal
 pub index_mut-occupancy-requires : goal.index_mut-occupancy-requires
 index_mut-occupancy-requires g c =
     let held = rw (← c.self.view_is) at c.requires.held in
-    omega (arith, part_within c.self.invariant.0 c.args.r c.part-part.result c.slot-slot.result c.part-part.ensures.value c.slot-slot.ensures.value held, as_many c.self.invariant.0, c.self.inside.occupancies.ok)
+    omega (arith, part_within c.self.invariant.0 c.args.r c.part-part.ensures.value c.slot-slot.ensures.value held, as_many c.self.invariant.0, c.self.inside.occupancies.ok)
 
 pub index_mut-block-requires : goal.index_mut-block-requires
 index_mut-block-requires g c =
     let held = rw (← c.self.view_is) at c.requires.held in
-    omega (arith, part_within c.self.invariant.0 c.args.r c.part-part.result c.slot-slot.result c.part-part.ensures.value c.slot-slot.ensures.value held, c.self.inside.blocks.ok)
+    omega (arith, part_within c.self.invariant.0 c.args.r c.part-part.ensures.value c.slot-slot.ensures.value held, c.self.inside.blocks.ok)
 
 pub vacate-requires-clause-laid : goal.vacate-requires-clause-laid
 vacate-requires-clause-laid g c =
     let held = rw (← c.self.view_is) at c.requires.held in
-    laid_held c.self.invariant.0 c.args.r c.part-part.result c.slot-slot.result c.part-part.ensures.value c.slot-slot.ensures.value held c.index_mut-block.result.now c.index_mut-block.ensures.value
+    laid_held c.self.invariant.0 c.args.r c.part-part.ensures.value c.slot-slot.ensures.value held c.index_mut-block.result.now c.index_mut-block.ensures.value
 
 pub vacate-requires-clause-bits : goal.vacate-requires-clause-bits
 vacate-requires-clause-bits g c =
     let held = rw (← c.self.view_is) at c.requires.held in
-    bits_held c.self.invariant.0 c.args.r c.part-part.result c.slot-slot.result c.part-part.ensures.value c.slot-slot.ensures.value held c.index_mut-block.result.now c.index_mut-occupancy.result.now c.index_mut-block.ensures.value c.index_mut-occupancy.ensures.value
+    bits_held c.self.invariant.0 c.args.r c.part-part.ensures.value c.slot-slot.ensures.value held c.index_mut-block.result.now c.index_mut-occupancy.result.now c.index_mut-block.ensures.value c.index_mut-occupancy.ensures.value
 
 pub vacate-requires-clause-held : goal.vacate-requires-clause-held
-vacate-requires-clause-held g c = held_here c.self.invariant.0 c.args.r c.part-part.result c.slot-slot.result c.part-part.ensures.value c.slot-slot.ensures.value (rw (← c.self.view_is) at c.requires.held) c.index_mut-block.result.now c.index_mut-block.ensures.value
+vacate-requires-clause-held g c = held_here c.self.invariant.0 c.args.r c.part-part.ensures.value c.slot-slot.ensures.value (rw (← c.self.view_is) at c.requires.held) c.index_mut-block.result.now c.index_mut-block.ensures.value
 
 pub invariant_of-self : goal.invariant_of-self
 invariant_of-self g c = (
-  stocked_full c.self.invariant.0 c.args.r c.part-part.result c.slot-slot.result c.part-part.ensures.value c.slot-slot.ensures.value (rw (← c.self.view_is) at c.requires.held) c.index_mut-block.result.now c.vacate.new.block c.index_mut-occupancy.result.now _
-      c.index_mut-block.ensures.value c.index_mut-occupancy.ensures.value refl c.vacate.ensures.laid c.vacate.ensures.bits c.vacate.ensures.slots (c.is_full-was_full.ensures.0 c.if-was_full.true) refl,
-  c.self.invariant.1 ∙ sym (freed_slots c.self.invariant.0 c.args.r c.part-part.result c.slot-slot.result c.part-part.ensures.value c.slot-slot.ensures.value (rw (← c.self.view_is) at c.requires.held) c.index_mut-block.result.now c.vacate.new.block c.index_mut-occupancy.result.now (record { held = c.vacate.new.held; next_open = None; has_block = c.index_mut-occupancy.result.now.has_block })
-      c.index_mut-block.ensures.value c.index_mut-occupancy.ensures.value refl c.vacate.ensures.laid c.vacate.ensures.bits c.vacate.ensures.slots),
+  stocked_full c.self.invariant.0 c.args.r c.part-part.ensures.value c.slot-slot.ensures.value (rw (← c.self.view_is) at c.requires.held) c.index_mut-block.ensures.value
+      c.index_mut-occupancy.ensures.value c.vacate.ensures.laid c.vacate.ensures.bits c.vacate.ensures.slots (c.is_full-was_full.ensures.0 c.if-was_full.true),
+  c.self.invariant.1 ∙ sym (freed_slots c.self.invariant.0 c.args.r c.part-part.ensures.value c.slot-slot.ensures.value (rw (← c.self.view_is) at c.requires.held) c.index_mut-block.ensures.value
+      c.index_mut-occupancy.ensures.value c.vacate.ensures.laid c.vacate.ensures.bits c.vacate.ensures.slots),
 )
 
 pub invariant_of-self-else-was_full : goal.invariant_of-self-else-was_full
 invariant_of-self-else-was_full g c = (
-  stocked_open c.self.invariant.0 c.args.r c.part-part.result c.slot-slot.result c.part-part.ensures.value c.slot-slot.ensures.value (rw (← c.self.view_is) at c.requires.held) c.index_mut-block.result.now c.vacate.new.block c.index_mut-occupancy.result.now _
-      c.index_mut-block.ensures.value c.index_mut-occupancy.ensures.value refl c.vacate.ensures.laid c.vacate.ensures.bits c.vacate.ensures.slots
-      (λ full. true≢false (sym (c.is_full-was_full.ensures.1 full) ∙ c.if-was_full.false)) refl,
-  c.self.invariant.1 ∙ sym (freed_slots c.self.invariant.0 c.args.r c.part-part.result c.slot-slot.result c.part-part.ensures.value c.slot-slot.ensures.value (rw (← c.self.view_is) at c.requires.held) c.index_mut-block.result.now c.vacate.new.block c.index_mut-occupancy.result.now (record { held = c.vacate.new.held; next_open = None; has_block = c.index_mut-occupancy.result.now.has_block })
-      c.index_mut-block.ensures.value c.index_mut-occupancy.ensures.value refl c.vacate.ensures.laid c.vacate.ensures.bits c.vacate.ensures.slots),
+  stocked_open c.self.invariant.0 c.args.r c.part-part.ensures.value c.slot-slot.ensures.value (rw (← c.self.view_is) at c.requires.held) c.index_mut-block.ensures.value
+      c.index_mut-occupancy.ensures.value c.vacate.ensures.laid c.vacate.ensures.bits c.vacate.ensures.slots
+      (λ full. true≢false (sym (c.is_full-was_full.ensures.1 full) ∙ c.if-was_full.false)),
+  c.self.invariant.1 ∙ sym (freed_slots c.self.invariant.0 c.args.r c.part-part.ensures.value c.slot-slot.ensures.value (rw (← c.self.view_is) at c.requires.held) c.index_mut-block.ensures.value
+      c.index_mut-occupancy.ensures.value c.vacate.ensures.laid c.vacate.ensures.bits c.vacate.ensures.slots),
 )
 
 pub returns-then-was_full-clause-tuples : goal.returns-then-was_full-clause-tuples
 returns-then-was_full-clause-tuples g c =
     rw (← c.self.view_is)
-    (freed_tuples c.self.invariant.0 c.args.r c.part-part.result c.slot-slot.result c.part-part.ensures.value c.slot-slot.ensures.value (rw (← c.self.view_is) at c.requires.held) c.index_mut-block.result.now c.vacate.new.block c.index_mut-occupancy.result.now (record { held = c.vacate.new.held; next_open = None; has_block = c.index_mut-occupancy.result.now.has_block })
-    c.index_mut-block.ensures.value c.index_mut-occupancy.ensures.value refl c.vacate.ensures.laid c.vacate.ensures.bits c.vacate.ensures.slots)
+    (freed_tuples c.self.invariant.0 c.args.r c.part-part.ensures.value c.slot-slot.ensures.value (rw (← c.self.view_is) at c.requires.held) c.index_mut-block.ensures.value
+    c.index_mut-occupancy.ensures.value c.vacate.ensures.laid c.vacate.ensures.bits c.vacate.ensures.slots)
 
 pub returns-else-was_full-clause-tuples : goal.returns-else-was_full-clause-tuples
 returns-else-was_full-clause-tuples g c =
     rw (← c.self.view_is)
-    (freed_tuples c.self.invariant.0 c.args.r c.part-part.result c.slot-slot.result c.part-part.ensures.value c.slot-slot.ensures.value (rw (← c.self.view_is) at c.requires.held) c.index_mut-block.result.now c.vacate.new.block c.index_mut-occupancy.result.now (record { held = c.vacate.new.held; next_open = None; has_block = c.index_mut-occupancy.result.now.has_block })
-    c.index_mut-block.ensures.value c.index_mut-occupancy.ensures.value refl c.vacate.ensures.laid c.vacate.ensures.bits c.vacate.ensures.slots)
+    (freed_tuples c.self.invariant.0 c.args.r c.part-part.ensures.value c.slot-slot.ensures.value (rw (← c.self.view_is) at c.requires.held) c.index_mut-block.ensures.value
+    c.index_mut-occupancy.ensures.value c.vacate.ensures.laid c.vacate.ensures.bits c.vacate.ensures.slots)
 
 pub returns-then-was_full-clause-tuple : goal.returns-then-was_full-clause-tuple
 returns-then-was_full-clause-tuple g c =
     rw (← c.self.view_is)
-    (found_here c.self.invariant.0 c.args.r c.part-part.result c.slot-slot.result c.part-part.ensures.value c.slot-slot.ensures.value (rw (← c.self.view_is) at c.requires.held) c.index_mut-block.result.now c.index_mut-block.ensures.value
+    (found_here c.self.invariant.0 c.args.r c.part-part.ensures.value c.slot-slot.ensures.value (rw (← c.self.view_is) at c.requires.held) c.index_mut-block.result.now c.index_mut-block.ensures.value
     ∙ ap (λ row. with_count row (get_or (get_or c.self.inside.counts.items c.part-part.result []) c.slot-slot.result 0)) c.vacate.ensures.row
     ∙ ap (λ n. Some (tuple c.vacate.new.cells.items n)) (sym c.count_at-count.ensures))
 
 pub returns-else-was_full-clause-tuple : goal.returns-else-was_full-clause-tuple
 returns-else-was_full-clause-tuple g c =
     rw (← c.self.view_is)
-    (found_here c.self.invariant.0 c.args.r c.part-part.result c.slot-slot.result c.part-part.ensures.value c.slot-slot.ensures.value (rw (← c.self.view_is) at c.requires.held) c.index_mut-block.result.now c.index_mut-block.ensures.value
+    (found_here c.self.invariant.0 c.args.r c.part-part.ensures.value c.slot-slot.ensures.value (rw (← c.self.view_is) at c.requires.held) c.index_mut-block.result.now c.index_mut-block.ensures.value
     ∙ ap (λ row. with_count row (get_or (get_or c.self.inside.counts.items c.part-part.result []) c.slot-slot.result 0)) c.vacate.ensures.row
     ∙ ap (λ n. Some (tuple c.vacate.new.cells.items n)) (sym c.count_at-count.ensures))
 
