@@ -30,17 +30,20 @@ module _ {T : Type 0} {counted : Bool} {width : ℕ} {blocks : List (List (Optio
   pub first_within : part < length blocks
   first_within = omega (arith, open_within width (shelves_of blocks counts) occupancies free part is.table, length-shelves_of blocks counts)
 
-  pub first_has_slot : (block : List (Option T)) → block ≡ get_or blocks part block → 0 < vacancies (rows_in width block)
-  first_has_slot block read =
+  pub first_has_slot : {block : List (Option T)} → block ≡ get_or blocks part block → 0 < vacancies (rows_in width block)
+  first_has_slot {block} read =
       omega (arith, vacancies-shown width block (get_or counts part []), open_has_slot width (shelves_of blocks counts) occupancies free part is.table (shelf block (get_or counts part [])) (read_here is part block first_within read))
 
-  pub first_there : (block : List (Option T)) → block ≡ get_or blocks part block → 0 < length block
-  first_there block read =
+  pub first_there : {block : List (Option T)} → block ≡ get_or blocks part block → 0 < length block
+  first_there {block} read =
       open_has_places width (shelves_of blocks counts) occupancies free part is.table (shelf block (get_or counts part [])) (read_here is part block first_within read)
 
-  module _ (block new : List (Option T)) (o o' : Occupancy) (slot : ℕ) (cells : List T) (counts' : List (List ℕ)) (wide : length cells ≡ width) (read : block ≡ get_or blocks part block) (read_bits : o ≡ get_or occupancies part o) (same_block : o'.has_block ≡ o.has_block)
-      (laid : IsLaid (length cells) new) (bits : IsPartition o'.held.words (rows_in (length cells) new)) (in_range : slot < 256) (fresh : get_or (rows_in (length cells) block) slot None ≡ None)
+  module _ {block new : List (Option T)} {o : Occupancy} {words : List ℕ} {slot : ℕ} (cells : List T) {counts' : List (List ℕ)} (wide : length cells ≡ width) (read : block ≡ get_or blocks part block) (read_bits : o ≡ get_or occupancies part o)
+      (laid : IsLaid (length cells) new) (bits : IsPartition words (rows_in (length cells) new)) (in_range : slot < 256) (fresh : get_or (rows_in (length cells) block) slot None ≡ None)
       (slots : rows_in (length cells) new ≡ set (rows_in (length cells) block) slot (Some cells)) (set_is : counts' ≡ set counts part (set (get_or counts part []) slot 0)) where
+    abbrev filled : Occupancy
+    filled = record { held = record { words = words }; next_open = o.next_open; has_block = o.has_block }
+
     abbrev shelves : List (Shelf T)
     shelves = shelves_of blocks counts
 
@@ -50,17 +53,17 @@ module _ {T : Type 0} {counted : Bool} {width : ℕ} {blocks : List (List (Optio
     abbrev is_here : Shelf T
     is_here = shelf new (set (get_or counts part []) slot 0)
 
-    filling : Changes width shelves occupancies was_here is_here o o' part slot (Some (tuple cells 0))
+    filling : Changes width shelves occupancies was_here is_here o filled part slot (Some (tuple cells 0))
     filling = record {
       within = omega (arith, first_within, length-shelves_of blocks counts);
       read = read_here is part block first_within read;
       read_bits = read_bits;
       laid = subst (λ (n : ℕ). IsLaid n new) wide laid;
-      bits = bits-shown width new (set (get_or counts part []) slot 0) o'.held.words (subst (λ (n : ℕ). IsPartition o'.held.words (rows_in n new)) wide bits);
+      bits = bits-shown width new (set (get_or counts part []) slot 0) words (subst (λ (n : ℕ). IsPartition words (rows_in n new)) wide bits);
       in_range = in_range;
       slots = shown-put width block (get_or counts part []) new slot cells (subst (λ (n : ℕ). rows_in n new ≡ set (rows_in n block) slot (Some cells)) wide slots);
-      some = first_there block read;
-      same_block = same_block;
+      some = first_there read;
+      same_block = refl;
     }
 
     was_free : get_or (tuples_in width was_here) slot None ≡ None
@@ -76,29 +79,28 @@ module _ {T : Type 0} {counted : Bool} {width : ℕ} {blocks : List (List (Optio
       beside = ap length set_is ∙ length-set counts part (set (get_or counts part []) slot 0) ∙ is.beside ∙ ap (λ (n : ℕ). if counted then n else 0) (sym (length-set blocks part new));
       own = subst (λ (c : List (List ℕ)). HaveCounts (set blocks part new) c) (sym set_is)
           (own-set blocks counts is.own part new (set (get_or counts part []) slot 0) first_within
-          (λ among. length-set (get_or counts part []) slot 0 ∙ is.own part among ∙ as_many_slots blocks part block new first_within read (first_there block read) laid.some));
+          (λ among. length-set (get_or counts part []) slot 0 ∙ is.own part among ∙ as_many_slots blocks part block new first_within read (first_there read) laid.some));
       table = subst (λ (s : List (Shelf T)). IsTable width s occupancies' free' first') (sym same_shelves) table;
     }
 
-    pub filled_full : 0 < free → ((slot : ℕ) → slot < 256 → is_set o'.held.words slot ≡ true) → IsStocked counted width (set blocks part new) counts' (set occupancies part o') (free - 1) o.next_open
+    pub filled_full : 0 < free → ((slot : ℕ) → slot < 256 → is_set words slot ≡ true) → IsStocked counted width (set blocks part new) counts' (set occupancies part filled) (free - 1) o.next_open
     filled_full some full =
-        stock (set occupancies part o') (free - 1) o.next_open (put_full width shelves occupancies was_here is_here o o' part slot free (tuple cells 0) is.table filling was_free some full)
+        stock (set occupancies part filled) (free - 1) o.next_open (put_full width shelves occupancies was_here is_here o filled part slot free (tuple cells 0) is.table filling was_free some full)
 
-    pub filled_open : 0 < free → (((slot : ℕ) → slot < 256 → is_set o'.held.words slot ≡ true) → ⊥) → o'.next_open ≡ o.next_open
-        → IsStocked counted width (set blocks part new) counts' (set occupancies part o') (free - 1) (Some part)
-    filled_open some still next =
-        stock (set occupancies part o') (free - 1) (Some part) (put_open width shelves occupancies was_here is_here o o' part slot free (tuple cells 0) is.table filling was_free some still next)
+    pub filled_open : 0 < free → (((slot : ℕ) → slot < 256 → is_set words slot ≡ true) → ⊥) → IsStocked counted width (set blocks part new) counts' (set occupancies part filled) (free - 1) (Some part)
+    filled_open some still =
+        stock (set occupancies part filled) (free - 1) (Some part) (put_open width shelves occupancies was_here is_here o filled part slot free (tuple cells 0) is.table filling was_free some still refl)
 
     pub filled_slots : sum_by length (tables width (shelves_of (set blocks part new) counts')) ≡ sum_by length (tables width shelves)
     filled_slots = ap (λ (s : List (Shelf T)). sum_by length (tables width s)) same_shelves ∙ slots-changed width shelves was_here is_here part slot (Some (tuple cells 0)) filling.within filling.read filling.slots
 
     pub filled_fresh : get (tuples_of (tables width shelves)) (ref_to part slot) ≡ None
-    filled_fresh = fresh-put width shelves occupancies was_here is_here o o' part slot (tuple cells 0) filling was_free
+    filled_fresh = fresh-put width shelves occupancies was_here is_here o filled part slot (tuple cells 0) filling was_free
 
     pub filled_tuples : tuples_of (tables width (shelves_of (set blocks part new) counts')) ≡ insert (tuples_of (tables width shelves)) (ref_to part slot) (tuple cells 0)
     filled_tuples =
         ap (λ (s : List (Shelf T)). tuples_of (tables width s)) same_shelves
-        ∙ rows-put width shelves occupancies was_here is_here o o' part slot (tuple cells 0) filling
+        ∙ rows-put width shelves occupancies was_here is_here o filled part slot (tuple cells 0) filling
 
 -- ---- a partition more
 

@@ -25,30 +25,28 @@ pub fill-slot-requires-clause-laid : goal.fill-slot-requires-clause-laid
 fill-slot-requires-clause-laid g c =
     let is = rw c.in-Some.is at c.self.invariant.0 in
     let wide = rw (← c.self.view_is) at c.requires.width in
-    subst (λ (n : ℕ). IsLaid n c.index_mut-block.result.now) (sym wide) (laid_here is c.in-Some.part c.index_mut-block.result.now (first_within is) c.index_mut-block.ensures.value (first_there is c.index_mut-block.result.now c.index_mut-block.ensures.value))
+    subst (λ (n : ℕ). IsLaid n c.index_mut-block.result.now) (sym wide) (laid_here is c.in-Some.part c.index_mut-block.result.now (first_within is) c.index_mut-block.ensures.value (first_there is c.index_mut-block.ensures.value))
 
 pub fill-slot-requires-clause-bits : goal.fill-slot-requires-clause-bits
 fill-slot-requires-clause-bits g c =
     let is = rw c.in-Some.is at c.self.invariant.0 in
     let wide = rw (← c.self.view_is) at c.requires.width in
     subst (λ (n : ℕ). IsPartition c.index_mut-occupancy.result.now.held.words (rows_in n c.index_mut-block.result.now)) (sym wide)
-    (bits_here is c.in-Some.part c.index_mut-block.result.now c.index_mut-occupancy.result.now (first_within is) c.index_mut-block.ensures.value c.index_mut-occupancy.ensures.value (first_there is c.index_mut-block.result.now c.index_mut-block.ensures.value))
+    (bits_here is c.in-Some.part c.index_mut-block.result.now c.index_mut-occupancy.result.now (first_within is) c.index_mut-block.ensures.value c.index_mut-occupancy.ensures.value (first_there is c.index_mut-block.ensures.value))
 
 pub fill-slot-requires-clause-free : goal.fill-slot-requires-clause-free
 fill-slot-requires-clause-free g c =
     let is = rw c.in-Some.is at c.self.invariant.0 in
     let wide = rw (← c.self.view_is) at c.requires.width in
-    subst (λ (n : ℕ). 0 < vacancies (rows_in n c.index_mut-block.result.now)) (sym wide) (first_has_slot is c.index_mut-block.result.now c.index_mut-block.ensures.value)
+    subst (λ (n : ℕ). 0 < vacancies (rows_in n c.index_mut-block.result.now)) (sym wide) (first_has_slot is c.index_mut-block.ensures.value)
 
 pub invariant_of-self : goal.invariant_of-self
 invariant_of-self g c =
     let is = rw c.in-Some.is at c.self.invariant.0 in
     let wide = rw (← c.self.view_is) at c.requires.width in
     let some = rw (← c.self.view_is) at c.requires.room in (
-      filled_full is c.index_mut-block.result.now c.fill-slot.new.block c.index_mut-occupancy.result.now _ c.fill-slot.result c.args.cells.now.items _ wide c.index_mut-block.ensures.value c.index_mut-occupancy.ensures.value refl
-          c.fill-slot.ensures.laid c.fill-slot.ensures.bits c.fill-slot.ensures.slot c.fill-slot.ensures.fresh c.fill-slot.ensures.slots c.set_count_at.ensures some (c.is_full.ensures.0 c.if-is_full.true),
-      c.self.invariant.1 ∙ sym (filled_slots is c.index_mut-block.result.now c.fill-slot.new.block c.index_mut-occupancy.result.now (record { held = c.fill-slot.new.held; next_open = None; has_block = c.index_mut-occupancy.result.now.has_block }) c.fill-slot.result c.args.cells.now.items _ wide
-          c.index_mut-block.ensures.value c.index_mut-occupancy.ensures.value refl c.fill-slot.ensures.laid c.fill-slot.ensures.bits c.fill-slot.ensures.slot c.fill-slot.ensures.fresh c.fill-slot.ensures.slots c.set_count_at.ensures),
+      filled_full is _ wide c.index_mut-block.ensures.value c.index_mut-occupancy.ensures.value c.fill-slot.ensures.laid c.fill-slot.ensures.bits c.fill-slot.ensures.slot c.fill-slot.ensures.fresh c.fill-slot.ensures.slots c.set_count_at.ensures some (c.is_full.ensures.0 c.if-is_full.true),
+      c.self.invariant.1 ∙ sym (filled_slots is _ wide c.index_mut-block.ensures.value c.index_mut-occupancy.ensures.value c.fill-slot.ensures.laid c.fill-slot.ensures.bits c.fill-slot.ensures.slot c.fill-slot.ensures.fresh c.fill-slot.ensures.slots c.set_count_at.ensures),
     )
 
 pub invariant_of-self-else-is_full : goal.invariant_of-self-else-is_full
@@ -57,11 +55,9 @@ invariant_of-self-else-is_full g c =
     let wide = rw (← c.self.view_is) at c.requires.width in
     let some = rw (← c.self.view_is) at c.requires.room in (
       rw c.in-Some.is
-          (filled_open is c.index_mut-block.result.now c.fill-slot.new.block c.index_mut-occupancy.result.now _ c.fill-slot.result c.args.cells.now.items _ wide c.index_mut-block.ensures.value c.index_mut-occupancy.ensures.value refl
-          c.fill-slot.ensures.laid c.fill-slot.ensures.bits c.fill-slot.ensures.slot c.fill-slot.ensures.fresh c.fill-slot.ensures.slots c.set_count_at.ensures some
-          (λ full. true≢false (sym (c.is_full.ensures.1 full) ∙ c.if-is_full.false)) refl),
-      c.self.invariant.1 ∙ sym (filled_slots is c.index_mut-block.result.now c.fill-slot.new.block c.index_mut-occupancy.result.now (record { held = c.fill-slot.new.held; next_open = None; has_block = c.index_mut-occupancy.result.now.has_block }) c.fill-slot.result c.args.cells.now.items _ wide
-          c.index_mut-block.ensures.value c.index_mut-occupancy.ensures.value refl c.fill-slot.ensures.laid c.fill-slot.ensures.bits c.fill-slot.ensures.slot c.fill-slot.ensures.fresh c.fill-slot.ensures.slots c.set_count_at.ensures),
+          (filled_open is _ wide c.index_mut-block.ensures.value c.index_mut-occupancy.ensures.value c.fill-slot.ensures.laid c.fill-slot.ensures.bits c.fill-slot.ensures.slot c.fill-slot.ensures.fresh c.fill-slot.ensures.slots c.set_count_at.ensures some
+          (λ full. true≢false (sym (c.is_full.ensures.1 full) ∙ c.if-is_full.false))),
+      c.self.invariant.1 ∙ sym (filled_slots is _ wide c.index_mut-block.ensures.value c.index_mut-occupancy.ensures.value c.fill-slot.ensures.laid c.fill-slot.ensures.bits c.fill-slot.ensures.slot c.fill-slot.ensures.fresh c.fill-slot.ensures.slots c.set_count_at.ensures),
     )
 
 pub to-r-requires-clause-part : goal.to-r-requires-clause-part
@@ -72,29 +68,25 @@ returns-then-is_full-clause-fresh g c =
     let is = rw c.in-Some.is at c.self.invariant.0 in
     let wide = rw (← c.self.view_is) at c.requires.width in
     rw (← c.self.view_is, c.to-r.ensures)
-    (filled_fresh is c.index_mut-block.result.now c.fill-slot.new.block c.index_mut-occupancy.result.now (record { held = c.fill-slot.new.held; next_open = None; has_block = c.index_mut-occupancy.result.now.has_block }) c.fill-slot.result c.args.cells.now.items _ wide
-    c.index_mut-block.ensures.value c.index_mut-occupancy.ensures.value refl c.fill-slot.ensures.laid c.fill-slot.ensures.bits c.fill-slot.ensures.slot c.fill-slot.ensures.fresh c.fill-slot.ensures.slots c.set_count_at.ensures)
+    (filled_fresh is _ wide c.index_mut-block.ensures.value c.index_mut-occupancy.ensures.value c.fill-slot.ensures.laid c.fill-slot.ensures.bits c.fill-slot.ensures.slot c.fill-slot.ensures.fresh c.fill-slot.ensures.slots c.set_count_at.ensures)
 
 pub returns-then-is_full-clause-tuples : goal.returns-then-is_full-clause-tuples
 returns-then-is_full-clause-tuples g c =
     let is = rw c.in-Some.is at c.self.invariant.0 in
     let wide = rw (← c.self.view_is) at c.requires.width in
     rw (← c.self.view_is, c.to-r.ensures)
-    (filled_tuples is c.index_mut-block.result.now c.fill-slot.new.block c.index_mut-occupancy.result.now (record { held = c.fill-slot.new.held; next_open = None; has_block = c.index_mut-occupancy.result.now.has_block }) c.fill-slot.result c.args.cells.now.items _ wide
-    c.index_mut-block.ensures.value c.index_mut-occupancy.ensures.value refl c.fill-slot.ensures.laid c.fill-slot.ensures.bits c.fill-slot.ensures.slot c.fill-slot.ensures.fresh c.fill-slot.ensures.slots c.set_count_at.ensures)
+    (filled_tuples is _ wide c.index_mut-block.ensures.value c.index_mut-occupancy.ensures.value c.fill-slot.ensures.laid c.fill-slot.ensures.bits c.fill-slot.ensures.slot c.fill-slot.ensures.fresh c.fill-slot.ensures.slots c.set_count_at.ensures)
 
 pub returns-else-is_full-clause-fresh : goal.returns-else-is_full-clause-fresh
 returns-else-is_full-clause-fresh g c =
     let is = rw c.in-Some.is at c.self.invariant.0 in
     let wide = rw (← c.self.view_is) at c.requires.width in
     rw (← c.self.view_is, c.to-r.ensures)
-    (filled_fresh is c.index_mut-block.result.now c.fill-slot.new.block c.index_mut-occupancy.result.now (record { held = c.fill-slot.new.held; next_open = None; has_block = c.index_mut-occupancy.result.now.has_block }) c.fill-slot.result c.args.cells.now.items _ wide
-    c.index_mut-block.ensures.value c.index_mut-occupancy.ensures.value refl c.fill-slot.ensures.laid c.fill-slot.ensures.bits c.fill-slot.ensures.slot c.fill-slot.ensures.fresh c.fill-slot.ensures.slots c.set_count_at.ensures)
+    (filled_fresh is _ wide c.index_mut-block.ensures.value c.index_mut-occupancy.ensures.value c.fill-slot.ensures.laid c.fill-slot.ensures.bits c.fill-slot.ensures.slot c.fill-slot.ensures.fresh c.fill-slot.ensures.slots c.set_count_at.ensures)
 
 pub returns-else-is_full-clause-tuples : goal.returns-else-is_full-clause-tuples
 returns-else-is_full-clause-tuples g c =
     let is = rw c.in-Some.is at c.self.invariant.0 in
     let wide = rw (← c.self.view_is) at c.requires.width in
     rw (← c.self.view_is, c.to-r.ensures)
-    (filled_tuples is c.index_mut-block.result.now c.fill-slot.new.block c.index_mut-occupancy.result.now (record { held = c.fill-slot.new.held; next_open = None; has_block = c.index_mut-occupancy.result.now.has_block }) c.fill-slot.result c.args.cells.now.items _ wide
-    c.index_mut-block.ensures.value c.index_mut-occupancy.ensures.value refl c.fill-slot.ensures.laid c.fill-slot.ensures.bits c.fill-slot.ensures.slot c.fill-slot.ensures.fresh c.fill-slot.ensures.slots c.set_count_at.ensures)
+    (filled_tuples is _ wide c.index_mut-block.ensures.value c.index_mut-occupancy.ensures.value c.fill-slot.ensures.laid c.fill-slot.ensures.bits c.fill-slot.ensures.slot c.fill-slot.ensures.fresh c.fill-slot.ensures.slots c.set_count_at.ensures)

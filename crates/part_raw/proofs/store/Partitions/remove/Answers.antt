@@ -16,15 +16,15 @@ index_mut-block-requires g c =
 pub empty-requires-clause-laid : goal.empty-requires-clause-laid
 empty-requires-clause-laid g c =
     let held = rw (← c.self.view_is) at c.requires in
-    laid_held c.self.invariant.0 c.args.r c.part-part.ensures.value c.slot-slot.ensures.value held c.index_mut-block.result.now c.index_mut-block.ensures.value
+    laid_held c.self.invariant.0 c.args.r c.part-part.ensures.value c.slot-slot.ensures.value held c.index_mut-block.ensures.value
 
 pub empty-requires-clause-bits : goal.empty-requires-clause-bits
 empty-requires-clause-bits g c =
     let held = rw (← c.self.view_is) at c.requires in
-    bits_held c.self.invariant.0 c.args.r c.part-part.ensures.value c.slot-slot.ensures.value held c.index_mut-block.result.now c.index_mut-occupancy.result.now c.index_mut-block.ensures.value c.index_mut-occupancy.ensures.value
+    bits_held c.self.invariant.0 c.args.r c.part-part.ensures.value c.slot-slot.ensures.value held c.index_mut-block.ensures.value c.index_mut-occupancy.ensures.value
 
 pub empty-requires-clause-held : goal.empty-requires-clause-held
-empty-requires-clause-held g c = held_here c.self.invariant.0 c.args.r c.part-part.ensures.value c.slot-slot.ensures.value (rw (← c.self.view_is) at c.requires) c.index_mut-block.result.now c.index_mut-block.ensures.value
+empty-requires-clause-held g c = held_here c.self.invariant.0 c.args.r c.part-part.ensures.value c.slot-slot.ensures.value (rw (← c.self.view_is) at c.requires) c.index_mut-block.ensures.value
 
 pub invariant_of-self : goal.invariant_of-self
 invariant_of-self g c = (

@@ -18,15 +18,15 @@ index_mut-block-requires g c =
 pub vacate-requires-clause-laid : goal.vacate-requires-clause-laid
 vacate-requires-clause-laid g c =
     let held = rw (← c.self.view_is) at c.requires.held in
-    laid_held c.self.invariant.0 c.args.r c.part-part.ensures.value c.slot-slot.ensures.value held c.index_mut-block.result.now c.index_mut-block.ensures.value
+    laid_held c.self.invariant.0 c.args.r c.part-part.ensures.value c.slot-slot.ensures.value held c.index_mut-block.ensures.value
 
 pub vacate-requires-clause-bits : goal.vacate-requires-clause-bits
 vacate-requires-clause-bits g c =
     let held = rw (← c.self.view_is) at c.requires.held in
-    bits_held c.self.invariant.0 c.args.r c.part-part.ensures.value c.slot-slot.ensures.value held c.index_mut-block.result.now c.index_mut-occupancy.result.now c.index_mut-block.ensures.value c.index_mut-occupancy.ensures.value
+    bits_held c.self.invariant.0 c.args.r c.part-part.ensures.value c.slot-slot.ensures.value held c.index_mut-block.ensures.value c.index_mut-occupancy.ensures.value
 
 pub vacate-requires-clause-held : goal.vacate-requires-clause-held
-vacate-requires-clause-held g c = held_here c.self.invariant.0 c.args.r c.part-part.ensures.value c.slot-slot.ensures.value (rw (← c.self.view_is) at c.requires.held) c.index_mut-block.result.now c.index_mut-block.ensures.value
+vacate-requires-clause-held g c = held_here c.self.invariant.0 c.args.r c.part-part.ensures.value c.slot-slot.ensures.value (rw (← c.self.view_is) at c.requires.held) c.index_mut-block.ensures.value
 
 pub invariant_of-self : goal.invariant_of-self
 invariant_of-self g c = (
@@ -60,14 +60,14 @@ returns-else-was_full-clause-tuples g c =
 pub returns-then-was_full-clause-tuple : goal.returns-then-was_full-clause-tuple
 returns-then-was_full-clause-tuple g c =
     rw (← c.self.view_is)
-    (found_here c.self.invariant.0 c.args.r c.part-part.ensures.value c.slot-slot.ensures.value (rw (← c.self.view_is) at c.requires.held) c.index_mut-block.result.now c.index_mut-block.ensures.value
+    (found_here c.self.invariant.0 c.args.r c.part-part.ensures.value c.slot-slot.ensures.value (rw (← c.self.view_is) at c.requires.held) c.index_mut-block.ensures.value
     ∙ ap (λ row. with_count row (get_or (get_or c.self.inside.counts.items c.part-part.result []) c.slot-slot.result 0)) c.vacate.ensures.row
     ∙ ap (λ n. Some (tuple c.vacate.new.cells.items n)) (sym c.count_at-count.ensures))
 
 pub returns-else-was_full-clause-tuple : goal.returns-else-was_full-clause-tuple
 returns-else-was_full-clause-tuple g c =
     rw (← c.self.view_is)
-    (found_here c.self.invariant.0 c.args.r c.part-part.ensures.value c.slot-slot.ensures.value (rw (← c.self.view_is) at c.requires.held) c.index_mut-block.result.now c.index_mut-block.ensures.value
+    (found_here c.self.invariant.0 c.args.r c.part-part.ensures.value c.slot-slot.ensures.value (rw (← c.self.view_is) at c.requires.held) c.index_mut-block.ensures.value
     ∙ ap (λ row. with_count row (get_or (get_or c.self.inside.counts.items c.part-part.result []) c.slot-slot.result 0)) c.vacate.ensures.row
     ∙ ap (λ n. Some (tuple c.vacate.new.cells.items n)) (sym c.count_at-count.ensures))
 
