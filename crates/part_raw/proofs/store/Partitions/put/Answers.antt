@@ -1,11 +1,17 @@
-use Rattle.std.proofs.Common.{◌<◌, ℕ, None, arith, refl, sym, subst, ◌∙◌}
+use Rattle.std.proofs.Common.{◌≡◌, set, ◌<◌, ℕ, None, arith, sym, subst, ◌∙◌}
 use Rattle.std.proofs.lemmas.Bool.{true≢false}
+use Rattle.std.specs.FinMap.{get, insert}
+use Rattle.part_raw.specs.Store.{tuple}
+use Rattle.part_raw.specs.Counted.{shelves_of}
+use Rattle.part_raw.specs.Open.{tables}
 use Rattle.part_raw.specs.Rows.{IsLaid, rows_in}
-use Rattle.part_raw.specs.Layout.{IsPartition, vacancies}
+use Rattle.part_raw.specs.Layout.{IsPartition, tuples_of, vacancies}
 use Rattle.part_raw.proofs.Sound.{first_is_some}
 use Rattle.part_raw.proofs.Stocked.{as_many, laid_here, bits_here, few_here}
 use Rattle.part_raw.proofs.Filled.{first_within, first_has_slot, first_there, filled_slots, filled_full, filled_open, filled_fresh, filled_tuples}
+use Rattle.part_raw.proofs.store.Partitions.put.Given.{Over}
 use Rattle.part_raw.proofs.store.Partitions.put.Goals as goal
+use Rattle.part_raw.proofs.store.Partitions.put.Goals.{After-to-r}
 
 pub unreachable-requires : goal.unreachable-requires
 unreachable-requires g c =
@@ -63,30 +69,26 @@ invariant_of-self-else-is_full g c =
 pub to-r-requires-clause-part : goal.to-r-requires-clause-part
 to-r-requires-clause-part g c = let is = rw c.in-Some.is at c.self.invariant.0 in omega (arith, first_within is, few_here is)
 
-pub returns-then-is_full-clause-fresh : goal.returns-then-is_full-clause-fresh
-returns-then-is_full-clause-fresh g c =
-    let is = rw c.in-Some.is at c.self.invariant.0 in
+fresh : (g : Over) (c : After-to-r g) → get c.args.self.now.tuples c.to-r.result ≡ None
+fresh g c =
     let wide = rw (← c.self.view_is) at c.requires.width in
     rw (← c.self.view_is, c.to-r.ensures)
-    (filled_fresh is _ wide c.index_mut-block.ensures.value c.index_mut-occupancy.ensures.value c.fill-slot.ensures.laid c.fill-slot.ensures.bits c.fill-slot.ensures.slot c.fill-slot.ensures.fresh c.fill-slot.ensures.slots c.set_count_at.ensures)
+    (filled_fresh (rw c.in-Some.is at c.self.invariant.0) _ wide c.index_mut-block.ensures.value c.index_mut-occupancy.ensures.value c.fill-slot.ensures.laid c.fill-slot.ensures.bits c.fill-slot.ensures.slot c.fill-slot.ensures.fresh c.fill-slot.ensures.slots c.set_count_at.ensures)
+
+tuples : (g : Over) (c : After-to-r g) → tuples_of (tables c.self.inside.width (shelves_of (set c.self.inside.blocks.items c.in-Some.part c.fill-slot.new.block) c.set_count_at.new.counts.items)) ≡ insert c.args.self.now.tuples c.to-r.result (tuple c.args.cells.now.items 0)
+tuples g c =
+    let wide = rw (← c.self.view_is) at c.requires.width in
+    rw (← c.self.view_is, c.to-r.ensures)
+    (filled_tuples (rw c.in-Some.is at c.self.invariant.0) _ wide c.index_mut-block.ensures.value c.index_mut-occupancy.ensures.value c.fill-slot.ensures.laid c.fill-slot.ensures.bits c.fill-slot.ensures.slot c.fill-slot.ensures.fresh c.fill-slot.ensures.slots c.set_count_at.ensures)
+
+pub returns-then-is_full-clause-fresh : goal.returns-then-is_full-clause-fresh
+returns-then-is_full-clause-fresh g c = fresh g (goal.at.returns-then-is_full-clause-fresh g c).After-to-r
 
 pub returns-then-is_full-clause-tuples : goal.returns-then-is_full-clause-tuples
-returns-then-is_full-clause-tuples g c =
-    let is = rw c.in-Some.is at c.self.invariant.0 in
-    let wide = rw (← c.self.view_is) at c.requires.width in
-    rw (← c.self.view_is, c.to-r.ensures)
-    (filled_tuples is _ wide c.index_mut-block.ensures.value c.index_mut-occupancy.ensures.value c.fill-slot.ensures.laid c.fill-slot.ensures.bits c.fill-slot.ensures.slot c.fill-slot.ensures.fresh c.fill-slot.ensures.slots c.set_count_at.ensures)
+returns-then-is_full-clause-tuples g c = tuples g (goal.at.returns-then-is_full-clause-tuples g c).After-to-r
 
 pub returns-else-is_full-clause-fresh : goal.returns-else-is_full-clause-fresh
-returns-else-is_full-clause-fresh g c =
-    let is = rw c.in-Some.is at c.self.invariant.0 in
-    let wide = rw (← c.self.view_is) at c.requires.width in
-    rw (← c.self.view_is, c.to-r.ensures)
-    (filled_fresh is _ wide c.index_mut-block.ensures.value c.index_mut-occupancy.ensures.value c.fill-slot.ensures.laid c.fill-slot.ensures.bits c.fill-slot.ensures.slot c.fill-slot.ensures.fresh c.fill-slot.ensures.slots c.set_count_at.ensures)
+returns-else-is_full-clause-fresh g c = fresh g (goal.at.returns-else-is_full-clause-fresh g c).After-to-r
 
 pub returns-else-is_full-clause-tuples : goal.returns-else-is_full-clause-tuples
-returns-else-is_full-clause-tuples g c =
-    let is = rw c.in-Some.is at c.self.invariant.0 in
-    let wide = rw (← c.self.view_is) at c.requires.width in
-    rw (← c.self.view_is, c.to-r.ensures)
-    (filled_tuples is _ wide c.index_mut-block.ensures.value c.index_mut-occupancy.ensures.value c.fill-slot.ensures.laid c.fill-slot.ensures.bits c.fill-slot.ensures.slot c.fill-slot.ensures.fresh c.fill-slot.ensures.slots c.set_count_at.ensures)
+returns-else-is_full-clause-tuples g c = tuples g (goal.at.returns-else-is_full-clause-tuples g c).After-to-r

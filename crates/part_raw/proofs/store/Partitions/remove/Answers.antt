@@ -1,7 +1,13 @@
-use Rattle.std.proofs.Common.{arith, None, refl, sym, ◌∙◌}
+use Rattle.std.proofs.Common.{◌≡◌, set, arith, sym, ◌∙◌}
 use Rattle.std.proofs.lemmas.Bool.{true≢false}
+use Rattle.std.specs.FinMap.{remove}
+use Rattle.part_raw.specs.Layout.{tuples_of}
+use Rattle.part_raw.specs.Open.{tables}
+use Rattle.part_raw.specs.Counted.{shelves_of}
 use Rattle.part_raw.proofs.Stocked.{as_many, part_within, laid_held, bits_held, freed_slots, most_slots, few_here, held_here, stocked_full, stocked_open, freed_tuples}
+use Rattle.part_raw.proofs.store.Partitions.remove.Given.{Over}
 use Rattle.part_raw.proofs.store.Partitions.remove.Goals as goal
+use Rattle.part_raw.proofs.store.Partitions.remove.Goals.{After-empty}
 
 pub index_mut-occupancy-requires : goal.index_mut-occupancy-requires
 index_mut-occupancy-requires g c =
@@ -43,17 +49,16 @@ invariant_of-self-else-was_full g c = (
       c.index_mut-occupancy.ensures.value c.empty.ensures.laid c.empty.ensures.bits c.empty.ensures.slots),
 )
 
-pub returns-then-was_full-clause-tuples : goal.returns-then-was_full-clause-tuples
-returns-then-was_full-clause-tuples g c =
+tuples : (g : Over) (c : After-empty g) → tuples_of (tables c.self.inside.width (shelves_of (set c.self.inside.blocks.items c.part-part.result c.empty.new.block) c.self.inside.counts.items)) ≡ remove c.args.self.now.tuples c.args.r
+tuples g c =
     rw (← c.self.view_is)
-    (freed_tuples c.self.invariant.0 c.args.r c.part-part.ensures.value c.slot-slot.ensures.value (rw (← c.self.view_is) at c.requires) c.index_mut-block.ensures.value
-    c.index_mut-occupancy.ensures.value c.empty.ensures.laid c.empty.ensures.bits c.empty.ensures.slots)
+    (freed_tuples c.self.invariant.0 c.args.r c.part-part.ensures.value c.slot-slot.ensures.value (rw (← c.self.view_is) at c.requires) c.index_mut-block.ensures.value c.index_mut-occupancy.ensures.value c.empty.ensures.laid c.empty.ensures.bits c.empty.ensures.slots)
+
+pub returns-then-was_full-clause-tuples : goal.returns-then-was_full-clause-tuples
+returns-then-was_full-clause-tuples g c = tuples g (goal.at.returns-then-was_full-clause-tuples g c).After-empty
 
 pub returns-else-was_full-clause-tuples : goal.returns-else-was_full-clause-tuples
-returns-else-was_full-clause-tuples g c =
-    rw (← c.self.view_is)
-    (freed_tuples c.self.invariant.0 c.args.r c.part-part.ensures.value c.slot-slot.ensures.value (rw (← c.self.view_is) at c.requires) c.index_mut-block.ensures.value
-    c.index_mut-occupancy.ensures.value c.empty.ensures.laid c.empty.ensures.bits c.empty.ensures.slots)
+returns-else-was_full-clause-tuples g c = tuples g (goal.at.returns-else-was_full-clause-tuples g c).After-empty
 
 pub overflow_add-self : goal.overflow_add-self
 overflow_add-self g c = omega (arith, most_slots c.self.invariant.0, few_here c.self.invariant.0)

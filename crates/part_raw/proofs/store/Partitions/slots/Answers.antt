@@ -1,5 +1,4 @@
 use Rattle.std.proofs.Common.{arith, refl}
-use Rattle.part_raw.specs.TupleRefs.{part_of, slot_of}
 use Rattle.part_raw.proofs.Stocked.{part_within, most_slots, few_here}
 use Rattle.part_raw.proofs.store.Partitions.slots.Goals as goal
 
