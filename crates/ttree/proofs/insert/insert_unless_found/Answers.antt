@@ -1,4 +1,4 @@
-use Rattle.std.proofs.Common.{true, ◌≡◌, ◌∙◌, ◌+◌, List, get_or, length, Ordering, ap, subst, sym, lit<, arith, rules}
+use Rattle.std.proofs.Common.{true, ◌≡◌, ◌∙◌, ◌+◌, List, [], ◌∷◌, get_or, length, Ordering, ap, subst, sym, lit<, arith, rules}
 use Rattle.std.specs.List.{All, Contains}
 use Rattle.part_raw.specs.declared.tuple_ref.TupleRef.{TupleRef}
 use Rattle.mm_index.specs.Order.{insert_placed}
@@ -16,7 +16,7 @@ use Rattle.ttree.proofs.Ordered.{insert_placed_first}
 use Rattle.ttree.proofs.Puts.{length_with_item, list_first, size_first}
 use Rattle.ttree.proofs.insert.insert_unless_found.Given.{Over}
 use Rattle.ttree.proofs.insert.insert_unless_found.Goals as goal
-use Rattle.ttree.proofs.insert.insert_unless_found.Goals.{After-edit-editor}
+use Rattle.ttree.proofs.insert.insert_unless_found.Goals.{After-edit-editor, After-new_leaf}
 
 -- the editor begins at the root
 top : (g : Over) (c : After-edit-editor g) → is_root (position c.edit-editor.result).above ≡ true
@@ -27,67 +27,49 @@ seen g c = ap (λ (y : Zipper (Label TupleRef)). whole y) (sym c.edit-editor.ens
 
 -- ---- the first reference of all
 
+hung : (g : Over) (c : After-new_leaf g) → tree_at c.new_leaf.new.self ≡ whole (with_leaf c.args.r (position c.edit-editor.result))
+hung g c = c.new_leaf.ensures.tree ∙ ap (λ (y : Zipper (Label TupleRef)). whole y) c.new_leaf.ensures.leaf
+
+first : (g : Over) (c : After-new_leaf g) → (list (tree_of c.args.nodes.now) ≡ []) × (list (tree_at c.new_leaf.new.self) ≡ c.args.r ∷ [])
+first g c =
+    let its = list_first (position c.edit-editor.result) c.args.r (ap (λ (y : Zipper (Label TupleRef)). is_root y.above) c.edit-editor.ensures.root) (sym c.has_node.ensures ∙ c.if-not-has_node.true) in
+    (ap (λ (y : Zipper (Label TupleRef)). list (whole y)) (sym c.edit-editor.ensures.root) ∙ its.0, ap (λ (t : Tree (Label TupleRef)). list t) (hung g c) ∙ its.1)
+
 pub returns-then-not-has_node-clause-list : goal.returns-then-not-has_node-clause-list
 returns-then-not-has_node-clause-list g c =
-    let d = (goal.at.returns-then-not-has_node-clause-list g c).After-edit-editor in
     let place : TupleRef → Ordering = g.P.Probe.place c.args.probe.now in
-    let z : Zipper (Label TupleRef) = position c.edit-editor.result in
-    let first = list_first z c.args.r (top g d) (sym c.has_node.ensures ∙ c.if-not-has_node.true) in
-    let tree : tree_at c.new_leaf.new.self ≡ whole (with_leaf c.args.r z) = c.new_leaf.ensures.tree ∙ ap (λ (y : Zipper (Label TupleRef)). whole y) c.new_leaf.ensures.leaf in
+    let its = first g (goal.at.returns-then-not-has_node-clause-list g c).After-new_leaf in
     let after : list (tree_at c.new_leaf.new.self) ≡ insert_placed place c.args.r (list (tree_of c.args.nodes.now)) =
-    ap (λ (t : Tree (Label TupleRef)). list t) tree ∙ first.1 ∙ sym (insert_placed_first place c.args.r)
-    ∙ ap (λ (xs : List TupleRef). insert_placed place c.args.r xs) (sym (ap (λ (t : Tree (Label TupleRef)). list t) (seen g d) ∙ first.0)) in
+    its.1 ∙ sym (insert_placed_first place c.args.r) ∙ ap (λ (xs : List TupleRef). insert_placed place c.args.r xs) (sym its.0) in
     search (rules, after)
 
 pub returns-then-not-has_node-clause-none : goal.returns-then-not-has_node-clause-none
-returns-then-not-has_node-clause-none g c =
-    let d = (goal.at.returns-then-not-has_node-clause-none g c).After-edit-editor in
-    let z : Zipper (Label TupleRef) = position c.edit-editor.result in
-    let first = list_first z c.args.r (top g d) (sym c.has_node.ensures ∙ c.if-not-has_node.true) in
-    let empty = ap (λ (t : Tree (Label TupleRef)). length (list t)) (seen g d) ∙ ap (λ (xs : List TupleRef). length xs) first.0 in
-    λ k d l. absurd (omega (arith, empty, l))
+returns-then-not-has_node-clause-none g c = λ k d l. absurd (omega (arith, ap (λ (xs : List TupleRef). length xs) (first g (goal.at.returns-then-not-has_node-clause-none g c).After-new_leaf).0, l))
 
 pub returns-then-not-has_node-clause-one : goal.returns-then-not-has_node-clause-one
 returns-then-not-has_node-clause-one g c =
-    let d = (goal.at.returns-then-not-has_node-clause-one g c).After-edit-editor in
-    let z : Zipper (Label TupleRef) = position c.edit-editor.result in
-    let first = list_first z c.args.r (top g d) (sym c.has_node.ensures ∙ c.if-not-has_node.true) in
-    let tree : tree_at c.new_leaf.new.self ≡ whole (with_leaf c.args.r z) = c.new_leaf.ensures.tree ∙ ap (λ (y : Zipper (Label TupleRef)). whole y) c.new_leaf.ensures.leaf in
-    let after : length (list (tree_at c.new_leaf.new.self)) ≡ length (list (tree_of c.args.nodes.now)) + 1 = omega (
-      arith,
-      ap (λ (t : Tree (Label TupleRef)). length (list t)) tree,
-      ap (λ (xs : List TupleRef). length xs) first.1,
-      ap (λ (t : Tree (Label TupleRef)). length (list t)) (seen g d),
-      ap (λ (xs : List TupleRef). length xs) first.0,
-    ) in
+    let its = first g (goal.at.returns-then-not-has_node-clause-one g c).After-new_leaf in
+    let after : length (list (tree_at c.new_leaf.new.self)) ≡ length (list (tree_of c.args.nodes.now)) + 1 = omega (arith, ap (λ (xs : List TupleRef). length xs) its.1, ap (λ (xs : List TupleRef). length xs) its.0) in
     search (rules, after)
 
 pub returns-then-not-has_node-clause-asks : goal.returns-then-not-has_node-clause-asks
-returns-then-not-has_node-clause-asks g c =
-    let d = (goal.at.returns-then-not-has_node-clause-asks g c).After-edit-editor in
-    let z : Zipper (Label TupleRef) = position c.edit-editor.result in
-    let first = list_first z c.args.r (top g d) (sym c.has_node.ensures ∙ c.if-not-has_node.true) in
-    let empty = ap (λ (t : Tree (Label TupleRef)). length (list t)) (seen g d) ∙ ap (λ (xs : List TupleRef). length xs) first.0 in
-    λ some. absurd (omega (arith, empty, some))
+returns-then-not-has_node-clause-asks g c = λ some. absurd (omega (arith, ap (λ (xs : List TupleRef). length xs) (first g (goal.at.returns-then-not-has_node-clause-asks g c).After-new_leaf).0, some))
 
 pub returns-then-not-has_node-clause-parents : goal.returns-then-not-has_node-clause-parents
 returns-then-not-has_node-clause-parents g c = λ two full.
-    let d = (goal.at.returns-then-not-has_node-clause-parents g c).After-edit-editor in
-    let z : Zipper (Label TupleRef) = position c.edit-editor.result in
-    let tree : tree_at c.new_leaf.new.self ≡ whole (with_leaf c.args.r z) = c.new_leaf.ensures.tree ∙ ap (λ (y : Zipper (Label TupleRef)). whole y) c.new_leaf.ensures.leaf in
-    let after : ParentsAreFull g.row.MAX (tree_at c.new_leaf.new.self) = subst (λ (t : Tree (Label TupleRef)). ParentsAreFull g.row.MAX t) (sym tree) (full_first g.row.MAX z c.args.r (top g d)) in
+    let at = goal.at.returns-then-not-has_node-clause-parents g c in
+    let after : ParentsAreFull g.row.MAX (tree_at c.new_leaf.new.self) =
+    subst (λ (t : Tree (Label TupleRef)). ParentsAreFull g.row.MAX t) (sym (hung g at.After-new_leaf)) (full_first g.row.MAX (position c.edit-editor.result) c.args.r (top g at.After-edit-editor)) in
     search (rules, after)
 
 pub returns-then-not-has_node-clause-nodes : goal.returns-then-not-has_node-clause-nodes
 returns-then-not-has_node-clause-nodes g c =
-    let d = (goal.at.returns-then-not-has_node-clause-nodes g c).After-edit-editor in
-    let z : Zipper (Label TupleRef) = position c.edit-editor.result in
-    let tree : tree_at c.new_leaf.new.self ≡ whole (with_leaf c.args.r z) = c.new_leaf.ensures.tree ∙ ap (λ (y : Zipper (Label TupleRef)). whole y) c.new_leaf.ensures.leaf in
+    let at = goal.at.returns-then-not-has_node-clause-nodes g c in
     let after : nodes_at c.new_leaf.new.self ≡ nodes_of (shown c.args.nodes.now) = omega (
       arith,
-      ap (λ (t : Tree (Label TupleRef)). size t) tree,
-      ap (λ (t : Tree (Label TupleRef)). size t) (seen g d),
-      size_first z c.args.r (top g d) (sym c.has_node.ensures ∙ c.if-not-has_node.true),
+      ap (λ (t : Tree (Label TupleRef)). size t) (hung g at.After-new_leaf),
+      ap (λ (t : Tree (Label TupleRef)). size t) (seen g at.After-edit-editor),
+      size_first (position c.edit-editor.result) c.args.r (top g at.After-edit-editor) (sym c.has_node.ensures ∙ c.if-not-has_node.true),
       c.new_leaf.ensures.spares,
     ) in
     search (rules, after)
