@@ -1,6 +1,7 @@
 -- What two things are to each other: less, equal or greater.
-use Rattle.std.proofs.Common.{Ordering, ap, arith, inl, inr, refl, true, ◌≡◌, ◌≤◌, ◌⊎◌}
-use Rattle.std.specs.Ordering.{is_eq, is_lt, ordering_index, ordering_reverse, ordering_then}
+use Rattle.std.proofs.Common.{Ordering, ap, arith, false, inl, inr, refl, sym, true, ◌∙◌, ◌≡◌, ◌≢◌, ◌≤◌, ◌⊎◌}
+use Rattle.std.proofs.lemmas.Bool.{false≢true}
+use Rattle.std.specs.Ordering.{is_eq, is_gt, is_lt, ordering_index, ordering_reverse, ordering_then}
 use Rattle.std.specs.declared.cmp.Ordering.TheVariants.{Equal, Greater, Less}
 
 pub is_eq-Equal : (o : Ordering) → is_eq o ≡ true → o ≡ Equal
@@ -10,8 +11,19 @@ is_eq-Equal Greater e = cc
 
 pub is_lt-Less : (o : Ordering) → is_lt o ≡ true → o ≡ Less
 is_lt-Less Less e = refl
-is_lt-Less Equal e = cc
-is_lt-Less Greater e = cc
+is_lt-Less o e = cc
+
+pub is_gt-Greater : (o : Ordering) → is_gt o ≡ true → o ≡ Greater
+is_gt-Greater Greater e = refl
+is_gt-Greater o e = cc
+
+pub Greater-from_neither : (o : Ordering) → o ≢ Less → o ≢ Equal → o ≡ Greater
+Greater-from_neither Less h k = absurd (h refl)
+Greater-from_neither Equal h k = absurd (k refl)
+Greater-from_neither Greater h k = refl
+
+pub not_Equal : (o : Ordering) → is_eq o ≡ false → o ≢ Equal
+not_Equal o h e = false≢true (sym h ∙ ap is_eq e)
 
 -- a thing beside itself
 pub Equal-from_reverse : (o : Ordering) → o ≡ ordering_reverse o → o ≡ Equal

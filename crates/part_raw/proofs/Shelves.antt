@@ -1,5 +1,7 @@
 -- The tuples of a shelf, as its places and its counts change.
-use Rattle.std.proofs.Common.{◌≡◌, ℕ, ◌+◌, ◌*◌, ◌<◌, ◌≤◌, List, [], ◌∷◌, length, get_or, set, Option, Some, None, is_some, IsSome, refl, sym, ap, ◌∙◌, arith}
+use Rattle.std.proofs.Math.Nat.{eq-zero-or-pos}
+use Rattle.std.proofs.lemmas.List.{nil_from_length}
+use Rattle.std.proofs.Common.{◌≡◌, ℕ, ◌+◌, ◌*◌, ◌<◌, ◌≤◌, List, [], length, get_or, set, Option, Some, None, is_some, IsSome, sym, ap, ◌∙◌, arith, inl, inr}
 use Rattle.std.proofs.Math.ListN.{replicate}
 use Rattle.part_raw.specs.Store.{Tuple, tuple}
 use Rattle.part_raw.specs.Rows.{rows_in, put_run, clear_run, IsLaid}
@@ -27,11 +29,7 @@ module _ {T : Type 0} (width : ℕ) (places : List (Option T)) (counts : List �
 
   -- what has no slots has no places
   pub no_places : length shown ≡ 0 → places ≡ []
-  no_places none = nothing_there places (λ some. absurd (omega (arith, length-shown some, none)))
-    where
-      nothing_there : (l : List (Option T)) → (0 < length l → ⊥) → l ≡ []
-      nothing_there [] without = refl
-      nothing_there (x ∷ l) without = absurd (without (omega arith))
+  no_places none = elim (eq-zero-or-pos (length places)) [ inl e ↦ nil_from_length places e | inr some ↦ absurd (omega (arith, length-shown some, none)) ]
 
   -- a slot holds a tuple where it holds a row
   pub held_cells : (slot : ℕ) → IsSome (get_or shown slot None) → IsSome (get_or (rows_in width places) slot None)

@@ -3,13 +3,13 @@ use Rattle.std.specs.declared.cmp.Ordering.TheVariants.{Equal}
 use Rattle.std.specs.Result.{is_ok}
 use Rattle.std.proofs.lemmas.List.{length_push}
 use Rattle.std.proofs.lemmas.List.Elements.{All-push}
-use Rattle.common_lemmas.proofs.Orders.{is_eq-Equal}
+use Rattle.common_lemmas.proofs.Orders.{is_eq-Equal, not_Equal}
 use Rattle.part_raw.specs.declared.tuple_ref.TupleRef.{TupleRef}
 use Rattle.ttree_node.specs.Walk.{rest_of}
 use Rattle.mm_index.specs.Range.{in_range}
 use Rattle.mm_index.proofs.Asked.{IsOnlyAsked-trans, IsOnlyAsked-once, counted-le}
 use Rattle.ttree.specs.Held.{items_of_tree}
-use Rattle.ttree.proofs.Ranges.{All-left, in_range_before, in_range_all, not_Equal}
+use Rattle.ttree.proofs.Ranges.{All-left, in_range_before, in_range_all}
 use Rattle.ttree.proofs.tree.TTree.range.Given.{Over}
 use Rattle.ttree.proofs.tree.TTree.range.Goals as goal
 use Rattle.ttree.proofs.tree.TTree.range.Goals.{In-None, Then-not-is_eq}
