@@ -80,23 +80,23 @@ pub locate_to_edit-requires : goal.locate_to_edit-requires
 locate_to_edit-requires g c =
     let d = (goal.at.locate_to_edit-requires g c).After-edit-editor in (
       lit< tt,
-  (
-    (top g d),
-    (
-      sym c.has_node.ensures ∙ c.if-not-has_node.false,
       (
-        subst (λ (t : Tree (Label TupleRef)). HasItemsInEach g.row.MAX t) (seen g d) (items_in_each g.row.MIN g.row.MAX (tree_of c.args.nodes.now) c.requires.fit),
+        (top g d),
         (
-          c.requires.sound,
+          sym c.has_node.ensures ∙ c.if-not-has_node.false,
           (
-            subst (λ (t : Tree (Label TupleRef)). All (g.P.Probe.can_place c.args.probe.now) (list t)) (seen g d) c.requires.placed,
-            subst (λ (t : Tree (Label TupleRef)). NeverFalls (g.P.Probe.place c.args.probe.now) (list t)) (seen g d) c.requires.in_order,
+            subst (λ (t : Tree (Label TupleRef)). HasItemsInEach g.row.MAX t) (seen g d) (items_in_each g.row.MIN g.row.MAX (tree_of c.args.nodes.now) c.requires.fit),
+            (
+              c.requires.sound,
+              (
+                subst (λ (t : Tree (Label TupleRef)). All (g.P.Probe.can_place c.args.probe.now) (list t)) (seen g d) c.requires.placed,
+                subst (λ (t : Tree (Label TupleRef)). NeverFalls (g.P.Probe.place c.args.probe.now) (list t)) (seen g d) c.requires.in_order,
+              ),
+            ),
           ),
         ),
       ),
-    ),
-  ),
-)
+    )
 
 pub returns-in-Ok-clause-held : goal.returns-in-Ok-clause-held
 returns-in-Ok-clause-held g c =
