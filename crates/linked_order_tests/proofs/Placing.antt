@@ -1,7 +1,7 @@
 -- The place of one rank along a list that rises by the ranks.
 use Rattle.std.proofs.Common.{◌≡◌, ◌≢◌, ◌≤◌, ℕ, List, Option, Some, None, IsSome, is_some, refl, sym, ap, ◌∙◌, arith, IfSome, IfNone}
 use Rattle.std.specs.List.{All, Contains}
-use Rattle.std.specs.Option.{option_cmp, option_and_then}
+use Rattle.std.specs.Option.{option_cmp}
 use Rattle.std.specs.Ordering.{ordering_index}
 use Rattle.std.specs.declared.cmp.Ordering.{Ordering}
 use Rattle.std.specs.declared.cmp.Ordering.TheVariants.{Less, Equal, Greater}
