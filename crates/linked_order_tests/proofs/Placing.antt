@@ -1,12 +1,13 @@
 -- The place of one rank along a list that rises by the ranks.
 use Rattle.std.proofs.Common.{◌≡◌, ◌≢◌, ◌≤◌, ℕ, List, Option, Some, None, IsSome, is_some, refl, sym, ap, ◌∙◌, arith, IfSome, IfNone}
 use Rattle.std.specs.List.{All, Contains}
-use Rattle.std.specs.Option.{option_cmp, option_and_then}
+use Rattle.std.specs.Option.{option_cmp}
 use Rattle.std.specs.Ordering.{ordering_index}
 use Rattle.std.specs.declared.cmp.Ordering.{Ordering}
 use Rattle.std.specs.declared.cmp.Ordering.TheVariants.{Less, Equal, Greater}
 use Rattle.std.proofs.lemmas.List.Elements.{All-contains}
 use Rattle.std.specs.FinMap.{get}
+use Rattle.common_lemmas.proofs.Options.{some_from_then}
 use Rattle.common_lemmas.proofs.Orders.{ordering_index_within, Equal-from_reverse}
 use Rattle.part_raw.specs.declared.tuple_ref.TupleRef.{TupleRef}
 use Rattle.part_raw.specs.Store.{Tuple, Tuples}
@@ -44,10 +45,6 @@ rank_itself x = Equal-from_reverse (cmp x x) (ranks_total.antisymm x x)
 pub rank_found : (rank : TupleRef → Option (ℕ × ℕ)) (o : Option TupleRef) (sought : Option (ℕ × ℕ)) → IfSome o (λ r. cmp (rank r) sought ≡ Equal) → IfSome o (λ r. rank r ≡ sought)
 rank_found rank (Some r) sought h = rank_exact (rank r) sought h
 rank_found rank None sought h = tt
-
-some_from_then : {A B : Type 0} (f : A → Option B) (o : Option A) → IsSome (option_and_then f o) → IsSome o
-some_from_then f None h = h
-some_from_then f (Some x) h = refl
 
 -- what has a rank is held
 pub held_from_rank : (authors : Tuples (Tuple Author)) (books : Tuples (Tuple Book)) (r : TupleRef) → IsSome (rank_at authors books r) → IsSome (get books r)

@@ -1,9 +1,11 @@
 -- The binary search for the first element that does not stand below.
-use Rattle.std.proofs.Common.{◌≡◌, ◌≢◌, ℕ, ◌+◌, ◌<◌, ◌≤◌, true, false, List, length, get_or, refl, arith, Ordering}
+use Rattle.std.proofs.Common.{◌≡◌, ◌≢◌, ℕ, ◌+◌, ◌<◌, ◌≤◌, true, false, List, length, get_or, sym, ap, ◌∙◌, arith, Ordering}
 use Rattle.std.specs.List.{AllWithin}
 use Rattle.std.specs.declared.cmp.Ordering.TheVariants.{Less, Equal, Greater}
 use Rattle.std.specs.Ordering.{ordering_index, is_lt, is_eq}
+use Rattle.std.proofs.lemmas.Bool.{false≢true}
 use Rattle.std.proofs.lemmas.List.{get_or_default}
+use Rattle.common_lemmas.proofs.Orders.{is_lt-Less, Greater-from_neither, not_Equal, Less-below, Greater-above}
 use Rattle.mm_index.specs.Range.{NeverFalls}
 
 -- what stands before low is below, and what stands from high on is not
@@ -15,18 +17,10 @@ pub record IsHalved {A : Type 0} (place : A → Ordering) (xs : List A) (low hig
 
 -- a place below, and one that is not
 as_low : (o p : Ordering) → is_lt p ≡ true → ordering_index o ≤ ordering_index p → o ≡ Less
-as_low Less p e h = refl
-as_low o Equal e h = cc
-as_low o Greater e h = cc
-as_low Equal Less e h = absurd (omega arith)
-as_low Greater Less e h = absurd (omega arith)
+as_low o p e h = Less-below o p (is_lt-Less p e) h
 
 not_low : (o p : Ordering) → is_lt p ≡ false → ordering_index p ≤ ordering_index o → o ≢ Less
-not_low o Less e h = λ _. cc
-not_low Less Equal e h = absurd (omega arith)
-not_low Less Greater e h = absurd (omega arith)
-not_low Equal p e h = λ f. cc
-not_low Greater p e h = λ f. cc
+not_low o p e h low = false≢true (sym e ∙ ap is_lt (Less-below p o low h))
 
 module _ {A : Type 0} (place : A → Ordering) (xs : List A) (in_order : NeverFalls place xs) (low high middle : ℕ) (halved : IsHalved place xs low high) (from : low ≤ middle) (upto : middle < high) where
   within : middle < length xs
@@ -57,17 +51,10 @@ pub record IsPassed {A : Type 0} (place : A → Ordering) (xs : List A) (first e
   pub within : end ≤ length xs
   pub equal : AllWithin (λ r. place r ≡ Equal) xs first end
 
-Greater-above : (o p : Ordering) → p ≢ Less → is_eq p ≡ false → ordering_index p ≤ ordering_index o → o ≡ Greater
-Greater-above o Less h e l = absurd (h refl)
-Greater-above o Equal h e l = cc
-Greater-above Less Greater h e l = absurd (omega arith)
-Greater-above Equal Greater h e l = absurd (omega arith)
-Greater-above Greater Greater h e l = refl
-
 module _ {A : Type 0} (place : A → Ordering) (xs : List A) (first end : ℕ) (passed : IsPassed place xs first end) (c : A) where
   -- the rest stands above
   pub above_passed : NeverFalls place xs → AllWithin (λ r. place r ≢ Less) xs first (length xs) → is_eq (place (get_or xs end c)) ≡ false → AllWithin (λ r. place r ≡ Greater) xs end (length xs)
   above_passed in_order not_below e = λ k d l m.
       let inside : end < length xs = omega arith in
-      Greater-above (place (get_or xs k d)) (place (get_or xs end d)) (not_below end d passed.from_first inside)
-      (rw (get_or_default xs end d c inside) e) (in_order end k d l m)
+      Greater-above (place (get_or xs k d)) (place (get_or xs end d))
+      (Greater-from_neither (place (get_or xs end d)) (not_below end d passed.from_first inside) (not_Equal _ (rw (get_or_default xs end d c inside) e))) (in_order end k d l m)

@@ -53,9 +53,8 @@ NeverFalls-from_rising cmp place xs monotone rising = λ i j d l m.
     ]
 
 not_lt-gt : (o : Ordering) → o ≢ Equal → is_gt o ≡ not (is_lt o)
-not_lt-gt Less h = refl
 not_lt-gt Equal h = absurd (h refl)
-not_lt-gt Greater h = refl
+not_lt-gt o h = refl
 
 -- where nothing stands at its place, r is one more
 pub IsSameBag-insert_placed : {A : Type 0} (place : A → Ordering) (r : A) (xs : List A) → All (λ q. place q ≢ Equal) xs → IsSameBag (insert_placed place r xs) (r ∷ xs)
@@ -68,9 +67,7 @@ IsSameBag-insert_placed {A} place r xs none =
     (IsSameBag-cons r (rw rest (IsSameBag-filter_both low xs)))
 
 test_fails : (o : Ordering) → o ≡ Equal → not (is_eq o) ≡ true → ⊥
-test_fails Less e h = cc
-test_fails Equal e h = true≢false (sym h)
-test_fails Greater e h = cc
+test_fails o e h = true≢false (sym h ∙ ap (λ p. not (is_eq p)) e)
 
 module _ {A : Type 0} (covers : A → Type 0) (cmp : A → A → Ordering) (order : IsStrictOver covers cmp) (r : A) (r_covered : covers r) (xs : List A) (covered : All covers xs) where
   -- what was there is there after an insert

@@ -1,5 +1,5 @@
 -- A list that rises by a strict order: where an element stands, and what `insert_by` and `remove_by` make of it.
-use Rattle.std.proofs.Common.{◌≡◌, ◌≢◌, ℕ, ◌+◌, ◌<◌, Bool, true, false, not, List, ◌∷◌, ◌++◌, length, get_or, take, drop, refl, sym, ap, ◌∙◌, arith, subst, inl, inr, Ordering, add-one}
+use Rattle.std.proofs.Common.{◌≡◌, ◌≢◌, ℕ, ◌+◌, ◌<◌, Bool, false, not, List, ◌∷◌, ◌++◌, length, get_or, take, drop, refl, sym, ap, ◌∙◌, arith, subst, inl, inr, Ordering, add-one}
 use Rattle.std.specs.List.{filter, All, AllWithin, Contains, insert, remove}
 use Rattle.std.specs.declared.cmp.Ordering.TheVariants.{Less, Equal, Greater}
 use Rattle.std.specs.Ordering.{is_lt, is_gt, is_eq, ordering_reverse}
@@ -7,21 +7,11 @@ use Rattle.std.proofs.lemmas.List.{get_or_default, take-append-drop, drop_more}
 use Rattle.std.proofs.lemmas.List.Elements.{All-filter, All-cons, Contains-get_or, filter_passes, filter-append}
 use Rattle.std.proofs.lemmas.List.Kept.{AllPairs-cons, AllPairs-filter}
 use Rattle.std.proofs.lemmas.Bool.{cases_order}
-use Rattle.common_lemmas.proofs.Orders.{is_lt-Less, Equal-from_reverse}
+use Rattle.common_lemmas.proofs.Orders.{is_lt-Less, is_gt-Greater, Greater-from_neither, Equal-from_reverse}
 use Rattle.mm_index.specs.Order.{IsStrictOver, IsRising, insert_placed, insert_by, remove_by}
 use Rattle.common_lemmas.proofs.Filters.{filter_first, filter_second, filter_all, filter_agree_on}
 use Rattle.common_lemmas.proofs.Elements.{All-take_within, All-drop_within}
 use Rattle.common_lemmas.proofs.Pairs.{AllPairs-append}
-
-pub Greater-from_neither : (o : Ordering) → o ≢ Less → o ≢ Equal → o ≡ Greater
-Greater-from_neither Less h k = absurd (h refl)
-Greater-from_neither Equal h k = absurd (k refl)
-Greater-from_neither Greater h k = refl
-
-is_Greater : (o : Ordering) → is_gt o ≡ true → o ≡ Greater
-is_Greater Less e = cc
-is_Greater Equal e = cc
-is_Greater Greater e = refl
 
 -- r goes between what stands below its place and what stands above it
 pub insert_placed_split : {A : Type 0} (place : A → Ordering) (r : A) (bs cs : List A) → All (λ q. place q ≡ Less) bs → All (λ q. place q ≡ Greater) cs → insert_placed place r (bs ++ cs) ≡ bs ++ r ∷ cs
@@ -81,7 +71,7 @@ module _ {A : Type 0} (covers : A → Type 0) (cmp : A → A → Ordering) (orde
       let high : A → Bool = λ q. is_gt (cmp q r) in
       let above : All (R r) (filter high xs) = λ k d l.
       cmp_from_Greater (get_or (filter high xs) k d) r (All-filter high covers xs covered k d l) r_covered
-      (is_Greater _ (filter_passes high xs k d l))
+      (is_gt-Greater _ (filter_passes high xs k d l))
       in
       let before : All (λ b. All (R b) (r ∷ filter high xs)) (filter low xs) = λ k d l.
       let b : A = get_or (filter low xs) k d in

@@ -11,8 +11,7 @@ use Rattle.common_lemmas.proofs.Elements.{All-take_within}
 
 is_ge-not_Less : (o : Ordering) → o ≢ Less → is_ge o ≡ true
 is_ge-not_Less Less h = absurd (h refl)
-is_ge-not_Less Equal h = refl
-is_ge-not_Less Greater h = refl
+is_ge-not_Less o h = refl
 
 pub from_range_split : {A : Type 0} (place : A → Ordering) (bs cs : List A) → All (λ r. place r ≡ Less) bs → All (λ r. place r ≢ Less) cs → from_range place (bs ++ cs) ≡ cs
 from_range_split place bs cs below not_below =

@@ -12,14 +12,14 @@ use Rattle.part_raw.proofs.Bitmaps.{bits_of_last, told_of_last, HaveBitmaps-fron
 use Rattle.part_raw.proofs.Parts.{Blocks}
 use Rattle.part_raw.proofs.Stocked.{as_many, bits_here_at, told_here_at}
 
-module _ {T : Type 0} (counted : Bool) (width : ℕ) (blocks : List (List (Option T))) (counts : List (List ℕ)) (occupancies : List Occupancy) (free : ℕ) (first : Option ℕ)
+module _ {T : Type 0} {counted : Bool} {width : ℕ} {blocks : List (List (Option T))} {counts : List (List ℕ)} {occupancies : List Occupancy} {free : ℕ} {first : Option ℕ}
     (is : IsStocked counted width blocks counts occupancies free first) where
   -- each block's rows have their bitmap, whatever is counted
   pub row_bitmaps : HaveBitmaps (map (rows_in width) blocks) occupancies
   row_bitmaps = record {
-    as_many = as_many counted width blocks counts occupancies free first is ∙ sym (length-map blocks (rows_in width));
-    bits = λ part within. bits_here_at counted width blocks counts occupancies free first is part (omega (arith, within, length-map blocks (rows_in width)));
-    told = λ part within. told_here_at counted width blocks counts occupancies free first is part (omega (arith, within, length-map blocks (rows_in width)));
+    as_many = as_many is ∙ sym (length-map blocks (rows_in width));
+    bits = λ part within. bits_here_at is part (omega (arith, within, length-map blocks (rows_in width)));
+    told = λ part within. told_here_at is part (omega (arith, within, length-map blocks (rows_in width)));
   }
 
 module _ {T : Type 0} (width : ℕ) (blocks : List (List (Option T))) (block : List (Option T)) (occupancies : List Occupancy) (o : Occupancy)

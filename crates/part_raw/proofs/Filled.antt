@@ -20,27 +20,30 @@ use Rattle.part_raw.proofs.Bitmaps.{mapped-read}
 use Rattle.part_raw.proofs.Sound.{IsStore-refill, refilled_tuples, refilled_lengths}
 use Rattle.std.proofs.lemmas.Bool.{lt-ltb, true≢false}
 use Rattle.part_raw.proofs.Rows.{rows_in-none, slots_of-some}
-use Rattle.part_raw.proofs.Stocked.{default_read, read_here, told_here_at}
+use Rattle.part_raw.proofs.Stocked.{default_read, read_here, told_here_at, as_many}
 use Rattle.part_raw.proofs.Tables.{Changes, open_within, open_has_slot, open_has_places, slots-changed, laid-set, length-tables, fresh-put, put_full, put_open, rows-put, table-pushed, rows-pushed, IsTable-empty}
 
 -- ---- a free slot of the first partition that has one is filled
 
-module _ {T : Type 0} (counted : Bool) (width : ℕ) (blocks : List (List (Option T))) (counts : List (List ℕ)) (occupancies : List Occupancy) (free part : ℕ)
+module _ {T : Type 0} {counted : Bool} {width : ℕ} {blocks : List (List (Option T))} {counts : List (List ℕ)} {occupancies : List Occupancy} {free part : ℕ}
     (is : IsStocked counted width blocks counts occupancies free (Some part)) where
   pub first_within : part < length blocks
   first_within = omega (arith, open_within width (shelves_of blocks counts) occupancies free part is.table, length-shelves_of blocks counts)
 
-  pub first_has_slot : (block : List (Option T)) → block ≡ get_or blocks part block → 0 < vacancies (rows_in width block)
-  first_has_slot block read =
-      omega (arith, vacancies-shown width block (get_or counts part []), open_has_slot width (shelves_of blocks counts) occupancies free part is.table (shelf block (get_or counts part [])) (read_here counted width blocks counts occupancies free (Some part) is part block first_within read))
+  pub first_has_slot : {block : List (Option T)} → block ≡ get_or blocks part block → 0 < vacancies (rows_in width block)
+  first_has_slot {block} read =
+      omega (arith, vacancies-shown width block (get_or counts part []), open_has_slot width (shelves_of blocks counts) occupancies free part is.table (shelf block (get_or counts part [])) (read_here is part block first_within read))
 
-  pub first_there : (block : List (Option T)) → block ≡ get_or blocks part block → 0 < length block
-  first_there block read =
-      open_has_places width (shelves_of blocks counts) occupancies free part is.table (shelf block (get_or counts part [])) (read_here counted width blocks counts occupancies free (Some part) is part block first_within read)
+  pub first_there : {block : List (Option T)} → block ≡ get_or blocks part block → 0 < length block
+  first_there {block} read =
+      open_has_places width (shelves_of blocks counts) occupancies free part is.table (shelf block (get_or counts part [])) (read_here is part block first_within read)
 
-  module _ (block new : List (Option T)) (o o' : Occupancy) (slot : ℕ) (cells : List T) (counts' : List (List ℕ)) (wide : length cells ≡ width) (read : block ≡ get_or blocks part block) (read_bits : o ≡ get_or occupancies part o) (same_block : o'.has_block ≡ o.has_block)
-      (laid : IsLaid (length cells) new) (bits : IsPartition o'.held.words (rows_in (length cells) new)) (in_range : slot < 256) (fresh : get_or (rows_in (length cells) block) slot None ≡ None)
+  module _ {block new : List (Option T)} {o : Occupancy} {words : List ℕ} {slot : ℕ} (cells : List T) {counts' : List (List ℕ)} (wide : length cells ≡ width) (read : block ≡ get_or blocks part block) (read_bits : o ≡ get_or occupancies part o)
+      (laid : IsLaid (length cells) new) (bits : IsPartition words (rows_in (length cells) new)) (in_range : slot < 256) (fresh : get_or (rows_in (length cells) block) slot None ≡ None)
       (slots : rows_in (length cells) new ≡ set (rows_in (length cells) block) slot (Some cells)) (set_is : counts' ≡ set counts part (set (get_or counts part []) slot 0)) where
+    abbrev filled : Occupancy
+    filled = record { held = record { words = words }; next_open = o.next_open; has_block = o.has_block }
+
     abbrev shelves : List (Shelf T)
     shelves = shelves_of blocks counts
 
@@ -50,17 +53,17 @@ module _ {T : Type 0} (counted : Bool) (width : ℕ) (blocks : List (List (Optio
     abbrev is_here : Shelf T
     is_here = shelf new (set (get_or counts part []) slot 0)
 
-    filling : Changes width shelves occupancies was_here is_here o o' part slot (Some (tuple cells 0))
+    filling : Changes width shelves occupancies was_here is_here o filled part slot (Some (tuple cells 0))
     filling = record {
       within = omega (arith, first_within, length-shelves_of blocks counts);
-      read = read_here counted width blocks counts occupancies free (Some part) is part block first_within read;
+      read = read_here is part block first_within read;
       read_bits = read_bits;
       laid = subst (λ (n : ℕ). IsLaid n new) wide laid;
-      bits = bits-shown width new (set (get_or counts part []) slot 0) o'.held.words (subst (λ (n : ℕ). IsPartition o'.held.words (rows_in n new)) wide bits);
+      bits = bits-shown width new (set (get_or counts part []) slot 0) words (subst (λ (n : ℕ). IsPartition words (rows_in n new)) wide bits);
       in_range = in_range;
       slots = shown-put width block (get_or counts part []) new slot cells (subst (λ (n : ℕ). rows_in n new ≡ set (rows_in n block) slot (Some cells)) wide slots);
-      some = first_there block read;
-      same_block = same_block;
+      some = first_there read;
+      same_block = refl;
     }
 
     was_free : get_or (tuples_in width was_here) slot None ≡ None
@@ -76,49 +79,51 @@ module _ {T : Type 0} (counted : Bool) (width : ℕ) (blocks : List (List (Optio
       beside = ap length set_is ∙ length-set counts part (set (get_or counts part []) slot 0) ∙ is.beside ∙ ap (λ (n : ℕ). if counted then n else 0) (sym (length-set blocks part new));
       own = subst (λ (c : List (List ℕ)). HaveCounts (set blocks part new) c) (sym set_is)
           (own-set blocks counts is.own part new (set (get_or counts part []) slot 0) first_within
-          (λ among. length-set (get_or counts part []) slot 0 ∙ is.own part among ∙ as_many_slots blocks part block new first_within read (first_there block read) laid.some));
+          (λ among. length-set (get_or counts part []) slot 0 ∙ is.own part among ∙ as_many_slots blocks part block new first_within read (first_there read) laid.some));
       table = subst (λ (s : List (Shelf T)). IsTable width s occupancies' free' first') (sym same_shelves) table;
     }
 
-    pub filled_full : 0 < free → ((slot : ℕ) → slot < 256 → is_set o'.held.words slot ≡ true) → IsStocked counted width (set blocks part new) counts' (set occupancies part o') (free - 1) o.next_open
+    pub filled_full : 0 < free → ((slot : ℕ) → slot < 256 → is_set words slot ≡ true) → IsStocked counted width (set blocks part new) counts' (set occupancies part filled) (free - 1) o.next_open
     filled_full some full =
-        stock (set occupancies part o') (free - 1) o.next_open (put_full width shelves occupancies was_here is_here o o' part slot free (tuple cells 0) is.table filling was_free some full)
+        stock (set occupancies part filled) (free - 1) o.next_open (put_full width shelves occupancies was_here is_here o filled part slot free (tuple cells 0) is.table filling was_free some full)
 
-    pub filled_open : 0 < free → (((slot : ℕ) → slot < 256 → is_set o'.held.words slot ≡ true) → ⊥) → o'.next_open ≡ o.next_open
-        → IsStocked counted width (set blocks part new) counts' (set occupancies part o') (free - 1) (Some part)
-    filled_open some still next =
-        stock (set occupancies part o') (free - 1) (Some part) (put_open width shelves occupancies was_here is_here o o' part slot free (tuple cells 0) is.table filling was_free some still next)
+    pub filled_open : 0 < free → (((slot : ℕ) → slot < 256 → is_set words slot ≡ true) → ⊥) → IsStocked counted width (set blocks part new) counts' (set occupancies part filled) (free - 1) (Some part)
+    filled_open some still =
+        stock (set occupancies part filled) (free - 1) (Some part) (put_open width shelves occupancies was_here is_here o filled part slot free (tuple cells 0) is.table filling was_free some still refl)
 
     pub filled_slots : sum_by length (tables width (shelves_of (set blocks part new) counts')) ≡ sum_by length (tables width shelves)
     filled_slots = ap (λ (s : List (Shelf T)). sum_by length (tables width s)) same_shelves ∙ slots-changed width shelves was_here is_here part slot (Some (tuple cells 0)) filling.within filling.read filling.slots
 
     pub filled_fresh : get (tuples_of (tables width shelves)) (ref_to part slot) ≡ None
-    filled_fresh = fresh-put width shelves occupancies was_here is_here o o' part slot (tuple cells 0) filling was_free
+    filled_fresh = fresh-put width shelves occupancies was_here is_here o filled part slot (tuple cells 0) filling was_free
 
     pub filled_tuples : tuples_of (tables width (shelves_of (set blocks part new) counts')) ≡ insert (tuples_of (tables width shelves)) (ref_to part slot) (tuple cells 0)
     filled_tuples =
         ap (λ (s : List (Shelf T)). tuples_of (tables width s)) same_shelves
-        ∙ rows-put width shelves occupancies was_here is_here o o' part slot (tuple cells 0) filling
+        ∙ rows-put width shelves occupancies was_here is_here o filled part slot (tuple cells 0) filling
 
 -- ---- a partition more
 
-module _ {T : Type 0} (counted : Bool) (width : ℕ) (blocks : List (List (Option T))) (counts : List (List ℕ)) (occupancies : List Occupancy) (first : Option ℕ)
-    (is : IsStocked counted width blocks counts occupancies 0 first) (new : List (Option T)) (next : Option (List ℕ)) (empty : new ≡ replicate (256 * width) None) (made : is_some next ≡ counted) (are_zeros : IfSome next (λ its. its ≡ zeros true)) where
+module _ {T : Type 0} {counted : Bool} {width : ℕ} {blocks : List (List (Option T))} {counts : List (List ℕ)} {occupancies : List Occupancy} {free : ℕ} {first : Option ℕ}
+    (stocked : IsStocked counted width blocks counts occupancies free first) (none_free : free ≡ 0) (new : List (Option T)) (next : Option (List ℕ)) (empty : new ≡ replicate (256 * width) None) (made : is_some next ≡ counted) (are_zeros : IfSome next (λ its. its ≡ zeros true)) where
+  before_push : IsStocked counted width blocks counts occupancies 0 first
+  before_push = subst (λ (n : ℕ). IsStocked counted width blocks counts occupancies n first) none_free stocked
+
   abbrev pushed : List (Shelf T)
   pushed = shelves_of blocks counts ++ shelf new (get_or (counts ++ option_to_list next) (length blocks) []) ∷ []
 
   same_pushed : shelves_of (blocks ++ new ∷ []) (counts ++ option_to_list next) ≡ pushed
   same_pushed =
       shelves_of-push blocks (counts ++ option_to_list next) new
-      ∙ ap (λ (s : List (Shelf T)). s ++ shelf new (get_or (counts ++ option_to_list next) (length blocks) []) ∷ []) (shelves_of-grown counted blocks counts next is.beside made)
+      ∙ ap (λ (s : List (Shelf T)). s ++ shelf new (get_or (counts ++ option_to_list next) (length blocks) []) ∷ []) (shelves_of-grown counted blocks counts next before_push.beside made)
 
   pub pushed_stocked : (o : Occupancy) (part : ℕ) → ((slot : ℕ) → slot < 256 → is_set o.held.words slot ≡ false) → o.has_block ≡ true → o.next_open ≡ first → part ≡ length blocks
       → length blocks < 2 ^ 24 → IsStocked counted width (blocks ++ new ∷ []) (counts ++ option_to_list next) (occupancies ++ o ∷ []) 256 (Some part)
   pushed_stocked o part clear block next_is at room = record {
-    beside = grown counted next is.beside made;
-    own = grown_own counted next is.beside made are_zeros;
+    beside = grown counted next before_push.beside made;
+    own = grown_own counted next before_push.beside made are_zeros;
     table = subst (λ (s : List (Shelf T)). IsTable width s (occupancies ++ o ∷ []) 256 (Some part)) (sym same_pushed)
-        (table-pushed width (shelves_of blocks counts) occupancies (shelf new (get_or (counts ++ option_to_list next) (length blocks) [])) o first part is.table empty clear block next_is
+        (table-pushed width (shelves_of blocks counts) occupancies (shelf new (get_or (counts ++ option_to_list next) (length blocks) [])) o first part before_push.table empty clear block next_is
         (at ∙ sym (length-shelves_of blocks counts)) (omega (arith, room, length-shelves_of blocks counts)));
   }
     where
@@ -129,10 +134,10 @@ module _ {T : Type 0} (counted : Bool) (width : ℕ) (blocks : List (List (Optio
       grown false None beside made = let none : List (List ℕ) = [] in omega (arith, beside, length-append counts none)
 
       some : 0 < length new
-      some = (shown-empty width new [] is.table.wide empty).0.some
+      some = (shown-empty width new [] before_push.table.wide empty).0.some
 
       grown_own : (b : Bool) (n : Option (List ℕ)) → length counts ≡ (if b then length blocks else 0) → is_some n ≡ b → IfSome n (λ its. its ≡ zeros true) → HaveCounts (blocks ++ new ∷ []) (counts ++ option_to_list n)
-      grown_own true (Some its) beside made e = own-push blocks counts is.own new its beside (ap length e ∙ length-replicate {A = ℕ} 256 0 ∙ sym (slots_of-some new some))
+      grown_own true (Some its) beside made e = own-push blocks counts before_push.own new its beside (ap length e ∙ length-replicate {A = ℕ} 256 0 ∙ sym (slots_of-some new some))
       grown_own true None beside made e = absurd (cc)
       grown_own false (Some its) beside made e = absurd (cc)
       grown_own false None beside made e = λ part below. let none : List (List ℕ) = [] in absurd (omega (arith, below, beside, length-append counts none))
@@ -140,29 +145,35 @@ module _ {T : Type 0} (counted : Bool) (width : ℕ) (blocks : List (List (Optio
   pub pushed_tuples : tuples_of (tables width (shelves_of (blocks ++ new ∷ []) (counts ++ option_to_list next))) ≡ tuples_of (tables width (shelves_of blocks counts))
   pushed_tuples =
       ap (λ (s : List (Shelf T)). tuples_of (tables width s)) same_pushed
-      ∙ rows-pushed width (shelves_of blocks counts) (shelves_of blocks counts) pushed (shelf new (get_or (counts ++ option_to_list next) (length blocks) [])) is.table.wide refl refl empty
+      ∙ rows-pushed width (shelves_of blocks counts) (shelves_of blocks counts) pushed (shelf new (get_or (counts ++ option_to_list next) (length blocks) [])) before_push.table.wide refl refl empty
 
   pub pushed_slots : sum_by length (tables width (shelves_of (blocks ++ new ∷ []) (counts ++ option_to_list next))) ≡ sum_by length (tables width (shelves_of blocks counts)) + 256
   pushed_slots =
       let it = shelf new (get_or (counts ++ option_to_list next) (length blocks) []) in
-      let both = shown-empty width new (get_or (counts ++ option_to_list next) (length blocks) []) is.table.wide empty in
+      let both = shown-empty width new (get_or (counts ++ option_to_list next) (length blocks) []) before_push.table.wide empty in
       ap (λ (s : List (Shelf T)). sum_by length (tables width s)) same_pushed ∙ ap (sum_by length) (map-append (tuples_in width) (shelves_of blocks counts) (it ∷ []))
       ∙ omega (arith, sum_by-append length (tables width (shelves_of blocks counts)) (tuples_in width it ∷ []), sum_by-cons length (tuples_in width it) [], both.1.count)
 
 -- ---- a partition that gave its block back gets one again
 
 -- it has no places
-pub bare_block : {T : Type 0} (counted : Bool) (width : ℕ) (blocks : List (List (Option T))) (counts : List (List ℕ)) (occupancies : List Occupancy) (free : ℕ) (first : Option ℕ) → IsStocked counted width blocks counts occupancies free first
+pub bare_block : {T : Type 0} {counted : Bool} {width : ℕ} {blocks : List (List (Option T))} {counts : List (List ℕ)} {occupancies : List Occupancy} {free : ℕ} {first : Option ℕ} → IsStocked counted width blocks counts occupancies free first
     → (part : ℕ) → part < length blocks → has_block_at occupancies part ≡ false → get_or blocks part [] ≡ []
-bare_block counted width blocks counts occupancies free first is part within bare =
+bare_block {width = width} {blocks = blocks} is part within bare =
     let block = get_or blocks part [] in
     let rows = mapped-read (rows_in width) blocks part block [] within (default_read blocks part within) in
-    let told = told_here_at counted width blocks counts occupancies free first is part within in
+    let told = told_here_at is part within in
     rows_in-none width block (λ some. true≢false (sym (lt-ltb 0 (length (rows_in width block)) some) ∙ ap (λ l. nat_lt 0 (length l)) (sym rows) ∙ sym told ∙ bare))
 
-module _ {T : Type 0} (counted : Bool) (width : ℕ) (blocks : List (List (Option T))) (counts : List (List ℕ)) (occupancies : List Occupancy) (first : Option ℕ)
-    (is : IsStocked counted width blocks counts occupancies 0 first) (part : ℕ) (new : List (Option T)) (o o' : Occupancy) (within : part < length blocks) (read : o ≡ get_or occupancies part o) (bare : o.has_block ≡ false)
+module _ {T : Type 0} {counted : Bool} {width : ℕ} {blocks : List (List (Option T))} {counts : List (List ℕ)} {occupancies : List Occupancy} {free : ℕ} {first : Option ℕ}
+    (stocked : IsStocked counted width blocks counts occupancies free first) (none_free : free ≡ 0) (part : ℕ) (new : List (Option T)) (o : Occupancy) (within : part < length blocks) (read : o ≡ get_or occupancies part o) (no_block : has_block_at occupancies part ≡ false)
     (empty : new ≡ replicate (256 * width) None) (own : List ℕ) (are_zeros : own ≡ zeros counted) where
+  before_refill : IsStocked counted width blocks counts occupancies 0 first
+  before_refill = subst (λ (n : ℕ). IsStocked counted width blocks counts occupancies n first) none_free stocked
+
+  bare : o.has_block ≡ false
+  bare = sym (mapped-read (λ (x : Occupancy). x.has_block) occupancies part o false (omega (arith, within, as_many stocked)) read) ∙ no_block
+
   abbrev its : Shelf T
   its = shelf new (get_or (set counts part own) part [])
 
@@ -173,7 +184,7 @@ module _ {T : Type 0} (counted : Bool) (width : ℕ) (blocks : List (List (Optio
   among = omega (arith, within, length-shelves_of blocks counts, length-tables width (shelves_of blocks counts))
 
   vacant : IsLaid width new × IsVacant shown
-  vacant = shown-empty width new (get_or (set counts part own) part []) is.table.wide empty
+  vacant = shown-empty width new (get_or (set counts part own) part []) before_refill.table.wide empty
 
   same_refilled : tables width (shelves_of (set blocks part new) (set counts part own)) ≡ set (tables width (shelves_of blocks counts)) part shown
   same_refilled = ap (tables width) (shelves_of-set_its blocks counts part new own) ∙ map-set (tuples_in width) (shelves_of blocks counts) part its
@@ -183,24 +194,24 @@ module _ {T : Type 0} (counted : Bool) (width : ℕ) (blocks : List (List (Optio
   as_many_zeros true beside e counted_here = ap length e ∙ length-replicate {A = ℕ} 256 0
   as_many_zeros false beside e counted_here = absurd (omega (arith, beside, counted_here))
 
-  pub refilled_stocked : o'.held.words ≡ o.held.words → o'.has_block ≡ true → o'.next_open ≡ first → IsStocked counted width (set blocks part new) (set counts part own) (set occupancies part o') 256 (Some part)
-  refilled_stocked words block next = record {
-    beside = length-set counts part own ∙ is.beside ∙ ap (λ (n : ℕ). if counted then n else 0) (sym (length-set blocks part new));
-    own = own-set blocks counts is.own part new own within (λ among. as_many_zeros counted is.beside are_zeros among ∙ sym (slots_of-some new vacant.0.some));
+  pub refilled_stocked : (o' : Occupancy) → o'.held.words ≡ o.held.words → o'.has_block ≡ true → o'.next_open ≡ first → IsStocked counted width (set blocks part new) (set counts part own) (set occupancies part o') 256 (Some part)
+  refilled_stocked o' words block next = record {
+    beside = length-set counts part own ∙ before_refill.beside ∙ ap (λ (n : ℕ). if counted then n else 0) (sym (length-set blocks part new));
+    own = own-set blocks counts before_refill.own part new own within (λ among. as_many_zeros counted before_refill.beside are_zeros among ∙ sym (slots_of-some new vacant.0.some));
     table = record {
-      wide = is.table.wide;
-      fits = is.table.fits;
-      laid = subst (λ (s : List (Shelf T)). AreLaid width s) (sym (shelves_of-set_its blocks counts part new own)) (laid-set width (shelves_of blocks counts) its part (omega (arith, within, length-shelves_of blocks counts)) (λ some. vacant.0) is.table.laid);
+      wide = before_refill.table.wide;
+      fits = before_refill.table.fits;
+      laid = subst (λ (s : List (Shelf T)). AreLaid width s) (sym (shelves_of-set_its blocks counts part new own)) (laid-set width (shelves_of blocks counts) its part (omega (arith, within, length-shelves_of blocks counts)) (λ some. vacant.0) before_refill.table.laid);
       store = subst (λ (t : List (List (Option (Tuple T)))). IsStore t (set occupancies part o') 256 (Some part)) (sym same_refilled)
-          (IsStore-refill (tables width (shelves_of blocks counts)) occupancies shown o o' first part is.table.store among read bare vacant.1 words block next);
+          (IsStore-refill (tables width (shelves_of blocks counts)) occupancies shown o first part before_refill.table.store among read bare vacant.1 o' words block next);
     };
   }
 
   pub refill_tuples : tuples_of (tables width (shelves_of (set blocks part new) (set counts part own))) ≡ tuples_of (tables width (shelves_of blocks counts))
-  refill_tuples = ap tuples_of same_refilled ∙ refilled_tuples (tables width (shelves_of blocks counts)) occupancies shown o o' first part is.table.store among read bare vacant.1
+  refill_tuples = ap tuples_of same_refilled ∙ refilled_tuples (tables width (shelves_of blocks counts)) occupancies shown o first part before_refill.table.store among read bare vacant.1
 
   pub refill_slots : sum_by length (tables width (shelves_of (set blocks part new) (set counts part own))) ≡ sum_by length (tables width (shelves_of blocks counts)) + 256
-  refill_slots = ap (sum_by length) same_refilled ∙ refilled_lengths (tables width (shelves_of blocks counts)) occupancies shown o o' first part is.table.store among read bare vacant.1
+  refill_slots = ap (sum_by length) same_refilled ∙ refilled_lengths (tables width (shelves_of blocks counts)) occupancies shown o first part before_refill.table.store among read bare vacant.1
 
 -- ---- a store with no partition
 

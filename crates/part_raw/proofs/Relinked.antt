@@ -1,6 +1,6 @@
 -- The list of the open partitions is made anew, from the last partition to the first.
 use Rattle.std.proofs.Common.{◌≡◌, ◌≢◌, ℕ, zero, suc, ◌+◌, ◌<◌, ◌≤◌, ◌↔◌, Bool, true, false, cond, List, [], map, length, get_or, take, Option, Some, refl, sym, ap, ◌∙◌, inl, inr, arith, subst, count_by, nat_lt}
-use Rattle.std.proofs.lemmas.Bool.{cases_eq, cases_lt, lt-ltb, le-ltb, ltb-true, true≢false}
+use Rattle.std.proofs.lemmas.Bool.{cases_eq, cases_lt, lt-ltb, le-ltb, ltb-true, ltb-false}
 use Rattle.std.proofs.Math.Seq.{take-length}
 use Rattle.std.proofs.lemmas.List.Sums.{count_by_more_yes, count_by_more_no}
 use Rattle.part_raw.specs.declared.store.Occupancy.{Occupancy}
@@ -66,19 +66,13 @@ module _ {T : Type 0} (blocks : Blocks T) where
   tells occupancies is part within =
       let at : part < length blocks = omega (arith, within, is.as_many) in
       let told = is.told part at in (
-        (λ bare. le-ltb 0 (vacancies (slots_at blocks part)) (let none = no_vacancy_of_none (slots_at blocks part) (none_of (length (slots_at blocks part)) (sym told ∙ bare)) in omega (arith, none))),
+        (λ bare. le-ltb 0 (vacancies (slots_at blocks part)) (let none = no_vacancy_of_none (slots_at blocks part) (omega (arith, ltb-false 0 (length (slots_at blocks part)) (sym told ∙ bare))) in omega (arith, none))),
         (λ there.
             let bits = partition_of _ _ (is.bits part at) (ltb-true 0 (length (slots_at blocks part)) (sym told ∙ there)) in (
-              (λ shut. bits_of_no_vacancy _ _ bits (none_of (vacancies (slots_at blocks part)) shut)),
+              (λ shut. bits_of_no_vacancy _ _ bits (omega (arith, ltb-false 0 (vacancies (slots_at blocks part)) shut))),
               (λ full. le-ltb 0 (vacancies (slots_at blocks part)) (let none = no_vacancy_of_bits _ _ bits full in omega (arith, none))),
             )),
       )
-    where
-      none_of : (n : ℕ) → nat_lt 0 n ≡ false → n ≡ 0
-      none_of n shut = elim (cases_lt 0 n) [
-        | inl some ↦ absurd (true≢false (sym (lt-ltb 0 n some) ∙ shut))
-        | inr none ↦ omega (arith, none)
-      ]
 
 -- the words of a bitmap that was read are those of the partition before any link was made anew
 pub words_read : (occupancies first : List Occupancy) (i : ℕ) (o : Occupancy) → i < length occupancies → o ≡ get_or occupancies i o

@@ -390,10 +390,6 @@ module _ {T : Type 0} where
   row_whole at count i places row within all row_is =
       ap row_of (sym (row_is ∙ take_all i (window at count places) (omega (arith, length-window at count places within, all)))) ∙ row_of-somes row
 
-  pub none_left : (row : List T) (n : ℕ) → n ≡ length row → n ≡ 0 → row ≡ []
-  none_left [] n e z = refl
-  none_left (x ∷ row) n e z = absurd (omega (arith, e, z))
-
   -- ---- the slots of a partition
 
   -- an empty slot's places are empty

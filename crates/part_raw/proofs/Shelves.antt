@@ -1,6 +1,7 @@
 -- The tuples of a shelf, as its places and its counts change.
-use Rattle.std.proofs.Common.{◌≡◌, ℕ, ◌+◌, ◌*◌, ◌<◌, ◌≤◌, List, [], ◌∷◌, length, get_or, set, Option, Some, None, is_some, IsSome, refl, sym, ap, ◌∙◌, inl, inr, arith}
-use Rattle.std.proofs.lemmas.Bool.{cases_eq}
+use Rattle.std.proofs.Math.Nat.{eq-zero-or-pos}
+use Rattle.std.proofs.lemmas.List.{nil_from_length}
+use Rattle.std.proofs.Common.{◌≡◌, ℕ, ◌+◌, ◌*◌, ◌<◌, ◌≤◌, List, [], length, get_or, set, Option, Some, None, is_some, IsSome, sym, ap, ◌∙◌, arith, inl, inr}
 use Rattle.std.proofs.Math.ListN.{replicate}
 use Rattle.part_raw.specs.Store.{Tuple, tuple}
 use Rattle.part_raw.specs.Rows.{rows_in, put_run, clear_run, IsLaid}
@@ -28,18 +29,7 @@ module _ {T : Type 0} (width : ℕ) (places : List (Option T)) (counts : List �
 
   -- what has no slots has no places
   pub no_places : length shown ≡ 0 → places ≡ []
-  no_places none = nothing_there places (λ some. absurd (omega (arith, length-shown some, none)))
-    where
-      nothing_there : (l : List (Option T)) → (0 < length l → ⊥) → l ≡ []
-      nothing_there [] without = refl
-      nothing_there (x ∷ l) without = absurd (without (omega arith))
-
-  -- a partition with no places has no slots
-  pub shown-none : length places ≡ 0 → length shown ≡ 0
-  shown-none none = elim (cases_eq (length shown) 0) [
-    | inl e ↦ e
-    | inr differs ↦ absurd (let some = shown-some (omega (arith, differs)) in omega (arith, some, none))
-  ]
+  no_places none = elim (eq-zero-or-pos (length places)) [ inl e ↦ nil_from_length places e | inr some ↦ absurd (omega (arith, length-shown some, none)) ]
 
   -- a slot holds a tuple where it holds a row
   pub held_cells : (slot : ℕ) → IsSome (get_or shown slot None) → IsSome (get_or (rows_in width places) slot None)
@@ -47,9 +37,6 @@ module _ {T : Type 0} (width : ℕ) (places : List (Option T)) (counts : List �
 
   pub cells_of : (slot : ℕ) (t : Tuple T) → get_or shown slot None ≡ Some t → (get_or (rows_in width places) slot None ≡ Some t.cells) × (get_or counts slot 0 ≡ t.count)
   cells_of slot t held = with_count-is _ _ t (sym (counted-get (rows_in width places) counts slot) ∙ held)
-
-  pub tuple_of_cells : (slot : ℕ) (cells : List T) → get_or (rows_in width places) slot None ≡ Some cells → get_or shown slot None ≡ Some (tuple cells (get_or counts slot 0))
-  tuple_of_cells slot cells held = counted-get (rows_in width places) counts slot ∙ ap (λ row. with_count row (get_or counts slot 0)) held
 
   pub free_cells : (slot : ℕ) → get_or shown slot None ≡ None → get_or (rows_in width places) slot None ≡ None
   free_cells slot free = row_free _ (get_or counts slot 0) (sym (counted-get (rows_in width places) counts slot) ∙ free)

@@ -1,4 +1,5 @@
 -- The slots of a partition: how many are free, and that the bitmap tells which hold a tuple.
+use Rattle.std.proofs.lemmas.Option.{none-some}
 use Rattle.std.proofs.Common.{◌≡◌, ℕ, zero, suc, ◌+◌, ◌<◌, ◌≤◌, Bool, true, false, cond, List, [], ◌∷◌, length, get_or, set, Option, Some, None, is_some, IsSome, refl, sym, ap, ◌∙◌, inl, inr, arith}
 use Rattle.std.proofs.lemmas.Bool.{cases_eq, cases_lt, true≢false}
 use Rattle.std.proofs.lemmas.List.{get_or-set_same, get_or-set_other, get_or_past, length-set}
@@ -34,10 +35,7 @@ module _ {T : Type 0} where
   pub all_vacant : (slots : List (Option T)) → ((slot : ℕ) → get_or slots slot None ≡ None) → vacancies slots ≡ length slots
   all_vacant [] empty = refl
   all_vacant (None ∷ rest) empty = omega (arith, sum_by-cons one_if_free None rest, all_vacant rest (λ slot. empty (suc slot)))
-  all_vacant (Some tuple ∷ rest) empty = absurd (some_is_not_none tuple (empty 0))
-    where
-      some_is_not_none : (tuple : T) → Some tuple ≡ None → ⊥
-      some_is_not_none tuple e = cc
+  all_vacant (Some tuple ∷ rest) empty = absurd (none-some tuple (sym (empty 0)))
 
   -- no more are free than there are
   pub vacancies_most : (slots : List (Option T)) → vacancies slots ≤ length slots

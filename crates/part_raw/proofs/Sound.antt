@@ -1,6 +1,6 @@
 -- A store stays a store: after a put, a take, a write and a new partition.
 use Rattle.std.proofs.Common.{◌≡◌, ◌≢◌, ℕ, zero, suc, ◌+◌, ◌-◌, ◌*◌, ◌^◌, ◌<◌, ◌≤◌, Bool, true, false, cond, List, [], ◌∷◌, ◌++◌, length, get_or, set, Option, Some, None, is_some, refl, sym, ap, ◌∙◌, inl, inr, arith, subst, count_by, sum_by, nat_lt}
-use Rattle.std.proofs.lemmas.Bool.{cases_eq, true≢false, ltb-true, lt-ltb, le-ltb}
+use Rattle.std.proofs.lemmas.Bool.{cases_eq, true≢false, ltb-true, lt-ltb, le-ltb, ltb-false}
 use Rattle.std.proofs.lemmas.List.{length-set, length_push, get_or-set_same, get_or-set_other, get_or_push, get_or_past, get_or_default}
 use Rattle.std.proofs.lemmas.List.Sums.{sum_by-cons, sum_by-append, sum_by-set}
 use Rattle.std.specs.FinMap.{len, len-empty}
@@ -39,13 +39,10 @@ module _ {T : Type 0} where
       omega (arith, sum_by-cons vacancies slots rest, later, here)
     where
       zero_of : (n : ℕ) → ◌≡◌ {A = ℕ} (cond (nat_lt 0 n) 1 0) 0 → n ≡ 0
-      zero_of n e =
-          elim (cases_eq n 0) [
-            | inl none ↦ none
-            | inr some ↦
-                let one : ◌≡◌ {A = ℕ} (cond (nat_lt 0 n) 1 0) 1 = ap (λ (b : Bool). cond b 1 0) (lt-ltb 0 n (omega arith)) in
-                absurd (omega (arith, e, one))
-          ]
+      zero_of n e = elim (nat_lt 0 n) as (λ b. nat_lt 0 n ≡ b → ◌≡◌ {A = ℕ} (cond b 1 0) 0 → n ≡ 0) [
+        | true ↦ λ _ one. absurd (omega (arith, one))
+        | false ↦ λ none _. omega (arith, ltb-false 0 n none)
+      ] refl e
 
   has_vacancy_yes : (slots : List (Option T)) → 0 < vacancies slots → has_vacancy slots ≡ true
   has_vacancy_yes slots some = lt-ltb 0 (vacancies slots) some
@@ -275,7 +272,7 @@ module _ {T : Type 0} where
       }
 
   -- a partition with no block gets one
-  module _ (blocks : Blocks T) (occupancies : List Occupancy) (new : List (Option T)) (o o' : Occupancy) (first : Option ℕ) (part : ℕ) (is : IsStore blocks occupancies 0 first) (within : part < length blocks)
+  module _ (blocks : Blocks T) (occupancies : List Occupancy) (new : List (Option T)) (o : Occupancy) (first : Option ℕ) (part : ℕ) (is : IsStore blocks occupancies 0 first) (within : part < length blocks)
       (read : o ≡ get_or occupancies part o) (bare : o.has_block ≡ false) (vacant : IsVacant new) where
     pub no_slots : length (slots_at blocks part) ≡ 0
     no_slots = elim (cases_eq (length (slots_at blocks part)) 0) [
@@ -297,8 +294,8 @@ module _ {T : Type 0} where
     clear : (slot : ℕ) → slot < 256 → is_set o.held.words slot ≡ false
     clear slot in_range = (bits_of blocks occupancies o part is.mapped within read).bits slot in_range ∙ ap is_some (was_vacant slot)
 
-    pub IsStore-refill : o'.held.words ≡ o.held.words → o'.has_block ≡ true → o'.next_open ≡ first → IsStore (set blocks part new) (set occupancies part o') 256 (Some part)
-    IsStore-refill words block next =
+    pub IsStore-refill : (o' : Occupancy) → o'.held.words ≡ o.held.words → o'.has_block ≡ true → o'.next_open ≡ first → IsStore (set blocks part new) (set occupancies part o') 256 (Some part)
+    IsStore-refill o' words block next =
         let free : vacancies new ≡ 256 = all_vacant new vacant.empty ∙ vacant.count in
         let was_free : vacancies (slots_at blocks part) ≡ 0 = no_vacancy_of_none (slots_at blocks part) no_slots in
         let opened = has_vacancy_yes new (omega (arith, free)) in

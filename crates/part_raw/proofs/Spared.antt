@@ -1,7 +1,7 @@
 -- The memory of the partitions that hold no tuple is given back.
 use Rattle.std.proofs.Common.{◌≡◌, ◌≢◌, ℕ, suc, ◌+◌, ◌-◌, ◌*◌, ◌<◌, ◌≤◌, Bool, true, false, List, [], ◌∷◌, ◌++◌, map, length, get_or, set, Option, None, is_some, IsSome, refl, sym, ap, ◌∙◌, inl, inr, arith, subst, sum_by}
 use Rattle.std.proofs.lemmas.Bool.{cases_eq, true≢false, lt-ltb, ltb-true}
-use Rattle.std.proofs.lemmas.List.{length_push, map-append, map-set, get_or_past}
+use Rattle.std.proofs.lemmas.List.{length-map, length_push, map-append, map-set, get_or_past}
 use Rattle.std.proofs.lemmas.List.Sums.{sum_by-cons, sum_by-append, sum_by-set}
 use Rattle.std.proofs.Math.ListN.{replicate}
 use Rattle.std.specs.FinMap.{get, len}
@@ -143,36 +143,43 @@ module _ {T : Type 0} (width : ℕ) (shelves : List (Shelf T)) (its : Shelf T) (
 
 -- ---- a store that gave back what is spare, and whose list was made anew
 
-module _ {T : Type 0} (width : ℕ) (blocks blocks' : List (Shelf T)) (occupancies occupancies' popped : List Occupancy) (free : ℕ) (first : Option ℕ)
-    (is : IsTable width blocks occupancies free first) (kept : AreKept width blocks' popped)
-    (tuples : tuples_of (tables width blocks') ≡ tuples_of (tables width blocks)) (fewer : length blocks' ≤ length blocks) (given : ℕ)
-    (freed : sum_by vacancies (tables width blocks') + given ≡ sum_by vacancies (tables width blocks)) (slots : sum_by length (tables width blocks') + given ≡ sum_by length (tables width blocks))
-    (words : map (λ (o : Occupancy). o.held.words) occupancies' ≡ map (λ (o : Occupancy). o.held.words) popped) (flags : map (λ (o : Occupancy). o.has_block) occupancies' ≡ map (λ (o : Occupancy). o.has_block) popped)
-    (as_many : length occupancies' ≡ length popped) where
+-- what was left of each partition, before the list was made anew and after
+pub record IsReleased {T : Type 0} (width : ℕ) (blocks blocks' : List (Shelf T)) (occupancies occupancies' popped : List Occupancy) (free : ℕ) (first : Option ℕ) (given : ℕ) : Type 0 where
+  pub is : IsTable width blocks occupancies free first
+  pub kept : AreKept width blocks' popped
+  pub tuples : tuples_of (tables width blocks') ≡ tuples_of (tables width blocks)
+  pub fewer : length blocks' ≤ length blocks
+  pub freed : sum_by vacancies (tables width blocks') + given ≡ sum_by vacancies (tables width blocks)
+  pub slots : sum_by length (tables width blocks') + given ≡ sum_by length (tables width blocks)
+  pub words : map (λ (o : Occupancy). o.held.words) occupancies' ≡ map (λ (o : Occupancy). o.held.words) popped
+  pub flags : map (λ (o : Occupancy). o.has_block) occupancies' ≡ map (λ (o : Occupancy). o.has_block) popped
+  pub held : (part : ℕ) → part < length popped → HoldsWhereBlock popped part
+
+module _ {T : Type 0} {width : ℕ} {blocks blocks' : List (Shelf T)} {occupancies occupancies' popped : List Occupancy} {free : ℕ} {first : Option ℕ} {given : ℕ} (r : IsReleased width blocks blocks' occupancies occupancies' popped free first given) where
   bitmaps_kept : HaveBitmaps (tables width blocks') occupancies'
   bitmaps_kept = record {
-    as_many = as_many ∙ kept.mapped.as_many;
-    bits = λ part within. subst (λ (w : List ℕ). IsPlace w (slots_at (tables width blocks') part)) (sym (ap (λ (l : List (List ℕ)). get_or l part []) words)) (kept.mapped.bits part within);
-    told = λ part within. ap (λ (l : List Bool). get_or l part false) flags ∙ kept.mapped.told part within;
+    as_many = sym (length-map occupancies' (λ (o : Occupancy). o.held.words)) ∙ ap length r.words ∙ length-map popped (λ (o : Occupancy). o.held.words) ∙ r.kept.mapped.as_many;
+    bits = λ part within. subst (λ (w : List ℕ). IsPlace w (slots_at (tables width blocks') part)) (sym (ap (λ (l : List (List ℕ)). get_or l part []) r.words)) (r.kept.mapped.bits part within);
+    told = λ part within. ap (λ (l : List Bool). get_or l part false) r.flags ∙ r.kept.mapped.told part within;
   }
 
   pub slots_left : sum_by vacancies (tables width blocks') + len (tuples_of (tables width blocks)) ≡ sum_by length (tables width blocks')
-  slots_left = omega (arith, freed, slots, is.store.total, is.store.counted)
+  slots_left = omega (arith, r.freed, r.slots, r.is.store.total, r.is.store.counted)
 
   pub IsTable-relinked : (free' : ℕ) (first' : Option ℕ) → free' ≡ sum_by length (tables width blocks') - len (tuples_of (tables width blocks))
       → IsOpenList (open_at (tables width blocks')) (next_at occupancies') (below (open_at (tables width blocks')) (length popped)) first' → IsTable width blocks' occupancies' free' first'
   IsTable-relinked free' first' e linked = record {
-    wide = is.wide;
-    fits = is.fits;
-    laid = kept.laid;
+    wide = r.is.wide;
+    fits = r.is.fits;
+    laid = r.kept.laid;
     store = record {
       mapped = bitmaps_kept;
       counted = omega (arith, e, slots_left);
-      total = omega (arith, e, slots_left, ap len tuples);
+      total = omega (arith, e, slots_left, ap len r.tuples);
       open_count = below (open_at (tables width blocks')) (length popped);
-      all_open = ap (below (open_at (tables width blocks'))) kept.mapped.as_many ∙ below-all (tables width blocks');
+      all_open = ap (below (open_at (tables width blocks'))) r.kept.mapped.as_many ∙ below-all (tables width blocks');
       linked = linked;
-      numbered = omega (arith, is.store.numbered, fewer, length-tables width blocks, length-tables width blocks');
+      numbered = omega (arith, r.is.store.numbered, r.fewer, length-tables width blocks, length-tables width blocks');
     };
   }
 
@@ -182,23 +189,22 @@ module _ {T : Type 0} (width : ℕ) (blocks blocks' : List (Shelf T)) (occupanci
       let among' : part < length (tables width blocks') = omega (arith, within, length-tables width blocks') in
       ap is_some (get-tuples_of (tables width blocks') (ref_to part slot) (small_tables width blocks')
       ∙ ap (λ k. held_in (tables width blocks') k (slot_of (ref_to part slot))) (part_of-to part slot in_range) ∙ ap (held_in (tables width blocks') part) (slot_of-to part slot in_range))
-      ∙ sym ((kept.mapped.bits part among').bits slot in_range) ∙ bit
+      ∙ sym ((r.kept.mapped.bits part among').bits slot in_range) ∙ bit
 
   -- where each partition with a block holds a tuple, there are so many free slots for each at most
-  module _ (held : (part : ℕ) → part < length popped → HoldsWhereBlock popped part) where
-    few_here : (part : ℕ) → part < length (tables width blocks') → 256 * vacancies (get_or (tables width blocks') part []) ≤ 255 * length (get_or (tables width blocks') part [])
-    few_here part within = elim (cases_eq (length (get_or (tables width blocks') part [])) 0) [
-      | inl none ↦ omega (arith, no_vacancy_of_none (get_or (tables width blocks') part []) none)
-      | inr differs ↦
-          let some : 0 < length (get_or (tables width blocks') part []) = omega (arith, differs) in
-          let its = kept.mapped.bits part within in
-          let slot = held part (omega (arith, within, kept.mapped.as_many)) (kept.mapped.told part within ∙ lt-ltb 0 (length (get_or (tables width blocks') part [])) some) in
-          omega (arith, its.count some, vacancies_fewer (get_or (tables width blocks') part []) slot.0 (sym (its.bits slot.0 slot.1) ∙ slot.2))
-    ]
+  few_here : (part : ℕ) → part < length (tables width blocks') → 256 * vacancies (get_or (tables width blocks') part []) ≤ 255 * length (get_or (tables width blocks') part [])
+  few_here part within = elim (cases_eq (length (get_or (tables width blocks') part [])) 0) [
+    | inl none ↦ omega (arith, no_vacancy_of_none (get_or (tables width blocks') part []) none)
+    | inr differs ↦
+        let some : 0 < length (get_or (tables width blocks') part []) = omega (arith, differs) in
+        let its = r.kept.mapped.bits part within in
+        let slot = r.held part (omega (arith, within, r.kept.mapped.as_many)) (r.kept.mapped.told part within ∙ lt-ltb 0 (length (get_or (tables width blocks') part [])) some) in
+        omega (arith, its.count some, vacancies_fewer (get_or (tables width blocks') part []) slot.0 (sym (its.bits slot.0 slot.1) ∙ slot.2))
+  ]
 
-    few_all : {A : Type 0} (l : Blocks A) → ((part : ℕ) → part < length l → 256 * vacancies (get_or l part []) ≤ 255 * length (get_or l part [])) → 256 * sum_by vacancies l ≤ 255 * sum_by length l
-    few_all [] few = omega arith
-    few_all (x ∷ l) few = omega (arith, sum_by-cons vacancies x l, sum_by-cons length x l, few 0 (omega arith), few_all l (λ part within. few (suc part) (omega (arith, within))))
+  few_all : {A : Type 0} (l : Blocks A) → ((part : ℕ) → part < length l → 256 * vacancies (get_or l part []) ≤ 255 * length (get_or l part [])) → 256 * sum_by vacancies l ≤ 255 * sum_by length l
+  few_all [] few = omega arith
+  few_all (x ∷ l) few = omega (arith, sum_by-cons vacancies x l, sum_by-cons length x l, few 0 (omega arith), few_all l (λ part within. few (suc part) (omega (arith, within))))
 
-    pub few_left : (free' : ℕ) → free' ≡ sum_by length (tables width blocks') - len (tuples_of (tables width blocks)) → free' ≤ 255 * len (tuples_of (tables width blocks'))
-    few_left free' e = omega (arith, e, slots_left, few_all (tables width blocks') few_here, ap len tuples)
+  pub few_left : (free' : ℕ) → free' ≡ sum_by length (tables width blocks') - len (tuples_of (tables width blocks)) → free' ≤ 255 * len (tuples_of (tables width blocks'))
+  few_left free' e = omega (arith, e, slots_left, few_all (tables width blocks') few_here, ap len r.tuples)

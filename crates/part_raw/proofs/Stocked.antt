@@ -28,7 +28,7 @@ default_read [] k within = absurd (omega (arith, within))
 default_read (x ∷ l) zero within = refl
 default_read (x ∷ l) (suc k) within = default_read l k (omega (arith, within))
 
-module _ {T : Type 0} (counted : Bool) (width : ℕ) (blocks : List (List (Option T))) (counts : List (List ℕ)) (occupancies : List Occupancy) (free : ℕ) (first : Option ℕ)
+module _ {T : Type 0} {counted : Bool} {width : ℕ} {blocks : List (List (Option T))} {counts : List (List ℕ)} {occupancies : List Occupancy} {free : ℕ} {first : Option ℕ}
     (is : IsStocked counted width blocks counts occupancies free first) where
   abbrev shelves : List (Shelf T)
   shelves = shelves_of blocks counts
@@ -89,77 +89,81 @@ module _ {T : Type 0} (counted : Bool) (width : ℕ) (blocks : List (List (Optio
 
   -- ---- what is found under a reference
 
-  module _ (r : TupleRef) (part slot : ℕ) (names : part ≡ part_of r) (names_slot : slot ≡ slot_of r) (held : IsSome (get (tuples_of (tables width shelves)) r)) where
+  module _ (r : TupleRef) {part slot : ℕ} (names : part ≡ part_of r) (names_slot : slot ≡ slot_of r) (held : IsSome (get (tuples_of (tables width shelves)) r)) where
     pub part_within : part < length blocks
     part_within = omega (arith, table_within width shelves r part names held, length-shelves_of blocks counts)
 
     pub slot_in_range : slot < 256
     slot_in_range = subst (λ (k : ℕ). k < 256) (sym names_slot) (slot_of-within r)
 
-    pub found_here : (block : List (Option T)) → block ≡ get_or blocks part block → get (tuples_of (tables width shelves)) r ≡ with_count (get_or (rows_in width block) slot None) (get_or (get_or counts part []) slot 0)
-    found_here block read =
-        found_row width shelves r part slot (here part block) names names_slot held (read_here part block part_within read) ∙ counted-get (rows_in width block) (get_or counts part []) slot
+    module _ {block : List (Option T)} (read : block ≡ get_or blocks part block) where
+      pub found_here : get (tuples_of (tables width shelves)) r ≡ with_count (get_or (rows_in width block) slot None) (get_or (get_or counts part []) slot 0)
+      found_here =
+          found_row width shelves r part slot (here part block) names names_slot held (read_here part block part_within read) ∙ counted-get (rows_in width block) (get_or counts part []) slot
 
-    pub row_here : (block : List (Option T)) (t : Tuple T) → block ≡ get_or blocks part block → get (tuples_of (tables width shelves)) r ≡ Some t
-        → (get_or (rows_in width block) slot None ≡ Some t.cells) × (get_or (get_or counts part []) slot 0 ≡ t.count)
-    row_here block t read is_t = with_count-is _ _ t (sym (found_here block read) ∙ is_t)
+      pub row_here : (t : Tuple T) → get (tuples_of (tables width shelves)) r ≡ Some t
+          → (get_or (rows_in width block) slot None ≡ Some t.cells) × (get_or (get_or counts part []) slot 0 ≡ t.count)
+      row_here t is_t = with_count-is _ _ t (sym found_here ∙ is_t)
 
-    -- the partition has its block
-    pub there_here : (block : List (Option T)) → block ≡ get_or blocks part block → 0 < length block
-    there_here block read = rows_in-held width slot block (sym (row_held _ (get_or (get_or counts part []) slot 0)) ∙ sym (ap is_some (found_here block read)) ∙ held)
+      -- the partition has its block
+      pub there_here : 0 < length block
+      there_here = rows_in-held width slot block (sym (row_held _ (get_or (get_or counts part []) slot 0)) ∙ sym (ap is_some found_here) ∙ held)
 
-    pub laid_held : (block : List (Option T)) → block ≡ get_or blocks part block → IsLaid width block
-    laid_held block read = laid_here part block part_within read (there_here block read)
+      pub laid_held : IsLaid width block
+      laid_held = laid_here part block part_within read there_here
 
-    pub bits_held : (block : List (Option T)) (o : Occupancy) → block ≡ get_or blocks part block → o ≡ get_or occupancies part o → IsPartition o.held.words (rows_in width block)
-    bits_held block o read read_bits = bits_here part block o part_within read read_bits (there_here block read)
+      pub bits_held : {o : Occupancy} → o ≡ get_or occupancies part o → IsPartition o.held.words (rows_in width block)
+      bits_held {o} read_bits = bits_here part block o part_within read read_bits there_here
 
-    pub held_here : (block : List (Option T)) → block ≡ get_or blocks part block → IsSome (get_or (rows_in width block) slot None)
-    held_here block read = sym (row_held _ (get_or (get_or counts part []) slot 0)) ∙ sym (ap is_some (found_here block read)) ∙ held
+      pub held_here : IsSome (get_or (rows_in width block) slot None)
+      held_here = sym (row_held _ (get_or (get_or counts part []) slot 0)) ∙ sym (ap is_some found_here) ∙ held
 
     -- the count is that beside the row
     pub count_here : (t : Tuple T) → get (tuples_of (tables width shelves)) r ≡ Some t → get_or (get_or counts part []) slot 0 ≡ t.count
-    count_here t is_t = (row_here (get_or blocks part []) t (default_read blocks part part_within) is_t).1
+    count_here t is_t = (row_here (default_read blocks part part_within) t is_t).1
 
     -- ---- a slot is freed
 
-    module _ (block new : List (Option T)) (o o' : Occupancy) (read : block ≡ get_or blocks part block) (read_bits : o ≡ get_or occupancies part o) (same_block : o'.has_block ≡ o.has_block) (laid : IsLaid width new)
-        (bits : IsPartition o'.held.words (rows_in width new)) (slots : rows_in width new ≡ set (rows_in width block) slot None) where
-      freeing : Changes width shelves occupancies (here part block) (here part new) o o' part slot None
-      freeing = record {
+    module _ {block new : List (Option T)} {o : Occupancy} {words : List ℕ} (read : block ≡ get_or blocks part block) (read_bits : o ≡ get_or occupancies part o) (laid : IsLaid width new)
+        (bits : IsPartition words (rows_in width new)) (slots : rows_in width new ≡ set (rows_in width block) slot None) where
+      abbrev freed : Option ℕ → Occupancy
+      freed next = record { held = record { words = words }; next_open = next; has_block = o.has_block }
+
+      freeing : (next : Option ℕ) → Changes width shelves occupancies (here part block) (here part new) o (freed next) part slot None
+      freeing next = record {
         within = among part part_within;
         read = read_here part block part_within read;
         read_bits = read_bits;
         laid = laid;
-        bits = bits-shown width new (get_or counts part []) o'.held.words bits;
+        bits = bits-shown width new (get_or counts part []) words bits;
         in_range = slot_in_range;
         slots = shown-freed width block (get_or counts part []) new slot slots;
-        some = there_here block read;
-        same_block = same_block;
+        some = there_here read;
+        same_block = refl;
       }
 
       stock : (occupancies' : List Occupancy) (free' : ℕ) (first' : Option ℕ) → IsTable width (set shelves part (here part new)) occupancies' free' first' → IsStocked counted width (set blocks part new) counts occupancies' free' first'
       stock occupancies' free' first' table = record {
         beside = is.beside ∙ ap (λ (n : ℕ). if counted then n else 0) (sym (length-set blocks part new));
-        own = own-block blocks counts is.own part new part_within (as_many_slots blocks part block new part_within read (there_here block read) laid.some);
+        own = own-block blocks counts is.own part new part_within (as_many_slots blocks part block new part_within read (there_here read) laid.some);
         table = subst (λ (s : List (Shelf T)). IsTable width s occupancies' free' first') (sym (shelves_of-set blocks counts part new)) table;
       }
 
-      pub stocked_full : ((slot : ℕ) → slot < 256 → is_set o.held.words slot ≡ true) → o'.next_open ≡ first → IsStocked counted width (set blocks part new) counts (set occupancies part o') (free + 1) (Some part)
-      stocked_full full next =
+      pub stocked_full : ((slot : ℕ) → slot < 256 → is_set o.held.words slot ≡ true) → IsStocked counted width (set blocks part new) counts (set occupancies part (freed first)) (free + 1) (Some part)
+      stocked_full full =
           let t = is_some-Some _ held in
-          stock (set occupancies part o') (free + 1) (Some part)
-          (take_full width shelves occupancies (here part block) (here part new) o o' part slot free first t.0 is.table freeing
-          (bits-shown width block (get_or counts part []) o.held.words (bits_held block o read read_bits))
-          (counted-get (rows_in width block) (get_or counts part []) slot ∙ sym (found_here block read) ∙ t.1) full next)
+          stock (set occupancies part (freed first)) (free + 1) (Some part)
+          (take_full width shelves occupancies (here part block) (here part new) o (freed first) part slot free first t.0 is.table (freeing first)
+          (bits-shown width block (get_or counts part []) o.held.words (bits_held read read_bits))
+          (counted-get (rows_in width block) (get_or counts part []) slot ∙ sym (found_here read) ∙ t.1) full refl)
 
-      pub stocked_open : (((slot : ℕ) → slot < 256 → is_set o.held.words slot ≡ true) → ⊥) → o'.next_open ≡ o.next_open → IsStocked counted width (set blocks part new) counts (set occupancies part o') (free + 1) first
-      stocked_open still next =
+      pub stocked_open : (((slot : ℕ) → slot < 256 → is_set o.held.words slot ≡ true) → ⊥) → IsStocked counted width (set blocks part new) counts (set occupancies part (freed o.next_open)) (free + 1) first
+      stocked_open still =
           let t = is_some-Some _ held in
-          stock (set occupancies part o') (free + 1) first
-          (take_open width shelves occupancies (here part block) (here part new) o o' part slot free first t.0 is.table freeing
-          (bits-shown width block (get_or counts part []) o.held.words (bits_held block o read read_bits))
-          (counted-get (rows_in width block) (get_or counts part []) slot ∙ sym (found_here block read) ∙ t.1) still next)
+          stock (set occupancies part (freed o.next_open)) (free + 1) first
+          (take_open width shelves occupancies (here part block) (here part new) o (freed o.next_open) part slot free first t.0 is.table (freeing o.next_open)
+          (bits-shown width block (get_or counts part []) o.held.words (bits_held read read_bits))
+          (counted-get (rows_in width block) (get_or counts part []) slot ∙ sym (found_here read) ∙ t.1) still refl)
 
       pub freed_slots : sum_by length (tables width (shelves_of (set blocks part new) counts)) ≡ sum_by length (tables width shelves)
       freed_slots =
@@ -169,19 +173,19 @@ module _ {T : Type 0} (counted : Bool) (width : ℕ) (blocks : List (List (Optio
       pub freed_tuples : tuples_of (tables width (shelves_of (set blocks part new) counts)) ≡ remove (tuples_of (tables width shelves)) r
       freed_tuples =
           ap (λ (s : List (Shelf T)). tuples_of (tables width s)) (shelves_of-set blocks counts part new)
-          ∙ rows-taken width shelves occupancies (here part block) (here part new) o o' part slot r names names_slot freeing
+          ∙ rows-taken width shelves occupancies (here part block) (here part new) o (freed None) part slot r names names_slot (freeing None)
 
     -- ---- a row is another, or its count
 
-    module _ (block new : List (Option T)) (t : Tuple T) (cells : List T) (read : block ≡ get_or blocks part block) (was : get (tuples_of (tables width shelves)) r ≡ Some t) (laid : IsLaid width new)
+    module _ {block new : List (Option T)} {t : Tuple T} (cells : List T) (read : block ≡ get_or blocks part block) (was : get (tuples_of (tables width shelves)) r ≡ Some t) (laid : IsLaid width new)
         (slots : rows_in width new ≡ set (rows_in width block) slot (Some cells)) where
       shown_was : get_or (tuples_in width (here part block)) slot None ≡ Some t
-      shown_was = counted-get (rows_in width block) (get_or counts part []) slot ∙ sym (found_here block read) ∙ was
+      shown_was = counted-get (rows_in width block) (get_or counts part []) slot ∙ sym (found_here read) ∙ was
 
       pub exchanged_stocked : IsStocked counted width (set blocks part new) counts occupancies free first
       exchanged_stocked = record {
         beside = is.beside ∙ ap (λ (n : ℕ). if counted then n else 0) (sym (length-set blocks part new));
-        own = own-block blocks counts is.own part new part_within (as_many_slots blocks part block new part_within read (there_here block read) laid.some);
+        own = own-block blocks counts is.own part new part_within (as_many_slots blocks part block new part_within read (there_here read) laid.some);
         table = subst (λ (s : List (Shelf T)). IsTable width s occupancies free first) (sym (shelves_of-set blocks counts part new))
             (table-exchanged width shelves occupancies free first is.table (here part block) (here part new) part slot t (tuple cells t.count) (among part part_within) (read_here part block part_within read) laid shown_was
             (shown-exchanged width block (get_or counts part []) new slot t cells shown_was slots));
@@ -217,12 +221,12 @@ module _ {T : Type 0} (counted : Bool) (width : ℕ) (blocks : List (List (Optio
       same_counted = shelves_of-set_counts blocks counts part block its part_within counts_within block_read
 
       row_was : get_or (tuples_in width (here part block)) slot None ≡ Some t
-      row_was = counted-get (rows_in width block) (get_or counts part []) slot ∙ sym (found_here block block_read) ∙ was
+      row_was = counted-get (rows_in width block) (get_or counts part []) slot ∙ sym (found_here block_read) ∙ was
 
       row_is : tuples_in width (shelf block its) ≡ set (tuples_in width (here part block)) slot (Some (tuple t.cells n))
       row_is =
           let in_range = slot_in_range in
-          let long : length (get_or counts part []) ≡ 256 = is.own part counts_within ∙ ap slots_of (read_block blocks block part part_within block_read) ∙ slots_of-some block (there_here block block_read) in
+          let long : length (get_or counts part []) ≡ 256 = is.own part counts_within ∙ ap slots_of (read_block blocks block part part_within block_read) ∙ slots_of-some block (there_here block_read) in
           shown-counted width block (get_or counts part []) slot n t (omega (arith, in_range, long)) row_was
 
       pub recounted_stocked : IsStocked counted width blocks (set counts part its) occupancies free first
@@ -231,7 +235,7 @@ module _ {T : Type 0} (counted : Bool) (width : ℕ) (blocks : List (List (Optio
         own = own-counts blocks counts is.own part slot n part_within;
         table = subst (λ (s : List (Shelf T)). IsTable width s occupancies free first) (sym same_counted)
             (table-exchanged width shelves occupancies free first is.table (here part block) (shelf block its) part slot t (tuple t.cells n) (among part part_within) (read_here part block part_within block_read)
-            (laid_held block block_read) row_was row_is);
+            (laid_held block_read) row_was row_is);
       }
 
       pub recounted_slots : sum_by length (tables width (shelves_of blocks (set counts part its))) ≡ sum_by length (tables width shelves)

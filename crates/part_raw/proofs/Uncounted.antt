@@ -32,7 +32,7 @@ zeros_as_slots width [] = refl
 zeros_as_slots width (x ∷ places) =
     ap (λ flag. length (zeros flag)) (lt-ltb 0 (length (rows_in width (x ∷ places))) (omega (arith, length-rows_in width (x ∷ places) (omega arith)))) ∙ length-replicate {A = ℕ} 256 0
 
-module _ {T : Type 0} (kept : Bool) (width : ℕ) (blocks : List (List (Option T))) (counts : List (List ℕ)) (occupancies : List Occupancy) (free : ℕ) (first : Option ℕ)
+module _ {T : Type 0} {kept : Bool} {width : ℕ} {blocks : List (List (Option T))} {counts : List (List ℕ)} {occupancies : List Occupancy} {free : ℕ} {first : Option ℕ}
     (is : IsStocked kept width blocks counts occupancies free first) where
   abbrev now : List (List (Option (Tuple T)))
   now = tables width (shelves_of blocks counts)
@@ -47,7 +47,7 @@ module _ {T : Type 0} (kept : Bool) (width : ℕ) (blocks : List (List (Option T
       fits = is.table.fits;
       laid = λ part shelf' below read some.
           let within : part < length blocks = omega (arith, below, length-shelves_of blocks counts') in
-          laid_here kept width blocks counts occupancies free first is part shelf'.block within
+          laid_here is part shelf'.block within
           (sym (ap (λ (l : List (List (Option T))). get_or l part shelf'.block) (sym (shelves_of-blocks blocks counts')) ∙ mapped-read (λ (x : Shelf T). x.block) (shelves_of blocks counts') part shelf' shelf'.block below read)) some;
       store = subst (λ (t : List (List (Option (Tuple T)))). IsStore t occupancies free first) (sym same) is.table.store;
     };
@@ -60,7 +60,7 @@ module _ {T : Type 0} (kept : Bool) (width : ℕ) (blocks : List (List (Option T
     flags = map (λ (o : Occupancy). o.has_block) occupancies
 
     flags_long : length flags ≡ length blocks
-    flags_long = length-map occupancies (λ (o : Occupancy). o.has_block) ∙ as_many kept width blocks counts occupancies free first is
+    flags_long = length-map occupancies (λ (o : Occupancy). o.has_block) ∙ as_many is
 
     pub zeros_same : tables width (shelves_of blocks (map zeros flags)) ≡ now
     zeros_same = tables-zeros width blocks flags ∙ ap (λ c. tables width (shelves_of blocks c)) (sym (uncounted_none kept (length blocks) counts uncounted is.beside))
@@ -70,7 +70,7 @@ module _ {T : Type 0} (kept : Bool) (width : ℕ) (blocks : List (List (Option T
         let among : part < length flags = omega (arith, below, length-map flags zeros) in
         let within : part < length blocks = omega (arith, among, flags_long) in
         let rows : slots_at (map (rows_in width) blocks) part ≡ rows_in width (get_or blocks part []) = mapped-read (rows_in width) blocks part (get_or blocks part []) [] within (default_read blocks part within) in
-        ap length (get_or-map zeros flags part false [] among) ∙ ap (λ flag. length (zeros flag)) (told_here_at kept width blocks counts occupancies free first is part within ∙ ap (λ l. nat_lt 0 (length l)) rows)
+        ap length (get_or-map zeros flags part false [] among) ∙ ap (λ flag. length (zeros flag)) (told_here_at is part within ∙ ap (λ l. nat_lt 0 (length l)) rows)
         ∙ zeros_as_slots width (get_or blocks part [])
 
     pub zeros_stocked : IsStocked true width blocks (map zeros flags) occupancies free first
@@ -80,7 +80,7 @@ module _ {T : Type 0} (kept : Bool) (width : ℕ) (blocks : List (List (Option T
   pub uncounted_zero : kept ≡ false → (r : TupleRef) (t : Tuple T) → get (tuples_of now) r ≡ Some t → t.count ≡ 0
   uncounted_zero uncounted r t held =
       sym (ap (λ c. get_or (get_or c (part_of r) []) (slot_of r) 0) (sym (uncounted_none kept (length blocks) counts uncounted is.beside))
-      ∙ count_here kept width blocks counts occupancies free first is r (part_of r) (slot_of r) refl refl (ap is_some held) t held)
+      ∙ count_here is r refl refl (ap is_some held) t held)
 
   -- ---- counts that are 0 go
 

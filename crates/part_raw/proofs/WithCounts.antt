@@ -1,4 +1,5 @@
 -- Tuples made of rows and counts: what is found, and what becomes of them where one row or one count changes.
+use Rattle.std.proofs.lemmas.Option.{same_Some}
 use Rattle.std.proofs.Common.{◌≡◌, ℕ, zero, suc, ◌<◌, List, [], ◌∷◌, length, get_or, set, Option, Some, None, cond, is_some, refl, ap, arith, ◌∙◌}
 use Rattle.std.proofs.lemmas.List.Sums.{sum_by-cons}
 use Rattle.std.proofs.Math.ListN.{replicate}
@@ -69,10 +70,7 @@ module _ {T : Type 0} where
   -- the row of a tuple
   pub with_count-is : (row : Option (List T)) (n : ℕ) (t : Tuple T) → with_count row n ≡ Some t → (row ≡ Some t.cells) × (n ≡ t.count)
   with_count-is None n t e = absurd (cc)
-  with_count-is (Some cells) n t e = let same : tuple cells n ≡ t = some_same e in (ap (λ u. Some u.cells) same, ap (λ u. u.count) same)
-    where
-      some_same : {X : Type 0} {x y : X} → Some x ≡ Some y → x ≡ y
-      some_same e = cc
+  with_count-is (Some cells) n t e = let same : tuple cells n ≡ t = same_Some _ _ e in (ap (λ u. Some u.cells) same, ap (λ u. u.count) same)
 
   pub row_held : (row : Option (List T)) (n : ℕ) → is_some (with_count row n) ≡ is_some row
   row_held None n = refl

@@ -190,21 +190,31 @@ impl<T> Partitions<T> {
             return Ok(());
         }
         let bare = bare_from(&self.occupancies, self.next_bare);
-        if bare < self.blocks.len() {
-            let counts = Counts::new(self.alloc, self.counted)?;
-            let block = Block::new(self.alloc, SLOTS as usize * self.width)?;
-            mem::replace(&mut self.blocks[bare], block).let_go();
-            set_counts(&mut self.counts, bare, counts);
-            let occupancy = &mut self.occupancies[bare];
-            occupancy.next_open = self.first_open;
-            occupancy.has_block = true;
-            self.first_open = Some(bare as u32);
-            self.next_bare = bare;
-            self.slots += SLOTS as u64;
-            self.free = SLOTS as u64;
-            self.spare = self.spare.saturating_add(1);
-            return Ok(());
+        if bare >= self.blocks.len() {
+            return self.push_partition();
         }
+        let counts = Counts::new(self.alloc, self.counted)?;
+        let block = Block::new(self.alloc, SLOTS as usize * self.width)?;
+        mem::replace(&mut self.blocks[bare], block).let_go();
+        set_counts(&mut self.counts, bare, counts);
+        let occupancy = &mut self.occupancies[bare];
+        occupancy.next_open = self.first_open;
+        occupancy.has_block = true;
+        self.first_open = Some(bare as u32);
+        self.next_bare = bare;
+        self.slots += SLOTS as u64;
+        self.free = SLOTS as u64;
+        self.spare = self.spare.saturating_add(1);
+        Ok(())
+    }
+
+    // Makes a partition of free slots behind the others.
+    fn push_partition(&mut self) -> Result<(), NoMemory>
+        requires none { self.old.free ≡ 0 }
+        requires few { finite.len self.old.tuples < MAX_TUPLES }
+        ensures ok { OnOk result (self.new ≡ record self.old { free = SLOTS }) }
+        ensures err { OnErr result (self.new ≡ self.old) }
+    {
         if self.blocks.len() == MAX_PARTITIONS as usize {
             return Err(NoMemory);
         }
@@ -212,7 +222,7 @@ impl<T> Partitions<T> {
         self.occupancies.reserve(1)?;
         let counts = next_counts(&mut self.counts, self.alloc, self.counted)?;
         let block = Block::new(self.alloc, SLOTS as usize * self.width)?;
-        let part = self.blocks.len() as u32;
+        let part = self.blocks.len();
         self.blocks.push_reserved(block);
         push_next(&mut self.counts, counts);
         self.occupancies.push_reserved(Occupancy {
@@ -220,8 +230,8 @@ impl<T> Partitions<T> {
             next_open: self.first_open,
             has_block: true,
         });
-        self.first_open = Some(part);
-        self.next_bare = bare;
+        self.first_open = Some(part as u32);
+        self.next_bare = part;
         self.slots += SLOTS as u64;
         self.free = SLOTS as u64;
         self.spare = self.spare.saturating_add(1);

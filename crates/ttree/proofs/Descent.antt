@@ -34,13 +34,6 @@ module _ {I : Type 0} where
   no_right_list (node l x (node a y b)) h = cc
 
   -- ---- where only steps to the left were gone
-  first_at : (c : List (Frame (Label I))) → is_root c ≡ true → list_before c ≡ []
-  first_at [] h = refl
-  first_at (f ∷ c) h = cc
-
-  pub first-root : (z : Zipper (Label I)) → is_root z.above ≡ true → list_before z.above ≡ []
-  first-root z h = first_at z.above h
-
   before_left : (c : List (Frame (Label I))) (t : Tree (Label I)) → list_before (left_below c t).above ≡ list_before c
   before_left c empty = refl
   before_left c (node l x r) = refl
@@ -62,13 +55,6 @@ module _ {I : Type 0} (place : I → Ordering) where
     pub behind : list_behind last ≡ list z.here ++ list_after z.above
 
   -- ---- steps
-  ahead_at : (c : List (Frame (Label I))) (t : Tree (Label I)) → is_root c ≡ true → IsAhead (plug c t) (at c t)
-  ahead_at [] t h = record { same = refl; above = All-nil (λ r. place r ≡ Greater) }
-  ahead_at (f ∷ c) t h = cc
-
-  pub ahead-root : (z : Zipper (Label I)) → is_root z.above ≡ true → IsAhead (whole z) z
-  ahead-root z h = ahead_at z.above z.here h
-
   left_at : (tree : Tree (Label I)) (c : List (Frame (Label I))) (t : Tree (Label I)) → IsAhead tree (at c t) → has_left t ≡ true → All (λ r. place r ≡ Greater) (list_from 0 (at c t)) → IsAhead tree (left_below c t)
   left_at tree c empty b h a = cc
   left_at tree c (node l x r) b h a = record { same = b.same; above = a }
@@ -189,13 +175,6 @@ is_descent place end None first behind = first
 is_descent place end (Some last) first behind = behind
 
 module _ {I : Type 0} where
-  whole_at : (c : List (Frame (Label I))) (t : Tree (Label I)) → is_root c ≡ true → plug c t ≡ t
-  whole_at [] t h = refl
-  whole_at (f ∷ c) t h = cc
-
-  pub root_whole : (z : Zipper (Label I)) → is_root z.above ≡ true → whole z ≡ z.here
-  root_whole z h = whole_at z.above z.here h
-
   -- ---- heights
   pub left_lower : (t : Tree (Label I)) → has_left t ≡ true → height (left_of t) < height t
   left_lower empty h = cc

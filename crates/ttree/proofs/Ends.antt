@@ -51,8 +51,7 @@ first_not_Less Greater e = λ f. cc
 
 pub first_not_Equal : (o : Ordering) → taken First o ≡ Equal → ⊥
 first_not_Equal Less e = cc
-first_not_Equal Equal e = cc
-first_not_Equal Greater e = cc
+first_not_Equal o e = cc
 
 module _ {I : Type 0} (tree : Tree (Label I)) (z : Zipper (Label I)) (same : whole z ≡ tree) where
   around : list tree ≡ front z ++ (items_of z.here ++ back z)

@@ -1,8 +1,7 @@
 -- The end of a tree: the last item of its rightmost node stands below the range.
-use Rattle.std.proofs.Common.{◌≡◌, ℕ, ◌+◌, ◌-◌, ◌<◌, List, [], length, get_or, refl, sym, subst, arith, true, false, Ordering}
+use Rattle.std.proofs.Common.{◌≡◌, ℕ, ◌+◌, ◌-◌, ◌<◌, List, [], length, get_or, refl, sym, subst, arith, false, Ordering}
 use Rattle.std.specs.List.{All}
-use Rattle.std.specs.Ordering.{is_lt}
-use Rattle.std.specs.declared.cmp.Ordering.TheVariants.{Less, Equal, Greater}
+use Rattle.std.specs.declared.cmp.Ordering.TheVariants.{Less, Greater}
 use Rattle.std.proofs.lemmas.List.{drop_all}
 use Rattle.std.proofs.lemmas.List.Elements.{All-nil}
 use Rattle.mm_index.specs.Range.{NeverFalls}
@@ -10,11 +9,6 @@ use Rattle.ttree_node.specs.Tree.{Zipper, Label, whole, list, items_of, has_righ
 use Rattle.ttree.specs.Searching.{IsGap}
 use Rattle.ttree.proofs.Cuts.{below_cut}
 use Rattle.ttree.proofs.Descent.{no_right_list}
-
-pub lt_is_Less : (o : Ordering) → is_lt o ≡ true → o ≡ Less
-lt_is_Less Less e = refl
-lt_is_Less Equal e = cc e
-lt_is_Less Greater e = cc e
 
 -- What is below the range is all, where the last item is and nothing stands behind it.
 pub gap-last : {I : Type 0} (place : I → Ordering) (z : Zipper (Label I)) → NeverFalls place (list (whole z)) → (d : I) → 0 < length (items_of z.here)

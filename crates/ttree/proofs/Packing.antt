@@ -4,7 +4,7 @@ use Rattle.std.proofs.Math.Nat.{mul-le-mul_right}
 use Rattle.std.proofs.lemmas.Bool.{cases_lt}
 use Rattle.std.proofs.lemmas.Grind.{div_ceil_times}
 use Rattle.std.specs.Int.{div_ceil}
-use Rattle.ttree_node.specs.Tree.{Tree, empty, node, Label, Frame, Zipper, at, up, size, height, list, is_node, is_root, stated, left_of, right_of, new_height, height_over}
+use Rattle.ttree_node.specs.Tree.{Tree, empty, node, Label, Frame, Zipper, at, up, size, height, list, is_node, stated, left_of, right_of, new_height, height_over}
 use Rattle.ttree_node.specs.Seen.{child, on_side, hangs_on_node}
 use Rattle.ttree_node.specs.declared.node.Side.{Side}
 use Rattle.ttree_node.specs.declared.node.Side.TheVariants.{Root, Left, Right}
@@ -86,17 +86,6 @@ middle d items left rest own right two any whole behind before taken =
       even = omega (arith, nodes_l, nodes_r, s.parts);
       nodes = omega (arith, nodes_l, nodes_r, s.parts);
     }
-
--- the sides take fewer than all
-module _ {I : Type 0} {d : ℕ} {items left own right : List I} (m : IsMiddle d items left own right) where
-  all_taken : length items ≡ length left + (length own + length right)
-  all_taken = ap length m.joined ∙ length-append left (own ++ right) ∙ ap (λ k. length left + k) (length-append own right)
-
-  pub shorter_left : length left < length items
-  shorter_left = omega (arith, all_taken, m.some)
-
-  pub shorter_right : length right < length items
-  shorter_right = omega (arith, all_taken, m.some)
 
 -- the middle one stands between trees of nearly one height, and above them the whole is as low as it can be
 record Balances (nodes left right : ℕ) : Type 0 where
@@ -214,10 +203,6 @@ module _ {I : Type 0} (least most : ℕ) where
         subst (λ t. HoldsPacked least most items (new_height (height_over t) t)) (sym f2)
         (holds_node items xs ys zs (left_of z1) (record { items = ys; height = height_over u }) (right_of z2) m lh refl rh short refl)
 
-    -- what the sides take of the nodes
-    pub size_built : (xs : List I) (t : Tree (Label I)) → HoldsPacked least most xs t → size t ≡ div_ceil (length xs) most
-    size_built xs t h = h.packed.few ∙ ap (λ ys. div_ceil (length ys) most) h.list
-
 module _ {I : Type 0} where
   -- ---- a tree that is hung on a side of a node
   up_hung_at : (side : Side) (c : List (Frame (Label I))) (t u : Tree (Label I)) → hangs_on_node side ≡ true → is_node t ≡ true → up (at (on_side side (at c t)).above u) ≡ at c (with_child side u t)
@@ -230,13 +215,6 @@ module _ {I : Type 0} where
   -- from its root the way up leads to that node
   pub up_hung : (side : Side) (z w : Zipper (Label I)) → hangs_on_node side ≡ true → is_node z.here ≡ true → w.above ≡ (on_side side z).above → up w ≡ at z.above (with_child side w.here z.here)
   up_hung side z w s n e = ap (λ c. up (at c w.here)) e ∙ up_hung_at side z.above z.here w.here s n
-
-  pub root_hung_at : (side : Side) (c : List (Frame (Label I))) (t : Tree (Label I)) → hangs_on_node side ≡ true → is_node t ≡ true → is_root (on_side side (at c t)).above ≡ false
-  root_hung_at Root c t s n = cc
-  root_hung_at Left c empty s n = cc
-  root_hung_at Left c (node l x r) s n = refl
-  root_hung_at Right c empty s n = cc
-  root_hung_at Right c (node l x r) s n = refl
 
   pub child_hung : (side : Side) (u t : Tree (Label I)) → hangs_on_node side ≡ true → is_node t ≡ true → child side (with_child side u t) ≡ u
   child_hung Root u t s n = cc

@@ -1,5 +1,7 @@
 -- A range, by the references that a walk yields.
-use Rattle.std.proofs.Common.{◌≡◌, ◌≢◌, ◌+◌, ◌<◌, true, false, List, [], ◌∷◌, ◌++◌, length, get_or, refl, sym, ap, subst, ◌∙◌, cond, arith, Ordering}
+use Rattle.std.proofs.lemmas.Bool.{false≢true}
+use Rattle.common_lemmas.proofs.Orders.{Greater-from_neither}
+use Rattle.std.proofs.Common.{◌≡◌, ◌≢◌, ◌+◌, ◌<◌, true, List, [], ◌∷◌, ◌++◌, length, get_or, refl, sym, ap, subst, ◌∙◌, cond, arith, Ordering}
 use Rattle.std.specs.List.{All, filter}
 use Rattle.std.specs.declared.cmp.Ordering.TheVariants.{Less, Equal, Greater}
 use Rattle.std.specs.Ordering.{is_eq, is_ge}
@@ -23,10 +25,8 @@ module _ {A : Type 0} (place : A → Ordering) where
   in_range_from [] = refl
   in_range_from (x ∷ xs) = once (place x) x (from_range place xs) (in_range place xs) (in_range_from xs) refl
 
-  not_Less-not_Equal : (o : Ordering) → is_ge o ≡ true → o ≢ Equal → o ≡ Greater
-  not_Less-not_Equal Less h k = cc
-  not_Less-not_Equal Equal h k = absurd (k refl)
-  not_Less-not_Equal Greater h k = refl
+  not_below : (o : Ordering) → is_ge o ≡ true → o ≢ Less
+  not_below o h e = false≢true (sym (ap is_ge e) ∙ h)
 
   module _ (xs ys zs : List A) (split : from_range place xs ≡ ys ++ zs) where
     -- an element that is not below the range
@@ -41,7 +41,7 @@ module _ {A : Type 0} (place : A → Ordering) where
         subst (λ (ws : List A). NeverFalls place ws) split (IsNonDecreasingBy-filter (λ r. ordering_index (place r)) (λ r. is_ge (place r)) xs in_order) in
         let pass : All (λ r. is_ge (place r) ≡ true) (ys ++ zs) = subst (λ (ws : List A). All (λ r. is_ge (place r) ≡ true) ws) split (filter_passes (λ r. is_ge (place r)) xs) in
         let first : is_ge (place (get_or zs 0 d)) ≡ true = subst (λ (x : A). is_ge (place x) ≡ true) (get_or-append-add ys zs 0 d) (pass (length ys + 0) d (omega (arith, length-append ys zs))) in
-        above_begin place ys zs order d s (not_Less-not_Equal (place (get_or zs 0 d)) first n)
+        above_begin place ys zs order d s (Greater-from_neither (place (get_or zs 0 d)) (not_below (place (get_or zs 0 d)) first) n)
 
     ended : All (λ r. place r ≡ Equal) ys → All (λ r. place r ≡ Greater) zs → in_range place xs ≡ ys
     ended equal above =
@@ -55,8 +55,3 @@ module _ {A : Type 0} (place : A → Ordering) where
   -- or where there is none
   pub in_range_all : (xs ys : List A) → from_range place xs ≡ ys ++ [] → All (λ r. place r ≡ Equal) ys → in_range place xs ≡ ys
   in_range_all xs ys split equal = ended xs ys [] split equal (All-nil (λ r. place r ≡ Greater))
-
-pub not_Equal : (o : Ordering) → is_eq o ≡ false → o ≢ Equal
-not_Equal Less h = λ e. cc
-not_Equal Equal h = cc
-not_Equal Greater h = λ e. cc

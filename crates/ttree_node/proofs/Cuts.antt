@@ -1,25 +1,16 @@
 -- A set of nodes, cut where a node lies.
-use Rattle.std.proofs.Common.{◌≡◌, Bool, true, false, ◌&&◌, ◌==◌, cond, List, [], ◌∷◌, ◌++◌, refl, sym, ◌∙◌, eqb→eq, T}
+use Rattle.std.proofs.Common.{◌≡◌, Bool, true, false, ◌&&◌, ◌==◌, cond, List, [], ◌∷◌, ◌++◌, refl, sym, ◌∙◌}
 use Rattle.std.specs.Prelude.{Some, IsSome}
-use lib.Dec.{eqb_refl}
+use Rattle.std.proofs.lemmas.Bool.{and_parts, eqb-true, eq-eqb}
 use denote.RawPtr.{Ptr, block_ptr, null_ptr}
 use Rattle.ttree_node.specs.Held.{same_place, node_at, set_node, without}
 
-holds : (b : Bool) → T b → b ≡ true
-holds true t = refl
-holds false t = absurd t
-
 pub same_place_refl : (p : Ptr) → same_place p p ≡ true
-same_place_refl (block_ptr b o) = λ i. holds (b == b) (eqb_refl b) i && holds (o == o) (eqb_refl o) i
+same_place_refl (block_ptr b o) = λ i. eq-eqb b b refl i && eq-eqb o o refl i
 same_place_refl null_ptr = refl
 
-both : (x y : Bool) → (x && y) ≡ true → T x × T y
-both true true e = (tt, tt)
-both true false e = cc
-both false y e = cc
-
 pub same_place_eq : (p q : Ptr) → same_place p q ≡ true → p ≡ q
-same_place_eq (block_ptr b o) (block_ptr c p) e = let t = both (b == c) (o == p) e in λ i. block_ptr (eqb→eq b c t.0 i) (eqb→eq o p t.1 i)
+same_place_eq (block_ptr b o) (block_ptr c p) e = let t = and_parts (b == c) (o == p) e in λ i. block_ptr (eqb-true b c t.0 i) (eqb-true o p t.1 i)
 same_place_eq (block_ptr b o) null_ptr e = cc
 same_place_eq null_ptr (block_ptr c p) e = cc
 same_place_eq null_ptr null_ptr e = refl

@@ -1,5 +1,6 @@
 -- What it means that nodes stand for a tree: the tree is read back, cut at any node and put together again.
-use Rattle.std.proofs.Common.{◌≡◌, ℕ, zero, suc, ◌+◌, ◌<◌, ◌≤◌, true, false, cond, List, [], ◌∷◌, length, refl, sym, ◌∙◌, arith, inl, inr, ◌⊎◌}
+use Rattle.std.proofs.Math.Nat.{eq-zero-or-pos}
+use Rattle.std.proofs.Common.{◌≡◌, ℕ, zero, suc, ◌+◌, ◌<◌, ◌≤◌, true, false, cond, List, [], ◌∷◌, length, refl, sym, ◌∙◌, arith, inl, inr}
 use Rattle.std.specs.Prelude.{Option, None}
 use Rattle.std.proofs.lemmas.Bool.{ltb-true}
 use denote.RawPtr.{Ptr}
@@ -48,15 +49,11 @@ pub record CutTree (p : Ptr) (t : Tree Spot) : Type 0 where
   pub below_right : Tree Spot
   pub is : t ≡ plug above (node below_left (spot p label) below_right)
 
-some_or_none : (k : ℕ) → (k ≡ 0) ⊎ (0 < k)
-some_or_none zero = inl refl
-some_or_none (suc k) = inr (omega arith)
-
 cut_from : (p : Ptr) (t : Tree Spot) (c : List (Frame Spot)) → 0 < occurs p t → CutTree p (plug c t)
 cut_from p empty c h = absurd (omega (arith, h))
 cut_from p (node l x r) c h = (elim (same_place p x.place) as (λ s. same_place p x.place ≡ s → CutTree p (plug c (node l x r))) [
   | true ↦ λ is. record { above = c; below_left = l; label = x.label; below_right = r; is = λ i. plug c (node l (spot (sym (same_place_eq p x.place is) i) x.label) r) }
-  | false ↦ λ is. let none : one_if p x.place ≡ 0 = λ i. cond (is i) 1 0 in (elim (some_or_none (occurs p l)) as (λ _. CutTree p (plug c (node l x r))) [
+  | false ↦ λ is. let none : one_if p x.place ≡ 0 = λ i. cond (is i) 1 0 in (elim (eq-zero-or-pos (occurs p l)) as (λ _. CutTree p (plug c (node l x r))) [
     | inl e ↦ cut_from p r (went_right l x ∷ c) (omega (arith, h, none, e))
     | inr e ↦ cut_from p l (went_left x r ∷ c) e
   ])

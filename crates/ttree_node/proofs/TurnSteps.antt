@@ -5,7 +5,7 @@ use denote.RawPtr.{Ptr}
 use Rattle.part_raw.specs.declared.tuple_ref.TupleRef.{TupleRef}
 use Rattle.ttree_node.specs.Held.{same_place, node_at, set_node, update}
 use Rattle.ttree_node.specs.Tree.{Tree, empty, node, Frame, Label, at, plug, relabel, relabel_zipper, is_node, has_left, has_right, with_tree, rotated_left, rotated_right}
-use Rattle.ttree_node.specs.Linked.{one_if, with_parent, Spot, spot, there, root_of, parent_of, side_of, node_for, label_of, Present, linked_down, linked_up, rooted, Linked, is_place_in}
+use Rattle.ttree_node.specs.Linked.{one_if, with_parent, Spot, spot, there, root_of, parent_of, side_of, node_for, label_of, Present, linked_down, linked_up, rooted, Linked, located, is_place_in, IsPlaceIn, Sound}
 use Rattle.ttree_node.specs.Seen.{position_at}
 use Rattle.ttree_node.specs.declared.nodes.NodePlace.{NodePlace}
 use Rattle.ttree_node.specs.declared.node.Node.{Node}
@@ -19,7 +19,7 @@ use Rattle.ttree_node.proofs.Shape.{one_same, differs, occurs_plug, unplug}
 use Rattle.ttree_node.proofs.Spares.{located_is, some_place, some_node}
 use Rattle.ttree_node.proofs.Standing.{label, placed_root, position_of}
 use Rattle.ttree_node.proofs.Turns.{turned_left, turned_right}
-use Rattle.ttree_node.proofs.Visit.{Visit}
+use Rattle.ttree_node.proofs.Visit.{Visit, visit}
 
 kept_update : {X : Type 0} (p q : Ptr) (f : X → X) (m : List (Ptr × X)) → IsSome (node_at p m) → IsSome (node_at p (update q f m))
 kept_update p q f [] h = h
@@ -68,8 +68,11 @@ module _ {MAX : ℕ} where
         position = v.position ∙ (λ i. relabel_zipper label (at z.above (node z.l (spot v.at z.x) (e i))));
       }
 
-  pub turning_left : (p : Parts MAX) (place : Option NodePlace) (n : Node MAX) (v : Visit p place n) → has_right (position_at p place).here ≡ true → ToLeft p place n
-  turning_left p place n v h = to_left p place n v v.standing.r refl ((λ i. has_right (sym v.position i).here) ∙ h)
+  pub turning_left : {i p : Parts MAX} (view : i ≡ p) (s : Sound i) (place : Option NodePlace) {found : NodePlace} (is : place ≡ Some found) → IsPlaceIn (located p) place → {n : Node MAX} → node_at found.at i.nodes.held ≡ Some n
+      → has_right (position_at p place).here ≡ true → ToLeft i place n
+  turning_left {i} view s place {found} is placed {n} got child =
+      let v = visit i i refl s place found is ((λ k. is_place_in (located (view k)) place) ∙ placed) n got in
+      to_left i place n v v.standing.r refl ((λ k. has_right (sym v.position k).here) ∙ (λ k. has_right (position_at (view k) place).here) ∙ child)
 
   module _ (p : Parts MAX) (place : Option NodePlace) (n : Node MAX) (k : ToLeft p place n) (lower : NodePlace) (below : n.right ≡ Some lower) where
     lower_is_left : lower.at ≡ k.b
@@ -145,8 +148,11 @@ module _ {MAX : ℕ} where
         position = v.position ∙ (λ i. relabel_zipper label (at z.above (node (e i) (spot v.at z.x) z.r)));
       }
 
-  pub turning_right : (p : Parts MAX) (place : Option NodePlace) (n : Node MAX) (v : Visit p place n) → has_left (position_at p place).here ≡ true → ToRight p place n
-  turning_right p place n v h = to_right p place n v v.standing.l refl ((λ i. has_left (sym v.position i).here) ∙ h)
+  pub turning_right : {i p : Parts MAX} (view : i ≡ p) (s : Sound i) (place : Option NodePlace) {found : NodePlace} (is : place ≡ Some found) → IsPlaceIn (located p) place → {n : Node MAX} → node_at found.at i.nodes.held ≡ Some n
+      → has_left (position_at p place).here ≡ true → ToRight i place n
+  turning_right {i} view s place {found} is placed {n} got child =
+      let v = visit i i refl s place found is ((λ k. is_place_in (located (view k)) place) ∙ placed) n got in
+      to_right i place n v v.standing.l refl ((λ k. has_left (sym v.position k).here) ∙ (λ k. has_left (position_at (view k) place).here) ∙ child)
 
   module _ (p : Parts MAX) (place : Option NodePlace) (n : Node MAX) (k : ToRight p place n) (lower : NodePlace) (below : n.left ≡ Some lower) where
     lower_is_right : lower.at ≡ k.b

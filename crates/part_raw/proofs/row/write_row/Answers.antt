@@ -1,7 +1,7 @@
 use Rattle.std.proofs.Common.{◌≡◌, ◌+◌, length, set, get_or, Some, None, [], ◌∷◌, sym, ap, ◌∙◌, arith}
-use Rattle.std.proofs.lemmas.List.{length-set, length-append, get_or-set_other}
+use Rattle.std.proofs.lemmas.List.{length-set, length-append, get_or-set_other, nil_from_length}
 use Rattle.part_raw.specs.Rows.{put_run}
-use Rattle.part_raw.proofs.Rows.{put_run-last, put_run-none, none_left}
+use Rattle.part_raw.proofs.Rows.{put_run-last, put_run-none}
 use Rattle.part_raw.proofs.row.write_row.Goals as goal
 
 pub loop-value-preserved : goal.loop-value-preserved
@@ -23,5 +23,5 @@ loop-value-preserved g c =
 
 pub returns-clause-places : goal.returns-clause-places
 returns-clause-places g c =
-    let none = none_left c.loop-value.row.items _ c.loop-value.row.ok.0 c.in_default.ensures.cases.0 in
+    let none = nil_from_length c.loop-value.row.items (sym c.loop-value.row.ok.0 ∙ c.in_default.ensures.cases.0) in
     sym (put_run-none c.loop-value.block c.args.from) ∙ ap (put_run c.loop-value.block c.args.from) (sym none) ∙ c.loop-value.invariant.places

@@ -5,7 +5,9 @@ use Rattle.part_raw.proofs.Beside.{length-shelves_of, shelves_of-push, shelves_o
 use Rattle.part_raw.proofs.OwnCounts.{own-take, own-front}
 use Rattle.part_raw.proofs.Tables.{length-tables}
 use Rattle.part_raw.proofs.Spared.{last-bare, front_kept, front_tuples, front_free, front_slots, holds_front}
+use Rattle.part_raw.proofs.store.pop_bare.Given.{Over}
 use Rattle.part_raw.proofs.store.pop_bare.Goals as goal
+use Rattle.part_raw.proofs.store.pop_bare.Goals.{After-shrink_to_fit-3}
 
 pub let_go-requires : goal.let_go-requires
 let_go-requires g c =
@@ -49,35 +51,23 @@ loop-blocks-preserved g c =
           holds_front c.pop-in-loop-blocks.new.self.items c.in-Some-Some.field-0-1 part within (held all part (omega (arith, within, one')));
     }
 
+cut : (g : Over) (c : After-shrink_to_fit-3 g) → c.shrink_to_fit-2.new.self.items ≡ take (length c.loop-blocks.blocks.items) c.args.counts.now.items
+cut g c = c.shrink_to_fit-2.ensures.items ∙ c.truncate.ensures.items ∙ ap (λ n. take n c.args.counts.now.items) (c.len.ensures ∙ c.loop-blocks.blocks.ok.0)
+
+same : (g : Over) (c : After-shrink_to_fit-3 g) → shelves_of c.shrink_to_fit.new.self.items c.shrink_to_fit-2.new.self.items ≡ shelves_of c.loop-blocks.blocks.items c.args.counts.now.items
+same g c = (λ i. shelves_of (c.shrink_to_fit.ensures.items i) (cut g c i)) ∙ shelves_of-take c.loop-blocks.blocks.items c.args.counts.now.items
+
 pub returns-clause-kept : goal.returns-clause-kept
-returns-clause-kept g c =
-    let cut = c.shrink_to_fit-2.ensures.items ∙ c.truncate.ensures.items ∙ ap (λ n. take n c.args.counts.now.items) (c.len.ensures ∙ c.loop-blocks.blocks.ok.0) in
-    let same : shelves_of c.shrink_to_fit.new.self.items c.shrink_to_fit-2.new.self.items ≡ shelves_of c.loop-blocks.blocks.items c.args.counts.now.items =
-    (λ i. shelves_of (c.shrink_to_fit.ensures.items i) (cut i)) ∙ shelves_of-take c.loop-blocks.blocks.items c.args.counts.now.items in
-    rw (same, c.shrink_to_fit-3.ensures.items) c.loop-blocks.invariant.kept
+returns-clause-kept g c = rw (same g c, c.shrink_to_fit-3.ensures.items) c.loop-blocks.invariant.kept
 
 pub returns-clause-tuples : goal.returns-clause-tuples
-returns-clause-tuples g c =
-    let cut = c.shrink_to_fit-2.ensures.items ∙ c.truncate.ensures.items ∙ ap (λ n. take n c.args.counts.now.items) (c.len.ensures ∙ c.loop-blocks.blocks.ok.0) in
-    let same : shelves_of c.shrink_to_fit.new.self.items c.shrink_to_fit-2.new.self.items ≡ shelves_of c.loop-blocks.blocks.items c.args.counts.now.items =
-    (λ i. shelves_of (c.shrink_to_fit.ensures.items i) (cut i)) ∙ shelves_of-take c.loop-blocks.blocks.items c.args.counts.now.items in
-    rw same c.loop-blocks.invariant.tuples
+returns-clause-tuples g c = rw (same g c) c.loop-blocks.invariant.tuples
 
 pub returns-clause-free : goal.returns-clause-free
-returns-clause-free g c =
-    let cut = c.shrink_to_fit-2.ensures.items ∙ c.truncate.ensures.items ∙ ap (λ n. take n c.args.counts.now.items) (c.len.ensures ∙ c.loop-blocks.blocks.ok.0) in
-    let same : shelves_of c.shrink_to_fit.new.self.items c.shrink_to_fit-2.new.self.items ≡ shelves_of c.loop-blocks.blocks.items c.args.counts.now.items =
-    (λ i. shelves_of (c.shrink_to_fit.ensures.items i) (cut i)) ∙ shelves_of-take c.loop-blocks.blocks.items c.args.counts.now.items in
-    rw same c.loop-blocks.invariant.free
+returns-clause-free g c = rw (same g c) c.loop-blocks.invariant.free
 
 pub returns-clause-slots : goal.returns-clause-slots
-returns-clause-slots g c =
-    let cut = c.shrink_to_fit-2.ensures.items ∙ c.truncate.ensures.items ∙ ap (λ n. take n c.args.counts.now.items) (c.len.ensures ∙ c.loop-blocks.blocks.ok.0) in
-    let same : shelves_of c.shrink_to_fit.new.self.items c.shrink_to_fit-2.new.self.items ≡ shelves_of c.loop-blocks.blocks.items c.args.counts.now.items =
-    (λ i. shelves_of (c.shrink_to_fit.ensures.items i) (cut i)) ∙ shelves_of-take c.loop-blocks.blocks.items c.args.counts.now.items in
-    rw same c.loop-blocks.invariant.slots
+returns-clause-slots g c = rw (same g c) c.loop-blocks.invariant.slots
 
 pub returns-clause-own : goal.returns-clause-own
-returns-clause-own g c = λ own.
-    let cut = c.shrink_to_fit-2.ensures.items ∙ c.truncate.ensures.items ∙ ap (λ n. take n c.args.counts.now.items) (c.len.ensures ∙ c.loop-blocks.blocks.ok.0) in
-    rw (c.shrink_to_fit.ensures.items, cut) (c.loop-blocks.invariant.own own)
+returns-clause-own g c = λ own. rw (c.shrink_to_fit.ensures.items, cut g c) (c.loop-blocks.invariant.own own)

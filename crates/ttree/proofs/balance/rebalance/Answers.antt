@@ -8,7 +8,9 @@ use Rattle.ttree.specs.Fullness.{CanRiseFull}
 use Rattle.ttree.proofs.Fullness.{can-rise_full, has-risen_full}
 use Rattle.ttree.proofs.Climbing.{can-rise, has-risen, mendable_here, risen-fit, risen-same}
 use Rattle.ttree.proofs.Places.{whole-up}
+use Rattle.ttree.proofs.balance.rebalance.Given.{Over}
 use Rattle.ttree.proofs.balance.rebalance.Goals as goal
+use Rattle.ttree.proofs.balance.rebalance.Goals.{After-mend}
 
 pub mend-requires : goal.mend-requires
 mend-requires g c =
@@ -23,15 +25,20 @@ mend-requires g c =
       ),
     )
 
+risen : (g : Over) (c : After-mend g) → HasRisen g.row.MIN g.row.MAX c.height-before.result (position c.mend.new.editor)
+risen g c =
+    let w = position c.mend.new.editor in
+    subst (λ y. HasRisen g.row.MIN g.row.MAX c.height-before.result y) (λ i. at (sym c.mend.ensures.above i) w.here)
+    (has-risen g.row.MIN g.row.MAX c.height-before.result (position c.loop-before.editor) w.here c.loop-before.invariant.rises c.height-before.ensures c.mend.ensures.mended)
+
 pub loop-before-preserved : goal.loop-before-preserved
 loop-before-preserved g c =
     let z = position c.loop-before.editor in let w = position c.mend.new.editor in
     let inv = c.loop-before.invariant in let m = c.mend in
-    let risen : HasRisen g.row.MIN g.row.MAX c.height-before.result w = subst (λ y. HasRisen g.row.MIN g.row.MAX c.height-before.result y) (λ i. at (sym m.ensures.above i) w.here) (has-risen g.row.MIN g.row.MAX c.height-before.result z w.here inv.rises c.height-before.ensures m.ensures.mended) in
     let below = sym c.at_root.ensures ∙ c.if-at_root.false in
     record {
       same_reference = c.up.ensures.same_reference ∙ m.ensures.same_reference ∙ inv.same_reference;
-      rises = subst (λ y. CanRise g.row.MIN g.row.MAX y) (sym c.up.ensures.moved) (can-rise g.row.MIN g.row.MAX c.height-before.result w below risen);
+      rises = subst (λ y. CanRise g.row.MIN g.row.MAX y) (sym c.up.ensures.moved) (can-rise g.row.MIN g.row.MAX c.height-before.result w below (risen g (goal.at.loop-before-preserved g c).After-mend));
       full = λ two start.
           let from = inv.full two start in
           subst (λ y. CanRiseFull g.row.MIN g.row.MAX y) (sym c.up.ensures.moved)
@@ -44,10 +51,8 @@ loop-before-preserved g c =
 
 pub returns-then-height-before-clause-fit : goal.returns-then-height-before-clause-fit
 returns-then-height-before-clause-fit g c =
-    let z = position c.loop-before.editor in let w = position c.mend.new.editor in
-    let inv = c.loop-before.invariant in let m = c.mend in
-    let risen : HasRisen g.row.MIN g.row.MAX c.height-before.result w = subst (λ y. HasRisen g.row.MIN g.row.MAX c.height-before.result y) (λ i. at (sym m.ensures.above i) w.here) (has-risen g.row.MIN g.row.MAX c.height-before.result z w.here inv.rises c.height-before.ensures m.ensures.mended) in
-    subst (λ t. IsTTree g.row.MIN g.row.MAX t) (sym m.ensures.tree) (risen-same g.row.MIN g.row.MAX c.height-before.result w (sym c.height.ensures ∙ c.if-height-before.true) risen)
+    subst (λ t. IsTTree g.row.MIN g.row.MAX t) (sym c.mend.ensures.tree)
+    (risen-same g.row.MIN g.row.MAX c.height-before.result (position c.mend.new.editor) (sym c.height.ensures ∙ c.if-height-before.true) (risen g (goal.at.returns-then-height-before-clause-fit g c).After-mend))
 
 pub returns-then-height-before-clause-full : goal.returns-then-height-before-clause-full
 returns-then-height-before-clause-full g c = λ two start.
@@ -57,10 +62,8 @@ returns-then-height-before-clause-full g c = λ two start.
 
 pub returns-then-at_root-clause-fit : goal.returns-then-at_root-clause-fit
 returns-then-at_root-clause-fit g c =
-    let z = position c.loop-before.editor in let w = position c.mend.new.editor in
-    let inv = c.loop-before.invariant in let m = c.mend in
-    let risen : HasRisen g.row.MIN g.row.MAX c.height-before.result w = subst (λ y. HasRisen g.row.MIN g.row.MAX c.height-before.result y) (λ i. at (sym m.ensures.above i) w.here) (has-risen g.row.MIN g.row.MAX c.height-before.result z w.here inv.rises c.height-before.ensures m.ensures.mended) in
-    subst (λ t. IsTTree g.row.MIN g.row.MAX t) (sym m.ensures.tree) (risen-fit g.row.MIN g.row.MAX c.height-before.result w (sym c.at_root.ensures ∙ c.if-at_root.true) risen)
+    subst (λ t. IsTTree g.row.MIN g.row.MAX t) (sym c.mend.ensures.tree)
+    (risen-fit g.row.MIN g.row.MAX c.height-before.result (position c.mend.new.editor) (sym c.at_root.ensures ∙ c.if-at_root.true) (risen g (goal.at.returns-then-at_root-clause-fit g c).After-mend))
 
 pub returns-then-at_root-clause-full : goal.returns-then-at_root-clause-full
 returns-then-at_root-clause-full g c = λ two start.

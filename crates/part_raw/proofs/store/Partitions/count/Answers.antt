@@ -8,4 +8,4 @@ returns g c =
     let held = rw (← c.self.view_is) at c.requires in
     let t = is_some-Some _ held in
     rw (← c.self.view_is)
-    (rw t.1 (sym (count_here _ _ _ _ _ _ _ c.self.invariant.0 c.args.r c.part.result c.slot.result c.part.ensures.value c.slot.ensures.value held t.0 t.1) ∙ sym c.count_at.ensures))
+    (rw t.1 (sym (count_here c.self.invariant.0 c.args.r c.part.ensures.value c.slot.ensures.value held t.0 t.1) ∙ sym c.count_at.ensures))

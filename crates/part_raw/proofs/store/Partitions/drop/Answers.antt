@@ -3,7 +3,7 @@ use Rattle.part_raw.proofs.Stocked.{laid_here}
 use Rattle.part_raw.proofs.store.Partitions.drop.Goals as goal
 
 pub loop-block-init : goal.loop-block-init
-loop-block-init g c = record { laid = laid_here _ _ _ _ _ _ _ c.self.invariant.0; mapped = row_bitmaps _ _ _ _ _ _ _ c.self.invariant.0 }
+loop-block-init g c = record { laid = laid_here c.self.invariant.0; mapped = row_bitmaps c.self.invariant.0 }
 
 pub discard-requires-clause-laid : goal.discard-requires-clause-laid
 discard-requires-clause-laid g c =

@@ -8,28 +8,28 @@ use Rattle.part_raw.proofs.store.Partitions.get.Goals as goal
 pub index-requires : goal.index-requires
 index-requires g c =
     let held = rw (← c.self.view_is) at c.requires in
-    omega (arith, part_within _ _ _ _ _ _ _ c.self.invariant.0 c.args.r c.part-part.result c.slot-slot.result c.part-part.ensures.value c.slot-slot.ensures.value held, c.self.inside.blocks.ok)
+    omega (arith, part_within c.self.invariant.0 c.args.r c.part-part.ensures.value c.slot-slot.ensures.value held, c.self.inside.blocks.ok)
 
 pub run-requires : goal.run-requires
 run-requires g c =
     let held = rw (← c.self.view_is) at c.requires in
     let t = is_some-Some _ held in
-    run_of_row c.self.inside.width c.slot-slot.result c.index.result.now t.0.cells (laid_held _ _ _ _ _ _ _ c.self.invariant.0 c.args.r c.part-part.result c.slot-slot.result c.part-part.ensures.value c.slot-slot.ensures.value held c.index.result.now c.index.ensures)
-    (row_here _ _ _ _ _ _ _ c.self.invariant.0 c.args.r c.part-part.result c.slot-slot.result c.part-part.ensures.value c.slot-slot.ensures.value held c.index.result.now t.0 c.index.ensures t.1).0
+    run_of_row c.self.inside.width c.slot-slot.result c.index.result.now t.0.cells (laid_held c.self.invariant.0 c.args.r c.part-part.ensures.value c.slot-slot.ensures.value held c.index.ensures)
+    (row_here c.self.invariant.0 c.args.r c.part-part.ensures.value c.slot-slot.ensures.value held c.index.ensures t.0 t.1).0
 
 pub returns-clause-tuple : goal.returns-clause-tuple
 returns-clause-tuple g c =
     let held = rw (← c.self.view_is) at c.requires in
-    let in_range = slot_in_range _ _ _ _ _ _ _ c.self.invariant.0 c.args.r c.part-part.result c.slot-slot.result c.part-part.ensures.value c.slot-slot.ensures.value held in
-    let laid = laid_held _ _ _ _ _ _ _ c.self.invariant.0 c.args.r c.part-part.result c.slot-slot.result c.part-part.ensures.value c.slot-slot.ensures.value held c.index.result.now c.index.ensures in
+    let in_range = slot_in_range c.self.invariant.0 c.args.r c.part-part.ensures.value c.slot-slot.ensures.value held in
+    let laid = laid_held c.self.invariant.0 c.args.r c.part-part.ensures.value c.slot-slot.ensures.value held c.index.ensures in
     let is =
-    found_here _ _ _ _ _ _ _ c.self.invariant.0 c.args.r c.part-part.result c.slot-slot.result c.part-part.ensures.value c.slot-slot.ensures.value held c.index.result.now c.index.ensures
+    found_here c.self.invariant.0 c.args.r c.part-part.ensures.value c.slot-slot.ensures.value held c.index.ensures
     ∙ ap (λ row. with_count row (get_or (get_or c.self.inside.counts.items c.part-part.result []) c.slot-slot.result 0)) (row_of_run c.self.inside.width c.slot-slot.result c.index.result.now c.run.result.now laid.some in_range c.run.ensures) in
     rw (← c.self.view_is) (rw is refl)
 
 pub returns-clause-width : goal.returns-clause-width
 returns-clause-width g c =
     let held = rw (← c.self.view_is) at c.requires in
-    let in_range = slot_in_range _ _ _ _ _ _ _ c.self.invariant.0 c.args.r c.part-part.result c.slot-slot.result c.part-part.ensures.value c.slot-slot.ensures.value held in
-    let laid = laid_held _ _ _ _ _ _ _ c.self.invariant.0 c.args.r c.part-part.result c.slot-slot.result c.part-part.ensures.value c.slot-slot.ensures.value held c.index.result.now c.index.ensures in
+    let in_range = slot_in_range c.self.invariant.0 c.args.r c.part-part.ensures.value c.slot-slot.ensures.value held in
+    let laid = laid_held c.self.invariant.0 c.args.r c.part-part.ensures.value c.slot-slot.ensures.value held c.index.ensures in
     rw (← c.self.view_is) (row_wide c.self.inside.width c.slot-slot.result c.index.result.now c.run.result.now laid (row_of_run c.self.inside.width c.slot-slot.result c.index.result.now c.run.result.now laid.some in_range c.run.ensures))

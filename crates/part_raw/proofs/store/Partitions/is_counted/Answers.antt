@@ -2,4 +2,4 @@ use Rattle.part_raw.proofs.Uncounted.{uncounted_zero}
 use Rattle.part_raw.proofs.store.Partitions.is_counted.Goals as goal
 
 pub returns-clause-none : goal.returns-clause-none
-returns-clause-none g c = λ uncounted. rw (← c.self.view_is) (uncounted_zero _ _ _ _ _ _ _ c.self.invariant.0 uncounted)
+returns-clause-none g c = λ uncounted. rw (← c.self.view_is) (uncounted_zero c.self.invariant.0 uncounted)

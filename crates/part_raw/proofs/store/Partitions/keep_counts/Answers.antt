@@ -9,12 +9,12 @@ use Rattle.part_raw.proofs.store.Partitions.keep_counts.Goals as goal
 pub invariant_of-self : goal.invariant_of-self
 invariant_of-self g c =
     rw c.in_ok-self-inside.ensures (
-      zeros_stocked _ _ _ _ _ _ _ c.self.invariant.0 c.if-self.false,
-      c.self.invariant.1 ∙ ap (sum_by length) (sym (zeros_same _ _ _ _ _ _ _ c.self.invariant.0 c.if-self.false)),
+      zeros_stocked c.self.invariant.0 c.if-self.false,
+      c.self.invariant.1 ∙ ap (sum_by length) (sym (zeros_same c.self.invariant.0 c.if-self.false)),
     )
 
 pub returns-clause-ok : goal.returns-clause-ok
 returns-clause-ok g c =
     rw (← c.self.view_is)
     (ap (λ counts. store c.self.inside.width (tuples_of (tables c.self.inside.width (shelves_of c.self.inside.blocks.items counts))) c.self.inside.free true) c.in_ok-self-inside.ensures
-    ∙ ap (λ rows. store c.self.inside.width (tuples_of rows) c.self.inside.free true) (zeros_same _ _ _ _ _ _ _ c.self.invariant.0 c.if-self.false))
+    ∙ ap (λ rows. store c.self.inside.width (tuples_of rows) c.self.inside.free true) (zeros_same c.self.invariant.0 c.if-self.false))

@@ -1,11 +1,17 @@
-use Rattle.std.proofs.Common.{◌<◌, ℕ, None, arith, refl, sym, subst, ◌∙◌}
+use Rattle.std.proofs.Common.{◌≡◌, set, ◌<◌, ℕ, None, arith, sym, subst, ◌∙◌}
 use Rattle.std.proofs.lemmas.Bool.{true≢false}
+use Rattle.std.specs.FinMap.{get, insert}
+use Rattle.part_raw.specs.Store.{tuple}
+use Rattle.part_raw.specs.Counted.{shelves_of}
+use Rattle.part_raw.specs.Open.{tables}
 use Rattle.part_raw.specs.Rows.{IsLaid, rows_in}
-use Rattle.part_raw.specs.Layout.{IsPartition, vacancies}
+use Rattle.part_raw.specs.Layout.{IsPartition, tuples_of, vacancies}
 use Rattle.part_raw.proofs.Sound.{first_is_some}
 use Rattle.part_raw.proofs.Stocked.{as_many, laid_here, bits_here, few_here}
 use Rattle.part_raw.proofs.Filled.{first_within, first_has_slot, first_there, filled_slots, filled_full, filled_open, filled_fresh, filled_tuples}
+use Rattle.part_raw.proofs.store.Partitions.put.Given.{Over}
 use Rattle.part_raw.proofs.store.Partitions.put.Goals as goal
+use Rattle.part_raw.proofs.store.Partitions.put.Goals.{After-to-r}
 
 pub unreachable-requires : goal.unreachable-requires
 unreachable-requires g c =
@@ -16,39 +22,37 @@ unreachable-requires g c =
 pub index_mut-occupancy-requires : goal.index_mut-occupancy-requires
 index_mut-occupancy-requires g c =
     let is = rw c.in-Some.is at c.self.invariant.0 in
-    omega (arith, first_within _ _ _ _ _ _ _ is, as_many _ _ _ _ _ _ _ is, c.self.inside.occupancies.ok)
+    omega (arith, first_within is, as_many is, c.self.inside.occupancies.ok)
 
 pub index_mut-block-requires : goal.index_mut-block-requires
-index_mut-block-requires g c = let is = rw c.in-Some.is at c.self.invariant.0 in omega (arith, first_within _ _ _ _ _ _ _ is, c.self.inside.blocks.ok)
+index_mut-block-requires g c = let is = rw c.in-Some.is at c.self.invariant.0 in omega (arith, first_within is, c.self.inside.blocks.ok)
 
 pub fill-slot-requires-clause-laid : goal.fill-slot-requires-clause-laid
 fill-slot-requires-clause-laid g c =
     let is = rw c.in-Some.is at c.self.invariant.0 in
     let wide = rw (← c.self.view_is) at c.requires.width in
-    subst (λ (n : ℕ). IsLaid n c.index_mut-block.result.now) (sym wide) (laid_here _ _ _ _ _ _ _ is c.in-Some.part c.index_mut-block.result.now (first_within _ _ _ _ _ _ _ is) c.index_mut-block.ensures.value (first_there _ _ _ _ _ _ _ is c.index_mut-block.result.now c.index_mut-block.ensures.value))
+    subst (λ (n : ℕ). IsLaid n c.index_mut-block.result.now) (sym wide) (laid_here is c.in-Some.part c.index_mut-block.result.now (first_within is) c.index_mut-block.ensures.value (first_there is c.index_mut-block.ensures.value))
 
 pub fill-slot-requires-clause-bits : goal.fill-slot-requires-clause-bits
 fill-slot-requires-clause-bits g c =
     let is = rw c.in-Some.is at c.self.invariant.0 in
     let wide = rw (← c.self.view_is) at c.requires.width in
     subst (λ (n : ℕ). IsPartition c.index_mut-occupancy.result.now.held.words (rows_in n c.index_mut-block.result.now)) (sym wide)
-    (bits_here _ _ _ _ _ _ _ is c.in-Some.part c.index_mut-block.result.now c.index_mut-occupancy.result.now (first_within _ _ _ _ _ _ _ is) c.index_mut-block.ensures.value c.index_mut-occupancy.ensures.value (first_there _ _ _ _ _ _ _ is c.index_mut-block.result.now c.index_mut-block.ensures.value))
+    (bits_here is c.in-Some.part c.index_mut-block.result.now c.index_mut-occupancy.result.now (first_within is) c.index_mut-block.ensures.value c.index_mut-occupancy.ensures.value (first_there is c.index_mut-block.ensures.value))
 
 pub fill-slot-requires-clause-free : goal.fill-slot-requires-clause-free
 fill-slot-requires-clause-free g c =
     let is = rw c.in-Some.is at c.self.invariant.0 in
     let wide = rw (← c.self.view_is) at c.requires.width in
-    subst (λ (n : ℕ). 0 < vacancies (rows_in n c.index_mut-block.result.now)) (sym wide) (first_has_slot _ _ _ _ _ _ _ is c.index_mut-block.result.now c.index_mut-block.ensures.value)
+    subst (λ (n : ℕ). 0 < vacancies (rows_in n c.index_mut-block.result.now)) (sym wide) (first_has_slot is c.index_mut-block.ensures.value)
 
 pub invariant_of-self : goal.invariant_of-self
 invariant_of-self g c =
     let is = rw c.in-Some.is at c.self.invariant.0 in
     let wide = rw (← c.self.view_is) at c.requires.width in
     let some = rw (← c.self.view_is) at c.requires.room in (
-      filled_full _ _ _ _ _ _ _ is c.index_mut-block.result.now c.fill-slot.new.block c.index_mut-occupancy.result.now _ c.fill-slot.result c.args.cells.now.items _ wide c.index_mut-block.ensures.value c.index_mut-occupancy.ensures.value refl
-          c.fill-slot.ensures.laid c.fill-slot.ensures.bits c.fill-slot.ensures.slot c.fill-slot.ensures.fresh c.fill-slot.ensures.slots c.set_count_at.ensures some (c.is_full.ensures.0 c.if-is_full.true),
-      c.self.invariant.1 ∙ sym (filled_slots _ _ _ _ _ _ _ is c.index_mut-block.result.now c.fill-slot.new.block c.index_mut-occupancy.result.now (record { held = c.fill-slot.new.held; next_open = None; has_block = c.index_mut-occupancy.result.now.has_block }) c.fill-slot.result c.args.cells.now.items _ wide
-          c.index_mut-block.ensures.value c.index_mut-occupancy.ensures.value refl c.fill-slot.ensures.laid c.fill-slot.ensures.bits c.fill-slot.ensures.slot c.fill-slot.ensures.fresh c.fill-slot.ensures.slots c.set_count_at.ensures),
+      filled_full is _ wide c.index_mut-block.ensures.value c.index_mut-occupancy.ensures.value c.fill-slot.ensures.laid c.fill-slot.ensures.bits c.fill-slot.ensures.slot c.fill-slot.ensures.fresh c.fill-slot.ensures.slots c.set_count_at.ensures some (c.is_full.ensures.0 c.if-is_full.true),
+      c.self.invariant.1 ∙ sym (filled_slots is _ wide c.index_mut-block.ensures.value c.index_mut-occupancy.ensures.value c.fill-slot.ensures.laid c.fill-slot.ensures.bits c.fill-slot.ensures.slot c.fill-slot.ensures.fresh c.fill-slot.ensures.slots c.set_count_at.ensures),
     )
 
 pub invariant_of-self-else-is_full : goal.invariant_of-self-else-is_full
@@ -57,44 +61,34 @@ invariant_of-self-else-is_full g c =
     let wide = rw (← c.self.view_is) at c.requires.width in
     let some = rw (← c.self.view_is) at c.requires.room in (
       rw c.in-Some.is
-          (filled_open _ _ _ _ _ _ _ is c.index_mut-block.result.now c.fill-slot.new.block c.index_mut-occupancy.result.now _ c.fill-slot.result c.args.cells.now.items _ wide c.index_mut-block.ensures.value c.index_mut-occupancy.ensures.value refl
-          c.fill-slot.ensures.laid c.fill-slot.ensures.bits c.fill-slot.ensures.slot c.fill-slot.ensures.fresh c.fill-slot.ensures.slots c.set_count_at.ensures some
-          (λ full. true≢false (sym (c.is_full.ensures.1 full) ∙ c.if-is_full.false)) refl),
-      c.self.invariant.1 ∙ sym (filled_slots _ _ _ _ _ _ _ is c.index_mut-block.result.now c.fill-slot.new.block c.index_mut-occupancy.result.now (record { held = c.fill-slot.new.held; next_open = None; has_block = c.index_mut-occupancy.result.now.has_block }) c.fill-slot.result c.args.cells.now.items _ wide
-          c.index_mut-block.ensures.value c.index_mut-occupancy.ensures.value refl c.fill-slot.ensures.laid c.fill-slot.ensures.bits c.fill-slot.ensures.slot c.fill-slot.ensures.fresh c.fill-slot.ensures.slots c.set_count_at.ensures),
+          (filled_open is _ wide c.index_mut-block.ensures.value c.index_mut-occupancy.ensures.value c.fill-slot.ensures.laid c.fill-slot.ensures.bits c.fill-slot.ensures.slot c.fill-slot.ensures.fresh c.fill-slot.ensures.slots c.set_count_at.ensures some
+          (λ full. true≢false (sym (c.is_full.ensures.1 full) ∙ c.if-is_full.false))),
+      c.self.invariant.1 ∙ sym (filled_slots is _ wide c.index_mut-block.ensures.value c.index_mut-occupancy.ensures.value c.fill-slot.ensures.laid c.fill-slot.ensures.bits c.fill-slot.ensures.slot c.fill-slot.ensures.fresh c.fill-slot.ensures.slots c.set_count_at.ensures),
     )
 
 pub to-r-requires-clause-part : goal.to-r-requires-clause-part
-to-r-requires-clause-part g c = let is = rw c.in-Some.is at c.self.invariant.0 in omega (arith, first_within _ _ _ _ _ _ _ is, few_here _ _ _ _ _ _ _ is)
+to-r-requires-clause-part g c = let is = rw c.in-Some.is at c.self.invariant.0 in omega (arith, first_within is, few_here is)
+
+fresh : (g : Over) (c : After-to-r g) → get c.args.self.now.tuples c.to-r.result ≡ None
+fresh g c =
+    let wide = rw (← c.self.view_is) at c.requires.width in
+    rw (← c.self.view_is, c.to-r.ensures)
+    (filled_fresh (rw c.in-Some.is at c.self.invariant.0) _ wide c.index_mut-block.ensures.value c.index_mut-occupancy.ensures.value c.fill-slot.ensures.laid c.fill-slot.ensures.bits c.fill-slot.ensures.slot c.fill-slot.ensures.fresh c.fill-slot.ensures.slots c.set_count_at.ensures)
+
+tuples : (g : Over) (c : After-to-r g) → tuples_of (tables c.self.inside.width (shelves_of (set c.self.inside.blocks.items c.in-Some.part c.fill-slot.new.block) c.set_count_at.new.counts.items)) ≡ insert c.args.self.now.tuples c.to-r.result (tuple c.args.cells.now.items 0)
+tuples g c =
+    let wide = rw (← c.self.view_is) at c.requires.width in
+    rw (← c.self.view_is, c.to-r.ensures)
+    (filled_tuples (rw c.in-Some.is at c.self.invariant.0) _ wide c.index_mut-block.ensures.value c.index_mut-occupancy.ensures.value c.fill-slot.ensures.laid c.fill-slot.ensures.bits c.fill-slot.ensures.slot c.fill-slot.ensures.fresh c.fill-slot.ensures.slots c.set_count_at.ensures)
 
 pub returns-then-is_full-clause-fresh : goal.returns-then-is_full-clause-fresh
-returns-then-is_full-clause-fresh g c =
-    let is = rw c.in-Some.is at c.self.invariant.0 in
-    let wide = rw (← c.self.view_is) at c.requires.width in
-    rw (← c.self.view_is, c.to-r.ensures)
-    (filled_fresh _ _ _ _ _ _ _ is c.index_mut-block.result.now c.fill-slot.new.block c.index_mut-occupancy.result.now (record { held = c.fill-slot.new.held; next_open = None; has_block = c.index_mut-occupancy.result.now.has_block }) c.fill-slot.result c.args.cells.now.items _ wide
-    c.index_mut-block.ensures.value c.index_mut-occupancy.ensures.value refl c.fill-slot.ensures.laid c.fill-slot.ensures.bits c.fill-slot.ensures.slot c.fill-slot.ensures.fresh c.fill-slot.ensures.slots c.set_count_at.ensures)
+returns-then-is_full-clause-fresh g c = fresh g (goal.at.returns-then-is_full-clause-fresh g c).After-to-r
 
 pub returns-then-is_full-clause-tuples : goal.returns-then-is_full-clause-tuples
-returns-then-is_full-clause-tuples g c =
-    let is = rw c.in-Some.is at c.self.invariant.0 in
-    let wide = rw (← c.self.view_is) at c.requires.width in
-    rw (← c.self.view_is, c.to-r.ensures)
-    (filled_tuples _ _ _ _ _ _ _ is c.index_mut-block.result.now c.fill-slot.new.block c.index_mut-occupancy.result.now (record { held = c.fill-slot.new.held; next_open = None; has_block = c.index_mut-occupancy.result.now.has_block }) c.fill-slot.result c.args.cells.now.items _ wide
-    c.index_mut-block.ensures.value c.index_mut-occupancy.ensures.value refl c.fill-slot.ensures.laid c.fill-slot.ensures.bits c.fill-slot.ensures.slot c.fill-slot.ensures.fresh c.fill-slot.ensures.slots c.set_count_at.ensures)
+returns-then-is_full-clause-tuples g c = tuples g (goal.at.returns-then-is_full-clause-tuples g c).After-to-r
 
 pub returns-else-is_full-clause-fresh : goal.returns-else-is_full-clause-fresh
-returns-else-is_full-clause-fresh g c =
-    let is = rw c.in-Some.is at c.self.invariant.0 in
-    let wide = rw (← c.self.view_is) at c.requires.width in
-    rw (← c.self.view_is, c.to-r.ensures)
-    (filled_fresh _ _ _ _ _ _ _ is c.index_mut-block.result.now c.fill-slot.new.block c.index_mut-occupancy.result.now (record { held = c.fill-slot.new.held; next_open = None; has_block = c.index_mut-occupancy.result.now.has_block }) c.fill-slot.result c.args.cells.now.items _ wide
-    c.index_mut-block.ensures.value c.index_mut-occupancy.ensures.value refl c.fill-slot.ensures.laid c.fill-slot.ensures.bits c.fill-slot.ensures.slot c.fill-slot.ensures.fresh c.fill-slot.ensures.slots c.set_count_at.ensures)
+returns-else-is_full-clause-fresh g c = fresh g (goal.at.returns-else-is_full-clause-fresh g c).After-to-r
 
 pub returns-else-is_full-clause-tuples : goal.returns-else-is_full-clause-tuples
-returns-else-is_full-clause-tuples g c =
-    let is = rw c.in-Some.is at c.self.invariant.0 in
-    let wide = rw (← c.self.view_is) at c.requires.width in
-    rw (← c.self.view_is, c.to-r.ensures)
-    (filled_tuples _ _ _ _ _ _ _ is c.index_mut-block.result.now c.fill-slot.new.block c.index_mut-occupancy.result.now (record { held = c.fill-slot.new.held; next_open = None; has_block = c.index_mut-occupancy.result.now.has_block }) c.fill-slot.result c.args.cells.now.items _ wide
-    c.index_mut-block.ensures.value c.index_mut-occupancy.ensures.value refl c.fill-slot.ensures.laid c.fill-slot.ensures.bits c.fill-slot.ensures.slot c.fill-slot.ensures.fresh c.fill-slot.ensures.slots c.set_count_at.ensures)
+returns-else-is_full-clause-tuples g c = tuples g (goal.at.returns-else-is_full-clause-tuples g c).After-to-r

@@ -1,59 +1,64 @@
-use Rattle.std.proofs.Common.{arith, None, refl, sym, ◌∙◌}
+use Rattle.std.proofs.Common.{◌≡◌, set, arith, sym, ◌∙◌}
 use Rattle.std.proofs.lemmas.Bool.{true≢false}
+use Rattle.std.specs.FinMap.{remove}
+use Rattle.part_raw.specs.Layout.{tuples_of}
+use Rattle.part_raw.specs.Open.{tables}
+use Rattle.part_raw.specs.Counted.{shelves_of}
 use Rattle.part_raw.proofs.Stocked.{as_many, part_within, laid_held, bits_held, freed_slots, most_slots, few_here, held_here, stocked_full, stocked_open, freed_tuples}
+use Rattle.part_raw.proofs.store.Partitions.remove.Given.{Over}
 use Rattle.part_raw.proofs.store.Partitions.remove.Goals as goal
+use Rattle.part_raw.proofs.store.Partitions.remove.Goals.{After-empty}
 
 pub index_mut-occupancy-requires : goal.index_mut-occupancy-requires
 index_mut-occupancy-requires g c =
     let held = rw (← c.self.view_is) at c.requires in
-    omega (arith, part_within _ _ _ _ _ _ _ c.self.invariant.0 c.args.r c.part-part.result c.slot-slot.result c.part-part.ensures.value c.slot-slot.ensures.value held, as_many _ _ _ _ _ _ _ c.self.invariant.0, c.self.inside.occupancies.ok)
+    omega (arith, part_within c.self.invariant.0 c.args.r c.part-part.ensures.value c.slot-slot.ensures.value held, as_many c.self.invariant.0, c.self.inside.occupancies.ok)
 
 pub index_mut-block-requires : goal.index_mut-block-requires
 index_mut-block-requires g c =
     let held = rw (← c.self.view_is) at c.requires in
-    omega (arith, part_within _ _ _ _ _ _ _ c.self.invariant.0 c.args.r c.part-part.result c.slot-slot.result c.part-part.ensures.value c.slot-slot.ensures.value held, c.self.inside.blocks.ok)
+    omega (arith, part_within c.self.invariant.0 c.args.r c.part-part.ensures.value c.slot-slot.ensures.value held, c.self.inside.blocks.ok)
 
 pub empty-requires-clause-laid : goal.empty-requires-clause-laid
 empty-requires-clause-laid g c =
     let held = rw (← c.self.view_is) at c.requires in
-    laid_held _ _ _ _ _ _ _ c.self.invariant.0 c.args.r c.part-part.result c.slot-slot.result c.part-part.ensures.value c.slot-slot.ensures.value held c.index_mut-block.result.now c.index_mut-block.ensures.value
+    laid_held c.self.invariant.0 c.args.r c.part-part.ensures.value c.slot-slot.ensures.value held c.index_mut-block.ensures.value
 
 pub empty-requires-clause-bits : goal.empty-requires-clause-bits
 empty-requires-clause-bits g c =
     let held = rw (← c.self.view_is) at c.requires in
-    bits_held _ _ _ _ _ _ _ c.self.invariant.0 c.args.r c.part-part.result c.slot-slot.result c.part-part.ensures.value c.slot-slot.ensures.value held c.index_mut-block.result.now c.index_mut-occupancy.result.now c.index_mut-block.ensures.value c.index_mut-occupancy.ensures.value
+    bits_held c.self.invariant.0 c.args.r c.part-part.ensures.value c.slot-slot.ensures.value held c.index_mut-block.ensures.value c.index_mut-occupancy.ensures.value
 
 pub empty-requires-clause-held : goal.empty-requires-clause-held
-empty-requires-clause-held g c = held_here _ _ _ _ _ _ _ c.self.invariant.0 c.args.r c.part-part.result c.slot-slot.result c.part-part.ensures.value c.slot-slot.ensures.value (rw (← c.self.view_is) at c.requires) c.index_mut-block.result.now c.index_mut-block.ensures.value
+empty-requires-clause-held g c = held_here c.self.invariant.0 c.args.r c.part-part.ensures.value c.slot-slot.ensures.value (rw (← c.self.view_is) at c.requires) c.index_mut-block.ensures.value
 
 pub invariant_of-self : goal.invariant_of-self
 invariant_of-self g c = (
-  stocked_full _ _ _ _ _ _ _ c.self.invariant.0 c.args.r c.part-part.result c.slot-slot.result c.part-part.ensures.value c.slot-slot.ensures.value (rw (← c.self.view_is) at c.requires) c.index_mut-block.result.now c.empty.new.block c.index_mut-occupancy.result.now _
-      c.index_mut-block.ensures.value c.index_mut-occupancy.ensures.value refl c.empty.ensures.laid c.empty.ensures.bits c.empty.ensures.slots (c.is_full-was_full.ensures.0 c.if-was_full.true) refl,
-  c.self.invariant.1 ∙ sym (freed_slots _ _ _ _ _ _ _ c.self.invariant.0 c.args.r c.part-part.result c.slot-slot.result c.part-part.ensures.value c.slot-slot.ensures.value (rw (← c.self.view_is) at c.requires) c.index_mut-block.result.now c.empty.new.block c.index_mut-occupancy.result.now (record { held = c.empty.new.held; next_open = None; has_block = c.index_mut-occupancy.result.now.has_block })
-      c.index_mut-block.ensures.value c.index_mut-occupancy.ensures.value refl c.empty.ensures.laid c.empty.ensures.bits c.empty.ensures.slots),
+  stocked_full c.self.invariant.0 c.args.r c.part-part.ensures.value c.slot-slot.ensures.value (rw (← c.self.view_is) at c.requires) c.index_mut-block.ensures.value
+      c.index_mut-occupancy.ensures.value c.empty.ensures.laid c.empty.ensures.bits c.empty.ensures.slots (c.is_full-was_full.ensures.0 c.if-was_full.true),
+  c.self.invariant.1 ∙ sym (freed_slots c.self.invariant.0 c.args.r c.part-part.ensures.value c.slot-slot.ensures.value (rw (← c.self.view_is) at c.requires) c.index_mut-block.ensures.value
+      c.index_mut-occupancy.ensures.value c.empty.ensures.laid c.empty.ensures.bits c.empty.ensures.slots),
 )
 
 pub invariant_of-self-else-was_full : goal.invariant_of-self-else-was_full
 invariant_of-self-else-was_full g c = (
-  stocked_open _ _ _ _ _ _ _ c.self.invariant.0 c.args.r c.part-part.result c.slot-slot.result c.part-part.ensures.value c.slot-slot.ensures.value (rw (← c.self.view_is) at c.requires) c.index_mut-block.result.now c.empty.new.block c.index_mut-occupancy.result.now _
-      c.index_mut-block.ensures.value c.index_mut-occupancy.ensures.value refl c.empty.ensures.laid c.empty.ensures.bits c.empty.ensures.slots
-      (λ full. true≢false (sym (c.is_full-was_full.ensures.1 full) ∙ c.if-was_full.false)) refl,
-  c.self.invariant.1 ∙ sym (freed_slots _ _ _ _ _ _ _ c.self.invariant.0 c.args.r c.part-part.result c.slot-slot.result c.part-part.ensures.value c.slot-slot.ensures.value (rw (← c.self.view_is) at c.requires) c.index_mut-block.result.now c.empty.new.block c.index_mut-occupancy.result.now (record { held = c.empty.new.held; next_open = None; has_block = c.index_mut-occupancy.result.now.has_block })
-      c.index_mut-block.ensures.value c.index_mut-occupancy.ensures.value refl c.empty.ensures.laid c.empty.ensures.bits c.empty.ensures.slots),
+  stocked_open c.self.invariant.0 c.args.r c.part-part.ensures.value c.slot-slot.ensures.value (rw (← c.self.view_is) at c.requires) c.index_mut-block.ensures.value
+      c.index_mut-occupancy.ensures.value c.empty.ensures.laid c.empty.ensures.bits c.empty.ensures.slots
+      (λ full. true≢false (sym (c.is_full-was_full.ensures.1 full) ∙ c.if-was_full.false)),
+  c.self.invariant.1 ∙ sym (freed_slots c.self.invariant.0 c.args.r c.part-part.ensures.value c.slot-slot.ensures.value (rw (← c.self.view_is) at c.requires) c.index_mut-block.ensures.value
+      c.index_mut-occupancy.ensures.value c.empty.ensures.laid c.empty.ensures.bits c.empty.ensures.slots),
 )
 
-pub returns-then-was_full-clause-tuples : goal.returns-then-was_full-clause-tuples
-returns-then-was_full-clause-tuples g c =
+tuples : (g : Over) (c : After-empty g) → tuples_of (tables c.self.inside.width (shelves_of (set c.self.inside.blocks.items c.part-part.result c.empty.new.block) c.self.inside.counts.items)) ≡ remove c.args.self.now.tuples c.args.r
+tuples g c =
     rw (← c.self.view_is)
-    (freed_tuples _ _ _ _ _ _ _ c.self.invariant.0 c.args.r c.part-part.result c.slot-slot.result c.part-part.ensures.value c.slot-slot.ensures.value (rw (← c.self.view_is) at c.requires) c.index_mut-block.result.now c.empty.new.block c.index_mut-occupancy.result.now (record { held = c.empty.new.held; next_open = None; has_block = c.index_mut-occupancy.result.now.has_block })
-    c.index_mut-block.ensures.value c.index_mut-occupancy.ensures.value refl c.empty.ensures.laid c.empty.ensures.bits c.empty.ensures.slots)
+    (freed_tuples c.self.invariant.0 c.args.r c.part-part.ensures.value c.slot-slot.ensures.value (rw (← c.self.view_is) at c.requires) c.index_mut-block.ensures.value c.index_mut-occupancy.ensures.value c.empty.ensures.laid c.empty.ensures.bits c.empty.ensures.slots)
+
+pub returns-then-was_full-clause-tuples : goal.returns-then-was_full-clause-tuples
+returns-then-was_full-clause-tuples g c = tuples g (goal.at.returns-then-was_full-clause-tuples g c).After-empty
 
 pub returns-else-was_full-clause-tuples : goal.returns-else-was_full-clause-tuples
-returns-else-was_full-clause-tuples g c =
-    rw (← c.self.view_is)
-    (freed_tuples _ _ _ _ _ _ _ c.self.invariant.0 c.args.r c.part-part.result c.slot-slot.result c.part-part.ensures.value c.slot-slot.ensures.value (rw (← c.self.view_is) at c.requires) c.index_mut-block.result.now c.empty.new.block c.index_mut-occupancy.result.now (record { held = c.empty.new.held; next_open = None; has_block = c.index_mut-occupancy.result.now.has_block })
-    c.index_mut-block.ensures.value c.index_mut-occupancy.ensures.value refl c.empty.ensures.laid c.empty.ensures.bits c.empty.ensures.slots)
+returns-else-was_full-clause-tuples g c = tuples g (goal.at.returns-else-was_full-clause-tuples g c).After-empty
 
 pub overflow_add-self : goal.overflow_add-self
-overflow_add-self g c = omega (arith, most_slots _ _ _ _ _ _ _ c.self.invariant.0, few_here _ _ _ _ _ _ _ c.self.invariant.0)
+overflow_add-self g c = omega (arith, most_slots c.self.invariant.0, few_here c.self.invariant.0)

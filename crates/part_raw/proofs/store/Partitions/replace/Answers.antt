@@ -7,25 +7,25 @@ use Rattle.part_raw.proofs.store.Partitions.replace.Goals as goal
 pub index_mut-requires : goal.index_mut-requires
 index_mut-requires g c =
     let held = rw (← c.self.view_is) at c.requires.held in
-    omega (arith, part_within _ _ _ _ _ _ _ c.self.invariant.0 c.args.r c.part-part.result c.slot-slot.result c.part-part.ensures.value c.slot-slot.ensures.value held, c.self.inside.blocks.ok)
+    omega (arith, part_within c.self.invariant.0 c.args.r c.part-part.ensures.value c.slot-slot.ensures.value held, c.self.inside.blocks.ok)
 
 pub exchange-requires-clause-laid : goal.exchange-requires-clause-laid
 exchange-requires-clause-laid g c =
     let held = rw (← c.self.view_is) at c.requires.held in
-    laid_held _ _ _ _ _ _ _ c.self.invariant.0 c.args.r c.part-part.result c.slot-slot.result c.part-part.ensures.value c.slot-slot.ensures.value held c.index_mut.result.now c.index_mut.ensures.value
+    laid_held c.self.invariant.0 c.args.r c.part-part.ensures.value c.slot-slot.ensures.value held c.index_mut.ensures.value
 
 pub exchange-requires-clause-held : goal.exchange-requires-clause-held
 exchange-requires-clause-held g c =
-    held_here _ _ _ _ _ _ _ c.self.invariant.0 c.args.r c.part-part.result c.slot-slot.result c.part-part.ensures.value c.slot-slot.ensures.value (rw (← c.self.view_is) at c.requires.held) c.index_mut.result.now c.index_mut.ensures.value
+    held_here c.self.invariant.0 c.args.r c.part-part.ensures.value c.slot-slot.ensures.value (rw (← c.self.view_is) at c.requires.held) c.index_mut.ensures.value
 
 pub invariant_of-self : goal.invariant_of-self
 invariant_of-self g c =
     let held = rw (← c.self.view_is) at c.requires.held in
     let t = is_some-Some _ held in
-    let row = (row_here _ _ _ _ _ _ _ c.self.invariant.0 c.args.r c.part-part.result c.slot-slot.result c.part-part.ensures.value c.slot-slot.ensures.value held c.index_mut.result.now t.0 c.index_mut.ensures.value t.1).0 in (
-      exchanged_stocked _ _ _ _ _ _ _ c.self.invariant.0 c.args.r c.part-part.result c.slot-slot.result c.part-part.ensures.value c.slot-slot.ensures.value held c.index_mut.result.now c.exchange.new.block t.0 _ c.index_mut.ensures.value t.1
+    let row = (row_here c.self.invariant.0 c.args.r c.part-part.ensures.value c.slot-slot.ensures.value held c.index_mut.ensures.value t.0 t.1).0 in (
+      exchanged_stocked c.self.invariant.0 c.args.r c.part-part.ensures.value c.slot-slot.ensures.value held _ c.index_mut.ensures.value t.1
           c.exchange.ensures.laid (c.exchange.ensures.slots t.0.cells row),
-      c.self.invariant.1 ∙ sym (exchanged_slots _ _ _ _ _ _ _ c.self.invariant.0 c.args.r c.part-part.result c.slot-slot.result c.part-part.ensures.value c.slot-slot.ensures.value held c.index_mut.result.now c.exchange.new.block t.0 _ c.index_mut.ensures.value t.1
+      c.self.invariant.1 ∙ sym (exchanged_slots c.self.invariant.0 c.args.r c.part-part.ensures.value c.slot-slot.ensures.value held _ c.index_mut.ensures.value t.1
           c.exchange.ensures.laid (c.exchange.ensures.slots t.0.cells row)),
     )
 
@@ -33,16 +33,16 @@ pub returns-clause-value : goal.returns-clause-value
 returns-clause-value g c =
     let held = rw (← c.self.view_is) at c.requires.held in
     let t = is_some-Some _ held in
-    let row = (row_here _ _ _ _ _ _ _ c.self.invariant.0 c.args.r c.part-part.result c.slot-slot.result c.part-part.ensures.value c.slot-slot.ensures.value held c.index_mut.result.now t.0 c.index_mut.ensures.value t.1).0 in
+    let row = (row_here c.self.invariant.0 c.args.r c.part-part.ensures.value c.slot-slot.ensures.value held c.index_mut.ensures.value t.0 t.1).0 in
     rw (← c.self.view_is) (rw t.1 (c.exchange.ensures.value t.0.cells row))
 
 pub returns-clause-tuples : goal.returns-clause-tuples
 returns-clause-tuples g c =
     let held = rw (← c.self.view_is) at c.requires.held in
     let t = is_some-Some _ held in
-    let row = (row_here _ _ _ _ _ _ _ c.self.invariant.0 c.args.r c.part-part.result c.slot-slot.result c.part-part.ensures.value c.slot-slot.ensures.value held c.index_mut.result.now t.0 c.index_mut.ensures.value t.1).0 in
+    let row = (row_here c.self.invariant.0 c.args.r c.part-part.ensures.value c.slot-slot.ensures.value held c.index_mut.ensures.value t.0 t.1).0 in
     rw (← c.self.view_is)
     (rw t.1
     (ap (λ tuples. store c.self.inside.width tuples c.self.inside.free c.self.inside.counted)
-    (exchanged_tuples _ _ _ _ _ _ _ c.self.invariant.0 c.args.r c.part-part.result c.slot-slot.result c.part-part.ensures.value c.slot-slot.ensures.value held c.index_mut.result.now c.exchange.new.block t.0 _ c.index_mut.ensures.value t.1
+    (exchanged_tuples c.self.invariant.0 c.args.r c.part-part.ensures.value c.slot-slot.ensures.value held _ c.index_mut.ensures.value t.1
     c.exchange.ensures.laid (c.exchange.ensures.slots t.0.cells row))))

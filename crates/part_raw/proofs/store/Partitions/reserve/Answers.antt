@@ -1,73 +1,46 @@
-use Rattle.std.proofs.Common.{◌≡◌, ℕ, ◌+◌, ◌<◌, true, false, length, arith, ap, refl, sym, subst, ◌∙◌}
-use Rattle.part_raw.specs.declared.store.Occupancy.{Occupancy}
+use Rattle.std.proofs.Common.{◌≡◌, ◌+◌, ◌<◌, length, arith, ap, refl, sym, ◌∙◌}
 use Rattle.part_raw.specs.Store.{store}
-use Rattle.part_raw.specs.Open.{IsStocked}
-use Rattle.part_raw.proofs.Bitmaps.{mapped-read}
 use Rattle.part_raw.proofs.Parts.{read_block}
 use Rattle.part_raw.proofs.Stocked.{few_here, as_many}
-use Rattle.part_raw.proofs.Filled.{pushed_stocked, pushed_tuples, pushed_slots, bare_block, refilled_stocked, refill_tuples, refill_slots}
+use Rattle.part_raw.proofs.Filled.{bare_block, refilled_stocked, refill_tuples, refill_slots}
 use Rattle.part_raw.proofs.Sound.{free_reserved_none}
 use Rattle.part_raw.proofs.store.Partitions.reserve.Goals as goal
 
 pub let_go-requires : goal.let_go-requires
 let_go-requires g c =
-    let within : c.bare_from-bare.result < length c.self.inside.blocks.items = omega (arith, c.if-bare-len.true, c.len.ensures, c.self.inside.blocks.ok) in
-    let among : c.bare_from-bare.result < length c.self.inside.occupancies.items = omega (arith, within, as_many _ _ _ _ _ _ _ c.self.invariant.0) in
+    let within : c.bare_from-bare.result < length c.self.inside.blocks.items = omega (arith, c.if-bare-len.false, c.len.ensures, c.self.inside.blocks.ok) in
+    let among : c.bare_from-bare.result < length c.self.inside.occupancies.items = omega (arith, within, as_many c.self.invariant.0) in
     c.replace.ensures.value ∙ sym (read_block c.self.inside.blocks.items c.index_mut.result.now c.bare_from-bare.result within c.index_mut.ensures.value)
-    ∙ bare_block _ _ _ _ _ _ _ c.self.invariant.0 c.bare_from-bare.result within (c.bare_from-bare.ensures among)
+    ∙ bare_block c.self.invariant.0 c.bare_from-bare.result within (c.bare_from-bare.ensures among)
 
 pub index_mut-occupancy-requires : goal.index_mut-occupancy-requires
-index_mut-occupancy-requires g c = omega (arith, as_many _ _ _ _ _ _ _ c.self.invariant.0, c.if-bare-len.true, c.len.ensures, c.self.inside.blocks.ok, c.self.inside.occupancies.ok)
+index_mut-occupancy-requires g c = omega (arith, as_many c.self.invariant.0, c.if-bare-len.false, c.len.ensures, c.self.inside.blocks.ok, c.self.inside.occupancies.ok)
+
+pub returns-then-bare-len-clause-ok : goal.returns-then-bare-len-clause-ok
+returns-then-bare-len-clause-ok g c =
+    rw (← free_reserved_none c.args.self.now.free (omega (arith, c.if-self-gt0.false, ap (λ s. s.free) c.self.view_is))) c.push_partition.ensures.ok
 
 pub overflow_cast-self : goal.overflow_cast-self
-overflow_cast-self g c = omega (arith, few_here _ _ _ _ _ _ _ c.self.invariant.0, c.if-bare-len.true, c.len.ensures, c.self.inside.blocks.ok)
+overflow_cast-self g c = omega (arith, few_here c.self.invariant.0, c.if-bare-len.false, c.len.ensures, c.self.inside.blocks.ok)
 
 pub invariant_of-self : goal.invariant_of-self
 invariant_of-self g c =
     let none : c.self.inside.free ≡ 0 = omega (arith, c.if-self-gt0.false) in
-    let was = subst (λ (n : ℕ). IsStocked c.self.inside.counted c.self.inside.width c.self.inside.blocks.items c.self.inside.counts.items c.self.inside.occupancies.items n c.self.inside.first_open) none c.self.invariant.0 in
     let o = c.index_mut-occupancy.result.now in
-    let o' : Occupancy = record { held = o.held; next_open = c.self.inside.first_open; has_block = true } in
-    let within : c.bare_from-bare.result < length c.self.inside.blocks.items = omega (arith, c.if-bare-len.true, c.len.ensures, c.self.inside.blocks.ok) in
-    let among : c.bare_from-bare.result < length c.self.inside.occupancies.items = omega (arith, within, as_many _ _ _ _ _ _ _ c.self.invariant.0) in
-    let bare = sym (mapped-read (λ (x : Occupancy). x.has_block) c.self.inside.occupancies.items c.bare_from-bare.result o false among c.index_mut-occupancy.ensures.value) ∙ c.bare_from-bare.ensures among in
+    let within : c.bare_from-bare.result < length c.self.inside.blocks.items = omega (arith, c.if-bare-len.false, c.len.ensures, c.self.inside.blocks.ok) in
+    let among : c.bare_from-bare.result < length c.self.inside.occupancies.items = omega (arith, within, as_many c.self.invariant.0) in
     let new = c.replace.ensures.after ∙ c.in_ok-block.ensures in
     rw c.set_counts.ensures (
-      refilled_stocked _ _ _ _ _ _ was c.bare_from-bare.result c.replace.new.dest o o' within c.index_mut-occupancy.ensures.value bare new _ c.in_ok-counts.ensures refl refl refl,
-      ap (λ n. n + 256) c.self.invariant.1 ∙ sym (refill_slots _ _ _ _ _ _ was c.bare_from-bare.result c.replace.new.dest o o' within c.index_mut-occupancy.ensures.value bare new _ c.in_ok-counts.ensures),
-    )
-
-pub returns-then-bare-len-clause-ok : goal.returns-then-bare-len-clause-ok
-returns-then-bare-len-clause-ok g c =
-    let none : c.self.inside.free ≡ 0 = omega (arith, c.if-self-gt0.false) in
-    let was = subst (λ (n : ℕ). IsStocked c.self.inside.counted c.self.inside.width c.self.inside.blocks.items c.self.inside.counts.items c.self.inside.occupancies.items n c.self.inside.first_open) none c.self.invariant.0 in
-    let o = c.index_mut-occupancy.result.now in
-    let o' : Occupancy = record { held = o.held; next_open = c.self.inside.first_open; has_block = true } in
-    let within : c.bare_from-bare.result < length c.self.inside.blocks.items = omega (arith, c.if-bare-len.true, c.len.ensures, c.self.inside.blocks.ok) in
-    let among : c.bare_from-bare.result < length c.self.inside.occupancies.items = omega (arith, within, as_many _ _ _ _ _ _ _ c.self.invariant.0) in
-    let bare = sym (mapped-read (λ (x : Occupancy). x.has_block) c.self.inside.occupancies.items c.bare_from-bare.result o false among c.index_mut-occupancy.ensures.value) ∙ c.bare_from-bare.ensures among in
-    let same = refill_tuples _ _ _ _ _ _ was c.bare_from-bare.result c.replace.new.dest o o' within c.index_mut-occupancy.ensures.value bare (c.replace.ensures.after ∙ c.in_ok-block.ensures) _ c.in_ok-counts.ensures in
-    let free = free_reserved_none c.self.inside.free (omega (arith, c.if-self-gt0.false)) in
-    rw (← c.self.view_is) (rw c.set_counts.ensures (λ i. store c.self.inside.width (same i) (free i) c.self.inside.counted))
-
-pub overflow_cast-part : goal.overflow_cast-part
-overflow_cast-part g c = omega (arith, few_here _ _ _ _ _ _ _ c.self.invariant.0, c.len-part.ensures, c.reserve.ensures.len, c.self.inside.blocks.ok)
-
-pub invariant_of-self-2 : goal.invariant_of-self-2
-invariant_of-self-2 g c =
-    let none : c.self.inside.free ≡ 0 = omega (arith, c.if-self-gt0.false) in
-    let was = subst (λ (n : ℕ). IsStocked c.self.inside.counted c.self.inside.width c.self.inside.blocks.items c.self.inside.counts.items c.self.inside.occupancies.items n c.self.inside.first_open) none c.self.invariant.0 in
-    rw (c.push_reserved.ensures.items, c.reserve.ensures.items, c.push_next.ensures, c.in_ok-counts-2.ensures.items, c.push_reserved-2.ensures.items, c.reserve-2.ensures.items) (
-      pushed_stocked _ _ _ _ _ _ was _ _ c.in_ok-block-2.ensures c.in_ok-counts-2.ensures.made c.in_ok-counts-2.ensures.zeros _ _ c.new-3.ensures refl refl (omega (arith, c.len-part.ensures, c.reserve.ensures.len, c.self.inside.blocks.ok))
-          (omega (arith, few_here _ _ _ _ _ _ _ c.self.invariant.0, c.if-len.false, c.len-2.ensures, c.self.inside.blocks.ok)),
-      ap (λ n. n + 256) c.self.invariant.1 ∙ sym (pushed_slots _ _ _ _ _ _ was _ _ c.in_ok-block-2.ensures c.in_ok-counts-2.ensures.made c.in_ok-counts-2.ensures.zeros),
+      refilled_stocked c.self.invariant.0 none c.bare_from-bare.result c.replace.new.dest o within c.index_mut-occupancy.ensures.value (c.bare_from-bare.ensures among) new _ c.in_ok-counts.ensures _ refl refl refl,
+      ap (λ n. n + 256) c.self.invariant.1 ∙ sym (refill_slots c.self.invariant.0 none c.bare_from-bare.result c.replace.new.dest o within c.index_mut-occupancy.ensures.value (c.bare_from-bare.ensures among) new _ c.in_ok-counts.ensures),
     )
 
 pub returns-clause-ok : goal.returns-clause-ok
 returns-clause-ok g c =
     let none : c.self.inside.free ≡ 0 = omega (arith, c.if-self-gt0.false) in
-    let was = subst (λ (n : ℕ). IsStocked c.self.inside.counted c.self.inside.width c.self.inside.blocks.items c.self.inside.counts.items c.self.inside.occupancies.items n c.self.inside.first_open) none c.self.invariant.0 in
-    let pushed = pushed_tuples _ _ _ _ _ _ was _ _ c.in_ok-block-2.ensures c.in_ok-counts-2.ensures.made c.in_ok-counts-2.ensures.zeros in
+    let o = c.index_mut-occupancy.result.now in
+    let within : c.bare_from-bare.result < length c.self.inside.blocks.items = omega (arith, c.if-bare-len.false, c.len.ensures, c.self.inside.blocks.ok) in
+    let among : c.bare_from-bare.result < length c.self.inside.occupancies.items = omega (arith, within, as_many c.self.invariant.0) in
+    let same = refill_tuples c.self.invariant.0 none c.bare_from-bare.result c.replace.new.dest o within c.index_mut-occupancy.ensures.value (c.bare_from-bare.ensures among) (c.replace.ensures.after ∙ c.in_ok-block.ensures) _ c.in_ok-counts.ensures in
     let free = free_reserved_none c.self.inside.free (omega (arith, c.if-self-gt0.false)) in
-    rw (← c.self.view_is)
-    (rw (c.push_reserved.ensures.items, c.reserve.ensures.items, c.push_next.ensures, c.in_ok-counts-2.ensures.items) (λ i. store c.self.inside.width (pushed i) (free i) c.self.inside.counted))
+    rw (← c.self.view_is) (rw c.set_counts.ensures (λ i. store c.self.inside.width (same i) (free i) c.self.inside.counted))

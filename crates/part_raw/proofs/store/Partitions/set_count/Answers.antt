@@ -13,8 +13,8 @@ invariant_of-self g c =
     let kept = rw (← c.self.view_is) at c.requires.counted in
     let t = is_some-Some _ held in
     rw c.set_count_at.ensures (
-      recounted_stocked _ _ _ _ _ _ _ c.self.invariant.0 c.args.r c.part.result c.slot.result c.part.ensures.value c.slot.ensures.value held t.0 c.args.n kept t.1,
-      c.self.invariant.1 ∙ sym (recounted_slots _ _ _ _ _ _ _ c.self.invariant.0 c.args.r c.part.result c.slot.result c.part.ensures.value c.slot.ensures.value held t.0 c.args.n kept t.1),
+      recounted_stocked c.self.invariant.0 c.args.r c.part.ensures.value c.slot.ensures.value held t.0 c.args.n kept t.1,
+      c.self.invariant.1 ∙ sym (recounted_slots c.self.invariant.0 c.args.r c.part.ensures.value c.slot.ensures.value held t.0 c.args.n kept t.1),
     )
 
 pub returns : goal.returns
@@ -26,4 +26,4 @@ returns g c =
     (rw t.1
     (ap (λ tuples. store c.self.inside.width tuples c.self.inside.free c.self.inside.counted)
     (ap (λ counts. tuples_of (tables c.self.inside.width (shelves_of c.self.inside.blocks.items counts))) c.set_count_at.ensures
-    ∙ recounted_tuples _ _ _ _ _ _ _ c.self.invariant.0 c.args.r c.part.result c.slot.result c.part.ensures.value c.slot.ensures.value held t.0 c.args.n kept t.1)))
+    ∙ recounted_tuples c.self.invariant.0 c.args.r c.part.ensures.value c.slot.ensures.value held t.0 c.args.n kept t.1)))

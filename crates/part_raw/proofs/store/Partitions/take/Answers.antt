@@ -1,75 +1,79 @@
-use Rattle.std.proofs.Common.{[], get_or, arith, ap, None, Some, refl, sym, ◌∙◌}
+use Rattle.std.proofs.Common.{◌≡◌, set, [], get_or, arith, ap, Some, sym, ◌∙◌}
 use Rattle.std.proofs.lemmas.Bool.{true≢false}
+use Rattle.std.specs.FinMap.{remove}
+use Rattle.part_raw.specs.Layout.{tuples_of}
+use Rattle.part_raw.specs.Open.{tables}
 use Rattle.part_raw.proofs.Stocked.{as_many, part_within, laid_held, bits_held, freed_slots, most_slots, few_here, held_here, stocked_full, stocked_open, freed_tuples, found_here}
-use Rattle.part_raw.specs.Store.{tuple}
-use Rattle.part_raw.specs.Counted.{with_count}
+use Rattle.part_raw.specs.Store as store
+use Rattle.part_raw.specs.Store.{tuple_at}
+use Rattle.part_raw.specs.Counted.{shelves_of, with_count}
+use Rattle.part_raw.proofs.store.Partitions.take.Given.{Over}
 use Rattle.part_raw.proofs.store.Partitions.take.Goals as goal
+use Rattle.part_raw.proofs.store.Partitions.take.Goals.{After-count_at-count}
 
 pub index_mut-occupancy-requires : goal.index_mut-occupancy-requires
 index_mut-occupancy-requires g c =
     let held = rw (← c.self.view_is) at c.requires.held in
-    omega (arith, part_within _ _ _ _ _ _ _ c.self.invariant.0 c.args.r c.part-part.result c.slot-slot.result c.part-part.ensures.value c.slot-slot.ensures.value held, as_many _ _ _ _ _ _ _ c.self.invariant.0, c.self.inside.occupancies.ok)
+    omega (arith, part_within c.self.invariant.0 c.args.r c.part-part.ensures.value c.slot-slot.ensures.value held, as_many c.self.invariant.0, c.self.inside.occupancies.ok)
 
 pub index_mut-block-requires : goal.index_mut-block-requires
 index_mut-block-requires g c =
     let held = rw (← c.self.view_is) at c.requires.held in
-    omega (arith, part_within _ _ _ _ _ _ _ c.self.invariant.0 c.args.r c.part-part.result c.slot-slot.result c.part-part.ensures.value c.slot-slot.ensures.value held, c.self.inside.blocks.ok)
+    omega (arith, part_within c.self.invariant.0 c.args.r c.part-part.ensures.value c.slot-slot.ensures.value held, c.self.inside.blocks.ok)
 
 pub vacate-requires-clause-laid : goal.vacate-requires-clause-laid
 vacate-requires-clause-laid g c =
     let held = rw (← c.self.view_is) at c.requires.held in
-    laid_held _ _ _ _ _ _ _ c.self.invariant.0 c.args.r c.part-part.result c.slot-slot.result c.part-part.ensures.value c.slot-slot.ensures.value held c.index_mut-block.result.now c.index_mut-block.ensures.value
+    laid_held c.self.invariant.0 c.args.r c.part-part.ensures.value c.slot-slot.ensures.value held c.index_mut-block.ensures.value
 
 pub vacate-requires-clause-bits : goal.vacate-requires-clause-bits
 vacate-requires-clause-bits g c =
     let held = rw (← c.self.view_is) at c.requires.held in
-    bits_held _ _ _ _ _ _ _ c.self.invariant.0 c.args.r c.part-part.result c.slot-slot.result c.part-part.ensures.value c.slot-slot.ensures.value held c.index_mut-block.result.now c.index_mut-occupancy.result.now c.index_mut-block.ensures.value c.index_mut-occupancy.ensures.value
+    bits_held c.self.invariant.0 c.args.r c.part-part.ensures.value c.slot-slot.ensures.value held c.index_mut-block.ensures.value c.index_mut-occupancy.ensures.value
 
 pub vacate-requires-clause-held : goal.vacate-requires-clause-held
-vacate-requires-clause-held g c = held_here _ _ _ _ _ _ _ c.self.invariant.0 c.args.r c.part-part.result c.slot-slot.result c.part-part.ensures.value c.slot-slot.ensures.value (rw (← c.self.view_is) at c.requires.held) c.index_mut-block.result.now c.index_mut-block.ensures.value
+vacate-requires-clause-held g c = held_here c.self.invariant.0 c.args.r c.part-part.ensures.value c.slot-slot.ensures.value (rw (← c.self.view_is) at c.requires.held) c.index_mut-block.ensures.value
 
 pub invariant_of-self : goal.invariant_of-self
 invariant_of-self g c = (
-  stocked_full _ _ _ _ _ _ _ c.self.invariant.0 c.args.r c.part-part.result c.slot-slot.result c.part-part.ensures.value c.slot-slot.ensures.value (rw (← c.self.view_is) at c.requires.held) c.index_mut-block.result.now c.vacate.new.block c.index_mut-occupancy.result.now _
-      c.index_mut-block.ensures.value c.index_mut-occupancy.ensures.value refl c.vacate.ensures.laid c.vacate.ensures.bits c.vacate.ensures.slots (c.is_full-was_full.ensures.0 c.if-was_full.true) refl,
-  c.self.invariant.1 ∙ sym (freed_slots _ _ _ _ _ _ _ c.self.invariant.0 c.args.r c.part-part.result c.slot-slot.result c.part-part.ensures.value c.slot-slot.ensures.value (rw (← c.self.view_is) at c.requires.held) c.index_mut-block.result.now c.vacate.new.block c.index_mut-occupancy.result.now (record { held = c.vacate.new.held; next_open = None; has_block = c.index_mut-occupancy.result.now.has_block })
-      c.index_mut-block.ensures.value c.index_mut-occupancy.ensures.value refl c.vacate.ensures.laid c.vacate.ensures.bits c.vacate.ensures.slots),
+  stocked_full c.self.invariant.0 c.args.r c.part-part.ensures.value c.slot-slot.ensures.value (rw (← c.self.view_is) at c.requires.held) c.index_mut-block.ensures.value
+      c.index_mut-occupancy.ensures.value c.vacate.ensures.laid c.vacate.ensures.bits c.vacate.ensures.slots (c.is_full-was_full.ensures.0 c.if-was_full.true),
+  c.self.invariant.1 ∙ sym (freed_slots c.self.invariant.0 c.args.r c.part-part.ensures.value c.slot-slot.ensures.value (rw (← c.self.view_is) at c.requires.held) c.index_mut-block.ensures.value
+      c.index_mut-occupancy.ensures.value c.vacate.ensures.laid c.vacate.ensures.bits c.vacate.ensures.slots),
 )
 
 pub invariant_of-self-else-was_full : goal.invariant_of-self-else-was_full
 invariant_of-self-else-was_full g c = (
-  stocked_open _ _ _ _ _ _ _ c.self.invariant.0 c.args.r c.part-part.result c.slot-slot.result c.part-part.ensures.value c.slot-slot.ensures.value (rw (← c.self.view_is) at c.requires.held) c.index_mut-block.result.now c.vacate.new.block c.index_mut-occupancy.result.now _
-      c.index_mut-block.ensures.value c.index_mut-occupancy.ensures.value refl c.vacate.ensures.laid c.vacate.ensures.bits c.vacate.ensures.slots
-      (λ full. true≢false (sym (c.is_full-was_full.ensures.1 full) ∙ c.if-was_full.false)) refl,
-  c.self.invariant.1 ∙ sym (freed_slots _ _ _ _ _ _ _ c.self.invariant.0 c.args.r c.part-part.result c.slot-slot.result c.part-part.ensures.value c.slot-slot.ensures.value (rw (← c.self.view_is) at c.requires.held) c.index_mut-block.result.now c.vacate.new.block c.index_mut-occupancy.result.now (record { held = c.vacate.new.held; next_open = None; has_block = c.index_mut-occupancy.result.now.has_block })
-      c.index_mut-block.ensures.value c.index_mut-occupancy.ensures.value refl c.vacate.ensures.laid c.vacate.ensures.bits c.vacate.ensures.slots),
+  stocked_open c.self.invariant.0 c.args.r c.part-part.ensures.value c.slot-slot.ensures.value (rw (← c.self.view_is) at c.requires.held) c.index_mut-block.ensures.value
+      c.index_mut-occupancy.ensures.value c.vacate.ensures.laid c.vacate.ensures.bits c.vacate.ensures.slots
+      (λ full. true≢false (sym (c.is_full-was_full.ensures.1 full) ∙ c.if-was_full.false)),
+  c.self.invariant.1 ∙ sym (freed_slots c.self.invariant.0 c.args.r c.part-part.ensures.value c.slot-slot.ensures.value (rw (← c.self.view_is) at c.requires.held) c.index_mut-block.ensures.value
+      c.index_mut-occupancy.ensures.value c.vacate.ensures.laid c.vacate.ensures.bits c.vacate.ensures.slots),
 )
 
-pub returns-then-was_full-clause-tuples : goal.returns-then-was_full-clause-tuples
-returns-then-was_full-clause-tuples g c =
+tuples : (g : Over) (c : After-count_at-count g) → tuples_of (tables c.self.inside.width (shelves_of (set c.self.inside.blocks.items c.part-part.result c.vacate.new.block) c.self.inside.counts.items)) ≡ remove c.args.self.now.tuples c.args.r
+tuples g c =
     rw (← c.self.view_is)
-    (freed_tuples _ _ _ _ _ _ _ c.self.invariant.0 c.args.r c.part-part.result c.slot-slot.result c.part-part.ensures.value c.slot-slot.ensures.value (rw (← c.self.view_is) at c.requires.held) c.index_mut-block.result.now c.vacate.new.block c.index_mut-occupancy.result.now (record { held = c.vacate.new.held; next_open = None; has_block = c.index_mut-occupancy.result.now.has_block })
-    c.index_mut-block.ensures.value c.index_mut-occupancy.ensures.value refl c.vacate.ensures.laid c.vacate.ensures.bits c.vacate.ensures.slots)
+    (freed_tuples c.self.invariant.0 c.args.r c.part-part.ensures.value c.slot-slot.ensures.value (rw (← c.self.view_is) at c.requires.held) c.index_mut-block.ensures.value c.index_mut-occupancy.ensures.value c.vacate.ensures.laid c.vacate.ensures.bits c.vacate.ensures.slots)
 
-pub returns-else-was_full-clause-tuples : goal.returns-else-was_full-clause-tuples
-returns-else-was_full-clause-tuples g c =
+tuple : (g : Over) (c : After-count_at-count g) → tuple_at c.args.self.now c.args.r ≡ Some (store.tuple c.vacate.new.cells.items c.count_at-count.result.now)
+tuple g c =
     rw (← c.self.view_is)
-    (freed_tuples _ _ _ _ _ _ _ c.self.invariant.0 c.args.r c.part-part.result c.slot-slot.result c.part-part.ensures.value c.slot-slot.ensures.value (rw (← c.self.view_is) at c.requires.held) c.index_mut-block.result.now c.vacate.new.block c.index_mut-occupancy.result.now (record { held = c.vacate.new.held; next_open = None; has_block = c.index_mut-occupancy.result.now.has_block })
-    c.index_mut-block.ensures.value c.index_mut-occupancy.ensures.value refl c.vacate.ensures.laid c.vacate.ensures.bits c.vacate.ensures.slots)
+    (found_here c.self.invariant.0 c.args.r c.part-part.ensures.value c.slot-slot.ensures.value (rw (← c.self.view_is) at c.requires.held) c.index_mut-block.ensures.value
+    ∙ ap (λ row. with_count row (get_or (get_or c.self.inside.counts.items c.part-part.result []) c.slot-slot.result 0)) c.vacate.ensures.row
+    ∙ ap (λ n. Some (store.tuple c.vacate.new.cells.items n)) (sym c.count_at-count.ensures))
+
+pub returns-then-was_full-clause-tuples : goal.returns-then-was_full-clause-tuples
+returns-then-was_full-clause-tuples g c = tuples g (goal.at.returns-then-was_full-clause-tuples g c).After-count_at-count
 
 pub returns-then-was_full-clause-tuple : goal.returns-then-was_full-clause-tuple
-returns-then-was_full-clause-tuple g c =
-    rw (← c.self.view_is)
-    (found_here _ _ _ _ _ _ _ c.self.invariant.0 c.args.r c.part-part.result c.slot-slot.result c.part-part.ensures.value c.slot-slot.ensures.value (rw (← c.self.view_is) at c.requires.held) c.index_mut-block.result.now c.index_mut-block.ensures.value
-    ∙ ap (λ row. with_count row (get_or (get_or c.self.inside.counts.items c.part-part.result []) c.slot-slot.result 0)) c.vacate.ensures.row
-    ∙ ap (λ n. Some (tuple c.vacate.new.cells.items n)) (sym c.count_at-count.ensures))
+returns-then-was_full-clause-tuple g c = tuple g (goal.at.returns-then-was_full-clause-tuple g c).After-count_at-count
+
+pub returns-else-was_full-clause-tuples : goal.returns-else-was_full-clause-tuples
+returns-else-was_full-clause-tuples g c = tuples g (goal.at.returns-else-was_full-clause-tuples g c).After-count_at-count
 
 pub returns-else-was_full-clause-tuple : goal.returns-else-was_full-clause-tuple
-returns-else-was_full-clause-tuple g c =
-    rw (← c.self.view_is)
-    (found_here _ _ _ _ _ _ _ c.self.invariant.0 c.args.r c.part-part.result c.slot-slot.result c.part-part.ensures.value c.slot-slot.ensures.value (rw (← c.self.view_is) at c.requires.held) c.index_mut-block.result.now c.index_mut-block.ensures.value
-    ∙ ap (λ row. with_count row (get_or (get_or c.self.inside.counts.items c.part-part.result []) c.slot-slot.result 0)) c.vacate.ensures.row
-    ∙ ap (λ n. Some (tuple c.vacate.new.cells.items n)) (sym c.count_at-count.ensures))
+returns-else-was_full-clause-tuple g c = tuple g (goal.at.returns-else-was_full-clause-tuple g c).After-count_at-count
 
 pub overflow_add-self : goal.overflow_add-self
-overflow_add-self g c = omega (arith, most_slots _ _ _ _ _ _ _ c.self.invariant.0, few_here _ _ _ _ _ _ _ c.self.invariant.0)
+overflow_add-self g c = omega (arith, most_slots c.self.invariant.0, few_here c.self.invariant.0)

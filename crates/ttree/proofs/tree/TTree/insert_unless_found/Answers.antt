@@ -47,11 +47,7 @@ insert_unless_found-found-requires g c =
     )
 
 pub returns-then-is_none-clause-bound : goal.returns-then-is_none-clause-bound
-returns-then-is_none-clause-bound g c =
-    let p = c.args.self.now in
-    list_bound g.row.MIN g.row.MAX p.tree (subst (λ (q : TreeWithSpares). IsTTree g.row.MIN g.row.MAX q.tree) c.self.view_is c.self.invariant.fit)
+returns-then-is_none-clause-bound g c = rw (← c.self.view_is) (list_bound g.row.MIN g.row.MAX c.self.inside.tree.tree c.self.invariant.fit)
 
 pub returns-else-is_none-clause-bound : goal.returns-else-is_none-clause-bound
-returns-else-is_none-clause-bound g c =
-    let p = c.args.self.now in
-    list_bound g.row.MIN g.row.MAX p.tree (subst (λ (q : TreeWithSpares). IsTTree g.row.MIN g.row.MAX q.tree) c.self.view_is c.self.invariant.fit)
+returns-else-is_none-clause-bound g c = rw (← c.self.view_is) (list_bound g.row.MIN g.row.MAX c.self.inside.tree.tree c.self.invariant.fit)

@@ -53,11 +53,7 @@ returns-then-not-has_node-clause-asks g c =
     λ some. absurd (omega (arith, some, ap (λ (t : Tree (Label TupleRef)). length (list t)) tree, ap (λ (xs : List TupleRef). length xs) first.0))
 
 pub returns-then-not-has_node-clause-bound : goal.returns-then-not-has_node-clause-bound
-returns-then-not-has_node-clause-bound g c =
-    let t : Tree (Label TupleRef) = c.args.self.now.tree in
-    list_bound g.row.MIN g.row.MAX t (subst (λ (p : TreeWithSpares). IsTTree g.row.MIN g.row.MAX p.tree) c.self.view_is c.self.invariant.fit)
+returns-then-not-has_node-clause-bound g c = rw (← c.self.view_is) (list_bound g.row.MIN g.row.MAX c.self.inside.tree.tree c.self.invariant.fit)
 
 pub returns-clause-bound : goal.returns-clause-bound
-returns-clause-bound g c =
-    let t : Tree (Label TupleRef) = c.args.self.now.tree in
-    list_bound g.row.MIN g.row.MAX t (subst (λ (p : TreeWithSpares). IsTTree g.row.MIN g.row.MAX p.tree) c.self.view_is c.self.invariant.fit)
+returns-clause-bound g c = rw (← c.self.view_is) (list_bound g.row.MIN g.row.MAX c.self.inside.tree.tree c.self.invariant.fit)

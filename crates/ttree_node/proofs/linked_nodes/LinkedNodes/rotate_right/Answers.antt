@@ -1,7 +1,7 @@
 use Rattle.std.proofs.Common.{◌∙◌, sym, refl, subst, ap, lit<}
 use Rattle.std.specs.Prelude.{IsSome}
 use Rattle.ttree_node.specs.Held.{node_at, set_node}
-use Rattle.ttree_node.specs.Tree.{has_left, with_tree, rotated_right}
+use Rattle.ttree_node.specs.Tree.{with_tree, rotated_right}
 use Rattle.ttree_node.specs.Linked.{located, is_place_in, Present, linked_down, linked_up, node_for, label_of, rooted}
 use Rattle.ttree_node.specs.Seen.{position_at}
 use Rattle.ttree_node.specs.declared.node.Node.{Node}
@@ -15,31 +15,27 @@ use Rattle.ttree_node.proofs.linked_nodes.LinkedNodes.rotate_right.Goals as goal
 
 pub unwrap-lower-requires : goal.unwrap-lower-requires
 unwrap-lower-requires g c =
-    let i = c.self.inside.parts in let e = c.self.view_is in let n = c.get-node.result.now in
-    let v = visit i i refl c.self.invariant c.args.place c.unwrap-upper.result c.unwrap-upper.ensures ((λ k. is_place_in (located (e k)) c.args.place) ∙ c.requires.placed) n c.get-node.ensures in
-    let t = turning_right i c.args.place n v ((λ k. has_left (position_at (e k) c.args.place).here) ∙ c.requires.child) in
+    let i = c.self.inside.parts in let n = c.get-node.result.now in
+    let t = turning_right c.self.view_is c.self.invariant c.args.place c.unwrap-upper.ensures c.requires.placed c.get-node.ensures c.requires.child in
     subst (λ o. IsSome o) (sym (ap (λ (w : Node g.row.MAX). w.left) t.node_is)) refl
 
 pub get-child-requires : goal.get-child-requires
 get-child-requires g c =
-    let i = c.self.inside.parts in let e = c.self.view_is in let n = c.get-node.result.now in
-    let v = visit i i refl c.self.invariant c.args.place c.unwrap-upper.result c.unwrap-upper.ensures ((λ k. is_place_in (located (e k)) c.args.place) ∙ c.requires.placed) n c.get-node.ensures in
-    let t = turning_right i c.args.place n v ((λ k. has_left (position_at (e k) c.args.place).here) ∙ c.requires.child) in
+    let i = c.self.inside.parts in let n = c.get-node.result.now in
+    let t = turning_right c.self.view_is c.self.invariant c.args.place c.unwrap-upper.ensures c.requires.placed c.get-node.ensures c.requires.child in
     child_present_right i c.args.place n t c.unwrap-lower.result c.unwrap-lower.ensures
 
 pub set_links-requires-2 : goal.set_links-requires-2
 set_links-requires-2 g c =
-    let i = c.self.inside.parts in let e = c.self.view_is in let n = c.get-node.result.now in
-    let v = visit i i refl c.self.invariant c.args.place c.unwrap-upper.result c.unwrap-upper.ensures ((λ k. is_place_in (located (e k)) c.args.place) ∙ c.requires.placed) n c.get-node.ensures in
-    let t = turning_right i c.args.place n v ((λ k. has_left (position_at (e k) c.args.place).here) ∙ c.requires.child) in
+    let i = c.self.inside.parts in let n = c.get-node.result.now in
+    let t = turning_right c.self.view_is c.self.invariant c.args.place c.unwrap-upper.ensures c.requires.placed c.get-node.ensures c.requires.child in
     let m = c.get-child.result.now in let a = c.unwrap-upper.result in let b = c.unwrap-lower.result in
     (lit< tt, subst (λ h. IsSome (node_at b.at h)) (sym (c.set_links.ensures.held n c.get-node.ensures)) (kept_present b.at a.at (node_for (label_of n) n.left Right m.right n.right) i.nodes.held (child_present_right i c.args.place n t b c.unwrap-lower.ensures)))
 
 pub set_parent-requires : goal.set_parent-requires
 set_parent-requires g c =
-    let i = c.self.inside.parts in let e = c.self.view_is in let n = c.get-node.result.now in
-    let v = visit i i refl c.self.invariant c.args.place c.unwrap-upper.result c.unwrap-upper.ensures ((λ k. is_place_in (located (e k)) c.args.place) ∙ c.requires.placed) n c.get-node.ensures in
-    let t = turning_right i c.args.place n v ((λ k. has_left (position_at (e k) c.args.place).here) ∙ c.requires.child) in
+    let i = c.self.inside.parts in let n = c.get-node.result.now in
+    let t = turning_right c.self.view_is c.self.invariant c.args.place c.unwrap-upper.ensures c.requires.placed c.get-node.ensures c.requires.child in
     let m = c.get-child.result.now in let a = c.unwrap-upper.result in let b = c.unwrap-lower.result in
     let kept = (λ k. node_at b.at (c.set_links.ensures.held n c.get-node.ensures k)) ∙ child_kept_right i c.args.place n t b c.unwrap-lower.ensures m c.get-child.ensures a c.unwrap-upper.ensures (node_for (label_of n) n.left Right m.right n.right) in
     let both = c.set_links-2.ensures.held m kept ∙ (λ k. set_node b.at (node_for (label_of m) n.parent n.side m.left c.args.place) (c.set_links.ensures.held n c.get-node.ensures k)) in
@@ -49,7 +45,7 @@ pub set_child-requires : goal.set_child-requires
 set_child-requires g c =
     let i = c.self.inside.parts in let e = c.self.view_is in let n = c.get-node.result.now in
     let v = visit i i refl c.self.invariant c.args.place c.unwrap-upper.result c.unwrap-upper.ensures ((λ k. is_place_in (located (e k)) c.args.place) ∙ c.requires.placed) n c.get-node.ensures in
-    let t = turning_right i c.args.place n v ((λ k. has_left (position_at (e k) c.args.place).here) ∙ c.requires.child) in
+    let t = turning_right c.self.view_is c.self.invariant c.args.place c.unwrap-upper.ensures c.requires.placed c.get-node.ensures c.requires.child in
     let m = c.get-child.result.now in let a = c.unwrap-upper.result in let b = c.unwrap-lower.result in
     let kept = (λ k. node_at b.at (c.set_links.ensures.held n c.get-node.ensures k)) ∙ child_kept_right i c.args.place n t b c.unwrap-lower.ensures m c.get-child.ensures a c.unwrap-upper.ensures (node_for (label_of n) n.left Right m.right n.right) in
     let both = c.set_links-2.ensures.held m kept ∙ (λ k. set_node b.at (node_for (label_of m) n.parent n.side m.left c.args.place) (c.set_links.ensures.held n c.get-node.ensures k)) in (
@@ -60,9 +56,8 @@ set_child-requires g c =
 
 now : (g : Over) (c : goal.After-set_child g) → Now c.set_child.new.self c.get-node.result.now.left (with_tree rotated_right (position_at c.self.inside.parts c.args.place))
 now g c =
-    let i = c.self.inside.parts in let e = c.self.view_is in let n = c.get-node.result.now in
-    let v = visit i i refl c.self.invariant c.args.place c.unwrap-upper.result c.unwrap-upper.ensures ((λ k. is_place_in (located (e k)) c.args.place) ∙ c.requires.placed) n c.get-node.ensures in
-    let t = turning_right i c.args.place n v ((λ k. has_left (position_at (e k) c.args.place).here) ∙ c.requires.child) in
+    let i = c.self.inside.parts in let n = c.get-node.result.now in
+    let t = turning_right c.self.view_is c.self.invariant c.args.place c.unwrap-upper.ensures c.requires.placed c.get-node.ensures c.requires.child in
     let m = c.get-child.result.now in let a = c.unwrap-upper.result in let b = c.unwrap-lower.result in
     let kept = (λ k. node_at b.at (c.set_links.ensures.held n c.get-node.ensures k)) ∙ child_kept_right i c.args.place n t b c.unwrap-lower.ensures m c.get-child.ensures a c.unwrap-upper.ensures (node_for (label_of n) n.left Right m.right n.right) in
     let both = c.set_links-2.ensures.held m kept ∙ (λ k. set_node b.at (node_for (label_of m) n.parent n.side m.left c.args.place) (c.set_links.ensures.held n c.get-node.ensures k)) in
