@@ -74,11 +74,7 @@ passes_between relations s column r (test ∷ tests) e =
 -- a hash serves an equality alone
 equality_op : (operator : Op) → is_equality operator ≡ true → operator ≡ op.Eq
 equality_op op.Eq e = refl
-equality_op op.Ne e = cc
-equality_op op.Lt e = cc
-equality_op op.Le e = cc
-equality_op op.Gt e = cc
-equality_op op.Ge e = cc
+equality_op operator e = cc
 
 pub passes_equality : (relations : List RelationState) (s : RelationState) (tests : List Test) (n : ℕ) (test : Test) → n < length tests → test ≡ get_or tests n test → HoldsAt (λ t. IsTrue (hash_serves s t)) tests n → (r : TupleRef) → row_passes relations s tests r ≡ true → stands op.Eq (value_in relations s test.column.0 r) test.value ≡ true
 passes_equality relations s tests n test within item served r e =
