@@ -5,6 +5,5 @@ use Rattle.std.specs.declared.cmp.Ordering.{Ordering}
 use Rattle.std.specs.declared.cmp.Ordering.TheVariants.{Less, Equal, Greater}
 
 pub then_same : (o : Ordering) → ordering_then o o ≡ o
-then_same Less = refl
 then_same Equal = refl
-then_same Greater = refl
+then_same o = refl

@@ -24,14 +24,8 @@ use Rattle.mm_relation.proofs.Loops.{same_mapped}
 use Rattle.mm_relation.proofs.Replacing.{await_now, served_now}
 use Rattle.mm_relation.proofs.Serving.{agrees_in, from_mapped, from_where, column_at, gains_declared, loses_declared}
 use Rattle.mm_relation.proofs.Setting.{not_first, with_cells-key}
-
--- a cell beside the one that is set
-slice_get-beside : {A : Type 0} (xs : List A) (i j : ℕ) (x : A) → j ≢ i → slice_get (slice_set xs i x) j ≡ slice_get xs j
-slice_get-beside [] i j x other = refl
-slice_get-beside (y ∷ ys) zero zero x other = absurd (other refl)
-slice_get-beside (y ∷ ys) zero (suc j) x other = refl
-slice_get-beside (y ∷ ys) (suc i) zero x other = refl
-slice_get-beside (y ∷ ys) (suc i) (suc j) x other = slice_get-beside ys i j x (λ e. other (ap (λ n. suc n) e))
+use Rattle.common_lemmas.proofs.Places.{slice_get-set_other}
+use Rattle.std.proofs.lemmas.List.Elements.{All-cons, All-nil}
 
 module _ (keys : Keys) (c : ℕ) where
   beside_one : (t : Row) (s : ColumnNumber × Cell) → 0 < s.0.0 → (s.0.0 == c) ≡ false → row_value keys c (record t { cells = slice_set t.cells (s.0.0 - 1) s.1 }) ≡ row_value keys c t
@@ -42,7 +36,7 @@ module _ (keys : Keys) (c : ℕ) where
             let here : 0 < c = not_first c e in
             let apart : c ≢ s.0.0 = (λ f. let same : (s.0.0 == c) ≡ true = eq-eqb s.0.0 c (sym f) in cc) in
             let places : c - 1 ≢ s.0.0 - 1 = (λ f. apart (omega arith)) in
-            ap (option_and_then (cell_value keys c)) (slice_get-beside t.cells (s.0.0 - 1) (c - 1) s.1 places)
+            ap (option_and_then (cell_value keys c)) (slice_get-set_other t.cells (s.0.0 - 1) (c - 1) s.1 places)
       ] refl
 
   -- a column that is not set has the value that it had
@@ -54,10 +48,6 @@ module _ (keys : Keys) (c : ℕ) where
       ∙ beside_one t s (not_key 0 s (omega arith)) parts.0
 
 -- an index by itself
-all_one : {A : Type 0} (P : A → Type 0) (x : A) → P x → All P (x ∷ [])
-all_one P x h zero d l = h
-all_one P x h (suc k) d l = absurd (omega (arith, l))
-
 contains_one : {A : Type 0} (x y : A) → Contains (x ∷ []) y → x ≡ y
 contains_one x y (zero, l, e) = e
 contains_one x y (suc k, l, e) = absurd (omega (arith, l))
@@ -88,10 +78,10 @@ module _ (keys : Keys) (rows : Tuples Row) (list : List TupleRef) (all : Indexes
     read_one c q here held = read c q (subst (IsColumn all) (contains_one old.column.0 c here) column) held
 
     serve_one : Serve keys rows list (old ∷ [])
-    serve_one = all_one (Serves keys rows list) (seen old) serves
+    serve_one = All-cons (Serves keys rows list) (seen old) [] serves (All-nil (Serves keys rows list))
 
     room_one : HaveRoom 1 (old ∷ [])
-    room_one = all_one (λ (on : IndexOn). wanted 1 on.index ≤ room_in on.index) old room
+    room_one = let Has : IndexOn → Type 0 = λ on. wanted 1 on.index ≤ room_in on.index in All-cons Has old [] room (All-nil Has)
 
     module _ (mid : IndexOn) (loses : Loses keys rows r old mid) where
       lose_one : Lose keys rows r (old ∷ []) (mid ∷ [])

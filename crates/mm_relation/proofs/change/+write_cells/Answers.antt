@@ -6,7 +6,7 @@ use Rattle.part_raw.proofs.Tuples.{get-insert_same, held_tuple}
 use Rattle.mm_relation.specs.Rows.{Row}
 use Rattle.mm_relation.specs.Settings.{piled, with_cells}
 use Rattle.std.proofs.lemmas.Option.{same_Some}
-use Rattle.mm_relation.proofs.Setting.{last_off}
+use Rattle.std.proofs.lemmas.List.{same_from_push}
 use Rattle.mm_relation.proofs.Stored.{insert-twice, insert-itself}
 use Rattle.mm_relation.proofs.change.+write_cells.Goals as goal
 
@@ -34,7 +34,7 @@ write_cells-requires t c =
         ap is_some now,
         (
           (λ row held k d l. let here = all (suc k) d (omega (arith, l)) in let same : set ≡ row = same_Some set row (sym now ∙ held) in let as_many : length set.cells ≡ length row.cells = ap (λ (x : Row). length x.cells) same in (here.0, omega (arith, here.1, kept, as_many))),
-          (c.requires.ready.0, (last_off _ _ _ _ (sym c.top_of-cell.ensures ∙ c.requires.ready.1 ∙ ap (λ ss. piled ss c.requires.ready.0) split)).0),
+          (c.requires.ready.0, (same_from_push _ _ _ _ (sym c.top_of-cell.ensures ∙ c.requires.ready.1 ∙ ap (λ ss. piled ss c.requires.ready.0) split)).0),
         ),
       ),
     )
@@ -45,7 +45,7 @@ returns-clause-row t c = λ row found.
     let set : Row = record row { cells = slice_set row.cells (c.in-Some.field-0-0.now.0.0 - 1) c.top_of-cell.result } in
     let first = c.set_cell.ensures.row row found in
     let now : get c.set_cell.new.self.tuples c.args.r ≡ Some set = ap (λ m. get m c.args.r) first ∙ get-insert_same c.args.rows.now.tuples c.args.r set in
-    let top : c.top_of-cell.result ≡ c.in-Some.field-0-0.now.1 = (last_off _ _ _ _ (sym c.top_of-cell.ensures ∙ c.requires.ready.1 ∙ ap (λ ss. piled ss c.requires.ready.0) split)).1 in
+    let top : c.top_of-cell.result ≡ c.in-Some.field-0-0.now.1 = (same_from_push _ _ _ _ (sym c.top_of-cell.ensures ∙ c.requires.ready.1 ∙ ap (λ ss. piled ss c.requires.ready.0) split)).1 in
     c.write_cells.ensures.row set now
     ∙ ap (λ m. insert m c.args.r (with_cells c.in-Some.rest.now set)) first
     ∙ insert-twice c.args.rows.now.tuples c.args.r set (with_cells c.in-Some.rest.now set)
