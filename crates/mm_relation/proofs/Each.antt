@@ -27,7 +27,7 @@ as_few old now list before after few =
     omega arith
 
 -- room for some is room for fewer
-fewer_in : (n m : ℕ) (index : Index) → n ≤ m → wanted m index ≤ room_in index → wanted n index ≤ room_in index
+pub fewer_in : (n m : ℕ) (index : Index) → n ≤ m → wanted m index ≤ room_in index → wanted n index ≤ room_in index
 fewer_in n m (Tree t) fewer room = omega (arith, fewer, room)
 fewer_in n m (Hash h) fewer room = room
 
