@@ -1,5 +1,5 @@
 -- A list without its first element that passes a test.
-use Rattle.std.proofs.Common.{Bool, true, false, ◌&&◌, ◌≡◌, ◌<◌, ◌+◌, ℕ, zero, suc, List, [], ◌∷◌, Some, None, is_some, cond, refl, sym, ap, ◌∙◌, arith, length, get_or, map, filter, remove, position}
+use Rattle.std.proofs.Common.{Bool, true, false, ◌&&◌, ◌≡◌, ◌<◌, ◌+◌, ℕ, zero, suc, List, [], ◌∷◌, Some, None, cond, refl, sym, ap, ◌∙◌, arith, length, get_or, map, filter, remove, position}
 use Rattle.std.specs.List.{All, position_from}
 use Rattle.std.proofs.lemmas.List.Quantifiers.{position-Some}
 use Rattle.std.proofs.lemmas.Iterator.Adapters.{position_from-zero}

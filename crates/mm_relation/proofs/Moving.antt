@@ -1,5 +1,5 @@
 -- Cells that are moved to the last row, and leave their columns.
-use Rattle.std.proofs.Common.{◌≡◌, ◌≢◌, ◌≤◌, ◌<◌, ◌+◌, ◌==◌, ◌||◌, ◌++◌, ℕ, List, [], ◌∷◌, Option, Some, IsSome, refl, sym, ap, ◌∙◌, arith, subst, map, length, take, get_or}
+use Rattle.std.proofs.Common.{◌≡◌, ◌≢◌, ◌<◌, ◌+◌, ◌==◌, ◌||◌, ◌++◌, ℕ, List, [], ◌∷◌, Option, Some, IsSome, refl, sym, ap, ◌∙◌, arith, subst, map, length, take, get_or}
 use Rattle.std.specs.List.{All, AllPairs, list_any}
 use Rattle.std.specs.FinMap.{get, insert}
 use Rattle.std.proofs.lemmas.List.{length_push, take_all, get_or_append_left}
@@ -11,9 +11,7 @@ use Rattle.mm_relation.specs.Rows.{Row}
 use Rattle.mm_relation.specs.declared.row.Cell.{Cell}
 use Rattle.mm_relation.specs.Reading.{Keys}
 use Rattle.mm_relation.specs.Settings.{with_cells, link_set, sets_column, CellsSet}
-use Rattle.mm_relation.specs.Indexes.{Indexes, HaveRoom, wanted, room_in, Gains, Where, AwaitSet, GainSet}
-use Rattle.mm_relation.specs.declared.index.Index.{Index}
-use Rattle.mm_relation.specs.declared.index.Index.TheVariants.{Tree, Hash}
+use Rattle.mm_relation.specs.Indexes.{Indexes, Gains, Where, AwaitSet, GainSet}
 use Rattle.mm_relation.proofs.Each.{held_now, set_next}
 
 -- what is left of cells stands in their columns

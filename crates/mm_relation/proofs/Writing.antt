@@ -1,5 +1,5 @@
 -- Cells that are written into one row, one after another.
-use Rattle.std.proofs.Common.{◌≡◌, ◌∷◌, ◌-◌, ◌≤◌, ◌<◌, ◌∙◌, ℕ, suc, List, Some, IsSome, is_some, ap, sym, subst, length, arith}
+use Rattle.std.proofs.Common.{◌≡◌, ◌∷◌, ◌-◌, ◌≤◌, ◌<◌, ◌∙◌, suc, List, Some, IsSome, is_some, ap, sym, subst, length, arith}
 use Rattle.std.specs.Prelude.{slice_set}
 use Rattle.std.specs.List.{All}
 use Rattle.std.specs.FinMap.{get, insert}

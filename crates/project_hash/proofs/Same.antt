@@ -1,5 +1,5 @@
 -- A list without duplicates shows what the list shows that it was made of.
-use Rattle.std.proofs.Common.{◌≡◌, List, map, ap, ◌∙◌, sym, subst}
+use Rattle.std.proofs.Common.{◌≡◌, List, map, sym, subst}
 use Rattle.std.specs.List.{All, Contains}
 use Rattle.std.proofs.lemmas.List.Elements.{All-map, All-weaker, All-contains}
 use Rattle.common_lemmas.proofs.Elements.{Contains-map}

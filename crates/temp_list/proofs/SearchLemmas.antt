@@ -1,5 +1,5 @@
 -- The rows that a tree's range and a hash's chain give are those whose values stand so.
-use Rattle.std.proofs.Common.{◌≡◌, ◌≢◌, ◌≤◌, ℕ, suc, ◌+◌, ◌<◌, Bool, true, false, cond, ◌==◌, ◌&&◌, inl, inr, List, [], ◌∷◌, Option, Some, IsSome, IsTrue, length, map, refl, sym, ap, ◌∙◌, subst, arith, get_or, Ordering}
+use Rattle.std.proofs.Common.{◌≡◌, ◌≢◌, ◌≤◌, ℕ, suc, ◌<◌, Bool, true, false, cond, ◌==◌, ◌&&◌, inl, inr, List, [], ◌∷◌, Option, Some, IsSome, IsTrue, length, map, refl, sym, ap, ◌∙◌, subst, arith, get_or, Ordering}
 use Rattle.std.specs.List.{All, Contains, filter, count_by}
 use Rattle.std.specs.declared.cmp.Ordering.TheVariants.{Less}
 use Rattle.std.specs.Ordering.{is_eq, ordering_index, ordering_then}

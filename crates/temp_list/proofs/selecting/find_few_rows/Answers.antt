@@ -1,7 +1,5 @@
 use Rattle.std.proofs.lemmas.Result.{IfOk-weaker}
 use Rattle.std.proofs.lemmas.Option.{IfSome_then}
-use Rattle.temp_list.specs.Reading.{row_passes}
-use Rattle.temp_list.proofs.ReadingLemmas.{sound_at}
 use Rattle.temp_list.proofs.SelectLemmas.{bag_selected}
 use Rattle.temp_list.proofs.selecting.find_few_rows.Goals as goal
 
