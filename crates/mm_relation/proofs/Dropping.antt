@@ -1,13 +1,11 @@
 -- A list without its first element that passes a test.
-use Rattle.std.proofs.Common.{Bool, true, false, ◌&&◌, ◌≡◌, ◌<◌, ◌+◌, ℕ, zero, suc, List, [], ◌∷◌, Some, None, is_some, cond, refl, sym, ap, ◌∙◌, arith, length, get_or, map, filter, remove, position}
+use Rattle.std.proofs.Common.{Bool, true, false, ◌&&◌, ◌≡◌, ◌<◌, ◌+◌, ℕ, zero, suc, List, [], ◌∷◌, Some, None, cond, refl, sym, ap, ◌∙◌, arith, length, get_or, map, filter, remove, position}
 use Rattle.std.specs.List.{All, position_from}
 use Rattle.std.proofs.lemmas.List.Quantifiers.{position-Some}
 use Rattle.std.proofs.lemmas.Iterator.Adapters.{position_from-zero}
-use Rattle.std.proofs.lemmas.List.Elements.{All-tail}
+use Rattle.std.proofs.lemmas.List.Elements.{All-cons, All-tail}
+use Rattle.std.proofs.lemmas.Option.{none-some}
 use Rattle.mm_relation.specs.Declaring.{without_first}
-
-nothing_found : (i : ℕ) → None ≡ Some i → ⊥
-nothing_found i e = let h : is_some {T = ℕ} None ≡ is_some (Some i) = ap is_some e in absurd (cc)
 
 removed_at : {A : Type 0} (p : A → Bool) (xs : List A) (i : ℕ) → i < length xs → ((d : A) → p (get_or xs i d) ≡ true) → ((k : ℕ) (d : A) → k < i → p (get_or xs k d) ≡ false) → remove xs i ≡ without_first p xs
 removed_at p [] i inside here before = absurd (omega (arith, inside))
@@ -17,14 +15,14 @@ removed_at p (x ∷ xs) (suc i) inside here before =
     rw e (ap (λ ys. x ∷ ys) (removed_at p xs i (omega (arith, inside)) here (λ k d l. before (suc k) d (omega (arith, l)))))
 
 pub removed_first : {A : Type 0} (p : A → Bool) (xs : List A) (i : ℕ) → position p xs ≡ Some i → remove xs i ≡ without_first p xs
-removed_first p [] i found = absurd (nothing_found i found)
+removed_first p [] i found = absurd (none-some i found)
 removed_first p (x ∷ xs) i found =
     removed_at p (x ∷ xs) i (position-Some p (x ∷ xs) i x found).0 (λ d. (position-Some p (x ∷ xs) i d found).1) (λ k d l. (position-Some p (x ∷ xs) i d found).2 k l)
 
 not_found : {A : Type 0} (p : A → Bool) (xs : List A) (i : ℕ) → position_from p i xs ≡ None → without_first p xs ≡ xs
 not_found p [] i none = refl
 not_found p (x ∷ xs) i none = elim (p x) as (λ b. cond b (Some i) (position_from p (i + 1) xs) ≡ None → cond b xs (x ∷ without_first p xs) ≡ x ∷ xs) [
-  | true ↦ λ e. absurd (nothing_found i (sym e))
+  | true ↦ λ e. absurd (none-some i (sym e))
   | false ↦ λ e. ap (λ ys. x ∷ ys) (not_found p xs (i + 1) e)
 ] none
 
@@ -44,12 +42,8 @@ pub All-without_first : {A : Type 0} (P : A → Type 0) (p : A → Bool) (xs : L
 All-without_first P p [] h = h
 All-without_first P p (x ∷ xs) h = elim (p x) as (λ b. All P (cond b xs (x ∷ without_first p xs))) [
   | true ↦ All-tail P x xs h
-  | false ↦ All-consed P x (without_first p xs) (h 0 x (omega arith)) (All-without_first P p xs (All-tail P x xs h))
+  | false ↦ All-cons P x (without_first p xs) (h 0 x (omega arith)) (All-without_first P p xs (All-tail P x xs h))
 ]
-  where
-    All-consed : {A : Type 0} (P : A → Type 0) (x : A) (xs : List A) → P x → All P xs → All P (x ∷ xs)
-    All-consed P x xs here rest zero d l = here
-    All-consed P x xs here rest (suc k) d l = rest k d (omega (arith, l))
 
 -- the first that passes two tests is, among those that pass the second, the first that passes the first
 pub filter-without_first : {A : Type 0} (on kind : A → Bool) (xs : List A) → filter kind (without_first (λ x. on x && kind x) xs) ≡ without_first on (filter kind xs)

@@ -26,13 +26,13 @@ as_few old now list before after few =
     let new_count : length list ≡ len now = after.lists.count in
     omega arith
 
--- room for some is room for one
-one_of : (n : ℕ) (index : Index) → 0 < n → wanted n index ≤ room_in index → wanted 1 index ≤ room_in index
-one_of n (Tree t) some room = omega (arith, some, room)
-one_of n (Hash h) some room = room
+-- room for some is room for fewer
+pub fewer_in : (n m : ℕ) (index : Index) → n ≤ m → wanted m index ≤ room_in index → wanted n index ≤ room_in index
+fewer_in n m (Tree t) fewer room = omega (arith, fewer, room)
+fewer_in n m (Hash h) fewer room = room
 
-pub room_for_one : (n : ℕ) (all : Indexes) → 0 < n → HaveRoom n all → HaveRoom 1 all
-room_for_one n all some room = λ k d l. one_of n (get_or all k d).index some (room k d l)
+pub room_for_fewer : (n m : ℕ) (all : Indexes) → n ≤ m → HaveRoom m all → HaveRoom n all
+room_for_fewer n m all fewer room k d l = fewer_in n m (get_or all k d).index fewer (room k d l)
 
 pub room_next : (n i : ℕ) (old new : Indexes) → i < n → ((m : ℕ) → HaveRoom (m + 1) old → HaveRoom m new) → HaveRoom (n - i) old → HaveRoom (n - (i + 1)) new
 room_next n i old new inside left room =

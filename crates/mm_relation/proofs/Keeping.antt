@@ -1,8 +1,8 @@
 -- What a relation keeps, told of its parts.
-use Rattle.std.proofs.Common.{◌≡◌, ◌≤◌, ◌<◌, ◌+◌, ℕ, List, [], ◌∷◌, IfSome, IfNone, Option, Some, None, IsSome, is_some, Bool, true, false, cond, not, refl, sym, ap, ◌∙◌, arith, subst, length, map, filter, inl, inr}
+use Rattle.std.proofs.Common.{◌≡◌, ◌≤◌, ◌<◌, ◌+◌, ℕ, List, [], ◌∷◌, IfSome, IfNone, Option, Some, None, IsSome, is_some, Bool, true, false, cond, not, refl, sym, ap, ◌∙◌, arith, subst, length, get_or, map, filter, inl, inr}
 use Rattle.std.specs.List.{All, Contains}
 use Rattle.std.specs.Option.{option_and_then}
-use Rattle.std.proofs.lemmas.List.Elements.{All-cons, All-contains, All-tail}
+use Rattle.std.proofs.lemmas.List.Elements.{All-cons, All-contains, All-filter, All-map, All-tail, filter_passes}
 use Rattle.std.proofs.lemmas.Bool.{not-true}
 use Rattle.std.specs.FinMap.{get, insert, remove, len}
 use Rattle.common_lemmas.proofs.Elements.{Contains-from_map, Contains-from_filter, Contains-filter, Contains-map}
@@ -34,13 +34,7 @@ pub hash_columns : (all : Indexes) → map (λ (h : ℕ × List (ℕ × TupleRef
 hash_columns all = columns_seen (λ b. not b) (λ s. s.entries) all
 
 kept_of : {A B : Type 0} (P : B → Type 0) (Q : A → Type 0) (f : A → B) (p : A → Bool) (xs : List A) → ((x : A) → p x ≡ true → Q x → P (f x)) → All Q xs → All P (map f (filter p xs))
-kept_of P Q f p [] each h = λ k d l. absurd (omega (arith, l))
-kept_of P Q f p (x ∷ xs) each h =
-    let rest : All P (map f (filter p xs)) = kept_of P Q f p xs each (All-tail Q x xs h) in
-    elim (p x) as (λ b. p x ≡ b → All P (map f (cond b (x ∷ filter p xs) (filter p xs)))) [
-      | true ↦ λ e. All-cons P (f x) (map f (filter p xs)) (each x e (h 0 x (omega arith))) rest
-      | false ↦ λ e. rest
-    ] refl
+kept_of P Q f p xs each h = All-map P f (filter p xs) (λ k d l. each (get_or (filter p xs) k d) (filter_passes p xs k d l) (All-filter p Q xs h k d l))
 
 -- indexes serve rows as the trees among them do, and the hashes
 module _ (keys : Keys) (rows : Tuples Row) (refs : List TupleRef) where

@@ -4,7 +4,7 @@ use Rattle.std.specs.List.{All, Contains}
 use Rattle.std.specs.Option.{option_cmp, option_and_then}
 use Rattle.std.specs.Ordering.{ordering_then}
 use Rattle.std.specs.declared.cmp.Ordering.{Ordering}
-use Rattle.std.specs.declared.cmp.Ordering.TheVariants.{Less, Equal, Greater}
+use Rattle.std.specs.declared.cmp.Ordering.TheVariants.{Equal}
 use Rattle.std.proofs.lemmas.Option.{same_Some}
 use Rattle.std.proofs.lemmas.List.Elements.{All-contains, Contains-get_or}
 use Rattle.std.specs.FinMap.{get, insert, remove, len}
@@ -25,12 +25,7 @@ use Rattle.mm_relation.specs.Reading.{value_at, key_at, row_value}
 use Rattle.mm_relation.specs.Order.{KeysDiffer, column_cmp, column_cmp_strict, held_from_value, option_exact}
 use Rattle.mm_relation.specs.State.{IsKeyed, HasKey, no_keys}
 use Rattle.mm_relation.proofs.Placing.{NeverFalls-value, option_cmp-self}
-
--- where a comparison tells two apart, a second one is not asked
-first_decides : (o : Ordering) → o ≢ Equal → ordering_then o o ≡ o
-first_decides Less h = refl
-first_decides Equal h = absurd (h refl)
-first_decides Greater h = refl
+use Rattle.mm_relation.proofs.Same.{then_same}
 
 pub key_readable : (rows : Tuples Row) (q : TupleRef) → IsSome (get rows q) → IsSome (value_at no_keys 0 rows q)
 key_readable rows q held = let found = held_tuple rows q held in rw found.1 refl
@@ -110,7 +105,7 @@ module _ (rows : Tuples Row) (list : List TupleRef) (r : TupleRef) (t : Row) (ke
         let o = place q in
         let at_r : column_cmp no_keys 0 (insert rows r t) q r ≡ ordering_then o o =
         ap (λ v. ordering_then (option_cmp value_cmp (value_at no_keys 0 (insert rows r t) q) v) (option_cmp value_cmp (value_at no_keys 0 (insert rows r t) q) v)) key_new in
-        sym (at_r ∙ first_decides o (none k d l)))
+        sym (at_r ∙ then_same o))
 
     pub bag_with : (new : List TupleRef) → new ≡ insert_placed place r list → IsSameBag new (r ∷ list)
     bag_with new items =

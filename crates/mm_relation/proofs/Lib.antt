@@ -1,4 +1,5 @@
 pub mod Stored
+pub mod Writing
 pub mod Loops
 pub mod Placing
 pub mod NoSuchKey

@@ -1,6 +1,7 @@
 -- The tree of the key lists each row once.
-use Rattle.std.proofs.Common.{◌≡◌, ◌≢◌, List, sym, ap, ◌∙◌, subst, get_or}
-use Rattle.std.specs.List.{AllPairs}
+use Rattle.std.proofs.Common.{◌≡◌, ◌≢◌, List, sym, ap, ◌∙◌, ◌++◌, ◌∷◌, arith, length, subst, get_or}
+use Rattle.std.specs.List.{AllPairs, Contains}
+use Rattle.std.proofs.lemmas.List.Elements.{Contains-append_right}
 use Rattle.std.specs.Cmp.{IsTotalOrder}
 use Rattle.std.specs.Ordering.{ordering_reverse}
 use Rattle.std.specs.declared.cmp.Ordering.{Ordering}
@@ -12,6 +13,10 @@ use Rattle.mm_index.specs.Order.{IsRising}
 use Rattle.mm_relation.specs.Rows.{Row}
 use Rattle.mm_relation.specs.Order.{column_cmp, column_cmp_total}
 use Rattle.mm_relation.specs.State.{IsKeyed, no_keys}
+
+-- what a walk gives next is among all that it goes over
+pub next_listed : {A : Type 0} (ys rest more : List A) (x : A) → rest ≡ x ∷ more → Contains (ys ++ rest) x
+next_listed ys rest more x steps = Contains-append_right ys rest x (0, omega (arith, ap length steps), ap (λ xs. get_or xs 0 x) steps)
 
 -- a list that rises has each element once
 pub rising_apart : {A : Type 0} (cmp : A → A → Ordering) → IsTotalOrder cmp → (xs : List A) → IsRising cmp xs → AllPairs (λ a b. a ≢ b) xs

@@ -1,5 +1,5 @@
 -- Cells that are moved to the last row, and leave their columns.
-use Rattle.std.proofs.Common.{◌≡◌, ◌≢◌, ◌≤◌, ◌<◌, ◌+◌, ◌==◌, ◌||◌, ◌++◌, ℕ, List, [], ◌∷◌, Option, Some, IsSome, refl, sym, ap, ◌∙◌, arith, subst, map, length, take, get_or}
+use Rattle.std.proofs.Common.{◌≡◌, ◌≢◌, ◌<◌, ◌+◌, ◌==◌, ◌||◌, ◌++◌, ℕ, List, [], ◌∷◌, Option, Some, IsSome, refl, sym, ap, ◌∙◌, arith, subst, map, length, take, get_or}
 use Rattle.std.specs.List.{All, AllPairs, list_any}
 use Rattle.std.specs.FinMap.{get, insert}
 use Rattle.std.proofs.lemmas.List.{length_push, take_all, get_or_append_left}
@@ -11,9 +11,7 @@ use Rattle.mm_relation.specs.Rows.{Row}
 use Rattle.mm_relation.specs.declared.row.Cell.{Cell}
 use Rattle.mm_relation.specs.Reading.{Keys}
 use Rattle.mm_relation.specs.Settings.{with_cells, link_set, sets_column, CellsSet}
-use Rattle.mm_relation.specs.Indexes.{Indexes, HaveRoom, wanted, room_in, Gains, Where, AwaitSet, GainSet}
-use Rattle.mm_relation.specs.declared.index.Index.{Index}
-use Rattle.mm_relation.specs.declared.index.Index.TheVariants.{Tree, Hash}
+use Rattle.mm_relation.specs.Indexes.{Indexes, Gains, Where, AwaitSet, GainSet}
 use Rattle.mm_relation.proofs.Each.{held_now, set_next}
 
 -- what is left of cells stands in their columns
@@ -57,19 +55,8 @@ module _ (old mid : Tuples Row) (first : List TupleRef) (last : TupleRef) (sets 
       subst (λ qs. CellsSet old new qs sets) (take_all (length first + 1) rs (omega (arith, length_push first last)))
       (set_next old mid rs sets (length first) last inside (get_or-append_seam first last [] last) once held set_here new row)
 
--- what holds of all holds of all but the last
-pub All-first : {A : Type 0} (P : A → Type 0) (xs : List A) (x : A) → All P (xs ++ x ∷ []) → All P xs
-All-first P xs x all k d l = subst P (get_or_append_left xs (x ∷ []) d k l) (all k d (omega (arith, l, length_push xs x)))
-
+-- what holds of all pairs holds of all but those of the last
 pub pairs_first : {A : Type 0} (P : A → A → Type 0) (xs : List A) (x : A) → AllPairs P (xs ++ x ∷ []) → AllPairs P xs
 pairs_first P xs x all i j d before l =
     subst (λ a. P a (get_or xs j d)) (get_or_append_left xs (x ∷ []) d i (omega (arith, before, l)))
     (subst (P (get_or (xs ++ x ∷ []) i d)) (get_or_append_left xs (x ∷ []) d j l) (all i j d before (omega (arith, l, length_push xs x))))
-
--- room for some is room for fewer
-fewer_in : (n m : ℕ) (index : Index) → n ≤ m → wanted m index ≤ room_in index → wanted n index ≤ room_in index
-fewer_in n m (Tree t) fewer room = omega (arith, fewer, room)
-fewer_in n m (Hash h) fewer room = room
-
-pub room_for_fewer : (n m : ℕ) (all : Indexes) → n ≤ m → HaveRoom m all → HaveRoom n all
-room_for_fewer n m all fewer room k d l = fewer_in n m (get_or all k d).index fewer (room k d l)

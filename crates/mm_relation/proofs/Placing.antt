@@ -7,6 +7,7 @@ use Rattle.std.specs.declared.cmp.Ordering.TheVariants.{Less, Equal, Greater}
 use Rattle.std.specs.Cmp.{IsTotalOrder}
 use Rattle.std.specs.Cmp.Lexicographic.{options_total}
 use Rattle.common_lemmas.proofs.Orders.{ordering_index_within, then_first}
+use Rattle.std.proofs.lemmas.Cmp.{tied_itself}
 use Rattle.part_raw.specs.declared.tuple_ref.TupleRef.{TupleRef}
 use Rattle.part_raw.specs.Store.{Tuples}
 use Rattle.mm_index.specs.Order.{IsRising}
@@ -47,12 +48,7 @@ NeverFalls-value keys column tuples sought xs rising =
     rising
 
 pub option_cmp-self : (x : Option Value) → option_cmp value_cmp x x ≡ Equal
-option_cmp-self x = self (option_cmp value_cmp x x) ((let total : IsTotalOrder (option_cmp value_cmp) = options_total value_cmp_total in total.antisymm x x))
-  where
-    self : (o : Ordering) → o ≡ ordering_reverse o → o ≡ Equal
-    self Less e = cc
-    self Equal e = refl
-    self Greater e = cc
+option_cmp-self x = tied_itself (options_total value_cmp_total) x
 
 pub value_found : (F : TupleRef → Option Value) (o : Option TupleRef) (sought : Option Value) → IfSome o (λ r. option_cmp value_cmp (F r) sought ≡ Equal) → IfSome o (λ r. F r ≡ sought)
 value_found F (Some r) sought h = option_exact (F r) sought h

@@ -28,8 +28,7 @@ use Rattle.mm_relation.proofs.Setting.{with_cells-key, row_with}
 room_out : (keys : Keys) (rows : Tuples Row) (r : TupleRef) (c : ℕ) (old mid : Index) → LosesAs keys rows r c old mid → wanted 1 old ≤ room_in old → wanted 1 mid ≤ room_in mid
 room_out keys rows r c (Tree t) (Tree u) loses room = omega (arith, loses.room, room)
 room_out keys rows r c (Hash h) (Hash g) loses room = omega (arith, loses.room, room)
-room_out keys rows r c (Tree t) (Hash g) loses room = absurd loses
-room_out keys rows r c (Hash h) (Tree u) loses room = absurd loses
+room_out keys rows r c was is loses room = absurd loses
 
 module _ (keys : Keys) (rows : Tuples Row) (list : List TupleRef) (all : Indexes) (r : TupleRef) (t : Row) (sets : List (ColumnNumber × Cell)) (keyed : IsKeyed rows list) (read : CanRead keys rows all) (serves : Serve keys rows list all) (can : CanSet keys rows sets) (found : get rows r ≡ Some t) where
   held : IsSome (get rows r)

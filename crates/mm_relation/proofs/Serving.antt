@@ -2,11 +2,11 @@
 use Rattle.std.proofs.Common.{length, get_or, ◌^◌, ◌==◌, ◌&&◌, ◌≡◌, ◌<◌, ◌≤◌, ◌+◌, ◌∷◌, ℕ, List, IsSome, [], true, false, refl, sym, ap, ◌∙◌, arith, subst, map, count_by, Bool, cond}
 use Rattle.std.specs.List.{All, Contains}
 use Rattle.std.proofs.lemmas.List.Elements.{All-contains, All-map, Contains-get_or}
-use Rattle.std.proofs.lemmas.List.{get_or-map, length-map}
+use Rattle.std.proofs.lemmas.List.{length-map}
 use Rattle.std.proofs.lemmas.Bool.{eqb-true, eq-eqb, and_parts, and_from}
 use Rattle.std.specs.Bool.{Decides}
 use Rattle.std.proofs.lemmas.List.Sums.{sum_by-cons}
-use Rattle.common_lemmas.proofs.Elements.{Contains-map, Contains-cons}
+use Rattle.common_lemmas.proofs.Elements.{All-from_map, Contains-map, Contains-cons}
 use Rattle.part_raw.specs.declared.tuple_ref.TupleRef.{TupleRef}
 use Rattle.part_raw.specs.Store.{Tuples}
 use Rattle.mm_index.specs.Bag.{IsSameBag}
@@ -64,8 +64,7 @@ Contains-same_entries xs ys x bag h = Contains-same_bag same_entry Decides-same_
 
 -- what holds of each element through a map
 pub from_mapped : {A B : Type 0} (P : B → Type 0) (f : A → B) (xs : List A) → All P (map f xs) → (k : ℕ) (d : A) → k < length xs → P (f (get_or xs k d))
-from_mapped P f xs h k d l =
-    subst P (get_or-map f xs k d (f d) l) (h k (f d) (let n : length (map f xs) ≡ length xs = length-map xs f in omega arith))
+from_mapped P f xs h k d l = All-from_map P f xs h k d l
 
 -- maps that agree at each member
 map_alike : {A B : Type 0} (f g : A → B) (xs : List A) → ((x : A) → Contains xs x → f x ≡ g x) → map f xs ≡ map g xs
@@ -83,11 +82,6 @@ where_map false f g h = g h
 pub from_where : {A B C : Type 0} (b : Bool) → (A → C) → (B → C) → Where b A B → C
 from_where true f g h = f h
 from_where false f g h = g h
-
--- room for one
-one_wanted : (index : Index) → wanted 1 index ≤ room_in index → 1 ≤ room_in index
-one_wanted (Tree t) room = room
-one_wanted (Hash h) room = room
 
 -- an index stands on its column
 pub column_at : (all : Indexes) (k : ℕ) (d : IndexOn) → k < length all → IsColumn all (get_or all k d).column.0
@@ -117,8 +111,7 @@ module _ (keys : Keys) (rows : Tuples Row) where
   gains_as : KeysDiffer rows → (refs : List TupleRef) (r : TupleRef) (c : ColumnNumber) (old new : Index) → AwaitsAs keys rows r c.0 old → GainsAs keys rows r c.0 old new → Serves keys rows refs (seen_as c old) → Serves keys rows (r ∷ refs) (seen_as c new)
   gains_as differ refs r c (Tree t) (Tree u) awaits gains serves = tree_gains differ refs r c.0 t u awaits gains serves
   gains_as differ refs r c (Hash h) (Hash g) awaits gains serves = IsSameBag-trans gains.entries (IsSameBag-cons (hash_at keys c.0 rows r, r) serves)
-  gains_as differ refs r c (Tree t) (Hash g) awaits gains serves = absurd gains
-  gains_as differ refs r c (Hash h) (Tree u) awaits gains serves = absurd gains
+  gains_as differ refs r c old new awaits gains serves = absurd gains
 
   gains_serves : KeysDiffer rows → (refs : List TupleRef) (r : TupleRef) (old new : IndexOn) → Awaits keys rows r old → Gains keys rows r old new → Serves keys rows refs (seen old) → Serves keys rows (r ∷ refs) (seen new)
   gains_serves differ refs r old new awaits gains serves =
@@ -142,11 +135,10 @@ module _ (keys : Keys) (rows : Tuples Row) where
       same_behind (hash_at keys c.0 rows r, r) _ _
       (IsSameBag-trans (IsSameBag-sym loses.entries)
       (IsSameBag-trans serves (IsSameBag-map (λ q. (hash_at keys c.0 rows q, q)) bag)))
-  loses_as differ refs rest r c (Tree t) (Hash g) bag has loses serves = absurd loses
-  loses_as differ refs rest r c (Hash h) (Tree u) bag has loses serves = absurd loses
+  loses_as differ refs rest r c old new bag has loses serves = absurd loses
 
   -- an index can take in a row that none of the references names, and has one that one of them names
-  awaits_as : (refs : List TupleRef) (r : TupleRef) (c : ColumnNumber) (index : Index) → (Contains refs r → ⊥) → length refs < 2 ^ 32 → 1 ≤ room_in index → ((q : TupleRef) → Contains (r ∷ refs) q → IsSome (value_at keys c.0 rows q)) → Serves keys rows refs (seen_as c index) → AwaitsAs keys rows r c.0 index
+  awaits_as : (refs : List TupleRef) (r : TupleRef) (c : ColumnNumber) (index : Index) → (Contains refs r → ⊥) → length refs < 2 ^ 32 → wanted 1 index ≤ room_in index → ((q : TupleRef) → Contains (r ∷ refs) q → IsSome (value_at keys c.0 rows q)) → Serves keys rows refs (seen_as c index) → AwaitsAs keys rows r c.0 index
   awaits_as refs r c (Tree t) absent short room read serves =
       let same : length (tree_list t.tree) ≡ length refs = length-same_bag (tree_list t.tree) refs serves.bag in
       record {
@@ -162,9 +154,6 @@ module _ (keys : Keys) (rows : Tuples Row) where
   awaits_as refs r c (Hash h) absent short room read serves =
       let same : length h.entries ≡ length refs = length-same_bag h.entries _ serves ∙ length-map refs (λ q. (hash_at keys c.0 rows q, q)) in
       record { room = room; short = omega (arith, same, short); r_readable = read r (0, omega arith, refl) }
-
-  awaits_one : (refs : List TupleRef) (r : TupleRef) (on : IndexOn) → (Contains refs r → ⊥) → length refs < 2 ^ 32 → 1 ≤ room_in on.index → ((q : TupleRef) → Contains (r ∷ refs) q → IsSome (value_at keys on.column.0 rows q)) → Serves keys rows refs (seen on) → Awaits keys rows r on
-  awaits_one refs r on absent short room read serves = awaits_as refs r on.column on.index absent short room read serves
 
   has_as : (refs : List TupleRef) (r : TupleRef) (c : ColumnNumber) (index : Index) → Contains refs r → ((q : TupleRef) → Contains refs q → IsSome (value_at keys c.0 rows q)) → Serves keys rows refs (seen_as c index) → HasAs keys rows r c.0 index
   has_as refs r c (Tree t) there read serves = record {
@@ -220,8 +209,8 @@ module _ (keys : Keys) (rows : Tuples Row) where
 
   -- all indexes together
   module _ (differ : KeysDiffer rows) (refs : List TupleRef) (old new : Indexes) (serves : Serve keys rows refs old) where
-    at : (k : ℕ) (d : IndexOn) → k < length old → Serves keys rows refs (seen (get_or old k d))
-    at k d l = from_mapped (Serves keys rows refs) seen old serves k d l
+    at : All (λ on. Serves keys rows refs (seen on)) old
+    at = All-from_map (Serves keys rows refs) seen old serves
 
     pub all_gain : (r : TupleRef) → Await keys rows r old → Gain keys rows r old new → Serve keys rows (r ∷ refs) new
     all_gain r awaits gains = All-map (Serves keys rows (r ∷ refs)) seen new
@@ -239,7 +228,7 @@ module _ (keys : Keys) (rows : Tuples Row) where
 
     pub all_await : (r : TupleRef) → (Contains refs r → ⊥) → length refs < 2 ^ 32 → HaveRoom 1 old → ((c : ℕ) (q : TupleRef) → IsColumn old c → Contains (r ∷ refs) q → IsSome (value_at keys c rows q)) → Await keys rows r old
     all_await r absent short room readable = λ k d l.
-        awaits_one refs r (get_or old k d) absent short (one_wanted (get_or old k d).index (room k d l)) (λ q h. readable _ q (column_at old k d l) h) (at k d l)
+        awaits_as refs r (get_or old k d).column (get_or old k d).index absent short (room k d l) (λ q h. readable _ q (column_at old k d l) h) (at k d l)
 
     pub all_have : (r : TupleRef) → Contains refs r → ((c : ℕ) (q : TupleRef) → IsColumn old c → Contains refs q → IsSome (value_at keys c rows q)) → Have keys rows r old
     all_have r there readable = λ k d l.
@@ -250,14 +239,12 @@ module _ (keys : Keys) (rows : Tuples Row) (r : TupleRef) where
   gains_kind : (c : ℕ) (old new : Index) → GainsAs keys rows r c old new → kind_in new ≡ kind_in old
   gains_kind c (Tree t) (Tree u) h = refl
   gains_kind c (Hash g) (Hash f) h = refl
-  gains_kind c (Tree t) (Hash f) h = absurd h
-  gains_kind c (Hash g) (Tree u) h = absurd h
+  gains_kind c old new h = absurd h
 
   loses_kind : (c : ℕ) (old new : Index) → LosesAs keys rows r c old new → kind_in new ≡ kind_in old
   loses_kind c (Tree t) (Tree u) h = refl
   loses_kind c (Hash g) (Hash f) h = refl
-  loses_kind c (Tree t) (Hash f) h = absurd h
-  loses_kind c (Hash g) (Tree u) h = absurd h
+  loses_kind c old new h = absurd h
 
   pub gains_declared : (old new : IndexOn) → Gains keys rows r old new → declaration_of new ≡ declaration_of old
   gains_declared old new h = let kind = gains_kind old.column.0 old.index new.index h.1 in λ i. record { column = h.0 i; kind = kind i }

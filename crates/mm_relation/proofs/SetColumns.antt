@@ -22,16 +22,12 @@ use Rattle.mm_relation.specs.Settings.{with_cells, CanSet, sets_column}
 use Rattle.mm_relation.specs.Indexes.{Indexes, Gain, Lose, Serve, Serves, HaveRoom, CanRead, IsColumn, seen, declaration_of, room_in, wanted, Where, Awaits, Gains, GainsAs, Loses, LosesAs, LosesSet, AwaitsSet, GainsSet, LoseSet, AwaitSet, GainSet}
 use Rattle.mm_relation.proofs.Loops.{same_mapped}
 use Rattle.mm_relation.proofs.Replacing.{await_now, served_now}
-use Rattle.mm_relation.proofs.Serving.{agrees_in, from_mapped, from_where, column_at, gains_declared, loses_declared}
+use Rattle.mm_relation.proofs.Serving.{agrees_in, from_where, column_at, gains_declared, loses_declared}
 use Rattle.mm_relation.proofs.Setting.{not_first, with_cells-key}
-
--- a cell beside the one that is set
-slice_get-beside : {A : Type 0} (xs : List A) (i j : ℕ) (x : A) → j ≢ i → slice_get (slice_set xs i x) j ≡ slice_get xs j
-slice_get-beside [] i j x other = refl
-slice_get-beside (y ∷ ys) zero zero x other = absurd (other refl)
-slice_get-beside (y ∷ ys) zero (suc j) x other = refl
-slice_get-beside (y ∷ ys) (suc i) zero x other = refl
-slice_get-beside (y ∷ ys) (suc i) (suc j) x other = slice_get-beside ys i j x (λ e. other (ap (λ n. suc n) e))
+use Rattle.common_lemmas.proofs.Elements.{All-from_map}
+use Rattle.common_lemmas.proofs.Places.{slice_get-set_other}
+use Rattle.mm_relation.proofs.Each.{fewer_in}
+use Rattle.std.proofs.lemmas.List.Elements.{All-cons, All-nil}
 
 module _ (keys : Keys) (c : ℕ) where
   beside_one : (t : Row) (s : ColumnNumber × Cell) → 0 < s.0.0 → (s.0.0 == c) ≡ false → row_value keys c (record t { cells = slice_set t.cells (s.0.0 - 1) s.1 }) ≡ row_value keys c t
@@ -42,7 +38,7 @@ module _ (keys : Keys) (c : ℕ) where
             let here : 0 < c = not_first c e in
             let apart : c ≢ s.0.0 = (λ f. let same : (s.0.0 == c) ≡ true = eq-eqb s.0.0 c (sym f) in cc) in
             let places : c - 1 ≢ s.0.0 - 1 = (λ f. apart (omega arith)) in
-            ap (option_and_then (cell_value keys c)) (slice_get-beside t.cells (s.0.0 - 1) (c - 1) s.1 places)
+            ap (option_and_then (cell_value keys c)) (slice_get-set_other t.cells (s.0.0 - 1) (c - 1) s.1 places)
       ] refl
 
   -- a column that is not set has the value that it had
@@ -54,10 +50,6 @@ module _ (keys : Keys) (c : ℕ) where
       ∙ beside_one t s (not_key 0 s (omega arith)) parts.0
 
 -- an index by itself
-all_one : {A : Type 0} (P : A → Type 0) (x : A) → P x → All P (x ∷ [])
-all_one P x h zero d l = h
-all_one P x h (suc k) d l = absurd (omega (arith, l))
-
 contains_one : {A : Type 0} (x y : A) → Contains (x ∷ []) y → x ≡ y
 contains_one x y (zero, l, e) = e
 contains_one x y (suc k, l, e) = absurd (omega (arith, l))
@@ -88,10 +80,10 @@ module _ (keys : Keys) (rows : Tuples Row) (list : List TupleRef) (all : Indexes
     read_one c q here held = read c q (subst (IsColumn all) (contains_one old.column.0 c here) column) held
 
     serve_one : Serve keys rows list (old ∷ [])
-    serve_one = all_one (Serves keys rows list) (seen old) serves
+    serve_one = All-cons (Serves keys rows list) (seen old) [] serves (All-nil (Serves keys rows list))
 
     room_one : HaveRoom 1 (old ∷ [])
-    room_one = all_one (λ (on : IndexOn). wanted 1 on.index ≤ room_in on.index) old room
+    room_one = let Has : IndexOn → Type 0 = λ on. wanted 1 on.index ≤ room_in on.index in All-cons Has old [] room (All-nil Has)
 
     module _ (mid : IndexOn) (loses : Loses keys rows r old mid) where
       lose_one : Lose keys rows r (old ∷ []) (mid ∷ [])
@@ -126,8 +118,8 @@ module _ (keys : Keys) (rows : Tuples Row) (list : List TupleRef) (all : Indexes
 
   -- all indexes together
   module _ (serves : Serve keys rows list all) (mid : Indexes) (loses : LoseSet keys rows r sets all mid) (room : HaveRoom 1 all) where
-    at : (k : ℕ) (d : IndexOn) → k < length all → Serves keys rows list (seen (get_or all k d))
-    at k d l = from_mapped (Serves keys rows list) seen all serves k d l
+    at : All (λ on. Serves keys rows list (seen on)) all
+    at = All-from_map (Serves keys rows list) seen all serves
 
     pub await_set : AwaitSet keys now r sets mid
     await_set = λ k d l. let inside : k < length all = omega (arith, loses.count, l) in
@@ -140,17 +132,12 @@ module _ (keys : Keys) (rows : Tuples Row) (list : List TupleRef) (all : Indexes
 
 -- the declarations and the room stay
 module _ (keys : Keys) (rows now : Tuples Row) (r : TupleRef) (sets : List (ColumnNumber × Cell)) where
-  fewer_wanted : (n : ℕ) (index : Index) → wanted (n + 1) index ≤ room_in index → wanted n index ≤ room_in index
-  fewer_wanted n (Tree t) room = omega (arith, room)
-  fewer_wanted n (Hash h) room = room
-
   room_back : (n c : ℕ) (old mid new : Index) → LosesAs keys rows r c old mid → GainsAs keys now r c mid new → wanted (n + 1) old ≤ room_in old → wanted n new ≤ room_in new
   room_back n c (Tree s) (Tree t) (Tree u) loses gains room = omega (arith, loses.room, gains.room, room)
   room_back n c (Hash f) (Hash g) (Hash h) loses gains room = omega (arith, loses.room, gains.room, room)
-  room_back n c (Tree s) (Tree t) (Hash h) loses gains room = absurd gains
-  room_back n c (Hash f) (Hash g) (Tree u) loses gains room = absurd gains
-  room_back n c (Tree s) (Hash g) new loses gains room = absurd loses
-  room_back n c (Hash f) (Tree t) new loses gains room = absurd loses
+  room_back n c (Tree s) (Tree t) new loses gains room = absurd gains
+  room_back n c (Hash f) (Hash g) new loses gains room = absurd gains
+  room_back n c old mid new loses gains room = absurd loses
 
   room_again : (n : ℕ) (old mid new : IndexOn) → LosesSet keys rows r sets old mid → GainsSet keys now r sets mid new → wanted (n + 1) old.index ≤ room_in old.index → wanted n new.index ≤ room_in new.index
   room_again n old mid new loses gains room =
@@ -162,7 +149,7 @@ module _ (keys : Keys) (rows now : Tuples Row) (r : TupleRef) (sets : List (Colu
         | false ↦ λ e h.
             let beside : sets_column sets mid.column.0 ≡ false = ap (λ (x : IndexOn). sets_column sets x.column.0) h ∙ e in
             let same : new ≡ old = subst (λ b. Where b (Gains keys now r mid new) (new ≡ mid)) beside gains ∙ h in
-            subst (λ (x : IndexOn). wanted n x.index ≤ room_in x.index) (sym same) (fewer_wanted n old.index room)
+            subst (λ (x : IndexOn). wanted n x.index ≤ room_in x.index) (sym same) (fewer_in n (n + 1) old.index (omega arith) room)
       ] refl loses
 
   module _ (old mid new : Indexes) (loses : LoseSet keys rows r sets old mid) (gains : GainSet keys now r sets mid new) where

@@ -26,19 +26,6 @@ use Rattle.mm_relation.specs.declared.row.Cell.{Cell}
 use Rattle.mm_relation.specs.Reading.{Keys, cell_value, row_value, value_at}
 use Rattle.mm_relation.specs.Settings.{with_cells, CellsSet, CanSet}
 
--- lists that are the same with one more element each
-pub last_off : {A : Type 0} (xs ys : List A) (x y : A) → xs ++ (x ∷ []) ≡ ys ++ (y ∷ []) → (xs ≡ ys) × (x ≡ y)
-last_off [] [] x y e = (refl, cc)
-last_off [] (b ∷ []) x y e = absurd (let n : length (x ∷ []) ≡ length (b ∷ y ∷ []) = ap length e in omega arith)
-last_off [] (b ∷ c ∷ ys) x y e = absurd (let n : length (x ∷ []) ≡ length (b ∷ c ∷ (ys ++ (y ∷ []))) = ap length e in omega arith)
-last_off (a ∷ []) [] x y e = absurd (let n : length (a ∷ x ∷ []) ≡ length (y ∷ []) = ap length e in omega arith)
-last_off (a ∷ c ∷ xs) [] x y e = absurd (let n : length (a ∷ c ∷ (xs ++ (x ∷ []))) ≡ length (y ∷ []) = ap length e in omega arith)
-last_off (a ∷ xs) (b ∷ ys) x y e =
-    let first : a ≡ b = cc in
-    let tails : xs ++ (x ∷ []) ≡ ys ++ (y ∷ []) = cc in
-    let rest = last_off xs ys x y tails in
-    (λ i. first i ∷ rest.0 i, rest.1)
-
 -- references that repeat nothing are no more than those that they are among
 pub no_more : (xs ys : List TupleRef) → AllPairs (λ q r. q ≢ r) xs → ((r : TupleRef) → Contains xs r → Contains ys r) → length xs ≤ length ys
 no_more xs ys once inside =

@@ -181,60 +181,46 @@ pub same_tuples_counted : {E : Type 0} (before now : Store Cell) (result : Resul
 same_tuples_counted before now (Ok x) ok err whole = subst (λ (s : Store Cell). AreWhole s.width s.tuples) (sym ok) whole
 same_tuples_counted before now (Err e) ok err whole = subst (λ (s : Store Cell). AreWhole s.width s.tuples) (sym err) whole
 
--- a tuple of which one thing changes
+-- a tuple that changes
+module _ (before now : Store Cell) (r : TupleRef) (change : Tuple Cell → Tuple Cell) (told : IfSome (get before.tuples r) (λ t. now ≡ with_tuple before r (change t))) (held : IsSome (get (mapped row_in before.tuples) r)) where
+  abbrev was : (t : Tuple Cell) × (get before.tuples r ≡ Some t)
+  was = tuple_under before.tuples r held
+
+  is : now ≡ with_tuple before r (change was.0)
+  is = subst (λ (o : Option (Tuple Cell)). IfSome o (λ t. now ≡ with_tuple before r (change t))) was.1 told
+
+  pub changed-whole : AreWhole before.width before.tuples → (IsWhole before.width was.0 → IsWhole before.width (change was.0)) → AreWhole now.width now.tuples
+  changed-whole whole keeps = subst (λ (s : Store Cell). AreWhole s.width s.tuples) (sym is) (whole_with before.width before.tuples r whole (change was.0) (keeps (whole r was.0 was.1)))
+
+  pub changed-width : now.width ≡ before.width
+  changed-width = ap (λ (s : Store Cell). s.width) is
+
+  pub changed-counted : now.counted ≡ before.counted
+  changed-counted = ap (λ (s : Store Cell). s.counted) is
+
+  changed-row : (row new : Row) → get (mapped row_in before.tuples) r ≡ Some row → (row_in was.0 ≡ row → row_in (change was.0) ≡ new) → mapped row_in now.tuples ≡ insert (mapped row_in before.tuples) r new
+  changed-row row new at so = row_put before.tuples r now.tuples (change was.0) (ap (λ (s : Store Cell). s.tuples) is) ∙ ap (insert (mapped row_in before.tuples) r) (so (is_row before.tuples r was.0 row was.1 at))
+
+-- its count, or one of its cells
 module _ (before now : Store Cell) (r : TupleRef) (whole : AreWhole before.width before.tuples) where
-  module _ (n : ℕ) (told : IfSome (get before.tuples r) (λ t. now ≡ with_tuple before r (tuple t.cells n))) where
-    pub count_set-whole : IsSome (get (mapped row_in before.tuples) r) → AreWhole now.width now.tuples
-    count_set-whole held =
-        let found = tuple_under before.tuples r held in
-        let is = subst (λ (o : Option (Tuple Cell)). IfSome o (λ t. now ≡ with_tuple before r (tuple t.cells n))) found.1 told in
-        subst (λ (s : Store Cell). AreWhole s.width s.tuples) (sym is) (whole_with before.width before.tuples r whole (tuple found.0.cells n) (whole r found.0 found.1))
-
-    pub count_set-width : IsSome (get (mapped row_in before.tuples) r) → now.width ≡ before.width
-    count_set-width held =
-        let found = tuple_under before.tuples r held in
-        ap (λ (s : Store Cell). s.width) (subst (λ (o : Option (Tuple Cell)). IfSome o (λ t. now ≡ with_tuple before r (tuple t.cells n))) found.1 told)
-
-    pub count_set-counted : IsSome (get (mapped row_in before.tuples) r) → now.counted ≡ before.counted
-    count_set-counted held =
-        let found = tuple_under before.tuples r held in
-        ap (λ (s : Store Cell). s.counted) (subst (λ (o : Option (Tuple Cell)). IfSome o (λ t. now ≡ with_tuple before r (tuple t.cells n))) found.1 told)
-
-    pub count_set-row : (row : Row) → get (mapped row_in before.tuples) r ≡ Some row → mapped row_in now.tuples ≡ insert (mapped row_in before.tuples) r (with_referrers n row)
-    count_set-row row held =
-        let found = tuple_under before.tuples r (ap is_some held) in
-        let is = subst (λ (o : Option (Tuple Cell)). IfSome o (λ t. now ≡ with_tuple before r (tuple t.cells n))) found.1 told in
-        row_put before.tuples r now.tuples (tuple found.0.cells n) (ap (λ (s : Store Cell). s.tuples) is)
-        ∙ ap (insert (mapped row_in before.tuples) r) (recounted found.0.cells found.0.count n ∙ ap (with_referrers n) (is_row before.tuples r found.0 row found.1 held))
+  pub count_set-row : (n : ℕ) → IfSome (get before.tuples r) (λ t. now ≡ with_tuple before r (tuple t.cells n)) → (row : Row) → get (mapped row_in before.tuples) r ≡ Some row → mapped row_in now.tuples ≡ insert (mapped row_in before.tuples) r (with_referrers n row)
+  count_set-row n told row held =
+      let t = tuple_under before.tuples r (ap is_some held) in
+      changed-row before now r (λ t. tuple t.cells n) told (ap is_some held) row (with_referrers n row) held (λ same. recounted t.0.cells t.0.count n ∙ ap (with_referrers n) same)
 
   module _ (column : ℕ) (cell : Cell) (above : 0 < column) (told : IfSome (get before.tuples r) (λ t. now ≡ with_tuple before r (tuple (slice_set t.cells column cell) t.count))) where
     pub cell_set-whole : IsSome (get (mapped row_in before.tuples) r) → AreWhole now.width now.tuples
     cell_set-whole held =
-        let found = tuple_under before.tuples r held in
-        let is = subst (λ (o : Option (Tuple Cell)). IfSome o (λ t. now ≡ with_tuple before r (tuple (slice_set t.cells column cell) t.count))) found.1 told in
-        let was = whole r found.0 found.1 in
-        subst (λ (s : Store Cell). AreWhole s.width s.tuples) (sym is)
-        (whole_with before.width before.tuples r whole (tuple (slice_set found.0.cells column cell) found.0.count) (length-set found.0.cells column cell ∙ was.0, starts_still found.0.cells column cell above was.1))
-
-    pub cell_set-width : IsSome (get (mapped row_in before.tuples) r) → now.width ≡ before.width
-    cell_set-width held =
-        let found = tuple_under before.tuples r held in
-        ap (λ (s : Store Cell). s.width) (subst (λ (o : Option (Tuple Cell)). IfSome o (λ t. now ≡ with_tuple before r (tuple (slice_set t.cells column cell) t.count))) found.1 told)
-
-    pub cell_set-counted : IsSome (get (mapped row_in before.tuples) r) → now.counted ≡ before.counted
-    cell_set-counted held =
-        let found = tuple_under before.tuples r held in
-        ap (λ (s : Store Cell). s.counted) (subst (λ (o : Option (Tuple Cell)). IfSome o (λ t. now ≡ with_tuple before r (tuple (slice_set t.cells column cell) t.count))) found.1 told)
+        let t = tuple_under before.tuples r held in
+        changed-whole before now r (λ t. tuple (slice_set t.cells column cell) t.count) told held whole
+        (λ all. (length-set t.0.cells column cell ∙ all.0, starts_still t.0.cells column cell above all.1))
 
     pub cell_set-row : (row : Row) → get (mapped row_in before.tuples) r ≡ Some row
         → mapped row_in now.tuples ≡ insert (mapped row_in before.tuples) r (record row { cells = slice_set row.cells (column - 1) cell })
     cell_set-row row held =
-        let found = tuple_under before.tuples r (ap is_some held) in
-        let is = subst (λ (o : Option (Tuple Cell)). IfSome o (λ t. now ≡ with_tuple before r (tuple (slice_set t.cells column cell) t.count))) found.1 told in
-        row_put before.tuples r now.tuples (tuple (slice_set found.0.cells column cell) found.0.count) (ap (λ (s : Store Cell). s.tuples) is)
-        ∙ ap (insert (mapped row_in before.tuples) r)
-        (row_set found.0.cells found.0.count column cell above (whole r found.0 found.1).1
-        ∙ ap (λ (x : Row). record x { cells = slice_set x.cells (column - 1) cell }) (is_row before.tuples r found.0 row found.1 held))
+        let t = tuple_under before.tuples r (ap is_some held) in
+        changed-row before now r (λ t. tuple (slice_set t.cells column cell) t.count) told (ap is_some held) row (record row { cells = slice_set row.cells (column - 1) cell }) held
+        (λ same. row_set t.0.cells t.0.count column cell above (whole r t.0 t.1).1 ∙ ap (λ (x : Row). record x { cells = slice_set x.cells (column - 1) cell }) same)
 
   -- a column of a row that is held is one of the store's
   pub column_within : (column : ℕ) → ((row : Row) → get (mapped row_in before.tuples) r ≡ Some row → (0 < column) × (column ≤ length row.cells)) → IsSome (get (mapped row_in before.tuples) r) → column < before.width

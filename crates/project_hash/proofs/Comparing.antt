@@ -35,24 +35,19 @@ compared_more a b = grind (arith, nat_tests)
 pub compared_at_end : (values others : List Value) (end : ℕ) → end ≡ min (length values) (length others)
     → values_cmp (drop end values) (drop end others) ≡ nat_cmp (length values) (length others)
 compared_at_end [] [] zero e = refl
-compared_at_end [] [] (suc end) e = absurd (omega arith)
 compared_at_end [] (w ∷ others) zero e = nat_cmp_is 0 (suc (length others)) Less (omega arith)
-compared_at_end [] (w ∷ others) (suc end) e = absurd (omega arith)
 compared_at_end (v ∷ values) [] zero e = nat_cmp_is (suc (length values)) 0 Greater (omega arith)
-compared_at_end (v ∷ values) [] (suc end) e = absurd (omega arith)
-compared_at_end (v ∷ values) (w ∷ others) zero e = absurd (omega arith)
 compared_at_end (v ∷ values) (w ∷ others) (suc end) e =
     compared_at_end values others end (omega arith) ∙ compared_more (length values) (length others)
+compared_at_end values others end e = absurd (omega arith)
 
 decided : (o p : Ordering) → is_ne o ≡ true → ordering_then o p ≡ o
-decided Less p e = refl
 decided Equal p e = cc
-decided Greater p e = refl
+decided o p e = refl
 
 undecided : (o p : Ordering) → is_ne o ≡ false → ordering_then o p ≡ p
-undecided Less p e = cc
 undecided Equal p e = refl
-undecided Greater p e = cc
+undecided o p e = cc
 
 -- where all values before a place are equal: those at the place decide, or, where they are equal too, those behind it
 module _ (values others : List Value) (i : ℕ) (v w : Value) (at : slice_get values i ≡ Some v) (other_at : slice_get others i ≡ Some w) (so_far : values_cmp (drop i values) (drop i others) ≡ values_cmp values others) (o : Ordering) (is : o ≡ value_cmp v w) where

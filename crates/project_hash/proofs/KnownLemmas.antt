@@ -17,7 +17,7 @@ use Rattle.part_raw.specs.declared.tuple_ref.TupleRef.{TupleRef}
 use Rattle.mm_index.specs.Bag.{IsSameBag, with_hash}
 use Rattle.mm_index.proofs.Bags.{IsSameBag-refl, IsSameBag-trans, IsSameBag-sym, IsSameBag-cons, IsSameBag-push, IsSameBag-from_same, IsSameBag-with_hash}
 use Rattle.mm_index.proofs.Refs.{Contains-same_refs}
-use Rattle.temp_list.proofs.KeyLemmas.{not_yes}
+use Rattle.std.proofs.lemmas.Bool.{false_from_ne_true}
 use Rattle.temp_list.proofs.SearchLemmas.{with_hash-map}
 use Rattle.project_hash.specs.Alike.{values_cmp-exact}
 use Rattle.project_hash.specs.Distinct.{values_cmp, values_cmp_total}
@@ -79,7 +79,7 @@ module _ (t : TableState) (rows : List TupleRef) (by_hash : List (ℕ × TupleRe
     none_alike row is others =
         list_any_none (alike row) (row_states t rows) (All-map (λ x. alike row x ≡ false) (row_state t) rows (λ k d l.
         let r : TupleRef = get_or rows k d in
-        not_yes (alike row (row_state t r)) (λ e.
+        false_from_ne_true (alike row (row_state t r)) (λ e.
         let same : row.values ≡ (row_state t r).values = tells_apart values_cmp-exact row.values (row_state t r).values e in
         All-contains (λ q. row.values ≡ (row_state t q).values → ⊥) chain r others (chain_has r (All-contains_itself rows k d l) (ap hash_of_values (sym same) ∙ sym is)) same)))
 

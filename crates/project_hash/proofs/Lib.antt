@@ -3,7 +3,6 @@ pub mod KnownLemmas
 pub mod Once
 pub mod Picked
 pub mod Reading
-pub mod Rising
 pub mod Same
 pub mod ScanLemmas
 pub mod TableLemmas

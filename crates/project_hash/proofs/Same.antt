@@ -1,17 +1,13 @@
 -- A list without duplicates shows what the list shows that it was made of.
-use Rattle.std.proofs.Common.{◌≡◌, List, map, ap, ◌∙◌, sym, subst}
+use Rattle.std.proofs.Common.{◌≡◌, List, map, sym, subst}
 use Rattle.std.specs.List.{All, Contains}
-use Rattle.std.proofs.lemmas.List.{get_or-map, length-map}
 use Rattle.std.proofs.lemmas.List.Elements.{All-map, All-weaker, All-contains}
+use Rattle.common_lemmas.proofs.Elements.{Contains-map}
 use Rattle.part_raw.specs.declared.tuple_ref.TupleRef.{TupleRef}
 use Rattle.plain_tables.specs.declared.value.Value.{Value}
 use Rattle.mm_relation.specs.State.{RelationState}
 use Rattle.temp_list.specs.Lists.{ListState, value_of}
 use Rattle.project_hash.specs.Distinct.{shown_values, shown_rows, IsDistinctOf, ShowsTheSame}
-
--- what is made of a member is among what is made of all
-among : (made : List TupleRef → List Value) (rows : List (List TupleRef)) (row : List TupleRef) → Contains rows row → Contains (map made rows) (made row)
-among made rows row (k, within, at) = (k, rw length-map within, get_or-map made rows k row (made row) within ∙ ap made at)
 
 module _ (relations : List RelationState) (old new : ListState) (distinct : IsDistinctOf relations old new) where
   read_alike : shown_rows relations new ≡ map (shown_values relations old) new.rows
@@ -21,7 +17,7 @@ module _ (relations : List RelationState) (old new : ListState) (distinct : IsDi
   taken =
       subst (λ (shown : List (List Value)). All (Contains (shown_rows relations old)) shown) (sym read_alike)
       (All-map (Contains (shown_rows relations old)) (shown_values relations old) new.rows
-      (All-weaker (Contains old.rows) (λ (row : List TupleRef). Contains (shown_rows relations old) (shown_values relations old row)) (among (shown_values relations old) old.rows) new.rows distinct.some))
+      (All-weaker (Contains old.rows) (λ (row : List TupleRef). Contains (shown_rows relations old) (shown_values relations old row)) (Contains-map (shown_values relations old) old.rows) new.rows distinct.some))
 
   pub shown_the_same : ShowsTheSame (shown_rows relations old) (shown_rows relations new)
   shown_the_same values =

@@ -6,12 +6,12 @@ use Rattle.std.specs.FinMap as finite
 use Rattle.std.specs.declared.cmp.Ordering.TheVariants.{Less, Equal}
 use Rattle.std.specs.Ordering.{is_eq}
 use Rattle.std.proofs.lemmas.List.Elements.{All-tail}
+use Rattle.std.proofs.lemmas.Bool.{false_from_ne_true}
 use Rattle.common_lemmas.proofs.Filters.{filter_none}
 use Rattle.part_raw.specs.declared.tuple_ref.TupleRef.{TupleRef}
 use Rattle.part_raw.proofs.Tuples.{held_tuple}
 use Rattle.plain_tables.specs.declared.condition.Op.TheVariants as op
 use Rattle.plain_tables.specs.declared.value.Value.{Value}
-use Rattle.plain_tables.specs.declared.value.Value.TheVariants.{Null, Int, Text}
 use Rattle.plain_tables.specs.Queries.{stands}
 use Rattle.plain_tables.proofs.ValueLemmas.{value_cmp-exact}
 use Rattle.mm_index.specs.Order.{IsRising}
@@ -22,18 +22,15 @@ use Rattle.mm_relation.specs.Order.{column_cmp, column_cmp_strict, held_from_val
 use Rattle.mm_relation.specs.State.{tree_list, RelationState, IsKept, no_keys}
 use Rattle.mm_relation.proofs.KeyOrder.{key_readable}
 use Rattle.temp_list.specs.Reading.{or_null, value_in, standing}
+use Rattle.temp_list.proofs.RangeLemmas.{range_stands}
 use Rattle.temp_list.proofs.SearchLemmas.{equal_one, some_read}
-
-pub not_yes : (b : Bool) → (b ≡ true → ⊥) → b ≡ false
-not_yes true h = absurd (h refl)
-not_yes false h = refl
 
 -- of a list that rises, a test that only one member passes keeps this one
 pub filter_one : {A : Type 0} (cmp : A → A → Ordering) (p : A → Bool) (x : A) (xs : List A) → cmp x x ≡ Equal → p x ≡ true → IsRising cmp xs → Contains xs x → All (λ y. p y ≡ true → y ≡ x) xs → filter p xs ≡ x ∷ []
 filter_one cmp p x [] same passes rising h only = absurd (omega (arith, h.1))
 filter_one {A} cmp p x (y ∷ ys) same passes rising (zero, l, e) only =
     let rest : filter p ys ≡ [] =
-    filter_none p ys (λ k d h. not_yes (p (get_or ys k d)) (λ t.
+    filter_none p ys (λ k d h. false_from_ne_true (p (get_or ys k d)) (λ t.
     let one : get_or ys k d ≡ x = only (suc k) d (omega arith) t in
     let less : cmp y (get_or ys k d) ≡ Less = rising 0 (suc k) d (omega arith) (omega arith) in
     let turned : cmp x x ≡ Less = sym (λ i. cmp (e i) (one i)) ∙ less in
@@ -53,10 +50,8 @@ filter_one {A} cmp p x (y ∷ ys) same passes rising (suc k, l, e) only =
     ] refl
 
 -- each value equals itself, null among them
-equals_itself : (v : Value) → stands op.Eq v v ≡ true
-equals_itself Null = refl
-equals_itself (Int a) = ap is_eq ((value_cmp-exact (Int a) (Int a)).1 refl)
-equals_itself (Text t) = ap is_eq ((value_cmp-exact (Text t) (Text t)).1 refl)
+pub equals_itself : (v : Value) → stands op.Eq v v ≡ true
+equals_itself v = sym (range_stands op.Eq (λ e. cc) v v) ∙ ap is_eq ((value_cmp-exact v v).1 refl)
 
 -- what a row that is held has as its key is read of it
 pub has_key : (relations : List RelationState) (s : RelationState) (r : TupleRef) → IsSome (finite.get s.rows r) → key_at s.rows r ≡ Some (value_in relations s 0 r)
@@ -94,5 +89,5 @@ module _ (relations : List RelationState) (s : RelationState) (kept : IsKept s) 
   pub standing_none : ((r : TupleRef) → key_at s.rows r ≢ Some key) → standing relations s 0 op.Eq key ≡ []
   standing_none none =
       filter_none (λ q. stands op.Eq (value_in relations s 0 q) key) (tree_list s.by_key)
-      (λ k d l. not_yes (stands op.Eq (value_in relations s 0 (get_or (tree_list s.by_key) k d)) key)
+      (λ k d l. false_from_ne_true (stands op.Eq (value_in relations s 0 (get_or (tree_list s.by_key) k d)) key)
       (λ e. none (get_or (tree_list s.by_key) k d) (same_key (get_or (tree_list s.by_key) k d) (kept.keyed.lists.held k d l) e)))

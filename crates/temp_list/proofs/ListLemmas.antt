@@ -40,18 +40,23 @@ column_over relations list over i place at = All-at (HasPlace relations list.sou
 pub same_at : {A : Type 0} (o : Option A) (x y : A) → o ≡ Some x → o ≡ Some y → x ≡ y
 same_at o x y e f = same_Some x y (sym e ∙ f)
 
+-- the relation of a place, found by the number of its source's table
+pub place_relation : (relations : List RelationState) (sources : List ℕ) (place : Place) → HasPlace relations sources place → (tables : List TableNumber) → map (λ t. t.0) tables ≡ sources → (d : TableNumber) (s : RelationState) → slice_get relations (get_or tables place.source d).0 ≡ Some s → relation_of relations sources place.source ≡ Some s
+place_relation relations sources place there tables same d s lent =
+    let inside : place.source < length sources = source_within relations sources place.source there.0 there.1 in
+    let long : length tables ≡ length sources = sym (length-map tables (λ (t : TableNumber). t.0)) ∙ ap length same in
+    let number : slice_get sources place.source ≡ Some (get_or tables place.source d).0 =
+    ap (λ (ns : List ℕ). slice_get ns place.source) (sym same) ∙ slice_get-map (λ (t : TableNumber). t.0) tables place.source ∙ ap (option_map (λ (t : TableNumber). t.0)) (slice_get-get_or tables place.source d (omega (arith, long, inside)))
+    in
+    ap (option_and_then (slice_get relations)) number ∙ lent
+
 -- a place of a row of a list, its relation, which is found by the number of the source's table, and its row
 module _ (relations : List RelationState) (list : ListState) (over : IsOver relations list) (place : Place) (there : HasPlace relations list.sources place) (tables : List TableNumber) (same : map (λ t. t.0) tables ≡ list.sources) (d : TableNumber) (s : RelationState) (lent : slice_get relations (get_or tables place.source d).0 ≡ Some s) (i : ℕ) (row : List TupleRef) (at : slice_get list.rows i ≡ Some row) where
   inside : place.source < length list.sources
   inside = source_within relations list.sources place.source there.0 there.1
 
   from : relation_of relations list.sources place.source ≡ Some s
-  from =
-      let long : length tables ≡ length list.sources = sym (length-map tables (λ (t : TableNumber). t.0)) ∙ ap length same in
-      let number : slice_get list.sources place.source ≡ Some (get_or tables place.source d).0 =
-      ap (λ (ns : List ℕ). slice_get ns place.source) (sym same) ∙ slice_get-map (λ (t : TableNumber). t.0) tables place.source ∙ ap (option_map (λ (t : TableNumber). t.0)) (slice_get-get_or tables place.source d (omega (arith, long, inside)))
-      in
-      ap (option_and_then (slice_get relations)) number ∙ lent
+  from = place_relation relations list.sources place there tables same d s lent
 
   pub place_wide : place.source < length row
   place_wide = omega (arith, (row_over relations list over i row at).width, inside)

@@ -11,7 +11,7 @@ use Rattle.std.specs.FinMap as finite
 use Rattle.std.specs.Option.{option_and_then}
 use Rattle.std.specs.Ordering.{is_lt, ordering_reverse}
 use Rattle.std.specs.declared.cmp.Ordering.TheVariants.{Less, Equal, Greater}
-use Rattle.std.proofs.lemmas.Option.{slice_get-get_or}
+use Rattle.common_lemmas.proofs.Places.{slice_get-inside}
 use Rattle.std.proofs.lemmas.List.Elements.{All-head, All-tail, All-contains, All-contains_itself}
 use Rattle.std.proofs.lemmas.List.Sorted.{sorted_far, ranks_by}
 use Rattle.part_raw.specs.declared.tuple_ref.TupleRef.{TupleRef}
@@ -51,8 +51,6 @@ module _ {A : Type 0} (cmp : A → A → Ordering) (total : IsTotalOrder cmp) wh
   module _ (P : A → Type 0) (exact : (x y : A) → P x → P y → cmp x y ≡ Equal → x ≡ y) (same : A → A → Bool) (decides : (x y : A) → Decides (same x y) (x ≡ y)) where
     pub one_order : (xs ys : List A) → All P xs → All P ys → IsSameBag xs ys → IsSorted cmp xs → IsSorted cmp ys → xs ≡ ys
     one_order [] [] px py bag up vp = refl
-    one_order [] (y ∷ ys) px py bag up vp = absurd (omega (arith, length-same_bag [] (y ∷ ys) bag))
-    one_order (x ∷ xs) [] px py bag up vp = absurd (omega (arith, length-same_bag (x ∷ xs) [] bag))
     one_order (x ∷ xs) (y ∷ ys) px py bag up vp =
         let in_ys : Contains (y ∷ ys) x = Contains-same_bag same decides (x ∷ xs) (y ∷ ys) x bag (0, omega arith, refl) in
         let in_xs : Contains (x ∷ xs) y = Contains-same_bag same decides (y ∷ ys) (x ∷ xs) y (IsSameBag-sym bag) (0, omega arith, refl) in
@@ -61,6 +59,7 @@ module _ {A : Type 0} (cmp : A → A → Ordering) (total : IsTotalOrder cmp) wh
         one_order xs ys (All-tail P x xs px) (All-tail P y ys py) (same_behind x xs ys (subst (λ (z : A). IsSameBag (x ∷ xs) (z ∷ ys)) (sym one) bag)) (behind x xs up) (behind y ys vp)
         in
         λ i. one i ∷ rest i
+    one_order xs ys px py bag up vp = absurd (omega (arith, length-same_bag xs ys bag))
 
 -- ---- rows with the same keys
 
@@ -72,13 +71,9 @@ module _ (relations : List RelationState) (sound : AreSound relations) where
 
   rows_one : (sources : List ℕ) (a b : List TupleRef) → All (λ n. n < length relations) sources → IsRowOver relations sources a → IsRowOver relations sources b → row_keys relations sources a ≡ row_keys relations sources b → a ≡ b
   rows_one [] [] [] there oa ob e = refl
-  rows_one [] (q ∷ a) b there oa ob e = absurd (omega (arith, oa.width))
-  rows_one [] [] (r ∷ b) there oa ob e = absurd (omega (arith, ob.width))
-  rows_one (n ∷ ns) [] b there oa ob e = absurd (omega (arith, oa.width))
-  rows_one (n ∷ ns) (q ∷ a) [] there oa ob e = absurd (omega (arith, ob.width))
   rows_one (n ∷ ns) (q ∷ a) (r ∷ b) there oa ob e =
       let within : n < length relations = there 0 0 (omega arith) in
-      let lent = some_at relations n within in
+      let lent = slice_get-inside relations n within in
       let head : key_in relations n q ≡ key_in relations n r = cc in
       let tail : row_keys relations ns a ≡ row_keys relations ns b = cc in
       let one : q ≡ r = key_exact n lent.0 q r lent.1 (oa.held 0 lent.0 q lent.1 refl) (ob.held 0 lent.0 r lent.1 refl) head in
@@ -88,10 +83,7 @@ module _ (relations : List RelationState) (sound : AreSound relations) where
       (record { width = omega (arith, ob.width); held = λ k s x from at. ob.held (suc k) s x from at }) tail
       in
       λ i. one i ∷ rest i
-    where
-      some_at : {A : Type 0} (xs : List A) (i : ℕ) → i < length xs → (x : A) × (slice_get xs i ≡ Some x)
-      some_at [] i h = absurd (omega arith)
-      some_at (x ∷ xs) i h = (get_or (x ∷ xs) i x, slice_get-get_or (x ∷ xs) i x h)
+  rows_one ns a b there oa ob e = absurd (omega (arith, oa.width, ob.width))
 
 pub sorted_are_one : SortedAreOne
 sorted_are_one relations one other over bag up vp =

@@ -4,6 +4,7 @@ use Rattle.std.specs.Cmp.{tied_then}
 use Rattle.std.specs.declared.cmp.Ordering.TheVariants.{Less, Equal, Greater}
 use Rattle.std.specs.Ordering.{ordering_index, ordering_then, is_eq, is_lt, is_le, is_gt, is_ge}
 use Rattle.std.proofs.lemmas.Bool.{cases_Bool}
+use Rattle.common_lemmas.proofs.Orders.{ordering_index_within}
 use Rattle.plain_tables.specs.declared.value.Value.{Value}
 use Rattle.plain_tables.specs.declared.value.Value.TheVariants.{Null, Int, Text}
 use Rattle.plain_tables.specs.declared.condition.Op.{Op}
@@ -26,60 +27,42 @@ values_rise a b w (inr same) = rw (value_cmp_total.congr a b w same) (omega arit
 
 -- nulls stand first
 nulls_first : (a b : Value) → Rises a b → is_null b ≡ true → is_null a ≡ true
-nulls_first Null Null h e = refl
-nulls_first (Int n) Null (inl h) e = cc
-nulls_first (Int n) Null (inr h) e = cc
-nulls_first (Text t) Null (inl h) e = cc
-nulls_first (Text t) Null (inr h) e = cc
-nulls_first a (Int n) h e = cc
-nulls_first a (Text t) h e = cc
+nulls_first Null b h e = refl
+nulls_first a Null (inl h) e = cc
+nulls_first a Null (inr h) e = cc
+nulls_first a b h e = cc
 
 -- a value that stands so by another operator than = and <> is no null, nor is the other, and they are ordered so
 abbrev parts : Op → Value → Value → Bool
 parts operator v w = not (is_null w) && (not (is_null v) && are_ordered operator (value_cmp v w))
 
 stands_parts : (operator : Op) → operator ≢ op.Eq → operator ≢ op.Ne → (v w : Value) → stands operator v w ≡ parts operator v w
-stands_parts operator ne nn Null (Int b) = refl
-stands_parts operator ne nn Null (Text b) = refl
-stands_parts operator ne nn (Int a) (Int b) = refl
-stands_parts operator ne nn (Int a) (Text b) = refl
-stands_parts operator ne nn (Text a) (Int b) = refl
-stands_parts operator ne nn (Text a) (Text b) = refl
-stands_parts op.Eq ne nn v Null = absurd (ne refl)
-stands_parts op.Ne ne nn v Null = absurd (nn refl)
-stands_parts op.Lt ne nn v Null = refl
-stands_parts op.Le ne nn v Null = refl
-stands_parts op.Gt ne nn v Null = refl
-stands_parts op.Ge ne nn v Null = refl
+stands_parts op.Eq ne nn v w = absurd (ne refl)
+stands_parts op.Ne ne nn v w = absurd (nn refl)
+stands_parts operator ne nn v Null = refl
+stands_parts operator ne nn Null w = refl
+stands_parts operator ne nn v w = refl
 
 -- what an order tells of two that follow each other beside a third
 lt_down : (o p : Ordering) → ordering_index o ≤ ordering_index p → is_lt p ≡ true → is_lt o ≡ true
 lt_down Less p h e = refl
-lt_down Equal Less h e = absurd (omega arith)
-lt_down Greater Less h e = absurd (omega arith)
-lt_down o Equal h e = cc
-lt_down o Greater h e = cc
+lt_down o Less h e = absurd (omega arith)
+lt_down o p h e = cc
 
 le_down : (o p : Ordering) → ordering_index o ≤ ordering_index p → is_le p ≡ true → is_le o ≡ true
-le_down Less p h e = refl
-le_down Equal p h e = refl
-le_down Greater Less h e = absurd (omega arith)
-le_down Greater Equal h e = absurd (omega arith)
 le_down Greater Greater h e = cc
+le_down Greater p h e = absurd (omega arith)
+le_down o p h e = refl
 
 gt_up : (o p : Ordering) → ordering_index o ≤ ordering_index p → is_gt o ≡ true → is_gt p ≡ true
 gt_up o Greater h e = refl
-gt_up Greater Less h e = absurd (omega arith)
-gt_up Greater Equal h e = absurd (omega arith)
-gt_up Less p h e = cc
-gt_up Equal p h e = cc
+gt_up Greater p h e = absurd (omega arith)
+gt_up o p h e = cc
 
 ge_up : (o p : Ordering) → ordering_index o ≤ ordering_index p → is_ge o ≡ true → is_ge p ≡ true
-ge_up o Greater h e = refl
-ge_up o Equal h e = refl
-ge_up Greater Less h e = absurd (omega arith)
-ge_up Equal Less h e = absurd (omega arith)
 ge_up Less Less h e = cc
+ge_up o Less h e = absurd (omega arith)
+ge_up o p h e = refl
 
 -- places by three tests: whether the value that is sought is null, whether this one is, and whether they are ordered so
 abbrev below : Bool → Bool → Bool → Ordering
@@ -89,23 +72,15 @@ abbrev above : Bool → Bool → Bool → Ordering
 above sought null so = cond (not sought && (not null && so)) Equal Less
 
 below_rises : (sought an bn al bl : Bool) → (bn ≡ true → an ≡ true) → (bl ≡ true → al ≡ true) → ordering_index (below sought an al) ≤ ordering_index (below sought bn bl)
-below_rises true true bn al bl h k = omega arith
-below_rises true false true al bl h k = absurd (let e : false ≡ true = h refl in cc)
-below_rises true false false al bl h k = omega arith
-below_rises false true bn al bl h k = omega arith
-below_rises false false true al bl h k = absurd (let e : false ≡ true = h refl in cc)
-below_rises false false false true true h k = omega arith
 below_rises false false false true false h k = omega arith
 below_rises false false false false true h k = absurd (let e : false ≡ true = k refl in cc)
-below_rises false false false false false h k = omega arith
+below_rises sought false true al bl h k = absurd (let e : false ≡ true = h refl in cc)
+below_rises sought an bn al bl h k = omega arith
 
 above_rises : (sought an bn al bl : Bool) → (bn ≡ true → an ≡ true) → (al ≡ true → bl ≡ true) → ordering_index (above sought an al) ≤ ordering_index (above sought bn bl)
-above_rises true an bn al bl h k = omega arith
-above_rises false true bn al bl h k = omega arith
-above_rises false false true al bl h k = absurd (let e : false ≡ true = h refl in cc)
-above_rises false false false false bl h k = omega arith
-above_rises false false false true true h k = omega arith
 above_rises false false false true false h k = absurd (let e : false ≡ true = k refl in cc)
+above_rises false false true al bl h k = absurd (let e : false ≡ true = h refl in cc)
+above_rises sought an bn al bl h k = omega arith
 
 -- the places never fall in the order of values
 pub places_rise : (operator : Op) → operator ≢ op.Ne → (a b w : Value) → Rises a b → ordering_index (place_of operator a w) ≤ ordering_index (place_of operator b w)
@@ -135,14 +110,9 @@ not_equal false = refl
 
 pub range_stands : (operator : Op) → operator ≢ op.Ne → (v w : Value) → is_eq (place_of operator v w) ≡ stands operator v w
 range_stands op.Eq range Null Null = refl
-range_stands op.Eq range (Int a) Null = refl
-range_stands op.Eq range (Text a) Null = refl
-range_stands op.Eq range Null (Int b) = refl
-range_stands op.Eq range Null (Text b) = refl
 range_stands op.Eq range (Int a) (Int b) = refl
-range_stands op.Eq range (Int a) (Text b) = refl
-range_stands op.Eq range (Text a) (Int b) = refl
 range_stands op.Eq range (Text a) (Text b) = refl
+range_stands op.Eq range v w = refl
 range_stands op.Ne range v w = absurd (range refl)
 range_stands op.Lt range v w = equal_where (stands op.Lt v w) (cond (is_null v) Less Greater) (not_equal (is_null v))
 range_stands op.Le range v w = equal_where (stands op.Le v w) (cond (is_null v) Less Greater) (not_equal (is_null v))
@@ -157,15 +127,9 @@ bounds_not_ne operator same h e = let f : (is_range op.Ne && same) ≡ true = ap
 
 -- a place that follows two that never fall never falls
 then_rises : (o p q r : Ordering) → ordering_index o ≤ ordering_index p → ordering_index q ≤ ordering_index r → ordering_index (ordering_then o q) ≤ ordering_index (ordering_then p r)
-then_rises Less p q r h k = omega arith
-then_rises Equal Less q r h k = absurd (omega arith)
 then_rises Equal Equal q r h k = k
-then_rises Equal Greater Less r h k = omega arith
-then_rises Equal Greater Equal r h k = omega arith
-then_rises Equal Greater Greater r h k = omega arith
-then_rises Greater Less q r h k = absurd (omega arith)
-then_rises Greater Equal q r h k = absurd (omega arith)
 then_rises Greater Greater q r h k = omega arith
+then_rises o p q r h k = omega (arith, ordering_index_within q)
 
 beside_rises : (column : ℕ) (test : Test) (a b : Value) → Rises a b → ordering_index (place_beside column test a) ≤ ordering_index (place_beside column test b)
 beside_rises column test a b h =

@@ -1,12 +1,13 @@
 -- The rows that a tree's range and a hash's chain give are those whose values stand so.
-use Rattle.std.proofs.Common.{◌≡◌, ◌≢◌, ◌≤◌, ℕ, suc, ◌+◌, ◌<◌, Bool, true, false, cond, ◌==◌, ◌&&◌, inl, inr, List, [], ◌∷◌, Option, Some, IsSome, IsTrue, length, map, refl, sym, ap, ◌∙◌, subst, arith, get_or, Ordering}
+use Rattle.std.proofs.Common.{◌≡◌, ◌≢◌, ◌≤◌, ℕ, suc, ◌<◌, Bool, true, false, cond, ◌==◌, ◌&&◌, inl, inr, List, [], ◌∷◌, Option, Some, IsSome, IsTrue, length, map, refl, sym, ap, ◌∙◌, subst, arith, get_or, Ordering}
 use Rattle.std.specs.List.{All, Contains, filter, count_by}
 use Rattle.std.specs.declared.cmp.Ordering.TheVariants.{Less}
 use Rattle.std.specs.Ordering.{is_eq, ordering_index, ordering_then}
 use Rattle.std.specs.Option.{option_cmp, option_and_then}
 use Rattle.std.specs.FinMap as finite
 use Rattle.std.proofs.lemmas.Bool.{cases_Bool, eqb-true, eq-eqb}
-use Rattle.std.proofs.lemmas.List.Sums.{sum_by-cons}
+use Rattle.std.proofs.lemmas.List.Sums.{length-filter}
+use Rattle.common_lemmas.proofs.Filters.{filter-filter, filter_agree_on}
 use Rattle.std.proofs.lemmas.List.Elements.{All-contains, All-contains_itself, filter_agree}
 use Rattle.common_lemmas.proofs.Elements.{Contains-from_filter}
 use Rattle.common_lemmas.proofs.Orders.{is_eq-Equal, then_first}
@@ -41,12 +42,7 @@ use Rattle.temp_list.proofs.RangeLemmas.{Rises, places_rise, range_stands, betwe
 -- ---- bags
 
 count_by-filter : {A : Type 0} (test p : A → Bool) (xs : List A) → count_by test (filter p xs) ≡ count_by (λ x. p x && test x) xs
-count_by-filter test p [] = refl
-count_by-filter {A} test p (x ∷ xs) =
-    elim (p x) as (λ b. count_by test (cond b (x ∷ filter p xs) (filter p xs)) ≡ cond (b && test x) 1 0 + count_by (λ y. p y && test y) xs) [
-      | true ↦ sum_by-cons (λ y. cond (test y) 1 0) x (filter p xs) ∙ ap (λ n. cond (test x) 1 0 + n) (count_by-filter test p xs)
-      | false ↦ omega (arith, count_by-filter test p xs)
-    ] ∙ sym (sum_by-cons (λ y. cond (p y && test y) 1 0) x xs)
+count_by-filter test p xs = sym (length-filter test (filter p xs)) ∙ ap length (filter-filter test p xs) ∙ length-filter (λ x. p x && test x) xs
 
 -- what passes a test, of the same bag
 pub IsSameBag-filter : {A : Type 0} (p : A → Bool) (xs ys : List A) → IsSameBag xs ys → IsSameBag (filter p xs) (filter p ys)
@@ -56,18 +52,12 @@ IsSameBag-filter p xs ys h = record {
 
 -- a test that only those pass which pass another
 pub filter_inner : {A : Type 0} (p q : A → Bool) (xs : List A) → All (λ x. p x ≡ true → q x ≡ true) xs → filter p (filter q xs) ≡ filter p xs
-filter_inner p q [] h = refl
-filter_inner {A} p q (x ∷ xs) h =
-    let rest : filter p (filter q xs) ≡ filter p xs = filter_inner p q xs (λ k d l. h (suc k) d (omega arith)) in
-    elim (cases_Bool (q x)) [
-      | inl e ↦ rw e (ap (λ ys. cond (p x) (x ∷ ys) ys) rest)
-      | inr e ↦
-          rw e
-          (elim (p x) as (λ b. p x ≡ b → filter p (filter q xs) ≡ cond b (x ∷ filter p xs) (filter p xs)) [
-            | true ↦ λ f. absurd (let g : q x ≡ true = h 0 x (omega arith) f in cc)
-            | false ↦ λ f. rest
-          ] refl)
-    ]
+filter_inner p q xs h = filter-filter p q xs ∙ filter_agree_on (λ x. q x && p x) p xs (λ k d l. both (q (get_or xs k d)) (p (get_or xs k d)) (h k d l))
+  where
+    both : (a b : Bool) → (b ≡ true → a ≡ true) → (a && b) ≡ b
+    both true b h = refl
+    both false false h = refl
+    both false true h = h refl
 
 -- ---- what is found under a hash
 

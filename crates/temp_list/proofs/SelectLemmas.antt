@@ -20,9 +20,10 @@ use Rattle.mm_index.specs.Bag.{IsSameBag, AppendsBag}
 use Rattle.mm_index.proofs.Bags.{IsSameBag-trans, IsSameBag-from_same}
 use Rattle.mm_index.proofs.Refs.{Contains-same_refs}
 use Rattle.mm_relation.specs.State.{tree_list, RelationState, IsKept}
-use Rattle.temp_list.specs.Reading.{OfRelation, value_in, row_passes, passing, bounds, is_between}
+use Rattle.temp_list.specs.Reading.{AreSound, OfRelation, value_in, row_passes, passing, bounds, is_between}
 use Rattle.temp_list.specs.Selecting.{AreSelected}
 use Rattle.temp_list.proofs.ListLemmas.{same_at}
+use Rattle.temp_list.proofs.ReadingLemmas.{sound_at}
 use Rattle.temp_list.proofs.SearchLemmas.{IsSameBag-filter, filter_inner}
 
 module _ (relations : List RelationState) (s : RelationState) (kept : IsKept s) where
@@ -74,11 +75,7 @@ passes_between relations s column r (test ∷ tests) e =
 -- a hash serves an equality alone
 equality_op : (operator : Op) → is_equality operator ≡ true → operator ≡ op.Eq
 equality_op op.Eq e = refl
-equality_op op.Ne e = cc
-equality_op op.Lt e = cc
-equality_op op.Le e = cc
-equality_op op.Gt e = cc
-equality_op op.Ge e = cc
+equality_op operator e = cc
 
 pub passes_equality : (relations : List RelationState) (s : RelationState) (tests : List Test) (n : ℕ) (test : Test) → n < length tests → test ≡ get_or tests n test → HoldsAt (λ t. IsTrue (hash_serves s t)) tests n → (r : TupleRef) → row_passes relations s tests r ≡ true → stands op.Eq (value_in relations s test.column.0 r) test.value ≡ true
 passes_equality relations s tests n test within item served r e =
@@ -95,3 +92,9 @@ all_appended {A} old new bag none h =
 -- the relation that is lent is that of the table
 pub selected_there : (relations : List RelationState) (table : ℕ) (s : RelationState) → slice_get relations table ≡ Some s → (tests : List Test) (rows : List TupleRef) → AreSelected relations s tests rows → OfRelation relations table (λ t. AreSelected relations t tests rows)
 selected_there relations table s lent tests rows so t at = subst (λ (u : RelationState). AreSelected relations u tests rows) (same_at (slice_get relations table) s t lent at) so
+
+-- rows that are as a bag those that pass
+pub bag_selected : (relations : List RelationState) → AreSound relations → (table : ℕ) (s : RelationState) → slice_get relations table ≡ Some s → (tests : List Test) (rows : List TupleRef) → IsSameBag rows (passing relations s tests) → OfRelation relations table (λ t. AreSelected relations t tests rows)
+bag_selected relations sound table s lent tests rows bag =
+    selected_there relations table s lent tests rows
+    (record { held = found_held relations s (sound_at relations sound table s lent).0 rows (row_passes relations s tests) bag; bag = bag })

@@ -11,6 +11,7 @@ use Rattle.common_lemmas.proofs.Filters.{filter-filter}
 use Rattle.common_lemmas.proofs.Pairs.{AllPairs-append}
 use Rattle.part_raw.specs.declared.tuple_ref.TupleRef.{TupleRef}
 use Rattle.part_raw.specs.Store.{Tuples}
+use Rattle.part_raw.proofs.Refs.{numbered}
 use Rattle.plain_tables.specs.declared.resolved.Test.{Test}
 use Rattle.mm_index.specs.Bag.{IsSameBag}
 use Rattle.mm_index.specs.Listing.{IsListing}
@@ -20,9 +21,6 @@ use Rattle.mm_relation.specs.State.{tree_list, RelationState, IsKept}
 use Rattle.mm_relation.proofs.Listings.{keyed_listing}
 use Rattle.temp_list.specs.Reading.{row_passes, passing}
 use Rattle.temp_list.proofs.SearchLemmas.{IsSameBag-filter}
-
-abbrev pub numbered : ℕ → TupleRef
-numbered n = record { number = n }
 
 -- the references with numbers below this one
 unfoldable pub refs_below : ℕ → List TupleRef

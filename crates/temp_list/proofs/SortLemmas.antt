@@ -7,7 +7,7 @@ use Rattle.std.specs.Cmp.{IsTotalOrder, IsStrictWeakOrder}
 use Rattle.std.specs.Cmp.Lexicographic.{options_total, lists_total}
 use Rattle.std.specs.Option.{option_cmp}
 use Rattle.std.specs.Ordering.{is_lt, is_ge}
-use Rattle.std.specs.declared.cmp.Ordering.TheVariants.{Less, Equal, Greater}
+use Rattle.std.specs.declared.cmp.Ordering.TheVariants.{Less, Equal}
 use Rattle.std.proofs.lemmas.Cmp.{on_total, tied_itself}
 use Rattle.std.proofs.lemmas.List.{get_or-map, length-map}
 use Rattle.std.proofs.lemmas.List.Sorted.{ranks_by, All-permutation, sum_by-IsPermutation}
@@ -32,13 +32,11 @@ listed_ranks relations sources = ranks_by (keys_total relations (map (λ t. t.0)
 
 no_less : (o : Ordering) → true ≡ is_ge o → is_lt o ≡ false
 no_less Less e = cc
-no_less Equal e = refl
-no_less Greater e = refl
+no_less o e = refl
 
 less_then : (o : Ordering) → false ≡ is_ge o → is_lt o ≡ true
 less_then Less e = refl
-less_then Equal e = cc
-less_then Greater e = cc
+less_then o e = cc
 
 -- what a look at each pair of neighbours tells
 pub rise_told : {A : Type 0} (cmp : A → A → Ordering) (xs : List A) (told : Bool) → IsAllAdjacentAnswer (λ x y b. b ≡ is_ge (cmp y x)) xs told → (IsTrue told → IsSorted cmp xs) × (IsSorted cmp xs → IsTrue told)

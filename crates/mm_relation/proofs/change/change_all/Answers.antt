@@ -4,15 +4,16 @@ use Rattle.std.specs.List.{All, AllPairs}
 use Rattle.std.proofs.lemmas.List.{nil_from_length}
 use Rattle.mm_relation.specs.Indexes.{HaveRoom}
 use Rattle.mm_relation.specs.Settings.{CellsSet, pile}
-use Rattle.mm_relation.proofs.Each.{as_few, read_now}
-use Rattle.mm_relation.proofs.Moving.{All-first, pairs_first, room_for_fewer, last_held, last_set}
+use Rattle.mm_relation.proofs.Each.{as_few, read_now, room_for_fewer}
+use Rattle.mm_relation.proofs.Moving.{pairs_first, last_held, last_set}
+use Rattle.common_lemmas.proofs.Elements.{All-append_parts}
 use Rattle.mm_relation.proofs.Setting.{can_still, none_set}
 use Rattle.mm_relation.proofs.change.change_all.Goals as goal
 
 pub change_each-requires-clause-held : goal.change_each-requires-clause-held
 change_each-requires-clause-held g c =
     let split : c.args.rs.now ≡ c.in-Some.others.now ++ c.in-Some.last.now ∷ [] = c.in-Some.ensures.cases.0 in
-    All-first (λ r. IsSome (get c.args.rows.now.tuples r)) c.in-Some.others.now c.in-Some.last.now (subst (All (λ r. IsSome (get c.args.rows.now.tuples r))) split c.requires.held)
+    (All-append_parts (λ r. IsSome (get c.args.rows.now.tuples r)) c.in-Some.others.now (c.in-Some.last.now ∷ []) (subst (All (λ r. IsSome (get c.args.rows.now.tuples r))) split c.requires.held)).0
 
 pub change_each-requires-clause-once : goal.change_each-requires-clause-once
 change_each-requires-clause-once g c =

@@ -3,7 +3,7 @@ use Rattle.std.proofs.lemmas.List.{take_all}
 use Rattle.mm_relation.specs.Settings.{pile, CellsSet}
 use Rattle.mm_relation.specs.Indexes.{HaveRoom}
 use Rattle.mm_relation.proofs.Setting.{can_still, none_set}
-use Rattle.mm_relation.proofs.Each.{as_few, room_for_one, room_next, pile_split, read_now, held_now, set_next}
+use Rattle.mm_relation.proofs.Each.{as_few, room_for_fewer, room_next, pile_split, read_now, held_now, set_next}
 use Rattle.mm_relation.proofs.change.change_each.Goals as goal
 
 pub change_row-requires-clause-held : goal.change_row-requires-clause-held
@@ -16,7 +16,7 @@ change_row-requires-clause-few g c =
 
 pub change_row-requires-clause-room : goal.change_row-requires-clause-room
 change_row-requires-clause-room g c =
-    room_for_one (length c.args.rs.now - c.loop-r.r-index) c.loop-r.indexes (omega arith) c.loop-r.invariant.room
+    room_for_fewer 1 (length c.args.rs.now - c.loop-r.r-index) c.loop-r.indexes (omega arith) c.loop-r.invariant.room
 
 pub change_row-requires-clause-ready : goal.change_row-requires-clause-ready
 change_row-requires-clause-ready g c =

@@ -1,10 +1,8 @@
-use Rattle.std.proofs.Common.{◌≡◌, ◌∙◌, List, ap, length}
-use Rattle.mm_relation.specs.declared.index.IndexOn.{IndexOn}
-use Rattle.mm_relation.proofs.Loops.{refilled}
+use Rattle.mm_relation.specs.Indexes.{LosesSet}
+use Rattle.mm_relation.proofs.Loops.{each_changed}
 use Rattle.mm_relation.proofs.indexes.remove_set.Goals as goal
 
 pub returns : goal.returns
 returns g c =
-    let count : length c.remove_each_set.new.indexes ≡ length c.args.indexes.now = c.remove_each_set.auto.indexes ∙ ap (λ (xs : List IndexOn). length xs) c.as_mut_slice.ensures.value in
-    let whole = refilled c.args.indexes.now c.remove_each_set.new.indexes count in
-    record { count = ap (λ (xs : List IndexOn). length xs) whole ∙ count; at = rw whole (rw c.as_mut_slice.ensures.value at c.remove_each_set.ensures) }
+    each_changed (LosesSet (g.R.LinkedKeys.keys c.args.others.now) c.args.rows.now.tuples c.args.r c.args.sets.now) c.args.indexes.now c.as_mut_slice.result.now c.remove_each_set.new.indexes
+    c.as_mut_slice.ensures.value c.remove_each_set.auto.indexes c.remove_each_set.ensures

@@ -1,10 +1,6 @@
-use Rattle.std.proofs.Common.{◌≡◌, ◌∙◌, ap, map, length, arith}
 use Rattle.mm_relation.specs.Indexes.{seen}
-use Rattle.mm_relation.proofs.Loops.{same_mapped, refilled}
+use Rattle.mm_relation.proofs.Loops.{each_alike}
 use Rattle.mm_relation.proofs.indexes.reserve.Goals as goal
 
 pub returns-clause-same : goal.returns-clause-same
-returns-clause-same c =
-    let lent : length c.as_mut_slice.result.now ≡ length c.args.indexes.now = ap length c.as_mut_slice.ensures.value in
-    ap (map seen) (refilled c.args.indexes.now c.reserve_each.new.indexes (omega arith))
-    ∙ same_mapped seen c.args.indexes.now c.reserve_each.new.indexes (omega arith) (rw c.as_mut_slice.ensures.value at c.reserve_each.ensures.same)
+returns-clause-same c = each_alike seen c.args.indexes.now c.as_mut_slice.result.now c.reserve_each.new.indexes c.as_mut_slice.ensures.value c.reserve_each.auto.indexes c.reserve_each.ensures.same

@@ -1,12 +1,11 @@
-use Rattle.std.proofs.Common.{◌∙◌, ◌++◌, sym, ap, subst, List, refl, arith}
-use Rattle.std.specs.List.{Contains}
+use Rattle.std.proofs.Common.{◌∙◌, ◌++◌, sym, ap, subst, List}
 use Rattle.std.proofs.lemmas.List.{append-nil}
-use Rattle.std.proofs.lemmas.List.Elements.{Contains-append_right}
 use Rattle.mm_index.specs.Bag.{IsSameBag, with_hash}
 use Rattle.part_raw.specs.declared.tuple_ref.TupleRef.{TupleRef}
 use Rattle.plain_tables.specs.Hashes.{hash_of}
 use Rattle.mm_relation.specs.Changes.{entries_of}
 use Rattle.lin_hash.specs.Rest.{chain_rest}
+use Rattle.mm_relation.proofs.Listings.{next_listed}
 use Rattle.temp_list.proofs.SearchLemmas.{hash_held, hash_range}
 use Rattle.temp_list.proofs.search.rows_by_hash.Goals as goal
 
@@ -22,7 +21,7 @@ pub read-requires-clause-held : goal.read-requires-clause-held
 read-requires-clause-held g c =
     hash_held (g.R.Relations.tables c.args.tables.now) c.args.relation.now c.args.column.0 c.a_relation_is_kept.ensures c.requires.current c.requires.within c.requires.has_hash c.args.value.now
     (c.loop-r.yielded ++ chain_rest c.loop-r.r-iterator) c.loop-r.invariant.chain c.in-Some.r
-    (Contains-append_right c.loop-r.yielded (chain_rest c.loop-r.r-iterator) c.in-Some.r (subst (λ (rest : List TupleRef). Contains rest c.in-Some.r) (sym c.in-Some.ensures.steps) (0, omega arith, refl)))
+    (next_listed c.loop-r.yielded (chain_rest c.loop-r.r-iterator) (chain_rest c.next.new.self) c.in-Some.r c.in-Some.ensures.steps)
 
 pub returns-clause-ok : goal.returns-clause-ok
 returns-clause-ok g c = (

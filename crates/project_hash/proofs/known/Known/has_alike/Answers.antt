@@ -1,9 +1,9 @@
-use Rattle.std.proofs.Common.{◌≡◌, ◌∙◌, ◌++◌, ◌∷◌, [], true, List, append_assoc, append-nil, sym, ap, subst, refl, arith}
-use Rattle.std.proofs.lemmas.List.Elements.{All-nil, All-push, Contains-append_right}
-use Rattle.std.specs.List.{Contains}
+use Rattle.std.proofs.Common.{◌≡◌, ◌∙◌, ◌++◌, ◌∷◌, [], true, List, append_assoc, append-nil, sym, ap, subst}
+use Rattle.std.proofs.lemmas.List.Elements.{All-nil, All-push}
 use Rattle.part_raw.specs.declared.tuple_ref.TupleRef.{TupleRef}
 use Rattle.mm_index.specs.Bag.{IsSameBag, with_hash}
 use Rattle.lin_hash.specs.Rest.{chain_rest}
+use Rattle.mm_relation.proofs.Listings.{next_listed}
 use Rattle.project_hash.specs.Shown.{ShownState}
 use Rattle.project_hash.specs.Table.{row_state}
 use Rattle.project_hash.proofs.KnownLemmas.{chain_held, some_alike, none_alike}
@@ -18,7 +18,7 @@ loop-r-init g c = record {
 pub new-other-requires-clause-held : goal.new-other-requires-clause-held
 new-other-requires-clause-held g c =
     chain_held c.args.table.now c.args.self.now.rows.items c.args.self.now.by_hash.entries c.requires.known c.args.hash (c.loop-r.yielded ++ chain_rest c.loop-r.r-iterator) c.loop-r.invariant.chain c.in-Some.r
-    (Contains-append_right c.loop-r.yielded (chain_rest c.loop-r.r-iterator) c.in-Some.r (subst (λ (rest : List TupleRef). Contains rest c.in-Some.r) (sym c.in-Some.ensures.steps) (0, omega arith, refl)))
+    (next_listed c.loop-r.yielded (chain_rest c.loop-r.r-iterator) (chain_rest c.next.new.self) c.in-Some.r c.in-Some.ensures.steps)
 
 pub loop-r-preserved : goal.loop-r-preserved
 loop-r-preserved g c = record {
@@ -32,7 +32,7 @@ pub returns-then-is_alike : goal.returns-then-is_alike
 returns-then-is_alike g c =
     sym
     (some_alike c.args.table.now c.args.self.now.rows.items c.args.self.now.by_hash.entries c.requires.known c.args.hash (c.loop-r.yielded ++ chain_rest c.loop-r.r-iterator) c.loop-r.invariant.chain c.args.row.now c.in-Some.r
-    (Contains-append_right c.loop-r.yielded (chain_rest c.loop-r.r-iterator) c.in-Some.r (subst (λ (rest : List TupleRef). Contains rest c.in-Some.r) (sym c.in-Some.ensures.steps) (0, omega arith, refl)))
+    (next_listed c.loop-r.yielded (chain_rest c.loop-r.r-iterator) (chain_rest c.next.new.self) c.in-Some.r c.in-Some.ensures.steps)
     (c.is_alike.ensures.0 c.if-is_alike.true ∙ ap (λ (x : ShownState). x.values) c.new-other.ensures))
 
 pub returns : goal.returns
