@@ -1,5 +1,5 @@
 -- Relations whose rows are counted anew, one link after another.
-use Rattle.std.proofs.Common.{◌≡◌, ◌≢◌, ℕ, zero, suc, ◌<◌, ◌≤◌, ◌+◌, ◌-◌, ◌*◌, Bool, true, false, cond, List, [], ◌∷◌, ◌++◌, Option, Some, None, IsSome, is_some, refl, sym, ap, ◌∙◌, subst, arith, length, length-set, set, eqb, add-zero, zero-add, inl, inr}
+use Rattle.std.proofs.Common.{◌≡◌, ◌≢◌, ℕ, zero, suc, ◌<◌, ◌≤◌, ◌+◌, ◌-◌, ◌*◌, true, false, cond, List, [], ◌∷◌, ◌++◌, Option, Some, None, IsSome, is_some, refl, sym, ap, ◌∙◌, subst, arith, length, length-set, set, eqb, add-zero, zero-add, inl, inr}
 use Rattle.std.specs.List.{All, slice_get, range_with_len, filter_map, cons_option}
 use Rattle.std.specs.Option.{option_map}
 use Rattle.std.specs.Ordering.{is_eq}
@@ -9,6 +9,7 @@ use Rattle.std.proofs.lemmas.List.Elements.{All-set, All-weaker, filter_map-appe
 use Rattle.std.proofs.lemmas.List.Sums.{sum_by-append, sum_by-cons}
 use Rattle.std.proofs.lemmas.Option.{same_Some, slice_get_within}
 use Rattle.common_lemmas.proofs.Places.{slice_get-inside, slice_get_set, slice_get-set_other}
+use Rattle.lin_hash.proofs.Placed.{one_if}
 use Rattle.part_raw.specs.declared.tuple_ref.TupleRef.{TupleRef}
 use Rattle.part_raw.specs.TupleRefs.{ref_cmp}
 use Rattle.part_raw.specs.Store.{Tuples}
@@ -107,10 +108,6 @@ pub all_held_still : (old new : List RelationState) (links : List Linked) → Ar
 all_held_still old new links h all = All-weaker (IsHeldIn old) (IsHeldIn new) (λ link. held_still old new link h) links all
 
 -- ---- how often links name a row
-
--- one where a test passes
-abbrev pub one_if : Bool → ℕ
-one_if b = cond b 1 0
 
 pub naming-append : (xs ys : List Linked) (table : ℕ) (r : TupleRef) → naming (xs ++ ys) table r ≡ naming xs table r + naming ys table r
 naming-append xs ys table r = sum_by-append (λ l. cond (is_link_to table r l) 1 0) xs ys

@@ -1,5 +1,5 @@
 -- A catalog into which a row comes: what it shows, that it stays consistent, and why one does not come.
-use Rattle.std.proofs.Common.{◌≡◌, ◌≢◌, ℕ, suc, ◌+◌, ◌<◌, ◌==◌, ◌⊎◌, Bool, false, cond, List, [], ◌∷◌, ◌++◌, Option, Some, None, refl, sym, ap, ◌∙◌, subst, arith, length, map, take, drop, set, get_or, length-take, zero-add, inl, inr}
+use Rattle.std.proofs.Common.{◌≡◌, ◌≢◌, ℕ, ◌+◌, ◌<◌, ◌==◌, ◌⊎◌, false, List, [], ◌∷◌, ◌++◌, Option, Some, None, refl, sym, ap, ◌∙◌, subst, arith, length, map, take, drop, set, get_or, length-take, inl, inr}
 use Rattle.std.specs.List.{All, count_by, slice_get, flat_map, range_with_len}
 use Rattle.std.specs.Prelude.{Result, Ok, Err, IfOk, OnOk, OnErr, IfErr}
 use Rattle.std.specs.Option.{option_and_then, option_map_or}
@@ -7,7 +7,6 @@ use Rattle.std.specs.Ordering.{is_eq}
 use Rattle.std.specs.FinMap as finite
 use Rattle.std.specs.FinMap.{get}
 use Rattle.std.proofs.lemmas.Bool.{and_left, and_right, cases_eq, ne_eqb}
-use Rattle.std.proofs.lemmas.List.Sums.{sum_by-cons}
 use Rattle.std.proofs.lemmas.Option.{none-some, same_Some, slice_get_within, slice_get-get_or}
 use Rattle.common_lemmas.proofs.Elements.{All-flat_map}
 use Rattle.part_raw.specs.TupleRefs.{ref_cmp}
@@ -52,14 +51,9 @@ use Rattle.mm_catalog.proofs.CellRows.{cells_shown, cells_linked}
 use Rattle.mm_catalog.proofs.RowLinks.{All-filter_map, link_parts}
 use Rattle.mm_catalog.proofs.Referenced.{some_column}
 use Rattle.mm_catalog.proofs.Checked.{key_refuses, reference_refuses, full_refuses, nothing_refuses}
+use Rattle.mm_catalog.proofs.Anywhere.{none_counted}
 
 -- ---- no link names a row that isn't there
-
-none_counted : (test : Linked → Bool) (xs : List Linked) → All (λ x. test x ≡ false) xs → count_by test xs ≡ 0
-none_counted test [] h = refl
-none_counted test (x ∷ xs) h =
-    sum_by-cons (λ y. cond (test y) 1 0) x xs ∙ ap (λ b. cond b 1 0 + count_by test xs) (h 0 x (omega arith))
-    ∙ zero-add (count_by test xs) ∙ none_counted test xs (λ k d l. h (suc k) d (omega arith))
 
 module _ (c : CatalogState) (ok : IsConsistent c) (n : ℕ) (b : RelationState) (there : slice_get c.relations n ≡ Some b) (r : TupleRef) (free : get b.rows r ≡ None) where
   unnamed : (k : ℕ) (s : RelationState) (q : TupleRef) (row : Row) (column : ℕ) (link : Linked) → slice_get c.relations k ≡ Some s → get s.rows q ≡ Some row → link_at s.targets row column ≡ Some link → is_link_to n r link ≡ false

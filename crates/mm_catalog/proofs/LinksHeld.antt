@@ -1,5 +1,5 @@
 -- The links of a catalog name rows that are held, and each is counted.
-use Rattle.std.proofs.Common.{◌≡◌, ℕ, zero, suc, ◌-◌, ◌<◌, ◌==◌, true, false, cond, List, [], ◌∷◌, ◌++◌, Option, Some, None, IsSome, is_some, refl, sym, ap, ◌∙◌, subst, arith, length, inl, inr}
+use Rattle.std.proofs.Common.{◌≡◌, ℕ, ◌-◌, ◌<◌, ◌==◌, true, false, cond, List, [], ◌∷◌, Option, Some, None, IsSome, is_some, refl, sym, ap, ◌∙◌, subst, arith, length, inl, inr}
 use Rattle.std.specs.List.{Contains, cons_option, filter_map, flat_map, range_with_len, slice_get}
 use Rattle.std.specs.Option.{option_and_then, option_map, option_map_or}
 use Rattle.std.specs.FinMap.{get}
@@ -7,6 +7,7 @@ use Rattle.std.specs.Ordering.{is_eq}
 use Rattle.std.proofs.lemmas.Bool.{and_from, eq-eqb, false≢true, ne_eqb}
 use Rattle.std.proofs.lemmas.List.FromFn.{length-range_with_len, get_or-range_with_len}
 use Rattle.std.proofs.lemmas.Option.{none-some, same_Some, slice_get_within, get_or_from_slice_get, option_and_then_some}
+use Rattle.std.proofs.lemmas.List.Elements.{Contains-append_left, Contains-append_right}
 use Rattle.common_lemmas.proofs.Elements.{Contains-cons, Contains-cons_cases}
 use Rattle.common_lemmas.proofs.Counts.{count_by-member}
 use Rattle.part_raw.proofs.Tuples.{same_ref_self}
@@ -24,20 +25,11 @@ use Rattle.mm_catalog.proofs.Declared.{among_at}
 
 -- ---- what lists contain
 
-Contains-front : {A : Type 0} (xs ys : List A) (x : A) → Contains xs x → Contains (xs ++ ys) x
-Contains-front [] ys x h = absurd (omega (arith, h.1))
-Contains-front (y ∷ xs) ys x (zero, l, e) = (0, omega arith, e)
-Contains-front (y ∷ xs) ys x (suc k, l, e) = Contains-cons y (xs ++ ys) x (Contains-front xs ys x (k, omega arith, e))
-
-Contains-behind : {A : Type 0} (xs ys : List A) (x : A) → Contains ys x → Contains (xs ++ ys) x
-Contains-behind [] ys x h = h
-Contains-behind (y ∷ xs) ys x h = Contains-cons y (xs ++ ys) x (Contains-behind xs ys x h)
-
 pub Contains-flat_map : {A B : Type 0} (f : A → List B) (xs : List A) (x : A) (y : B) → Contains xs x → Contains (f x) y → Contains (flat_map f xs) y
 Contains-flat_map f [] x y h g = absurd (omega (arith, h.1))
 Contains-flat_map f (z ∷ xs) x y h g = elim (Contains-cons_cases z xs x h) [
-  | inl e ↦ Contains-front (f z) (flat_map f xs) y (subst (λ w. Contains (f w) y) e g)
-  | inr behind ↦ Contains-behind (f z) (flat_map f xs) y (Contains-flat_map f xs x y behind g)
+  | inl e ↦ Contains-append_left (f z) (flat_map f xs) y (subst (λ w. Contains (f w) y) e g)
+  | inr behind ↦ Contains-append_right (f z) (flat_map f xs) y (Contains-flat_map f xs x y behind g)
 ]
 
 pub Contains-filter_map : {A B : Type 0} (f : A → Option B) (xs : List A) (x : A) (y : B) → Contains xs x → f x ≡ Some y → Contains (filter_map f xs) y

@@ -10,12 +10,13 @@ use Rattle.std.proofs.lemmas.Grind.{flat_map-append}
 use Rattle.std.proofs.lemmas.List.{take_more, take-append-drop, length-take, map-append}
 use Rattle.std.proofs.lemmas.List.Elements.{filter-append, All-head, All-tail, All-weaker}
 use Rattle.common_lemmas.proofs.Options.{is_some-option_map}
-use Rattle.common_lemmas.proofs.Tests.{fails_where_not_found}
+use Rattle.common_lemmas.proofs.Tests.{fails_where_not_found, find_first}
 use Rattle.common_lemmas.proofs.Pairs.{AllPairs-head, AllPairs-tail}
 use Rattle.plain_tables.specs.Queries.{JoinedColumn, column_number, fits, fits_one, place_meant, column_meant}
 use Rattle.plain_tables.specs.declared.numbers.Place.{Place}
 use Rattle.plain_tables.specs.declared.schema.Column.{Column}
 use Rattle.plain_tables.specs.declared.condition.ColName.{ColName}
+use Rattle.plain_tables.proofs.MeantLemmas.{only}
 use Rattle.mm_catalog.specs.declared.bind.scope.Scope.{Scope}
 use Rattle.mm_catalog.specs.declared.bind.scope.NamedColumn.{NamedColumn}
 use Rattle.mm_catalog.proofs.ResolveLists.{none_found}
@@ -23,35 +24,24 @@ use Rattle.mm_catalog.specs.Resolve.{in_table, place_in, source_columns, columns
 
 -- ---- the only element of a list
 
-abbrev pub only : {X : Type 0} → List X → Option X
-only [] = None
-only (x ∷ []) = Some x
-only (x ∷ y ∷ ys) = None
-
 two_or_more : (n : ℕ) → eqb (suc (suc n)) 1 ≡ false
 two_or_more n = grind (arith, nat_tests)
 
-only_or_none : {X : Type 0} (x : X) (xs : List X) → cond (eqb (length (x ∷ xs)) 1) (Some x) None ≡ only (x ∷ xs)
-only_or_none x [] = refl
-only_or_none x (y ∷ ys) = ap (λ b. cond b (Some x) None) (two_or_more (length ys))
+none_only : {X : Type 0} (x y : X) (ys : List X) → only (x ∷ y ∷ ys) ≡ None
+none_only x y ys = ap (λ b. cond b (Some x) None) (two_or_more (length ys))
 
 find_only : {X : Type 0} (p : X → Bool) (xs : List X) → cond (eqb (length (filter p xs)) 1) (find p xs) None ≡ only (filter p xs)
-find_only p [] = refl
-find_only p (x ∷ xs) =
-    elim (p x) as (λ b. cond (eqb (length (cond b (x ∷ filter p xs) (filter p xs))) 1) (cond b (Some x) (find p xs)) None ≡ only (cond b (x ∷ filter p xs) (filter p xs))) [
-      | true ↦ only_or_none x (filter p xs)
-      | false ↦ find_only p xs
-    ]
+find_only p xs = ap (λ o. cond (eqb (length (filter p xs)) 1) o None) (find_first p xs)
 
 only-map : {X Y : Type 0} (f : X → Y) (xs : List X) → option_map f (only xs) ≡ only (map f xs)
 only-map f [] = refl
 only-map f (x ∷ []) = refl
-only-map f (x ∷ y ∷ ys) = refl
+only-map f (x ∷ y ∷ ys) = ap (option_map f) (none_only x y ys) ∙ sym (none_only (f x) (f y) (map f ys))
 
 is_some-only : {X : Type 0} (xs : List X) → is_some (only xs) ≡ eqb (length xs) 1
 is_some-only [] = refl
 is_some-only (x ∷ []) = refl
-is_some-only (x ∷ y ∷ ys) = sym (two_or_more (length ys))
+is_some-only (x ∷ y ∷ ys) = ap is_some (none_only x y ys) ∙ sym (two_or_more (length ys))
 
 pub only_of_one : {X : Type 0} (o : Option X) → only (option_to_list o) ≡ o
 only_of_one None = refl
@@ -194,7 +184,7 @@ none_of_two : (before own : Option NamedColumn) (others : List (Place × Column)
     → only ((option_to_list (option_map as_found before) ++ option_to_list (option_map as_found own)) ++ others) ≡ None
 none_of_two None own others h k = cc
 none_of_two (Some x) None others h k = cc
-none_of_two (Some x) (Some y) others h k = refl
+none_of_two (Some x) (Some y) others h k = none_only (as_found x) (as_found y) others
 
 pub found_twice : (name : ColName) (scopes : List Scope) (i : ℕ) (before own : Option NamedColumn)
     → fitted name (columns_of_all (take (i + 1) scopes)) ≡ option_to_list (option_map as_found before) ++ option_to_list (option_map as_found own)

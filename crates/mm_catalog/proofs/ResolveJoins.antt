@@ -11,7 +11,7 @@ use Rattle.std.proofs.lemmas.Map.Views.{any-filter_same}
 use Rattle.std.proofs.lemmas.Slice.Eq.{bytes_eq-Decides}
 use Rattle.std.proofs.lemmas.Slice.Zip.{AllZip-long}
 use Rattle.common_lemmas.proofs.Options.{option_map_some}
-use Rattle.common_lemmas.proofs.Tests.{list_any-map}
+use Rattle.common_lemmas.proofs.Tests.{list_any-map, any_agree}
 use Rattle.plain_tables.specs.Databases.{Database}
 use Rattle.plain_tables.specs.Queries.{JoinedColumn, same_place, places_meant, named_items}
 use Rattle.plain_tables.specs.References.{same_type, type_of}
@@ -31,7 +31,6 @@ use Rattle.mm_catalog.specs.declared.bind.joined_scope.Sides.{Sides}
 use Rattle.mm_catalog.specs.Resolve.{IsScopeOf, columns_of_all, shown_places}
 use Rattle.mm_catalog.specs.ResolveChecks.{verdict}
 use Rattle.mm_catalog.specs.Select.{IsJoinedScopeOf, placed_sides, sides_found, sides_differ, joined_rest}
-use Rattle.mm_catalog.proofs.ResolveLists.{list_any-same}
 use Rattle.mm_catalog.proofs.ResolveNamed.{option_map_or-map, shown_places-are}
 use Rattle.mm_catalog.proofs.ResolveSources.{map-map}
 use Rattle.plain_tables.proofs.SelectLemmas.{once_apart}
@@ -114,7 +113,7 @@ all_given g f (x ∷ xs) none =
 module _ {X S F : Type 0} (f : X → F) (found : S → F) (xs : List (Option X)) (sides : List S) (are : map (λ s. Some (found s)) sides ≡ map (option_map f) xs) where
   any_found : (g : F → Bool) → list_any (λ o. option_map_or (λ x. g (f x)) o false) xs ≡ list_any (λ s. g (found s)) sides
   any_found g =
-      list_any-same (λ o. option_map_or (λ x. g (f x)) o false) (λ o. option_map_or g (option_map f o) false) xs (option_map_or-map g f)
+      any_agree (λ o. option_map_or (λ x. g (f x)) o false) (λ o. option_map_or g (option_map f o) false) (option_map_or-map g f) xs
       ∙ sym (list_any-map (λ o. option_map_or g o false) (option_map f) xs)
       ∙ ap (list_any (λ o. option_map_or g o false)) (sym are)
       ∙ list_any-map (λ o. option_map_or g o false) (λ s. Some (found s)) sides

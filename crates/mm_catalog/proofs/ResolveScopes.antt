@@ -11,7 +11,7 @@ use Rattle.std.proofs.lemmas.List.Folds.{list_any-append, list_any_at}
 use Rattle.std.proofs.lemmas.Map.Views.{any-filter_same}
 use Rattle.std.proofs.lemmas.Slice.Eq.{bytes_eq-Decides}
 use Rattle.std.proofs.lemmas.Slice.Zip.{all_zipped_more}
-use Rattle.common_lemmas.proofs.Tests.{list_any-map}
+use Rattle.common_lemmas.proofs.Tests.{list_any-map, or_false, or_true}
 use Rattle.plain_tables.specs.Databases.{Database, is_named, table_named}
 use Rattle.plain_tables.specs.declared.numbers.Place.{Place}
 use Rattle.plain_tables.specs.Queries.{JoinedColumn, column_number, sides_meant, source_columns as plain_columns}
@@ -131,14 +131,6 @@ behind-append names (j ∷ js) others =
     ap (λ rest. (names, j) ∷ rest)
     (behind-append (names ++ j.table ∷ []) js others
     ∙ ap (λ ns. behind (names ++ j.table ∷ []) js ++ behind ns others) (append_assoc names (j.table ∷ []) (map (λ (x : Join). x.table) js)))
-
-pub or_true : (b : Bool) → (b || true) ≡ true
-or_true true = refl
-or_true false = refl
-
-or_false : (b : Bool) → (b || false) ≡ b
-or_false true = refl
-or_false false = refl
 
 none_some : {X : Type 0} (o : Option X) → is_none o ≡ not (is_some o)
 none_some None = refl

@@ -6,9 +6,9 @@ use Rattle.std.specs.Option.{option_map, option_and_then}
 use Rattle.std.specs.Str.{bytes_eq}
 use Rattle.std.proofs.lemmas.Option.{slice_get_within, same_Some}
 use Rattle.std.proofs.lemmas.Slice.Zip.{firsts-zip}
-use Rattle.common_lemmas.proofs.Options.{is_some-option_map, option_map_some}
+use Rattle.common_lemmas.proofs.Options.{is_some-option_map, option_map_some, none_from_is_some}
 use Rattle.common_lemmas.proofs.Places.{slice_get-inside}
-use Rattle.common_lemmas.proofs.Tests.{list_any-map}
+use Rattle.common_lemmas.proofs.Tests.{list_any-map, position_found}
 use Rattle.plain_tables.specs.Tables.{Table}
 use Rattle.plain_tables.specs.Databases.{Database, is_named, table_named}
 use Rattle.plain_tables.specs.declared.numbers.TableNumber.{TableNumber}
@@ -21,7 +21,7 @@ use Rattle.mm_catalog.specs.Resolve.{IsScopeOf, table_number}
 use Rattle.mm_catalog.specs.declared.bind.scope.Scope.{Scope}
 use Rattle.mm_catalog.proofs.Finding.{position-map}
 use Rattle.mm_catalog.proofs.Tables.{database-get}
-use Rattle.mm_catalog.proofs.ResolveLists.{position_or_len-position, position-within, found_at, none_found, is_some-found, option_map-None}
+use Rattle.mm_catalog.proofs.ResolveLists.{position_or_len-position, none_found, is_some-found}
 
 -- a table has the name that its number has
 pub named_position : (c : CatalogState) (name : List ℕ) → length c.names ≡ length c.relations → position (is_named name) (database_of c) ≡ position (λ n. bytes_eq n name) c.names
@@ -33,10 +33,11 @@ named_position c name named =
 
 module _ (tables : Database) (name : List ℕ) where
   -- the table of that name is there
-  named_there : (n : ℕ) → position (is_named name) tables ≡ Some n → (table : Table) × (table_named name tables ≡ Some table) × (slice_get tables n ≡ Some table)
+  pub named_there : (n : ℕ) → position (is_named name) tables ≡ Some n → (table : Table) × (table_named name tables ≡ Some table) × (slice_get tables n ≡ Some table)
   named_there n h =
-      let there = slice_get-inside tables n (position-within (is_named name) tables n h) in
-      (there.0, found_at (is_named name) tables n h ∙ there.1, there.1)
+      let (within, found) = position_found (is_named name) tables n h in
+      let (table, at) = slice_get-inside tables n within in
+      (table, found ∙ at, at)
 
   pub scope_there : (scope : Scope) → option_map table_number (position (is_named name) tables) ≡ Some scope.table
       → option_map (λ (t : Table). t.name) (slice_get tables scope.table.0) ≡ Some scope.name.now
@@ -56,7 +57,7 @@ module _ (tables : Database) (name : List ℕ) where
       }
 
   pub named_none : option_map table_number (position (is_named name) tables) ≡ None → table_named name tables ≡ None
-  named_none h = none_found (is_named name) tables (option_map-None table_number (position (is_named name) tables) h)
+  named_none h = none_found (is_named name) tables (none_from_is_some (position (is_named name) tables) (sym (is_some-option_map table_number (position (is_named name) tables)) ∙ ap is_some h))
 
   pub is_named_there : is_some (option_map table_number (position (is_named name) tables)) ≡ is_some (table_named name tables)
   is_named_there = is_some-option_map table_number (position (is_named name) tables) ∙ sym (is_some-found (is_named name) tables)

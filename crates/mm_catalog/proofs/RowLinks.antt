@@ -1,8 +1,8 @@
 -- What holds of each link of a row, and of each of rows.
 use Rattle.std.proofs.Common.{◌≡◌, ℕ, suc, List, [], ◌∷◌, Option, Some, None, refl, ap, arith}
-use Rattle.std.specs.List.{All, Contains, cons_option, filter_map, flat_map}
+use Rattle.std.specs.List.{All, Contains, cons_option, filter_map}
 use Rattle.std.specs.Option.{option_and_then, option_map}
-use Rattle.std.proofs.lemmas.List.Elements.{All-append, All-cons, All-nil}
+use Rattle.std.proofs.lemmas.List.Elements.{All-cons, All-nil}
 use Rattle.std.proofs.lemmas.Option.{none-some, same_Some}
 use Rattle.part_raw.specs.declared.tuple_ref.TupleRef.{TupleRef}
 use Rattle.mm_relation.specs.Rows.{Row}
@@ -18,11 +18,6 @@ All-filter_map {A} {B} P f (x ∷ xs) h =
     first : (o : Option B) → ((y : B) → o ≡ Some y → P y) → All P (filter_map f xs) → All P (cons_option o (filter_map f xs))
     first None g rest = rest
     first (Some y) g rest = All-cons P y (filter_map f xs) (g y refl) rest
-
-pub All-flat_map : {A B : Type 0} (P : B → Type 0) (f : A → List B) (xs : List A) → ((x : A) → Contains xs x → All P (f x)) → All P (flat_map f xs)
-All-flat_map P f [] h = All-nil P
-All-flat_map P f (x ∷ xs) h =
-    All-append P (f x) (flat_map f xs) (h x (0, omega arith, refl)) (All-flat_map P f xs (λ z there. h z (suc there.0, omega (arith, there.1), there.2)))
 
 -- the link in a column, by where it leads and the row that it names
 pub link_parts : (targets : List (Option ℕ)) (row : Row) (column : ℕ) (link : Linked) → link_at targets row column ≡ Some link → (target_at targets column ≡ Some link.0) × (link_in column row ≡ Some link.1)

@@ -22,7 +22,7 @@ use Rattle.mm_catalog.specs.Assigned.{CellSet, row_links_at, set_link, set_links
 use Rattle.mm_catalog.specs.Cells.{IsLinkOrNull}
 use Rattle.mm_catalog.specs.Linked.{Linked, HasLinksOrNulls, link_at, row_links, target_at}
 use Rattle.mm_catalog.specs.Seen.{or_null, row_values}
-use Rattle.mm_catalog.proofs.Counted.{one_if}
+use Rattle.lin_hash.proofs.Placed.{one_if}
 use Rattle.mm_catalog.proofs.Lists.{same_by_get}
 use Rattle.mm_relation.proofs.Setting.{not_first}
 
