@@ -23,7 +23,7 @@ use Rattle.plain_tables.specs.declared.command.Setting.{Setting}
 use Rattle.plain_tables.specs.declared.numbers.ColumnNumber.{ColumnNumber}
 use Rattle.plain_tables.specs.declared.numbers.Place.{Place}
 use Rattle.plain_tables.specs.declared.resolved.Assignment.{Assignment}
-use Rattle.mm_catalog.specs.declared.bind.scope.NamedColumn.{NamedColumn}
+use Rattle.mm_catalog.specs.declared.bind.names.NamedColumn.{NamedColumn}
 use Rattle.mm_catalog.specs.Resolve.{as_found, assignment_at, placed, shown_places, test_at}
 use Rattle.mm_catalog.proofs.ResolveLists.{leaves_out, left_out, none_left_out, length-made, any_made}
 use Rattle.mm_catalog.proofs.ResolveColumns.{fits_one-is}

@@ -21,13 +21,13 @@ use Rattle.plain_tables.specs.declared.resolved.Shown.{Shown}
 use Rattle.plain_tables.specs.declared.resolved.Source.{Source}
 use Rattle.plain_tables.specs.declared.resolved.Resolved.{Resolved}
 use Rattle.plain_tables.specs.declared.resolved.Resolved.TheVariants as resolved
+use Rattle.mm_catalog.specs.declared.bind.named_table.NamedTable.{NamedTable}
 use Rattle.mm_catalog.specs.declared.bind.scope.Scope.{Scope}
-use Rattle.mm_catalog.specs.declared.bind.joined_scope.JoinedScope.{JoinedScope}
-use Rattle.mm_catalog.specs.Resolve.{IsScopeOf, columns_of_all}
+use Rattle.mm_catalog.specs.Resolve.{IsNamedTableOf, columns_of_all}
 use Rattle.mm_catalog.specs.ResolveChecks.{verdict}
-use Rattle.mm_catalog.specs.Select.{IsJoinedScopeOf, asks_too_much, select_rest, source_on, joined_by}
+use Rattle.mm_catalog.specs.Select.{IsScopeOf, asks_too_much, select_rest, source_on, joined_by}
 use Rattle.mm_catalog.proofs.ResolveNamed.{length-shown}
-use Rattle.mm_catalog.proofs.ResolveJoins.{joined_checks, joined_checks-are, many_joins, scopes_apart, sources_are}
+use Rattle.mm_catalog.proofs.ResolveJoins.{joined_checks, joined_checks-are, many_joins, named_apart, sources_are}
 use Rattle.mm_catalog.proofs.ResolveScopes.{columns_are}
 use Rattle.mm_catalog.proofs.ResolveCommands.{meaning_ok, meaning_err, first_missed, rest_missed}
 
@@ -80,12 +80,12 @@ module _ (tables : Database) (distinct : Bool) (its : Items) (name : List ℕ) (
     found_is : resolved_so ≡ meaning (checks (named_columns tables names)) (selection (named_columns tables names))
     found_is = ap (λ b. cond b (Err NoSuchTable) (meaning (checks (named_columns tables names)) (selection (named_columns tables names)))) there
 
-  module _ (scope : JoinedScope) (h : IsJoinedScopeOf tables name joins scope) where
+  module _ (scope : Scope) (h : IsScopeOf tables name joins scope) where
     abbrev columns : List JoinedColumn
-    columns = columns_of_all scope.scopes.items
+    columns = columns_of_all scope.tables.items
 
     select_is : resolved_so ≡ meaning (checks columns) (selection columns)
-    select_is = found_is h.there ∙ ap (λ cs. meaning (checks cs) (selection cs)) (columns_are tables names scope.scopes.items h.scopes)
+    select_is = found_is h.there ∙ ap (λ cs. meaning (checks cs) (selection cs)) (columns_are tables names scope.tables.items h.named)
 
     column_missed : misses columns (named_items its ++ condition_names conditions) ≡ true → (e : Refusal) → e ≡ NoSuchColumn → resolved_so ≡ Err e
     column_missed missed e is = select_is ∙ rw (missed, is) refl
@@ -123,16 +123,16 @@ module _ (tables : Database) (distinct : Bool) (its : Items) (name : List ℕ) (
 
         -- ---- what it means
 
-        source_is : (n : ℕ) (own : List ℕ) (s : Scope) → IsScopeOf tables own s → source_of tables columns conditions n own ≡ source_on columns conditions (n, s)
+        source_is : (n : ℕ) (own : List ℕ) (s : NamedTable) → IsNamedTableOf tables own s → source_of tables columns conditions n own ≡ source_on columns conditions (n, s)
         source_is n own s k = ap (λ t. record { table = t; tests = (source_on columns conditions (n, s)).tests }) k.number
 
-        pub select_done : (source : Source) (sources : List Source) → sources ≡ map (source_on columns conditions) (enumerate_from 0 scope.scopes.items) → source ≡ get_or sources 0 source
+        pub select_done : (source : Source) (sources : List Source) → sources ≡ map (source_on columns conditions) (enumerate_from 0 scope.tables.items) → source ≡ get_or sources 0 source
             → verdict (select_rest tables scope (shown_of columns its) (length conditions) mistyped) ≡ Ok tt
             → resolved_so ≡ Ok (query (shown_of columns its) source (map (λ s. joined_by s.0 s.1) (zip (remove sources 0) scope.sides.items)))
         select_done source sources made at ok =
             let join : Source → Place → ColumnNumber → Joined = λ s outer inner. record { source = s; outer = outer; inner = inner } in
-            let all = scopes_apart tables name joins scope h (shown_of columns its) (late (shown_of columns its) (length scope.sides.items)) ok in
-            let parts = sources_are tables name joins scope h (source_of tables columns conditions) (source_on columns conditions) source_is join scope.scopes.items source sources all made at in
+            let all = named_apart tables name joins scope h (shown_of columns its) (late (shown_of columns its) (length scope.sides.items)) ok in
+            let parts = sources_are tables name joins scope h (source_of tables columns conditions) (source_on columns conditions) source_is join scope.tables.items source sources all made at in
             select_meant ok
             ∙ ap (λ x. Ok (query (shown_of columns its) x (joins_of tables columns conditions (behind (name ∷ []) joins)))) parts.0
             ∙ ap (λ js. Ok (query (shown_of columns its) source js)) parts.1

@@ -10,7 +10,7 @@ use Rattle.plain_tables.specs.Queries.{JoinedColumn, place_meant}
 use Rattle.plain_tables.specs.declared.condition.ColName.{ColName}
 use Rattle.plain_tables.specs.declared.numbers.TableNumber.{TableNumber}
 use Rattle.plain_tables.specs.declared.numbers.Place.{Place}
-use Rattle.mm_catalog.specs.declared.bind.scope.Scope.{Scope}
+use Rattle.mm_catalog.specs.declared.bind.named_table.NamedTable.{NamedTable}
 
 pub map-map : {X Y Z : Type 0} (g : Y → Z) (f : X → Y) (xs : List X) → map (λ x. g (f x)) xs ≡ map g (map f xs)
 map-map g f [] = refl
@@ -31,20 +31,20 @@ module _ {C T S : Type 0} (name : C → ColName) (test : C → Place → T) (sou
   tests conditions = filter_map (λ c. option_map (test c) (place_meant columns (name c))) conditions
 
   -- the source of the table that is joined as the one of a number, with the conditions on it
-  abbrev on : List C → ℕ × Scope → S
+  abbrev on : List C → ℕ × NamedTable → S
   on conditions s = source s.1.table (tests (filter (is_on s.0) conditions))
 
-  pub untested_are : (k : ℕ) (scopes : List Scope) → map (λ s. source s.table []) scopes ≡ map (on []) (enumerate_from k scopes)
+  pub untested_are : (k : ℕ) (named_tables : List NamedTable) → map (λ s. source s.table []) named_tables ≡ map (on []) (enumerate_from k named_tables)
   untested_are k [] = refl
   untested_are k (s ∷ ss) = ap (λ sources. source s.table [] ∷ sources) (untested_are (k + 1) ss)
 
   module _ (given : List C) (c : C) where
     -- the sources without the condition and with it
-    abbrev before : ℕ → List Scope → List S
-    before k scopes = map (on given) (enumerate_from k scopes)
+    abbrev before : ℕ → List NamedTable → List S
+    before k named_tables = map (on given) (enumerate_from k named_tables)
 
-    abbrev after : ℕ → List Scope → List S
-    after k scopes = map (on (given ++ c ∷ [])) (enumerate_from k scopes)
+    abbrev after : ℕ → List NamedTable → List S
+    after k named_tables = map (on (given ++ c ∷ [])) (enumerate_from k named_tables)
 
     -- what the condition adds to the tests of a table
     tests_more : (n : ℕ) (b : Bool) → is_on n c ≡ b
@@ -53,10 +53,10 @@ module _ {C T S : Type 0} (name : C → ColName) (test : C → Place → T) (sou
         ap tests (filter-append (is_on n) given (c ∷ []) ∙ ap (λ x. filter (is_on n) given ++ cond x (c ∷ []) []) h)
         ∙ filter_map-append (λ d. option_map (test d) (place_meant columns (name d))) (filter (is_on n) given) (cond b (c ∷ []) [])
 
-    source_same : (n : ℕ) (s : Scope) → is_on n c ≡ false → on (given ++ c ∷ []) (n, s) ≡ on given (n, s)
+    source_same : (n : ℕ) (s : NamedTable) → is_on n c ≡ false → on (given ++ c ∷ []) (n, s) ≡ on given (n, s)
     source_same n s h = ap (source s.table) (tests_more n false h ∙ append-nil (tests (filter (is_on n) given)))
 
-    sources_same : (k : ℕ) (scopes : List Scope) → ((n : ℕ) → k ≤ n → is_on n c ≡ false) → after k scopes ≡ before k scopes
+    sources_same : (k : ℕ) (named_tables : List NamedTable) → ((n : ℕ) → k ≤ n → is_on n c ≡ false) → after k named_tables ≡ before k named_tables
     sources_same k [] h = refl
     sources_same k (s ∷ ss) h =
         ap (λ x. x ∷ after (k + 1) ss) (source_same k s (h k (omega arith)))
@@ -71,13 +71,13 @@ module _ {C T S : Type 0} (name : C → ColName) (test : C → Place → T) (sou
       tests_of_one : tests (c ∷ []) ≡ test c place ∷ []
       tests_of_one = rw is refl
 
-      source_more : (n : ℕ) (s : Scope) → place.source ≡ n → on (given ++ c ∷ []) (n, s) ≡ more (on given (n, s)) (test c place)
+      source_more : (n : ℕ) (s : NamedTable) → place.source ≡ n → on (given ++ c ∷ []) (n, s) ≡ more (on given (n, s)) (test c place)
       source_more n s h =
           ap (source s.table) (tests_more n true (on_place n ∙ same_number place.source n h) ∙ ap (λ ts. tests (filter (is_on n) given) ++ ts) tests_of_one)
           ∙ adds s.table (tests (filter (is_on n) given)) (test c place)
 
-      pub sources_more : (k i : ℕ) (scopes : List Scope) (x : S) → place.source ≡ k + i → slice_get (before k scopes) i ≡ Some x
-          → after k scopes ≡ set (before k scopes) i (more x (test c place))
+      pub sources_more : (k i : ℕ) (named_tables : List NamedTable) (x : S) → place.source ≡ k + i → slice_get (before k named_tables) i ≡ Some x
+          → after k named_tables ≡ set (before k named_tables) i (more x (test c place))
       sources_more k i [] x h at = cc
       sources_more k zero (s ∷ ss) x h at =
           let first : place.source ≡ k = h ∙ add-zero k in

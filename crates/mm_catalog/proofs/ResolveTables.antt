@@ -17,8 +17,8 @@ use Rattle.plain_tables.specs.References.{key_type, own_type}
 use Rattle.mm_relation.specs.State.{RelationState}
 use Rattle.mm_catalog.specs.State.{CatalogState}
 use Rattle.mm_catalog.specs.Seen.{database_of, table_of, plain_index}
-use Rattle.mm_catalog.specs.Resolve.{IsScopeOf, table_number}
-use Rattle.mm_catalog.specs.declared.bind.scope.Scope.{Scope}
+use Rattle.mm_catalog.specs.Resolve.{IsNamedTableOf, table_number}
+use Rattle.mm_catalog.specs.declared.bind.named_table.NamedTable.{NamedTable}
 use Rattle.mm_catalog.proofs.Finding.{position-map}
 use Rattle.mm_catalog.proofs.Tables.{database-get}
 use Rattle.mm_catalog.proofs.ResolveLists.{position_or_len-position, none_found, is_some-found}
@@ -39,21 +39,21 @@ module _ (tables : Database) (name : List ℕ) where
       let (table, at) = slice_get-inside tables n within in
       (table, found ∙ at, at)
 
-  pub scope_there : (scope : Scope) → option_map table_number (position (is_named name) tables) ≡ Some scope.table
-      → option_map (λ (t : Table). t.name) (slice_get tables scope.table.0) ≡ Some scope.name.now
-      → option_map (λ (t : Table). t.columns) (slice_get tables scope.table.0) ≡ Some scope.columns.now
-      → option_map (λ (t : Table). t.indexes) (slice_get tables scope.table.0) ≡ Some (map plain_index scope.declared.now) → IsScopeOf tables name scope
-  scope_there scope h called columns indexes =
-      let found = option_map_some table_number (position (is_named name) tables) scope.table h in
+  pub is_named_table : (named_table : NamedTable) → option_map table_number (position (is_named name) tables) ≡ Some named_table.table
+      → option_map (λ (t : Table). t.name) (slice_get tables named_table.table.0) ≡ Some named_table.name.now
+      → option_map (λ (t : Table). t.columns) (slice_get tables named_table.table.0) ≡ Some named_table.columns.now
+      → option_map (λ (t : Table). t.indexes) (slice_get tables named_table.table.0) ≡ Some (map plain_index named_table.declared.now) → IsNamedTableOf tables name named_table
+  is_named_table named_table h called columns indexes =
+      let found = option_map_some table_number (position (is_named name) tables) named_table.table h in
       let there = named_there found.0 found.1 in
-      let at : slice_get tables scope.table.0 ≡ Some there.0 = ap (λ (t : TableNumber). slice_get tables t.0) (sym found.2) ∙ there.2 in
+      let at : slice_get tables named_table.table.0 ≡ Some there.0 = ap (λ (t : TableNumber). slice_get tables t.0) (sym found.2) ∙ there.2 in
       record {
         table = there.0;
         found = there.1;
         number = ap table_number (position_or_len-position (is_named name) tables found.0 found.1) ∙ found.2;
-        called = same_Some there.0.name scope.name.now (ap (option_map (λ (t : Table). t.name)) (sym at) ∙ called);
-        columns = same_Some there.0.columns scope.columns.now (ap (option_map (λ (t : Table). t.columns)) (sym at) ∙ columns);
-        indexes = same_Some there.0.indexes (map plain_index scope.declared.now) (ap (option_map (λ (t : Table). t.indexes)) (sym at) ∙ indexes);
+        called = same_Some there.0.name named_table.name.now (ap (option_map (λ (t : Table). t.name)) (sym at) ∙ called);
+        columns = same_Some there.0.columns named_table.columns.now (ap (option_map (λ (t : Table). t.columns)) (sym at) ∙ columns);
+        indexes = same_Some there.0.indexes (map plain_index named_table.declared.now) (ap (option_map (λ (t : Table). t.indexes)) (sym at) ∙ indexes);
       }
 
   pub named_none : option_map table_number (position (is_named name) tables) ≡ None → table_named name tables ≡ None

@@ -11,22 +11,22 @@ use Rattle.mm_catalog.proofs.catalog.Catalog.resolve_delete.Goals as goal
 
 pub returns-in_err-tested-clause-refused : goal.returns-in_err-tested-clause-refused
 returns-in_err-tested-clause-refused c =
-    let scope = c.in_ok-scope.scope in
-    let own : columns_of_all c.from_ref.result.now ≡ columns_of scope = ap columns_of_all c.from_ref.ensures.value in
+    let named_table = c.in_ok-named_table.named_table in
+    let own : columns_of_all c.from_ref.result.now ≡ columns_of named_table = ap columns_of_all c.from_ref.ensures.value in
     let is : c.from_residual-in_err-tested.result ≡ Err c.in_err-tested.field-0.0 = search rules in
     rw is (λ other.
-    delete_missed (database_of c.args.self.now) c.args.table scope c.in_ok-scope.ensures.found c.args.conditions
+    delete_missed (database_of c.args.self.now) c.args.table named_table c.in_ok-named_table.ensures.found c.args.conditions
     (ap (λ cs. misses cs (condition_names c.args.conditions)) (sym own) ∙ c.in_err-tested.ensures.missed other)
     ∙ ap (λ e. Err e) (sym (c.in_err-tested.ensures.refused other)))
 
 pub returns-in_err-check_delete-clause-refused : goal.returns-in_err-check_delete-clause-refused
 returns-in_err-check_delete-clause-refused c =
     let tables = database_of c.args.self.now in
-    let scope = c.in_ok-scope.scope in
-    let own : columns_of_all c.from_ref.result.now ≡ columns_of scope = ap columns_of_all c.from_ref.ensures.value in
+    let named_table = c.in_ok-named_table.named_table in
+    let own : columns_of_all c.from_ref.result.now ≡ columns_of named_table = ap columns_of_all c.from_ref.ensures.value in
     let e = c.in_err-check_delete.field-0.0 in
     let is : c.from_residual-in_err-check_delete.result ≡ Err e = search rules in
-    rw is (λ _. delete_refused tables c.args.table scope c.in_ok-scope.ensures.found c.args.conditions
+    rw is (λ _. delete_refused tables c.args.table named_table c.in_ok-named_table.ensures.found c.args.conditions
     (ap (λ cs. misses cs (condition_names c.args.conditions)) (sym own) ∙ c.in_ok-tested.ensures.named) c.in_ok-tested.tested
     (c.in_ok-tested.ensures.tests ∙ ap (λ (cs : List JoinedColumn). tests_of cs c.args.conditions) own)
     (c.in_ok-tested.ensures.types ∙ ap (λ (cs : List JoinedColumn). list_any (is_mistyped tables cs) c.args.conditions) own)
@@ -35,9 +35,9 @@ returns-in_err-check_delete-clause-refused c =
 pub returns-clause-meant : goal.returns-clause-meant
 returns-clause-meant c =
     let tables = database_of c.args.self.now in
-    let scope = c.in_ok-scope.scope in
-    let own : columns_of_all c.from_ref.result.now ≡ columns_of scope = ap columns_of_all c.from_ref.ensures.value in
-    delete_meant tables c.args.table scope c.in_ok-scope.ensures.found c.args.conditions
+    let named_table = c.in_ok-named_table.named_table in
+    let own : columns_of_all c.from_ref.result.now ≡ columns_of named_table = ap columns_of_all c.from_ref.ensures.value in
+    delete_meant tables c.args.table named_table c.in_ok-named_table.ensures.found c.args.conditions
     (ap (λ cs. misses cs (condition_names c.args.conditions)) (sym own) ∙ c.in_ok-tested.ensures.named) c.in_ok-tested.tested
     (c.in_ok-tested.ensures.tests ∙ ap (λ (cs : List JoinedColumn). tests_of cs c.args.conditions) own)
     (c.in_ok-tested.ensures.types ∙ ap (λ (cs : List JoinedColumn). list_any (is_mistyped tables cs) c.args.conditions) own)

@@ -16,25 +16,25 @@ use Rattle.plain_statements.specs.Filling.{filled_condition}
 use Rattle.plain_statements.specs.Slots.{condition_needs, first_refusal, opened, slot_condition_names}
 use Rattle.plain_statements.proofs.Resolutions.{resolution_of}
 use Rattle.mm_catalog.specs.Seen.{database_of}
-use Rattle.mm_catalog.specs.declared.bind.joined_scope.JoinedScope.{JoinedScope}
 use Rattle.mm_catalog.specs.declared.bind.scope.Scope.{Scope}
+use Rattle.mm_catalog.specs.declared.bind.named_table.NamedTable.{NamedTable}
 use Rattle.mm_catalog.specs.Resolve.{columns_of_all}
 use Rattle.mm_catalog.specs.ResolveChecks.{verdict}
-use Rattle.mm_catalog.specs.Select.{IsJoinedScopeOf, RefusesSelects, joined_rest, select_late}
+use Rattle.mm_catalog.specs.Select.{IsScopeOf, RefusesSelects, joined_rest, select_late}
 use Rattle.mm_catalog.specs.Slots.{slot_joined_by, slot_source_on}
 use Rattle.mm_catalog.specs.Wanted.{IsWantedOf}
 use Rattle.mm_catalog.proofs.ResolveStatements.{answers, items-missed, refused, select-found, select-refused, tests-missed}
 use Rattle.mm_catalog.proofs.catalog.Catalog.resolve_slot_select.Goals as goal
 use Rattle.mm_catalog.proofs.catalog.Catalog.resolve_slot_select.Goals.{In_ok-scope, In_ok-sources, After-check_joined, After-resolution}
 
-joined : (c : In_ok-scope) → IsJoinedScopeOf (database_of c.args.self.now) c.args.table c.args.joins c.in_ok-scope.scope
-joined c = subst (λ (js : List Join). IsJoinedScopeOf (database_of c.args.self.now) c.args.table js c.in_ok-scope.scope) c.as_slice.ensures c.in_ok-scope.ensures.found
+joined : (c : In_ok-scope) → IsScopeOf (database_of c.args.self.now) c.args.table c.args.joins c.in_ok-scope.scope
+joined c = subst (λ (js : List Join). IsScopeOf (database_of c.args.self.now) c.args.table js c.in_ok-scope.scope) c.as_slice.ensures c.in_ok-scope.ensures.found
 
-named : (c : In_ok-sources) → misses (columns_of_all c.in_ok-scope.scope.scopes.items) (slot_condition_names c.args.conditions) ≡ false
-named c = ap (λ (ss : List Scope). misses (columns_of_all ss) (slot_condition_names c.args.conditions)) (sym c.deref.ensures.value) ∙ c.in_ok-sources.ensures.named
+named : (c : In_ok-sources) → misses (columns_of_all c.in_ok-scope.scope.tables.items) (slot_condition_names c.args.conditions) ≡ false
+named c = ap (λ (ss : List NamedTable). misses (columns_of_all ss) (slot_condition_names c.args.conditions)) (sym c.deref.ensures.value) ∙ c.in_ok-sources.ensures.named
 
 judged : (c : After-check_joined) → c.check_joined.result
-    ≡ verdict (joined_rest (database_of c.args.self.now) c.in_ok-scope.scope (shown_of (columns_of_all c.in_ok-scope.scope.scopes.items) c.args.items))
+    ≡ verdict (joined_rest (database_of c.args.self.now) c.in_ok-scope.scope (shown_of (columns_of_all c.in_ok-scope.scope.tables.items) c.args.items))
 judged c =
     c.check_joined.ensures ∙ ap (λ (shown : Shown). verdict (joined_rest (database_of c.args.self.now) c.in_ok-scope.scope shown)) c.in_ok-shown.ensures.shown
 
@@ -61,7 +61,7 @@ returns-in_err-sources-clause-refused c =
     rw is (λ other. refused (database_of c.args.self.now) s c.in_err-sources.field-0.0
     (tests-missed (database_of c.args.self.now) c.args.distinct c.args.items c.args.table c.args.joins c.args.conditions c.in_ok-scope.scope
     (joined (goal.at.returns-in_err-sources-clause-refused c).In_ok-scope) c.in_ok-shown.ensures.named
-    (ap (λ (ss : List Scope). misses (columns_of_all ss) (slot_condition_names c.args.conditions)) (sym c.deref.ensures.value) ∙ c.in_err-sources.ensures.missed other)
+    (ap (λ (ss : List NamedTable). misses (columns_of_all ss) (slot_condition_names c.args.conditions)) (sym c.deref.ensures.value) ∙ c.in_err-sources.ensures.missed other)
     ∙ ap (λ e. Err e) (sym (c.in_err-sources.ensures.refused other))))
 
 pub returns-in_err-check_joined-clause-refused : goal.returns-in_err-check_joined-clause-refused
@@ -78,19 +78,19 @@ means : (c : After-resolution)
     → resolution_of (database_of c.args.self.now) (statement.Select c.args.distinct c.args.items c.args.table c.args.joins c.args.conditions) ≡ c.resolution.result
 means c =
     let tables = database_of c.args.self.now in
-    let found : JoinedScope = c.in_ok-scope.scope in
+    let found : Scope = c.in_ok-scope.scope in
     let conditions = c.args.conditions in
-    let columns : List JoinedColumn = columns_of_all found.scopes.items in
-    let all = subst (λ (js : List Join). IsJoinedScopeOf tables c.args.table js found) c.as_slice.ensures c.in_ok-scope.ensures.found in
-    let conditions_named = ap (λ (ss : List Scope). misses (columns_of_all ss) (slot_condition_names conditions)) (sym c.deref.ensures.value) ∙ c.in_ok-sources.ensures.named in
+    let columns : List JoinedColumn = columns_of_all found.tables.items in
+    let all = subst (λ (js : List Join). IsScopeOf tables c.args.table js found) c.as_slice.ensures c.in_ok-scope.ensures.found in
+    let conditions_named = ap (λ (ss : List NamedTable). misses (columns_of_all ss) (slot_condition_names conditions)) (sym c.deref.ensures.value) ∙ c.in_ok-sources.ensures.named in
     let source : SlotSource = c.remove-source.result in
     let sources : List SlotSource = c.in_ok-sources.sources in
-    let made : sources ≡ map (slot_source_on columns conditions) (enumerate_from 0 found.scopes.items) =
-    c.in_ok-sources.ensures.sources ∙ ap (λ (ss : List Scope). map (slot_source_on (columns_of_all ss) conditions) (enumerate_from 0 ss)) c.deref.ensures.value in
+    let made : sources ≡ map (slot_source_on columns conditions) (enumerate_from 0 found.tables.items) =
+    c.in_ok-sources.ensures.sources ∙ ap (λ (ss : List NamedTable). map (slot_source_on (columns_of_all ss) conditions) (enumerate_from 0 ss)) c.deref.ensures.value in
     let passed : verdict (joined_rest tables found (shown_of columns c.args.items)) ≡ Ok tt =
     ap (λ (shown : Shown). verdict (joined_rest tables found shown)) (sym c.in_ok-shown.ensures.shown) ∙ sym c.check_joined.ensures ∙ c.in_ok-check_joined.was in
     let asked : IsWantedOf (condition_needs tables columns conditions) c.slot_sources.new.wanted =
-    subst (λ (ss : List Scope). IsWantedOf (condition_needs tables (columns_of_all ss) conditions) c.slot_sources.new.wanted) c.deref.ensures.value
+    subst (λ (ss : List NamedTable). IsWantedOf (condition_needs tables (columns_of_all ss) conditions) c.slot_sources.new.wanted) c.deref.ensures.value
     (c.in_ok-sources.ensures.wanted [] c.new-wanted.ensures) in
     let sides : c.len-2.result ≡ length found.sides.items = omega (arith, c.len-2.ensures, found.sides.ok.0) in
     let late : List Check = select_late (shown_of columns c.args.items) (length conditions) (length found.sides.items) in

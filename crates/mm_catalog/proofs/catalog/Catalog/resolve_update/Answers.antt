@@ -14,22 +14,22 @@ use Rattle.mm_catalog.proofs.catalog.Catalog.resolve_update.Goals as goal
 
 pub returns-in_err-set-clause-refused : goal.returns-in_err-set-clause-refused
 returns-in_err-set-clause-refused c =
-    let scope = c.in_ok-scope.scope in
-    let own : columns_of_all c.from_ref.result.now ≡ columns_of scope = ap columns_of_all c.from_ref.ensures.value in
+    let named_table = c.in_ok-named_table.named_table in
+    let own : columns_of_all c.from_ref.result.now ≡ columns_of named_table = ap columns_of_all c.from_ref.ensures.value in
     let is : c.from_residual-in_err-set.result ≡ Err c.in_err-set.field-0.0 = search rules in
     rw is (λ other.
-    settings_missed (database_of c.args.self.now) c.args.table scope c.in_ok-scope.ensures.found c.args.settings c.args.conditions
+    settings_missed (database_of c.args.self.now) c.args.table named_table c.in_ok-named_table.ensures.found c.args.settings c.args.conditions
     (ap (λ cs. misses cs (map setting_name c.args.settings)) (sym own) ∙ c.in_err-set.ensures.missed other)
     ∙ ap (λ e. Err e) (sym (c.in_err-set.ensures.refused other)))
 
 pub returns-in_err-tested-clause-refused : goal.returns-in_err-tested-clause-refused
 returns-in_err-tested-clause-refused c =
-    let scope = c.in_ok-scope.scope in
-    let own : columns_of_all c.from_ref.result.now ≡ columns_of scope = ap columns_of_all c.from_ref.ensures.value in
-    let own-2 : columns_of_all c.from_ref-2.result.now ≡ columns_of scope = ap columns_of_all c.from_ref-2.ensures.value in
+    let named_table = c.in_ok-named_table.named_table in
+    let own : columns_of_all c.from_ref.result.now ≡ columns_of named_table = ap columns_of_all c.from_ref.ensures.value in
+    let own-2 : columns_of_all c.from_ref-2.result.now ≡ columns_of named_table = ap columns_of_all c.from_ref-2.ensures.value in
     let is : c.from_residual-in_err-tested.result ≡ Err c.in_err-tested.field-0.0 = search rules in
     rw is (λ other.
-    tests_missed (database_of c.args.self.now) c.args.table scope c.in_ok-scope.ensures.found c.args.settings c.args.conditions
+    tests_missed (database_of c.args.self.now) c.args.table named_table c.in_ok-named_table.ensures.found c.args.settings c.args.conditions
     (ap (λ cs. misses cs (map setting_name c.args.settings)) (sym own) ∙ c.in_ok-set.ensures.named)
     (ap (λ cs. misses cs (condition_names c.args.conditions)) (sym own-2) ∙ c.in_err-tested.ensures.missed other)
     ∙ ap (λ e. Err e) (sym (c.in_err-tested.ensures.refused other)))
@@ -37,13 +37,13 @@ returns-in_err-tested-clause-refused c =
 pub returns-in_err-check_update-clause-refused : goal.returns-in_err-check_update-clause-refused
 returns-in_err-check_update-clause-refused c =
     let tables = database_of c.args.self.now in
-    let scope = c.in_ok-scope.scope in
-    let own : columns_of_all c.from_ref.result.now ≡ columns_of scope = ap columns_of_all c.from_ref.ensures.value in
-    let own-2 : columns_of_all c.from_ref-2.result.now ≡ columns_of scope = ap columns_of_all c.from_ref-2.ensures.value in
+    let named_table = c.in_ok-named_table.named_table in
+    let own : columns_of_all c.from_ref.result.now ≡ columns_of named_table = ap columns_of_all c.from_ref.ensures.value in
+    let own-2 : columns_of_all c.from_ref-2.result.now ≡ columns_of named_table = ap columns_of_all c.from_ref-2.ensures.value in
     let e = c.in_err-check_update.field-0.0 in
     let is : c.from_residual-in_err-check_update.result ≡ Err e = search rules in
     let twice = c.repeats_name-repeated.ensures ∙ ap (λ (ss : List Setting). repeats bytes_eq (map (λ s. s.column) ss)) c.as_slice.ensures in
-    rw is (λ _. update_refused tables c.args.table scope c.in_ok-scope.ensures.found c.args.settings c.args.conditions
+    rw is (λ _. update_refused tables c.args.table named_table c.in_ok-named_table.ensures.found c.args.settings c.args.conditions
     (ap (λ cs. misses cs (map setting_name c.args.settings)) (sym own) ∙ c.in_ok-set.ensures.named)
     (ap (λ cs. misses cs (condition_names c.args.conditions)) (sym own-2) ∙ c.in_ok-tested.ensures.named)
     c.in_ok-set.set c.in_ok-tested.tested
@@ -56,11 +56,11 @@ returns-in_err-check_update-clause-refused c =
 pub returns-clause-meant : goal.returns-clause-meant
 returns-clause-meant c =
     let tables = database_of c.args.self.now in
-    let scope = c.in_ok-scope.scope in
-    let own : columns_of_all c.from_ref.result.now ≡ columns_of scope = ap columns_of_all c.from_ref.ensures.value in
-    let own-2 : columns_of_all c.from_ref-2.result.now ≡ columns_of scope = ap columns_of_all c.from_ref-2.ensures.value in
+    let named_table = c.in_ok-named_table.named_table in
+    let own : columns_of_all c.from_ref.result.now ≡ columns_of named_table = ap columns_of_all c.from_ref.ensures.value in
+    let own-2 : columns_of_all c.from_ref-2.result.now ≡ columns_of named_table = ap columns_of_all c.from_ref-2.ensures.value in
     let twice = c.repeats_name-repeated.ensures ∙ ap (λ (ss : List Setting). repeats bytes_eq (map (λ s. s.column) ss)) c.as_slice.ensures in
-    update_meant tables c.args.table scope c.in_ok-scope.ensures.found c.args.settings c.args.conditions
+    update_meant tables c.args.table named_table c.in_ok-named_table.ensures.found c.args.settings c.args.conditions
     (ap (λ cs. misses cs (map setting_name c.args.settings)) (sym own) ∙ c.in_ok-set.ensures.named)
     (ap (λ cs. misses cs (condition_names c.args.conditions)) (sym own-2) ∙ c.in_ok-tested.ensures.named)
     c.in_ok-set.set c.in_ok-tested.tested

@@ -28,7 +28,7 @@ pub loop-condition-init : goal.loop-condition-init
 loop-condition-init c = record {
   can_next = tt;
   is_finite = tt;
-  sources = c.in_ok-sources.ensures ∙ untested_are (λ (d : Cond). d.column) test_at source_with (columns_of_all c.args.scopes.now) 0 c.args.scopes.now;
+  sources = c.in_ok-sources.ensures ∙ untested_are (λ (d : Cond). d.column) test_at source_with (columns_of_all c.args.tables.now) 0 c.args.tables.now;
   types = refl;
   named = refl;
 }
@@ -36,7 +36,7 @@ loop-condition-init c = record {
 pub returns-in_err-at-clause-missed : goal.returns-in_err-at-clause-missed
 returns-in_err-at-clause-missed c =
     let is : c.from_residual-in_err-at.result ≡ Err c.in_err-at.field-0.0 = search rules in
-    let columns = columns_of_all c.args.scopes.now in
+    let columns = columns_of_all c.args.tables.now in
     let gives = c.into_iter-condition-iterator.ensures.into_iter_gives in
     let conditions = c.into_vec-condition-items.result in
     let turn = YieldsList-turn (YieldsList-from_vec conditions.items gives.0 (omega (arith, gives.1, conditions.ok.0))) c.loop-condition.yielded c.loop-condition.condition-iterator c.loop-condition.yielded_by c.next.result c.next.new.self c.in-Some.condition c.in-Some.is c.next.ensures.steps in
@@ -46,25 +46,25 @@ returns-in_err-at-clause-missed c =
 
 pub add_test-requires : goal.add_test-requires
 add_test-requires c =
-    let scopes = c.args.scopes.now in
-    let many : length c.as_mut_slice.result.now ≡ length scopes =
+    let named_tables = c.args.tables.now in
+    let many : length c.as_mut_slice.result.now ≡ length named_tables =
     ap length (c.as_mut_slice.ensures.value ∙ c.loop-condition.invariant.sources)
-    ∙ length-map (enumerate_from 0 scopes) (source_on (columns_of_all scopes) c.loop-condition.yielded)
-    ∙ length-enumerate_from 0 scopes in
+    ∙ length-map (enumerate_from 0 named_tables) (source_on (columns_of_all named_tables) c.loop-condition.yielded)
+    ∙ length-enumerate_from 0 named_tables in
     omega (arith, c.in_ok-at.ensures.within, many)
 
 pub loop-condition-preserved : goal.loop-condition-preserved
 loop-condition-preserved c =
-    let scopes = c.args.scopes.now in
-    let columns = columns_of_all scopes in
+    let named_tables = c.args.tables.now in
+    let columns = columns_of_all named_tables in
     let given = c.loop-condition.yielded in
     let condition : Cond = c.in-Some.condition in
     let at = c.in_ok-at.at in
     let place = at.place in
     let before = c.loop-condition.sources in
     let column : Cond → ColName = λ d. d.column in
-    let many : length before.items ≡ length scopes =
-    ap length c.loop-condition.invariant.sources ∙ length-map (enumerate_from 0 scopes) (source_on columns given) ∙ length-enumerate_from 0 scopes in
+    let many : length before.items ≡ length named_tables =
+    ap length c.loop-condition.invariant.sources ∙ length-map (enumerate_from 0 named_tables) (source_on columns given) ∙ length-enumerate_from 0 named_tables in
     let there = slice_get-inside before.items place.source (omega (arith, c.in_ok-at.ensures.within, many)) in
     let set_so : c.add_test.new.sources ≡ set before.items place.source (with_test there.0 (test_at condition place)) =
     c.in_ok-add_test.ensures there.0 (ap (λ (ss : List Source). slice_get ss place.source) c.as_mut_slice.ensures.value ∙ there.1)
@@ -78,7 +78,7 @@ loop-condition-preserved c =
       sources =
           all ∙ set_so
           ∙ ap (λ (ss : List Source). set ss place.source (with_test there.0 (test_at condition place))) c.loop-condition.invariant.sources
-          ∙ sym (sources_more column test_at source_with columns given condition with_test (λ _ _ _. refl) place c.in_ok-at.ensures.place 0 place.source scopes there.0 (sym (zero-add place.source))
+          ∙ sym (sources_more column test_at source_with columns given condition with_test (λ _ _ _. refl) place c.in_ok-at.ensures.place 0 place.source named_tables there.0 (sym (zero-add place.source))
           (ap (λ (ss : List Source). slice_get ss place.source) (sym c.loop-condition.invariant.sources) ∙ there.1));
       types =
           ap (λ m. m || at.mistyped) c.loop-condition.invariant.types
