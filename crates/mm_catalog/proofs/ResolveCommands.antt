@@ -37,21 +37,18 @@ use Rattle.mm_catalog.proofs.ResolveNamed.{length-tests, long_set, key_set}
 
 -- ---- checks
 
-pub meaning_ok : (checks : List Check) (r : Resolved) → verdict checks ≡ Ok tt → meaning checks r ≡ Ok r
-meaning_ok [] r h = refl
-meaning_ok (check ∷ checks) r h =
-    elim (check.refuses) as (λ b. cond b (Err check.refusal) (verdict checks) ≡ Ok tt → cond b (Err check.refusal) (meaning checks r) ≡ Ok r) [
-      | true ↦ λ e. cc
-      | false ↦ λ e. meaning_ok checks r e
-    ] h
+-- what comes of checks: the refusal of the first that refuses, or else what is behind them
+abbrev pub unless_refused : {X : Type 0} → Result (Unit {0}) Refusal → Result X Refusal → Result X Refusal
+unless_refused (Ok passed) m = m
+unless_refused (Err e) m = Err e
 
-pub meaning_err : (checks : List Check) (r : Resolved) (refusal : Refusal) → verdict checks ≡ Err refusal → meaning checks r ≡ Err refusal
-meaning_err [] r refusal h = cc
-meaning_err (check ∷ checks) r refusal h =
-    elim (check.refuses) as (λ b. cond b (Err check.refusal) (verdict checks) ≡ Err refusal → cond b (Err check.refusal) (meaning checks r) ≡ Err refusal) [
-      | true ↦ λ e. let same : check.refusal ≡ refusal = cc in ap (λ x. Err x) same
-      | false ↦ λ e. meaning_err checks r refusal e
-    ] h
+pub meaning-is : (checks : List Check) (r : Resolved) → meaning checks r ≡ unless_refused (verdict checks) (Ok r)
+meaning-is [] r = refl
+meaning-is (check ∷ checks) r =
+    elim (check.refuses) as (λ b. cond b (Err check.refusal) (meaning checks r) ≡ unless_refused (cond b (Err check.refusal) (verdict checks)) (Ok r)) [
+      | true ↦ refl
+      | false ↦ meaning-is checks r
+    ]
 
 -- ---- names
 
@@ -149,16 +146,10 @@ module _ (tables : Database) (name : List ℕ) (named_table : NamedTable) (h : I
 
     module _ (named : misses columns (condition_names conditions) ≡ false) (tested : Placed Test) (tests : tested.items ≡ tests_of columns conditions)
         (types : tested.mistyped ≡ list_any (is_mistyped tables columns) conditions) where
-      delete_named : verdict (delete_on columns) ≡ verdict (delete_rest tested)
-      delete_named = rw (named, types, ap length tests ∙ length-tests columns conditions named) refl
-
-      pub delete_meant : verdict (delete_rest tested) ≡ Ok tt → resolved_of [] tables (command.Delete name conditions) ≡ Ok (resolved.Delete named_table.table tested.items)
-      delete_meant ok =
-          delete_is ∙ meaning_ok (delete_on columns) (resolved.Delete named_table.table (tests_of columns conditions)) (delete_named ∙ ok)
-          ∙ ap (λ ts. Ok (resolved.Delete named_table.table ts)) (sym tests)
-
-      pub delete_refused : (e : Refusal) → verdict (delete_rest tested) ≡ Err e → resolved_of [] tables (command.Delete name conditions) ≡ Err e
-      delete_refused e err = delete_is ∙ meaning_err (delete_on columns) (resolved.Delete named_table.table (tests_of columns conditions)) e (delete_named ∙ err)
+      pub delete_checked : resolved_of [] tables (command.Delete name conditions) ≡ unless_refused (verdict (delete_rest tested)) (Ok (resolved.Delete named_table.table tested.items))
+      delete_checked =
+          delete_is ∙ meaning-is (delete_on columns) (resolved.Delete named_table.table (tests_of columns conditions))
+          ∙ rw (named, sym types, sym (length-tests columns conditions named), sym tests) refl
 
   -- ---- update
 
@@ -203,23 +194,16 @@ module _ (tables : Database) (name : List ℕ) (named_table : NamedTable) (h : I
         abbrev twice : Bool
         twice = repeats bytes_eq (map (λ s. s.column) settings)
 
-        update_named : verdict (update_on columns) ≡ verdict (update_rest twice set tested)
-        update_named =
-            rw (
+        pub update_checked : resolved_of [] tables (command.Update name settings conditions) ≡ unless_refused (verdict (update_rest twice set tested)) (Ok (resolved.Update named_table.table set.items tested.items))
+        update_checked =
+            update_is ∙ meaning-is (update_on columns) change
+            ∙ rw (
               all_named,
-              set_types,
-              types,
-              long_set columns settings settings_named ∙ ap (list_any (λ (a : Assignment). is_long a.value)) (sym assigned),
-              key_set columns setting_name assignment_at (λ (a : Assignment). a.column) (λ _ _. refl) settings ∙ ap (list_any (λ (a : Assignment). a.column.0 == 0)) (sym assigned),
-              ap length tests ∙ length-tests columns conditions named,
+              sym set_types,
+              sym types,
+              long_set columns settings settings_named,
+              key_set columns setting_name assignment_at (λ (a : Assignment). a.column) (λ _ _. refl) settings,
+              sym (length-tests columns conditions named),
+              sym assigned,
+              sym tests,
             ) refl
-
-        pub update_meant : verdict (update_rest twice set tested) ≡ Ok tt
-            → resolved_of [] tables (command.Update name settings conditions) ≡ Ok (resolved.Update named_table.table set.items tested.items)
-        update_meant ok =
-            update_is ∙ meaning_ok (update_on columns) change (update_named ∙ ok)
-            ∙ ap (λ as'. Ok (resolved.Update named_table.table as' (tests_of columns conditions))) (sym assigned)
-            ∙ ap (λ ts. Ok (resolved.Update named_table.table set.items ts)) (sym tests)
-
-        pub update_refused : (e : Refusal) → verdict (update_rest twice set tested) ≡ Err e → resolved_of [] tables (command.Update name settings conditions) ≡ Err e
-        update_refused e err = update_is ∙ meaning_err (update_on columns) change e (update_named ∙ err)

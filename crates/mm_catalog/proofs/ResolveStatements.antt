@@ -40,7 +40,7 @@ use Rattle.mm_catalog.specs.Resolve.{IsNamedTableOf, columns_of, columns_of_all}
 use Rattle.mm_catalog.specs.ResolveChecks.{delete_late, update_late, verdict}
 use Rattle.mm_catalog.specs.Select.{IsScopeOf, joined_rest, select_late}
 use Rattle.mm_catalog.specs.Slots.{slot_assignment_at, slot_joined_by, slot_source_on, slot_test_at}
-use Rattle.mm_catalog.proofs.ResolveCommands.{on_table, own_columns-are, first_missed, rest_missed}
+use Rattle.mm_catalog.proofs.ResolveCommands.{on_table, own_columns-are, first_missed, rest_missed, unless_refused}
 use Rattle.mm_catalog.proofs.ResolveJoins.{joined_checks, joined_checks-are, many_joins, named_apart, sources_are}
 use Rattle.mm_catalog.proofs.ResolveNamed.{key_set, length_meant, length-shown}
 use Rattle.mm_catalog.proofs.ResolveScopes.{columns_are}
@@ -56,21 +56,13 @@ answers tables s (Err e) is = (tt, λ other values. settles tables s values ∙ 
 pub refused : (tables : Database) (s : Statement) (e : Refusal) → resolution_of tables s ≡ Err e → Refuses tables s e
 refused tables s e is values = settles tables s values ∙ ap (settled values) is
 
-first-passes : (checks : List Check) (m : Meant) → verdict checks ≡ Ok tt → first checks m ≡ m
-first-passes [] m h = refl
-first-passes (check ∷ checks) m h =
-    elim (check.refuses) as (λ b. (if b then Err check.refusal else verdict checks) ≡ Ok tt → (if b then Err check.refusal else first checks m) ≡ m) [
-      | true ↦ λ e. cc
-      | false ↦ λ e. first-passes checks m e
-    ] h
-
-first-refuses : (checks : List Check) (m : Meant) (refusal : Refusal) → verdict checks ≡ Err refusal → first checks m ≡ Err refusal
-first-refuses [] m refusal h = cc
-first-refuses (check ∷ checks) m refusal h =
-    elim (check.refuses) as (λ b. (if b then Err check.refusal else verdict checks) ≡ Err refusal → (if b then Err check.refusal else first checks m) ≡ Err refusal) [
-      | true ↦ λ e. let same : check.refusal ≡ refusal = cc in ap (λ x. Err x) same
-      | false ↦ λ e. first-refuses checks m refusal e
-    ] h
+first-is : (checks : List Check) (m : Meant) → first checks m ≡ unless_refused (verdict checks) m
+first-is [] m = refl
+first-is (check ∷ checks) m =
+    elim (check.refuses) as (λ b. (if b then Err check.refusal else first checks m) ≡ unless_refused (if b then Err check.refusal else verdict checks) m) [
+      | true ↦ refl
+      | false ↦ first-is checks m
+    ]
 
 -- ---- statements on one table
 
@@ -115,12 +107,8 @@ module _ (tables : Database) (name : List ℕ) (named_table : NamedTable) (h : I
     pub delete-found : misses columns (slot_condition_names conditions) ≡ false → (tests : List SlotTest) → tests ≡ slot_tests_of columns conditions
         → deletes ≡ opened (condition_needs tables columns conditions) (delete_late (length tests)) (template.Delete named_table.table tests)
     delete-found named tests are =
-        let needs = condition_needs tables columns conditions in
         let many = ap length are ∙ length_meant columns (λ (c : SlotCond). c.column) slot_test_at conditions named in
-        delete_is
-        ∙ ap (λ b. if b then Err NoSuchColumn else opened needs (delete_late (length conditions)) (template.Delete named_table.table (slot_tests_of columns conditions))) named
-        ∙ ap (λ n. opened needs (delete_late n) (template.Delete named_table.table (slot_tests_of columns conditions))) (sym many)
-        ∙ ap (λ ts. opened needs (delete_late (length tests)) (template.Delete named_table.table ts)) (sym are)
+        delete_is ∙ rw (named, sym many, sym are) refl
 
   -- ---- update
 
@@ -170,15 +158,8 @@ module _ (tables : Database) (name : List ℕ) (named_table : NamedTable) (h : I
             → updates ≡ opened (update_needs columns) (update_late set (length tests)) (template.Update named_table.table set tests)
         update-found once set tests assigned are =
             let many = ap length are ∙ length_meant columns (λ (c : SlotCond). c.column) slot_test_at conditions named in
-            let done : Template = template.Update named_table.table (slot_assignments_of columns settings) (slot_tests_of columns conditions) in
             let key = key_set columns slot_setting_name slot_assignment_at (λ (a : SlotAssignment). a.column) (λ _ _. refl) settings in
-            update_is
-            ∙ ap (λ b. if b then Err NoSuchColumn else if twice then Err ColumnNamedTwice else opened (update_needs columns) (late columns) done) all_named
-            ∙ ap (λ b. if b then Err ColumnNamedTwice else opened (update_needs columns) (late columns) done) once
-            ∙ ap (λ b. opened (update_needs columns) (record { refuses = b; refusal = KeyCannotBeSet } ∷ delete_late (length conditions)) done) key
-            ∙ ap (λ n. opened (update_needs columns) (update_late (slot_assignments_of columns settings) n) done) (sym many)
-            ∙ ap (λ as'. opened (update_needs columns) (update_late as' (length tests)) (template.Update named_table.table as' (slot_tests_of columns conditions))) (sym assigned)
-            ∙ ap (λ ts. opened (update_needs columns) (update_late set (length tests)) (template.Update named_table.table set ts)) (sym are)
+            update_is ∙ rw (all_named, once, key, sym many, sym assigned, sym are) refl
 
 -- ---- select
 
@@ -197,7 +178,7 @@ module _ (tables : Database) (distinct : Bool) (its : Items) (name : List ℕ) (
   abbrev pub slot_query : Shown → SlotSource → List SlotJoined → Template
   slot_query shown source others = template.Select (record { distinct = distinct; shown = shown; source = source; joins = others })
 
-  abbrev selection : List JoinedColumn → Template
+  abbrev pub selection : List JoinedColumn → Template
   selection cs = slot_query (shown_of cs its) (slot_source_of tables cs conditions 0 name) (slot_joins_of tables cs conditions (behind (name ∷ []) joins))
 
   abbrev last : Shown → ℕ → List Check
@@ -251,24 +232,20 @@ module _ (tables : Database) (distinct : Bool) (its : Items) (name : List ℕ) (
           ∙ ap (λ cs. first cs (opened (asked all_columns) (last (shown_of all_columns its) (length scope.sides.items)) (selection all_columns)))
           (joined_checks-are tables name joins scope h its)
 
-      pub select-refused : (e : Refusal) → verdict (joined_rest tables scope (shown_of all_columns its)) ≡ Err e → selects ≡ Err e
-      select-refused e err = named_is ∙ first-refuses (joined_rest tables scope (shown_of all_columns its)) _ e err
+      pub select-checked : selects ≡ unless_refused (verdict (joined_rest tables scope (shown_of all_columns its)))
+          (opened (asked all_columns) (last (shown_of all_columns its) (length scope.sides.items)) (selection all_columns))
+      select-checked = named_is ∙ first-is (joined_rest tables scope (shown_of all_columns its)) _
 
-      source_is : (n : ℕ) (own : List ℕ) (s : NamedTable) → IsNamedTableOf tables own s → slot_source_of tables all_columns conditions n own ≡ slot_source_on all_columns conditions (n, s)
-      source_is n own s k = ap (λ t. record { table = t; tests = (slot_source_on all_columns conditions (n, s)).tests }) k.number
+  source_is : (n : ℕ) (own : List ℕ) (s : NamedTable) → IsNamedTableOf tables own s → slot_source_of tables all_columns conditions n own ≡ slot_source_on all_columns conditions (n, s)
+  source_is n own s k = ap (λ t. record { table = t; tests = (slot_source_on all_columns conditions (n, s)).tests }) k.number
 
-      pub select-found : verdict (joined_rest tables scope (shown_of all_columns its)) ≡ Ok tt → (source : SlotSource) (sources : List SlotSource)
-          → sources ≡ map (slot_source_on all_columns conditions) (enumerate_from 0 scope.tables.items) → source ≡ get_or sources 0 source
-          → selects ≡ opened (asked all_columns) (last (shown_of all_columns its) (length scope.sides.items))
-          (slot_query (shown_of all_columns its) source (map (λ s. slot_joined_by s.0 s.1) (zip (remove sources 0) scope.sides.items)))
-      select-found ok source sources made at =
-          let join : SlotSource → Place → ColumnNumber → SlotJoined = λ s outer inner. record { source = s; outer = outer; inner = inner } in
-          let late : List Check = last (shown_of all_columns its) (length scope.sides.items) in
-          let shown : Shown = shown_of all_columns its in
-          let all = named_apart tables name joins scope h shown [] (ap verdict (append-nil (joined_rest tables scope shown)) ∙ ok) in
-          let parts = sources_are tables name joins scope h (slot_source_of tables all_columns conditions) (slot_source_on all_columns conditions) source_is join
-          scope.tables.items source sources all made at in
-          named_is
-          ∙ first-passes (joined_rest tables scope shown) _ ok
-          ∙ ap (λ x. opened (asked all_columns) late (slot_query shown x (slot_joins_of tables all_columns conditions (behind (name ∷ []) joins)))) parts.0
-          ∙ ap (λ js. opened (asked all_columns) late (slot_query shown source js)) parts.1
+  pub selection-is : verdict (joined_rest tables scope (shown_of all_columns its)) ≡ Ok tt → (source : SlotSource) (sources : List SlotSource)
+      → sources ≡ map (slot_source_on all_columns conditions) (enumerate_from 0 scope.tables.items) → source ≡ get_or sources 0 source
+      → selection all_columns ≡ slot_query (shown_of all_columns its) source (map (λ s. slot_joined_by s.0 s.1) (zip (remove sources 0) scope.sides.items))
+  selection-is ok source sources made at =
+      let join : SlotSource → Place → ColumnNumber → SlotJoined = λ s outer inner. record { source = s; outer = outer; inner = inner } in
+      let shown : Shown = shown_of all_columns its in
+      let all = named_apart tables name joins scope h shown [] (ap verdict (append-nil (joined_rest tables scope shown)) ∙ ok) in
+      let parts = sources_are tables name joins scope h (slot_source_of tables all_columns conditions) (slot_source_on all_columns conditions) source_is join
+      scope.tables.items source sources all made at in
+      λ i. slot_query shown (parts.0 i) (parts.1 i)
