@@ -34,6 +34,8 @@ use Rattle.mm_catalog.proofs.Recounting.{row_before, key_recounted, current_reco
 use Rattle.mm_catalog.proofs.LinksHeld.{link_there, link_held, link_counted}
 use Rattle.mm_catalog.proofs.Declared.{among_at}
 use Rattle.mm_catalog.proofs.Counted.{IsRecounted-refl}
+use Rattle.mm_catalog.proofs.Anywhere.{none_counted}
+use Rattle.mm_catalog.proofs.RowLinks.{each_link, link_parts}
 
 -- ---- the relations put together again
 
@@ -133,54 +135,13 @@ counted_other test f (a ∷ xs) (b ∷ ys) (suc n) x y l at here same =
 
 -- ---- links that lead before a table
 
-abbrev ones : Bool → ℕ
-ones b = cond b 1 0
-
-none_counted : {A : Type 0} {B : Type 0} (test : B → Bool) (f : A → Option B) → ((x : A) (y : B) → f x ≡ Some y → test y ≡ false) → (xs : List A) → count_by test (filter_map f xs) ≡ 0
-none_counted test f none [] = refl
-none_counted {A} {B} test f none (x ∷ xs) =
-    let rest = none_counted test f none xs in
-    elim (f x) as (λ o. f x ≡ o → count_by test (cons_option o (filter_map f xs)) ≡ 0) [
-      | None ↦ λ e. rest
-      | Some y ↦ λ e.
-          let one : ones (test y) ≡ 0 = ap ones (none x y e) in
-          let both = sum_by-cons (λ (z : B). cond (test z) 1 0) y (filter_map f xs) in
-          omega (arith, one, both, rest)
-    ] refl
-
-none_counted_in : {A B : Type 0} (test : B → Bool) (f : A → List B) → ((x : A) → count_by test (f x) ≡ 0) → (xs : List A) → count_by test (flat_map f xs) ≡ 0
-none_counted_in test f none [] = refl
-none_counted_in test f none (x ∷ xs) =
-    let both = sum_by-append (λ z. cond (test z) 1 0) (f x) (flat_map f xs) in
-    omega (arith, none x, both, none_counted_in test f none xs)
-
-module _ (targets : List (Option ℕ)) (n : ℕ) (back : LeadBack targets n) where
-  link_leads : (row : Row) (column : ℕ) (link : Linked) → link_at targets row column ≡ Some link → link.0 < n
-  link_leads row column link e =
-      option_and_then_some (λ (table : ℕ). option_map (λ (to : TupleRef). (table, to)) (link_in column row)) (target_at targets column) link e
-      (λ table at f. subst (λ t. t < n) (led table (link_in column row) f) (back column table at))
-    where
-      led : (table : ℕ) (o : Option TupleRef) → option_map (λ (to : TupleRef). (table, to)) o ≡ Some link → table ≡ link.0
-      led table None f = absurd (none-some link f)
-      led table (Some to) f = ap (λ (l : Linked). l.0) (same_Some (table, to) link f)
-
-  row_leads : (table : ℕ) (r : TupleRef) → n ≤ table → (row : Row) → count_by (is_link_to table r) (row_links targets row) ≡ 0
-  unfolding row_links
-  row_leads table r above row =
-      none_counted (is_link_to table r) (link_at targets row)
-      (λ column link e.
-      and_left (link.0 == table) (is_eq (ref_cmp link.1 r)) (ne_eqb link.0 table (λ same. absurd (omega (arith, above, same, link_leads row column link e)))))
-      (range_with_len 0 (length targets))
-
 -- no link of a relation leads to it, nor behind it
 pub relation_leads : (s : RelationState) (n : ℕ) → LeadBack s.targets n → (table : ℕ) (r : TupleRef) → n ≤ table → count_by (is_link_to table r) (relation_links s) ≡ 0
-unfolding relation_links
 relation_leads s n back table r above =
-    none_counted_in (is_link_to table r) (λ q. option_map_or (row_links s.targets) (get s.rows q) [])
-    (λ q. elim (get s.rows q) as (λ o. count_by (is_link_to table r) (option_map_or (row_links s.targets) o []) ≡ 0) [
-      | None ↦ refl
-      | Some row ↦ row_leads s.targets n back table r above row
-    ]) (tree_list s.by_key)
+    none_counted (is_link_to table r) (relation_links s)
+    (each_link (λ link. is_link_to table r link ≡ false) s (λ q row column link held e.
+    let before : link.0 < n = back column link.0 (link_parts s.targets row column link e).0 in
+    and_left (link.0 == table) (is_eq (ref_cmp link.1 r)) (ne_eqb link.0 table (λ same. absurd (omega (arith, above, same, before))))))
 
 -- ---- keys that agree
 

@@ -48,7 +48,7 @@ use Rattle.mm_catalog.proofs.Shown.{rows_inserted}
 use Rattle.mm_catalog.proofs.LinksHeld.{link_held}
 use Rattle.mm_catalog.proofs.Elsewhere.{rewritten_from, kept_from, database_rewritten, consistent_rewritten, current_beside_old, counted_from}
 use Rattle.mm_catalog.proofs.CellRows.{cells_shown, cells_linked}
-use Rattle.mm_catalog.proofs.RowLinks.{All-filter_map, link_parts}
+use Rattle.mm_catalog.proofs.RowLinks.{All-filter_map, link_parts, each_link}
 use Rattle.mm_catalog.proofs.Referenced.{some_column}
 use Rattle.mm_catalog.proofs.Checked.{key_refuses, reference_refuses, full_refuses, nothing_refuses}
 use Rattle.mm_catalog.proofs.Anywhere.{none_counted}
@@ -70,17 +70,8 @@ module _ (c : CatalogState) (ok : IsConsistent c) (n : ℕ) (b : RelationState) 
         ]
       ]
 
-  row_unnamed : (k : ℕ) (s : RelationState) (q : TupleRef) (o : Option Row) → slice_get c.relations k ≡ Some s → get s.rows q ≡ o → All (λ link. is_link_to n r link ≡ false) (option_map_or (row_links s.targets) o [])
-  unfolding row_links
-  row_unnamed k s q None at found = λ i d l. absurd (omega arith)
-  row_unnamed k s q (Some row) at found =
-      All-filter_map (λ link. is_link_to n r link ≡ false) (link_at s.targets row) (range_with_len 0 (length s.targets)) (λ column link _ e. unnamed k s q row column link at found e)
-
   relation_unnamed : (k : ℕ) (s : RelationState) → slice_get c.relations k ≡ Some s → All (λ link. is_link_to n r link ≡ false) (relation_links s)
-  unfolding relation_links
-  relation_unnamed k s at =
-      All-flat_map (λ link. is_link_to n r link ≡ false) (λ q. option_map_or (row_links s.targets) (get s.rows q) []) (tree_list s.by_key)
-      (λ i d l. row_unnamed k s (get_or (tree_list s.by_key) i d) (get s.rows (get_or (tree_list s.by_key) i d)) at refl)
+  relation_unnamed k s at = each_link (λ link. is_link_to n r link ≡ false) s (λ q row column link. unnamed k s q row column link at)
 
   pub no_links_to : links_to c.relations n r ≡ 0
   unfolding links links_to

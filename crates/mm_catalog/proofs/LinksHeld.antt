@@ -10,6 +10,7 @@ use Rattle.std.proofs.lemmas.Option.{none-some, same_Some, slice_get_within, get
 use Rattle.std.proofs.lemmas.List.Elements.{Contains-append_left, Contains-append_right}
 use Rattle.common_lemmas.proofs.Elements.{Contains-cons, Contains-cons_cases}
 use Rattle.common_lemmas.proofs.Counts.{count_by-member}
+use Rattle.common_lemmas.proofs.Options.{and_then-Some}
 use Rattle.part_raw.proofs.Tuples.{same_ref_self}
 use Rattle.part_raw.specs.TupleRefs.{ref_cmp}
 use Rattle.part_raw.specs.declared.tuple_ref.TupleRef.{TupleRef}
@@ -99,15 +100,11 @@ is_link_itself table to = and_from (table == table) (is_eq (ref_cmp to to)) (eq-
 
 -- ---- those of a consistent catalog
 
-beneath : {A B : Type 0} (f : A → Option B) (o : Option A) → IsSome (option_and_then f o) → (x : A) × (o ≡ Some x)
-beneath f None h = absurd (false≢true h)
-beneath f (Some x) h = (x, refl)
-
 -- where a key is read there is a row
 key_of_row : (found : Option RelationState) (to : TupleRef) → IsSome (option_and_then (λ (s : RelationState). key_at s.rows to) found) → (u : RelationState) × (named : Row) × (found ≡ Some u) × (get u.rows to ≡ Some named)
 key_of_row found to h =
-    let u = beneath (λ (s : RelationState). key_at s.rows to) found h in
-    let row = beneath (λ (t : Row). Some t.key) (get u.0.rows to) (subst (λ o. IsSome (option_and_then (λ (s : RelationState). key_at s.rows to) o)) u.1 h) in
+    let u = and_then-Some (λ (s : RelationState). key_at s.rows to) found h in
+    let row = and_then-Some (λ (t : Row). Some t.key) (get u.0.rows to) (subst (λ o. IsSome (option_and_then (λ (s : RelationState). key_at s.rows to) o)) u.1 h) in
     (u.0, row.0, u.1, row.1)
 
 module _ (c : CatalogState) (ok : IsConsistent c) where

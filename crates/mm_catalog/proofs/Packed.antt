@@ -44,10 +44,6 @@ module _ (relations : List RelationState) (targets : List (Option ℕ)) where
       last_place (z ∷ xs) x zero y above f = absurd (omega arith)
       last_place (z ∷ xs) x (suc k) y above f = ap suc (last_place xs x k y (omega arith) f)
 
-  pub led_behind : (n : ℕ) → 0 < n → led_to targets n ≡ target_at targets n
-  led_behind zero some = absurd (omega arith)
-  led_behind (suc n) some = refl
-
   -- the key holds itself
   pub held_key : (key : Value) → IsCellOf relations None key (Held key)
   held_key key = record { read = refl; linked = λ v some e. absurd (false≢true some) }

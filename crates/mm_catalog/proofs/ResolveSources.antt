@@ -1,16 +1,19 @@
 -- The conditions of a select, each as a test of its table, whatever stands in them beside the names of columns.
-use Rattle.std.proofs.Common.{◌≡◌, ◌≢◌, ℕ, zero, suc, ◌+◌, ◌≤◌, Bool, true, false, cond, List, [], ◌∷◌, ◌++◌, Some, refl, ap, ◌∙◌, map, set, slice_get, arith, append-nil, add-zero}
+use Rattle.std.proofs.Common.{◌≡◌, ◌≢◌, ℕ, zero, suc, ◌+◌, ◌≤◌, Bool, true, false, cond, List, [], ◌∷◌, ◌++◌, Some, refl, ap, ◌∙◌, map, set, slice_get, arith, append-nil, add-zero, length, zero-add, ◌<◌, sym}
 use Rattle.std.specs.Prelude.{◌==◌}
 use Rattle.std.specs.List.{filter, filter_map, enumerate_from}
 use Rattle.std.specs.Option.{option_map, option_map_or}
 use Rattle.std.proofs.lemmas.Bool.Decides.{nat_tests}
 use Rattle.std.proofs.lemmas.List.Elements.{filter-append, filter_map-append}
 use Rattle.std.proofs.lemmas.Option.{same_Some}
+use Rattle.std.proofs.lemmas.List.{length-map}
+use Rattle.std.proofs.lemmas.List.FromFn.{length-enumerate_from}
 use Rattle.plain_tables.specs.Queries.{JoinedColumn, place_meant}
 use Rattle.plain_tables.specs.declared.condition.ColName.{ColName}
 use Rattle.plain_tables.specs.declared.numbers.TableNumber.{TableNumber}
 use Rattle.plain_tables.specs.declared.numbers.Place.{Place}
 use Rattle.mm_catalog.specs.declared.bind.named_table.NamedTable.{NamedTable}
+use Rattle.common_lemmas.proofs.Places.{slice_get-inside}
 
 pub map-map : {X Y Z : Type 0} (g : Y → Z) (f : X → Y) (xs : List X) → map (λ x. g (f x)) xs ≡ map g (map f xs)
 map-map g f [] = refl
@@ -37,6 +40,9 @@ module _ {C T S : Type 0} (name : C → ColName) (test : C → Place → T) (sou
   pub untested_are : (k : ℕ) (named_tables : List NamedTable) → map (λ s. source s.table []) named_tables ≡ map (on []) (enumerate_from k named_tables)
   untested_are k [] = refl
   untested_are k (s ∷ ss) = ap (λ sources. source s.table [] ∷ sources) (untested_are (k + 1) ss)
+
+  pub length-on : (given : List C) (named_tables : List NamedTable) → length (map (on given) (enumerate_from 0 named_tables)) ≡ length named_tables
+  length-on given named_tables = length-map (enumerate_from 0 named_tables) (on given) ∙ length-enumerate_from 0 named_tables
 
   module _ (given : List C) (c : C) where
     -- the sources without the condition and with it
@@ -90,3 +96,11 @@ module _ {C T S : Type 0} (name : C → ColName) (test : C → Place → T) (sou
           ap (λ rest. on (given ++ c ∷ []) (k, s) ∷ rest) (sources_more (k + 1) i ss x later at)
           ∙ ap (λ y. y ∷ set (before (k + 1) ss) i (more x (test c place)))
           (source_same k s (on_place k ∙ other_number place.source k (λ e. omega arith)))
+
+      -- the sources of lent ones with the test added to its own
+      pub source_added : (named_tables : List NamedTable) (lent now : List S) (t : T) → lent ≡ before 0 named_tables → place.source < length named_tables → t ≡ test c place
+          → ((x : S) → slice_get lent place.source ≡ Some x → now ≡ set lent place.source (more x t)) → now ≡ after 0 named_tables
+      source_added named_tables lent now t are within made added =
+          let (x, at) = slice_get-inside (before 0 named_tables) place.source (omega (arith, within, length-on given named_tables)) in
+          added x (ap (λ xs. slice_get xs place.source) are ∙ at) ∙ (λ i. set (are i) place.source (more x (made i)))
+          ∙ sym (sources_more 0 place.source named_tables x (sym (zero-add place.source)) at)

@@ -3,7 +3,7 @@ use Rattle.std.specs.List.{slice_get}
 use Rattle.std.proofs.lemmas.Iterator.Adapters.{YieldsList-from_vec}
 use Rattle.std.proofs.lemmas.Iterator.Consumers.{YieldsList-turn, YieldsList-end}
 use Rattle.std.proofs.lemmas.List.{length_push}
-use Rattle.std.proofs.lemmas.Option.{slice_get_read}
+use Rattle.std.proofs.lemmas.Option.{slice_get_read, slice_get_within}
 use Rattle.std.specs.Prelude.{IfErr}
 use Rattle.std.proofs.lemmas.Result.{IfErr-weaker}
 use Rattle.plain_tables.specs.declared.refusal.Refusal.{Refusal}
@@ -14,6 +14,7 @@ use Rattle.mm_relation.specs.Rows.{StartsWithKey}
 use Rattle.mm_catalog.specs.Cells.{IsCellOf, cell_for, led_to}
 use Rattle.mm_catalog.proofs.Packed.{AreFirst, first_none, first_more, starts, row_packed, kept_out_by, kept_out_for_memory}
 use Rattle.mm_catalog.proofs.insert.pack_moved.Goals as goal
+use Rattle.mm_catalog.proofs.insert.pack_moved.Goals.{In-Some}
 
 pub loop-value-init : goal.loop-value-init
 loop-value-init c = record {
@@ -24,27 +25,30 @@ loop-value-init c = record {
   room = omega (arith, c.in_ok-empty_for.ensures.room, c.len.ensures);
 }
 
-pub next_named-requires-clause-starts : goal.next_named-requires-clause-starts
-next_named-requires-clause-starts c some =
-    let cells = c.loop-value.cells.items in
+-- the value whose turn it is
+next : (c : In-Some) → slice_get c.args.values.items (length c.loop-value.cells.items) ≡ Some c.in-Some.value
+next c =
     let gives = c.into_iter-value-iterator.ensures.into_iter_gives in
     let values = c.args.values.items in
     let turn = YieldsList-turn (YieldsList-from_vec values gives.0 (omega (arith, gives.1, c.args.values.ok.0))) c.loop-value.yielded c.loop-value.value-iterator c.loop-value.yielded_by c.next.result c.next.new.self c.in-Some.value c.in-Some.is c.next.ensures.steps in
+    ap (slice_get values) c.loop-value.invariant.count ∙ slice_get_read values (length values) (length c.loop-value.yielded) c.in-Some.value refl turn.0 turn.1
+
+pub next_named-requires-clause-starts : goal.next_named-requires-clause-starts
+next_named-requires-clause-starts c some =
+    let cells = c.loop-value.cells.items in
+    let values = c.args.values.items in
     subst StartsWithKey (sym c.as_slice.ensures.value)
-    (starts c.args.before.now c.args.relation.now.targets values cells c.loop-value.invariant.first (omega (arith, turn.0)) (omega (arith, some, ap length c.as_slice.ensures.value)))
+    (starts c.args.before.now c.args.relation.now.targets values cells c.loop-value.invariant.first (omega (arith, slice_get_within values (length cells) c.in-Some.value (next (goal.at.next_named-requires-clause-starts c).In-Some))) (omega (arith, some, ap length c.as_slice.ensures.value)))
 
 pub loop-value-preserved : goal.loop-value-preserved
 loop-value-preserved c =
     let before = c.args.before.now in
     let targets = c.args.relation.now.targets in
-    let gives = c.into_iter-value-iterator.ensures.into_iter_gives in
     let values = c.args.values.items in
     let cells = c.loop-value.cells.items in
     let value = c.in-Some.value in
     let cell = c.moved_cell.result in
-    let turn = YieldsList-turn (YieldsList-from_vec values gives.0 (omega (arith, gives.1, c.args.values.ok.0))) c.loop-value.yielded c.loop-value.value-iterator c.loop-value.yielded_by c.next.result c.next.new.self c.in-Some.value c.in-Some.is c.next.ensures.steps in
-    let there : slice_get values (length cells) ≡ Some value =
-    ap (slice_get values) c.loop-value.invariant.count ∙ slice_get_read values (length values) (length c.loop-value.yielded) value refl turn.0 turn.1 in
+    let there = next (goal.at.loop-value-preserved c).In-Some in
     let is : IsCellOf before (led_to targets (length cells)) value cell =
     subst (IsCellOf before (led_to targets (length cells)) value) (sym c.moved_cell.ensures) (subst (λ cs. IsCellOf before (led_to targets (length cs)) value (cell_for value c.in_ok-named.named)) c.as_slice.ensures.value c.in_ok-named.ensures.named) in
     let pushed = c.push_reserved.ensures.items in
@@ -76,10 +80,7 @@ returns-in_err-named-clause-refused c =
     let values = c.args.values.items in
     let cells = c.loop-value.cells.items in
     let value = c.in-Some.value in
-    let gives = c.into_iter-value-iterator.ensures.into_iter_gives in
-    let turn = YieldsList-turn (YieldsList-from_vec values gives.0 (omega (arith, gives.1, c.args.values.ok.0))) c.loop-value.yielded c.loop-value.value-iterator c.loop-value.yielded_by c.next.result c.next.new.self c.in-Some.value c.in-Some.is c.next.ensures.steps in
-    let there : slice_get values (length cells) ≡ Some value =
-    ap (slice_get values) c.loop-value.invariant.count ∙ slice_get_read values (length values) (length c.loop-value.yielded) value refl turn.0 turn.1 in
+    let there = next (goal.at.returns-in_err-named-clause-refused c).In-Some in
     let why : IfErr c.from_residual-in_err-named.result (IsNotNamed before s c.as_slice.result.now value) = search rules in
     IfErr-weaker c.from_residual-in_err-named.result (IsNotNamed before s c.as_slice.result.now value) (λ e. (most : ℕ) (key : Value) (rest : List Value) → values ≡ key ∷ rest → IsKeptOut before s most key rest e)
     (λ e none. kept_out_by before s values cells value e c.loop-value.invariant.first there (subst (λ cs. IsNotNamed before s cs value e) c.as_slice.ensures.value none)) why
