@@ -101,6 +101,13 @@ pub record IsGrown (c : CatalogState) (relations : List RelationState) (n : Tabl
   pub effect : HasEffect c (record c { relations = relations }) (done c.limits (database_of c) (resolved.Insert n values)) 1
   pub consistent : IsConsistent (record c { relations = relations })
 
+-- what it leaves of one, and answers
+pub record IsInsertedSo (c : CatalogState) (n : TableNumber) (values : List Value) (result : Result TupleRef Refusal) (d : CatalogState) : Type 0 where
+  pub consistent : IsConsistent d
+  pub effect : OnOk result (HasEffect c d (done c.limits (database_of c) (resolved.Insert n values)) 1)
+  pub came : IfOk result (HasCome c d n.0 values)
+  pub refused : IfErr result (IsRefusedFor c d (done c.limits (database_of c) (resolved.Insert n values)))
+
 module _ (c : CatalogState) (ok : IsConsistent c) (n : TableNumber) (key : Value) (rest : List Value) (meant : IsMeant c.limits (database_of c) (resolved.Insert n (key ∷ rest))) (b a : RelationState) (front : List RelationState) (cells : List Cell) (there : slice_get c.relations n.0 ≡ Some b) (fresh : HasKey b.rows key → ⊥) (are : AreCellsOf (take n.0 c.relations) b.targets rest cells) (room : finite.len b.rows < c.limits.rows) (q : TupleRef) (taken : IsTakenIn (take n.0 c.relations) front b a q (new_row key cells)) where
   abbrev values : List Value
   values = key ∷ rest
@@ -241,18 +248,10 @@ module _ (c : CatalogState) (ok : IsConsistent c) (n : TableNumber) (values : Li
 
   -- ---- the answer
 
-  pub inserted_consistent : (relations : List RelationState) (result : Result TupleRef Refusal) → IfOk result (IsInsertedAt c.relations relations n.0 c.limits.rows values) → OnErr result (relations ≡ c.relations) → IsConsistent (record c { relations = relations })
-  inserted_consistent relations (Ok r) h same = (grown_from relations r h).consistent
-  inserted_consistent relations (Err e) h same = subst (λ rs. IsConsistent (record c { relations = rs })) (sym same) ok
-
-  pub inserted_effect : (relations : List RelationState) (result : Result TupleRef Refusal) → IfOk result (IsInsertedAt c.relations relations n.0 c.limits.rows values) → OnOk result (HasEffect c (record c { relations = relations }) (done c.limits (database_of c) (resolved.Insert n values)) 1)
-  inserted_effect relations (Ok r) h = (grown_from relations r h).effect
-  inserted_effect relations (Err e) h = tt
-
-  pub inserted_came : (relations : List RelationState) (result : Result TupleRef Refusal) → IfOk result (IsInsertedAt c.relations relations n.0 c.limits.rows values) → IfOk result (HasCome c (record c { relations = relations }) n.0 values)
-  inserted_came relations (Ok r) h = record { inserted = h; same = refl }
-  inserted_came relations (Err e) h = tt
-
-  pub inserted_refused : (relations : List RelationState) (result : Result TupleRef Refusal) → IfErr result (IsRefusedAt c.relations n.0 c.limits.rows values) → OnErr result (relations ≡ c.relations) → IfErr result (IsRefusedFor c (record c { relations = relations }) (done c.limits (database_of c) (resolved.Insert n values)))
-  inserted_refused relations (Ok r) h same = tt
-  inserted_refused relations (Err e) h same = refused_from relations e h same
+  pub inserted_so : (relations : List RelationState) (result : Result TupleRef Refusal) → IfOk result (IsInsertedAt c.relations relations n.0 c.limits.rows values) → IfErr result (IsRefusedAt c.relations n.0 c.limits.rows values) → OnErr result (relations ≡ c.relations)
+      → IsInsertedSo c n values result (record c { relations = relations })
+  inserted_so relations (Ok r) h refused same =
+      let grown = grown_from relations r h in
+      record { consistent = grown.consistent; effect = grown.effect; came = record { inserted = h; same = refl }; refused = tt }
+  inserted_so relations (Err e) h refused same =
+      record { consistent = subst (λ rs. IsConsistent (record c { relations = rs })) (sym same) ok; effect = tt; came = tt; refused = refused_from relations e refused same }
