@@ -29,10 +29,9 @@ any_alike f g (x ∷ xs) same =
 -- side by side with others
 pub any_zip : {A B : Type 0} (f : A × B → Bool) (g : B → Bool) (xs : List A) (ys : List B) → length xs ≡ length ys → ((i : ℕ) (a : A) (b : B) → slice_get xs i ≡ Some a → slice_get ys i ≡ Some b → f (a, b) ≡ g b) → list_any f (zip xs ys) ≡ list_any g ys
 any_zip f g [] [] e same = refl
-any_zip f g [] (b ∷ ys) e same = absurd (omega arith)
-any_zip f g (a ∷ xs) [] e same = absurd (omega arith)
 any_zip f g (a ∷ xs) (b ∷ ys) e same =
     ap (λ t. t || list_any f (zip xs ys)) (same 0 a b refl refl) ∙ ap (λ t. g b || t) (any_zip f g xs ys (omega arith) (λ i. same (suc i)))
+any_zip f g xs ys e same = absurd (omega arith)
 
 -- side by side with what is made of their numbers
 pub any_numbered : {A B : Type 0} (f : A × B → Bool) (g : ℕ → Bool) (make : ℕ → B) (xs : List A) (a : ℕ) → ((j : ℕ) (x : A) → slice_get xs j ≡ Some x → f (x, make (a + j)) ≡ g (a + j)) → list_any f (zip xs (map make (range_with_len a (length xs)))) ≡ list_any g (range_with_len a (length xs))

@@ -222,9 +222,8 @@ same_kind Hash Hash = refl
 
 kind_exact : (k l : IndexKind) → plain.is_kind k l ≡ true → l ≡ k
 kind_exact Tree Tree e = refl
-kind_exact Tree Hash e = cc
-kind_exact Hash Tree e = cc
 kind_exact Hash Hash e = refl
+kind_exact j k e = cc
 
 index_exact : (column : ColumnNumber) (k : IndexKind) (a b : ℕ × IndexKind) → plain.is_index column k a ≡ true → plain.is_index column k b ≡ true → a ≡ b
 index_exact column k a b e f =

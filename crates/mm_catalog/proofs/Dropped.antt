@@ -38,20 +38,18 @@ use Rattle.mm_catalog.proofs.Back.{has_name}
 
 same_flat : (xs ys : List RelationState) → length ys ≡ length xs → ((k : ℕ) (s t : RelationState) → slice_get xs k ≡ Some s → slice_get ys k ≡ Some t → relation_links t ≡ relation_links s) → flat_map relation_links ys ≡ flat_map relation_links xs
 same_flat [] [] e same = refl
-same_flat [] (y ∷ ys) e same = absurd (omega arith)
-same_flat (x ∷ xs) [] e same = absurd (omega arith)
 same_flat (x ∷ xs) (y ∷ ys) e same =
     ap (λ ls. ls ++ flat_map relation_links ys) (same 0 x y refl refl)
     ∙ ap (λ ls. relation_links x ++ ls) (same_flat xs ys (omega arith) (λ k. same (suc k)))
+same_flat xs ys e same = absurd (omega arith)
 
 pub same_zip : {A : Type 0} (f g : List ℕ × RelationState → A) (names : List (List ℕ)) (xs ys : List RelationState) → length ys ≡ length xs → ((k : ℕ) (name : List ℕ) (s t : RelationState) → slice_get xs k ≡ Some s → slice_get ys k ≡ Some t → g (name, t) ≡ f (name, s)) → map g (zip names ys) ≡ map f (zip names xs)
 same_zip f g [] xs ys e same = refl
 same_zip f g (name ∷ names) [] [] e same = refl
-same_zip f g (name ∷ names) [] (y ∷ ys) e same = absurd (omega arith)
-same_zip f g (name ∷ names) (x ∷ xs) [] e same = absurd (omega arith)
 same_zip f g (name ∷ names) (x ∷ xs) (y ∷ ys) e same =
     ap (λ z. z ∷ map g (zip names ys)) (same 0 name x y refl refl)
     ∙ ap (λ zs. f (name, x) ∷ zs) (same_zip f g names xs ys (omega arith) (λ k. same (suc k)))
+same_zip f g names xs ys e same = absurd (omega arith)
 
 module _ (c : CatalogState) (new : List RelationState) (h : AreRecounted c.relations new) where
   -- they have the same links, and show the same tables

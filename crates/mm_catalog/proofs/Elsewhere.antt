@@ -40,20 +40,14 @@ use Rattle.mm_catalog.proofs.RowLinks.{each_link, link_parts}
 -- ---- the relations put together again
 
 get_here : {A : Type 0} (before xs : List A) (n : ℕ) (a : A) → length before ≡ n → n < length xs → slice_get (before ++ set (drop n xs) 0 a) n ≡ Some a
-get_here before [] n a e l = absurd (omega arith)
 get_here [] (x ∷ xs) zero a e l = refl
-get_here [] (x ∷ xs) (suc n) a e l = absurd (omega arith)
-get_here (y ∷ before) (x ∷ xs) zero a e l = absurd (omega arith)
 get_here (y ∷ before) (x ∷ xs) (suc n) a e l = get_here before xs n a (omega arith) (omega arith)
+get_here before xs n a e l = absurd (omega arith)
 
 get_behind : {A : Type 0} (before xs : List A) (n k : ℕ) (a : A) → length before ≡ n → n < length xs → n < k → slice_get (before ++ set (drop n xs) 0 a) k ≡ slice_get xs k
-get_behind before [] n k a e l m = absurd (omega arith)
-get_behind [] (x ∷ xs) zero zero a e l m = absurd (omega arith)
 get_behind [] (x ∷ xs) zero (suc k) a e l m = refl
-get_behind [] (x ∷ xs) (suc n) k a e l m = absurd (omega arith)
-get_behind (y ∷ before) (x ∷ xs) zero k a e l m = absurd (omega arith)
-get_behind (y ∷ before) (x ∷ xs) (suc n) zero a e l m = absurd (omega arith)
 get_behind (y ∷ before) (x ∷ xs) (suc n) (suc k) a e l m = get_behind before xs n k a (omega arith) (omega arith) (omega arith)
+get_behind before xs n k a e l m = absurd (omega arith)
 
 length-joined : {A : Type 0} (before xs : List A) (n : ℕ) (a : A) → length before ≡ n → n < length xs → length (before ++ set (drop n xs) 0 a) ≡ length xs
 length-joined before xs n a e l =
@@ -92,10 +86,9 @@ kept_from c ok n before a front kept =
 map-zip-all : {A B C : Type 0} (f g : A × B → C) (xs : List A) (ys zs : List B) → length zs ≡ length ys → ((i : ℕ) (a : A) (b d : B) → slice_get xs i ≡ Some a → slice_get ys i ≡ Some b → slice_get zs i ≡ Some d → g (a, d) ≡ f (a, b)) → map g (zip xs zs) ≡ map f (zip xs ys)
 map-zip-all f g [] ys zs e same = refl
 map-zip-all f g (a ∷ xs) [] [] e same = refl
-map-zip-all f g (a ∷ xs) [] (d ∷ zs) e same = absurd (omega arith)
-map-zip-all f g (a ∷ xs) (b ∷ ys) [] e same = absurd (omega arith)
 map-zip-all f g (a ∷ xs) (b ∷ ys) (d ∷ zs) e same =
     ap (λ z. z ∷ map g (zip xs zs)) (same 0 a b d refl refl refl) ∙ ap (λ all. f (a, b) ∷ all) (map-zip-all f g xs ys zs (omega arith) (λ i. same (suc i)))
+map-zip-all f g xs ys zs e same = absurd (omega arith)
 
 map-zip-other : {A B C : Type 0} (f g : A × B → C) (xs : List A) (ys zs : List B) (n : ℕ) (x : A) (z : B) → length xs ≡ length ys → length zs ≡ length ys → slice_get xs n ≡ Some x → slice_get zs n ≡ Some z → ((i : ℕ) (a : A) (b d : B) → i ≢ n → slice_get xs i ≡ Some a → slice_get ys i ≡ Some b → slice_get zs i ≡ Some d → g (a, d) ≡ f (a, b)) → map g (zip xs zs) ≡ set (map f (zip xs ys)) n (g (x, z))
 map-zip-other f g [] ys zs n x z e l at here same = absurd (none-some x at)
@@ -122,10 +115,9 @@ counted_other {A} test f (a ∷ xs) (b ∷ ys) zero x y l at here same =
   where
     flat_same : (us vs : List A) → length vs ≡ length us → ((k : ℕ) (s t : A) → slice_get us k ≡ Some s → slice_get vs k ≡ Some t → f t ≡ f s) → flat_map f vs ≡ flat_map f us
     flat_same [] [] m alike = refl
-    flat_same [] (v ∷ vs) m alike = absurd (omega arith)
-    flat_same (u ∷ us) [] m alike = absurd (omega arith)
     flat_same (u ∷ us) (v ∷ vs) m alike =
         ap (λ z. z ++ flat_map f vs) (alike 0 u v refl refl) ∙ ap (λ zs. f u ++ zs) (flat_same us vs (omega arith) (λ k. alike (suc k)))
+    flat_same us vs m alike = absurd (omega arith)
 counted_other test f (a ∷ xs) (b ∷ ys) (suc n) x y l at here same =
     let left = sum_by-append (λ z. cond (test z) 1 0) (f b) (flat_map f ys) in
     let right = sum_by-append (λ z. cond (test z) 1 0) (f a) (flat_map f xs) in

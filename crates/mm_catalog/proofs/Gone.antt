@@ -30,10 +30,9 @@ moved_up-before (suc gone) zero h = refl
 moved_up-before (suc gone) (suc n) h = ap suc (moved_up-before gone n (omega arith))
 
 pub moved_up-behind : (gone n : ℕ) → gone < n → moved_up gone n ≡ n - 1
-moved_up-behind zero zero h = absurd (omega arith)
 moved_up-behind zero (suc n) h = omega arith
-moved_up-behind (suc gone) zero h = absurd (omega arith)
 moved_up-behind (suc gone) (suc n) h = let rest = moved_up-behind gone n (omega arith) in omega (arith, rest)
+moved_up-behind gone n h = absurd (omega arith)
 
 pub moved_back-before : (gone n : ℕ) → n < gone → moved_back gone n ≡ n
 moved_back-before zero n h = absurd (omega arith)

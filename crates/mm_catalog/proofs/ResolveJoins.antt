@@ -197,8 +197,6 @@ module _ (tables : Database) (name : List ℕ) (joins : List Join) (scope : Scop
         → map (λ (s : Sides). Some (sides_found s)) ds ≡ map (λ j. option_map placed_sides (join_columns tables j)) (behind before js)
         → joined (behind before js) ≡ joined_so (map made (enumerate_from (length before) named_tables)) ds
     joins_are before [] [] ds all are = refl
-    joins_are before [] (s ∷ ss) ds all are = absurd all
-    joins_are before (j ∷ js) [] ds all are = absurd all
     joins_are before (j ∷ js) (s ∷ ss) [] all are = cc
     joins_are before (j ∷ js) (s ∷ ss) (d ∷ ds) all are =
         let head : option_map placed_sides (join_columns tables (before, j)) ≡ Some (sides_found d) = cc in
@@ -216,6 +214,7 @@ module _ (tables : Database) (name : List ℕ) (joins : List Join) (scope : Scop
         ∙ ap (λ (p : Place). join (made (length before, s)) d.outer.place p.column ∷ others) inner
         ∙ ap (λ js'. join (made (length before, s)) d.outer.place d.inner.place.column ∷ js')
         (rest ∙ ap (λ n. joined_so (map made (enumerate_from n ss)) ds) more)
+    joins_are before js named_tables ds all are = absurd all
 
     -- the first source is that of the first table, and the others are joined as their joins say
     pub sources_are : (named_tables : List NamedTable) (x : S) (sources : List S) → AllZip (IsNamedTableOf tables) names named_tables

@@ -7,7 +7,7 @@ use Rattle.std.proofs.lemmas.List.{map-append}
 use Rattle.std.proofs.lemmas.List.Elements.{filter_map-append}
 use Rattle.std.proofs.lemmas.List.Folds.{list_any-append, list_any_at}
 use Rattle.common_lemmas.proofs.Options.{is_some-option_map, option_map_some}
-use Rattle.common_lemmas.proofs.Tests.{list_any-map, any_agree}
+use Rattle.common_lemmas.proofs.Tests.{list_any-map, any_agree, or_false}
 use Rattle.plain_tables.specs.Databases.{Database}
 use Rattle.plain_tables.specs.References.{is_typed}
 use Rattle.plain_tables.specs.Queries.{JoinedColumn, fits_one, place_meant, column_meant, places_meant, named_items}
@@ -64,11 +64,7 @@ module _ {X : Type 0} (columns : List JoinedColumn) (name : X → ColName) where
 
 -- one element more passes or not
 pub any_more : {X : Type 0} (p : X → Bool) (xs : List X) (x : X) (b : Bool) → b ≡ p x → list_any p (xs ++ x ∷ []) ≡ (list_any p xs || b)
-any_more p xs x b h = list_any-append p xs (x ∷ []) ∙ ap (λ c. list_any p xs || (c || false)) (sym h) ∙ ap (λ c. list_any p xs || c) (or_none b)
-  where
-    or_none : (c : Bool) → (c || false) ≡ c
-    or_none true = refl
-    or_none false = refl
+any_more p xs x b h = list_any-append p xs (x ∷ []) ∙ ap (λ c. list_any p xs || (c || false)) (sym h) ∙ ap (λ c. list_any p xs || c) (or_false b)
 
 -- ---- what all names mean
 

@@ -24,9 +24,8 @@ use Rattle.mm_catalog.specs.Resolve.{IsNamedTableOf, place_in, columns_of, colum
 use Rattle.mm_catalog.specs.Select.{placed_sides, sides_found, AreJoined}
 
 pub zip_placed : (outer inner : Option JoinedColumn) → option_map placed_sides (option_zip outer inner) ≡ option_zip (option_map placed outer) (option_map placed inner)
-zip_placed None inner = refl
-zip_placed (Some x) None = refl
 zip_placed (Some x) (Some y) = refl
+zip_placed outer inner = refl
 
 -- ---- names, each once
 
@@ -87,12 +86,11 @@ module _ (tables : Database) where
   any_named : (name : List ℕ) (own : NamedTable) (names : List (List ℕ)) (named_tables : List NamedTable) → IsNamedTableOf tables name own → AllZip (IsNamedTableOf tables) names named_tables
       → list_any (λ (s : NamedTable). bytes_eq s.name.now own.name.now) named_tables ≡ list_any (λ k. bytes_eq k name) names
   any_named name own [] [] h all = refl
-  any_named name own [] (s ∷ ss) h all = absurd all
-  any_named name own (n ∷ ns) [] h all = absurd all
   any_named name own (n ∷ ns) (s ∷ ss) h all =
       ap (λ k. bytes_eq k own.name.now || list_any (λ (t : NamedTable). bytes_eq t.name.now own.name.now) ss) (called_so n s all.0)
       ∙ ap (λ k. bytes_eq n k || list_any (λ (t : NamedTable). bytes_eq t.name.now own.name.now) ss) (called_so name own h)
       ∙ ap (λ b. bytes_eq n name || b) (any_named name own ns ss h all.1)
+  any_named name own names named_tables h all = absurd all
 
   more_named : (b : Bool) (name : List ℕ) (own : NamedTable) (names : List (List ℕ)) (named_tables : List NamedTable) → IsNamedTableOf tables name own → AllZip (IsNamedTableOf tables) names named_tables
       → AllZip (IsNamedTableOf tables) (cond b names (names ++ name ∷ [])) (cond b named_tables (named_tables ++ own ∷ []))
@@ -109,12 +107,11 @@ module _ (tables : Database) where
   columns_from : (k : ℕ) (names : List (List ℕ)) (named_tables : List NamedTable) → AllZip (IsNamedTableOf tables) names named_tables
       → flat_map plain_columns (enumerate_from k (filter_map (λ n. table_named n tables) names)) ≡ flat_map source_columns (enumerate_from k named_tables)
   columns_from k [] [] all = refl
-  columns_from k [] (s ∷ ss) all = absurd all
-  columns_from k (n ∷ ns) [] all = absurd all
   columns_from k (n ∷ ns) (s ∷ ss) all =
       ap (λ o. flat_map plain_columns (enumerate_from k (cons_option o (filter_map (λ m. table_named m tables) ns)))) all.0.found
       ∙ ap (λ cs. cs ++ flat_map plain_columns (enumerate_from (k + 1) (filter_map (λ m. table_named m tables) ns))) (table_columns k n s all.0)
       ∙ ap (λ cs. source_columns (k, s) ++ cs) (columns_from (k + 1) ns ss all.1)
+  columns_from k names named_tables all = absurd all
 
   pub columns_are : (names : List (List ℕ)) (named_tables : List NamedTable) → AllZip (IsNamedTableOf tables) (once names) named_tables → named_columns tables names ≡ columns_of_all named_tables
   columns_are names named_tables all = columns_from 0 (once names) named_tables all

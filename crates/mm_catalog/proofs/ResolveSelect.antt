@@ -37,11 +37,8 @@ use Rattle.mm_catalog.proofs.ResolveCommands.{first_missed, meaning-is, rest_mis
 sorted : (p t m s : Bool) (r : Result (Unit {0}) Refusal)
     → cond p (Err ColumnNamedTwice) (cond t (Err TableNamedTwice) (cond (m || s) (Err WrongType) r))
     ≡ cond p (Err ColumnNamedTwice) (cond t (Err TableNamedTwice) (cond s (Err WrongType) (cond m (Err WrongType) r)))
-sorted true t m s r = refl
-sorted false true m s r = refl
 sorted false false true true r = refl
-sorted false false true false r = refl
-sorted false false false s r = refl
+sorted p t m s r = refl
 
 module _ (tables : Database) (distinct : Bool) (its : Items) (name : List ℕ) (joins : List Join) (conditions : List Cond) where
   abbrev names : List (List ℕ)

@@ -22,6 +22,7 @@ use Rattle.mm_catalog.specs.declared.bind.named_table.NamedTable.{NamedTable}
 use Rattle.mm_catalog.proofs.Finding.{position-map}
 use Rattle.mm_catalog.proofs.Tables.{database-get}
 use Rattle.mm_catalog.proofs.ResolveLists.{position_or_len-position, none_found, is_some-found}
+use Rattle.mm_catalog.proofs.Anywhere.{any_zip}
 
 -- a table has the name that its number has
 pub named_position : (c : CatalogState) (name : List ℕ) → length c.names ≡ length c.relations → position (is_named name) (database_of c) ≡ position (λ n. bytes_eq n name) c.names
@@ -84,13 +85,7 @@ pub database-any : (c : CatalogState) → length c.names ≡ length c.relations 
 unfolding database_of table_of
 database-any c named test =
     list_any-map (λ (t : Table). test t.columns) (λ (t : List ℕ × RelationState). table_of c.relations t.0 t.1) (zip c.names c.relations)
-    ∙ any_second c.names c.relations named
-  where
-    any_second : (names : List (List ℕ)) (relations : List RelationState) → length names ≡ length relations → list_any (λ (t : List ℕ × RelationState). test t.1.schema.columns) (zip names relations) ≡ list_any (λ (s : RelationState). test s.schema.columns) relations
-    any_second [] [] h = refl
-    any_second [] (s ∷ ss) h = cc
-    any_second (n ∷ ns) [] h = cc
-    any_second (n ∷ ns) (s ∷ ss) h = ap (λ b. test s.schema.columns || b) (any_second ns ss (omega (arith, h)))
+    ∙ any_zip (λ (t : List ℕ × RelationState). test t.1.schema.columns) (λ s. test s.schema.columns) c.names c.relations named (λ i name s at here. refl)
 
 -- the type of the keys of the table of that name is its first column's
 pub key_of : (tables : Database) (name : List ℕ) (table : TableNumber) (columns : List Column) → option_map table_number (position (is_named name) tables) ≡ Some table

@@ -58,12 +58,11 @@ not_alike (x ∷ xs) column e =
 
 pub assigned_apart : (xs : List Assignment) → repeats (λ a b. is_to_column a.column.0 b) xs ≡ false → AllPairs (λ a b. a.column.0 ≡ b.column.0 → ⊥) xs
 assigned_apart [] e i j d below within = absurd (omega (arith, within))
-assigned_apart (x ∷ xs) e zero zero d below within = absurd (omega arith)
 assigned_apart (x ∷ xs) e zero (suc j) d below within =
     not_alike xs x.column.0 (or_parts (list_any (is_to_column x.column.0) xs) (repeats (λ a b. is_to_column a.column.0 b) xs) e).0 j d (omega arith)
-assigned_apart (x ∷ xs) e (suc i) zero d below within = absurd (omega arith)
 assigned_apart (x ∷ xs) e (suc i) (suc j) d below within =
     assigned_apart xs (or_parts (list_any (is_to_column x.column.0) xs) (repeats (λ a b. is_to_column a.column.0 b) xs) e).1 i j d (omega arith) (omega arith)
+assigned_apart xs e i j d below within = absurd (omega arith)
 
 -- ---- the effect
 
