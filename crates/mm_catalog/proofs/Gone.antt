@@ -61,18 +61,14 @@ moved_up-same gone a b p q = elim (cases_eq a b) [
 
 pub get-remove : {A : Type 0} (xs : List A) (n k : ℕ) → k ≢ n → slice_get (remove xs n) (moved_up n k) ≡ slice_get xs k
 get-remove [] zero k h = refl
-get-remove [] (suc n) k h = refl
 get-remove (x ∷ xs) zero zero h = absurd (h refl)
-get-remove (x ∷ xs) zero (suc k) h = refl
-get-remove (x ∷ xs) (suc n) zero h = refl
 get-remove (x ∷ xs) (suc n) (suc k) h = get-remove xs n k (λ e. h (ap suc e))
+get-remove xs n k h = refl
 
 pub get-removed : {A : Type 0} (xs : List A) (n k : ℕ) → slice_get (remove xs n) k ≡ slice_get xs (moved_back n k)
 get-removed [] zero k = refl
-get-removed [] (suc n) k = refl
-get-removed (x ∷ xs) zero k = refl
-get-removed (x ∷ xs) (suc n) zero = refl
 get-removed (x ∷ xs) (suc n) (suc k) = get-removed xs n k
+get-removed xs n k = refl
 
 -- ---- the first that passes a test
 
