@@ -1,10 +1,10 @@
 -- Rows that all come in leave the same table in whatever order they do.
 use Rattle.std.proofs.Common.{◌≡◌, ℕ, ◌+◌, ◌≤◌, not, Bool, true, false, List, [], ◌∷◌, ◌⊎◌, Some, None, refl, sym, ap, ◌∙◌, subst, arith, length, set, get_or, inl, inr}
 use Rattle.std.specs.Prelude.{Ok, nat_le, if◌then◌else◌}
-use Rattle.std.specs.List.{All, Contains, count_by, filter, list_all, list_any, slice_get}
+use Rattle.std.specs.List.{All, Contains, count_by, filter, list_all, slice_get}
 use Rattle.std.specs.List.Sorted.{IsPermutation}
 use Rattle.std.specs.Ordering.{is_eq, is_lt}
-use Rattle.std.proofs.lemmas.Bool.{and_from, and_parts, false_from_ne_true, false≢true, lt-leb, true_from_ne_false}
+use Rattle.std.proofs.lemmas.Bool.{false_from_ne_true, lt-leb}
 use Rattle.std.proofs.lemmas.Cmp.{tied_itself}
 use Rattle.std.proofs.lemmas.List.{set-set}
 use Rattle.std.proofs.lemmas.List.Elements.{All-contains, All-contains_itself, All-head, All-tail, All-weaker, Contains-append_left, Contains-append_right}
@@ -13,8 +13,7 @@ use Rattle.std.proofs.lemmas.List.Sorted.{All-permutation, Contains-permutation,
 use Rattle.std.proofs.lemmas.List.Sums.{sum_by-cons}
 use Rattle.std.proofs.lemmas.Option.{slice_get_within}
 use Rattle.common_lemmas.proofs.Counts.{one, count_by-member}
-use Rattle.common_lemmas.proofs.Elements.{AllZip-set, Contains-cons, Contains-cons_cases, Contains-filter, Contains-head}
-use Rattle.common_lemmas.proofs.Orders.{is_eq-reverse}
+use Rattle.common_lemmas.proofs.Elements.{AllZip-set, Contains-cons, Contains-cons_cases, Contains-filter, Contains-head, All-from_list_all}
 use Rattle.common_lemmas.proofs.Places.{set_itself, slice_get_set}
 use Rattle.common_lemmas.proofs.Tests.{fails_where_none}
 use Rattle.plain_tables.specs.Tables.{Table, Row, AreRising, key_cmp, has_key_of, with_row}
@@ -29,16 +28,14 @@ use Rattle.plain_tables.specs.declared.refusal.Refusal.TheVariants.{KeyExists, N
 use Rattle.plain_tables.specs.declared.schema.Column.{Column}
 use Rattle.plain_tables.proofs.HeldLemmas.{KeepsKey, keeps_itself, held_stays}
 use Rattle.plain_tables.proofs.RowLemmas.{key_cmp_total, apart_by_key, with_row-rises, length-with_row, All-with_row}
+use Rattle.plain_tables.proofs.SoundLemmas.{with_row-keeps}
 use Rattle.mm_catalog.proofs.Rising.{rising_same}
+use Rattle.mm_catalog.proofs.Anywhere.{all_pass}
 
 -- ---- keys
 
 abbrev pub has_key : Row → Row → Bool
 has_key key row = is_eq (key_cmp row key)
-
--- keys are one whichever comes first
-pub one_key : (r s : Row) → is_eq (key_cmp r s) ≡ is_eq (key_cmp s r)
-one_key r s = ap is_eq (key_cmp_total.antisymm r s) ∙ is_eq-reverse (key_cmp s r)
 
 -- a row beside one of its rows with another key
 pub member_with : (row : Row) (rows : List Row) → Contains (with_row row rows) row
@@ -157,21 +154,7 @@ module _ (most : ℕ) (held rows others : List Row) (moved : IsPermutation rows 
 -- ---- loads of them
 
 all_still : {X : Type 0} (p q : X → Bool) → ((x : X) → p x ≡ true → q x ≡ true) → (xs : List X) → list_all p xs ≡ true → list_all q xs ≡ true
-all_still p q still [] all = refl
-all_still p q still (x ∷ xs) all =
-    let parts = and_parts (p x) (list_all p xs) all in
-    and_from (q x) (list_all q xs) (still x parts.0) (all_still p q still xs parts.1)
-
--- a row more takes no key away
-keeps_keys : (row : Row) (rows : List Row) (p : Row → Bool) → has_key_of row rows ≡ false → list_any p rows ≡ true → list_any p (with_row row rows) ≡ true
-keeps_keys row rows p fresh some =
-    true_from_ne_false (list_any p (with_row row rows)) (λ none.
-    let apart = fails_where_none (λ r. is_eq (key_cmp r row)) rows fresh in
-    let fails : All (λ r. p r ≡ false) rows = λ k d l.
-    All-contains (λ r. p r ≡ false) (with_row row rows) (get_or rows k d) (fails_where_none p (with_row row rows) none)
-    (other_with row rows (get_or rows k d) (All-contains_itself rows k d l) (apart k d l))
-    in
-    false≢true (sym (list_any_none p rows fails) ∙ some))
+all_still p q still xs all = all_pass q xs (All-weaker (λ x. p x ≡ true) (λ x. q x ≡ true) still xs (All-from_list_all p xs all))
 
 -- the rows that each of these names are there
 abbrev pub AllHeld : Database → List Column → List Row → Type 0
@@ -182,7 +165,7 @@ module _ (limits : Limits) (n : TableNumber) where
   still_held : (tables : Database) (table : Table) (row : Row) → slice_get tables n.0 ≡ Some table → has_key_of row table.rows ≡ false
       → (r : Reference) → is_held tables r ≡ true → is_held (set tables n.0 (grown_by row table)) r ≡ true
   still_held tables table row there fresh r =
-      let keeps : KeepsKey r table (grown_by row table) = (refl, λ named held. keeps_keys row table.rows (λ s. is_eq (key_cmp s (r.1 ∷ []))) fresh held) in
+      let keeps : KeepsKey r table (grown_by row table) = (refl, λ named held. with_row-keeps row table.rows (λ s. is_eq (key_cmp s (r.1 ∷ []))) fresh held) in
       held_stays r tables (set tables n.0 (grown_by row table)) (AllZip-set (KeepsKey r) (keeps_itself r) tables n.0 table (grown_by row table) there keeps)
 
   -- the row comes in

@@ -48,21 +48,21 @@ refer_back_at before (t ∷ ts) (suc n) table at h =
     subst (λ tables. All (RefersInto tables) table.columns) (append_assoc before (t ∷ []) (take n ts))
     (refer_back_at (before ++ t ∷ []) ts n table at h.1)
 
-abbrev named : List ℕ → List ℕ → Bool
-named name other = bytes_eq other name
+abbrev pub has_name : List ℕ → List ℕ → Bool
+has_name name other = bytes_eq other name
 
 -- a name that is found in front is first found in front
-leads : (names : List (List ℕ)) (tables : Database) (d : Table) (n : ℕ) → map (λ (t : Table). t.name) tables ≡ names → (found : Option (List ℕ)) → IsTrue (option_map_or (λ name. is_some (table_named name (take n tables))) found true) → (t : ℕ) → option_and_then (λ name. position (named name) names) found ≡ Some t → t < n
+leads : (names : List (List ℕ)) (tables : Database) (d : Table) (n : ℕ) → map (λ (t : Table). t.name) tables ≡ names → (found : Option (List ℕ)) → IsTrue (option_map_or (λ name. is_some (table_named name (take n tables))) found true) → (t : ℕ) → option_and_then (λ name. position (has_name name) names) found ≡ Some t → t < n
 leads names tables d n same None h t e = absurd (none-some t e)
 leads names tables d n same (Some name) h t e =
     let there = found_in_front (is_named name) tables n h in
-    let first = position-Some (named name) names t d.name e in
+    let first = position-Some (has_name name) names t d.name e in
     let alike : get_or names there.0 d.name ≡ (get_or tables there.0 d).name =
     ap (λ ns. get_or ns there.0 d.name) (sym same) ∙ get_or-map (λ (u : Table). u.name) tables there.0 d in
     elim (cases_lt t n) [
       | inl below ↦ below
       | inr above ↦
-          absurd (false≢true (sym (first.2 there.0 (omega (arith, there.1, above))) ∙ ap (named name) alike ∙ there.2 d))
+          absurd (false≢true (sym (first.2 there.0 (omega (arith, there.1, above))) ∙ ap (has_name name) alike ∙ there.2 d))
     ]
 
 -- where the links of a column lead, by the column that is there

@@ -1,14 +1,15 @@
 -- What the checks of an insert tell, by the relation that the row is to come into.
 use Rattle.std.proofs.Common.{◌≡◌, ℕ, zero, suc, ◌+◌, ◌<◌, ◌≤◌, not, Bool, true, false, List, [], ◌∷◌, Some, None, IsSome, refl, sym, ap, ◌∙◌, subst, arith, length, take, set}
-use Rattle.std.specs.List.{list_all, slice_get, cons_option}
+use Rattle.std.specs.List.{list_all, slice_get, All, Contains, zip}
 use Rattle.std.specs.Prelude.{nat_le, if◌then◌else◌}
 use Rattle.std.specs.Option.{option_and_then, option_map}
 use Rattle.std.specs.FinMap as finite
-use Rattle.std.proofs.lemmas.Bool.{and_from, and_left, and_right, false≢true, le-leb, lt-leb}
+use Rattle.std.proofs.lemmas.Bool.{false≢true, le-leb, lt-leb}
 use Rattle.std.proofs.lemmas.List.{length-map}
-use Rattle.std.proofs.lemmas.Option.{none-some, same_Some, slice_get_within}
+use Rattle.std.proofs.lemmas.Option.{none-some, slice_get_within}
+use Rattle.std.proofs.lemmas.List.Elements.{All-nil}
 use Rattle.common_lemmas.proofs.Places.{slice_get-inside}
-use Rattle.common_lemmas.proofs.Elements.{All-at}
+use Rattle.common_lemmas.proofs.Elements.{All-at, one_more}
 use Rattle.plain_tables.specs.Tables.{Table, Row, has_key_of}
 use Rattle.plain_tables.specs.Databases.{Database}
 use Rattle.plain_tables.specs.Doing.{done}
@@ -33,32 +34,17 @@ use Rattle.mm_catalog.specs.Cells.{IsCellOf, NamesNone, AreCellsOf, SomeNamesNon
 use Rattle.mm_catalog.proofs.Tables.{database-get}
 use Rattle.mm_catalog.proofs.Declared.{among_at}
 use Rattle.mm_catalog.proofs.Referenced.{key_shown, no_key_shown, some_column, target_here, reference_held, reference_missing}
+use Rattle.mm_catalog.proofs.Anywhere.{all_pass, not_all_pass}
+use Rattle.mm_catalog.proofs.Lists.{get-zip}
+use Rattle.mm_catalog.proofs.LinksHeld.{Contains-at, Contains-filter_map}
 
 -- ---- the references of a row
 
-pub held_all : (tables : Database) (columns : List Column) (row : Row) → ((k : ℕ) (column : Column) (v : Value) (ref : Reference) → slice_get columns k ≡ Some column → slice_get row k ≡ Some v → reference_of column v ≡ Some ref → is_held tables ref ≡ true) → list_all (is_held tables) (references columns row) ≡ true
-held_all tables [] row each = refl
-held_all tables (column ∷ columns) [] each = refl
-held_all tables (column ∷ columns) (v ∷ row) each =
-    let rest = held_all tables columns row (λ k. each (suc k)) in
-    elim (reference_of column v) as (λ o. reference_of column v ≡ o → list_all (is_held tables) (cons_option o (references columns row)) ≡ true) [
-      | None ↦ λ e. rest
-      | Some ref ↦ λ e. and_from (is_held tables ref) (list_all (is_held tables) (references columns row)) (each 0 column v ref refl refl e) rest
-    ] refl
-
-one_missing : (tables : Database) (columns : List Column) (row : Row) (k : ℕ) (column : Column) (v : Value) (ref : Reference) → slice_get columns k ≡ Some column → slice_get row k ≡ Some v → reference_of column v ≡ Some ref → is_held tables ref ≡ false → list_all (is_held tables) (references columns row) ≡ false
-one_missing tables [] row k column v ref at there e missing = absurd (none-some column at)
-one_missing tables (d ∷ columns) [] k column v ref at there e missing = absurd (none-some v there)
-one_missing tables (d ∷ columns) (w ∷ row) zero column v ref at there e missing =
-    let here : reference_of d w ≡ Some ref = (λ i. reference_of (same_Some d column at i) (same_Some w v there i)) ∙ e in
-    ap (λ o. list_all (is_held tables) (cons_option o (references columns row))) here
-    ∙ and_left (is_held tables ref) (list_all (is_held tables) (references columns row)) missing
-one_missing tables (d ∷ columns) (w ∷ row) (suc k) column v ref at there e missing =
-    let rest = one_missing tables columns row k column v ref at there e missing in
-    elim (reference_of d w) as (λ o. list_all (is_held tables) (cons_option o (references columns row)) ≡ false) [
-      | None ↦ rest
-      | Some other ↦ and_right (is_held tables other) (list_all (is_held tables) (references columns row)) rest
-    ]
+each_reference : (P : Reference → Type 0) (columns : List Column) (row : Row) → ((k : ℕ) (column : Column) (v : Value) (ref : Reference) → slice_get columns k ≡ Some column → slice_get row k ≡ Some v → reference_of column v ≡ Some ref → P ref) → All P (references columns row)
+each_reference P [] row each = All-nil P
+each_reference P (column ∷ columns) [] each = All-nil P
+each_reference P (column ∷ columns) (v ∷ row) each =
+    one_more P (reference_of column v) (references columns row) (λ ref. each 0 column v ref refl refl) (each_reference P columns row (λ k. each (suc k)))
 
 pub refers_none : (k : ColKind) → IsSome (own_type k) → referred k ≡ None
 refers_none kind.Int some = refl
@@ -92,7 +78,7 @@ module _ (c : CatalogState) (ok : IsConsistent c) (n : TableNumber) (s : Relatio
     values = key ∷ rest
 
     references_held : (cells : List Cell) → AreCellsOf (take n.0 c.relations) s.targets rest cells → list_all (is_held db) (references s.schema.columns values) ≡ true
-    references_held cells are = held_all db s.schema.columns values each
+    references_held cells are = all_pass (is_held db) (references s.schema.columns values) (each_reference (λ ref. is_held db ref ≡ true) s.schema.columns values each)
       where
         each : (k : ℕ) (column : Column) (v : Value) (ref : Reference) → slice_get s.schema.columns k ≡ Some column → slice_get values k ≡ Some v → reference_of column v ≡ Some ref → is_held db ref ≡ true
         each zero column v ref at e f = absurd (none-some ref (sym (no_reference column v (key_column column at)) ∙ f))
@@ -109,7 +95,9 @@ module _ (c : CatalogState) (ok : IsConsistent c) (n : TableNumber) (s : Relatio
         let next : k + 1 ≡ suc k = omega arith in
         let target : target_at s.targets (k + 1) ≡ target_of c.names column.0 = ap (target_at s.targets) next ∙ target_here c ok n.0 s there (suc k) column.0 column.1 v in
         let missing = reference_missing c ok n.0 s there (suc k) column.0 column.1 v (subst (λ o. NamesNone (take n.0 c.relations) o v) target none) in
-        one_missing db s.schema.columns values (suc k) column.0 v missing.0 column.1 at missing.1 missing.2
+        let there : Contains (zip s.schema.columns values) (column.0, v) = Contains-at (zip s.schema.columns values) (suc k) (column.0, v) (get-zip s.schema.columns values (suc k) column.0 v column.1 at) in
+        not_all_pass (is_held db) (references s.schema.columns values) missing.0
+        (Contains-filter_map (λ (cell : Column × Value). reference_of cell.0 cell.1) (zip s.schema.columns values) (column.0, v) missing.0 there missing.1) missing.2
 
     -- ---- the effect
 

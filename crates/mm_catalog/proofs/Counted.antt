@@ -1,14 +1,15 @@
 -- Relations whose rows are counted anew, one link after another.
-use Rattle.std.proofs.Common.{◌≡◌, ◌≢◌, ℕ, zero, suc, ◌<◌, ◌≤◌, ◌+◌, ◌-◌, ◌*◌, Bool, true, false, cond, List, [], ◌∷◌, ◌++◌, Option, Some, None, IsSome, is_some, refl, sym, ap, ◌∙◌, subst, arith, length, length-set, set, eqb, add-zero, zero-add, inl, inr}
+use Rattle.std.proofs.Common.{◌≡◌, ◌≢◌, ℕ, zero, suc, ◌<◌, ◌≤◌, ◌+◌, ◌-◌, ◌*◌, true, false, cond, List, [], ◌∷◌, ◌++◌, Option, Some, None, IsSome, is_some, refl, sym, ap, ◌∙◌, subst, arith, length, length-set, set, eqb, add-zero, zero-add, inl, inr}
 use Rattle.std.specs.List.{All, slice_get, range_with_len, filter_map, cons_option}
 use Rattle.std.specs.Option.{option_map}
 use Rattle.std.specs.Ordering.{is_eq}
 use Rattle.std.specs.FinMap as finite
 use Rattle.std.proofs.lemmas.Bool.{cases_eq, cases_lt, eq-eqb, ne_eqb, and_from, and_left, and_right}
-use Rattle.std.proofs.lemmas.List.Elements.{All-set, All-weaker, filter_map-append}
+use Rattle.std.proofs.lemmas.List.Elements.{All-set, All-weaker, filter_map-append, All-contains}
 use Rattle.std.proofs.lemmas.List.Sums.{sum_by-append, sum_by-cons}
 use Rattle.std.proofs.lemmas.Option.{same_Some, slice_get_within}
 use Rattle.common_lemmas.proofs.Places.{slice_get-inside, slice_get_set, slice_get-set_other}
+use Rattle.lin_hash.proofs.Placed.{one_if}
 use Rattle.part_raw.specs.declared.tuple_ref.TupleRef.{TupleRef}
 use Rattle.part_raw.specs.TupleRefs.{ref_cmp}
 use Rattle.part_raw.specs.Store.{Tuples}
@@ -20,6 +21,7 @@ use Rattle.mm_relation.specs.State.{RelationState, IsKept}
 use Rattle.mm_catalog.specs.Linked.{Linked, link_at, row_links, is_link_to}
 use Rattle.mm_catalog.specs.Recounted.{IsRecounted, AreRecounted, HaveReferrers}
 use Rattle.mm_catalog.specs.Counted.{IsHeldIn, HaveRoom, HaveAtLeast, AreCountedBy, naming, none}
+use Rattle.mm_catalog.proofs.LinksHeld.{Contains-filter_map, Contains-range}
 
 -- ---- what is recounted
 
@@ -107,10 +109,6 @@ pub all_held_still : (old new : List RelationState) (links : List Linked) → Ar
 all_held_still old new links h all = All-weaker (IsHeldIn old) (IsHeldIn new) (λ link. held_still old new link h) links all
 
 -- ---- how often links name a row
-
--- one where a test passes
-abbrev pub one_if : Bool → ℕ
-one_if b = cond b 1 0
 
 pub naming-append : (xs ys : List Linked) (table : ℕ) (r : TupleRef) → naming (xs ++ ys) table r ≡ naming xs table r + naming ys table r
 naming-append xs ys table r = sum_by-append (λ l. cond (is_link_to table r l) 1 0) xs ys
@@ -307,25 +305,10 @@ module _ (targets : List (Option ℕ)) (row : Row) where
   ]
 
   -- a link in a column is one of the row's
-  link_among : (P : Linked → Type 0) (a n k : ℕ) (link : Linked) → All P (filter_map (link_at targets row) (range_with_len a n)) → a ≤ k → k < a + n → link_at targets row k ≡ Some link → P link
-  link_among P a zero k link all above below e = absurd (omega arith)
-  link_among P a (suc n) k link all above below e =
-      elim (cases_eq k a) [
-        | inl here ↦
-            let first : link_at targets row a ≡ Some link = ap (link_at targets row) (sym here) ∙ e in
-            let listed : All P (link ∷ filter_map (link_at targets row) (range_with_len (a + 1) n)) = subst (λ o. All P (cons_option o (filter_map (link_at targets row) (range_with_len (a + 1) n)))) first all in
-            listed 0 link (omega arith)
-        | inr other ↦
-            link_among P (a + 1) n k link (behind (link_at targets row a) all) (omega (arith, other)) (omega arith) e
-      ]
-    where
-      behind : (o : Option Linked) → All P (cons_option o (filter_map (link_at targets row) (range_with_len (a + 1) n))) → All P (filter_map (link_at targets row) (range_with_len (a + 1) n))
-      behind None all = all
-      behind (Some x) all = λ k d l. all (suc k) d (omega arith)
-
   pub link_of_row : (P : Linked → Type 0) (k : ℕ) (link : Linked) → All P (row_links targets row) → k < length targets → link_at targets row k ≡ Some link → P link
   unfolding row_links
-  link_of_row P k link all within e = link_among P 0 (length targets) k link all (omega arith) (omega arith) e
+  link_of_row P k link all within e =
+      All-contains P (row_links targets row) link all (Contains-filter_map (link_at targets row) (range_with_len 0 (length targets)) k link (Contains-range (length targets) k within) e)
 
   -- those of all columns are the row's
   pub naming_row : (n : ℕ) → n ≡ length targets → (table : ℕ) (r : TupleRef) → naming (first_links n) table r ≡ naming (row_links targets row) table r

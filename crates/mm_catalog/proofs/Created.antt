@@ -19,7 +19,7 @@ use Rattle.common_lemmas.proofs.Places.{zip-push, slice_get-front, slice_get-las
 use Rattle.part_raw.specs.TupleRefs.{ref_cmp}
 use Rattle.part_raw.specs.declared.tuple_ref.TupleRef.{TupleRef}
 use Rattle.plain_tables.specs.Tables.{Table}
-use Rattle.plain_tables.specs.Databases.{Database, is_named, table_named}
+use Rattle.plain_tables.specs.Databases.{is_named, table_named}
 use Rattle.plain_tables.specs.Effects.{new_table}
 use Rattle.plain_tables.specs.References.{referred, IsSound}
 use Rattle.plain_tables.specs.declared.schema.Column.{Column}
@@ -39,12 +39,8 @@ use Rattle.mm_catalog.proofs.Lists.{map-zip}
 use Rattle.mm_catalog.proofs.Outlines.{keys_before}
 use Rattle.mm_catalog.proofs.Back.{RefersInto, names-database, refers_before, target_there, lead_back}
 use Rattle.mm_catalog.proofs.Finding.{is_some-find, found-front, position-found}
+use Rattle.plain_tables.proofs.ReferLemmas.{refers_as}
 use Rattle.plain_tables.proofs.SoundLemmas.{done_keeps_sound}
-
--- what a column may refer to, where it may
-refers-more : (found : Option (List ℕ)) (front tables : Database) → ((name : List ℕ) → is_some (table_named name front) ≡ true → is_some (table_named name tables) ≡ true) → option_map_or (λ name. is_some (table_named name front)) found true ≡ true → option_map_or (λ name. is_some (table_named name tables)) found true ≡ true
-refers-more None front tables more h = refl
-refers-more (Some name) front tables more h = more name h
 
 found_within : (names : List (List ℕ)) (found : Option (List ℕ)) (t : ℕ) → option_and_then (λ name. position (λ n. bytes_eq n name) names) found ≡ Some t → t < length names
 found_within names None t e = absurd (none-some t e)
@@ -83,7 +79,7 @@ module _ (c : CatalogState) (ok : IsConsistent c) where
       ∙ ap (λ ts. target_of (c.names ++ more) x ∷ ts) (targets-more more xs (λ k d l. h (suc k) d (omega arith)))
 
   refers_there : (n : ℕ) (s : RelationState) → slice_get c.relations n ≡ Some s → All (RefersInto (database_of c)) s.schema.columns
-  refers_there n s there = λ k d l. refers-more (referred (get_or s.schema.columns k d).kind) (take n (database_of c)) (database_of c) (λ name. found-front (is_named name) (database_of c) n) (refers_before c ok n s there k d l)
+  refers_there n s there = λ k d l. refers_as (referred (get_or s.schema.columns k d).kind) (take n (database_of c)) (database_of c) (λ name. found-front (is_named name) (database_of c) n) (refers_before c ok n s there k d l)
 
   module _ (name : List ℕ) (schema : Schema) where
     abbrev new : RelationState

@@ -5,12 +5,13 @@ use Rattle.std.specs.Option.{option_map}
 use Rattle.std.specs.Prelude.{Result, Ok, Err, OnOk, OnErr}
 use Rattle.std.specs.FinMap as finite
 use Rattle.std.proofs.Math.Seq.{map-set_same}
-use Rattle.std.proofs.lemmas.Bool.{and_parts, eqb-true, cases_eq}
+use Rattle.std.proofs.lemmas.Bool.{and_parts, eqb-true, cases_eq, false_from_ne_true}
 use Rattle.std.proofs.lemmas.List.{map-append}
 use Rattle.std.proofs.lemmas.List.Elements.{All-set}
 use Rattle.std.proofs.lemmas.Option.{slice_get-map, slice_get_within, get_or_from_slice_get, same_Some, none-some}
 use Rattle.common_lemmas.proofs.Places.{slice_get-inside, slice_get_set, slice_get-set_other}
 use Rattle.common_lemmas.proofs.Elements.{All-at}
+use Rattle.common_lemmas.proofs.Filters.{filter_all}
 use Rattle.part_raw.specs.declared.tuple_ref.TupleRef.{TupleRef}
 use Rattle.plain_tables.specs.Tables.{Table}
 use Rattle.plain_tables.specs.Databases.{Database}
@@ -221,9 +222,8 @@ same_kind Hash Hash = refl
 
 kind_exact : (k l : IndexKind) → plain.is_kind k l ≡ true → l ≡ k
 kind_exact Tree Tree e = refl
-kind_exact Tree Hash e = cc
-kind_exact Hash Tree e = cc
 kind_exact Hash Hash e = refl
+kind_exact j k e = cc
 
 index_exact : (column : ColumnNumber) (k : IndexKind) (a b : ℕ × IndexKind) → plain.is_index column k a ≡ true → plain.is_index column k b ≡ true → a ≡ b
 index_exact column k a b e f =
@@ -234,22 +234,14 @@ index_exact column k a b e f =
     λ i. (left i, right i)
 
 -- where just one element can pass, the list without the first that does is the list of those that don't
-none_passes : {A : Type 0} (p : A → Bool) (xs : List A) → ((j : ℕ) (d : A) → j < length xs → p (get_or xs j d) ≡ false) → xs ≡ filter (λ x. not (p x)) xs
-none_passes p [] none = refl
-none_passes p (x ∷ xs) none = rw (none 0 x (omega arith)) (ap (λ ys. x ∷ ys) (none_passes p xs (λ j d l. none (suc j) d (omega arith))))
-
 pub without_apart : {A : Type 0} (p : A → Bool) (xs : List A) → ((a b : A) → p a ≡ true → p b ≡ true → a ≡ b) → AllPairs (λ a b. a ≢ b) xs → without_first p xs ≡ filter (λ x. not (p x)) xs
 without_apart p [] exact apart = refl
 without_apart p (x ∷ xs) exact apart =
     let rest = without_apart p xs exact (λ i j d l w. apart (suc i) (suc j) d (omega arith) (omega arith)) in
     elim (p x) as (λ b. p x ≡ b → cond b xs (x ∷ without_first p xs) ≡ cond (not b) (x ∷ filter (λ y. not (p y)) xs) (filter (λ y. not (p y)) xs)) [
-      | true ↦ λ e. none_passes p xs (λ j d l. fails (p (get_or xs j d)) (λ f. apart 0 (suc j) d (omega arith) (omega arith) (exact x (get_or xs j d) e f)))
+      | true ↦ λ e. sym (filter_all (λ y. not (p y)) xs (λ j d l. ap not (false_from_ne_true (p (get_or xs j d)) (λ f. apart 0 (suc j) d (omega arith) (omega arith) (exact x (get_or xs j d) e f)))))
       | false ↦ λ e. ap (λ ys. x ∷ ys) rest
     ] refl
-  where
-    fails : (b : Bool) → (b ≡ true → ⊥) → b ≡ false
-    fails true h = absurd (h refl)
-    fails false h = refl
 
 module _ (c : CatalogState) (ok : IsConsistent c) (n : TableNumber) (column : ColumnNumber) (k : IndexKind) (relations : List RelationState) where
   pub left_undeclared : IsMeant c.limits (database_of c) (resolved.DropIndex n column k) → IsChangedAt c.relations relations n.0 (λ old new. new ≡ without_index old (declaration column k)) → IsLeft c relations (resolved.DropIndex n column k)

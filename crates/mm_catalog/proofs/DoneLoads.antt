@@ -1,13 +1,13 @@
 -- A load that is done leaves the same whatever the order of its rows.
-use Rattle.std.proofs.Common.{◌≡◌, ℕ, suc, ◌+◌, ◌<◌, ◌≤◌, Bool, true, false, List, [], ◌∷◌, Some, refl, sym, ap, ◌∙◌, subst, arith, length, set, get_or, inl, inr}
+use Rattle.std.proofs.Common.{◌≡◌, ℕ, ◌+◌, ◌<◌, ◌≤◌, true, false, List, [], ◌∷◌, Some, refl, sym, ap, ◌∙◌, subst, arith, length, set, get_or, inl, inr}
 use Rattle.std.specs.Prelude.{Result, Ok, Err}
-use Rattle.std.specs.List.{All, AllZip, count_by, filter, list_all, slice_get}
+use Rattle.std.specs.List.{All, AllZip, count_by, list_all, slice_get}
 use Rattle.std.specs.List.Sorted.{IsPermutation}
-use Rattle.std.specs.Ordering.{is_eq, is_lt, ordering_reverse}
+use Rattle.std.specs.Ordering.{is_eq, ordering_reverse}
 use Rattle.std.specs.Str.{bytes_eq}
-use Rattle.std.proofs.lemmas.Bool.{and_from, both_ways, cases_Bool, leb-false, not-false, or_parts}
-use Rattle.std.proofs.lemmas.List.{length-append, set-set}
-use Rattle.std.proofs.lemmas.List.Elements.{All-contains, All-contains_itself, All-cons, All-head, All-nil, All-tail, All-weaker}
+use Rattle.std.proofs.lemmas.Bool.{both_ways, cases_Bool, leb-false, not-false}
+use Rattle.std.proofs.lemmas.List.{set-set}
+use Rattle.std.proofs.lemmas.List.Elements.{All-contains, All-contains_itself, All-cons, All-nil, All-weaker}
 use Rattle.std.proofs.lemmas.List.Folds.{list_any_none}
 use Rattle.std.proofs.lemmas.List.Sorted.{IsPermutation-sym}
 use Rattle.std.proofs.lemmas.List.Sums.{sum_by-cons}
@@ -29,39 +29,12 @@ use Rattle.plain_tables.specs.declared.refusal.Refusal.{Refusal}
 use Rattle.plain_tables.proofs.EffectLemmas.{goes_on_parts, insert_satisfies}
 use Rattle.plain_tables.proofs.HeldLemmas.{KeepsKey, keeps_itself, held_stays}
 use Rattle.plain_tables.proofs.ReferLemmas.{RefersElsewhere, references_elsewhere}
-use Rattle.plain_tables.proofs.RowLemmas.{key_cmp_total, key_cmp-one_way, apart_by_key}
+use Rattle.plain_tables.proofs.RowLemmas.{key_cmp_total, with_row-rises}
+use Rattle.plain_tables.proofs.TakenLemmas.{one_row_more}
 use Rattle.mm_catalog.proofs.AnyOrder.{has_key, AllHeld, AllNew, other_with, member_with, load_in_any_order}
-
--- ---- lists
-
-all_pass : {X : Type 0} (p : X → Bool) (xs : List X) → All (λ x. p x ≡ true) xs → list_all p xs ≡ true
-all_pass p [] all = refl
-all_pass p (x ∷ xs) all = and_from (p x) (list_all p xs) (All-head (λ y. p y ≡ true) x xs all) (all_pass p xs (All-tail (λ y. p y ≡ true) x xs all))
-
-none_counted : (test : Row → Bool) (rows : List Row) → All (λ r. test r ≡ false) rows → count_by test rows ≡ 0
-none_counted test [] h = refl
-none_counted test (row ∷ rows) h =
-    let here : one test row ≡ 0 = rw (All-head (λ r. test r ≡ false) row rows h) refl in
-    omega (arith, sum_by-cons (one test) row rows, here, none_counted test rows (All-tail (λ r. test r ≡ false) row rows h))
+use Rattle.mm_catalog.proofs.Anywhere.{all_pass, none_counted}
 
 -- ---- a table with a row of a new key more
-
--- it has one row more
-one_more : (row : Row) (rows : List Row) → has_key_of row rows ≡ false → length (with_row row rows) ≡ suc (length rows)
-one_more row rows fresh =
-    let both = apart_length row rows fresh in
-    rw length-append (omega (arith, both))
-  where
-    apart_length : (row : Row) (rows : List Row) → has_key_of row rows ≡ false
-        → length (filter (λ r. is_lt (key_cmp r row)) rows) + length (filter (λ r. is_lt (key_cmp row r)) rows) ≡ length rows
-    apart_length row [] fresh = refl
-    apart_length row (r ∷ rows) fresh =
-        let parts = or_parts (is_eq (key_cmp r row)) (has_key_of row rows) fresh in
-        let rest = apart_length row rows parts.1 in
-        elim (apart_by_key (key_cmp r row) r row refl parts.0) [
-          | inl below ↦ rw (below, key_cmp-one_way r row below) (omega (arith, rest))
-          | inr above ↦ rw (key_cmp-one_way row r above, above) (omega (arith, rest))
-        ]
 
 -- rows that are new beside it are new without it, and none has its key
 module _ (most : ℕ) (row : Row) (held rows : List Row) (fresh : has_key_of row held ≡ false) (new : AllNew most (with_row row held) rows) where
@@ -85,9 +58,9 @@ module _ (most : ℕ) (row : Row) (held rows : List Row) (fresh : has_key_of row
       (λ r other. ap is_eq (key_cmp_total.antisymm r key ∙ ap ordering_reverse (sym (key_cmp_total.congr row key r (is_eq-Equal (key_cmp row key) same)))) ∙ is_eq-reverse (key_cmp row r) ∙ other)
       rows others_apart
 
-  pub with_first : length (with_row row held) ≤ most → AllNew most held (row ∷ rows)
-  with_first few = record {
-    room = omega (arith, new.room, one_more row held fresh);
+  pub with_first : AreRising held → length (with_row row held) ≤ most → AllNew most held (row ∷ rows)
+  with_first rise few = record {
+    room = omega (arith, new.room, one_row_more row held rise fresh);
     apart = λ key.
         let all : count_by (has_key key) (row ∷ rows) ≡ one (has_key key) row + count_by (has_key key) rows = sum_by-cons (one (has_key key)) row rows in
         elim (cases_Bool (has_key key row)) [
@@ -129,10 +102,10 @@ module _ (limits : Limits) (n : TableNumber) where
   Come tables table rows = AllHeld tables table.columns rows × AllNew limits.rows table.rows rows
 
   come_next : (tables : Database) (table : Table) (k : ℕ) (row : Row) (rows : List Row) (first : Database) → slice_get tables n.0 ≡ Some table
-      → RefersElsewhere table.name table → with_record limits tables n k row ≡ Ok first
+      → RefersElsewhere table.name table → AreRising table.rows → with_record limits tables n k row ≡ Ok first
       → ((mid : Table) → mid ≡ grown_by row table → slice_get first n.0 ≡ Some mid → length mid.rows ≤ limits.rows → Come first mid rows)
       → Come tables table (row ∷ rows)
-  come_next tables table k row rows first there elsewhere is later =
+  come_next tables table k row rows first there elsewhere rise is later =
       insert_satisfies (λ e. left_with k e.database e.outcome ≡ Ok first → Come tables table (row ∷ rows)) limits tables n row
       (λ why h. absurd (not_Ok (in_record k why) first h))
       (λ found at passed h.
@@ -143,24 +116,25 @@ module _ (limits : Limits) (n : TableNumber) where
       let fresh : has_key_of row table.rows ≡ false = subst (λ (t : Table). has_key_of row t.rows ≡ false) same passed.0 in
       let names : list_all (is_held tables) (references table.columns row) ≡ true = subst (λ (t : Table). list_all (is_held tables) (references t.columns row) ≡ true) same (not-false _ passed.1.0) in
       let under : length table.rows < limits.rows = subst (λ (t : Table). length t.rows < limits.rows) same (leb-false limits.rows (length found.rows) passed.1.1.0) in
-      let few : length (with_row row table.rows) ≤ limits.rows = omega (arith, under, one_more row table.rows fresh) in
+      let few : length (with_row row table.rows) ≤ limits.rows = omega (arith, under, one_row_more row table.rows rise fresh) in
       let here : slice_get first n.0 ≡ Some grown = ap (λ d. slice_get d n.0) left ∙ slice_get_set tables n.0 grown (slice_get_within tables n.0 table there) in
       let (held, new) = later grown refl here few in (
         All-cons (λ r. list_all (is_held tables) (references table.columns r) ≡ true) row rows names
             (all_held_before tables table row there elsewhere rows (subst (λ d. AllHeld d table.columns rows) left held)),
-        with_first limits.rows row table.rows rows fresh new few,
+        with_first limits.rows row table.rows rows fresh new rise few,
       )) is
 
   all_come : (tables : Database) (table : Table) (k : ℕ) (rows : List Row) (new : Database) → slice_get tables n.0 ≡ Some table
-      → RefersElsewhere table.name table → length table.rows ≤ limits.rows → loaded limits tables n k rows ≡ Ok new → Come tables table rows
-  all_come tables table k [] new there elsewhere few all = (
+      → RefersElsewhere table.name table → AreRising table.rows → length table.rows ≤ limits.rows → loaded limits tables n k rows ≡ Ok new → Come tables table rows
+  all_come tables table k [] new there elsewhere rise few all = (
     All-nil (λ row. list_all (is_held tables) (references table.columns row) ≡ true),
     record { room = omega (arith, few); apart = λ key. omega arith; fresh = All-nil (λ row. has_key_of row table.rows ≡ false) },
   )
-  all_come tables table k (row ∷ rows) new there elsewhere few all =
+  all_come tables table k (row ∷ rows) new there elsewhere rise few all =
       let (first, one, others) = goes_on_parts (λ d. loaded limits d n (k + 1) rows) (with_record limits tables n k row) new all in
-      come_next tables table k row rows first there elsewhere one
-      (λ mid same here room. all_come first mid (k + 1) rows new here (subst (λ (t : Table). RefersElsewhere t.name t) (sym same) elsewhere) room others)
+      come_next tables table k row rows first there elsewhere rise one
+      (λ mid same here room. all_come first mid (k + 1) rows new here (subst (λ (t : Table). RefersElsewhere t.name t) (sym same) elsewhere)
+      (subst (λ (t : Table). AreRising t.rows) (sym same) (with_row-rises row table.rows rise)) room others)
 
   -- so a load that is done in an order is the same in another
   pub load_moved : (tables : Database) (table : Table) (rows others : List Row) (count : ℕ) → slice_get tables n.0 ≡ Some table
@@ -175,5 +149,5 @@ module _ (limits : Limits) (n : TableNumber) where
 
       by_answer : (answer : Result Database Refusal) → loaded limits tables n 1 others ≡ answer → (new : Database) × (answer ≡ Ok new) → load limits tables n others ≡ load limits tables n rows
       by_answer answer is (new, ok) =
-          let (held, all) = all_come tables table 1 others new there elsewhere few (is ∙ ok) in
+          let (held, all) = all_come tables table 1 others new there elsewhere rise few (is ∙ ok) in
           sym (load_in_any_order limits n tables table others rows there held rise all (IsPermutation-sym rows others moved))

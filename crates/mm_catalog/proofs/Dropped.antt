@@ -1,5 +1,5 @@
 -- A catalog of one table less, to which no column refers.
-use Rattle.std.proofs.Common.{◌≡◌, ◌≢◌, ℕ, zero, suc, ◌+◌, ◌-◌, ◌<◌, Bool, true, false, List, [], ◌∷◌, ◌++◌, Option, Some, None, IsSome, refl, sym, ap, ◌∙◌, subst, arith, length, map, get_or}
+use Rattle.std.proofs.Common.{◌≡◌, ◌≢◌, ℕ, zero, suc, ◌+◌, ◌-◌, ◌<◌, Bool, false, List, [], ◌∷◌, ◌++◌, Option, Some, None, IsSome, refl, sym, ap, ◌∙◌, subst, arith, length, map, get_or}
 use Rattle.std.specs.List.{All, slice_get, remove, list_any, position, zip, flat_map, count_by}
 use Rattle.std.specs.Option.{option_and_then, option_map, option_map_or}
 use Rattle.std.specs.Str.{bytes_eq}
@@ -8,12 +8,12 @@ use Rattle.std.proofs.lemmas.Bool.{true≢false, or_parts}
 use Rattle.std.proofs.lemmas.List.{length-map}
 use Rattle.std.proofs.lemmas.List.Edits.{length-remove}
 use Rattle.std.proofs.lemmas.List.Elements.{All-map}
-use Rattle.std.proofs.lemmas.List.Folds.{list_any_at}
 use Rattle.std.proofs.lemmas.List.Quantifiers.{position-Some}
 use Rattle.std.proofs.lemmas.Option.{none-some, slice_get-map, slice_get_within, slice_get-get_or, get_or_from_slice_get}
 use Rattle.common_lemmas.proofs.Places.{slice_get-inside}
 use Rattle.common_lemmas.proofs.Elements.{All-at}
 use Rattle.common_lemmas.proofs.Options.{option_map_some}
+use Rattle.common_lemmas.proofs.Tests.{fails_where_none}
 use Rattle.part_raw.specs.declared.tuple_ref.TupleRef.{TupleRef}
 use Rattle.plain_tables.specs.Tables.{Table}
 use Rattle.plain_tables.specs.References.{referred, refers_to, is_table_referenced, IsSound}
@@ -32,25 +32,24 @@ use Rattle.mm_catalog.proofs.Removing.{recounted_keys}
 use Rattle.mm_catalog.proofs.Gone.{moved_back, moved_back-other, moved_up-back, moved_up-injective, get-removed, position-remove}
 use Rattle.mm_catalog.proofs.Renumbered.{less_one, LeadElsewhere, target_at-map, keys_renumbered, kept_renumbered, current_renumbered, links_less_one, database-dropped}
 use Rattle.mm_catalog.proofs.Declared.{among_at}
+use Rattle.mm_catalog.proofs.Back.{has_name}
 
 -- ---- relations that are recounted
 
 same_flat : (xs ys : List RelationState) → length ys ≡ length xs → ((k : ℕ) (s t : RelationState) → slice_get xs k ≡ Some s → slice_get ys k ≡ Some t → relation_links t ≡ relation_links s) → flat_map relation_links ys ≡ flat_map relation_links xs
 same_flat [] [] e same = refl
-same_flat [] (y ∷ ys) e same = absurd (omega arith)
-same_flat (x ∷ xs) [] e same = absurd (omega arith)
 same_flat (x ∷ xs) (y ∷ ys) e same =
     ap (λ ls. ls ++ flat_map relation_links ys) (same 0 x y refl refl)
     ∙ ap (λ ls. relation_links x ++ ls) (same_flat xs ys (omega arith) (λ k. same (suc k)))
+same_flat xs ys e same = absurd (omega arith)
 
 pub same_zip : {A : Type 0} (f g : List ℕ × RelationState → A) (names : List (List ℕ)) (xs ys : List RelationState) → length ys ≡ length xs → ((k : ℕ) (name : List ℕ) (s t : RelationState) → slice_get xs k ≡ Some s → slice_get ys k ≡ Some t → g (name, t) ≡ f (name, s)) → map g (zip names ys) ≡ map f (zip names xs)
 same_zip f g [] xs ys e same = refl
 same_zip f g (name ∷ names) [] [] e same = refl
-same_zip f g (name ∷ names) [] (y ∷ ys) e same = absurd (omega arith)
-same_zip f g (name ∷ names) (x ∷ xs) [] e same = absurd (omega arith)
 same_zip f g (name ∷ names) (x ∷ xs) (y ∷ ys) e same =
     ap (λ z. z ∷ map g (zip names ys)) (same 0 name x y refl refl)
     ∙ ap (λ zs. f (name, x) ∷ zs) (same_zip f g names xs ys (omega arith) (λ k. same (suc k)))
+same_zip f g names xs ys e same = absurd (omega arith)
 
 module _ (c : CatalogState) (new : List RelationState) (h : AreRecounted c.relations new) where
   -- they have the same links, and show the same tables
@@ -79,27 +78,16 @@ module _ (c : CatalogState) (new : List RelationState) (h : AreRecounted c.relat
 
 -- ---- where links lead, once a table to which none lead is gone
 
--- where a test passes for none, it fails at each place
-fails_at : {A : Type 0} (p : A → Bool) (xs : List A) (k : ℕ) (x : A) → list_any p xs ≡ false → slice_get xs k ≡ Some x → p x ≡ false
-fails_at p xs k x none at =
-    elim (p x) as (λ b. p x ≡ b → b ≡ false) [
-      | true ↦ λ e. absurd (true≢false (sym (list_any_at p xs k x (slice_get_within xs k x at) (ap p (get_or_from_slice_get xs k x x at) ∙ e)) ∙ none))
-      | false ↦ λ e. refl
-    ] refl
-
-abbrev named : List ℕ → List ℕ → Bool
-named name other = bytes_eq other name
-
 -- a target, where the name that goes is not the one that is referred to
-found_less : (names : List (List ℕ)) (n : ℕ) (gone : List ℕ) (found : Option (List ℕ)) → slice_get names n ≡ Some gone → option_map_or (bytes_eq gone) found false ≡ false → option_and_then (λ name. position (named name) (remove names n)) found ≡ option_map (moved_up n) (option_and_then (λ name. position (named name) names) found)
+found_less : (names : List (List ℕ)) (n : ℕ) (gone : List ℕ) (found : Option (List ℕ)) → slice_get names n ≡ Some gone → option_map_or (bytes_eq gone) found false ≡ false → option_and_then (λ name. position (has_name name) (remove names n)) found ≡ option_map (moved_up n) (option_and_then (λ name. position (has_name name) names) found)
 found_less names n gone None at other = refl
-found_less names n gone (Some name) at other = position-remove (named name) names n gone at other
+found_less names n gone (Some name) at other = position-remove (has_name name) names n gone at other
 
-found_elsewhere : (names : List (List ℕ)) (n : ℕ) (gone : List ℕ) (found : Option (List ℕ)) → slice_get names n ≡ Some gone → option_map_or (bytes_eq gone) found false ≡ false → (t : ℕ) → option_and_then (λ name. position (named name) names) found ≡ Some t → t ≢ n
+found_elsewhere : (names : List (List ℕ)) (n : ℕ) (gone : List ℕ) (found : Option (List ℕ)) → slice_get names n ≡ Some gone → option_map_or (bytes_eq gone) found false ≡ false → (t : ℕ) → option_and_then (λ name. position (has_name name) names) found ≡ Some t → t ≢ n
 found_elsewhere names n gone None at other t e same = none-some t e
 found_elsewhere names n gone (Some name) at other t e same =
-    let first = position-Some (named name) names t gone e in
-    true≢false (sym first.1 ∙ ap (λ k. named name (get_or names k gone)) same ∙ ap (named name) (get_or_from_slice_get names n gone gone at) ∙ other)
+    let first = position-Some (has_name name) names t gone e in
+    true≢false (sym first.1 ∙ ap (λ k. has_name name (get_or names k gone)) same ∙ ap (has_name name) (get_or_from_slice_get names n gone gone at) ∙ other)
 
 targets_less : (names : List (List ℕ)) (n : ℕ) (gone : List ℕ) (columns : List Column) → slice_get names n ≡ Some gone → list_any (refers_to gone) columns ≡ false → map (target_of (remove names n)) columns ≡ map (option_map (moved_up n)) (map (target_of names) columns)
 targets_less names n gone [] at none = refl
@@ -124,12 +112,13 @@ module _ (c : CatalogState) (ok : IsConsistent c) (n : ℕ) (gone : List ℕ) (c
   unfolding table_of
   none_refer k s there =
       let name = slice_get-inside c.names k (omega (arith, ok.named, slice_get_within c.relations k s there)) in
-      fails_at (λ (t : Table). list_any (refers_to gone) t.columns) (database_of c) k (table_of c.relations name.0 s) unreferred (database-get c ok.named k name.0 s name.1 there)
+      All-at (λ (t : Table). list_any (refers_to gone) t.columns ≡ false) (database_of c) k (table_of c.relations name.0 s)
+      (fails_where_none (λ (t : Table). list_any (refers_to gone) t.columns) (database_of c) unreferred) (database-get c ok.named k name.0 s name.1 there)
 
   elsewhere : (k : ℕ) (s : RelationState) → slice_get c.relations k ≡ Some s → LeadElsewhere s.targets n
   elsewhere k s there column t e =
       let col = target_there c.names s.schema.columns column t (subst (λ targets. target_at targets column ≡ Some t) (among_at c ok k s there).targets e) in
-      found_elsewhere c.names n gone (referred col.0.kind) called (fails_at (refers_to gone) s.schema.columns column col.0 (none_refer k s there) col.1) t col.2
+      found_elsewhere c.names n gone (referred col.0.kind) called (All-at (λ x. refers_to gone x ≡ false) s.schema.columns column col.0 (fails_where_none (refers_to gone) s.schema.columns (none_refer k s there)) col.1) t col.2
 
   -- its rows' links are no more counted
   module _ (counted : List RelationState) (s : RelationState) (there : slice_get c.relations n ≡ Some s) (h : AreRecounted c.relations counted) (kept : All IsKept counted) (fewer : (k : ℕ) (t : RelationState) (r : TupleRef) (row : Row) → k ≢ n → slice_get counted k ≡ Some t → finite.get t.rows r ≡ Some row → row.referrers ≡ links_to c.relations k r - count_by (is_link_to k r) (relation_links s)) where

@@ -39,11 +39,9 @@ use Rattle.mm_catalog.proofs.Dropped.{database_left, consistent_left}
 -- what stands behind a list of as many elements as are left out
 get-past : {A : Type 0} (xs ys : List A) (n k : ℕ) → length xs ≡ n → n ≤ k → slice_get (xs ++ drop n ys) k ≡ slice_get ys k
 get-past [] ys zero k e h = refl
-get-past [] ys (suc n) k e h = absurd (omega arith)
-get-past (x ∷ xs) ys zero k e h = absurd (omega arith)
-get-past (x ∷ xs) ys (suc n) zero e h = absurd (omega arith)
 get-past (x ∷ xs) [] (suc n) (suc k) e h = slice_get_past (xs ++ []) k (omega (arith, length-append xs []))
 get-past (x ∷ xs) (y ∷ ys) (suc n) (suc k) e h = get-past xs ys n k (omega arith) (omega arith)
+get-past xs ys n k e h = absurd (omega arith)
 
 get-taken : {A : Type 0} (xs : List A) (n k : ℕ) (x : A) → slice_get (take n xs) k ≡ Some x → (k < n) × (slice_get xs k ≡ Some x)
 get-taken xs n k x at =

@@ -34,24 +34,20 @@ use Rattle.mm_catalog.proofs.Recounting.{row_before, key_recounted, current_reco
 use Rattle.mm_catalog.proofs.LinksHeld.{link_there, link_held, link_counted}
 use Rattle.mm_catalog.proofs.Declared.{among_at}
 use Rattle.mm_catalog.proofs.Counted.{IsRecounted-refl}
+use Rattle.mm_catalog.proofs.Anywhere.{none_counted}
+use Rattle.mm_catalog.proofs.RowLinks.{each_link, link_parts}
 
 -- ---- the relations put together again
 
 get_here : {A : Type 0} (before xs : List A) (n : ℕ) (a : A) → length before ≡ n → n < length xs → slice_get (before ++ set (drop n xs) 0 a) n ≡ Some a
-get_here before [] n a e l = absurd (omega arith)
 get_here [] (x ∷ xs) zero a e l = refl
-get_here [] (x ∷ xs) (suc n) a e l = absurd (omega arith)
-get_here (y ∷ before) (x ∷ xs) zero a e l = absurd (omega arith)
 get_here (y ∷ before) (x ∷ xs) (suc n) a e l = get_here before xs n a (omega arith) (omega arith)
+get_here before xs n a e l = absurd (omega arith)
 
 get_behind : {A : Type 0} (before xs : List A) (n k : ℕ) (a : A) → length before ≡ n → n < length xs → n < k → slice_get (before ++ set (drop n xs) 0 a) k ≡ slice_get xs k
-get_behind before [] n k a e l m = absurd (omega arith)
-get_behind [] (x ∷ xs) zero zero a e l m = absurd (omega arith)
 get_behind [] (x ∷ xs) zero (suc k) a e l m = refl
-get_behind [] (x ∷ xs) (suc n) k a e l m = absurd (omega arith)
-get_behind (y ∷ before) (x ∷ xs) zero k a e l m = absurd (omega arith)
-get_behind (y ∷ before) (x ∷ xs) (suc n) zero a e l m = absurd (omega arith)
 get_behind (y ∷ before) (x ∷ xs) (suc n) (suc k) a e l m = get_behind before xs n k a (omega arith) (omega arith) (omega arith)
+get_behind before xs n k a e l m = absurd (omega arith)
 
 length-joined : {A : Type 0} (before xs : List A) (n : ℕ) (a : A) → length before ≡ n → n < length xs → length (before ++ set (drop n xs) 0 a) ≡ length xs
 length-joined before xs n a e l =
@@ -90,10 +86,9 @@ kept_from c ok n before a front kept =
 map-zip-all : {A B C : Type 0} (f g : A × B → C) (xs : List A) (ys zs : List B) → length zs ≡ length ys → ((i : ℕ) (a : A) (b d : B) → slice_get xs i ≡ Some a → slice_get ys i ≡ Some b → slice_get zs i ≡ Some d → g (a, d) ≡ f (a, b)) → map g (zip xs zs) ≡ map f (zip xs ys)
 map-zip-all f g [] ys zs e same = refl
 map-zip-all f g (a ∷ xs) [] [] e same = refl
-map-zip-all f g (a ∷ xs) [] (d ∷ zs) e same = absurd (omega arith)
-map-zip-all f g (a ∷ xs) (b ∷ ys) [] e same = absurd (omega arith)
 map-zip-all f g (a ∷ xs) (b ∷ ys) (d ∷ zs) e same =
     ap (λ z. z ∷ map g (zip xs zs)) (same 0 a b d refl refl refl) ∙ ap (λ all. f (a, b) ∷ all) (map-zip-all f g xs ys zs (omega arith) (λ i. same (suc i)))
+map-zip-all f g xs ys zs e same = absurd (omega arith)
 
 map-zip-other : {A B C : Type 0} (f g : A × B → C) (xs : List A) (ys zs : List B) (n : ℕ) (x : A) (z : B) → length xs ≡ length ys → length zs ≡ length ys → slice_get xs n ≡ Some x → slice_get zs n ≡ Some z → ((i : ℕ) (a : A) (b d : B) → i ≢ n → slice_get xs i ≡ Some a → slice_get ys i ≡ Some b → slice_get zs i ≡ Some d → g (a, d) ≡ f (a, b)) → map g (zip xs zs) ≡ set (map f (zip xs ys)) n (g (x, z))
 map-zip-other f g [] ys zs n x z e l at here same = absurd (none-some x at)
@@ -120,10 +115,9 @@ counted_other {A} test f (a ∷ xs) (b ∷ ys) zero x y l at here same =
   where
     flat_same : (us vs : List A) → length vs ≡ length us → ((k : ℕ) (s t : A) → slice_get us k ≡ Some s → slice_get vs k ≡ Some t → f t ≡ f s) → flat_map f vs ≡ flat_map f us
     flat_same [] [] m alike = refl
-    flat_same [] (v ∷ vs) m alike = absurd (omega arith)
-    flat_same (u ∷ us) [] m alike = absurd (omega arith)
     flat_same (u ∷ us) (v ∷ vs) m alike =
         ap (λ z. z ++ flat_map f vs) (alike 0 u v refl refl) ∙ ap (λ zs. f u ++ zs) (flat_same us vs (omega arith) (λ k. alike (suc k)))
+    flat_same us vs m alike = absurd (omega arith)
 counted_other test f (a ∷ xs) (b ∷ ys) (suc n) x y l at here same =
     let left = sum_by-append (λ z. cond (test z) 1 0) (f b) (flat_map f ys) in
     let right = sum_by-append (λ z. cond (test z) 1 0) (f a) (flat_map f xs) in
@@ -133,54 +127,13 @@ counted_other test f (a ∷ xs) (b ∷ ys) (suc n) x y l at here same =
 
 -- ---- links that lead before a table
 
-abbrev ones : Bool → ℕ
-ones b = cond b 1 0
-
-none_counted : {A : Type 0} {B : Type 0} (test : B → Bool) (f : A → Option B) → ((x : A) (y : B) → f x ≡ Some y → test y ≡ false) → (xs : List A) → count_by test (filter_map f xs) ≡ 0
-none_counted test f none [] = refl
-none_counted {A} {B} test f none (x ∷ xs) =
-    let rest = none_counted test f none xs in
-    elim (f x) as (λ o. f x ≡ o → count_by test (cons_option o (filter_map f xs)) ≡ 0) [
-      | None ↦ λ e. rest
-      | Some y ↦ λ e.
-          let one : ones (test y) ≡ 0 = ap ones (none x y e) in
-          let both = sum_by-cons (λ (z : B). cond (test z) 1 0) y (filter_map f xs) in
-          omega (arith, one, both, rest)
-    ] refl
-
-none_counted_in : {A B : Type 0} (test : B → Bool) (f : A → List B) → ((x : A) → count_by test (f x) ≡ 0) → (xs : List A) → count_by test (flat_map f xs) ≡ 0
-none_counted_in test f none [] = refl
-none_counted_in test f none (x ∷ xs) =
-    let both = sum_by-append (λ z. cond (test z) 1 0) (f x) (flat_map f xs) in
-    omega (arith, none x, both, none_counted_in test f none xs)
-
-module _ (targets : List (Option ℕ)) (n : ℕ) (back : LeadBack targets n) where
-  link_leads : (row : Row) (column : ℕ) (link : Linked) → link_at targets row column ≡ Some link → link.0 < n
-  link_leads row column link e =
-      option_and_then_some (λ (table : ℕ). option_map (λ (to : TupleRef). (table, to)) (link_in column row)) (target_at targets column) link e
-      (λ table at f. subst (λ t. t < n) (led table (link_in column row) f) (back column table at))
-    where
-      led : (table : ℕ) (o : Option TupleRef) → option_map (λ (to : TupleRef). (table, to)) o ≡ Some link → table ≡ link.0
-      led table None f = absurd (none-some link f)
-      led table (Some to) f = ap (λ (l : Linked). l.0) (same_Some (table, to) link f)
-
-  row_leads : (table : ℕ) (r : TupleRef) → n ≤ table → (row : Row) → count_by (is_link_to table r) (row_links targets row) ≡ 0
-  unfolding row_links
-  row_leads table r above row =
-      none_counted (is_link_to table r) (link_at targets row)
-      (λ column link e.
-      and_left (link.0 == table) (is_eq (ref_cmp link.1 r)) (ne_eqb link.0 table (λ same. absurd (omega (arith, above, same, link_leads row column link e)))))
-      (range_with_len 0 (length targets))
-
 -- no link of a relation leads to it, nor behind it
 pub relation_leads : (s : RelationState) (n : ℕ) → LeadBack s.targets n → (table : ℕ) (r : TupleRef) → n ≤ table → count_by (is_link_to table r) (relation_links s) ≡ 0
-unfolding relation_links
 relation_leads s n back table r above =
-    none_counted_in (is_link_to table r) (λ q. option_map_or (row_links s.targets) (get s.rows q) [])
-    (λ q. elim (get s.rows q) as (λ o. count_by (is_link_to table r) (option_map_or (row_links s.targets) o []) ≡ 0) [
-      | None ↦ refl
-      | Some row ↦ row_leads s.targets n back table r above row
-    ]) (tree_list s.by_key)
+    none_counted (is_link_to table r) (relation_links s)
+    (each_link (λ link. is_link_to table r link ≡ false) s (λ q row column link held e.
+    let before : link.0 < n = back column link.0 (link_parts s.targets row column link e).0 in
+    and_left (link.0 == table) (is_eq (ref_cmp link.1 r)) (ne_eqb link.0 table (λ same. absurd (omega (arith, above, same, before))))))
 
 -- ---- keys that agree
 

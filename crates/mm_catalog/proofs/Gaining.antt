@@ -29,14 +29,6 @@ use Rattle.mm_catalog.proofs.Outlines.{outline, outlines, same_keys}
 
 -- ---- one after another
 
-pub gains_none : (relations : List RelationState) → GainCounts relations relations
-gains_none relations = record {
-  count = refl;
-  each = λ k s t at here.
-      let same : s ≡ t = same_Some s t (sym at ∙ here) in
-      subst (GainsCounts s) same (record { same = refl; still = λ counted. counted });
-}
-
 abbrev pub with_counts : RelationState → RelationState
 with_counts s = record s { counted = true }
 
@@ -61,13 +53,6 @@ led_next old new n column s targets there leads h behind k table t first e at = 
       let is : n ≡ table = same_Some n table (sym leads ∙ ap (target_at targets) (sym same) ∙ e) in
       let mid : slice_get (set old n (with_counts s)) n ≡ Some (with_counts s) = slice_get_set old n (with_counts s) (slice_get_within old n s there) in
       (h.each n (with_counts s) t mid (ap (slice_get new) is ∙ at)).still refl
-  | inr other ↦ behind k table t (omega (arith, first, other)) e at
-]
-
--- a column whose links lead nowhere
-pub led_nowhere : (new : List RelationState) (column : ℕ) (targets : List _) → ((table : ℕ) → target_at targets column ≡ Some table → ⊥) → LeadIntoCountedFrom (column + 1) new targets → LeadIntoCountedFrom column new targets
-led_nowhere new column targets nowhere behind k table t first e at = elim (cases_eq k column) [
-  | inl same ↦ absurd (nowhere table (ap (target_at targets) (sym same) ∙ e))
   | inr other ↦ behind k table t (omega (arith, first, other)) e at
 ]
 

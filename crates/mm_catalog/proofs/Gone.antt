@@ -30,10 +30,9 @@ moved_up-before (suc gone) zero h = refl
 moved_up-before (suc gone) (suc n) h = ap suc (moved_up-before gone n (omega arith))
 
 pub moved_up-behind : (gone n : ℕ) → gone < n → moved_up gone n ≡ n - 1
-moved_up-behind zero zero h = absurd (omega arith)
 moved_up-behind zero (suc n) h = omega arith
-moved_up-behind (suc gone) zero h = absurd (omega arith)
 moved_up-behind (suc gone) (suc n) h = let rest = moved_up-behind gone n (omega arith) in omega (arith, rest)
+moved_up-behind gone n h = absurd (omega arith)
 
 pub moved_back-before : (gone n : ℕ) → n < gone → moved_back gone n ≡ n
 moved_back-before zero n h = absurd (omega arith)
@@ -62,18 +61,14 @@ moved_up-same gone a b p q = elim (cases_eq a b) [
 
 pub get-remove : {A : Type 0} (xs : List A) (n k : ℕ) → k ≢ n → slice_get (remove xs n) (moved_up n k) ≡ slice_get xs k
 get-remove [] zero k h = refl
-get-remove [] (suc n) k h = refl
 get-remove (x ∷ xs) zero zero h = absurd (h refl)
-get-remove (x ∷ xs) zero (suc k) h = refl
-get-remove (x ∷ xs) (suc n) zero h = refl
 get-remove (x ∷ xs) (suc n) (suc k) h = get-remove xs n k (λ e. h (ap suc e))
+get-remove xs n k h = refl
 
 pub get-removed : {A : Type 0} (xs : List A) (n k : ℕ) → slice_get (remove xs n) k ≡ slice_get xs (moved_back n k)
 get-removed [] zero k = refl
-get-removed [] (suc n) k = refl
-get-removed (x ∷ xs) zero k = refl
-get-removed (x ∷ xs) (suc n) zero = refl
 get-removed (x ∷ xs) (suc n) (suc k) = get-removed xs n k
+get-removed xs n k = refl
 
 -- ---- the first that passes a test
 

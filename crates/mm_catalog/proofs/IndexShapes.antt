@@ -1,11 +1,12 @@
 -- What a catalog tells of the indexes of its tables.
-use Rattle.std.proofs.Common.{◌≡◌, ℕ, ◌<◌, ◌≤◌, ◌||◌, ◌⊎◌, ◌==◌, true, false, IsTrue, Bool, List, [], ◌∷◌, Some, length, map, filter, not, refl, sym, ap, ◌∙◌, subst, arith, inl, inr, slice_get}
+use Rattle.std.proofs.Common.{◌≡◌, ℕ, ◌<◌, ◌≤◌, ◌||◌, ◌⊎◌, ◌==◌, true, false, IsTrue, Bool, List, ◌∷◌, Some, length, map, filter, not, refl, sym, ap, ◌∙◌, subst, arith, inl, inr, slice_get}
 use Rattle.std.specs.List.{Contains, list_any}
 use Rattle.std.specs.Option.{option_map, option_and_then}
 use Rattle.std.specs.FinMap.{len}
 use Rattle.std.proofs.lemmas.Bool.{eq-eqb}
 use Rattle.std.proofs.lemmas.List.{length-map}
 use Rattle.std.proofs.lemmas.Option.{slice_get-map, slice_get_within, get_or_from_slice_get}
+use Rattle.std.proofs.lemmas.List.Folds.{list_any_at}
 use Rattle.common_lemmas.proofs.Elements.{Contains-filter, Contains-map, Contains-cons_cases}
 use Rattle.common_lemmas.proofs.Tests.{list_any-map}
 use Rattle.plain_tables.specs.References.{all_indexes}
@@ -24,25 +25,13 @@ use Rattle.mm_catalog.proofs.Declared.{among_at, named_at}
 use Rattle.mm_catalog.proofs.Tables.{database-get}
 use Rattle.mm_catalog.proofs.TreeShapes.{database-rows}
 
--- a column that is in the list is found there
-any_column : (column : ℕ) (columns : List ℕ) → Contains columns column → list_any (λ c. c == column) columns ≡ true
-any_column column [] held = absurd (let inside = held.1 in omega arith)
-any_column column (c ∷ columns) held = elim (Contains-cons_cases c columns column held) [
-  | inl same ↦ rw (eq-eqb c column (sym same)) refl
-  | inr behind ↦
-      elim (c == column) as (λ b. (b || list_any (λ c. c == column) columns) ≡ true) [
-        | true ↦ refl
-        | false ↦ any_column column columns behind
-      ]
-]
-
 -- where these are the columns of the declarations that pass a test, each has its own
 any_declared : {B : Type 0} (test : DeclaredIndex → Bool) (declared : List DeclaredIndex) (all : List (ℕ × B)) → map (λ t. t.0) all ≡ map (λ d. d.column.0) (filter test declared)
     → (d : DeclaredIndex) → Contains declared d → test d ≡ true → list_any (λ t. t.0 == d.column.0) all ≡ true
 any_declared test declared all same d held passes =
+    let (place, within, at) = subst (λ columns. Contains columns d.column.0) (sym same) (Contains-map (λ d. d.column.0) (filter test declared) d (Contains-filter test declared d held passes)) in
     sym (list_any-map (λ c. c == d.column.0) (λ t. t.0) all)
-    ∙ any_column d.column.0 (map (λ t. t.0) all)
-    (subst (λ columns. Contains columns d.column.0) (sym same) (Contains-map (λ d. d.column.0) (filter test declared) d (Contains-filter test declared d held passes)))
+    ∙ list_any_at (λ c. c == d.column.0) (map (λ t. t.0) all) place d.column.0 within (eq-eqb _ d.column.0 at)
 
 -- so an index stands where one is declared
 pub declared_has_tree : (s : RelationState) → IsKept s → (d : DeclaredIndex) → Contains s.declared d → is_tree d.kind ≡ true → HasTree s d.column.0

@@ -1,5 +1,5 @@
 -- A catalog into which a row comes: what it shows, that it stays consistent, and why one does not come.
-use Rattle.std.proofs.Common.{◌≡◌, ◌≢◌, ℕ, suc, ◌+◌, ◌<◌, ◌==◌, ◌⊎◌, Bool, false, cond, List, [], ◌∷◌, ◌++◌, Option, Some, None, refl, sym, ap, ◌∙◌, subst, arith, length, map, take, drop, set, get_or, length-take, zero-add, inl, inr}
+use Rattle.std.proofs.Common.{◌≡◌, ◌≢◌, ℕ, ◌+◌, ◌<◌, ◌==◌, ◌⊎◌, false, List, [], ◌∷◌, ◌++◌, Option, Some, None, refl, sym, ap, ◌∙◌, subst, arith, length, map, take, drop, set, get_or, length-take, inl, inr}
 use Rattle.std.specs.List.{All, count_by, slice_get, flat_map, range_with_len}
 use Rattle.std.specs.Prelude.{Result, Ok, Err, IfOk, OnOk, OnErr, IfErr}
 use Rattle.std.specs.Option.{option_and_then, option_map_or}
@@ -7,7 +7,6 @@ use Rattle.std.specs.Ordering.{is_eq}
 use Rattle.std.specs.FinMap as finite
 use Rattle.std.specs.FinMap.{get}
 use Rattle.std.proofs.lemmas.Bool.{and_left, and_right, cases_eq, ne_eqb}
-use Rattle.std.proofs.lemmas.List.Sums.{sum_by-cons}
 use Rattle.std.proofs.lemmas.Option.{none-some, same_Some, slice_get_within, slice_get-get_or}
 use Rattle.common_lemmas.proofs.Elements.{All-flat_map}
 use Rattle.part_raw.specs.TupleRefs.{ref_cmp}
@@ -49,17 +48,12 @@ use Rattle.mm_catalog.proofs.Shown.{rows_inserted}
 use Rattle.mm_catalog.proofs.LinksHeld.{link_held}
 use Rattle.mm_catalog.proofs.Elsewhere.{rewritten_from, kept_from, database_rewritten, consistent_rewritten, current_beside_old, counted_from}
 use Rattle.mm_catalog.proofs.CellRows.{cells_shown, cells_linked}
-use Rattle.mm_catalog.proofs.RowLinks.{All-filter_map, link_parts}
+use Rattle.mm_catalog.proofs.RowLinks.{All-filter_map, link_parts, each_link}
 use Rattle.mm_catalog.proofs.Referenced.{some_column}
 use Rattle.mm_catalog.proofs.Checked.{key_refuses, reference_refuses, full_refuses, nothing_refuses}
+use Rattle.mm_catalog.proofs.Anywhere.{none_counted}
 
 -- ---- no link names a row that isn't there
-
-none_counted : (test : Linked → Bool) (xs : List Linked) → All (λ x. test x ≡ false) xs → count_by test xs ≡ 0
-none_counted test [] h = refl
-none_counted test (x ∷ xs) h =
-    sum_by-cons (λ y. cond (test y) 1 0) x xs ∙ ap (λ b. cond b 1 0 + count_by test xs) (h 0 x (omega arith))
-    ∙ zero-add (count_by test xs) ∙ none_counted test xs (λ k d l. h (suc k) d (omega arith))
 
 module _ (c : CatalogState) (ok : IsConsistent c) (n : ℕ) (b : RelationState) (there : slice_get c.relations n ≡ Some b) (r : TupleRef) (free : get b.rows r ≡ None) where
   unnamed : (k : ℕ) (s : RelationState) (q : TupleRef) (row : Row) (column : ℕ) (link : Linked) → slice_get c.relations k ≡ Some s → get s.rows q ≡ Some row → link_at s.targets row column ≡ Some link → is_link_to n r link ≡ false
@@ -76,17 +70,8 @@ module _ (c : CatalogState) (ok : IsConsistent c) (n : ℕ) (b : RelationState) 
         ]
       ]
 
-  row_unnamed : (k : ℕ) (s : RelationState) (q : TupleRef) (o : Option Row) → slice_get c.relations k ≡ Some s → get s.rows q ≡ o → All (λ link. is_link_to n r link ≡ false) (option_map_or (row_links s.targets) o [])
-  unfolding row_links
-  row_unnamed k s q None at found = λ i d l. absurd (omega arith)
-  row_unnamed k s q (Some row) at found =
-      All-filter_map (λ link. is_link_to n r link ≡ false) (link_at s.targets row) (range_with_len 0 (length s.targets)) (λ column link _ e. unnamed k s q row column link at found e)
-
   relation_unnamed : (k : ℕ) (s : RelationState) → slice_get c.relations k ≡ Some s → All (λ link. is_link_to n r link ≡ false) (relation_links s)
-  unfolding relation_links
-  relation_unnamed k s at =
-      All-flat_map (λ link. is_link_to n r link ≡ false) (λ q. option_map_or (row_links s.targets) (get s.rows q) []) (tree_list s.by_key)
-      (λ i d l. row_unnamed k s (get_or (tree_list s.by_key) i d) (get s.rows (get_or (tree_list s.by_key) i d)) at refl)
+  relation_unnamed k s at = each_link (λ link. is_link_to n r link ≡ false) s (λ q row column link. unnamed k s q row column link at)
 
   pub no_links_to : links_to c.relations n r ≡ 0
   unfolding links links_to
@@ -115,6 +100,13 @@ module _ (c : CatalogState) (ok : IsConsistent c) where
 pub record IsGrown (c : CatalogState) (relations : List RelationState) (n : TableNumber) (values : List Value) : Type 0 where
   pub effect : HasEffect c (record c { relations = relations }) (done c.limits (database_of c) (resolved.Insert n values)) 1
   pub consistent : IsConsistent (record c { relations = relations })
+
+-- what it leaves of one, and answers
+pub record IsInsertedSo (c : CatalogState) (n : TableNumber) (values : List Value) (result : Result TupleRef Refusal) (d : CatalogState) : Type 0 where
+  pub consistent : IsConsistent d
+  pub effect : OnOk result (HasEffect c d (done c.limits (database_of c) (resolved.Insert n values)) 1)
+  pub came : IfOk result (HasCome c d n.0 values)
+  pub refused : IfErr result (IsRefusedFor c d (done c.limits (database_of c) (resolved.Insert n values)))
 
 module _ (c : CatalogState) (ok : IsConsistent c) (n : TableNumber) (key : Value) (rest : List Value) (meant : IsMeant c.limits (database_of c) (resolved.Insert n (key ∷ rest))) (b a : RelationState) (front : List RelationState) (cells : List Cell) (there : slice_get c.relations n.0 ≡ Some b) (fresh : HasKey b.rows key → ⊥) (are : AreCellsOf (take n.0 c.relations) b.targets rest cells) (room : finite.len b.rows < c.limits.rows) (q : TupleRef) (taken : IsTakenIn (take n.0 c.relations) front b a q (new_row key cells)) where
   abbrev values : List Value
@@ -256,18 +248,10 @@ module _ (c : CatalogState) (ok : IsConsistent c) (n : TableNumber) (values : Li
 
   -- ---- the answer
 
-  pub inserted_consistent : (relations : List RelationState) (result : Result TupleRef Refusal) → IfOk result (IsInsertedAt c.relations relations n.0 c.limits.rows values) → OnErr result (relations ≡ c.relations) → IsConsistent (record c { relations = relations })
-  inserted_consistent relations (Ok r) h same = (grown_from relations r h).consistent
-  inserted_consistent relations (Err e) h same = subst (λ rs. IsConsistent (record c { relations = rs })) (sym same) ok
-
-  pub inserted_effect : (relations : List RelationState) (result : Result TupleRef Refusal) → IfOk result (IsInsertedAt c.relations relations n.0 c.limits.rows values) → OnOk result (HasEffect c (record c { relations = relations }) (done c.limits (database_of c) (resolved.Insert n values)) 1)
-  inserted_effect relations (Ok r) h = (grown_from relations r h).effect
-  inserted_effect relations (Err e) h = tt
-
-  pub inserted_came : (relations : List RelationState) (result : Result TupleRef Refusal) → IfOk result (IsInsertedAt c.relations relations n.0 c.limits.rows values) → IfOk result (HasCome c (record c { relations = relations }) n.0 values)
-  inserted_came relations (Ok r) h = record { inserted = h; same = refl }
-  inserted_came relations (Err e) h = tt
-
-  pub inserted_refused : (relations : List RelationState) (result : Result TupleRef Refusal) → IfErr result (IsRefusedAt c.relations n.0 c.limits.rows values) → OnErr result (relations ≡ c.relations) → IfErr result (IsRefusedFor c (record c { relations = relations }) (done c.limits (database_of c) (resolved.Insert n values)))
-  inserted_refused relations (Ok r) h same = tt
-  inserted_refused relations (Err e) h same = refused_from relations e h same
+  pub inserted_so : (relations : List RelationState) (result : Result TupleRef Refusal) → IfOk result (IsInsertedAt c.relations relations n.0 c.limits.rows values) → IfErr result (IsRefusedAt c.relations n.0 c.limits.rows values) → OnErr result (relations ≡ c.relations)
+      → IsInsertedSo c n values result (record c { relations = relations })
+  inserted_so relations (Ok r) h refused same =
+      let grown = grown_from relations r h in
+      record { consistent = grown.consistent; effect = grown.effect; came = record { inserted = h; same = refl }; refused = tt }
+  inserted_so relations (Err e) h refused same =
+      record { consistent = subst (λ rs. IsConsistent (record c { relations = rs })) (sym same) ok; effect = tt; came = tt; refused = refused_from relations e refused same }

@@ -1,5 +1,5 @@
 -- The links of a catalog name rows that are held, and each is counted.
-use Rattle.std.proofs.Common.{◌≡◌, ℕ, zero, suc, ◌-◌, ◌<◌, ◌==◌, true, false, cond, List, [], ◌∷◌, ◌++◌, Option, Some, None, IsSome, is_some, refl, sym, ap, ◌∙◌, subst, arith, length, inl, inr}
+use Rattle.std.proofs.Common.{◌≡◌, ℕ, ◌-◌, ◌<◌, ◌==◌, true, false, cond, List, [], ◌∷◌, Option, Some, None, IsSome, is_some, refl, sym, ap, ◌∙◌, subst, arith, length, inl, inr}
 use Rattle.std.specs.List.{Contains, cons_option, filter_map, flat_map, range_with_len, slice_get}
 use Rattle.std.specs.Option.{option_and_then, option_map, option_map_or}
 use Rattle.std.specs.FinMap.{get}
@@ -7,8 +7,10 @@ use Rattle.std.specs.Ordering.{is_eq}
 use Rattle.std.proofs.lemmas.Bool.{and_from, eq-eqb, false≢true, ne_eqb}
 use Rattle.std.proofs.lemmas.List.FromFn.{length-range_with_len, get_or-range_with_len}
 use Rattle.std.proofs.lemmas.Option.{none-some, same_Some, slice_get_within, get_or_from_slice_get, option_and_then_some}
+use Rattle.std.proofs.lemmas.List.Elements.{Contains-append_left, Contains-append_right}
 use Rattle.common_lemmas.proofs.Elements.{Contains-cons, Contains-cons_cases}
 use Rattle.common_lemmas.proofs.Counts.{count_by-member}
+use Rattle.common_lemmas.proofs.Options.{and_then-Some}
 use Rattle.part_raw.proofs.Tuples.{same_ref_self}
 use Rattle.part_raw.specs.TupleRefs.{ref_cmp}
 use Rattle.part_raw.specs.declared.tuple_ref.TupleRef.{TupleRef}
@@ -24,20 +26,11 @@ use Rattle.mm_catalog.proofs.Declared.{among_at}
 
 -- ---- what lists contain
 
-Contains-front : {A : Type 0} (xs ys : List A) (x : A) → Contains xs x → Contains (xs ++ ys) x
-Contains-front [] ys x h = absurd (omega (arith, h.1))
-Contains-front (y ∷ xs) ys x (zero, l, e) = (0, omega arith, e)
-Contains-front (y ∷ xs) ys x (suc k, l, e) = Contains-cons y (xs ++ ys) x (Contains-front xs ys x (k, omega arith, e))
-
-Contains-behind : {A : Type 0} (xs ys : List A) (x : A) → Contains ys x → Contains (xs ++ ys) x
-Contains-behind [] ys x h = h
-Contains-behind (y ∷ xs) ys x h = Contains-cons y (xs ++ ys) x (Contains-behind xs ys x h)
-
 pub Contains-flat_map : {A B : Type 0} (f : A → List B) (xs : List A) (x : A) (y : B) → Contains xs x → Contains (f x) y → Contains (flat_map f xs) y
 Contains-flat_map f [] x y h g = absurd (omega (arith, h.1))
 Contains-flat_map f (z ∷ xs) x y h g = elim (Contains-cons_cases z xs x h) [
-  | inl e ↦ Contains-front (f z) (flat_map f xs) y (subst (λ w. Contains (f w) y) e g)
-  | inr behind ↦ Contains-behind (f z) (flat_map f xs) y (Contains-flat_map f xs x y behind g)
+  | inl e ↦ Contains-append_left (f z) (flat_map f xs) y (subst (λ w. Contains (f w) y) e g)
+  | inr behind ↦ Contains-append_right (f z) (flat_map f xs) y (Contains-flat_map f xs x y behind g)
 ]
 
 pub Contains-filter_map : {A B : Type 0} (f : A → Option B) (xs : List A) (x : A) (y : B) → Contains xs x → f x ≡ Some y → Contains (filter_map f xs) y
@@ -107,15 +100,11 @@ is_link_itself table to = and_from (table == table) (is_eq (ref_cmp to to)) (eq-
 
 -- ---- those of a consistent catalog
 
-beneath : {A B : Type 0} (f : A → Option B) (o : Option A) → IsSome (option_and_then f o) → (x : A) × (o ≡ Some x)
-beneath f None h = absurd (false≢true h)
-beneath f (Some x) h = (x, refl)
-
 -- where a key is read there is a row
 key_of_row : (found : Option RelationState) (to : TupleRef) → IsSome (option_and_then (λ (s : RelationState). key_at s.rows to) found) → (u : RelationState) × (named : Row) × (found ≡ Some u) × (get u.rows to ≡ Some named)
 key_of_row found to h =
-    let u = beneath (λ (s : RelationState). key_at s.rows to) found h in
-    let row = beneath (λ (t : Row). Some t.key) (get u.0.rows to) (subst (λ o. IsSome (option_and_then (λ (s : RelationState). key_at s.rows to) o)) u.1 h) in
+    let u = and_then-Some (λ (s : RelationState). key_at s.rows to) found h in
+    let row = and_then-Some (λ (t : Row). Some t.key) (get u.0.rows to) (subst (λ o. IsSome (option_and_then (λ (s : RelationState). key_at s.rows to) o)) u.1 h) in
     (u.0, row.0, u.1, row.1)
 
 module _ (c : CatalogState) (ok : IsConsistent c) where

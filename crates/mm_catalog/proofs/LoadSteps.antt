@@ -1,46 +1,22 @@
 -- What a load does, row by row.
-use Rattle.std.proofs.Common.{◌≡◌, ◌⊎◌, ℕ, suc, ◌+◌, List, ◌∷◌, Some, refl, sym, ap, ◌∙◌, subst, drop, set, inl, inr, add-one}
-use Rattle.std.specs.List.{All, slice_get}
+use Rattle.std.proofs.Common.{◌≡◌, ◌⊎◌, ℕ, suc, ◌+◌, List, ◌∷◌, Some, refl, sym, ap, ◌∙◌, subst, drop, inl, inr, add-one}
+use Rattle.std.specs.List.{slice_get}
 use Rattle.std.proofs.Math.Seq.{drop-cons}
-use Rattle.std.proofs.lemmas.List.Elements.{All-head, All-tail, All-weaker}
-use Rattle.std.proofs.lemmas.Option.{same_Some, slice_get_within, get_or_from_slice_get}
-use Rattle.common_lemmas.proofs.Places.{slice_get_set}
-use Rattle.common_lemmas.proofs.Elements.{AllZip-set}
-use Rattle.plain_tables.specs.Tables.{Table, Row}
-use Rattle.plain_tables.specs.Databases.{Database}
+use Rattle.std.proofs.lemmas.List.Elements.{All-head}
+use Rattle.std.proofs.lemmas.Option.{slice_get_within, get_or_from_slice_get}
+use Rattle.plain_tables.specs.Tables.{Row}
 use Rattle.plain_tables.specs.Doing.{insert, in_record, left_with, goes_on, loaded, load_effect, load}
-use Rattle.plain_tables.specs.Effects.{Effect, Refused, grown_by}
-use Rattle.plain_tables.specs.ResolvedLaws.{OfTable, IsInsertable, IsMeant}
+use Rattle.plain_tables.specs.Effects.{Effect, Refused}
+use Rattle.plain_tables.specs.ResolvedLaws.{IsInsertable, IsMeant}
 use Rattle.plain_tables.specs.declared.command.Limits.{Limits}
 use Rattle.plain_tables.specs.declared.numbers.TableNumber.{TableNumber}
 use Rattle.plain_tables.specs.declared.refusal.Refusal.{Refusal}
 use Rattle.plain_tables.specs.declared.refusal.Refusal.TheVariants.{NoMemory}
 use Rattle.plain_tables.specs.declared.resolved.Resolved.TheVariants as resolved
-use Rattle.plain_tables.proofs.EffectLemmas.{insert_satisfies}
-use Rattle.plain_tables.proofs.ReferLemmas.{HasShape, has_own_shape}
-use Rattle.plain_tables.proofs.TypeLemmas.{insertable_alike}
+use Rattle.plain_tables.proofs.SoundLemmas.{CanTake, can_take_on}
 use Rattle.mm_catalog.specs.State.{CatalogState}
 use Rattle.mm_catalog.specs.Seen.{database_of}
 use Rattle.mm_catalog.specs.Changes.{HasEffect, IsRefusedFor}
-
--- rows that can be inserted into the table of a number
-abbrev CanTake : TableNumber → List Row → Database → Type 0
-CanTake n rows tables = OfTable n tables (λ table. All (λ row. IsInsertable tables row table) rows)
-
--- those behind a row that is inserted still can
-take_others : (limits : Limits) (tables : Database) (n : TableNumber) (row : Row) (rows : List Row) → CanTake n (row ∷ rows) tables → CanTake n rows (insert limits tables n row).database
-take_others limits tables n row rows (old, at, can) =
-    let later : All (λ r. IsInsertable tables r old) rows = All-tail (λ r. IsInsertable tables r old) row rows can in
-    insert_satisfies (λ e. CanTake n rows e.database) limits tables n row (λ why. (old, at, later))
-    (λ table there passed.
-    let new : Table = grown_by row table in
-    let same : old ≡ table = same_Some old table (sym at ∙ there) in (
-      new,
-      slice_get_set tables n.0 new (slice_get_within tables n.0 table there),
-      All-weaker (λ r. IsInsertable tables r old) (λ r. IsInsertable (set tables n.0 new) r new)
-          (λ r. insertable_alike tables (set tables n.0 new) r old new (AllZip-set HasShape has_own_shape tables n.0 table new there (refl, refl))
-          (ap (λ t. t.columns) same)) rows later,
-    ))
 
 next_row : (rows : List Row) (i : ℕ) (row : Row) → slice_get rows i ≡ Some row → drop i rows ≡ row ∷ drop (i + 1) rows
 next_row rows i row at =
@@ -80,7 +56,7 @@ module _ (c d : CatalogState) (n : TableNumber) (rows : List Row) (i : ℕ) (h :
     unfolding next
     under_way_then e effect = record {
       limits = effect.limits ∙ h.limits;
-      can = subst (CanTake n (drop (i + 1) rows)) (sym effect.database) (take_others d.limits (database_of d) n row (drop (i + 1) rows) can_next);
+      can = subst (CanTake n (drop (i + 1) rows)) (sym effect.database) (can_take_on d.limits (database_of d) n row (drop (i + 1) rows) can_next);
       rest =
           split ∙ ap (λ o. goes_on (λ tables. loaded c.limits tables n (i + 1 + 1) (drop (i + 1) rows)) (left_with (i + 1) next.database o)) effect.outcome
           ∙ ap (λ tables. loaded c.limits tables n (i + 1 + 1) (drop (i + 1) rows)) (sym effect.database);

@@ -1,11 +1,12 @@
 -- A block that is read into rows, as a load of them.
-use Rattle.std.proofs.Common.{◌≡◌, ℕ, ◌<◌, List, Option, Some, None, IsSome, refl, sym, ap, ◌∙◌, subst, length}
+use Rattle.std.proofs.Common.{◌≡◌, ℕ, ◌<◌, List, Some, None, IsSome, sym, ap, ◌∙◌, subst, length}
 use Rattle.std.specs.Prelude.{position, slice_get, Result, Err}
 use Rattle.std.specs.List.{All, position_or_len}
 use Rattle.std.proofs.lemmas.Option.{same_Some}
 use Rattle.std.specs.Option.{option_map, option_map_or}
 use Rattle.common_lemmas.proofs.Places.{slice_get-inside}
 use Rattle.common_lemmas.proofs.Options.{option_map_some}
+use Rattle.common_lemmas.proofs.Tests.{position_found}
 use Rattle.plain_tables.specs.CsvReading.{Record, Reading, BadHeader, records_reading}
 use Rattle.plain_tables.specs.Databases.{Database, is_named}
 use Rattle.plain_tables.specs.Resolving.{block_column, block_columns, load_of, on_numbered, resolved_of, table_reading}
@@ -23,8 +24,9 @@ use Rattle.mm_catalog.specs.Consistent.{IsConsistent}
 use Rattle.mm_catalog.specs.Resolve.{table_number}
 use Rattle.mm_catalog.specs.Seen.{database_of}
 use Rattle.mm_catalog.specs.State.{CatalogState}
-use Rattle.mm_catalog.proofs.ResolveLists.{position_or_len-position, position-within, found_at, none_found}
+use Rattle.mm_catalog.proofs.ResolveLists.{position_or_len-position}
 use Rattle.mm_catalog.proofs.BlockColumns.{each_there}
+use Rattle.mm_catalog.proofs.ResolveTables.{named_none, named_there}
 
 -- ---- the table of a name
 
@@ -32,17 +34,17 @@ module _ (tables : Database) (name : List ℕ) where
   pub table_within : (table : TableNumber) → option_map table_number (position (is_named name) tables) ≡ Some table → table.0 < length tables
   table_within table found =
       let (n, there, is) = option_map_some table_number (position (is_named name) tables) table found in
-      subst (λ (t : TableNumber). t.0 < length tables) is (position-within (is_named name) tables n there)
+      subst (λ (t : TableNumber). t.0 < length tables) is (position_found (is_named name) tables n there).0
 
   -- a command on a table that is there is one on the table of its number
   numbered : (means : TableNumber → Table → Result Resolved Refusal) (table : TableNumber) → option_map table_number (position (is_named name) tables) ≡ Some table
       → (t : Table) × (slice_get tables table.0 ≡ Some t) × (on_numbered name tables means ≡ means table t)
   numbered means table found =
       let (n, there, is) = option_map_some table_number (position (is_named name) tables) table found in
-      let (t, at) = slice_get-inside tables n (position-within (is_named name) tables n there) in (
+      let (t, here, at) = named_there tables name n there in (
         t,
         subst (λ (u : TableNumber). slice_get tables u.0 ≡ Some t) is at,
-        ap (λ o. option_map_or (means (record { 0 = position_or_len (is_named name) tables })) o (Err NoSuchTable)) (found_at (is_named name) tables n there ∙ at)
+        ap (λ o. option_map_or (means (record { 0 = position_or_len (is_named name) tables })) o (Err NoSuchTable)) here
             ∙ ap (λ k. means (record { 0 = k }) t) (position_or_len-position (is_named name) tables n there)
             ∙ ap (λ u. means u t) is,
       )
@@ -52,11 +54,7 @@ module _ (tables : Database) (name : List ℕ) where
     pub load_nowhere : option_map table_number (position (is_named name) tables) ≡ None → resolved_of records tables (command.Load name bytes) ≡ Err NoSuchTable
     load_nowhere missing =
         let means : Table → Result Resolved Refusal = λ u. load_of (record { 0 = position_or_len (is_named name) tables }) (table_reading tables u records) in
-        ap (λ o. option_map_or means o (Err NoSuchTable)) (none_found (is_named name) tables (no_number (position (is_named name) tables) missing))
-      where
-        no_number : (o : Option ℕ) → option_map table_number o ≡ None → o ≡ None
-        no_number None e = refl
-        no_number (Some n) e = cc
+        ap (λ o. option_map_or means o (Err NoSuchTable)) (named_none tables name missing)
 
     -- a load of what a block is read as, by the fields of its table
     pub load_meant : (table : TableNumber) (fields lent : List Field) (reading : Reading) → option_map table_number (position (is_named name) tables) ≡ Some table

@@ -3,6 +3,8 @@ use Rattle.std.proofs.Common.{◌≡◌, ℕ, zero, suc, ◌+◌, ◌<◌, ◌�
 use Rattle.std.specs.List.{slice_get}
 use Rattle.std.proofs.lemmas.Bool.{cases_lt, false≢true}
 use Rattle.std.proofs.lemmas.Option.{none-some, same_Some}
+use Rattle.std.specs.Prelude.{Result, IfErr}
+use Rattle.std.proofs.lemmas.Result.{IfErr-weaker}
 use Rattle.common_lemmas.proofs.Places.{slice_get-front, slice_get-last}
 use Rattle.plain_tables.specs.declared.refusal.Refusal.{Refusal}
 use Rattle.plain_tables.specs.declared.refusal.Refusal.TheVariants.{NoMemory}
@@ -43,10 +45,6 @@ module _ (relations : List RelationState) (targets : List (Option ℕ)) where
       last_place [] x (suc k) y above f = absurd (none-some y f)
       last_place (z ∷ xs) x zero y above f = absurd (omega arith)
       last_place (z ∷ xs) x (suc k) y above f = ap suc (last_place xs x k y (omega arith) f)
-
-  pub led_behind : (n : ℕ) → 0 < n → led_to targets n ≡ target_at targets n
-  led_behind zero some = absurd (omega arith)
-  led_behind (suc n) some = refl
 
   -- the key holds itself
   pub held_key : (key : Value) → IsCellOf relations None key (Held key)
@@ -98,9 +96,18 @@ kept_out_at relations s most key rest (c ∷ cells) value refusal first at none 
           (length cells, value, at, subst (λ n. NamesNone relations (target_at s.targets n) value) next new.2))
     ]
 
-pub kept_out_by : (relations : List RelationState) (s : RelationState) (values : List Value) (cells : List Cell) (value : Value) (refusal : Refusal) → AreFirst relations s.targets values cells → slice_get values (length cells) ≡ Some value → IsNotNamed relations s cells value refusal → (most : ℕ) (key : Value) (rest : List Value) → values ≡ key ∷ rest → IsKeptOut relations s most key rest refusal
-kept_out_by relations s values cells value refusal first at none most key rest split =
-    kept_out_at relations s most key rest cells value refusal (subst (λ vs. AreFirst relations s.targets vs cells) split first) (sym (ap (λ vs. slice_get vs (length cells)) split) ∙ at) none
+-- why the row of these values is refused, where a call is
+module _ {X : Type 0} (relations : List RelationState) (s : RelationState) (values : List Value) (r : Result X Refusal) where
+  abbrev IsRefusedSo : Refusal → Type 0
+  IsRefusedSo e = (most : ℕ) (key : Value) (rest : List Value) → values ≡ key ∷ rest → IsKeptOut relations s most key rest e
 
-pub kept_out_for_memory : (relations : List RelationState) (s : RelationState) (values : List Value) (refusal : Refusal) → refusal ≡ NoMemory → (most : ℕ) (key : Value) (rest : List Value) → values ≡ key ∷ rest → IsKeptOut relations s most key rest refusal
-kept_out_for_memory relations s values refusal is most key rest split = subst (IsKeptOut relations s most key rest) (sym is) no_memory
+  pub kept_out_by : (cells lent : List Cell) (value : Value) → AreFirst relations s.targets values cells → slice_get values (length cells) ≡ Some value → lent ≡ cells
+      → IfErr r (IsNotNamed relations s lent value) → IfErr r IsRefusedSo
+  kept_out_by cells lent value first at same =
+      IfErr-weaker r (IsNotNamed relations s lent value) IsRefusedSo
+      (λ e none most key rest split.
+      kept_out_at relations s most key rest cells value e (subst (λ vs. AreFirst relations s.targets vs cells) split first) (sym (ap (λ vs. slice_get vs (length cells)) split) ∙ at)
+      (subst (λ cs. IsNotNamed relations s cs value e) same none))
+
+  pub kept_out_for_memory : IfErr r (λ e. e ≡ NoMemory) → IfErr r IsRefusedSo
+  kept_out_for_memory = IfErr-weaker r (λ e. e ≡ NoMemory) IsRefusedSo (λ e is most key rest split. subst (IsKeptOut relations s most key rest) (sym is) no_memory)

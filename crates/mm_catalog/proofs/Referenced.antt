@@ -1,16 +1,16 @@
 -- What plain tables hold of keys and references, told by the relations that they are shown of.
 use Rattle.std.proofs.Common.{◌≡◌, ◌≢◌, ℕ, zero, suc, ◌<◌, Bool, true, false, List, [], ◌∷◌, Option, Some, None, IsSome, is_some, refl, sym, ap, ◌∙◌, subst, arith, length, take, get_or}
-use Rattle.std.specs.List.{All, Contains, slice_get, list_any, position}
+use Rattle.std.specs.List.{slice_get, list_any, position}
 use Rattle.std.specs.Option.{option_and_then, option_map, option_map_or}
 use Rattle.std.specs.Ordering.{is_eq}
 use Rattle.std.specs.Str.{bytes_eq}
 use Rattle.std.specs.FinMap.{get}
-use Rattle.std.proofs.lemmas.Bool.{or_from, false_from_ne_true, true_from_ne_false, false≢true}
-use Rattle.std.proofs.lemmas.List.Elements.{All-contains}
+use Rattle.std.proofs.lemmas.Bool.{false_from_ne_true, false≢true}
 use Rattle.std.proofs.lemmas.Option.{none-some, same_Some, slice_get_within, slice_get-map}
+use Rattle.std.proofs.lemmas.List.Folds.{list_any_at, list_any_none}
 use Rattle.common_lemmas.proofs.Places.{slice_get-inside}
 use Rattle.common_lemmas.proofs.Elements.{All-at}
-use Rattle.common_lemmas.proofs.Tests.{position_where_some, fails_where_none, position_found, list_any-map}
+use Rattle.common_lemmas.proofs.Tests.{position_where_some, position_found, list_any-map}
 use Rattle.common_lemmas.proofs.Orders.{then-Equal, is_eq-Equal}
 use Rattle.part_raw.specs.declared.tuple_ref.TupleRef.{TupleRef}
 use Rattle.part_raw.proofs.Tuples.{held_tuple}
@@ -35,7 +35,7 @@ use Rattle.mm_catalog.specs.Cells.{IsCellOf, NamesNone, target_in}
 use Rattle.mm_catalog.proofs.Lists.{get-take}
 use Rattle.mm_catalog.proofs.Tables.{database-get}
 use Rattle.mm_catalog.proofs.Finding.{is_some-find, found-front, position-map}
-use Rattle.mm_catalog.proofs.Back.{RefersInto, names-database, refers_before, lead_back}
+use Rattle.mm_catalog.proofs.Back.{RefersInto, names-database, refers_before, lead_back, has_name}
 use Rattle.mm_catalog.proofs.Declared.{among_at}
 
 -- ---- keys
@@ -45,14 +45,6 @@ beside_values : (keys : Keys) (width : ℕ) (t : Row) (key : Value) (rest : List
 unfolding row_values
 beside_values keys zero t key rest some = absurd (omega arith)
 beside_values keys (suc width) t key rest some = then-Equal (value_cmp t.key key)
-
-none_passes : {A : Type 0} (p : A → Bool) (xs : List A) → All (λ x. p x ≡ false) xs → list_any p xs ≡ false
-none_passes p [] h = refl
-none_passes p (x ∷ xs) h = or_from (p x) (list_any p xs) (h 0 x (omega arith)) (none_passes p xs (λ k d l. h (suc k) d (omega arith)))
-
-one_passes : {A : Type 0} (p : A → Bool) (xs : List A) (x : A) → Contains xs x → p x ≡ true → list_any p xs ≡ true
-one_passes p xs x there passes =
-    true_from_ne_false (list_any p xs) (λ none. false≢true (sym (All-contains (λ y. p y ≡ false) xs x (fails_where_none p xs none) there) ∙ passes))
 
 key_of : (o : Option Row) (key : Value) → option_and_then (λ (t : Row). Some t.key) o ≡ Some key → (t : Row) × (o ≡ Some t) × (t.key ≡ key)
 key_of None key e = absurd (none-some key e)
@@ -76,15 +68,15 @@ module _ (s : RelationState) (kept : IsKept s) (keys : Keys) (some : 0 < length 
   pub key_shown : HasKey s.rows key → has_key_of (key ∷ rest) (rows_of keys s) ≡ true
   key_shown h =
       let t = key_of (get s.rows h.0) key h.1 in
+      let place = kept.keyed.lists.listed h.0 (ap is_some t.1) in
       listed
-      ∙ one_passes has_this_key (tree_list s.by_key) h.0 (kept.keyed.lists.listed h.0 (ap is_some t.1))
-      (told h.0 t.0 t.1 ∙ ap is_eq ((value_cmp-exact t.0.key key).1 t.2))
+      ∙ list_any_at has_this_key (tree_list s.by_key) place.0 h.0 place.1 (ap has_this_key place.2 ∙ told h.0 t.0 t.1 ∙ ap is_eq ((value_cmp-exact t.0.key key).1 t.2))
 
   -- and one that none has isn't
   pub no_key_shown : (HasKey s.rows key → ⊥) → has_key_of (key ∷ rest) (rows_of keys s) ≡ false
   no_key_shown absent =
       listed
-      ∙ none_passes has_this_key (tree_list s.by_key) (λ k d l.
+      ∙ list_any_none has_this_key (tree_list s.by_key) (λ k d l.
       let q = get_or (tree_list s.by_key) k d in
       let t = held_tuple s.rows q (kept.keyed.lists.held k d l) in
       false_from_ne_true (has_this_key q) (λ e.
@@ -92,9 +84,6 @@ module _ (s : RelationState) (kept : IsKept s) (keys : Keys) (some : 0 < length 
       absent (q, ap (option_and_then (λ (u : Row). Some u.key)) t.1 ∙ ap (λ v. Some v) same)))
 
 -- ---- tables by name
-
-abbrev has_name : List ℕ → List ℕ → Bool
-has_name name n = bytes_eq n name
 
 module _ (c : CatalogState) (ok : IsConsistent c) where
   position_named : (name : List ℕ) → position (has_name name) c.names ≡ position (is_named name) (database_of c)

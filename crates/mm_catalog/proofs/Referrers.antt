@@ -1,18 +1,21 @@
 -- Which rows of a catalog are referenced: those that links name.
-use Rattle.std.proofs.Common.{◌≡◌, ◌≢◌, ℕ, zero, suc, ◌<◌, ◌+◌, ◌-◌, ◌==◌, ◌&&◌, Bool, true, false, cond, IsTrue, List, [], ◌∷◌, Option, Some, None, IsSome, is_some, refl, sym, ap, ◌∙◌, subst, arith, length, map, take, get_or, inl, inr}
+use Rattle.std.proofs.Common.{◌≡◌, ◌≢◌, ℕ, zero, suc, ◌<◌, ◌+◌, ◌-◌, ◌==◌, ◌&&◌, true, false, cond, IsTrue, List, [], ◌∷◌, Option, Some, None, IsSome, is_some, refl, sym, ap, ◌∙◌, subst, arith, length, map, take, get_or, inl, inr}
 use Rattle.std.specs.List.{All, list_any, position, range_with_len, slice_get, zip}
 use Rattle.std.specs.Option.{option_and_then, option_map, option_map_or}
 use Rattle.std.specs.Ordering.{is_eq}
 use Rattle.std.specs.Str.{bytes_eq}
 use Rattle.std.specs.FinMap.{get}
-use Rattle.std.proofs.lemmas.Bool.{false≢true, cases_order, eq-eqb, eqb-true}
+use Rattle.std.proofs.lemmas.Bool.{false≢true, cases_order, eq-eqb, eqb-true, false_from_ne_true, true_from_ne_false}
 use Rattle.std.proofs.lemmas.List.Quantifiers.{position-Some}
 use Rattle.std.proofs.lemmas.Option.{none-some, same_Some, slice_get-map, slice_get_within, slice_get-get_or, get_or_from_slice_get}
 use Rattle.std.proofs.lemmas.Slice.Eq.{bytes_eq-Decides}
+use Rattle.std.proofs.lemmas.List.Folds.{list_any_none}
+use Rattle.std.proofs.lemmas.List.Elements.{All-contains_itself}
 use Rattle.common_lemmas.proofs.Places.{slice_get-inside}
 use Rattle.common_lemmas.proofs.Elements.{All-at}
-use Rattle.common_lemmas.proofs.Tests.{position_where_some, list_any-map}
+use Rattle.common_lemmas.proofs.Tests.{position_where_some, list_any-map, fails_where_none}
 use Rattle.common_lemmas.proofs.Orders.{then-Equal, is_eq-Equal}
+use Rattle.common_lemmas.proofs.Counts.{count_by-member}
 use Rattle.part_raw.specs.declared.tuple_ref.TupleRef.{TupleRef}
 use Rattle.part_raw.specs.TupleRefs.{ref_cmp}
 use Rattle.part_raw.proofs.Tuples.{same_ref_self, same_ref_true, held_tuple}
@@ -37,7 +40,7 @@ use Rattle.mm_catalog.specs.State.{CatalogState}
 use Rattle.mm_catalog.specs.Seen.{database_of, table_of, rows_of, values_of, row_values, or_null}
 use Rattle.mm_catalog.specs.Linked.{target_of, target_at, link_at, row_links, relation_links, links, is_link_to, links_to}
 use Rattle.mm_catalog.specs.Consistent.{IsConsistent}
-use Rattle.mm_catalog.proofs.Anywhere.{any_flat, any_filter_map, any_alike, any_zip, any_numbered, none_counted, some_counted, same_tests, and_alike}
+use Rattle.mm_catalog.proofs.Anywhere.{any_flat, any_filter_map, any_alike, any_zip, any_numbered, none_counted, same_tests, and_alike}
 use Rattle.mm_catalog.proofs.Back.{RefersInto, refers_before, names-database}
 use Rattle.mm_catalog.proofs.Declared.{among_at, named_at}
 use Rattle.mm_catalog.proofs.Finding.{is_some-find, found-front}
@@ -282,17 +285,19 @@ module _ (c : CatalogState) (ok : IsConsistent c) where
     -- a row without referrers is referred to by none
     pub not_referenced : row.referrers ≡ 0 → is_referenced (database_of c) name values ≡ false
     unfolding links_to
-    not_referenced none = all_alike ∙ none_passes (list_any (is_link_to n r) (links c.relations)) refl
-      where
-        none_passes : (b : Bool) → list_any (is_link_to n r) (links c.relations) ≡ b → b ≡ false
-        none_passes false e = refl
-        none_passes true e = absurd (omega (arith, none, some_counted (is_link_to n r) (links c.relations) e, ok.counted n s r row there at))
+    not_referenced none =
+        all_alike
+        ∙ list_any_none (is_link_to n r) (links c.relations) (λ k d l.
+        let link = get_or (links c.relations) k d in
+        false_from_ne_true (is_link_to n r link) (λ e.
+        let some = count_by-member (is_link_to n r) (links c.relations) link (All-contains_itself (links c.relations) k d l) e in
+        omega (arith, none, some, ok.counted n s r row there at)))
 
     -- one with referrers is
     pub referenced : 0 < row.referrers → is_referenced (database_of c) name values ≡ true
     unfolding links_to
-    referenced some = all_alike ∙ some_passes (list_any (is_link_to n r) (links c.relations)) refl
-      where
-        some_passes : (b : Bool) → list_any (is_link_to n r) (links c.relations) ≡ b → b ≡ true
-        some_passes true e = refl
-        some_passes false e = absurd (omega (arith, some, none_counted (is_link_to n r) (links c.relations) e, ok.counted n s r row there at))
+    referenced some =
+        all_alike
+        ∙ true_from_ne_false (list_any (is_link_to n r) (links c.relations)) (λ e.
+        let none = none_counted (is_link_to n r) (links c.relations) (fails_where_none (is_link_to n r) (links c.relations) e) in
+        omega (arith, some, none, ok.counted n s r row there at))

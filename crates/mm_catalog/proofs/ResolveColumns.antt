@@ -10,48 +10,38 @@ use Rattle.std.proofs.lemmas.Grind.{flat_map-append}
 use Rattle.std.proofs.lemmas.List.{take_more, take-append-drop, length-take, map-append}
 use Rattle.std.proofs.lemmas.List.Elements.{filter-append, All-head, All-tail, All-weaker}
 use Rattle.common_lemmas.proofs.Options.{is_some-option_map}
-use Rattle.common_lemmas.proofs.Tests.{fails_where_not_found}
+use Rattle.common_lemmas.proofs.Tests.{fails_where_not_found, find_first}
 use Rattle.common_lemmas.proofs.Pairs.{AllPairs-head, AllPairs-tail}
 use Rattle.plain_tables.specs.Queries.{JoinedColumn, column_number, fits, fits_one, place_meant, column_meant}
 use Rattle.plain_tables.specs.declared.numbers.Place.{Place}
 use Rattle.plain_tables.specs.declared.schema.Column.{Column}
 use Rattle.plain_tables.specs.declared.condition.ColName.{ColName}
-use Rattle.mm_catalog.specs.declared.bind.scope.Scope.{Scope}
-use Rattle.mm_catalog.specs.declared.bind.scope.NamedColumn.{NamedColumn}
+use Rattle.plain_tables.proofs.MeantLemmas.{only}
+use Rattle.mm_catalog.specs.declared.bind.named_table.NamedTable.{NamedTable}
+use Rattle.mm_catalog.specs.declared.bind.names.NamedColumn.{NamedColumn}
 use Rattle.mm_catalog.proofs.ResolveLists.{none_found}
 use Rattle.mm_catalog.specs.Resolve.{in_table, place_in, source_columns, columns_of_all, placed, as_found}
 
 -- ---- the only element of a list
 
-abbrev pub only : {X : Type 0} → List X → Option X
-only [] = None
-only (x ∷ []) = Some x
-only (x ∷ y ∷ ys) = None
-
 two_or_more : (n : ℕ) → eqb (suc (suc n)) 1 ≡ false
 two_or_more n = grind (arith, nat_tests)
 
-only_or_none : {X : Type 0} (x : X) (xs : List X) → cond (eqb (length (x ∷ xs)) 1) (Some x) None ≡ only (x ∷ xs)
-only_or_none x [] = refl
-only_or_none x (y ∷ ys) = ap (λ b. cond b (Some x) None) (two_or_more (length ys))
+none_only : {X : Type 0} (x y : X) (ys : List X) → only (x ∷ y ∷ ys) ≡ None
+none_only x y ys = ap (λ b. cond b (Some x) None) (two_or_more (length ys))
 
 find_only : {X : Type 0} (p : X → Bool) (xs : List X) → cond (eqb (length (filter p xs)) 1) (find p xs) None ≡ only (filter p xs)
-find_only p [] = refl
-find_only p (x ∷ xs) =
-    elim (p x) as (λ b. cond (eqb (length (cond b (x ∷ filter p xs) (filter p xs))) 1) (cond b (Some x) (find p xs)) None ≡ only (cond b (x ∷ filter p xs) (filter p xs))) [
-      | true ↦ only_or_none x (filter p xs)
-      | false ↦ find_only p xs
-    ]
+find_only p xs = ap (λ o. cond (eqb (length (filter p xs)) 1) o None) (find_first p xs)
 
 only-map : {X Y : Type 0} (f : X → Y) (xs : List X) → option_map f (only xs) ≡ only (map f xs)
 only-map f [] = refl
 only-map f (x ∷ []) = refl
-only-map f (x ∷ y ∷ ys) = refl
+only-map f (x ∷ y ∷ ys) = ap (option_map f) (none_only x y ys) ∙ sym (none_only (f x) (f y) (map f ys))
 
 is_some-only : {X : Type 0} (xs : List X) → is_some (only xs) ≡ eqb (length xs) 1
 is_some-only [] = refl
 is_some-only (x ∷ []) = refl
-is_some-only (x ∷ y ∷ ys) = sym (two_or_more (length ys))
+is_some-only (x ∷ y ∷ ys) = ap is_some (none_only x y ys) ∙ sym (two_or_more (length ys))
 
 pub only_of_one : {X : Type 0} (o : Option X) → only (option_to_list o) ≡ o
 only_of_one None = refl
@@ -148,45 +138,45 @@ enumerate_from-append k (x ∷ xs) ys =
     let more : (k + 1) + length xs ≡ k + suc (length xs) = omega arith in
     ap (λ rest. (k, x) ∷ rest) (enumerate_from-append (k + 1) xs ys ∙ ap (λ n. enumerate_from (k + 1) xs ++ enumerate_from n ys) more)
 
-columns-append : (scopes others : List Scope)
-    → columns_of_all (scopes ++ others) ≡ columns_of_all scopes ++ flat_map source_columns (enumerate_from (length scopes) others)
-columns-append scopes others =
-    ap (flat_map source_columns) (enumerate_from-append 0 scopes others ∙ ap (λ n. enumerate_from 0 scopes ++ enumerate_from n others) (zero-add (length scopes)))
-    ∙ flat_map-append source_columns (enumerate_from 0 scopes) (enumerate_from (length scopes) others)
+columns-append : (named_tables others : List NamedTable)
+    → columns_of_all (named_tables ++ others) ≡ columns_of_all named_tables ++ flat_map source_columns (enumerate_from (length named_tables) others)
+columns-append named_tables others =
+    ap (flat_map source_columns) (enumerate_from-append 0 named_tables others ∙ ap (λ n. enumerate_from 0 named_tables ++ enumerate_from n others) (zero-add (length named_tables)))
+    ∙ flat_map-append source_columns (enumerate_from 0 named_tables) (enumerate_from (length named_tables) others)
 
 -- one table more
-pub columns-push : (scopes : List Scope) (scope : Scope) → columns_of_all (scopes ++ scope ∷ []) ≡ columns_of_all scopes ++ source_columns (length scopes, scope)
-columns-push scopes scope =
-    columns-append scopes (scope ∷ []) ∙ ap (λ cs. columns_of_all scopes ++ cs) (append-nil (source_columns (length scopes, scope)))
+pub columns-push : (named_tables : List NamedTable) (named_table : NamedTable) → columns_of_all (named_tables ++ named_table ∷ []) ≡ columns_of_all named_tables ++ source_columns (length named_tables, named_table)
+columns-push named_tables named_table =
+    columns-append named_tables (named_table ∷ []) ∙ ap (λ cs. columns_of_all named_tables ++ cs) (append-nil (source_columns (length named_tables, named_table)))
 
-module _ (name : ColName) (scopes : List Scope) (i : ℕ) where
-  pub fitted_more : (d : Scope) → i < length scopes
-      → fitted name (columns_of_all (take (i + 1) scopes)) ≡ fitted name (columns_of_all (take i scopes)) ++ fitted name (source_columns (i, get_or scopes i d))
+module _ (name : ColName) (named_tables : List NamedTable) (i : ℕ) where
+  pub fitted_more : (d : NamedTable) → i < length named_tables
+      → fitted name (columns_of_all (take (i + 1) named_tables)) ≡ fitted name (columns_of_all (take i named_tables)) ++ fitted name (source_columns (i, get_or named_tables i d))
   fitted_more d within =
-      let many : length (take i scopes) ≡ i = omega (arith, length-take i scopes) in
-      ap (λ (ss : List Scope). fitted name (columns_of_all ss)) (take_more scopes i d within)
-      ∙ ap (fitted name) (columns-push (take i scopes) (get_or scopes i d))
-      ∙ fitted-append name (columns_of_all (take i scopes)) (source_columns (length (take i scopes), get_or scopes i d))
-      ∙ ap (λ n. fitted name (columns_of_all (take i scopes)) ++ fitted name (source_columns (n, get_or scopes i d))) many
+      let many : length (take i named_tables) ≡ i = omega (arith, length-take i named_tables) in
+      ap (λ (ss : List NamedTable). fitted name (columns_of_all ss)) (take_more named_tables i d within)
+      ∙ ap (fitted name) (columns-push (take i named_tables) (get_or named_tables i d))
+      ∙ fitted-append name (columns_of_all (take i named_tables)) (source_columns (length (take i named_tables), get_or named_tables i d))
+      ∙ ap (λ n. fitted name (columns_of_all (take i named_tables)) ++ fitted name (source_columns (n, get_or named_tables i d))) many
 
   abbrev behind : List JoinedColumn
-  behind = flat_map source_columns (enumerate_from (length (take i scopes)) (drop i scopes))
+  behind = flat_map source_columns (enumerate_from (length (take i named_tables)) (drop i named_tables))
 
-  pub fitted_rest : fitted name (columns_of_all scopes) ≡ fitted name (columns_of_all (take i scopes)) ++ fitted name behind
+  pub fitted_rest : fitted name (columns_of_all named_tables) ≡ fitted name (columns_of_all (take i named_tables)) ++ fitted name behind
   fitted_rest =
-      ap (λ (ss : List Scope). fitted name (columns_of_all ss)) (sym (take-append-drop i scopes))
-      ∙ ap (fitted name) (columns-append (take i scopes) (drop i scopes))
-      ∙ fitted-append name (columns_of_all (take i scopes)) behind
+      ap (λ (ss : List NamedTable). fitted name (columns_of_all ss)) (sym (take-append-drop i named_tables))
+      ∙ ap (fitted name) (columns-append (take i named_tables) (drop i named_tables))
+      ∙ fitted-append name (columns_of_all (take i named_tables)) behind
 
   -- what was found before one table, and in it
-  pub found_more : (scope : Scope) → scope ≡ get_or scopes i scope → i < length scopes → (before own : Option NamedColumn)
-      → fitted name (columns_of_all (take i scopes)) ≡ option_to_list (option_map as_found before)
-      → fitted name (source_columns (i, scope)) ≡ option_to_list (option_map as_found own)
-      → fitted name (columns_of_all (take (i + 1) scopes)) ≡ option_to_list (option_map as_found before) ++ option_to_list (option_map as_found own)
-  found_more scope at within before own found here =
-      fitted_more scope within
-      ∙ ap (λ (s : Scope). fitted name (columns_of_all (take i scopes)) ++ fitted name (source_columns (i, s))) (sym at)
-      ∙ ap (λ xs. xs ++ fitted name (source_columns (i, scope))) found
+  pub found_more : (named_table : NamedTable) → named_table ≡ get_or named_tables i named_table → i < length named_tables → (before own : Option NamedColumn)
+      → fitted name (columns_of_all (take i named_tables)) ≡ option_to_list (option_map as_found before)
+      → fitted name (source_columns (i, named_table)) ≡ option_to_list (option_map as_found own)
+      → fitted name (columns_of_all (take (i + 1) named_tables)) ≡ option_to_list (option_map as_found before) ++ option_to_list (option_map as_found own)
+  found_more named_table at within before own found here =
+      fitted_more named_table within
+      ∙ ap (λ (s : NamedTable). fitted name (columns_of_all (take i named_tables)) ++ fitted name (source_columns (i, s))) (sym at)
+      ∙ ap (λ xs. xs ++ fitted name (source_columns (i, named_table))) found
       ∙ ap (λ ys. option_to_list (option_map as_found before) ++ ys) here
 
 -- a name that fits two columns means none
@@ -194,15 +184,15 @@ none_of_two : (before own : Option NamedColumn) (others : List (Place × Column)
     → only ((option_to_list (option_map as_found before) ++ option_to_list (option_map as_found own)) ++ others) ≡ None
 none_of_two None own others h k = cc
 none_of_two (Some x) None others h k = cc
-none_of_two (Some x) (Some y) others h k = refl
+none_of_two (Some x) (Some y) others h k = none_only (as_found x) (as_found y) others
 
-pub found_twice : (name : ColName) (scopes : List Scope) (i : ℕ) (before own : Option NamedColumn)
-    → fitted name (columns_of_all (take (i + 1) scopes)) ≡ option_to_list (option_map as_found before) ++ option_to_list (option_map as_found own)
-    → is_some before ≡ true → is_some own ≡ true → option_map placed (column_meant (columns_of_all scopes) name) ≡ None
-found_twice name scopes i before own more h k =
-    meant_only (columns_of_all scopes) name
-    ∙ ap only (fitted_rest name scopes (i + 1) ∙ ap (λ xs. xs ++ fitted name (behind name scopes (i + 1))) more)
-    ∙ none_of_two before own (fitted name (behind name scopes (i + 1))) h k
+pub found_twice : (name : ColName) (named_tables : List NamedTable) (i : ℕ) (before own : Option NamedColumn)
+    → fitted name (columns_of_all (take (i + 1) named_tables)) ≡ option_to_list (option_map as_found before) ++ option_to_list (option_map as_found own)
+    → is_some before ≡ true → is_some own ≡ true → option_map placed (column_meant (columns_of_all named_tables) name) ≡ None
+found_twice name named_tables i before own more h k =
+    meant_only (columns_of_all named_tables) name
+    ∙ ap only (fitted_rest name named_tables (i + 1) ∙ ap (λ xs. xs ++ fitted name (behind name named_tables (i + 1))) more)
+    ∙ none_of_two before own (fitted name (behind name named_tables (i + 1))) h k
 
 pub none_before : (before own : Option NamedColumn) → is_some before ≡ false
     → option_to_list (option_map as_found before) ++ option_to_list (option_map as_found own) ≡ option_to_list (option_map as_found own)

@@ -28,30 +28,27 @@ use Rattle.plain_tables.specs.declared.resolved.Assignment.{Assignment}
 use Rattle.plain_tables.specs.declared.resolved.Test.{Test}
 use Rattle.plain_tables.specs.declared.resolved.Resolved.{Resolved}
 use Rattle.plain_tables.specs.declared.resolved.Resolved.TheVariants as resolved
-use Rattle.mm_catalog.specs.declared.bind.scope.Scope.{Scope}
+use Rattle.mm_catalog.specs.declared.bind.named_table.NamedTable.{NamedTable}
 use Rattle.mm_catalog.specs.Seen.{plain_index}
 use Rattle.mm_catalog.specs.declared.bind.placed.Placed.{Placed}
-use Rattle.mm_catalog.specs.Resolve.{IsScopeOf, assignment_at, bare, columns_of, own_place}
+use Rattle.mm_catalog.specs.Resolve.{IsNamedTableOf, assignment_at, bare, columns_of, own_place}
 use Rattle.mm_catalog.specs.ResolveChecks.{verdict, delete_rest, update_rest}
 use Rattle.mm_catalog.proofs.ResolveNamed.{length-tests, long_set, key_set}
 
 -- ---- checks
 
-pub meaning_ok : (checks : List Check) (r : Resolved) → verdict checks ≡ Ok tt → meaning checks r ≡ Ok r
-meaning_ok [] r h = refl
-meaning_ok (check ∷ checks) r h =
-    elim (check.refuses) as (λ b. cond b (Err check.refusal) (verdict checks) ≡ Ok tt → cond b (Err check.refusal) (meaning checks r) ≡ Ok r) [
-      | true ↦ λ e. cc
-      | false ↦ λ e. meaning_ok checks r e
-    ] h
+-- what comes of checks: the refusal of the first that refuses, or else what is behind them
+abbrev pub unless_refused : {X : Type 0} → Result (Unit {0}) Refusal → Result X Refusal → Result X Refusal
+unless_refused (Ok passed) m = m
+unless_refused (Err e) m = Err e
 
-pub meaning_err : (checks : List Check) (r : Resolved) (refusal : Refusal) → verdict checks ≡ Err refusal → meaning checks r ≡ Err refusal
-meaning_err [] r refusal h = cc
-meaning_err (check ∷ checks) r refusal h =
-    elim (check.refuses) as (λ b. cond b (Err check.refusal) (verdict checks) ≡ Err refusal → cond b (Err check.refusal) (meaning checks r) ≡ Err refusal) [
-      | true ↦ λ e. let same : check.refusal ≡ refusal = cc in ap (λ x. Err x) same
-      | false ↦ λ e. meaning_err checks r refusal e
-    ] h
+pub meaning-is : (checks : List Check) (r : Resolved) → meaning checks r ≡ unless_refused (verdict checks) (Ok r)
+meaning-is [] r = refl
+meaning-is (check ∷ checks) r =
+    elim (check.refuses) as (λ b. cond b (Err check.refusal) (meaning checks r) ≡ unless_refused (cond b (Err check.refusal) (verdict checks)) (Ok r)) [
+      | true ↦ refl
+      | false ↦ meaning-is checks r
+    ]
 
 -- ---- names
 
@@ -65,45 +62,45 @@ first_missed columns names others h = misses-append columns names others ∙ ap 
 pub rest_missed : (columns : List JoinedColumn) (names others : List ColName) (b : Bool) → misses columns names ≡ false → misses columns others ≡ b → misses columns (names ++ others) ≡ b
 rest_missed columns names others b h rest = misses-append columns names others ∙ ap (λ a. a || misses columns others) h ∙ rest
 
--- ---- the scope of a command
+-- ---- commands on one table
 
-module _ (tables : Database) (name : List ℕ) (scope : Scope) (h : IsScopeOf tables name scope) where
-  pub in_scope : {X : Type 0} (means : TableNumber → Table → X) (none : X)
-      → option_map_or (means (number_of name tables)) (table_named name tables) none ≡ means scope.table h.table
-  in_scope means none = ap (λ o. option_map_or (means (number_of name tables)) o none) h.found ∙ ap (λ n. means n h.table) h.number
+module _ (tables : Database) (name : List ℕ) (named_table : NamedTable) (h : IsNamedTableOf tables name named_table) where
+  pub on_table : {X : Type 0} (means : TableNumber → Table → X) (none : X)
+      → option_map_or (means (number_of name tables)) (table_named name tables) none ≡ means named_table.table h.table
+  on_table means none = ap (λ o. option_map_or (means (number_of name tables)) o none) h.found ∙ ap (λ n. means n h.table) h.number
 
-  pub own_columns-are : own_columns h.table ≡ columns_of scope
+  pub own_columns-are : own_columns h.table ≡ columns_of named_table
   own_columns-are =
       let own : List ℕ → List Column → List JoinedColumn =
       λ name columns. map (λ c. record { table = name; place = own_place (column_number c.0); column = c.1 }) (enumerate_from 0 columns) ++ [] in
-      ap (λ name. own name h.table.columns) h.called ∙ ap (own scope.name.now) h.columns
+      ap (λ name. own name h.table.columns) h.called ∙ ap (own named_table.name.now) h.columns
 
   abbrev columns : List JoinedColumn
-  columns = columns_of scope
+  columns = columns_of named_table
 
   -- ---- index and drop index
 
   module _ (column : List ℕ) (k : IndexKind) where
     abbrev declared : List (ℕ × IndexKind)
-    declared = map plain_index scope.declared.now
+    declared = map plain_index named_table.declared.now
 
     abbrev index_on : List (ℕ × IndexKind) → Place → Result Resolved Refusal
     index_on own place =
-        meaning (record { refuses = list_any (is_index place.column k) ((0, index.Tree) ∷ own); refusal = IndexExists } ∷ []) (resolved.Index scope.table place.column k)
+        meaning (record { refuses = list_any (is_index place.column k) ((0, index.Tree) ∷ own); refusal = IndexExists } ∷ []) (resolved.Index named_table.table place.column k)
 
     abbrev drop_index_on : List (ℕ × IndexKind) → Place → Result Resolved Refusal
     drop_index_on own place =
-        meaning (record { refuses = not (list_any (is_index place.column k) own); refusal = NoSuchIndex } ∷ []) (resolved.DropIndex scope.table place.column k)
+        meaning (record { refuses = not (list_any (is_index place.column k) own); refusal = NoSuchIndex } ∷ []) (resolved.DropIndex named_table.table place.column k)
 
     pub index_is : resolved_of [] tables (command.Index name column k) ≡ option_map_or (index_on declared) (place_meant columns (bare column)) (Err NoSuchColumn)
     index_is =
-        in_scope (λ n table. on_column column table (λ c. meaning (index_checks table c k) (resolved.Index n c k))) (Err NoSuchTable)
+        on_table (λ n table. on_column column table (λ c. meaning (index_checks table c k) (resolved.Index n c k))) (Err NoSuchTable)
         ∙ ap (λ cs. option_map_or (index_on h.table.indexes) (place_meant cs (bare column)) (Err NoSuchColumn)) own_columns-are
         ∙ ap (λ own. option_map_or (index_on own) (place_meant columns (bare column)) (Err NoSuchColumn)) h.indexes
 
     pub drop_index_is : resolved_of [] tables (command.DropIndex name column k) ≡ option_map_or (drop_index_on declared) (place_meant columns (bare column)) (Err NoSuchColumn)
     drop_index_is =
-        in_scope (λ n table. on_column column table (λ c. meaning (drop_index_checks table c k) (resolved.DropIndex n c k))) (Err NoSuchTable)
+        on_table (λ n table. on_column column table (λ c. meaning (drop_index_checks table c k) (resolved.DropIndex n c k))) (Err NoSuchTable)
         ∙ ap (λ cs. option_map_or (drop_index_on h.table.indexes) (place_meant cs (bare column)) (Err NoSuchColumn)) own_columns-are
         ∙ ap (λ own. option_map_or (drop_index_on own) (place_meant columns (bare column)) (Err NoSuchColumn)) h.indexes
 
@@ -115,19 +112,19 @@ module _ (tables : Database) (name : List ℕ) (scope : Scope) (h : IsScopeOf ta
     drop_index_missed none = drop_index_is ∙ ap (λ o. option_map_or (drop_index_on declared) o (Err NoSuchColumn)) none
 
     module _ (c : ColumnNumber) (found : place_meant columns (bare column) ≡ Some (own_place c)) (b : Bool) where
-      pub index_found : (is_index c k (0, index.Tree) || list_any (λ d. is_index c k (plain_index d)) scope.declared.now) ≡ b
-          → resolved_of [] tables (command.Index name column k) ≡ cond b (Err IndexExists) (Ok (resolved.Index scope.table c k))
+      pub index_found : (is_index c k (0, index.Tree) || list_any (λ d. is_index c k (plain_index d)) named_table.declared.now) ≡ b
+          → resolved_of [] tables (command.Index name column k) ≡ cond b (Err IndexExists) (Ok (resolved.Index named_table.table c k))
       index_found is =
           index_is ∙ ap (λ o. option_map_or (index_on declared) o (Err NoSuchColumn)) found
-          ∙ ap (λ x. cond (is_index c k (0, index.Tree) || x) (Err IndexExists) (Ok (resolved.Index scope.table c k))) (list_any-map (is_index c k) plain_index scope.declared.now)
-          ∙ ap (λ x. cond x (Err IndexExists) (Ok (resolved.Index scope.table c k))) is
+          ∙ ap (λ x. cond (is_index c k (0, index.Tree) || x) (Err IndexExists) (Ok (resolved.Index named_table.table c k))) (list_any-map (is_index c k) plain_index named_table.declared.now)
+          ∙ ap (λ x. cond x (Err IndexExists) (Ok (resolved.Index named_table.table c k))) is
 
-      pub drop_index_found : not (list_any (λ d. is_index c k (plain_index d)) scope.declared.now) ≡ b
-          → resolved_of [] tables (command.DropIndex name column k) ≡ cond b (Err NoSuchIndex) (Ok (resolved.DropIndex scope.table c k))
+      pub drop_index_found : not (list_any (λ d. is_index c k (plain_index d)) named_table.declared.now) ≡ b
+          → resolved_of [] tables (command.DropIndex name column k) ≡ cond b (Err NoSuchIndex) (Ok (resolved.DropIndex named_table.table c k))
       drop_index_found is =
           drop_index_is ∙ ap (λ o. option_map_or (drop_index_on declared) o (Err NoSuchColumn)) found
-          ∙ ap (λ x. cond (not x) (Err NoSuchIndex) (Ok (resolved.DropIndex scope.table c k))) (list_any-map (is_index c k) plain_index scope.declared.now)
-          ∙ ap (λ x. cond x (Err NoSuchIndex) (Ok (resolved.DropIndex scope.table c k))) is
+          ∙ ap (λ x. cond (not x) (Err NoSuchIndex) (Ok (resolved.DropIndex named_table.table c k))) (list_any-map (is_index c k) plain_index named_table.declared.now)
+          ∙ ap (λ x. cond x (Err NoSuchIndex) (Ok (resolved.DropIndex named_table.table c k))) is
 
   -- ---- delete
 
@@ -139,26 +136,20 @@ module _ (tables : Database) (name : List ℕ) (scope : Scope) (h : IsScopeOf ta
         ∷ record { refuses = nat_lt 8 (length conditions); refusal = TooMany }
         ∷ []
 
-    delete_is : resolved_of [] tables (command.Delete name conditions) ≡ meaning (delete_on columns) (resolved.Delete scope.table (tests_of columns conditions))
+    delete_is : resolved_of [] tables (command.Delete name conditions) ≡ meaning (delete_on columns) (resolved.Delete named_table.table (tests_of columns conditions))
     delete_is =
-        in_scope (λ n table. meaning (delete_on (own_columns table)) (resolved.Delete n (tests_of (own_columns table) conditions))) (Err NoSuchTable)
-        ∙ ap (λ cs. meaning (delete_on cs) (resolved.Delete scope.table (tests_of cs conditions))) own_columns-are
+        on_table (λ n table. meaning (delete_on (own_columns table)) (resolved.Delete n (tests_of (own_columns table) conditions))) (Err NoSuchTable)
+        ∙ ap (λ cs. meaning (delete_on cs) (resolved.Delete named_table.table (tests_of cs conditions))) own_columns-are
 
     pub delete_missed : misses columns (condition_names conditions) ≡ true → resolved_of [] tables (command.Delete name conditions) ≡ Err NoSuchColumn
     delete_missed missed = delete_is ∙ rw missed refl
 
     module _ (named : misses columns (condition_names conditions) ≡ false) (tested : Placed Test) (tests : tested.items ≡ tests_of columns conditions)
         (types : tested.mistyped ≡ list_any (is_mistyped tables columns) conditions) where
-      delete_named : verdict (delete_on columns) ≡ verdict (delete_rest tested)
-      delete_named = rw (named, types, ap length tests ∙ length-tests columns conditions named) refl
-
-      pub delete_meant : verdict (delete_rest tested) ≡ Ok tt → resolved_of [] tables (command.Delete name conditions) ≡ Ok (resolved.Delete scope.table tested.items)
-      delete_meant ok =
-          delete_is ∙ meaning_ok (delete_on columns) (resolved.Delete scope.table (tests_of columns conditions)) (delete_named ∙ ok)
-          ∙ ap (λ ts. Ok (resolved.Delete scope.table ts)) (sym tests)
-
-      pub delete_refused : (e : Refusal) → verdict (delete_rest tested) ≡ Err e → resolved_of [] tables (command.Delete name conditions) ≡ Err e
-      delete_refused e err = delete_is ∙ meaning_err (delete_on columns) (resolved.Delete scope.table (tests_of columns conditions)) e (delete_named ∙ err)
+      pub delete_checked : resolved_of [] tables (command.Delete name conditions) ≡ unless_refused (verdict (delete_rest tested)) (Ok (resolved.Delete named_table.table tested.items))
+      delete_checked =
+          delete_is ∙ meaning-is (delete_on columns) (resolved.Delete named_table.table (tests_of columns conditions))
+          ∙ rw (named, sym types, sym (length-tests columns conditions named), sym tests) refl
 
   -- ---- update
 
@@ -177,12 +168,12 @@ module _ (tables : Database) (name : List ℕ) (scope : Scope) (h : IsScopeOf ta
         ∷ []
 
     abbrev change : Resolved
-    change = resolved.Update scope.table (assignments_of columns settings) (tests_of columns conditions)
+    change = resolved.Update named_table.table (assignments_of columns settings) (tests_of columns conditions)
 
     update_is : resolved_of [] tables (command.Update name settings conditions) ≡ meaning (update_on columns) change
     update_is =
-        in_scope (λ n table. meaning (update_on (own_columns table)) (resolved.Update n (assignments_of (own_columns table) settings) (tests_of (own_columns table) conditions))) (Err NoSuchTable)
-        ∙ ap (λ cs. meaning (update_on cs) (resolved.Update scope.table (assignments_of cs settings) (tests_of cs conditions))) own_columns-are
+        on_table (λ n table. meaning (update_on (own_columns table)) (resolved.Update n (assignments_of (own_columns table) settings) (tests_of (own_columns table) conditions))) (Err NoSuchTable)
+        ∙ ap (λ cs. meaning (update_on cs) (resolved.Update named_table.table (assignments_of cs settings) (tests_of cs conditions))) own_columns-are
 
     update_missed : misses columns update_names ≡ true → resolved_of [] tables (command.Update name settings conditions) ≡ Err NoSuchColumn
     update_missed missed = update_is ∙ rw missed refl
@@ -203,23 +194,16 @@ module _ (tables : Database) (name : List ℕ) (scope : Scope) (h : IsScopeOf ta
         abbrev twice : Bool
         twice = repeats bytes_eq (map (λ s. s.column) settings)
 
-        update_named : verdict (update_on columns) ≡ verdict (update_rest twice set tested)
-        update_named =
-            rw (
+        pub update_checked : resolved_of [] tables (command.Update name settings conditions) ≡ unless_refused (verdict (update_rest twice set tested)) (Ok (resolved.Update named_table.table set.items tested.items))
+        update_checked =
+            update_is ∙ meaning-is (update_on columns) change
+            ∙ rw (
               all_named,
-              set_types,
-              types,
-              long_set columns settings settings_named ∙ ap (list_any (λ (a : Assignment). is_long a.value)) (sym assigned),
-              key_set columns setting_name assignment_at (λ (a : Assignment). a.column) (λ _ _. refl) settings ∙ ap (list_any (λ (a : Assignment). a.column.0 == 0)) (sym assigned),
-              ap length tests ∙ length-tests columns conditions named,
+              sym set_types,
+              sym types,
+              long_set columns settings settings_named,
+              key_set columns setting_name assignment_at (λ (a : Assignment). a.column) (λ _ _. refl) settings,
+              sym (length-tests columns conditions named),
+              sym assigned,
+              sym tests,
             ) refl
-
-        pub update_meant : verdict (update_rest twice set tested) ≡ Ok tt
-            → resolved_of [] tables (command.Update name settings conditions) ≡ Ok (resolved.Update scope.table set.items tested.items)
-        update_meant ok =
-            update_is ∙ meaning_ok (update_on columns) change (update_named ∙ ok)
-            ∙ ap (λ as'. Ok (resolved.Update scope.table as' (tests_of columns conditions))) (sym assigned)
-            ∙ ap (λ ts. Ok (resolved.Update scope.table set.items ts)) (sym tests)
-
-        pub update_refused : (e : Refusal) → verdict (update_rest twice set tested) ≡ Err e → resolved_of [] tables (command.Update name settings conditions) ≡ Err e
-        update_refused e err = update_is ∙ meaning_err (update_on columns) change e (update_named ∙ err)

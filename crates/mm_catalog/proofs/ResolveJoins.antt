@@ -11,7 +11,7 @@ use Rattle.std.proofs.lemmas.Map.Views.{any-filter_same}
 use Rattle.std.proofs.lemmas.Slice.Eq.{bytes_eq-Decides}
 use Rattle.std.proofs.lemmas.Slice.Zip.{AllZip-long}
 use Rattle.common_lemmas.proofs.Options.{option_map_some}
-use Rattle.common_lemmas.proofs.Tests.{list_any-map}
+use Rattle.common_lemmas.proofs.Tests.{list_any-map, any_agree}
 use Rattle.plain_tables.specs.Databases.{Database}
 use Rattle.plain_tables.specs.Queries.{JoinedColumn, same_place, places_meant, named_items}
 use Rattle.plain_tables.specs.References.{same_type, type_of}
@@ -25,13 +25,12 @@ use Rattle.plain_tables.specs.declared.refusal.Refusal.{Refusal}
 use Rattle.plain_tables.specs.declared.refusal.Refusal.TheVariants.{ColumnNamedTwice, TableNamedTwice, WrongType}
 use Rattle.plain_tables.specs.declared.resolved.Shown.{Shown}
 use Rattle.plain_tables.specs.declared.schema.Column.{Column}
+use Rattle.mm_catalog.specs.declared.bind.named_table.NamedTable.{NamedTable}
 use Rattle.mm_catalog.specs.declared.bind.scope.Scope.{Scope}
-use Rattle.mm_catalog.specs.declared.bind.joined_scope.JoinedScope.{JoinedScope}
-use Rattle.mm_catalog.specs.declared.bind.joined_scope.Sides.{Sides}
-use Rattle.mm_catalog.specs.Resolve.{IsScopeOf, columns_of_all, shown_places}
+use Rattle.mm_catalog.specs.declared.bind.scope.Sides.{Sides}
+use Rattle.mm_catalog.specs.Resolve.{IsNamedTableOf, columns_of_all, shown_places}
 use Rattle.mm_catalog.specs.ResolveChecks.{verdict}
-use Rattle.mm_catalog.specs.Select.{IsJoinedScopeOf, placed_sides, sides_found, sides_differ, joined_rest}
-use Rattle.mm_catalog.proofs.ResolveLists.{list_any-same}
+use Rattle.mm_catalog.specs.Select.{IsScopeOf, placed_sides, sides_found, sides_differ, joined_rest}
 use Rattle.mm_catalog.proofs.ResolveNamed.{option_map_or-map, shown_places-are}
 use Rattle.mm_catalog.proofs.ResolveSources.{map-map}
 use Rattle.plain_tables.proofs.SelectLemmas.{once_apart}
@@ -114,7 +113,7 @@ all_given g f (x ∷ xs) none =
 module _ {X S F : Type 0} (f : X → F) (found : S → F) (xs : List (Option X)) (sides : List S) (are : map (λ s. Some (found s)) sides ≡ map (option_map f) xs) where
   any_found : (g : F → Bool) → list_any (λ o. option_map_or (λ x. g (f x)) o false) xs ≡ list_any (λ s. g (found s)) sides
   any_found g =
-      list_any-same (λ o. option_map_or (λ x. g (f x)) o false) (λ o. option_map_or g (option_map f o) false) xs (option_map_or-map g f)
+      any_agree (λ o. option_map_or (λ x. g (f x)) o false) (λ o. option_map_or g (option_map f o) false) (option_map_or-map g f) xs
       ∙ sym (list_any-map (λ o. option_map_or g o false) (option_map f) xs)
       ∙ ap (list_any (λ o. option_map_or g o false)) (sym are)
       ∙ list_any-map (λ o. option_map_or g o false) (λ s. Some (found s)) sides
@@ -130,7 +129,7 @@ second_passes false false e f r h = refl
 
 -- ---- the tables and joins that are found
 
-module _ (tables : Database) (name : List ℕ) (joins : List Join) (scope : JoinedScope) (h : IsJoinedScopeOf tables name joins scope) where
+module _ (tables : Database) (name : List ℕ) (joins : List Join) (scope : Scope) (h : IsScopeOf tables name joins scope) where
   abbrev names : List (List ℕ)
   names = select_names name joins
 
@@ -158,35 +157,35 @@ module _ (tables : Database) (name : List ℕ) (joins : List Join) (scope : Join
       ∙ sym (ap length sides_are)
       ∙ length-map scope.sides.items (λ (s : Sides). Some (sides_found s))
 
-  named_twice : repeats bytes_eq names ≡ nat_le (length scope.scopes.items) (length scope.sides.items)
+  named_twice : repeats bytes_eq names ≡ nat_le (length scope.tables.items) (length scope.sides.items)
   named_twice =
       repeats_once name (map (λ j. j.table) joins)
-      ∙ ap (λ n. nat_le n (length (map (λ (j : Join). j.table) joins))) (sym (AllZip-long (IsScopeOf tables) (once names) scope.scopes.items h.scopes))
-      ∙ ap (nat_le (length scope.scopes.items)) (length-map joins (λ (j : Join). j.table) ∙ many_joins)
+      ∙ ap (λ n. nat_le n (length (map (λ (j : Join). j.table) joins))) (sym (AllZip-long (IsNamedTableOf tables) (once names) scope.tables.items h.named))
+      ∙ ap (nat_le (length scope.tables.items)) (length-map joins (λ (j : Join). j.table) ∙ many_joins)
 
   -- ---- their checks
 
   -- no column is shown twice, no table named twice, and the columns of each join are of one type
   abbrev pub joined_checks : Items → List Check
   joined_checks its =
-      record { refuses = repeats same_place (places_meant (columns_of_all scope.scopes.items) (named_items its)); refusal = ColumnNamedTwice }
+      record { refuses = repeats same_place (places_meant (columns_of_all scope.tables.items) (named_items its)); refusal = ColumnNamedTwice }
       ∷ record { refuses = repeats bytes_eq names; refusal = TableNamedTwice }
       ∷ record { refuses = list_any (λ s. option_map_or (differ_in_type tables) s false) sides; refusal = WrongType }
       ∷ []
 
-  pub joined_checks-are : (its : Items) → joined_checks its ≡ joined_rest tables scope (shown_of (columns_of_all scope.scopes.items) its)
-  joined_checks-are its = rw (sym (shown_places-are (columns_of_all scope.scopes.items) its), named_twice, sides_differ_so) refl
+  pub joined_checks-are : (its : Items) → joined_checks its ≡ joined_rest tables scope (shown_of (columns_of_all scope.tables.items) its)
+  joined_checks-are its = rw (sym (shown_places-are (columns_of_all scope.tables.items) its), named_twice, sides_differ_so) refl
 
-  -- where they pass, the scopes are those of the names as they stand
-  pub scopes_apart : (shown : Shown) (rest : List Check) → verdict (joined_rest tables scope shown ++ rest) ≡ Ok tt → AllZip (IsScopeOf tables) names scope.scopes.items
-  scopes_apart shown rest ok =
-      let differ = second_passes (repeats same_place (shown_places shown)) (nat_le (length scope.scopes.items) (length scope.sides.items)) _ _ _ ok in
-      subst (λ ns. AllZip (IsScopeOf tables) ns scope.scopes.items) (once_apart names (named_twice ∙ differ)) h.scopes
+  -- where they pass, the tables are those of the names as they stand
+  pub named_apart : (shown : Shown) (rest : List Check) → verdict (joined_rest tables scope shown ++ rest) ≡ Ok tt → AllZip (IsNamedTableOf tables) names scope.tables.items
+  named_apart shown rest ok =
+      let differ = second_passes (repeats same_place (shown_places shown)) (nat_le (length scope.tables.items) (length scope.sides.items)) _ _ _ ok in
+      subst (λ ns. AllZip (IsNamedTableOf tables) ns scope.tables.items) (once_apart names (named_twice ∙ differ)) h.named
 
   -- ---- what the joins mean
 
-  -- sources of a kind, by the number and the name of a table, and by its number and its scope, and what is joined of them
-  module _ {S J : Type 0} (source : ℕ → List ℕ → S) (made : ℕ × Scope → S) (same : (n : ℕ) (own : List ℕ) (s : Scope) → IsScopeOf tables own s → source n own ≡ made (n, s))
+  -- sources of a kind, by the number and the name of a table, and by its number and the table as it is named, and what is joined of them
+  module _ {S J : Type 0} (source : ℕ → List ℕ → S) (made : ℕ × NamedTable → S) (same : (n : ℕ) (own : List ℕ) (s : NamedTable) → IsNamedTableOf tables own s → source n own ≡ made (n, s))
       (join : S → Place → ColumnNumber → J) where
     abbrev joined : List (List (List ℕ) × Join) → List J
     joined js = filter_map (λ j. option_map (λ x. join (source (length j.0) j.1.table) x.0.place x.1.place.column) (join_columns tables j)) js
@@ -194,12 +193,10 @@ module _ (tables : Database) (name : List ℕ) (joins : List Join) (scope : Join
     abbrev joined_so : List S → List Sides → List J
     joined_so sources ds = map (λ s. join s.0 s.1.outer.place s.1.inner.place.column) (zip sources ds)
 
-    joins_are : (before : List (List ℕ)) (js : List Join) (scopes : List Scope) (ds : List Sides) → AllZip (IsScopeOf tables) (map (λ j. j.table) js) scopes
+    joins_are : (before : List (List ℕ)) (js : List Join) (named_tables : List NamedTable) (ds : List Sides) → AllZip (IsNamedTableOf tables) (map (λ j. j.table) js) named_tables
         → map (λ (s : Sides). Some (sides_found s)) ds ≡ map (λ j. option_map placed_sides (join_columns tables j)) (behind before js)
-        → joined (behind before js) ≡ joined_so (map made (enumerate_from (length before) scopes)) ds
+        → joined (behind before js) ≡ joined_so (map made (enumerate_from (length before) named_tables)) ds
     joins_are before [] [] ds all are = refl
-    joins_are before [] (s ∷ ss) ds all are = absurd all
-    joins_are before (j ∷ js) [] ds all are = absurd all
     joins_are before (j ∷ js) (s ∷ ss) [] all are = cc
     joins_are before (j ∷ js) (s ∷ ss) (d ∷ ds) all are =
         let head : option_map placed_sides (join_columns tables (before, j)) ≡ Some (sides_found d) = cc in
@@ -217,10 +214,11 @@ module _ (tables : Database) (name : List ℕ) (joins : List Join) (scope : Join
         ∙ ap (λ (p : Place). join (made (length before, s)) d.outer.place p.column ∷ others) inner
         ∙ ap (λ js'. join (made (length before, s)) d.outer.place d.inner.place.column ∷ js')
         (rest ∙ ap (λ n. joined_so (map made (enumerate_from n ss)) ds) more)
+    joins_are before js named_tables ds all are = absurd all
 
     -- the first source is that of the first table, and the others are joined as their joins say
-    pub sources_are : (scopes : List Scope) (x : S) (sources : List S) → AllZip (IsScopeOf tables) names scopes
-        → sources ≡ map made (enumerate_from 0 scopes) → x ≡ get_or sources 0 x
+    pub sources_are : (named_tables : List NamedTable) (x : S) (sources : List S) → AllZip (IsNamedTableOf tables) names named_tables
+        → sources ≡ map made (enumerate_from 0 named_tables) → x ≡ get_or sources 0 x
         → (source 0 name ≡ x) × (joined (behind (name ∷ []) joins) ≡ joined_so (remove sources 0) scope.sides.items)
     sources_are [] x sources all are at = absurd all
     sources_are (s ∷ ss) x sources all are at =

@@ -7,7 +7,7 @@ use Rattle.std.proofs.lemmas.List.{map-append}
 use Rattle.std.proofs.lemmas.List.Elements.{filter_map-append}
 use Rattle.std.proofs.lemmas.List.Folds.{list_any-append, list_any_at}
 use Rattle.common_lemmas.proofs.Options.{is_some-option_map, option_map_some}
-use Rattle.common_lemmas.proofs.Tests.{list_any-map}
+use Rattle.common_lemmas.proofs.Tests.{list_any-map, any_agree, or_false}
 use Rattle.plain_tables.specs.Databases.{Database}
 use Rattle.plain_tables.specs.References.{is_typed}
 use Rattle.plain_tables.specs.Queries.{JoinedColumn, fits_one, place_meant, column_meant, places_meant, named_items}
@@ -23,9 +23,9 @@ use Rattle.plain_tables.specs.declared.command.Setting.{Setting}
 use Rattle.plain_tables.specs.declared.numbers.ColumnNumber.{ColumnNumber}
 use Rattle.plain_tables.specs.declared.numbers.Place.{Place}
 use Rattle.plain_tables.specs.declared.resolved.Assignment.{Assignment}
-use Rattle.mm_catalog.specs.declared.bind.scope.NamedColumn.{NamedColumn}
+use Rattle.mm_catalog.specs.declared.bind.names.NamedColumn.{NamedColumn}
 use Rattle.mm_catalog.specs.Resolve.{as_found, assignment_at, placed, shown_places, test_at}
-use Rattle.mm_catalog.proofs.ResolveLists.{list_any-same, leaves_out, left_out, none_left_out, length-made, any_made}
+use Rattle.mm_catalog.proofs.ResolveLists.{leaves_out, left_out, none_left_out, length-made, any_made}
 use Rattle.mm_catalog.proofs.ResolveColumns.{fits_one-is}
 
 -- ---- one name more
@@ -64,11 +64,7 @@ module _ {X : Type 0} (columns : List JoinedColumn) (name : X → ColName) where
 
 -- one element more passes or not
 pub any_more : {X : Type 0} (p : X → Bool) (xs : List X) (x : X) (b : Bool) → b ≡ p x → list_any p (xs ++ x ∷ []) ≡ (list_any p xs || b)
-any_more p xs x b h = list_any-append p xs (x ∷ []) ∙ ap (λ c. list_any p xs || (c || false)) (sym h) ∙ ap (λ c. list_any p xs || c) (or_none b)
-  where
-    or_none : (c : Bool) → (c || false) ≡ c
-    or_none true = refl
-    or_none false = refl
+any_more p xs x b h = list_any-append p xs (x ∷ []) ∙ ap (λ c. list_any p xs || (c || false)) (sym h) ∙ ap (λ c. list_any p xs || c) (or_false b)
 
 -- ---- what all names mean
 
@@ -80,8 +76,8 @@ module _ {X Y : Type 0} (columns : List JoinedColumn) (name : X → ColName) (ma
   misses-is : (xs : List X) → misses columns (map name xs) ≡ leaves_out meant xs
   misses-is xs =
       list_any-map (λ n. not (fits_one columns n)) name xs
-      ∙ list_any-same (λ x. not (fits_one columns (name x))) (λ x. not (is_some (meant x))) xs
-      (λ x. ap not (sym (is_some-option_map (make x) (place_meant columns (name x)) ∙ fits_one-is columns (name x))))
+      ∙ any_agree (λ x. not (fits_one columns (name x))) (λ x. not (is_some (meant x)))
+      (λ x. ap not (sym (is_some-option_map (make x) (place_meant columns (name x)) ∙ fits_one-is columns (name x)))) xs
 
   pub length_meant : (xs : List X) → misses columns (map name xs) ≡ false → length (filter_map meant xs) ≡ length xs
   length_meant xs h = length-made meant xs (sym (misses-is xs) ∙ h)
@@ -93,7 +89,7 @@ module _ (columns : List JoinedColumn) where
   -- ---- items
 
   misses-places : (names : List ColName) → misses columns names ≡ leaves_out (place_meant columns) names
-  misses-places names = list_any-same (λ n. not (fits_one columns n)) (λ n. not (is_some (place_meant columns n))) names (λ n. ap not (sym (fits_one-is columns n)))
+  misses-places names = any_agree (λ n. not (fits_one columns n)) (λ n. not (is_some (place_meant columns n))) (λ n. ap not (sym (fits_one-is columns n))) names
 
   pub places_fewer : (names : List ColName) → length (places_meant columns names) < length names → misses columns names ≡ true
   places_fewer names less = misses-places names ∙ left_out (place_meant columns) names less

@@ -1,4 +1,4 @@
--- The scopes of the tables that a select names, and the columns of its joins.
+-- The tables that a select names, and the columns of its joins.
 use Rattle.std.proofs.Common.{◌≡◌, ℕ, ◌+◌, ◌<◌, Bool, true, false, cond, not, is_some, is_none, List, [], ◌∷◌, ◌++◌, Option, Some, None, refl, sym, ap, ◌∙◌, map, length, get_or, inl, inr, append-nil, append_assoc, subst}
 use Rattle.std.specs.Prelude.{◌||◌}
 use Rattle.std.specs.List.{AllZip, filter, filter_map, find, flat_map, list_any, cons_option, enumerate_from}
@@ -11,22 +11,21 @@ use Rattle.std.proofs.lemmas.List.Folds.{list_any-append, list_any_at}
 use Rattle.std.proofs.lemmas.Map.Views.{any-filter_same}
 use Rattle.std.proofs.lemmas.Slice.Eq.{bytes_eq-Decides}
 use Rattle.std.proofs.lemmas.Slice.Zip.{all_zipped_more}
-use Rattle.common_lemmas.proofs.Tests.{list_any-map}
+use Rattle.common_lemmas.proofs.Tests.{list_any-map, or_false, or_true}
 use Rattle.plain_tables.specs.Databases.{Database, is_named, table_named}
 use Rattle.plain_tables.specs.declared.numbers.Place.{Place}
 use Rattle.plain_tables.specs.Queries.{JoinedColumn, column_number, sides_meant, source_columns as plain_columns}
 use Rattle.plain_tables.specs.Resolving.{once, select_names, behind, join_columns, columns_of as named_columns}
 use Rattle.plain_tables.specs.declared.command.Join.{Join}
 use Rattle.plain_tables.specs.declared.schema.Column.{Column}
+use Rattle.mm_catalog.specs.declared.bind.named_table.NamedTable.{NamedTable}
 use Rattle.mm_catalog.specs.declared.bind.scope.Scope.{Scope}
-use Rattle.mm_catalog.specs.declared.bind.joined_scope.JoinedScope.{JoinedScope}
-use Rattle.mm_catalog.specs.Resolve.{IsScopeOf, place_in, columns_of, columns_of_all, source_columns, placed}
+use Rattle.mm_catalog.specs.Resolve.{IsNamedTableOf, place_in, columns_of, columns_of_all, source_columns, placed}
 use Rattle.mm_catalog.specs.Select.{placed_sides, sides_found, AreJoined}
 
 pub zip_placed : (outer inner : Option JoinedColumn) → option_map placed_sides (option_zip outer inner) ≡ option_zip (option_map placed outer) (option_map placed inner)
-zip_placed None inner = refl
-zip_placed (Some x) None = refl
 zip_placed (Some x) (Some y) = refl
+zip_placed outer inner = refl
 
 -- ---- names, each once
 
@@ -70,7 +69,7 @@ once-push : (names : List (List ℕ)) (name : List ℕ)
 once-push [] name = refl
 once-push (m ∷ ms) name = ap (λ rest. m ∷ filter (λ k. not (bytes_eq m k)) rest) (once-push ms name) ∙ once_more m name (once ms)
 
--- ---- the scopes of tables
+-- ---- the tables of names
 
 find_passes : {X : Type 0} (p : X → Bool) (xs : List X) (x : X) → find p xs ≡ Some x → p x ≡ true
 find_passes p [] x h = cc
@@ -80,46 +79,44 @@ find_passes p (y ∷ ys) x h = elim (cases_Bool (p y)) [
 ]
 
 module _ (tables : Database) where
-  -- a scope goes by the name that it is of
-  pub called_so : (name : List ℕ) (scope : Scope) → IsScopeOf tables name scope → scope.name.now ≡ name
-  called_so name scope h = sym h.called ∙ (bytes_eq-Decides h.table.name name).0 (find_passes (is_named name) tables h.table h.found)
+  -- a table goes by the name that it is of
+  pub called_so : (name : List ℕ) (named_table : NamedTable) → IsNamedTableOf tables name named_table → named_table.name.now ≡ name
+  called_so name named_table h = sym h.called ∙ (bytes_eq-Decides h.table.name name).0 (find_passes (is_named name) tables h.table h.found)
 
-  any_named : (name : List ℕ) (own : Scope) (names : List (List ℕ)) (scopes : List Scope) → IsScopeOf tables name own → AllZip (IsScopeOf tables) names scopes
-      → list_any (λ (s : Scope). bytes_eq s.name.now own.name.now) scopes ≡ list_any (λ k. bytes_eq k name) names
+  any_named : (name : List ℕ) (own : NamedTable) (names : List (List ℕ)) (named_tables : List NamedTable) → IsNamedTableOf tables name own → AllZip (IsNamedTableOf tables) names named_tables
+      → list_any (λ (s : NamedTable). bytes_eq s.name.now own.name.now) named_tables ≡ list_any (λ k. bytes_eq k name) names
   any_named name own [] [] h all = refl
-  any_named name own [] (s ∷ ss) h all = absurd all
-  any_named name own (n ∷ ns) [] h all = absurd all
   any_named name own (n ∷ ns) (s ∷ ss) h all =
-      ap (λ k. bytes_eq k own.name.now || list_any (λ (t : Scope). bytes_eq t.name.now own.name.now) ss) (called_so n s all.0)
-      ∙ ap (λ k. bytes_eq n k || list_any (λ (t : Scope). bytes_eq t.name.now own.name.now) ss) (called_so name own h)
+      ap (λ k. bytes_eq k own.name.now || list_any (λ (t : NamedTable). bytes_eq t.name.now own.name.now) ss) (called_so n s all.0)
+      ∙ ap (λ k. bytes_eq n k || list_any (λ (t : NamedTable). bytes_eq t.name.now own.name.now) ss) (called_so name own h)
       ∙ ap (λ b. bytes_eq n name || b) (any_named name own ns ss h all.1)
+  any_named name own names named_tables h all = absurd all
 
-  more_scopes : (b : Bool) (name : List ℕ) (own : Scope) (names : List (List ℕ)) (scopes : List Scope) → IsScopeOf tables name own → AllZip (IsScopeOf tables) names scopes
-      → AllZip (IsScopeOf tables) (cond b names (names ++ name ∷ [])) (cond b scopes (scopes ++ own ∷ []))
-  more_scopes true name own names scopes h all = all
-  more_scopes false name own names scopes h all = all_zipped_more (IsScopeOf tables) names scopes name own all h
+  more_named : (b : Bool) (name : List ℕ) (own : NamedTable) (names : List (List ℕ)) (named_tables : List NamedTable) → IsNamedTableOf tables name own → AllZip (IsNamedTableOf tables) names named_tables
+      → AllZip (IsNamedTableOf tables) (cond b names (names ++ name ∷ [])) (cond b named_tables (named_tables ++ own ∷ []))
+  more_named true name own names named_tables h all = all
+  more_named false name own names named_tables h all = all_zipped_more (IsNamedTableOf tables) names named_tables name own all h
 
   -- their columns are those of the tables
-  table_columns : (k : ℕ) (name : List ℕ) (scope : Scope) (h : IsScopeOf tables name scope) → plain_columns (k, h.table) ≡ source_columns (k, scope)
-  table_columns k name scope h =
+  table_columns : (k : ℕ) (name : List ℕ) (named_table : NamedTable) (h : IsNamedTableOf tables name named_table) → plain_columns (k, h.table) ≡ source_columns (k, named_table)
+  table_columns k name named_table h =
       let of : List ℕ → List Column → List JoinedColumn =
       λ own columns. map (λ c. record { table = own; place = place_in k (column_number c.0); column = c.1 }) (enumerate_from 0 columns) in
-      ap (λ own. of own h.table.columns) h.called ∙ ap (of scope.name.now) h.columns
+      ap (λ own. of own h.table.columns) h.called ∙ ap (of named_table.name.now) h.columns
 
-  columns_from : (k : ℕ) (names : List (List ℕ)) (scopes : List Scope) → AllZip (IsScopeOf tables) names scopes
-      → flat_map plain_columns (enumerate_from k (filter_map (λ n. table_named n tables) names)) ≡ flat_map source_columns (enumerate_from k scopes)
+  columns_from : (k : ℕ) (names : List (List ℕ)) (named_tables : List NamedTable) → AllZip (IsNamedTableOf tables) names named_tables
+      → flat_map plain_columns (enumerate_from k (filter_map (λ n. table_named n tables) names)) ≡ flat_map source_columns (enumerate_from k named_tables)
   columns_from k [] [] all = refl
-  columns_from k [] (s ∷ ss) all = absurd all
-  columns_from k (n ∷ ns) [] all = absurd all
   columns_from k (n ∷ ns) (s ∷ ss) all =
       ap (λ o. flat_map plain_columns (enumerate_from k (cons_option o (filter_map (λ m. table_named m tables) ns)))) all.0.found
       ∙ ap (λ cs. cs ++ flat_map plain_columns (enumerate_from (k + 1) (filter_map (λ m. table_named m tables) ns))) (table_columns k n s all.0)
       ∙ ap (λ cs. source_columns (k, s) ++ cs) (columns_from (k + 1) ns ss all.1)
+  columns_from k names named_tables all = absurd all
 
-  pub columns_are : (names : List (List ℕ)) (scopes : List Scope) → AllZip (IsScopeOf tables) (once names) scopes → named_columns tables names ≡ columns_of_all scopes
-  columns_are names scopes all = columns_from 0 (once names) scopes all
+  pub columns_are : (names : List (List ℕ)) (named_tables : List NamedTable) → AllZip (IsNamedTableOf tables) (once names) named_tables → named_columns tables names ≡ columns_of_all named_tables
+  columns_are names named_tables all = columns_from 0 (once names) named_tables all
 
-  own_columns_are : (name : List ℕ) (own : Scope) → IsScopeOf tables name own → named_columns tables (name ∷ []) ≡ columns_of own
+  own_columns_are : (name : List ℕ) (own : NamedTable) → IsNamedTableOf tables name own → named_columns tables (name ∷ []) ≡ columns_of own
   own_columns_are name own h = columns_from 0 (name ∷ []) (own ∷ []) (h, tt)
 
 -- ---- joins, one after another
@@ -131,14 +128,6 @@ behind-append names (j ∷ js) others =
     ap (λ rest. (names, j) ∷ rest)
     (behind-append (names ++ j.table ∷ []) js others
     ∙ ap (λ ns. behind (names ++ j.table ∷ []) js ++ behind ns others) (append_assoc names (j.table ∷ []) (map (λ (x : Join). x.table) js)))
-
-pub or_true : (b : Bool) → (b || true) ≡ true
-or_true true = refl
-or_true false = refl
-
-or_false : (b : Bool) → (b || false) ≡ b
-or_false true = refl
-or_false false = refl
 
 none_some : {X : Type 0} (o : Option X) → is_none o ≡ not (is_some o)
 none_some None = refl
@@ -175,31 +164,31 @@ module _ (tables : Database) (name : List ℕ) where
     behind_more : behind (name ∷ []) more ≡ behind (name ∷ []) joins ++ (names, join) ∷ []
     behind_more = behind-append (name ∷ []) joins (join ∷ [])
 
-    module _ (missed : Bool) (before : JoinedScope) (own : Scope) (h : AreJoined tables name joins missed before) (k : IsScopeOf tables join.table own) where
+    module _ (missed : Bool) (before : Scope) (own : NamedTable) (h : AreJoined tables name joins missed before) (k : IsNamedTableOf tables join.table own) where
       abbrev meant : Option (JoinedColumn × JoinedColumn)
-      meant = sides_meant (columns_of_all before.scopes.items) (columns_of own) join
+      meant = sides_meant (columns_of_all before.tables.items) (columns_of own) join
 
       -- what the next join names
       columns_next : columns (names, join) ≡ meant
       columns_next =
-          ap (λ cs. sides_meant cs (named_columns tables (join.table ∷ [])) join) (columns_are tables names before.scopes.items h.scopes)
-          ∙ ap (λ cs. sides_meant (columns_of_all before.scopes.items) cs join) (own_columns_are tables join.table own k)
+          ap (λ cs. sides_meant cs (named_columns tables (join.table ∷ [])) join) (columns_are tables names before.tables.items h.named)
+          ∙ ap (λ cs. sides_meant (columns_of_all before.tables.items) cs join) (own_columns_are tables join.table own k)
 
       -- the scope with one join more
-      pub joined_more : (after : JoinedScope) (named : Bool)
-          → after.scopes.items ≡ cond (list_any (λ (s : Scope). bytes_eq s.name.now own.name.now) before.scopes.items) before.scopes.items (before.scopes.items ++ own ∷ [])
+      pub joined_more : (after : Scope) (named : Bool)
+          → after.tables.items ≡ cond (list_any (λ (s : NamedTable). bytes_eq s.name.now own.name.now) before.tables.items) before.tables.items (before.tables.items ++ own ∷ [])
           → named ≡ is_some meant → map sides_found after.sides.items ≡ map sides_found before.sides.items ++ option_to_list (option_map placed_sides meant)
           → AreJoined tables name more (missed || not named) after
-      joined_more after named scopes has sides =
+      joined_more after named tables_are has sides =
           let b = list_any (λ m. bytes_eq m join.table) (once names) in
           let once_named : once (select_names name more) ≡ cond b (once names) (once names ++ join.table ∷ []) = ap once names_more ∙ once-push names join.table in
-          let are : after.scopes.items ≡ cond b before.scopes.items (before.scopes.items ++ own ∷ []) =
-          scopes ∙ ap (λ x. cond x before.scopes.items (before.scopes.items ++ own ∷ [])) (any_named tables join.table own (once names) before.scopes.items k h.scopes) in
+          let are : after.tables.items ≡ cond b before.tables.items (before.tables.items ++ own ∷ []) =
+          tables_are ∙ ap (λ x. cond x before.tables.items (before.tables.items ++ own ∷ [])) (any_named tables join.table own (once names) before.tables.items k h.named) in
           record {
             there = ap (list_any lacks) names_more ∙ list_any-append lacks names (join.table ∷ [])
                 ∙ ap (λ b. b || (lacks join.table || false)) h.there ∙ ap (λ o. not (is_some o) || false) k.found;
-            scopes = subst (λ ns. AllZip (IsScopeOf tables) ns after.scopes.items) (sym once_named)
-                (subst (AllZip (IsScopeOf tables) (cond b (once names) (once names ++ join.table ∷ []))) (sym are) (more_scopes tables b join.table own (once names) before.scopes.items k h.scopes));
+            named = subst (λ ns. AllZip (IsNamedTableOf tables) ns after.tables.items) (sym once_named)
+                (subst (AllZip (IsNamedTableOf tables) (cond b (once names) (once names ++ join.table ∷ []))) (sym are) (more_named tables b join.table own (once names) before.tables.items k h.named));
             misses = sym (
                 ap (λ js. list_any is_none (map columns js)) behind_more
                 ∙ ap (list_any is_none) (map-append columns (behind (name ∷ []) joins) ((names, join) ∷ []))

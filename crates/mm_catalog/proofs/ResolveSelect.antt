@@ -21,15 +21,15 @@ use Rattle.plain_tables.specs.declared.resolved.Shown.{Shown}
 use Rattle.plain_tables.specs.declared.resolved.Source.{Source}
 use Rattle.plain_tables.specs.declared.resolved.Resolved.{Resolved}
 use Rattle.plain_tables.specs.declared.resolved.Resolved.TheVariants as resolved
+use Rattle.mm_catalog.specs.declared.bind.named_table.NamedTable.{NamedTable}
 use Rattle.mm_catalog.specs.declared.bind.scope.Scope.{Scope}
-use Rattle.mm_catalog.specs.declared.bind.joined_scope.JoinedScope.{JoinedScope}
-use Rattle.mm_catalog.specs.Resolve.{IsScopeOf, columns_of_all}
+use Rattle.mm_catalog.specs.Resolve.{IsNamedTableOf, columns_of_all}
 use Rattle.mm_catalog.specs.ResolveChecks.{verdict}
-use Rattle.mm_catalog.specs.Select.{IsJoinedScopeOf, asks_too_much, select_rest, source_on, joined_by}
+use Rattle.mm_catalog.specs.Select.{IsScopeOf, asks_too_much, select_rest, source_on, joined_by}
 use Rattle.mm_catalog.proofs.ResolveNamed.{length-shown}
-use Rattle.mm_catalog.proofs.ResolveJoins.{joined_checks, joined_checks-are, many_joins, scopes_apart, sources_are}
+use Rattle.mm_catalog.proofs.ResolveJoins.{joined_checks, joined_checks-are, many_joins, named_apart, sources_are}
 use Rattle.mm_catalog.proofs.ResolveScopes.{columns_are}
-use Rattle.mm_catalog.proofs.ResolveCommands.{meaning_ok, meaning_err, first_missed, rest_missed}
+use Rattle.mm_catalog.proofs.ResolveCommands.{first_missed, meaning-is, rest_missed, unless_refused}
 
 -- ---- the whole
 
@@ -37,11 +37,8 @@ use Rattle.mm_catalog.proofs.ResolveCommands.{meaning_ok, meaning_err, first_mis
 sorted : (p t m s : Bool) (r : Result (Unit {0}) Refusal)
     → cond p (Err ColumnNamedTwice) (cond t (Err TableNamedTwice) (cond (m || s) (Err WrongType) r))
     ≡ cond p (Err ColumnNamedTwice) (cond t (Err TableNamedTwice) (cond s (Err WrongType) (cond m (Err WrongType) r)))
-sorted true t m s r = refl
-sorted false true m s r = refl
 sorted false false true true r = refl
-sorted false false true false r = refl
-sorted false false false s r = refl
+sorted p t m s r = refl
 
 module _ (tables : Database) (distinct : Bool) (its : Items) (name : List ℕ) (joins : List Join) (conditions : List Cond) where
   abbrev names : List (List ℕ)
@@ -73,19 +70,24 @@ module _ (tables : Database) (distinct : Bool) (its : Items) (name : List ℕ) (
   abbrev pub query : Shown → Source → List Joined → Resolved
   query shown source others = resolved.Select (record { distinct = distinct; shown = shown; source = source; joins = others })
 
-  abbrev selection : List JoinedColumn → Resolved
+  abbrev pub selection : List JoinedColumn → Resolved
   selection cs = query (shown_of cs its) (source_of tables cs conditions 0 name) (joins_of tables cs conditions (behind (name ∷ []) joins))
 
   module _ (there : misses_table ≡ false) where
     found_is : resolved_so ≡ meaning (checks (named_columns tables names)) (selection (named_columns tables names))
     found_is = ap (λ b. cond b (Err NoSuchTable) (meaning (checks (named_columns tables names)) (selection (named_columns tables names)))) there
 
-  module _ (scope : JoinedScope) (h : IsJoinedScopeOf tables name joins scope) where
+  module _ (scope : Scope) (h : IsScopeOf tables name joins scope) where
     abbrev columns : List JoinedColumn
-    columns = columns_of_all scope.scopes.items
+    columns = columns_of_all scope.tables.items
+
+    -- the check of values and that of numbers, behind those of tables and joins
+    abbrev late : Bool → Shown → ℕ → List Check
+    late mistyped shown many =
+        record { refuses = mistyped; refusal = WrongType } ∷ record { refuses = asks_too_much shown (length conditions) many; refusal = TooMany } ∷ []
 
     select_is : resolved_so ≡ meaning (checks columns) (selection columns)
-    select_is = found_is h.there ∙ ap (λ cs. meaning (checks cs) (selection cs)) (columns_are tables names scope.scopes.items h.scopes)
+    select_is = found_is h.there ∙ ap (λ cs. meaning (checks cs) (selection cs)) (columns_are tables names scope.tables.items h.named)
 
     column_missed : misses columns (named_items its ++ condition_names conditions) ≡ true → (e : Refusal) → e ≡ NoSuchColumn → resolved_so ≡ Err e
     column_missed missed e is = select_is ∙ rw (missed, is) refl
@@ -98,11 +100,6 @@ module _ (tables : Database) (distinct : Bool) (its : Items) (name : List ℕ) (
       conditions_missed missed = column_missed (rest_missed columns (named_items its) (condition_names conditions) true items_named missed)
 
       module _ (named : misses columns (condition_names conditions) ≡ false) (mistyped : Bool) (types : mistyped ≡ list_any (is_mistyped tables columns) conditions) where
-        -- the check of values and that of numbers, behind those of tables and joins
-        abbrev late : Shown → ℕ → List Check
-        late shown many =
-            record { refuses = mistyped; refusal = WrongType } ∷ record { refuses = asks_too_much shown (length conditions) many; refusal = TooMany } ∷ []
-
         select_named : verdict (checks columns) ≡ verdict (select_rest tables scope (shown_of columns its) (length conditions) mistyped)
         select_named =
             rw (
@@ -112,27 +109,22 @@ module _ (tables : Database) (distinct : Bool) (its : Items) (name : List ℕ) (
             ) (sorted (repeats same_place (places_meant columns (named_items its))) (repeats bytes_eq names) mistyped (list_any (λ s. option_map_or (differ_in_type tables) s false) sides) _
             ∙ ap (λ n. verdict (joined_checks tables name joins scope h its ++ record { refuses = mistyped; refusal = WrongType } ∷ record { refuses = nat_lt 16 n || nat_lt 8 (length conditions) || nat_lt 3 (length joins); refusal = TooMany } ∷ []))
             (sym (length-shown columns its items_named))
-            ∙ ap (λ n. verdict (joined_checks tables name joins scope h its ++ late (shown_of columns its) n)) (many_joins tables name joins scope h)
-            ∙ ap (λ cs. verdict (cs ++ late (shown_of columns its) (length scope.sides.items))) (joined_checks-are tables name joins scope h its))
+            ∙ ap (λ n. verdict (joined_checks tables name joins scope h its ++ late mistyped (shown_of columns its) n)) (many_joins tables name joins scope h)
+            ∙ ap (λ cs. verdict (cs ++ late mistyped (shown_of columns its) (length scope.sides.items))) (joined_checks-are tables name joins scope h its))
 
-        pub select_refused : (e : Refusal) → verdict (select_rest tables scope (shown_of columns its) (length conditions) mistyped) ≡ Err e → resolved_so ≡ Err e
-        select_refused e err = select_is ∙ meaning_err (checks columns) (selection columns) e (select_named ∙ err)
+        pub select_checked : resolved_so ≡ unless_refused (verdict (select_rest tables scope (shown_of columns its) (length conditions) mistyped)) (Ok (selection columns))
+        select_checked = select_is ∙ meaning-is (checks columns) (selection columns) ∙ ap (λ v. unless_refused v (Ok (selection columns))) select_named
 
-        select_meant : verdict (select_rest tables scope (shown_of columns its) (length conditions) mistyped) ≡ Ok tt → resolved_so ≡ Ok (selection columns)
-        select_meant ok = select_is ∙ meaning_ok (checks columns) (selection columns) (select_named ∙ ok)
+    -- ---- what it means
 
-        -- ---- what it means
+    source_is : (n : ℕ) (own : List ℕ) (s : NamedTable) → IsNamedTableOf tables own s → source_of tables columns conditions n own ≡ source_on columns conditions (n, s)
+    source_is n own s k = ap (λ t. record { table = t; tests = (source_on columns conditions (n, s)).tests }) k.number
 
-        source_is : (n : ℕ) (own : List ℕ) (s : Scope) → IsScopeOf tables own s → source_of tables columns conditions n own ≡ source_on columns conditions (n, s)
-        source_is n own s k = ap (λ t. record { table = t; tests = (source_on columns conditions (n, s)).tests }) k.number
-
-        pub select_done : (source : Source) (sources : List Source) → sources ≡ map (source_on columns conditions) (enumerate_from 0 scope.scopes.items) → source ≡ get_or sources 0 source
-            → verdict (select_rest tables scope (shown_of columns its) (length conditions) mistyped) ≡ Ok tt
-            → resolved_so ≡ Ok (query (shown_of columns its) source (map (λ s. joined_by s.0 s.1) (zip (remove sources 0) scope.sides.items)))
-        select_done source sources made at ok =
-            let join : Source → Place → ColumnNumber → Joined = λ s outer inner. record { source = s; outer = outer; inner = inner } in
-            let all = scopes_apart tables name joins scope h (shown_of columns its) (late (shown_of columns its) (length scope.sides.items)) ok in
-            let parts = sources_are tables name joins scope h (source_of tables columns conditions) (source_on columns conditions) source_is join scope.scopes.items source sources all made at in
-            select_meant ok
-            ∙ ap (λ x. Ok (query (shown_of columns its) x (joins_of tables columns conditions (behind (name ∷ []) joins)))) parts.0
-            ∙ ap (λ js. Ok (query (shown_of columns its) source js)) parts.1
+    pub selection_is : (mistyped : Bool) (source : Source) (sources : List Source) → sources ≡ map (source_on columns conditions) (enumerate_from 0 scope.tables.items) → source ≡ get_or sources 0 source
+        → verdict (select_rest tables scope (shown_of columns its) (length conditions) mistyped) ≡ Ok tt
+        → selection columns ≡ query (shown_of columns its) source (map (λ s. joined_by s.0 s.1) (zip (remove sources 0) scope.sides.items))
+    selection_is mistyped source sources made at ok =
+        let join : Source → Place → ColumnNumber → Joined = λ s outer inner. record { source = s; outer = outer; inner = inner } in
+        let all = named_apart tables name joins scope h (shown_of columns its) (late mistyped (shown_of columns its) (length scope.sides.items)) ok in
+        let parts = sources_are tables name joins scope h (source_of tables columns conditions) (source_on columns conditions) source_is join scope.tables.items source sources all made at in
+        λ i. query (shown_of columns its) (parts.0 i) (parts.1 i)

@@ -34,14 +34,14 @@ use Rattle.plain_statements.specs.declared.resolution.Template.TheVariants as te
 use Rattle.plain_statements.specs.Laws.{Refuses, Resolves}
 use Rattle.plain_statements.specs.Slots.{condition_needs, opened, row_needs, setting_needs, slot_assignments_of, slot_condition_names, slot_setting_name, slot_tests_of}
 use Rattle.plain_statements.proofs.Resolutions.{Meant, first, resolution_of, settled, settles, slot_joins_of, slot_source_of}
-use Rattle.mm_catalog.specs.declared.bind.joined_scope.JoinedScope.{JoinedScope}
 use Rattle.mm_catalog.specs.declared.bind.scope.Scope.{Scope}
-use Rattle.mm_catalog.specs.Resolve.{IsScopeOf, columns_of, columns_of_all}
+use Rattle.mm_catalog.specs.declared.bind.named_table.NamedTable.{NamedTable}
+use Rattle.mm_catalog.specs.Resolve.{IsNamedTableOf, columns_of, columns_of_all}
 use Rattle.mm_catalog.specs.ResolveChecks.{delete_late, update_late, verdict}
-use Rattle.mm_catalog.specs.Select.{IsJoinedScopeOf, joined_rest, select_late}
+use Rattle.mm_catalog.specs.Select.{IsScopeOf, joined_rest, select_late}
 use Rattle.mm_catalog.specs.Slots.{slot_assignment_at, slot_joined_by, slot_source_on, slot_test_at}
-use Rattle.mm_catalog.proofs.ResolveCommands.{in_scope, own_columns-are, first_missed, rest_missed}
-use Rattle.mm_catalog.proofs.ResolveJoins.{joined_checks, joined_checks-are, many_joins, scopes_apart, sources_are}
+use Rattle.mm_catalog.proofs.ResolveCommands.{on_table, own_columns-are, first_missed, rest_missed, unless_refused}
+use Rattle.mm_catalog.proofs.ResolveJoins.{joined_checks, joined_checks-are, many_joins, named_apart, sources_are}
 use Rattle.mm_catalog.proofs.ResolveNamed.{key_set, length_meant, length-shown}
 use Rattle.mm_catalog.proofs.ResolveScopes.{columns_are}
 
@@ -56,27 +56,19 @@ answers tables s (Err e) is = (tt, λ other values. settles tables s values ∙ 
 pub refused : (tables : Database) (s : Statement) (e : Refusal) → resolution_of tables s ≡ Err e → Refuses tables s e
 refused tables s e is values = settles tables s values ∙ ap (settled values) is
 
-first-passes : (checks : List Check) (m : Meant) → verdict checks ≡ Ok tt → first checks m ≡ m
-first-passes [] m h = refl
-first-passes (check ∷ checks) m h =
-    elim (check.refuses) as (λ b. (if b then Err check.refusal else verdict checks) ≡ Ok tt → (if b then Err check.refusal else first checks m) ≡ m) [
-      | true ↦ λ e. cc
-      | false ↦ λ e. first-passes checks m e
-    ] h
+first-is : (checks : List Check) (m : Meant) → first checks m ≡ unless_refused (verdict checks) m
+first-is [] m = refl
+first-is (check ∷ checks) m =
+    elim (check.refuses) as (λ b. (if b then Err check.refusal else first checks m) ≡ unless_refused (if b then Err check.refusal else verdict checks) m) [
+      | true ↦ refl
+      | false ↦ first-is checks m
+    ]
 
-first-refuses : (checks : List Check) (m : Meant) (refusal : Refusal) → verdict checks ≡ Err refusal → first checks m ≡ Err refusal
-first-refuses [] m refusal h = cc
-first-refuses (check ∷ checks) m refusal h =
-    elim (check.refuses) as (λ b. (if b then Err check.refusal else verdict checks) ≡ Err refusal → (if b then Err check.refusal else first checks m) ≡ Err refusal) [
-      | true ↦ λ e. let same : check.refusal ≡ refusal = cc in ap (λ x. Err x) same
-      | false ↦ λ e. first-refuses checks m refusal e
-    ] h
+-- ---- statements on one table
 
--- ---- the scope of a statement on one table
-
-module _ (tables : Database) (name : List ℕ) (scope : Scope) (h : IsScopeOf tables name scope) where
+module _ (tables : Database) (name : List ℕ) (named_table : NamedTable) (h : IsNamedTableOf tables name named_table) where
   abbrev columns : List JoinedColumn
-  columns = columns_of scope
+  columns = columns_of named_table
 
   -- ---- insert
 
@@ -87,13 +79,13 @@ module _ (tables : Database) (name : List ℕ) (scope : Scope) (h : IsScopeOf ta
     abbrev inserts : Meant
     inserts = resolution_of tables (statement.Insert name slots)
 
-    insert_is : inserts ≡ insert_on scope.table scope.columns.now
-    insert_is = in_scope tables name scope h (λ n table. insert_on n table.columns) (Err NoSuchTable) ∙ ap (insert_on scope.table) h.columns
+    insert_is : inserts ≡ insert_on named_table.table named_table.columns.now
+    insert_is = on_table tables name named_table h (λ n table. insert_on n table.columns) (Err NoSuchTable) ∙ ap (insert_on named_table.table) h.columns
 
-    pub insert-counted : (b : Bool) → (length slots == length scope.columns.now) ≡ b
-        → inserts ≡ (if not b then Err WrongNumberOfValues else opened (row_needs tables scope.columns.now slots) [] (template.Insert scope.table slots))
+    pub insert-counted : (b : Bool) → (length slots == length named_table.columns.now) ≡ b
+        → inserts ≡ (if not b then Err WrongNumberOfValues else opened (row_needs tables named_table.columns.now slots) [] (template.Insert named_table.table slots))
     insert-counted b is =
-        insert_is ∙ ap (λ x. if not x then Err WrongNumberOfValues else opened (row_needs tables scope.columns.now slots) [] (template.Insert scope.table slots)) is
+        insert_is ∙ ap (λ x. if not x then Err WrongNumberOfValues else opened (row_needs tables named_table.columns.now slots) [] (template.Insert named_table.table slots)) is
 
   -- ---- delete
 
@@ -106,21 +98,17 @@ module _ (tables : Database) (name : List ℕ) (scope : Scope) (h : IsScopeOf ta
     abbrev deletes : Meant
     deletes = resolution_of tables (statement.Delete name conditions)
 
-    delete_is : deletes ≡ delete_on scope.table columns
-    delete_is = in_scope tables name scope h (λ n table. delete_on n (own_columns table)) (Err NoSuchTable) ∙ ap (delete_on scope.table) (own_columns-are tables name scope h)
+    delete_is : deletes ≡ delete_on named_table.table columns
+    delete_is = on_table tables name named_table h (λ n table. delete_on n (own_columns table)) (Err NoSuchTable) ∙ ap (delete_on named_table.table) (own_columns-are tables name named_table h)
 
     pub delete-missed : misses columns (slot_condition_names conditions) ≡ true → deletes ≡ Err NoSuchColumn
     delete-missed missed = delete_is ∙ rw missed refl
 
     pub delete-found : misses columns (slot_condition_names conditions) ≡ false → (tests : List SlotTest) → tests ≡ slot_tests_of columns conditions
-        → deletes ≡ opened (condition_needs tables columns conditions) (delete_late (length tests)) (template.Delete scope.table tests)
+        → deletes ≡ opened (condition_needs tables columns conditions) (delete_late (length tests)) (template.Delete named_table.table tests)
     delete-found named tests are =
-        let needs = condition_needs tables columns conditions in
         let many = ap length are ∙ length_meant columns (λ (c : SlotCond). c.column) slot_test_at conditions named in
-        delete_is
-        ∙ ap (λ b. if b then Err NoSuchColumn else opened needs (delete_late (length conditions)) (template.Delete scope.table (slot_tests_of columns conditions))) named
-        ∙ ap (λ n. opened needs (delete_late n) (template.Delete scope.table (slot_tests_of columns conditions))) (sym many)
-        ∙ ap (λ ts. opened needs (delete_late (length tests)) (template.Delete scope.table ts)) (sym are)
+        delete_is ∙ rw (named, sym many, sym are) refl
 
   -- ---- update
 
@@ -148,8 +136,8 @@ module _ (tables : Database) (name : List ℕ) (scope : Scope) (h : IsScopeOf ta
     abbrev updates : Meant
     updates = resolution_of tables (statement.Update name settings conditions)
 
-    update_is : updates ≡ update_on scope.table columns
-    update_is = in_scope tables name scope h (λ n table. update_on n (own_columns table)) (Err NoSuchTable) ∙ ap (update_on scope.table) (own_columns-are tables name scope h)
+    update_is : updates ≡ update_on named_table.table columns
+    update_is = on_table tables name named_table h (λ n table. update_on n (own_columns table)) (Err NoSuchTable) ∙ ap (update_on named_table.table) (own_columns-are tables name named_table h)
 
     pub settings-missed : misses columns (map slot_setting_name settings) ≡ true → updates ≡ Err NoSuchColumn
     settings-missed missed = update_is ∙ rw (first_missed columns (map slot_setting_name settings) (slot_condition_names conditions) missed) refl
@@ -167,25 +155,18 @@ module _ (tables : Database) (name : List ℕ) (scope : Scope) (h : IsScopeOf ta
         update-twice again = update_is ∙ rw (all_named, again) refl
 
         pub update-found : twice ≡ false → (set : List SlotAssignment) (tests : List SlotTest) → set ≡ slot_assignments_of columns settings → tests ≡ slot_tests_of columns conditions
-            → updates ≡ opened (update_needs columns) (update_late set (length tests)) (template.Update scope.table set tests)
+            → updates ≡ opened (update_needs columns) (update_late set (length tests)) (template.Update named_table.table set tests)
         update-found once set tests assigned are =
             let many = ap length are ∙ length_meant columns (λ (c : SlotCond). c.column) slot_test_at conditions named in
-            let done : Template = template.Update scope.table (slot_assignments_of columns settings) (slot_tests_of columns conditions) in
             let key = key_set columns slot_setting_name slot_assignment_at (λ (a : SlotAssignment). a.column) (λ _ _. refl) settings in
-            update_is
-            ∙ ap (λ b. if b then Err NoSuchColumn else if twice then Err ColumnNamedTwice else opened (update_needs columns) (late columns) done) all_named
-            ∙ ap (λ b. if b then Err ColumnNamedTwice else opened (update_needs columns) (late columns) done) once
-            ∙ ap (λ b. opened (update_needs columns) (record { refuses = b; refusal = KeyCannotBeSet } ∷ delete_late (length conditions)) done) key
-            ∙ ap (λ n. opened (update_needs columns) (update_late (slot_assignments_of columns settings) n) done) (sym many)
-            ∙ ap (λ as'. opened (update_needs columns) (update_late as' (length tests)) (template.Update scope.table as' (slot_tests_of columns conditions))) (sym assigned)
-            ∙ ap (λ ts. opened (update_needs columns) (update_late set (length tests)) (template.Update scope.table set ts)) (sym are)
+            update_is ∙ rw (all_named, once, key, sym many, sym assigned, sym are) refl
 
 -- ---- select
 
 module _ (tables : Database) (distinct : Bool) (its : Items) (name : List ℕ) (joins : List Join) (conditions : List SlotCond)
-    (scope : JoinedScope) (h : IsJoinedScopeOf tables name joins scope) where
+    (scope : Scope) (h : IsScopeOf tables name joins scope) where
   abbrev all_columns : List JoinedColumn
-  all_columns = columns_of_all scope.scopes.items
+  all_columns = columns_of_all scope.tables.items
 
   abbrev names : List (List ℕ)
   names = select_names name joins
@@ -197,7 +178,7 @@ module _ (tables : Database) (distinct : Bool) (its : Items) (name : List ℕ) (
   abbrev pub slot_query : Shown → SlotSource → List SlotJoined → Template
   slot_query shown source others = template.Select (record { distinct = distinct; shown = shown; source = source; joins = others })
 
-  abbrev selection : List JoinedColumn → Template
+  abbrev pub selection : List JoinedColumn → Template
   selection cs = slot_query (shown_of cs its) (slot_source_of tables cs conditions 0 name) (slot_joins_of tables cs conditions (behind (name ∷ []) joins))
 
   abbrev last : Shown → ℕ → List Check
@@ -221,7 +202,7 @@ module _ (tables : Database) (distinct : Bool) (its : Items) (name : List ℕ) (
   select_is : selects ≡ found_on all_columns
   select_is =
       ap (λ b. if b then Err NoSuchTable else found_on (named_columns tables names)) h.there
-      ∙ ap found_on (columns_are tables names scope.scopes.items h.scopes)
+      ∙ ap found_on (columns_are tables names scope.tables.items h.named)
 
   select_missed : misses all_columns (named_items its ++ slot_condition_names conditions) ≡ true → selects ≡ Err NoSuchColumn
   select_missed missed = select_is ∙ rw missed refl
@@ -251,24 +232,20 @@ module _ (tables : Database) (distinct : Bool) (its : Items) (name : List ℕ) (
           ∙ ap (λ cs. first cs (opened (asked all_columns) (last (shown_of all_columns its) (length scope.sides.items)) (selection all_columns)))
           (joined_checks-are tables name joins scope h its)
 
-      pub select-refused : (e : Refusal) → verdict (joined_rest tables scope (shown_of all_columns its)) ≡ Err e → selects ≡ Err e
-      select-refused e err = named_is ∙ first-refuses (joined_rest tables scope (shown_of all_columns its)) _ e err
+      pub select-checked : selects ≡ unless_refused (verdict (joined_rest tables scope (shown_of all_columns its)))
+          (opened (asked all_columns) (last (shown_of all_columns its) (length scope.sides.items)) (selection all_columns))
+      select-checked = named_is ∙ first-is (joined_rest tables scope (shown_of all_columns its)) _
 
-      source_is : (n : ℕ) (own : List ℕ) (s : Scope) → IsScopeOf tables own s → slot_source_of tables all_columns conditions n own ≡ slot_source_on all_columns conditions (n, s)
-      source_is n own s k = ap (λ t. record { table = t; tests = (slot_source_on all_columns conditions (n, s)).tests }) k.number
+  source_is : (n : ℕ) (own : List ℕ) (s : NamedTable) → IsNamedTableOf tables own s → slot_source_of tables all_columns conditions n own ≡ slot_source_on all_columns conditions (n, s)
+  source_is n own s k = ap (λ t. record { table = t; tests = (slot_source_on all_columns conditions (n, s)).tests }) k.number
 
-      pub select-found : verdict (joined_rest tables scope (shown_of all_columns its)) ≡ Ok tt → (source : SlotSource) (sources : List SlotSource)
-          → sources ≡ map (slot_source_on all_columns conditions) (enumerate_from 0 scope.scopes.items) → source ≡ get_or sources 0 source
-          → selects ≡ opened (asked all_columns) (last (shown_of all_columns its) (length scope.sides.items))
-          (slot_query (shown_of all_columns its) source (map (λ s. slot_joined_by s.0 s.1) (zip (remove sources 0) scope.sides.items)))
-      select-found ok source sources made at =
-          let join : SlotSource → Place → ColumnNumber → SlotJoined = λ s outer inner. record { source = s; outer = outer; inner = inner } in
-          let late : List Check = last (shown_of all_columns its) (length scope.sides.items) in
-          let shown : Shown = shown_of all_columns its in
-          let all = scopes_apart tables name joins scope h shown [] (ap verdict (append-nil (joined_rest tables scope shown)) ∙ ok) in
-          let parts = sources_are tables name joins scope h (slot_source_of tables all_columns conditions) (slot_source_on all_columns conditions) source_is join
-          scope.scopes.items source sources all made at in
-          named_is
-          ∙ first-passes (joined_rest tables scope shown) _ ok
-          ∙ ap (λ x. opened (asked all_columns) late (slot_query shown x (slot_joins_of tables all_columns conditions (behind (name ∷ []) joins)))) parts.0
-          ∙ ap (λ js. opened (asked all_columns) late (slot_query shown source js)) parts.1
+  pub selection-is : verdict (joined_rest tables scope (shown_of all_columns its)) ≡ Ok tt → (source : SlotSource) (sources : List SlotSource)
+      → sources ≡ map (slot_source_on all_columns conditions) (enumerate_from 0 scope.tables.items) → source ≡ get_or sources 0 source
+      → selection all_columns ≡ slot_query (shown_of all_columns its) source (map (λ s. slot_joined_by s.0 s.1) (zip (remove sources 0) scope.sides.items))
+  selection-is ok source sources made at =
+      let join : SlotSource → Place → ColumnNumber → SlotJoined = λ s outer inner. record { source = s; outer = outer; inner = inner } in
+      let shown : Shown = shown_of all_columns its in
+      let all = named_apart tables name joins scope h shown [] (ap verdict (append-nil (joined_rest tables scope shown)) ∙ ok) in
+      let parts = sources_are tables name joins scope h (slot_source_of tables all_columns conditions) (slot_source_on all_columns conditions) source_is join
+      scope.tables.items source sources all made at in
+      λ i. slot_query shown (parts.0 i) (parts.1 i)

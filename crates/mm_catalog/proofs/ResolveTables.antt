@@ -6,9 +6,9 @@ use Rattle.std.specs.Option.{option_map, option_and_then}
 use Rattle.std.specs.Str.{bytes_eq}
 use Rattle.std.proofs.lemmas.Option.{slice_get_within, same_Some}
 use Rattle.std.proofs.lemmas.Slice.Zip.{firsts-zip}
-use Rattle.common_lemmas.proofs.Options.{is_some-option_map, option_map_some}
+use Rattle.common_lemmas.proofs.Options.{is_some-option_map, option_map_some, none_from_is_some}
 use Rattle.common_lemmas.proofs.Places.{slice_get-inside}
-use Rattle.common_lemmas.proofs.Tests.{list_any-map}
+use Rattle.common_lemmas.proofs.Tests.{list_any-map, position_found}
 use Rattle.plain_tables.specs.Tables.{Table}
 use Rattle.plain_tables.specs.Databases.{Database, is_named, table_named}
 use Rattle.plain_tables.specs.declared.numbers.TableNumber.{TableNumber}
@@ -17,11 +17,12 @@ use Rattle.plain_tables.specs.References.{key_type, own_type}
 use Rattle.mm_relation.specs.State.{RelationState}
 use Rattle.mm_catalog.specs.State.{CatalogState}
 use Rattle.mm_catalog.specs.Seen.{database_of, table_of, plain_index}
-use Rattle.mm_catalog.specs.Resolve.{IsScopeOf, table_number}
-use Rattle.mm_catalog.specs.declared.bind.scope.Scope.{Scope}
+use Rattle.mm_catalog.specs.Resolve.{IsNamedTableOf, table_number}
+use Rattle.mm_catalog.specs.declared.bind.named_table.NamedTable.{NamedTable}
 use Rattle.mm_catalog.proofs.Finding.{position-map}
 use Rattle.mm_catalog.proofs.Tables.{database-get}
-use Rattle.mm_catalog.proofs.ResolveLists.{position_or_len-position, position-within, found_at, none_found, is_some-found, option_map-None}
+use Rattle.mm_catalog.proofs.ResolveLists.{position_or_len-position, none_found, is_some-found}
+use Rattle.mm_catalog.proofs.Anywhere.{any_zip}
 
 -- a table has the name that its number has
 pub named_position : (c : CatalogState) (name : List ℕ) → length c.names ≡ length c.relations → position (is_named name) (database_of c) ≡ position (λ n. bytes_eq n name) c.names
@@ -33,30 +34,31 @@ named_position c name named =
 
 module _ (tables : Database) (name : List ℕ) where
   -- the table of that name is there
-  named_there : (n : ℕ) → position (is_named name) tables ≡ Some n → (table : Table) × (table_named name tables ≡ Some table) × (slice_get tables n ≡ Some table)
+  pub named_there : (n : ℕ) → position (is_named name) tables ≡ Some n → (table : Table) × (table_named name tables ≡ Some table) × (slice_get tables n ≡ Some table)
   named_there n h =
-      let there = slice_get-inside tables n (position-within (is_named name) tables n h) in
-      (there.0, found_at (is_named name) tables n h ∙ there.1, there.1)
+      let (within, found) = position_found (is_named name) tables n h in
+      let (table, at) = slice_get-inside tables n within in
+      (table, found ∙ at, at)
 
-  pub scope_there : (scope : Scope) → option_map table_number (position (is_named name) tables) ≡ Some scope.table
-      → option_map (λ (t : Table). t.name) (slice_get tables scope.table.0) ≡ Some scope.name.now
-      → option_map (λ (t : Table). t.columns) (slice_get tables scope.table.0) ≡ Some scope.columns.now
-      → option_map (λ (t : Table). t.indexes) (slice_get tables scope.table.0) ≡ Some (map plain_index scope.declared.now) → IsScopeOf tables name scope
-  scope_there scope h called columns indexes =
-      let found = option_map_some table_number (position (is_named name) tables) scope.table h in
+  pub is_named_table : (named_table : NamedTable) → option_map table_number (position (is_named name) tables) ≡ Some named_table.table
+      → option_map (λ (t : Table). t.name) (slice_get tables named_table.table.0) ≡ Some named_table.name.now
+      → option_map (λ (t : Table). t.columns) (slice_get tables named_table.table.0) ≡ Some named_table.columns.now
+      → option_map (λ (t : Table). t.indexes) (slice_get tables named_table.table.0) ≡ Some (map plain_index named_table.declared.now) → IsNamedTableOf tables name named_table
+  is_named_table named_table h called columns indexes =
+      let found = option_map_some table_number (position (is_named name) tables) named_table.table h in
       let there = named_there found.0 found.1 in
-      let at : slice_get tables scope.table.0 ≡ Some there.0 = ap (λ (t : TableNumber). slice_get tables t.0) (sym found.2) ∙ there.2 in
+      let at : slice_get tables named_table.table.0 ≡ Some there.0 = ap (λ (t : TableNumber). slice_get tables t.0) (sym found.2) ∙ there.2 in
       record {
         table = there.0;
         found = there.1;
         number = ap table_number (position_or_len-position (is_named name) tables found.0 found.1) ∙ found.2;
-        called = same_Some there.0.name scope.name.now (ap (option_map (λ (t : Table). t.name)) (sym at) ∙ called);
-        columns = same_Some there.0.columns scope.columns.now (ap (option_map (λ (t : Table). t.columns)) (sym at) ∙ columns);
-        indexes = same_Some there.0.indexes (map plain_index scope.declared.now) (ap (option_map (λ (t : Table). t.indexes)) (sym at) ∙ indexes);
+        called = same_Some there.0.name named_table.name.now (ap (option_map (λ (t : Table). t.name)) (sym at) ∙ called);
+        columns = same_Some there.0.columns named_table.columns.now (ap (option_map (λ (t : Table). t.columns)) (sym at) ∙ columns);
+        indexes = same_Some there.0.indexes (map plain_index named_table.declared.now) (ap (option_map (λ (t : Table). t.indexes)) (sym at) ∙ indexes);
       }
 
   pub named_none : option_map table_number (position (is_named name) tables) ≡ None → table_named name tables ≡ None
-  named_none h = none_found (is_named name) tables (option_map-None table_number (position (is_named name) tables) h)
+  named_none h = none_found (is_named name) tables (none_from_is_some (position (is_named name) tables) (sym (is_some-option_map table_number (position (is_named name) tables)) ∙ ap is_some h))
 
   pub is_named_there : is_some (option_map table_number (position (is_named name) tables)) ≡ is_some (table_named name tables)
   is_named_there = is_some-option_map table_number (position (is_named name) tables) ∙ sym (is_some-found (is_named name) tables)
@@ -83,13 +85,7 @@ pub database-any : (c : CatalogState) → length c.names ≡ length c.relations 
 unfolding database_of table_of
 database-any c named test =
     list_any-map (λ (t : Table). test t.columns) (λ (t : List ℕ × RelationState). table_of c.relations t.0 t.1) (zip c.names c.relations)
-    ∙ any_second c.names c.relations named
-  where
-    any_second : (names : List (List ℕ)) (relations : List RelationState) → length names ≡ length relations → list_any (λ (t : List ℕ × RelationState). test t.1.schema.columns) (zip names relations) ≡ list_any (λ (s : RelationState). test s.schema.columns) relations
-    any_second [] [] h = refl
-    any_second [] (s ∷ ss) h = cc
-    any_second (n ∷ ns) [] h = cc
-    any_second (n ∷ ns) (s ∷ ss) h = ap (λ b. test s.schema.columns || b) (any_second ns ss (omega (arith, h)))
+    ∙ any_zip (λ (t : List ℕ × RelationState). test t.1.schema.columns) (λ s. test s.schema.columns) c.names c.relations named (λ i name s at here. refl)
 
 -- the type of the keys of the table of that name is its first column's
 pub key_of : (tables : Database) (name : List ℕ) (table : TableNumber) (columns : List Column) → option_map table_number (position (is_named name) tables) ≡ Some table

@@ -22,7 +22,7 @@ use Rattle.mm_catalog.specs.Assigned.{CellSet, row_links_at, set_link, set_links
 use Rattle.mm_catalog.specs.Cells.{IsLinkOrNull}
 use Rattle.mm_catalog.specs.Linked.{Linked, HasLinksOrNulls, link_at, row_links, target_at}
 use Rattle.mm_catalog.specs.Seen.{or_null, row_values}
-use Rattle.mm_catalog.proofs.Counted.{one_if}
+use Rattle.lin_hash.proofs.Placed.{one_if}
 use Rattle.mm_catalog.proofs.Lists.{same_by_get}
 use Rattle.mm_relation.proofs.Setting.{not_first}
 
@@ -211,8 +211,6 @@ module _ (keys : Keys) (width : ℕ) (row : Row) (s : CellSet) (value : Value) (
 -- a row with cells set shows the values that are assigned
 pub values_set : (keys : Keys) (width : ℕ) (assignments : List Assignment) (sets : List CellSet) (row : Row) → length sets ≡ length assignments → AreApart width sets → width ≤ length row.cells + 1 → ((k : ℕ) (a : Assignment) (s : CellSet) → slice_get assignments k ≡ Some a → slice_get sets k ≡ Some s → (s.0 ≡ a.column) × (cell_value keys s.0.0 s.1 ≡ Some a.value)) → row_values keys width (with_cells sets row) ≡ assigned assignments (row_values keys width row)
 values_set keys width [] [] row few apart wide each = refl
-values_set keys width [] (s ∷ sets) row few apart wide each = absurd (omega arith)
-values_set keys width (a ∷ assignments) [] row few apart wide each = absurd (omega arith)
 values_set keys width (a ∷ assignments) (s ∷ sets) row few apart wide each =
     let behind = apart.behind 0 s (omega arith) in
     let within = apart.within 0 s (omega arith) in
@@ -221,3 +219,4 @@ values_set keys width (a ∷ assignments) (s ∷ sets) row few apart wide each =
     ∙ ap (assigned assignments)
     (values_one keys width row s a.value behind within (omega (arith, within, wide)) first.1
     ∙ ap (λ (n : ColumnNumber). set (row_values keys width row) n.0 a.value) first.0)
+values_set keys width assignments sets row few apart wide each = absurd (omega arith)

@@ -6,7 +6,7 @@ use Rattle.std.specs.FinMap as finite
 use Rattle.std.proofs.Math.Nat.{mul-add, mul-le-mul_left}
 use Rattle.std.proofs.lemmas.Grind.{flat_map-append}
 use Rattle.std.proofs.lemmas.List.{length-map, length-take-le, map-append, take-append-drop, take_more}
-use Rattle.std.proofs.lemmas.List.Elements.{All-map, filter_map-append}
+use Rattle.std.proofs.lemmas.List.Elements.{All-map, filter_map-append, All-contains, Contains-get_or}
 use Rattle.std.proofs.lemmas.List.Sums.{count_by-le-length}
 use Rattle.common_lemmas.proofs.Elements.{All-from_map}
 use Rattle.common_lemmas.proofs.Maps.{length-filter_map_within}
@@ -21,6 +21,7 @@ use Rattle.mm_catalog.specs.Linked.{Linked, is_link_to, link_at, target_at}
 use Rattle.mm_catalog.specs.Counted.{AreCountedBy, HaveAtLeast, HaveRoom, linked_of, naming, none}
 use Rattle.mm_catalog.specs.Assigned.{CellSet, links_at, row_links_at, set_link, set_links}
 use Rattle.mm_catalog.proofs.Counted.{counted_as, down_then, enough_left, naming-append, room_left, up_then}
+use Rattle.mm_catalog.proofs.LinksHeld.{Contains-filter_map}
 
 -- ---- one element more
 
@@ -76,16 +77,8 @@ set_links_more targets sets i d l found e table q =
 -- a link that one of the cells is
 pub set_link_among : (targets : List (Option ℕ)) (sets : List CellSet) (P : Linked → Type 0) (i : ℕ) (d : CellSet) (link : Linked) → All P (set_links targets sets) → i < length sets → set_link targets (get_or sets i d) ≡ Some link → P link
 unfolding set_links
-set_link_among targets [] P i d link all l e = absurd (omega arith)
-set_link_among targets (s ∷ sets) P zero d link all l e =
-    let listed : All P (link ∷ filter_map (set_link targets) sets) = subst (λ (o : Option Linked). All P (cons_option o (filter_map (set_link targets) sets))) e all in
-    listed 0 link (omega arith)
-set_link_among targets (s ∷ sets) P (suc i) d link all l e =
-    set_link_among targets sets P i d link (behind (set_link targets s) all) (omega arith) e
-  where
-    behind : (o : Option Linked) → All P (cons_option o (filter_map (set_link targets) sets)) → All P (filter_map (set_link targets) sets)
-    behind None h = h
-    behind (Some x) h = λ k e m. h (suc k) e (omega arith)
+set_link_among targets sets P i d link all l e =
+    All-contains P (set_links targets sets) link all (Contains-filter_map (set_link targets) sets (get_or sets i d) link (Contains-get_or sets i d l) e)
 
 count_set_links : (targets : List (Option ℕ)) (sets : List CellSet) (i : ℕ) (test : Linked → Bool) → i ≤ length sets → count_by test (set_links targets (take i sets)) ≤ i
 unfolding set_links

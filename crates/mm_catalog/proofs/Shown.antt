@@ -38,8 +38,7 @@ map_filter f g p test (x ∷ xs) same told =
 
 turned : (o : Ordering) → is_gt o ≡ is_lt (ordering_reverse o)
 turned Less = refl
-turned Equal = refl
-turned Greater = refl
+turned o = refl
 
 -- rows are ordered by their keys
 pub compared : (keys : Keys) (width : ℕ) (t u : Row) → 0 < width → key_cmp (row_values keys width t) (row_values keys width u) ≡ value_cmp t.key u.key

@@ -2,8 +2,7 @@
 use Rattle.std.proofs.Common.{◌≡◌, ◌≢◌, ℕ, suc, Bool, true, false, not, cond, IsTrue, List, [], ◌∷◌, IsSome, refl, sym, ap, ◌∙◌, subst, arith, length, map, filter, get_or}
 use Rattle.std.specs.List.{All, AllPairs, Contains}
 use Rattle.std.specs.Option.{option_map_or}
-use Rattle.std.specs.Ordering.{eq_by_cmp, ordering_reverse}
-use Rattle.std.specs.Bool.{Decides}
+use Rattle.std.specs.Ordering.{ordering_reverse}
 use Rattle.std.specs.declared.cmp.Ordering.TheVariants.{Less, Greater}
 use Rattle.std.specs.FinMap.{get}
 use Rattle.std.proofs.lemmas.Bool.{false_from_ne_true, false≢true, not-true}
@@ -14,9 +13,8 @@ use Rattle.std.proofs.lemmas.Option.{none-some}
 use Rattle.common_lemmas.proofs.Elements.{Contains-filter, Contains-from_filter}
 use Rattle.part_raw.specs.declared.tuple_ref.TupleRef.{TupleRef}
 use Rattle.part_raw.specs.Store.{Tuples}
-use Rattle.part_raw.specs.TupleRefs.{ref_cmp}
 use Rattle.part_raw.proofs.Refs.{ref_cmp_total}
-use Rattle.part_raw.proofs.Tuples.{same_ref_self, same_ref_true, held_tuple}
+use Rattle.part_raw.proofs.Tuples.{same_ref, Decides-same_ref, held_tuple}
 use Rattle.mm_index.proofs.Bags.{length-same_bag}
 use Rattle.mm_index.proofs.Distinct.{IsSameBag-from_members}
 use Rattle.mm_index.proofs.Listed.{IsRising-agree}
@@ -57,12 +55,6 @@ not_below_itself : (rows : Tuples Row) (a : TupleRef) → column_cmp no_keys 0 r
 not_below_itself rows a e =
     let g : Less ≡ Greater = sym e ∙ (column_cmp_total no_keys 0 rows).antisymm a a ∙ ap ordering_reverse e in absurd (cc)
 
-abbrev same_ref : TupleRef → TupleRef → Bool
-same_ref = eq_by_cmp ref_cmp
-
-decides : (a b : TupleRef) → Decides (same_ref a b) (a ≡ b)
-decides a b = (same_ref_true a b, λ e. subst (λ c. same_ref a c ≡ true) e (same_ref_self a))
-
 -- a row is picked by its values exactly where its reference is one of these
 abbrev pub PicksThese : Keys → RelationState → List TupleRef → (List Value → Bool) → Type 0
 PicksThese keys s refs picks =
@@ -85,7 +77,7 @@ module _ (keys : Keys) (old : RelationState) (kept : IsKept old) (refs : List Tu
   length_picked held once =
       length-passing before picks (tree_list old.by_key)
       ∙ length-same_bag (filter (λ q. picks (before q)) (tree_list old.by_key)) refs
-      (IsSameBag-from_members same_ref decides (eq_by_cmp_equiv ref_cmp_total) (filter (λ q. picks (before q)) (tree_list old.by_key)) refs
+      (IsSameBag-from_members same_ref Decides-same_ref (eq_by_cmp_equiv ref_cmp_total) (filter (λ q. picks (before q)) (tree_list old.by_key)) refs
       (AllPairs-filter (λ q r. q ≢ r) (λ q. picks (before q)) (tree_list old.by_key)
       (λ i j d l w e. not_below_itself old.rows (get_or (tree_list old.by_key) i d) (subst (λ r. column_cmp no_keys 0 old.rows (get_or (tree_list old.by_key) i d) r ≡ Less) (sym e) (kept.keyed.rising i j d l w))))
       once

@@ -2,16 +2,14 @@
 use Rattle.std.proofs.Common.{◌≡◌, ℕ, Bool, true, false, List, Some, None, refl, sym, ap, ◌∙◌, subst, arith, length, map, set}
 use Rattle.std.specs.List.{Contains, list_any, slice_get}
 use Rattle.std.specs.Option.{option_and_then}
-use Rattle.std.specs.Ordering.{eq_by_cmp}
 use Rattle.std.specs.FinMap.{get}
 use Rattle.std.proofs.lemmas.Bool.{false≢true}
 use Rattle.std.proofs.lemmas.List.{set-get_or}
 use Rattle.std.proofs.lemmas.List.Elements.{All-contains}
 use Rattle.std.proofs.lemmas.List.Folds.{Any-from_list_any, list_any-from_Any}
 use Rattle.std.proofs.lemmas.Option.{same_Some, slice_get_within, get_or_from_slice_get}
-use Rattle.part_raw.specs.TupleRefs.{ref_cmp}
 use Rattle.part_raw.specs.declared.tuple_ref.TupleRef.{TupleRef}
-use Rattle.part_raw.proofs.Tuples.{same_ref_self, same_ref_true, same_tuples}
+use Rattle.part_raw.proofs.Tuples.{same_ref, same_ref_self, same_ref_true, same_tuples}
 use Rattle.mm_relation.specs.Rows.{Row}
 use Rattle.mm_relation.specs.Changes.{KeepsSchema}
 use Rattle.mm_relation.specs.Reading.{key_at}
@@ -28,9 +26,6 @@ use Rattle.mm_catalog.proofs.Elsewhere.{rewritten_from, database_rewritten}
 use Rattle.mm_catalog.proofs.Loaded.{rewritten_then}
 use Rattle.mm_catalog.proofs.Keyed.{keyed_unique}
 use Rattle.mm_catalog.proofs.Tables.{database-get}
-
-abbrev same_ref : TupleRef → TupleRef → Bool
-same_ref = eq_by_cmp ref_cmp
 
 module _ (c : CatalogState) (ok : IsConsistent c) (d e : CatalogState) (n : ℕ) (refs : List TupleRef) (h : HasMore c d n refs) (gone : HaveGone d e n refs) where
   abbrev b : RelationState

@@ -1,12 +1,12 @@
 -- A catalog of which rows of one table are updated: what it shows, and that it stays consistent.
-use Rattle.std.proofs.Common.{◌≡◌, ◌≢◌, ℕ, zero, suc, ◌+◌, ◌<◌, ◌≤◌, Bool, true, false, cond, List, [], ◌∷◌, Option, Some, None, refl, sym, ap, ◌∙◌, subst, arith, length, map, set, take, get_or, inl, inr}
-use Rattle.std.specs.List.{All, AllPairs, cons_option, filter_map, list_all, list_any, slice_get}
+use Rattle.std.proofs.Common.{◌≡◌, ◌≢◌, ℕ, zero, suc, ◌+◌, ◌<◌, ◌≤◌, Bool, true, false, cond, List, [], ◌∷◌, Some, None, refl, sym, ap, ◌∙◌, subst, arith, length, map, set, take, get_or, inl, inr}
+use Rattle.std.specs.List.{All, AllPairs, list_all, list_any, slice_get}
 use Rattle.std.specs.Option.{option_and_then}
 use Rattle.std.specs.Prelude.{◌⊎◌, Result, Ok, Err, IfErr, OnErr, OnOk}
 use Rattle.std.specs.FinMap.{get}
-use Rattle.std.proofs.lemmas.Bool.{and_from, and_left, and_right, eq-eqb, or_parts, true≢false}
+use Rattle.std.proofs.lemmas.Bool.{eq-eqb, or_parts, true≢false}
 use Rattle.std.proofs.lemmas.List.Elements.{All-cons}
-use Rattle.std.proofs.lemmas.Option.{same_Some, slice_get-get_or, slice_get_within}
+use Rattle.std.proofs.lemmas.Option.{slice_get-get_or, slice_get_within, slice_get_read}
 use Rattle.common_lemmas.proofs.Places.{slice_get-inside}
 use Rattle.common_lemmas.proofs.Elements.{All-at}
 use Rattle.part_raw.specs.declared.tuple_ref.TupleRef.{TupleRef}
@@ -14,7 +14,7 @@ use Rattle.plain_tables.proofs.SoundLemmas.{update_keeps_sound}
 use Rattle.plain_tables.specs.Databases.{Database}
 use Rattle.plain_tables.specs.Doing.{assigned, assigned_references, picked, update, updated}
 use Rattle.plain_tables.specs.Effects.{Changed, Refused, repeats}
-use Rattle.plain_tables.specs.References.{IsSound, Reference, is_held, reference_of}
+use Rattle.plain_tables.specs.References.{IsSound, is_held, reference_of}
 use Rattle.plain_tables.specs.ResolvedLaws.{AreAssignable, IsAssignable, OfTable, is_to_column}
 use Rattle.plain_tables.specs.Tables.{Row, Table}
 use Rattle.plain_tables.specs.declared.numbers.TableNumber.{TableNumber}
@@ -44,6 +44,9 @@ use Rattle.mm_catalog.proofs.Shrunk.{PicksThese, length_picked}
 use Rattle.mm_catalog.proofs.Tables.{database-get}
 use Rattle.mm_catalog.proofs.UpdateNeeds.{current_front, sets_apart}
 use Rattle.mm_catalog.proofs.CellRows.{read_value}
+use Rattle.mm_catalog.proofs.Anywhere.{all_pass, not_all_pass}
+use Rattle.mm_catalog.proofs.LinksHeld.{Contains-at, Contains-filter_map}
+use Rattle.mm_catalog.proofs.RowLinks.{All-filter_map}
 
 -- ---- assignments
 
@@ -55,34 +58,11 @@ not_alike (x ∷ xs) column e =
 
 pub assigned_apart : (xs : List Assignment) → repeats (λ a b. is_to_column a.column.0 b) xs ≡ false → AllPairs (λ a b. a.column.0 ≡ b.column.0 → ⊥) xs
 assigned_apart [] e i j d below within = absurd (omega (arith, within))
-assigned_apart (x ∷ xs) e zero zero d below within = absurd (omega arith)
 assigned_apart (x ∷ xs) e zero (suc j) d below within =
     not_alike xs x.column.0 (or_parts (list_any (is_to_column x.column.0) xs) (repeats (λ a b. is_to_column a.column.0 b) xs) e).0 j d (omega arith)
-assigned_apart (x ∷ xs) e (suc i) zero d below within = absurd (omega arith)
 assigned_apart (x ∷ xs) e (suc i) (suc j) d below within =
     assigned_apart xs (or_parts (list_any (is_to_column x.column.0) xs) (repeats (λ a b. is_to_column a.column.0 b) xs) e).1 i j d (omega arith) (omega arith)
-
-all_held : (tables : Database) (f : Assignment → Option Reference) (xs : List Assignment) → ((k : ℕ) (a : Assignment) (ref : Reference) → slice_get xs k ≡ Some a → f a ≡ Some ref → is_held tables ref ≡ true) → list_all (is_held tables) (filter_map f xs) ≡ true
-all_held tables f [] each = refl
-all_held tables f (x ∷ xs) each =
-    let rest = all_held tables f xs (λ k. each (suc k)) in
-    elim (f x) as (λ o. f x ≡ o → list_all (is_held tables) (cons_option o (filter_map f xs)) ≡ true) [
-      | None ↦ λ e. rest
-      | Some ref ↦ λ e. and_from (is_held tables ref) (list_all (is_held tables) (filter_map f xs)) (each 0 x ref refl e) rest
-    ] refl
-
-one_missing : (tables : Database) (f : Assignment → Option Reference) (xs : List Assignment) (k : ℕ) (a : Assignment) (ref : Reference) → slice_get xs k ≡ Some a → f a ≡ Some ref → is_held tables ref ≡ false → list_all (is_held tables) (filter_map f xs) ≡ false
-one_missing tables f [] k a ref at e missing = absurd (cc)
-one_missing tables f (x ∷ xs) zero a ref at e missing =
-    let here : f x ≡ Some ref = ap f (same_Some x a at) ∙ e in
-    ap (λ (o : Option Reference). list_all (is_held tables) (cons_option o (filter_map f xs))) here
-    ∙ and_left (is_held tables ref) (list_all (is_held tables) (filter_map f xs)) missing
-one_missing tables f (x ∷ xs) (suc k) a ref at e missing =
-    let rest = one_missing tables f xs k a ref at e missing in
-    elim (f x) as (λ o. list_all (is_held tables) (cons_option o (filter_map f xs)) ≡ false) [
-      | None ↦ rest
-      | Some other ↦ and_right (is_held tables other) (list_all (is_held tables) (filter_map f xs)) rest
-    ]
+assigned_apart xs e i j d below within = absurd (omega arith)
 
 -- ---- the effect
 
@@ -126,8 +106,9 @@ module _ (c : CatalogState) (ok : IsConsistent c) (n : TableNumber) (assignments
       let column = (column_of s there k a missing.2).1 in
       let lost = reference_missing c ok n.0 s there a.column.0 column.0 column.1 a.value (subst (λ t. NamesNone (take n.0 c.relations) t a.value) (target_here c ok n.0 s there a.column.0 column.0 column.1 a.value) missing.3) in
       refused_there (database_of c) n assignments picks (table_of c.relations name.0 s) at
-      (one_missing (database_of c) (λ x. option_and_then (λ col. reference_of col x.value) (slice_get s.schema.columns x.column.0)) assignments k a lost.0 missing.2
-      (ap (option_and_then (λ col. reference_of col a.value)) column.1 ∙ lost.1) lost.2)
+      (not_all_pass (is_held (database_of c)) (assigned_references (table_of c.relations name.0 s) assignments) lost.0
+      (Contains-filter_map (λ (x : Assignment). option_and_then (λ col. reference_of col x.value) (slice_get s.schema.columns x.column.0)) assignments a lost.0 (Contains-at assignments k a missing.2)
+      (ap (option_and_then (λ col. reference_of col a.value)) column.1 ∙ lost.1)) lost.2)
       ∙ ap (λ r. Refused r) (sym is))
 
   module _ (rs : List TupleRef) (held : HoldsRows c n.0 rs) (once : AllPairs (λ q r. q ≢ r) rs) (relations : List RelationState) (u : IsUpdated c.relations relations n.0 rs assignments) where
@@ -182,14 +163,16 @@ module _ (c : CatalogState) (ok : IsConsistent c) (n : TableNumber) (assignments
     references_held : list_all (is_held (database_of c)) (assigned_references (table_of c.relations name.0 b) assignments) ≡ true
     unfolding table_of
     references_held =
-        all_held (database_of c) (λ x. option_and_then (λ col. reference_of col x.value) (slice_get b.schema.columns x.column.0)) assignments
-        (λ k x ref at e.
+        all_pass (is_held (database_of c)) (assigned_references (table_of c.relations name.0 b) assignments)
+        (All-filter_map (λ ref. is_held (database_of c) ref ≡ true) (λ (x : Assignment). option_and_then (λ col. reference_of col x.value) (slice_get b.schema.columns x.column.0)) assignments
+        (λ x ref (k, inside, here) e.
+        let at = slice_get_read assignments (length assignments) k x refl inside (sym here) in
         let column = (column_of b there k x at).1 in
         let s = slice_get-inside u.sets k (omega (arith, slice_get_within assignments k x at, u.cells.count)) in
         let cell = (u.cells.each k x s.0 at s.1).1 in
         reference_held c ok n.0 b there x.column.0 column.0 column.1 x.value s.0.1
         (subst (λ t. IsCellOf front t x.value s.0.1) (target_here c ok n.0 b there x.column.0 column.0 column.1 x.value) cell)
-        ref (sym (ap (option_and_then (λ col. reference_of col x.value)) column.1) ∙ e))
+        ref (sym (ap (option_and_then (λ col. reference_of col x.value)) column.1) ∙ e)))
 
     module _ (picks : Row → Bool) (picking : PicksThese keys b rs picks) where
       rows_now : rows_of (linked_keys a.targets c.relations) a ≡ map (λ row. cond (picks row) (assigned assignments row) row) (rows_of keys b)

@@ -15,7 +15,7 @@ use Rattle.std.proofs.lemmas.Map.Made.{IsDistinct-from_AllPairs, is_member-Decid
 use Rattle.std.proofs.lemmas.Option.{get_or_from_slice_get, none-some, same_Some, slice_get-get_or, slice_get_within}
 use Rattle.common_lemmas.proofs.Places.{slice_get-inside}
 use Rattle.common_lemmas.proofs.Options.{and_then-Some, option_map_some}
-use Rattle.common_lemmas.proofs.Elements.{All-from_map, All-at}
+use Rattle.common_lemmas.proofs.Elements.{All-from_map, All-at, All-flat_map}
 use Rattle.part_raw.proofs.Tuples.{held_tuple}
 use Rattle.part_raw.specs.declared.tuple_ref.TupleRef.{TupleRef}
 use Rattle.plain_tables.specs.declared.resolved.Assignment.{Assignment}
@@ -44,7 +44,7 @@ use Rattle.mm_catalog.proofs.LinksHeld.{Contains-range}
 use Rattle.mm_catalog.proofs.Lists.{get-take}
 use Rattle.mm_catalog.proofs.RelationSets.{keys_set, links_set, row_wide, row_was}
 use Rattle.mm_catalog.proofs.Removing.{link_held_at, links_within}
-use Rattle.mm_catalog.proofs.RowLinks.{All-filter_map, All-flat_map}
+use Rattle.mm_catalog.proofs.RowLinks.{All-filter_map}
 use Rattle.mm_catalog.proofs.RowSets.{AreApart}
 use Rattle.mm_catalog.proofs.CellRows.{read_value}
 
@@ -184,8 +184,9 @@ module _ (k : CatalogState) (ok : IsConsistent k) (n : ℕ) (b : RelationState) 
       unfolding links_at row_links_at
       gone_held =
           All-flat_map (IsHeldIn front) (λ r. option_map_or (row_links_at b.targets sets) (get b.rows r) []) rs
-          (λ r among.
-          let row = held_tuple b.rows r (All-contains (λ q. IsSome (get b.rows q)) rs r held among) in
+          (λ i d l.
+          let r = get_or rs i d in
+          let row = held_tuple b.rows r (held i d l) in
           subst (λ o. All (IsHeldIn front) (option_map_or (row_links_at b.targets sets) o [])) (sym row.1)
           (All-filter_map (IsHeldIn front) (λ (s : CellSet). link_at b.targets row.0 s.0.0) sets
           (λ s link here e. link_held_at front b r row.0 current_front keeps_front row.1 s.0.0 link e)))

@@ -18,9 +18,9 @@ use Rattle.plain_tables.specs.declared.resolved.Assignment.{Assignment}
 use Rattle.plain_tables.specs.declared.resolved.Shown.{Shown}
 use Rattle.plain_tables.specs.declared.resolved.Shown.TheVariants as shown
 use Rattle.plain_tables.specs.declared.resolved.Test.{Test}
-use Rattle.mm_catalog.specs.declared.bind.scope.Scope.{Scope}
-use Rattle.mm_catalog.specs.declared.bind.scope.Name.{Name}
-use Rattle.mm_catalog.specs.declared.bind.scope.NamedColumn.{NamedColumn}
+use Rattle.mm_catalog.specs.declared.bind.named_table.NamedTable.{NamedTable}
+use Rattle.mm_catalog.specs.declared.bind.names.Name.{Name}
+use Rattle.mm_catalog.specs.declared.bind.names.NamedColumn.{NamedColumn}
 
 -- the number of a table
 abbrev pub table_number : ℕ → TableNumber
@@ -37,18 +37,18 @@ own_place column = place_in 0 column
 abbrev pub in_table : List ℕ → Column → JoinedColumn
 in_table name column = record { table = name; place = own_place (column_number 0); column = column }
 
--- the columns of the table of a scope, which is joined as the one of this number
-abbrev pub source_columns : ℕ × Scope → List JoinedColumn
+-- the columns of a table, which is joined as the one of this number
+abbrev pub source_columns : ℕ × NamedTable → List JoinedColumn
 source_columns s =
     map (λ c. record { table = s.1.name.now; place = place_in s.0 (column_number c.0); column = c.1 }) (enumerate_from 0 s.1.columns.now)
 
--- the columns that can be named in a command on the tables of scopes
-abbrev pub columns_of_all : List Scope → List JoinedColumn
-columns_of_all scopes = flat_map source_columns (enumerate_from 0 scopes)
+-- the columns that can be named in a command on tables
+abbrev pub columns_of_all : List NamedTable → List JoinedColumn
+columns_of_all tables = flat_map source_columns (enumerate_from 0 tables)
 
--- the columns that can be named in a command on the table of a scope alone
-abbrev pub columns_of : Scope → List JoinedColumn
-columns_of scope = columns_of_all (scope ∷ [])
+-- the columns that can be named in a command on a table alone
+abbrev pub columns_of : NamedTable → List JoinedColumn
+columns_of table = columns_of_all (table ∷ [])
 
 -- a column and its place, among joined columns and as it was found
 abbrev pub placed : JoinedColumn → Place × Column
@@ -65,14 +65,14 @@ written name = record { table = option_copied name.table; column = name.column.n
 abbrev pub bare : List ℕ → ColName
 bare name = record { table = None; column = name }
 
--- The scope of the commands on the table of that name: the table's number, its name, its columns and its declared indexes.
-pub record IsScopeOf (tables : Database) (name : List ℕ) (scope : Scope) : Type 0 where
+-- The table of that name, as commands name it: its number, its name, its columns and its declared indexes.
+pub record IsNamedTableOf (tables : Database) (name : List ℕ) (named : NamedTable) : Type 0 where
   pub table : Table
   pub found : table_named name tables ≡ Some table
-  pub number : number_of name tables ≡ scope.table
-  pub called : table.name ≡ scope.name.now
-  pub columns : table.columns ≡ scope.columns.now
-  pub indexes : table.indexes ≡ map plain_index scope.declared.now
+  pub number : number_of name tables ≡ named.table
+  pub called : table.name ≡ named.name.now
+  pub columns : table.columns ≡ named.columns.now
+  pub indexes : table.indexes ≡ map plain_index named.declared.now
 
 -- a condition on the column at a place, and a setting of it
 abbrev pub test_at : Cond → Place → Test

@@ -19,10 +19,10 @@ use Rattle.plain_tables.specs.declared.resolved.Shown.{Shown}
 use Rattle.plain_tables.specs.declared.resolved.Source.{Source}
 use Rattle.plain_tables.specs.declared.resolved.Test.{Test}
 use Rattle.plain_tables.specs.declared.schema.Column.{Column}
+use Rattle.mm_catalog.specs.declared.bind.named_table.NamedTable.{NamedTable}
+use Rattle.mm_catalog.specs.declared.bind.scope.Sides.{Sides}
 use Rattle.mm_catalog.specs.declared.bind.scope.Scope.{Scope}
-use Rattle.mm_catalog.specs.declared.bind.joined_scope.Sides.{Sides}
-use Rattle.mm_catalog.specs.declared.bind.joined_scope.JoinedScope.{JoinedScope}
-use Rattle.mm_catalog.specs.Resolve.{IsScopeOf, placed, as_found, shown_places}
+use Rattle.mm_catalog.specs.Resolve.{IsNamedTableOf, placed, as_found, shown_places}
 
 -- ---- the tables and joins
 
@@ -33,17 +33,17 @@ placed_sides sides = (placed sides.0, placed sides.1)
 abbrev pub sides_found : Sides → (Place × Column) × (Place × Column)
 sides_found sides = (as_found sides.outer, as_found sides.inner)
 
--- What a select names of the table of that name and those that are joined with it, which are all there: the scopes of the
--- tables, each once, and the columns of each join that names two; and whether a join was missed, as it names no two.
-pub record AreJoined (tables : Database) (name : List ℕ) (joins : List Join) (missed : Bool) (scope : JoinedScope) : Type 0 where
+-- What a select names of the table of that name and those that are joined with it, which are all there: the tables, each
+-- once, and the columns of each join that names two; and whether a join was missed, as it names no two.
+pub record AreJoined (tables : Database) (name : List ℕ) (joins : List Join) (missed : Bool) (scope : Scope) : Type 0 where
   pub there : list_any (λ n. not (is_some (table_named n tables))) (select_names name joins) ≡ false
-  pub scopes : AllZip (IsScopeOf tables) (once (select_names name joins)) scope.scopes.items
+  pub named : AllZip (IsNamedTableOf tables) (once (select_names name joins)) scope.tables.items
   pub misses : missed ≡ list_any is_none (map (join_columns tables) (behind (name ∷ []) joins))
   pub sides : map sides_found scope.sides.items ≡ filter_map (λ j. option_map placed_sides (join_columns tables j)) (behind (name ∷ []) joins)
 
 -- the scope of a select from these tables, none of whose joins was missed
-abbrev pub IsJoinedScopeOf : Database → List ℕ → List Join → JoinedScope → Type 0
-IsJoinedScopeOf tables name joins scope = AreJoined tables name joins false scope
+abbrev pub IsScopeOf : Database → List ℕ → List Join → Scope → Type 0
+IsScopeOf tables name joins scope = AreJoined tables name joins false scope
 
 -- a select from these tables is refused so, whatever it shows and whatever its conditions are
 abbrev pub RefusesSelects : Database → List ℕ → List Join → Refusal → Type 0
@@ -60,19 +60,18 @@ sides_differ tables s = not (same_type (type_of tables s.outer.column.now.kind) 
 abbrev pub asks_too_much : Shown → ℕ → ℕ → Bool
 asks_too_much shown conditions joins = nat_lt 16 (length (shown_places shown)) || nat_lt 8 conditions || nat_lt 3 joins
 
--- The checks of what a select shows and of its tables and joins. A table that is named twice has but one scope.
-abbrev pub joined_rest : Database → JoinedScope → Shown → List Check
+-- The checks of what a select shows and of its tables and joins. A table that is named twice stands but once in the scope.
+abbrev pub joined_rest : Database → Scope → Shown → List Check
 joined_rest tables scope shown =
-    let scopes = scope.scopes.items in
     let sides = scope.sides.items in
     record { refuses = repeats same_place (shown_places shown); refusal = ColumnNamedTwice }
-    ∷ record { refuses = nat_le (length scopes) (length sides); refusal = TableNamedTwice }
+    ∷ record { refuses = nat_le (length scope.tables.items) (length sides); refusal = TableNamedTwice }
     ∷ record { refuses = list_any (sides_differ tables) sides; refusal = WrongType }
     ∷ []
 
 -- The checks of a select in which each name means a column, with so many conditions, where a value in one is none for its column
 -- or not.
-abbrev pub select_rest : Database → JoinedScope → Shown → ℕ → Bool → List Check
+abbrev pub select_rest : Database → Scope → Shown → ℕ → Bool → List Check
 select_rest tables scope shown conditions mistyped =
     joined_rest tables scope shown
     ++ record { refuses = mistyped; refusal = WrongType }
@@ -86,11 +85,11 @@ select_late shown conditions joins = record { refuses = asks_too_much shown cond
 -- ---- sources
 
 -- the source of a table that no condition is on
-abbrev pub untested : Scope → Source
-untested scope = record { table = scope.table; tests = [] }
+abbrev pub untested : NamedTable → Source
+untested table = record { table = table.table; tests = [] }
 
 -- the source of the table that is joined as the one of a number, with the conditions on it
-abbrev pub source_on : List JoinedColumn → List Cond → ℕ × Scope → Source
+abbrev pub source_on : List JoinedColumn → List Cond → ℕ × NamedTable → Source
 source_on columns conditions s = record { table = s.1.table; tests = tests_of columns (filter (is_on_source columns s.0) conditions) }
 
 -- a source with one test more

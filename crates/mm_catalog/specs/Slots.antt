@@ -11,8 +11,8 @@ use Rattle.plain_statements.specs.declared.resolution.SlotJoined.{SlotJoined}
 use Rattle.plain_statements.specs.declared.resolution.SlotSource.{SlotSource}
 use Rattle.plain_statements.specs.declared.resolution.SlotTest.{SlotTest}
 use Rattle.plain_statements.specs.Slots.{slot_tests_of}
-use Rattle.mm_catalog.specs.declared.bind.joined_scope.Sides.{Sides}
-use Rattle.mm_catalog.specs.declared.bind.scope.Scope.{Scope}
+use Rattle.mm_catalog.specs.declared.bind.scope.Sides.{Sides}
+use Rattle.mm_catalog.specs.declared.bind.named_table.NamedTable.{NamedTable}
 
 -- a condition on the column at a place, and a setting of it
 abbrev pub slot_test_at : SlotCond → Place → SlotTest
@@ -22,15 +22,15 @@ abbrev pub slot_assignment_at : SlotSetting → Place → SlotAssignment
 slot_assignment_at s place = record { column = place.column; slot = s.slot }
 
 -- the source of a table that no condition is on
-abbrev pub untested_slots : Scope → SlotSource
-untested_slots scope = record { table = scope.table; tests = [] }
+abbrev pub untested_slots : NamedTable → SlotSource
+untested_slots table = record { table = table.table; tests = [] }
 
 -- whether a condition is on the table that is joined as the one of this number
 abbrev pub is_slot_on_source : List JoinedColumn → ℕ → SlotCond → Bool
 is_slot_on_source columns source c = option_map_or (λ place. place.source == source) (place_meant columns c.column) false
 
 -- the source of the table that is joined as the one of a number, with the conditions on it
-abbrev pub slot_source_on : List JoinedColumn → List SlotCond → ℕ × Scope → SlotSource
+abbrev pub slot_source_on : List JoinedColumn → List SlotCond → ℕ × NamedTable → SlotSource
 slot_source_on columns conditions s =
     record { table = s.1.table; tests = slot_tests_of columns (filter (is_slot_on_source columns s.0) conditions) }
 

@@ -3,9 +3,9 @@
 //! It knows the names, the columns and the declared indexes of tables, and no row of one.
 
 mod checks;
-mod joined_scope;
 mod late;
 mod load;
+mod named_table;
 mod names;
 mod placed;
 mod repeats;

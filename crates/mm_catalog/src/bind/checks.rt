@@ -11,9 +11,9 @@ ghost use Rattle.mm_catalog.specs.ResolveChecks.{verdict, row_checks, delete_res
 ghost use Rattle.mm_catalog.specs.Select.{asks_too_much as asks_too_much_so, joined_rest, select_rest};
 ghost use Rattle.plain_tables.specs.Queries.{same_place};
 
-use crate::bind::joined_scope::JoinedScope;
 use crate::bind::placed::Placed;
 use crate::bind::repeats::repeats_name;
+use crate::bind::scope::Scope;
 use crate::catalog::Catalog;
 use crate::create::referred;
 use plain_tables::{
@@ -221,13 +221,13 @@ impl Catalog {
     }
 
     /// No column is shown twice, no table named twice, and the two columns of each join are of one type.
-    pub(crate) fn check_joined(&self, scope: &JoinedScope<'_>, shown: &Shown) -> Result<(), Refusal>
+    pub(crate) fn check_joined(&self, scope: &Scope<'_>, shown: &Shown) -> Result<(), Refusal>
         ensures { result ≡ verdict (joined_rest (database_of self.now) scope.now shown.now) }
     {
         if repeats_place(shown_places(shown)) {
             return Err(Refusal::ColumnNamedTwice);
         }
-        if scope.scopes.len() <= scope.sides.len() {
+        if scope.tables.len() <= scope.sides.len() {
             return Err(Refusal::TableNamedTwice);
         }
         if self.sides_are_mistyped(scope.sides.as_slice()) {
@@ -240,7 +240,7 @@ impl Catalog {
     /// condition of its column's, and there are few enough items, conditions and joins.
     pub(crate) fn check_select(
         &self,
-        scope: &JoinedScope<'_>,
+        scope: &Scope<'_>,
         shown: &Shown,
         conditions: usize,
         mistyped: bool,

@@ -8,8 +8,8 @@ ghost use Rattle.plain_tables.specs.Queries.{place_meant};
 ghost use Rattle.mm_catalog.specs.Resolve.{columns_of_all, written, test_at, assignment_at};
 ghost use Rattle.mm_catalog.specs.Seen.{database_of};
 
-use crate::bind::names::column;
-use crate::bind::scope::{Name, Scope};
+use crate::bind::named_table::NamedTable;
+use crate::bind::names::{Name, column};
 use crate::bind::types::orders_null;
 use crate::catalog::Catalog;
 use no_memory::NoMemory;
@@ -55,17 +55,17 @@ impl Catalog {
     // Where the column stands that a name means, and whether a value is none for it.
     fn place_value(
         &self,
-        scopes: &[Scope<'_>],
+        tables: &[NamedTable<'_>],
         name: Name<'_>,
         value: &Value,
     ) -> Result<PlacedValue, Refusal>
-        ensures place { IfOk result (λ at. place_meant (columns_of_all scopes.now) (written name.entry) ≡ Some at.place) }
-        ensures within { IfOk result (λ at. at.place.source < length scopes.now) }
-        ensures types { IfOk result (λ at. at.mistyped ≡ mistypes (database_of self.now) (columns_of_all scopes.now) (written name.entry) value.now) }
+        ensures place { IfOk result (λ at. place_meant (columns_of_all tables.now) (written name.entry) ≡ Some at.place) }
+        ensures within { IfOk result (λ at. at.place.source < length tables.now) }
+        ensures types { IfOk result (λ at. at.mistyped ≡ mistypes (database_of self.now) (columns_of_all tables.now) (written name.entry) value.now) }
         ensures refused { IfErr result (λ e. e ≡ refusal.NoSuchColumn) }
-        ensures missed { IfErr result (λ _. place_meant (columns_of_all scopes.now) (written name.entry) ≡ None) }
+        ensures missed { IfErr result (λ _. place_meant (columns_of_all tables.now) (written name.entry) ≡ None) }
     {
-        let Some(named) = column(scopes, name) else {
+        let Some(named) = column(tables, name) else {
             return Err(Refusal::NoSuchColumn);
         };
         Ok(PlacedValue {
@@ -78,33 +78,33 @@ impl Catalog {
     /// is ordered.
     pub(crate) fn place_condition(
         &self,
-        scopes: &[Scope<'_>],
+        tables: &[NamedTable<'_>],
         condition: &Cond,
     ) -> Result<PlacedValue, Refusal>
-        ensures place { IfOk result (λ at. place_meant (columns_of_all scopes.now) condition.now.column ≡ Some at.place) }
-        ensures within { IfOk result (λ at. at.place.source < length scopes.now) }
-        ensures types { IfOk result (λ at. at.mistyped ≡ is_mistyped (database_of self.now) (columns_of_all scopes.now) condition.now) }
+        ensures place { IfOk result (λ at. place_meant (columns_of_all tables.now) condition.now.column ≡ Some at.place) }
+        ensures within { IfOk result (λ at. at.place.source < length tables.now) }
+        ensures types { IfOk result (λ at. at.mistyped ≡ is_mistyped (database_of self.now) (columns_of_all tables.now) condition.now) }
         ensures refused { IfErr result (λ e. e ≡ refusal.NoSuchColumn) }
-        ensures missed { IfErr result (λ _. place_meant (columns_of_all scopes.now) condition.now.column ≡ None) }
+        ensures missed { IfErr result (λ _. place_meant (columns_of_all tables.now) condition.now.column ≡ None) }
     {
-        let at = self.place_value(scopes, Name::of(&condition.column), &condition.value)?;
+        let at = self.place_value(tables, Name::of(&condition.column), &condition.value)?;
         Ok(PlacedValue {
             place: at.place,
             mistyped: at.mistyped || orders_null(condition),
         })
     }
 
-    /// The conditions on the tables of these scopes as tests, in their order.
+    /// The conditions on these tables as tests, in their order.
     pub(crate) fn tests(
         &self,
-        scopes: &[Scope<'_>],
+        tables: &[NamedTable<'_>],
         conditions: Sequence<Cond>,
     ) -> Result<Placed<Test>, Refusal>
-        ensures tests { IfOk result (λ tested. tested.items ≡ tests_of (columns_of_all scopes.now) conditions) }
-        ensures types { IfOk result (λ tested. tested.mistyped ≡ list_any (is_mistyped (database_of self.now) (columns_of_all scopes.now)) conditions) }
-        ensures named { IfOk result (λ _. misses (columns_of_all scopes.now) (condition_names conditions) ≡ false) }
+        ensures tests { IfOk result (λ tested. tested.items ≡ tests_of (columns_of_all tables.now) conditions) }
+        ensures types { IfOk result (λ tested. tested.mistyped ≡ list_any (is_mistyped (database_of self.now) (columns_of_all tables.now)) conditions) }
+        ensures named { IfOk result (λ _. misses (columns_of_all tables.now) (condition_names conditions) ≡ false) }
         ensures refused { IfErr result (λ e. e ≢ refusal.NoMemory → e ≡ refusal.NoSuchColumn) }
-        ensures missed { IfErr result (λ e. e ≢ refusal.NoMemory → misses (columns_of_all scopes.now) (condition_names conditions) ≡ true) }
+        ensures missed { IfErr result (λ e. e ≢ refusal.NoMemory → misses (columns_of_all tables.now) (condition_names conditions) ≡ true) }
     {
         let conditions = conditions.into_vec();
         let mut tests = Vec::with_capacity(self.allocator(), conditions.len()).map_err(
@@ -112,7 +112,7 @@ impl Catalog {
         )?;
         let mut mistyped = false;
         for condition in conditions {
-            let at = self.place_condition(scopes, &condition)?;
+            let at = self.place_condition(tables, &condition)?;
             mistyped |= at.mistyped;
             tests
                 .push(test(condition, at.place))
@@ -124,17 +124,17 @@ impl Catalog {
         })
     }
 
-    /// The settings of columns of the tables of these scopes as assignments, in their order.
+    /// The settings of columns of these tables as assignments, in their order.
     pub(crate) fn assignments(
         &self,
-        scopes: &[Scope<'_>],
+        tables: &[NamedTable<'_>],
         settings: Sequence<Setting>,
     ) -> Result<Placed<Assignment>, Refusal>
-        ensures assignments { IfOk result (λ set. set.items ≡ assignments_of (columns_of_all scopes.now) settings) }
-        ensures types { IfOk result (λ set. set.mistyped ≡ list_any (λ s. mistypes (database_of self.now) (columns_of_all scopes.now) (setting_name s) s.value) settings) }
-        ensures named { IfOk result (λ _. misses (columns_of_all scopes.now) (map setting_name settings) ≡ false) }
+        ensures assignments { IfOk result (λ set. set.items ≡ assignments_of (columns_of_all tables.now) settings) }
+        ensures types { IfOk result (λ set. set.mistyped ≡ list_any (λ s. mistypes (database_of self.now) (columns_of_all tables.now) (setting_name s) s.value) settings) }
+        ensures named { IfOk result (λ _. misses (columns_of_all tables.now) (map setting_name settings) ≡ false) }
         ensures refused { IfErr result (λ e. e ≢ refusal.NoMemory → e ≡ refusal.NoSuchColumn) }
-        ensures missed { IfErr result (λ e. e ≢ refusal.NoMemory → misses (columns_of_all scopes.now) (map setting_name settings) ≡ true) }
+        ensures missed { IfErr result (λ e. e ≢ refusal.NoMemory → misses (columns_of_all tables.now) (map setting_name settings) ≡ true) }
     {
         let settings = settings.into_vec();
         let mut assignments = Vec::with_capacity(self.allocator(), settings.len()).map_err(
@@ -142,7 +142,7 @@ impl Catalog {
         )?;
         let mut mistyped = false;
         for setting in settings {
-            let at = self.place_value(scopes, Name::bare(&setting.column), &setting.value)?;
+            let at = self.place_value(tables, Name::bare(&setting.column), &setting.value)?;
             mistyped |= at.mistyped;
             assignments
                 .push(assignment(setting, at.place))

@@ -65,23 +65,23 @@ impl Catalog {
     fn resolve_drop_table(&self, table: Text) -> Result<Resolved, Refusal>
         ensures { result ≡ resolved_of [] (database_of self.now) (command.DropTable table) }
     {
-        let scope = self.scope(&table)?;
-        if self.is_table_referenced(scope.name) {
+        let named_table = self.named_table(&table)?;
+        if self.is_table_referenced(named_table.name) {
             return Err(Refusal::TableIsReferenced);
         }
-        Ok(Resolved::DropTable { table: scope.table })
+        Ok(Resolved::DropTable { table: named_table.table })
     }
 
     fn resolve_index(&self, table: Text, column: Text, kind: IndexKind) -> Result<Resolved, Refusal>
         ensures { result ≡ resolved_of [] (database_of self.now) (command.Index table column kind) }
     {
-        let scope = self.scope(&table)?;
-        let column = scope.own_column(&column)?;
-        if scope.has_index(column, kind) {
+        let named_table = self.named_table(&table)?;
+        let column = named_table.own_column(&column)?;
+        if named_table.has_index(column, kind) {
             return Err(Refusal::IndexExists);
         }
         Ok(Resolved::Index {
-            table: scope.table,
+            table: named_table.table,
             column,
             kind,
         })
@@ -95,13 +95,13 @@ impl Catalog {
     ) -> Result<Resolved, Refusal>
         ensures { result ≡ resolved_of [] (database_of self.now) (command.DropIndex table column kind) }
     {
-        let scope = self.scope(&table)?;
-        let column = scope.own_column(&column)?;
-        if !scope.declares(column, kind) {
+        let named_table = self.named_table(&table)?;
+        let column = named_table.own_column(&column)?;
+        if !named_table.declares(column, kind) {
             return Err(Refusal::NoSuchIndex);
         }
         Ok(Resolved::DropIndex {
-            table: scope.table,
+            table: named_table.table,
             column,
             kind,
         })
@@ -110,10 +110,10 @@ impl Catalog {
     fn resolve_insert(&self, table: Text, values: Sequence<Value>) -> Result<Resolved, Refusal>
         ensures { result ≡ resolved_of [] (database_of self.now) (command.Insert table values) }
     {
-        let scope = self.scope(&table)?;
-        self.check_row(scope.columns, values.as_slice())?;
+        let named_table = self.named_table(&table)?;
+        self.check_row(named_table.columns, values.as_slice())?;
         Ok(Resolved::Insert {
-            table: scope.table,
+            table: named_table.table,
             values,
         })
     }
@@ -127,13 +127,13 @@ impl Catalog {
         ensures meant { IfOk result (λ r. resolved_of [] (database_of self.now) (command.Update table settings conditions) ≡ Ok r) }
         ensures refused { IfErr result (λ e. e ≢ refusal.NoMemory → resolved_of [] (database_of self.now) (command.Update table settings conditions) ≡ Err e) }
     {
-        let scope = self.scope(&table)?;
+        let named_table = self.named_table(&table)?;
         let repeated = repeats_name(settings.as_slice());
-        let set = self.assignments(from_ref(&scope), settings)?;
-        let tested = self.tests(from_ref(&scope), conditions)?;
+        let set = self.assignments(from_ref(&named_table), settings)?;
+        let tested = self.tests(from_ref(&named_table), conditions)?;
         check_update(repeated, &set, &tested)?;
         Ok(Resolved::Update {
-            table: scope.table,
+            table: named_table.table,
             assignments: set.items,
             tests: tested.items,
         })
@@ -143,11 +143,11 @@ impl Catalog {
         ensures meant { IfOk result (λ r. resolved_of [] (database_of self.now) (command.Delete table conditions) ≡ Ok r) }
         ensures refused { IfErr result (λ e. e ≢ refusal.NoMemory → resolved_of [] (database_of self.now) (command.Delete table conditions) ≡ Err e) }
     {
-        let scope = self.scope(&table)?;
-        let tested = self.tests(from_ref(&scope), conditions)?;
+        let named_table = self.named_table(&table)?;
+        let tested = self.tests(from_ref(&named_table), conditions)?;
         check_delete(&tested)?;
         Ok(Resolved::Delete {
-            table: scope.table,
+            table: named_table.table,
             tests: tested.items,
         })
     }
@@ -163,10 +163,10 @@ impl Catalog {
         ensures meant { IfOk result (λ r. resolved_of [] (database_of self.now) (command.Select distinct items table joins conditions) ≡ Ok r) }
         ensures refused { IfErr result (λ e. e ≢ refusal.NoMemory → resolved_of [] (database_of self.now) (command.Select distinct items table joins conditions) ≡ Err e) }
     {
-        let scope = self.joined_scope(&table, joins.as_slice())?;
+        let scope = self.scope(&table, joins.as_slice())?;
         let shown = scope.shown(items)?;
         let count = conditions.len();
-        let tested = self.sources(&scope.scopes, conditions)?;
+        let tested = self.sources(&scope.tables, conditions)?;
         self.check_select(&scope, &shown, count, tested.mistyped)?;
         let mut sources = tested.items;
         let source = sources.remove(0);
@@ -182,7 +182,7 @@ impl Catalog {
     fn resolve_dump(&self, table: Text) -> Result<Resolved, Refusal>
         ensures { result ≡ resolved_of [] (database_of self.now) (command.Dump table) }
     {
-        let scope = self.scope(&table)?;
-        Ok(Resolved::Dump { table: scope.table })
+        let named_table = self.named_table(&table)?;
+        Ok(Resolved::Dump { table: named_table.table })
     }
 }

@@ -1,194 +1,121 @@
-//! The names in a command on one table.
-ghost use Rattle.std.specs.Prelude.{◌≡◌, ◌≢◌, true, ◌||◌, Some, None, IfSome, IfOk, IfErr, map};
-ghost use Rattle.std.specs.List.{AllPairs, list_any, filter};
-ghost use Rattle.std.specs.Option.{option_map, option_map_or, option_copied, option_to_list};
+//! What a select names: tables, and the columns of its joins.
+ghost use Rattle.std.specs.Prelude.{◌≡◌, ◌≢◌, ◌++◌, ◌∷◌, [], Some, is_some, OnOk, IfOk, IfErr, map, if◌then◌else◌};
+ghost use Rattle.std.specs.List.{list_any};
+ghost use Rattle.std.specs.Option.{option_map, option_to_list, option_zip};
 ghost use Rattle.std.specs.Str.{bytes_eq};
-ghost use Rattle.plain_tables.specs.declared.refusal.Refusal.TheVariants.{NoSuchTable, NoSuchColumn};
-ghost use Rattle.plain_tables.specs.Databases.{table_named};
-ghost use Rattle.plain_tables.specs.Queries.{fits as fits_so, place_meant, side_name};
-ghost use Rattle.plain_tables.specs.References as plain;
-ghost use Rattle.plain_tables.specs.declared.schema.IndexKind.TheVariants as index;
-ghost use Rattle.mm_catalog.specs.Seen.{database_of, plain_index};
+ghost use Rattle.plain_tables.specs.declared.refusal.Refusal.TheVariants as refusal;
+ghost use Rattle.plain_tables.specs.Queries.{column_meant, sides_meant, side_name};
+ghost use Rattle.mm_catalog.specs.Seen.{database_of};
 
-use crate::bind::names::column;
+use crate::bind::named_table::NamedTable;
+use crate::bind::names::{Name, NamedColumn, column};
 use crate::catalog::Catalog;
-use crate::laws::a_catalog_is_consistent;
-use mm_relation::DeclaredIndex;
-use plain_tables::{
-    ColName, Column, ColumnNumber, IndexKind, JoinSide, Place, Refusal, TableNumber, Text,
-};
+use no_memory::NoMemory;
+use plain_tables::{Join, JoinSide, Refusal, Text};
+use std::alloc::Global;
 use std::slice::from_ref;
 
-/// A column's name, and the name of its table where one is written before it.
+/// The two columns that a join makes equal: one of the tables before it, and one of its own.
 #[derive(Clone, Copy)]
-pub struct Name<'a> {
-    pub table: Option<&'a Text>,
-    pub column: &'a Text,
+pub struct Sides<'a> {
+    pub outer: NamedColumn<'a>,
+    pub inner: NamedColumn<'a>,
 }
 
-/// A column that a name means, and its place among the tables of the command.
-#[derive(Clone, Copy)]
-pub struct NamedColumn<'a> {
-    pub place: Place,
-    pub column: &'a Column,
-}
-
-/// The table that a command is on, whose columns it can name.
-#[derive(Clone, Copy)]
+/// The tables that a select names, each once, in the order in which it names them, and the columns of its joins.
+#[derive(Drop)]
 pub struct Scope<'a> {
-    pub table: TableNumber,
-    pub name: &'a str,
-    pub columns: &'a [Column],
-    pub declared: &'a [DeclaredIndex],
-    ghost apart: { AllPairs (λ c d. c.name ≢ d.name) columns.now },
-}
-
-// Whether a declared index is that of this column and kind.
-fn is_index(index: &DeclaredIndex, column: ColumnNumber, kind: IndexKind) -> bool
-    ensures { result ≡ plain.is_index column kind (plain_index index.now) }
-{
-    index.column.0 == column.0
-        && matches!(
-            (kind, index.kind),
-            (IndexKind::Tree, IndexKind::Tree) | (IndexKind::Hash, IndexKind::Hash)
-        )
-}
-
-// Whether an index is the key's own tree, which each table has without a declaration.
-fn is_key_tree(column: ColumnNumber, kind: IndexKind) -> bool
-    ensures { result ≡ plain.is_index column kind (0, index.Tree) }
-{
-    column.0 == 0 && matches!(kind, IndexKind::Tree)
+    pub tables: Vec<NamedTable<'a>>,
+    pub sides: Vec<Sides<'a>>,
 }
 
 impl Catalog {
-    ghost use Rattle.mm_catalog.specs.Resolve.{IsScopeOf};
+    ghost use Rattle.mm_catalog.specs.Select.{IsScopeOf, RefusesSelects};
 
-    /// What can be named in a command on the table of that name.
-    pub(crate) fn scope<'a>(&'a self, name: &Text) -> Result<Scope<'a>, Refusal>
-        ensures found { IfOk result (IsScopeOf (database_of self.now) name.now) }
-        ensures refused { IfErr result (λ e. e ≡ NoSuchTable) }
-        ensures missed { IfErr result (λ _. table_named name.now (database_of self.now) ≡ None) }
+    /// What can be named in a select from the table of that name and those that are joined with it, and the columns of its
+    /// joins. A table that isn't there is told before a join that names no two columns.
+    pub(crate) fn scope<'a>(
+        &'a self,
+        table: &Text,
+        joins: &[Join],
+    ) -> Result<Scope<'a>, Refusal>
+        ensures found { IfOk result (IsScopeOf (database_of self.now) table.now joins.now) }
+        ensures refused { IfErr result (λ e. e ≢ refusal.NoMemory → RefusesSelects (database_of self.now) table.now joins.now e) }
     {
-        a_catalog_is_consistent(self);
-        let Some(table) = self.table_number(name) else {
-            return Err(Refusal::NoSuchTable);
-        };
-        Ok(Scope {
-            table,
-            name: self.table_name(table),
-            columns: self.columns(table),
-            declared: self.declared(table),
-        })
-    }
-}
-
-impl<'a> Name<'a> {
-    ghost use Rattle.mm_catalog.specs.Resolve.{written, bare};
-
-    /// The name in a condition or an item.
-    pub fn of(name: &'a ColName) -> Name<'a>
-        ensures { written result ≡ name.now }
-    {
-        Name {
-            table: name.table.as_ref(),
-            column: &name.column,
+        let mut scope = Scope::of(self.allocator(), self.named_table(table)?)?;
+        let mut missed = false;
+        for join in joins {
+            let own = self.named_table(&join.table)?;
+            let named = scope.join(own, join)?;
+            missed |= !named;
         }
-    }
-
-    /// The name on a side of a join.
-    pub fn of_side(side: &'a JoinSide) -> Name<'a>
-        ensures { written result ≡ side_name side.now }
-    {
-        Name {
-            table: Some(&side.table),
-            column: &side.column,
+        if missed {
+            return Err(Refusal::NoSuchColumn);
         }
-    }
-
-    /// A name with no table's before it.
-    pub fn bare(column: &'a Text) -> Name<'a>
-        ensures { written result ≡ bare column.now }
-    {
-        Name {
-            table: None,
-            column,
-        }
+        Ok(scope)
     }
 }
 
 impl<'a> Scope<'a> {
-    ghost use Rattle.mm_catalog.specs.Resolve.{columns_of, in_table, bare, written, own_place, source_columns, placed, as_found};
+    ghost use Rattle.mm_catalog.specs.Resolve.{columns_of, columns_of_all, written, placed, as_found};
+    ghost use Rattle.mm_catalog.specs.Select.{placed_sides, sides_found};
 
-    // Whether the table goes by the name before a column's, if one is written.
-    fn is_own(&self, table: Option<&Text>) -> bool
-        ensures { result ≡ option_map_or (λ name. bytes_eq name self.now.name.now) (option_copied table.entry) true }
+    // The scope of a select from one table.
+    fn of(alloc: Global, table: NamedTable<'a>) -> Result<Scope<'a>, NoMemory>
+        ensures first { IfOk result (λ scope. scope.tables.items ≡ table.entry ∷ []) }
+        ensures alone { IfOk result (λ scope. scope.sides.items ≡ []) }
     {
-        match table {
-            Some(table) => table.as_bytes() == self.name.as_bytes(),
-            None => true,
-        }
-    }
-
-    // Whether a name fits a column.
-    fn fits(&self, column: &Column, name: Name<'_>) -> bool
-        ensures { result ≡ fits_so (written name.entry) (in_table self.now.name.now column.now) }
-    {
-        name.column.as_bytes() == column.name.as_bytes() && self.is_own(name.table)
-    }
-
-    /// The column that a name fits, where this is the table that is joined as the one of that number. It fits no two, since
-    /// the columns differ in their names.
-    pub fn column(&self, source: usize, name: Name<'_>) -> Option<NamedColumn<'a>>
-        ensures found { map placed (filter (fits_so (written name.entry)) (source_columns (source, self.now))) ≡ option_to_list (option_map as_found result) }
-        ensures at { IfSome result (λ named. named.place.source ≡ source) }
-    {
-        let number = self
-            .columns
-            .iter()
-            .position(|column| self.fits(column, name))?;
-        Some(NamedColumn {
-            place: Place {
-                source,
-                column: ColumnNumber(number),
-            },
-            column: &self.columns[number],
+        let mut tables = Vec::new(alloc);
+        tables.push(table)?;
+        Ok(Scope {
+            tables,
+            sides: Vec::new(alloc),
         })
     }
 
-    /// The column that a name means in a command on this table alone.
-    pub fn place(&self, name: Name<'_>) -> Option<ColumnNumber>
-        ensures { option_map own_place result ≡ place_meant (columns_of self.now) (written name.entry) }
+    // The columns of a join, where the one side names a column of these tables, and the other one of its own table.
+    fn sides_so(&self, own: &NamedTable<'a>, outer: &JoinSide, inner: &JoinSide) -> Option<Sides<'a>>
+        ensures { option_map sides_found result ≡ option_map placed_sides (option_zip (column_meant (columns_of_all self.now.tables.items) (side_name outer.now)) (column_meant (columns_of own.now) (side_name inner.now))) }
     {
-        let named = column(from_ref(self), name)?;
-        Some(named.place.column)
+        Some(Sides {
+            outer: column(&self.tables, Name::of_side(outer))?,
+            inner: column(from_ref(own), Name::of_side(inner))?,
+        })
     }
 
-    /// The column of that name.
-    pub fn own_column(&self, name: &Text) -> Result<ColumnNumber, Refusal>
-        ensures found { IfOk result (λ column. place_meant (columns_of self.now) (bare name.now) ≡ Some (own_place column)) }
-        ensures refused { IfErr result (λ e. e ≡ NoSuchColumn) }
-        ensures missed { IfErr result (λ _. place_meant (columns_of self.now) (bare name.now) ≡ None) }
+    // The columns of a join. Either side may name either.
+    fn sides(&self, own: &NamedTable<'a>, join: &Join) -> Option<Sides<'a>>
+        ensures { option_map sides_found result ≡ option_map placed_sides (sides_meant (columns_of_all self.now.tables.items) (columns_of own.now) join.now) }
     {
-        match self.place(Name::bare(name)) {
-            Some(column) => Ok(column),
-            None => Err(Refusal::NoSuchColumn),
+        if let Some(sides) = self.sides_so(own, &join.left, &join.right) {
+            return Some(sides);
         }
+        self.sides_so(own, &join.right, &join.left)
     }
 
-    /// Whether an index of this column and kind is declared.
-    pub fn declares(&self, column: ColumnNumber, kind: IndexKind) -> bool
-        ensures { result ≡ list_any (λ d. plain.is_index column kind (plain_index d)) self.now.declared.now }
+    // Whether a table of that name is one of them.
+    fn has(&self, name: &str) -> bool
+        ensures { result ≡ list_any (λ s. bytes_eq s.name.now name.now) self.now.tables.items }
     {
-        self.declared
+        self.tables
             .iter()
-            .any(|index| is_index(index, column, kind))
+            .any(|table| table.name.as_bytes() == name.as_bytes())
     }
 
-    /// Whether there is an index of this column and kind: a declared one, or the key's own tree.
-    pub fn has_index(&self, column: ColumnNumber, kind: IndexKind) -> bool
-        ensures { result ≡ (plain.is_index column kind (0, index.Tree) || list_any (λ d. plain.is_index column kind (plain_index d)) self.now.declared.now) }
+    // Joins a table. Whether the join names two columns.
+    fn join(&mut self, own: NamedTable<'a>, join: &Join) -> Result<bool, NoMemory>
+        ensures tables { OnOk result (self.new.tables.items ≡ (if list_any (λ s. bytes_eq s.name.now own.entry.name.now) self.old.tables.items then self.old.tables.items else self.old.tables.items ++ own.entry ∷ [])) }
+        ensures named { IfOk result (λ named. named ≡ is_some (sides_meant (columns_of_all self.old.tables.items) (columns_of own.entry) join.now)) }
+        ensures sides { OnOk result (map sides_found self.new.sides.items ≡ map sides_found self.old.sides.items ++ option_to_list (option_map placed_sides (sides_meant (columns_of_all self.old.tables.items) (columns_of own.entry) join.now))) }
     {
-        is_key_tree(column, kind) || self.declares(column, kind)
+        let sides = self.sides(&own, join);
+        if !self.has(own.name) {
+            self.tables.push(own)?;
+        }
+        let Some(sides) = sides else {
+            return Ok(false);
+        };
+        self.sides.push(sides)?;
+        Ok(true)
     }
 }

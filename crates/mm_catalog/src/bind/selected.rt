@@ -10,21 +10,21 @@ ghost use Rattle.mm_catalog.specs.Resolve.{columns_of_all};
 ghost use Rattle.mm_catalog.specs.Seen.{database_of};
 ghost use Rattle.mm_catalog.specs.Select.{source_on, with_test, untested, joined_by};
 
-use crate::bind::joined_scope::JoinedScope;
-use crate::bind::names::column;
+use crate::bind::named_table::NamedTable;
+use crate::bind::names::{Name, column};
 use crate::bind::placed::{Placed, test};
-use crate::bind::scope::{Name, Scope};
+use crate::bind::scope::Scope;
 use crate::catalog::Catalog;
 use no_memory::NoMemory;
 use plain_tables::{ColName, Cond, Items, Joined, Place, Refusal, Sequence, Shown, Source, Test};
 use std::alloc::Global;
 
 // The source of a table that no condition is on.
-fn source(alloc: Global, scope: &Scope<'_>) -> Source
-    ensures { result ≡ untested scope.now }
+fn source(alloc: Global, table: &NamedTable<'_>) -> Source
+    ensures { result ≡ untested table.now }
 {
     Source {
-        table: scope.table,
+        table: table.table,
         tests: Sequence::new(alloc),
     }
 }
@@ -37,34 +37,34 @@ fn add_test(sources: &mut [Source], source: usize, test: Test) -> Result<(), NoM
     sources[source].tests.push(test)
 }
 
-// The tables of scopes as sources that no condition is on.
-fn untested_sources(alloc: Global, scopes: &[Scope<'_>]) -> Result<Vec<Source>, NoMemory>
-    ensures { IfOk result (λ sources. sources.items ≡ map untested scopes.now) }
+// Tables as sources that no condition is on.
+fn untested_sources(alloc: Global, tables: &[NamedTable<'_>]) -> Result<Vec<Source>, NoMemory>
+    ensures { IfOk result (λ sources. sources.items ≡ map untested tables.now) }
 {
-    let sources = scopes
+    let sources = tables
         .iter()
-        .map(|scope| source(alloc, scope))
+        .map(|table| source(alloc, table))
         .collect(alloc)?;
     Ok(sources)
 }
 
 impl Catalog {
-    /// The tables of scopes as sources, each with the conditions on it as tests, in their order.
+    /// Tables as sources, each with the conditions on it as tests, in their order.
     pub(crate) fn sources(
         &self,
-        scopes: &[Scope<'_>],
+        tables: &[NamedTable<'_>],
         conditions: Sequence<Cond>,
     ) -> Result<Placed<Source>, Refusal>
-        ensures sources { IfOk result (λ tested. tested.items ≡ map (source_on (columns_of_all scopes.now) conditions) (enumerate_from 0 scopes.now)) }
-        ensures types { IfOk result (λ tested. tested.mistyped ≡ list_any (is_mistyped (database_of self.now) (columns_of_all scopes.now)) conditions) }
-        ensures named { IfOk result (λ _. misses (columns_of_all scopes.now) (condition_names conditions) ≡ false) }
+        ensures sources { IfOk result (λ tested. tested.items ≡ map (source_on (columns_of_all tables.now) conditions) (enumerate_from 0 tables.now)) }
+        ensures types { IfOk result (λ tested. tested.mistyped ≡ list_any (is_mistyped (database_of self.now) (columns_of_all tables.now)) conditions) }
+        ensures named { IfOk result (λ _. misses (columns_of_all tables.now) (condition_names conditions) ≡ false) }
         ensures refused { IfErr result (λ e. e ≢ refusal.NoMemory → e ≡ refusal.NoSuchColumn) }
-        ensures missed { IfErr result (λ e. e ≢ refusal.NoMemory → misses (columns_of_all scopes.now) (condition_names conditions) ≡ true) }
+        ensures missed { IfErr result (λ e. e ≢ refusal.NoMemory → misses (columns_of_all tables.now) (condition_names conditions) ≡ true) }
     {
-        let mut sources = untested_sources(self.allocator(), scopes)?;
+        let mut sources = untested_sources(self.allocator(), tables)?;
         let mut mistyped = false;
         for condition in conditions.into_vec() {
-            let at = self.place_condition(scopes, &condition)?;
+            let at = self.place_condition(tables, &condition)?;
             mistyped |= at.mistyped;
             let source = at.place.source;
             add_test(sources.as_mut_slice(), source, test(condition, at.place))?;
@@ -76,19 +76,19 @@ impl Catalog {
     }
 }
 
-impl<'a> JoinedScope<'a> {
+impl<'a> Scope<'a> {
     // The place of the column that a name means.
     fn place(&self, name: &ColName) -> Option<Place>
-        ensures meant { result ≡ place_meant (columns_of_all self.now.scopes.items) name.now }
-        ensures within { IfSome result (λ place. place.source < length self.now.scopes.items) }
+        ensures meant { result ≡ place_meant (columns_of_all self.now.tables.items) name.now }
+        ensures within { IfSome result (λ place. place.source < length self.now.tables.items) }
     {
-        let named = column(&self.scopes, Name::of(name))?;
+        let named = column(&self.tables, Name::of(name))?;
         Some(named.place)
     }
 
     // The places of the columns that names mean. Names that mean none are left out.
     fn places_meant(&self, names: Vec<ColName>) -> Result<Vec<Place>, NoMemory>
-        ensures { IfOk result (λ places. places.items ≡ places_meant (columns_of_all self.now.scopes.items) names.items) }
+        ensures { IfOk result (λ places. places.items ≡ places_meant (columns_of_all self.now.tables.items) names.items) }
     {
         let places = names
             .iter()
@@ -99,10 +99,10 @@ impl<'a> JoinedScope<'a> {
 
     /// The columns that items show.
     pub fn shown(&self, items: Items) -> Result<Shown, Refusal>
-        ensures shown { IfOk result (λ shown. shown ≡ shown_of (columns_of_all self.now.scopes.items) items) }
-        ensures named { IfOk result (λ _. misses (columns_of_all self.now.scopes.items) (named_items items) ≡ false) }
+        ensures shown { IfOk result (λ shown. shown ≡ shown_of (columns_of_all self.now.tables.items) items) }
+        ensures named { IfOk result (λ _. misses (columns_of_all self.now.tables.items) (named_items items) ≡ false) }
         ensures refused { IfErr result (λ e. e ≢ refusal.NoMemory → e ≡ refusal.NoSuchColumn) }
-        ensures missed { IfErr result (λ e. e ≢ refusal.NoMemory → misses (columns_of_all self.now.scopes.items) (named_items items) ≡ true) }
+        ensures missed { IfErr result (λ e. e ≢ refusal.NoMemory → misses (columns_of_all self.now.tables.items) (named_items items) ≡ true) }
     {
         let Items::Named(names) = items else {
             return Ok(Shown::All);

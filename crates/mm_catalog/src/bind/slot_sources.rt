@@ -10,7 +10,7 @@ ghost use Rattle.mm_catalog.specs.Seen.{database_of};
 ghost use Rattle.mm_catalog.specs.Slots.{slot_joined_by, slot_source_on, untested_slots, with_slot_test};
 ghost use Rattle.mm_catalog.specs.Wanted.{Adds};
 
-use crate::bind::joined_scope::JoinedScope;
+use crate::bind::named_table::NamedTable;
 use crate::bind::scope::Scope;
 use crate::bind::slots::slot_test;
 use crate::bind::wanted::Wanted;
@@ -21,11 +21,11 @@ use plain_tables::{Refusal, Sequence};
 use std::alloc::Global;
 
 // The source of a table that no condition is on.
-fn slot_source(alloc: Global, scope: &Scope<'_>) -> SlotSource
-    ensures { result ≡ untested_slots scope.now }
+fn slot_source(alloc: Global, table: &NamedTable<'_>) -> SlotSource
+    ensures { result ≡ untested_slots table.now }
 {
     SlotSource {
-        table: scope.table,
+        table: table.table,
         tests: Sequence::new(alloc),
     }
 }
@@ -38,35 +38,35 @@ fn add_slot_test(sources: &mut [SlotSource], source: usize, test: SlotTest) -> R
     sources[source].tests.push(test)
 }
 
-// The tables of scopes as sources that no condition is on.
-fn untested_slot_sources(alloc: Global, scopes: &[Scope<'_>]) -> Result<Vec<SlotSource>, NoMemory>
-    ensures { IfOk result (λ sources. sources.items ≡ map untested_slots scopes.now) }
+// Tables as sources that no condition is on.
+fn untested_slot_sources(alloc: Global, tables: &[NamedTable<'_>]) -> Result<Vec<SlotSource>, NoMemory>
+    ensures { IfOk result (λ sources. sources.items ≡ map untested_slots tables.now) }
 {
-    let sources = scopes
+    let sources = tables
         .iter()
-        .map(|scope| slot_source(alloc, scope))
+        .map(|table| slot_source(alloc, table))
         .collect(alloc)?;
     Ok(sources)
 }
 
 impl Catalog {
-    /// The tables of scopes as sources, each with the conditions on it as tests, in their order. It adds what the values of the
+    /// Tables as sources, each with the conditions on it as tests, in their order. It adds what the values of the
     /// conditions have to be.
     pub(crate) fn slot_sources(
         &self,
-        scopes: &[Scope<'_>],
+        tables: &[NamedTable<'_>],
         conditions: Sequence<SlotCond>,
         wanted: &mut Wanted,
     ) -> Result<Sequence<SlotSource>, Refusal>
-        ensures sources { IfOk result (λ sources. sources ≡ map (slot_source_on (columns_of_all scopes.now) conditions) (enumerate_from 0 scopes.now)) }
-        ensures wanted { OnOk result (Adds (condition_needs (database_of self.now) (columns_of_all scopes.now) conditions) wanted.old wanted.new) }
-        ensures named { OnOk result (misses (columns_of_all scopes.now) (slot_condition_names conditions) ≡ false) }
+        ensures sources { IfOk result (λ sources. sources ≡ map (slot_source_on (columns_of_all tables.now) conditions) (enumerate_from 0 tables.now)) }
+        ensures wanted { OnOk result (Adds (condition_needs (database_of self.now) (columns_of_all tables.now) conditions) wanted.old wanted.new) }
+        ensures named { OnOk result (misses (columns_of_all tables.now) (slot_condition_names conditions) ≡ false) }
         ensures refused { IfErr result (λ e. e ≢ refusal.NoMemory → e ≡ refusal.NoSuchColumn) }
-        ensures missed { IfErr result (λ e. e ≢ refusal.NoMemory → misses (columns_of_all scopes.now) (slot_condition_names conditions) ≡ true) }
+        ensures missed { IfErr result (λ e. e ≢ refusal.NoMemory → misses (columns_of_all tables.now) (slot_condition_names conditions) ≡ true) }
     {
-        let mut sources = untested_slot_sources(self.allocator(), scopes)?;
+        let mut sources = untested_slot_sources(self.allocator(), tables)?;
         for condition in conditions.into_vec() {
-            let place = self.want_condition(scopes, &condition, wanted)?;
+            let place = self.want_condition(tables, &condition, wanted)?;
             let source = place.source;
             add_slot_test(sources.as_mut_slice(), source, slot_test(condition, place))?;
         }
@@ -74,7 +74,7 @@ impl Catalog {
     }
 }
 
-impl<'a> JoinedScope<'a> {
+impl<'a> Scope<'a> {
     /// The sources behind the first, each joined by the columns of its join.
     pub fn slot_joins(self, sources: Sequence<SlotSource>) -> Result<Sequence<SlotJoined>, NoMemory>
         ensures { IfOk result (λ joins. joins ≡ map (λ s. slot_joined_by s.0 s.1) (zip sources self.entry.sides.items)) }

@@ -10,8 +10,8 @@ ghost use Rattle.mm_catalog.specs.Seen.{database_of};
 ghost use Rattle.mm_catalog.specs.Slots.{slot_test_at, slot_assignment_at};
 ghost use Rattle.mm_catalog.specs.Wanted.{IsWantedOf, Adds};
 
-use crate::bind::names::column;
-use crate::bind::scope::{Name, Scope};
+use crate::bind::named_table::NamedTable;
+use crate::bind::names::{Name, column};
 use crate::bind::wanted::Wanted;
 use crate::catalog::Catalog;
 use no_memory::NoMemory;
@@ -55,17 +55,17 @@ impl Catalog {
     /// Where the column of a condition stands. It adds what the value of the condition has to be.
     pub(crate) fn want_condition(
         &self,
-        scopes: &[Scope<'_>],
+        tables: &[NamedTable<'_>],
         condition: &SlotCond,
         wanted: &mut Wanted,
     ) -> Result<Place, Refusal>
-        ensures place { IfOk result (λ place. place_meant (columns_of_all scopes.now) condition.now.column ≡ Some place) }
-        ensures within { IfOk result (λ place. place.source < length scopes.now) }
-        ensures wanted { OnOk result (Adds (condition_needs (database_of self.now) (columns_of_all scopes.now) (condition.now ∷ [])) wanted.old wanted.new) }
+        ensures place { IfOk result (λ place. place_meant (columns_of_all tables.now) condition.now.column ≡ Some place) }
+        ensures within { IfOk result (λ place. place.source < length tables.now) }
+        ensures wanted { OnOk result (Adds (condition_needs (database_of self.now) (columns_of_all tables.now) (condition.now ∷ [])) wanted.old wanted.new) }
         ensures refused { IfErr result (λ e. e ≢ refusal.NoMemory → e ≡ refusal.NoSuchColumn) }
-        ensures missed { IfErr result (λ e. e ≢ refusal.NoMemory → place_meant (columns_of_all scopes.now) condition.now.column ≡ None) }
+        ensures missed { IfErr result (λ e. e ≢ refusal.NoMemory → place_meant (columns_of_all tables.now) condition.now.column ≡ None) }
     {
-        let Some(named) = column(scopes, Name::of(&condition.column)) else {
+        let Some(named) = column(tables, Name::of(&condition.column)) else {
             return Err(Refusal::NoSuchColumn);
         };
         let need = self.compared_need(&named.column.kind, condition.op);
@@ -76,16 +76,16 @@ impl Catalog {
     // Where the column of a setting stands. It adds what the value that is set has to be.
     fn want_setting(
         &self,
-        scopes: &[Scope<'_>],
+        tables: &[NamedTable<'_>],
         setting: &SlotSetting,
         wanted: &mut Wanted,
     ) -> Result<Place, Refusal>
-        ensures place { IfOk result (λ place. place_meant (columns_of_all scopes.now) (slot_setting_name setting.now) ≡ Some place) }
-        ensures wanted { OnOk result (Adds (setting_needs (database_of self.now) (columns_of_all scopes.now) (setting.now ∷ [])) wanted.old wanted.new) }
+        ensures place { IfOk result (λ place. place_meant (columns_of_all tables.now) (slot_setting_name setting.now) ≡ Some place) }
+        ensures wanted { OnOk result (Adds (setting_needs (database_of self.now) (columns_of_all tables.now) (setting.now ∷ [])) wanted.old wanted.new) }
         ensures refused { IfErr result (λ e. e ≢ refusal.NoMemory → e ≡ refusal.NoSuchColumn) }
-        ensures missed { IfErr result (λ e. e ≢ refusal.NoMemory → place_meant (columns_of_all scopes.now) (slot_setting_name setting.now) ≡ None) }
+        ensures missed { IfErr result (λ e. e ≢ refusal.NoMemory → place_meant (columns_of_all tables.now) (slot_setting_name setting.now) ≡ None) }
     {
-        let Some(named) = column(scopes, Name::bare(&setting.column)) else {
+        let Some(named) = column(tables, Name::bare(&setting.column)) else {
             return Err(Refusal::NoSuchColumn);
         };
         let need = self.stored_need(&named.column.kind);
@@ -93,25 +93,25 @@ impl Catalog {
         Ok(named.place)
     }
 
-    /// The conditions on the tables of these scopes as tests, in their order. It adds what their values have to be.
+    /// The conditions on these tables as tests, in their order. It adds what their values have to be.
     pub(crate) fn slot_tests(
         &self,
-        scopes: &[Scope<'_>],
+        tables: &[NamedTable<'_>],
         conditions: Sequence<SlotCond>,
         wanted: &mut Wanted,
     ) -> Result<Sequence<SlotTest>, Refusal>
-        ensures tests { IfOk result (λ tests. tests ≡ slot_tests_of (columns_of_all scopes.now) conditions) }
-        ensures wanted { OnOk result (Adds (condition_needs (database_of self.now) (columns_of_all scopes.now) conditions) wanted.old wanted.new) }
-        ensures named { OnOk result (misses (columns_of_all scopes.now) (slot_condition_names conditions) ≡ false) }
+        ensures tests { IfOk result (λ tests. tests ≡ slot_tests_of (columns_of_all tables.now) conditions) }
+        ensures wanted { OnOk result (Adds (condition_needs (database_of self.now) (columns_of_all tables.now) conditions) wanted.old wanted.new) }
+        ensures named { OnOk result (misses (columns_of_all tables.now) (slot_condition_names conditions) ≡ false) }
         ensures refused { IfErr result (λ e. e ≢ refusal.NoMemory → e ≡ refusal.NoSuchColumn) }
-        ensures missed { IfErr result (λ e. e ≢ refusal.NoMemory → misses (columns_of_all scopes.now) (slot_condition_names conditions) ≡ true) }
+        ensures missed { IfErr result (λ e. e ≢ refusal.NoMemory → misses (columns_of_all tables.now) (slot_condition_names conditions) ≡ true) }
     {
         let conditions = conditions.into_vec();
         let mut tests = Vec::with_capacity(self.allocator(), conditions.len()).map_err(
             NoMemory::from,
         )?;
         for condition in conditions {
-            let place = self.want_condition(scopes, &condition, wanted)?;
+            let place = self.want_condition(tables, &condition, wanted)?;
             tests
                 .push(slot_test(condition, place))
                 .map_err(NoMemory::from)?;
@@ -119,25 +119,25 @@ impl Catalog {
         Ok(Sequence::from_vec(tests))
     }
 
-    /// The settings of columns of the tables of these scopes as assignments, in their order. It adds what their values have to be.
+    /// The settings of columns of these tables as assignments, in their order. It adds what their values have to be.
     pub(crate) fn slot_assignments(
         &self,
-        scopes: &[Scope<'_>],
+        tables: &[NamedTable<'_>],
         settings: Sequence<SlotSetting>,
         wanted: &mut Wanted,
     ) -> Result<Sequence<SlotAssignment>, Refusal>
-        ensures assignments { IfOk result (λ set. set ≡ slot_assignments_of (columns_of_all scopes.now) settings) }
-        ensures wanted { OnOk result (Adds (setting_needs (database_of self.now) (columns_of_all scopes.now) settings) wanted.old wanted.new) }
-        ensures named { OnOk result (misses (columns_of_all scopes.now) (map slot_setting_name settings) ≡ false) }
+        ensures assignments { IfOk result (λ set. set ≡ slot_assignments_of (columns_of_all tables.now) settings) }
+        ensures wanted { OnOk result (Adds (setting_needs (database_of self.now) (columns_of_all tables.now) settings) wanted.old wanted.new) }
+        ensures named { OnOk result (misses (columns_of_all tables.now) (map slot_setting_name settings) ≡ false) }
         ensures refused { IfErr result (λ e. e ≢ refusal.NoMemory → e ≡ refusal.NoSuchColumn) }
-        ensures missed { IfErr result (λ e. e ≢ refusal.NoMemory → misses (columns_of_all scopes.now) (map slot_setting_name settings) ≡ true) }
+        ensures missed { IfErr result (λ e. e ≢ refusal.NoMemory → misses (columns_of_all tables.now) (map slot_setting_name settings) ≡ true) }
     {
         let settings = settings.into_vec();
         let mut assignments = Vec::with_capacity(self.allocator(), settings.len()).map_err(
             NoMemory::from,
         )?;
         for setting in settings {
-            let place = self.want_setting(scopes, &setting, wanted)?;
+            let place = self.want_setting(tables, &setting, wanted)?;
             assignments
                 .push(slot_assignment(setting, place))
                 .map_err(NoMemory::from)?;

@@ -42,13 +42,13 @@ impl Catalog {
         ensures meant { IfOk result (λ r. Resolves (database_of self.now) (statement.Insert table slots) r) }
         ensures refused { IfErr result (λ e. e ≢ refusal.NoMemory → Refuses (database_of self.now) (statement.Insert table slots) e) }
     {
-        let scope = self.scope(&table)?;
-        if slots.len() != scope.columns.len() {
+        let named_table = self.named_table(&table)?;
+        if slots.len() != named_table.columns.len() {
             return Err(Refusal::WrongNumberOfValues);
         }
-        let wanted = self.row_wanted(scope.columns, slots.as_slice())?;
+        let wanted = self.row_wanted(named_table.columns, slots.as_slice())?;
         let template = Template::Insert {
-            table: scope.table,
+            table: named_table.table,
             slots,
         };
         wanted.resolution(None, template)
@@ -63,17 +63,17 @@ impl Catalog {
         ensures meant { IfOk result (λ r. Resolves (database_of self.now) (statement.Update table settings conditions) r) }
         ensures refused { IfErr result (λ e. e ≢ refusal.NoMemory → Refuses (database_of self.now) (statement.Update table settings conditions) e) }
     {
-        let scope = self.scope(&table)?;
+        let named_table = self.named_table(&table)?;
         let repeated = repeats_name(settings.as_slice());
         let mut wanted = Wanted::new(self.allocator());
-        let assignments = self.slot_assignments(from_ref(&scope), settings, &mut wanted)?;
-        let tests = self.slot_tests(from_ref(&scope), conditions, &mut wanted)?;
+        let assignments = self.slot_assignments(from_ref(&named_table), settings, &mut wanted)?;
+        let tests = self.slot_tests(from_ref(&named_table), conditions, &mut wanted)?;
         if repeated {
             return Err(Refusal::ColumnNamedTwice);
         }
         let last = update_late(assignments.as_slice(), tests.len());
         let template = Template::Update {
-            table: scope.table,
+            table: named_table.table,
             assignments,
             tests,
         };
@@ -88,12 +88,12 @@ impl Catalog {
         ensures meant { IfOk result (λ r. Resolves (database_of self.now) (statement.Delete table conditions) r) }
         ensures refused { IfErr result (λ e. e ≢ refusal.NoMemory → Refuses (database_of self.now) (statement.Delete table conditions) e) }
     {
-        let scope = self.scope(&table)?;
+        let named_table = self.named_table(&table)?;
         let mut wanted = Wanted::new(self.allocator());
-        let tests = self.slot_tests(from_ref(&scope), conditions, &mut wanted)?;
+        let tests = self.slot_tests(from_ref(&named_table), conditions, &mut wanted)?;
         let last = delete_late(tests.len());
         let template = Template::Delete {
-            table: scope.table,
+            table: named_table.table,
             tests,
         };
         wanted.resolution(last, template)
@@ -110,11 +110,11 @@ impl Catalog {
         ensures meant { IfOk result (λ r. Resolves (database_of self.now) (statement.Select distinct items table joins conditions) r) }
         ensures refused { IfErr result (λ e. e ≢ refusal.NoMemory → Refuses (database_of self.now) (statement.Select distinct items table joins conditions) e) }
     {
-        let scope = self.joined_scope(&table, joins.as_slice())?;
+        let scope = self.scope(&table, joins.as_slice())?;
         let shown = scope.shown(items)?;
         let last = select_late(&shown, conditions.len(), scope.sides.len());
         let mut wanted = Wanted::new(self.allocator());
-        let mut sources = self.slot_sources(&scope.scopes, conditions, &mut wanted)?;
+        let mut sources = self.slot_sources(&scope.tables, conditions, &mut wanted)?;
         self.check_joined(&scope, &shown)?;
         let source = sources.remove(0);
         let joins = scope.slot_joins(sources)?;

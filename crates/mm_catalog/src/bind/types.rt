@@ -10,7 +10,7 @@ ghost use Rattle.plain_statements.specs.Slots as slots;
 ghost use Rattle.mm_catalog.specs.Seen.{database_of};
 ghost use Rattle.mm_catalog.specs.Select.{sides_differ};
 
-use crate::bind::joined_scope::Sides;
+use crate::bind::scope::Sides;
 use crate::catalog::Catalog;
 use crate::create::referred;
 use plain_statements::Need;

@@ -12,6 +12,7 @@ use Rattle.mm_relation.specs.Rows.{StartsWithKey}
 use Rattle.mm_catalog.specs.Cells.{IsCellOf, cell_for, led_to}
 use Rattle.mm_catalog.proofs.Packed.{AreFirst, first_none, first_more, starts, row_packed, kept_out_by, kept_out_for_memory}
 use Rattle.mm_catalog.proofs.insert.pack_lent.Goals as goal
+use Rattle.mm_catalog.proofs.insert.pack_lent.Goals.{After-value-item}
 
 pub loop-value-init : goal.loop-value-init
 loop-value-init c = record {
@@ -20,56 +21,41 @@ loop-value-init c = record {
   room = omega (arith, c.in_ok-empty_for.ensures.room);
 }
 
+-- the value whose turn it is
+next : (c : After-value-item) → slice_get c.args.values.now (length c.loop-value.cells.items) ≡ Some c.value-item.result
+next c =
+    let values = c.args.values.now in
+    ap (slice_get values) c.loop-value.invariant.count
+    ∙ slice_get_read values (length values) c.loop-value.value-index c.value-item.result refl (omega (arith, c.loop-value-test.true)) c.value-item.is
+
 pub next_named-requires-clause-starts : goal.next_named-requires-clause-starts
 next_named-requires-clause-starts c some =
-    let cells = c.loop-value.cells.items in
-    subst StartsWithKey (sym c.as_slice.ensures.value)
-    (starts c.args.before.now c.args.relation.now.targets c.args.values.now cells c.loop-value.invariant.first (omega (arith, c.loop-value-test.true)) (omega (arith, some, ap length c.as_slice.ensures.value)))
+    rw c.as_slice.ensures.value
+    (starts c.args.before.now c.args.relation.now.targets c.args.values.now c.loop-value.cells.items c.loop-value.invariant.first (omega (arith, c.loop-value-test.true)) (omega (arith, some, ap length c.as_slice.ensures.value)))
 
 pub loop-value-preserved : goal.loop-value-preserved
 loop-value-preserved c =
-    let before = c.args.before.now in
-    let targets = c.args.relation.now.targets in
-    let values = c.args.values.now in
     let cells = c.loop-value.cells.items in
-    let value = c.value-item.result in
-    let here : slice_get values c.loop-value.value-index ≡ Some value =
-    slice_get_read values (length values) c.loop-value.value-index value refl (omega (arith, c.loop-value-test.true)) c.value-item.is in
-    let there : slice_get values (length cells) ≡ Some value = ap (slice_get values) c.loop-value.invariant.count ∙ here in
-    let is : IsCellOf before (led_to targets (length cells)) value c.in_ok-cell.cell =
-    subst (IsCellOf before (led_to targets (length cells)) value) (sym c.in_ok-cell.ensures) (subst (λ cs. IsCellOf before (led_to targets (length cs)) value (cell_for value c.in_ok-named.named)) c.as_slice.ensures.value c.in_ok-named.ensures.named) in
+    let there = next (goal.at.loop-value-preserved c).After-value-item in
     let pushed = c.push_reserved.ensures.items in
     record {
       count = ap length pushed ∙ omega (arith, c.loop-value.invariant.count, length_push cells c.in_ok-cell.cell);
-      first = subst (AreFirst before targets values) (sym pushed) (first_more before targets values cells value c.in_ok-cell.cell c.loop-value.invariant.first there is);
+      first = rw (pushed, c.in_ok-cell.ensures)
+          (first_more c.args.before.now c.args.relation.now.targets c.args.values.now cells c.value-item.result _ c.loop-value.invariant.first there
+          (rw c.as_slice.ensures.value at c.in_ok-named.ensures.named));
       room = omega (arith, c.loop-value.invariant.room, c.push_reserved.ensures.capacity);
     }
 
 pub returns-in_err-empty_for-clause-refused : goal.returns-in_err-empty_for-clause-refused
-returns-in_err-empty_for-clause-refused c =
-    let why : IfErr c.from_residual.result (λ (e : Refusal). e ≡ NoMemory) = search rules in
-    IfErr-weaker c.from_residual.result (λ (e : Refusal). e ≡ NoMemory) (λ e. (most : ℕ) (key : Value) (rest : List Value) → c.args.values.now ≡ key ∷ rest → IsKeptOut c.args.before.now c.args.relation.now most key rest e)
-    (kept_out_for_memory c.args.before.now c.args.relation.now c.args.values.now) why
+returns-in_err-empty_for-clause-refused c = kept_out_for_memory c.args.before.now c.args.relation.now c.args.values.now c.from_residual.result (search rules)
 
 pub returns-in_err-cell-clause-refused : goal.returns-in_err-cell-clause-refused
-returns-in_err-cell-clause-refused c =
-    let why : IfErr c.from_residual-in_err-cell.result (λ (e : Refusal). e ≡ NoMemory) = search rules in
-    IfErr-weaker c.from_residual-in_err-cell.result (λ (e : Refusal). e ≡ NoMemory) (λ e. (most : ℕ) (key : Value) (rest : List Value) → c.args.values.now ≡ key ∷ rest → IsKeptOut c.args.before.now c.args.relation.now most key rest e)
-    (kept_out_for_memory c.args.before.now c.args.relation.now c.args.values.now) why
+returns-in_err-cell-clause-refused c = kept_out_for_memory c.args.before.now c.args.relation.now c.args.values.now c.from_residual-in_err-cell.result (search rules)
 
 pub returns-in_err-named-clause-refused : goal.returns-in_err-named-clause-refused
 returns-in_err-named-clause-refused c =
-    let before = c.args.before.now in
-    let s = c.args.relation.now in
-    let values = c.args.values.now in
-    let cells = c.loop-value.cells.items in
-    let value = c.value-item.result in
-    let here : slice_get values c.loop-value.value-index ≡ Some value =
-    slice_get_read values (length values) c.loop-value.value-index value refl (omega (arith, c.loop-value-test.true)) c.value-item.is in
-    let there : slice_get values (length cells) ≡ Some value = ap (slice_get values) c.loop-value.invariant.count ∙ here in
-    let why : IfErr c.from_residual-in_err-named.result (IsNotNamed before s c.as_slice.result.now value) = search rules in
-    IfErr-weaker c.from_residual-in_err-named.result (IsNotNamed before s c.as_slice.result.now value) (λ e. (most : ℕ) (key : Value) (rest : List Value) → values ≡ key ∷ rest → IsKeptOut before s most key rest e)
-    (λ e none. kept_out_by before s values cells value e c.loop-value.invariant.first there (subst (λ cs. IsNotNamed before s cs value e) c.as_slice.ensures.value none)) why
+    kept_out_by c.args.before.now c.args.relation.now c.args.values.now c.from_residual-in_err-named.result c.loop-value.cells.items c.as_slice.result.now c.value-item.result
+    c.loop-value.invariant.first (next (goal.at.returns-in_err-named-clause-refused c).After-value-item) c.as_slice.ensures.value (search rules)
 
 pub returns-clause-cells : goal.returns-clause-cells
 returns-clause-cells c =

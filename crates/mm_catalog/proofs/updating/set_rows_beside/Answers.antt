@@ -14,6 +14,7 @@ use Rattle.mm_catalog.proofs.SetLinks.{as_many_left, columns_left, links_left}
 use Rattle.mm_catalog.proofs.UpdateNeeds as needs
 use Rattle.mm_catalog.proofs.UpdateRefused.{not_set_for_memory}
 use Rattle.mm_catalog.proofs.updating.set_rows_beside.Goals as goal
+use Rattle.mm_catalog.proofs.updating.set_rows_beside.Goals.{In_ok-list_links, In_ok-change_rows, After-as_slice-2, After-count_up_sets}
 
 pub pack_sets-requires-clause-back : goal.pack_sets-requires-clause-back
 pack_sets-requires-clause-back c = let k = c.requires.stands in needs.leads_front k.0 k.2.0 k.1 c.args.relation.now k.2.1 c.args.before.now k.2.2
@@ -21,135 +22,85 @@ pack_sets-requires-clause-back c = let k = c.requires.stands in needs.leads_fron
 pub list_links-requires-clause-columns : goal.list_links-requires-clause-columns
 list_links-requires-clause-columns c =
     let k = c.requires.stands in
-    subst (All (λ (x : CellSet). x.0.0 < length c.args.relation.now.targets)) (sym c.as_slice.ensures.value) (needs.sets_apart k.0 k.2.0 k.1 c.args.relation.now k.2.1 c.args.before.now k.2.2 c.args.assignments.now c.requires.columns c.pack_sets.new.sets.items c.in_ok-pack_sets.ensures.sets).within
+    rw c.as_slice.ensures.value (needs.sets_apart k.0 k.2.0 k.1 c.args.relation.now k.2.1 c.args.before.now k.2.2 c.args.assignments.now c.requires.columns c.pack_sets.new.sets.items c.in_ok-pack_sets.ensures.sets).within
 
 pub returns-in_err-list_links-clause-refused : goal.returns-in_err-list_links-clause-refused
 returns-in_err-list_links-clause-refused c =
-    let why : IfErr c.from_residual-in_err-list_links.result (λ e. e ≡ NoMemory) = search rules in
-    not_set_for_memory c.args.before.now c.args.relation.now.targets c.args.assignments.now c.from_residual-in_err-list_links.result why
+    not_set_for_memory c.args.before.now c.args.relation.now.targets c.args.assignments.now c.from_residual-in_err-list_links.result (search rules)
 
-pub change_rows-requires-clause-columns : goal.change_rows-requires-clause-columns
-change_rows-requires-clause-columns c =
+pub change_rows-requires : goal.change_rows-requires
+change_rows-requires c =
     let k = c.requires.stands in
-    subst (All (λ (x : CellSet). x.0.0 < length c.args.relation.now.targets)) (sym c.as_mut_slice.ensures.value) (needs.sets_apart k.0 k.2.0 k.1 c.args.relation.now k.2.1 c.args.before.now k.2.2 c.args.assignments.now c.requires.columns c.pack_sets.new.sets.items c.in_ok-pack_sets.ensures.sets).within
-
-pub change_rows-requires-clause-not_the_key : goal.change_rows-requires-clause-not_the_key
-change_rows-requires-clause-not_the_key c =
-    let k = c.requires.stands in
-    subst (All (λ (x : CellSet). 0 < x.0.0)) (sym c.as_mut_slice.ensures.value) (needs.sets_apart k.0 k.2.0 k.1 c.args.relation.now k.2.1 c.args.before.now k.2.2 c.args.assignments.now c.requires.columns c.pack_sets.new.sets.items c.in_ok-pack_sets.ensures.sets).behind
-
-pub change_rows-requires-clause-readable : goal.change_rows-requires-clause-readable
-change_rows-requires-clause-readable c =
-    let k = c.requires.stands in
-    subst (All (λ (x : CellSet). IsSome (cell_value (linked_keys c.args.relation.now.targets c.args.before.now) x.0.0 x.1))) (sym c.as_mut_slice.ensures.value)
-    (needs.sets_readable k.0 k.2.0 k.1 c.args.relation.now k.2.1 c.args.before.now k.2.2 c.args.assignments.now c.requires.columns c.pack_sets.new.sets.items c.in_ok-pack_sets.ensures.sets)
-
-pub change_rows-requires-clause-current : goal.change_rows-requires-clause-current
-change_rows-requires-clause-current c = let k = c.requires.stands in needs.current_front k.0 k.2.0 k.1 c.args.relation.now k.2.1 c.args.before.now k.2.2
+    let apart = needs.sets_apart k.0 k.2.0 k.1 c.args.relation.now k.2.1 c.args.before.now k.2.2 c.args.assignments.now c.requires.columns c.pack_sets.new.sets.items c.in_ok-pack_sets.ensures.sets in
+    rw c.as_mut_slice.ensures.value (record {
+      held = c.requires.held;
+      once = c.requires.once;
+      columns = apart.within;
+      not_the_key = apart.behind;
+      readable = needs.sets_readable k.0 k.2.0 k.1 c.args.relation.now k.2.1 c.args.before.now k.2.2 c.args.assignments.now c.requires.columns c.pack_sets.new.sets.items c.in_ok-pack_sets.ensures.sets;
+      current = needs.current_front k.0 k.2.0 k.1 c.args.relation.now k.2.1 c.args.before.now k.2.2;
+    })
 
 pub returns-in_err-change_rows-clause-refused : goal.returns-in_err-change_rows-clause-refused
 returns-in_err-change_rows-clause-refused c =
-    let why : IfErr c.from_residual-in_err-change_rows.result (λ e. e ≡ NoMemory) = search rules in
-    not_set_for_memory c.args.before.now c.args.relation.now.targets c.args.assignments.now c.from_residual-in_err-change_rows.result why
+    not_set_for_memory c.args.before.now c.args.relation.now.targets c.args.assignments.now c.from_residual-in_err-change_rows.result (search rules)
 
-pub count_up_sets-requires-clause-kept : goal.count_up_sets-requires-clause-kept
-count_up_sets-requires-clause-kept c = let k = c.requires.stands in needs.kept_front k.0 k.2.0 k.1 c.args.relation.now k.2.1 c.args.before.now k.2.2
+-- ---- what the calls leave
 
-pub count_up_sets-requires-clause-columns : goal.count_up_sets-requires-clause-columns
-count_up_sets-requires-clause-columns c =
+listed : (c : In_ok-list_links) → map linked_of c.list_links.new.links.items ≡ links_at c.args.relation.now c.pack_sets.new.sets.items c.args.rows.now
+listed c = rw c.as_slice.ensures.value at c.in_ok-list_links.ensures
+
+changed : (c : In_ok-change_rows) → IsChanged c.args.relation.now c.change_rows.new.self c.args.rows.now c.pack_sets.new.sets.items
+changed c = rw c.as_mut_slice.ensures.value at c.in_ok-change_rows.ensures.changed
+
+same_links : (c : In_ok-change_rows) → map link_set c.change_rows.new.sets ≡ map link_set c.pack_sets.new.sets.items
+same_links c = rw c.as_mut_slice.ensures.value at c.in_ok-change_rows.ensures.links
+
+left : (c : After-as_slice-2) → c.as_slice-2.result.now ≡ c.change_rows.new.sets
+left c =
+    let sets = c.change_rows.new.sets in
+    let same = rw c.as_mut_slice.ensures.value at c.in_ok-change_rows.ensures.links in
+    c.as_slice-2.ensures.value ∙ whole sets (drop (length sets) c.pack_sets.new.sets.items) c.pack_sets.new.sets.len (omega (arith, as_many_left c.pack_sets.new.sets.items sets same, c.pack_sets.new.sets.ok.0))
+
+up : (c : After-count_up_sets) → c.as_slice-2.result.now ≡ c.change_rows.new.sets → map link_set c.change_rows.new.sets ≡ map link_set c.pack_sets.new.sets.items
+    → AreCountedBy c.args.before.now c.count_up_sets.new.before (λ t q. length c.args.rows.now * naming (set_links c.change_rows.new.self.targets c.pack_sets.new.sets.items) t q) none
+up c now same =
+    subst (λ (ls : List Linked). AreCountedBy c.args.before.now c.count_up_sets.new.before (λ t q. length c.args.rows.now * naming ls t q) none)
+    (ap (set_links c.change_rows.new.self.targets) now ∙ links_left c.pack_sets.new.sets.items c.change_rows.new.sets same c.change_rows.new.self.targets) c.count_up_sets.ensures
+
+pub count_up_sets-requires : goal.count_up_sets-requires
+count_up_sets-requires c =
+    let at = goal.at.count_up_sets-requires c in
     let k = c.requires.stands in
-    let s = c.args.relation.now in
     let sets = c.pack_sets.new.sets.items in
+    let same = same_links at.In_ok-change_rows in
+    let now = left at.After-as_slice-2 in
+    let targets = (changed at.In_ok-change_rows).keeps.targets in
+    record {
+      kept = needs.kept_front k.0 k.2.0 k.1 c.args.relation.now k.2.1 c.args.before.now k.2.2;
+      columns = rw (now, targets) (columns_left sets c.change_rows.new.sets same (length c.args.relation.now.targets) (needs.sets_apart k.0 k.2.0 k.1 c.args.relation.now k.2.1 c.args.before.now k.2.2 c.args.assignments.now c.requires.columns c.pack_sets.new.sets.items c.in_ok-pack_sets.ensures.sets).within);
+      held = rw (now, targets, links_left sets c.change_rows.new.sets same c.args.relation.now.targets) (needs.sets_held k.0 k.2.0 k.1 c.args.relation.now k.2.1 c.args.before.now k.2.2 c.args.assignments.now c.requires.columns c.pack_sets.new.sets.items c.in_ok-pack_sets.ensures.sets);
+      room = rw (now, as_many_left sets c.change_rows.new.sets same) (needs.room_front k.0 k.2.0 k.1 c.args.relation.now k.2.1 c.args.before.now k.2.2 c.args.assignments.now c.requires.columns c.pack_sets.new.sets.items c.in_ok-pack_sets.ensures.sets c.args.rows.now c.requires.held c.requires.once);
+    }
+
+pub count_down_all-requires : goal.count_down_all-requires
+count_down_all-requires c =
+    let at = goal.at.count_down_all-requires c in
+    let k = c.requires.stands in
     let a = c.change_rows.new.self in
-    let changed : IsChanged s a c.args.rows.now sets = subst (IsChanged s a c.args.rows.now) c.as_mut_slice.ensures.value c.in_ok-change_rows.ensures.changed in
-    let left = c.change_rows.new.sets in
-    let same : map link_set left ≡ map link_set c.pack_sets.new.sets.items = c.in_ok-change_rows.ensures.links ∙ ap (map link_set) c.as_mut_slice.ensures.value in
-    let now : c.as_slice-2.result.now ≡ left =
-    c.as_slice-2.ensures.value ∙ whole left (drop (length left) c.pack_sets.new.sets.items) c.pack_sets.new.sets.len (omega (arith, as_many_left c.pack_sets.new.sets.items left same, c.pack_sets.new.sets.ok.0)) in
-    subst (λ (ts : List (Option ℕ)). All (λ (x : CellSet). x.0.0 < length ts) c.as_slice-2.result.now) (sym changed.keeps.targets)
-    (subst (All (λ (x : CellSet). x.0.0 < length s.targets)) (sym now)
-    (columns_left sets left same (length s.targets) (needs.sets_apart k.0 k.2.0 k.1 s k.2.1 c.args.before.now k.2.2 c.args.assignments.now c.requires.columns sets c.in_ok-pack_sets.ensures.sets).within))
-
-pub count_up_sets-requires-clause-held : goal.count_up_sets-requires-clause-held
-count_up_sets-requires-clause-held c =
-    let k = c.requires.stands in
-    let s = c.args.relation.now in
-    let sets = c.pack_sets.new.sets.items in
-    let a = c.change_rows.new.self in
-    let changed : IsChanged s a c.args.rows.now sets = subst (IsChanged s a c.args.rows.now) c.as_mut_slice.ensures.value c.in_ok-change_rows.ensures.changed in
-    let left = c.change_rows.new.sets in
-    let same : map link_set left ≡ map link_set c.pack_sets.new.sets.items = c.in_ok-change_rows.ensures.links ∙ ap (map link_set) c.as_mut_slice.ensures.value in
-    let now : c.as_slice-2.result.now ≡ left =
-    c.as_slice-2.ensures.value ∙ whole left (drop (length left) c.pack_sets.new.sets.items) c.pack_sets.new.sets.len (omega (arith, as_many_left c.pack_sets.new.sets.items left same, c.pack_sets.new.sets.ok.0)) in
-    subst (λ (ts : List (Option ℕ)). All (IsHeldIn c.args.before.now) (set_links ts c.as_slice-2.result.now)) (sym changed.keeps.targets)
-    (subst (λ (ss : List CellSet). All (IsHeldIn c.args.before.now) (set_links s.targets ss)) (sym now)
-    (subst (All (IsHeldIn c.args.before.now)) (sym (links_left sets left same s.targets)) (needs.sets_held k.0 k.2.0 k.1 s k.2.1 c.args.before.now k.2.2 c.args.assignments.now c.requires.columns sets c.in_ok-pack_sets.ensures.sets)))
-
-pub count_up_sets-requires-clause-room : goal.count_up_sets-requires-clause-room
-count_up_sets-requires-clause-room c =
-    let k = c.requires.stands in
-    let sets = c.pack_sets.new.sets.items in
-    let left = c.change_rows.new.sets in
-    let same : map link_set left ≡ map link_set c.pack_sets.new.sets.items = c.in_ok-change_rows.ensures.links ∙ ap (map link_set) c.as_mut_slice.ensures.value in
-    let now : c.as_slice-2.result.now ≡ left =
-    c.as_slice-2.ensures.value ∙ whole left (drop (length left) c.pack_sets.new.sets.items) c.pack_sets.new.sets.len (omega (arith, as_many_left c.pack_sets.new.sets.items left same, c.pack_sets.new.sets.ok.0)) in
-    subst (λ (m : ℕ). HaveRoom c.args.before.now (length c.args.rows.now * m)) (sym (ap length now ∙ as_many_left sets left same))
-    (needs.room_front k.0 k.2.0 k.1 c.args.relation.now k.2.1 c.args.before.now k.2.2 c.args.assignments.now c.requires.columns sets c.in_ok-pack_sets.ensures.sets c.args.rows.now c.requires.held c.requires.once)
-
-pub count_down_all-requires-clause-held : goal.count_down_all-requires-clause-held
-count_down_all-requires-clause-held c =
-    let k = c.requires.stands in
-    let s = c.args.relation.now in
-    let sets = c.pack_sets.new.sets.items in
-    let rows = c.args.rows.now in
-    let a = c.change_rows.new.self in
-    let changed : IsChanged s a rows sets = subst (IsChanged s a rows) c.as_mut_slice.ensures.value c.in_ok-change_rows.ensures.changed in
-    let left = c.change_rows.new.sets in
-    let same : map link_set left ≡ map link_set c.pack_sets.new.sets.items = c.in_ok-change_rows.ensures.links ∙ ap (map link_set) c.as_mut_slice.ensures.value in
-    let now : c.as_slice-2.result.now ≡ left =
-    c.as_slice-2.ensures.value ∙ whole left (drop (length left) c.pack_sets.new.sets.items) c.pack_sets.new.sets.len (omega (arith, as_many_left c.pack_sets.new.sets.items left same, c.pack_sets.new.sets.ok.0)) in
-    let up : AreCountedBy c.args.before.now c.count_up_sets.new.before (λ t q. length rows * naming (set_links a.targets sets) t q) none =
-    subst (λ (ls : List Linked). AreCountedBy c.args.before.now c.count_up_sets.new.before (λ t q. length rows * naming ls t q) none) (ap (set_links a.targets) now ∙ links_left sets left same a.targets) c.count_up_sets.ensures in
+    let came = up at.After-count_up_sets (left at.After-as_slice-2) (same_links at.In_ok-change_rows) in
     let gone = c.list_links.new.links.items in
-    let listed : map linked_of gone ≡ links_at s sets rows = c.in_ok-list_links.ensures ∙ ap (λ (ss : List CellSet). links_at s ss rows) c.as_slice.ensures.value in
-    subst (All (λ l. IsHeldIn c.count_up_sets.new.before (linked_of l))) (sym c.as_slice-3.ensures.value)
-    (needs.gone_named k.0 k.2.0 k.1 c.args.relation.now k.2.1 c.args.before.now k.2.2 c.args.assignments.now c.requires.columns c.pack_sets.new.sets.items c.in_ok-pack_sets.ensures.sets c.args.rows.now c.requires.held c.requires.once a c.a_relation_is_kept.ensures changed c.count_up_sets.new.before up gone listed)
-
-pub count_down_all-requires-clause-enough : goal.count_down_all-requires-clause-enough
-count_down_all-requires-clause-enough c =
-    let k = c.requires.stands in
-    let s = c.args.relation.now in
-    let sets = c.pack_sets.new.sets.items in
-    let rows = c.args.rows.now in
-    let a = c.change_rows.new.self in
-    let changed : IsChanged s a rows sets = subst (IsChanged s a rows) c.as_mut_slice.ensures.value c.in_ok-change_rows.ensures.changed in
-    let left = c.change_rows.new.sets in
-    let same : map link_set left ≡ map link_set c.pack_sets.new.sets.items = c.in_ok-change_rows.ensures.links ∙ ap (map link_set) c.as_mut_slice.ensures.value in
-    let now : c.as_slice-2.result.now ≡ left =
-    c.as_slice-2.ensures.value ∙ whole left (drop (length left) c.pack_sets.new.sets.items) c.pack_sets.new.sets.len (omega (arith, as_many_left c.pack_sets.new.sets.items left same, c.pack_sets.new.sets.ok.0)) in
-    let up : AreCountedBy c.args.before.now c.count_up_sets.new.before (λ t q. length rows * naming (set_links a.targets sets) t q) none =
-    subst (λ (ls : List Linked). AreCountedBy c.args.before.now c.count_up_sets.new.before (λ t q. length rows * naming ls t q) none) (ap (set_links a.targets) now ∙ links_left sets left same a.targets) c.count_up_sets.ensures in
-    let gone = c.list_links.new.links.items in
-    let listed : map linked_of gone ≡ links_at s sets rows = c.in_ok-list_links.ensures ∙ ap (λ (ss : List CellSet). links_at s ss rows) c.as_slice.ensures.value in
-    subst (λ ls. HaveAtLeast c.count_up_sets.new.before (naming (map linked_of ls))) (sym c.as_slice-3.ensures.value)
-    (needs.gone_enough k.0 k.2.0 k.1 c.args.relation.now k.2.1 c.args.before.now k.2.2 c.args.assignments.now c.requires.columns c.pack_sets.new.sets.items c.in_ok-pack_sets.ensures.sets c.args.rows.now c.requires.held c.requires.once a c.a_relation_is_kept.ensures changed c.count_up_sets.new.before up gone listed)
+    rw c.as_slice-3.ensures.value (record {
+      kept = c.count_up_sets.ensures.kept;
+      held = needs.gone_named k.0 k.2.0 k.1 c.args.relation.now k.2.1 c.args.before.now k.2.2 c.args.assignments.now c.requires.columns c.pack_sets.new.sets.items c.in_ok-pack_sets.ensures.sets c.args.rows.now c.requires.held c.requires.once a c.a_relation_is_kept.ensures (changed at.In_ok-change_rows) c.count_up_sets.new.before came gone (listed at.In_ok-list_links);
+      enough = needs.gone_enough k.0 k.2.0 k.1 c.args.relation.now k.2.1 c.args.before.now k.2.2 c.args.assignments.now c.requires.columns c.pack_sets.new.sets.items c.in_ok-pack_sets.ensures.sets c.args.rows.now c.requires.held c.requires.once a c.a_relation_is_kept.ensures (changed at.In_ok-change_rows) c.count_up_sets.new.before came gone (listed at.In_ok-list_links);
+    })
 
 pub returns-clause-updated : goal.returns-clause-updated
 returns-clause-updated c k n stands =
-    let s = c.args.relation.now in
-    let sets = c.pack_sets.new.sets.items in
-    let rows = c.args.rows.now in
-    let a = c.change_rows.new.self in
-    let changed : IsChanged s a rows sets = subst (IsChanged s a rows) c.as_mut_slice.ensures.value c.in_ok-change_rows.ensures.changed in
-    let left = c.change_rows.new.sets in
-    let same : map link_set left ≡ map link_set c.pack_sets.new.sets.items = c.in_ok-change_rows.ensures.links ∙ ap (map link_set) c.as_mut_slice.ensures.value in
-    let now : c.as_slice-2.result.now ≡ left =
-    c.as_slice-2.ensures.value ∙ whole left (drop (length left) c.pack_sets.new.sets.items) c.pack_sets.new.sets.len (omega (arith, as_many_left c.pack_sets.new.sets.items left same, c.pack_sets.new.sets.ok.0)) in
-    let up : AreCountedBy c.args.before.now c.count_up_sets.new.before (λ t q. length rows * naming (set_links a.targets sets) t q) none =
-    subst (λ (ls : List Linked). AreCountedBy c.args.before.now c.count_up_sets.new.before (λ t q. length rows * naming ls t q) none) (ap (set_links a.targets) now ∙ links_left sets left same a.targets) c.count_up_sets.ensures in
+    let at = goal.at.returns-clause-updated c in
+    let came = up at.After-count_up_sets (left at.After-as_slice-2) (same_links at.In_ok-change_rows) in
     let gone = c.list_links.new.links.items in
-    let listed : map linked_of gone ≡ links_at s sets rows = c.in_ok-list_links.ensures ∙ ap (λ (ss : List CellSet). links_at s ss rows) c.as_slice.ensures.value in
-    let down : AreCountedBy c.count_up_sets.new.before c.count_down_all.new.before none (naming (map linked_of gone)) =
-    subst (λ ls. AreCountedBy c.count_up_sets.new.before c.count_down_all.new.before none (naming (map linked_of ls))) c.as_slice-3.ensures.value c.count_down_all.ensures in
-    needs.updated k stands.0 n s stands.1 c.args.before.now stands.2 c.args.assignments.now c.requires.columns sets c.in_ok-pack_sets.ensures.sets rows c.requires.held c.requires.once a c.a_relation_is_kept.ensures changed
-    c.count_up_sets.new.before up gone listed c.count_down_all.new.before down c.in_ok-change_rows.ensures.current
+    needs.updated k stands.0 n c.args.relation.now stands.1 c.args.before.now stands.2 c.args.assignments.now c.requires.columns c.pack_sets.new.sets.items c.in_ok-pack_sets.ensures.sets
+    c.args.rows.now c.requires.held c.requires.once c.change_rows.new.self c.a_relation_is_kept.ensures (changed at.In_ok-change_rows)
+    c.count_up_sets.new.before came gone (listed at.In_ok-list_links) c.count_down_all.new.before (rw c.as_slice-3.ensures.value at c.count_down_all.ensures) c.in_ok-change_rows.ensures.current

@@ -6,6 +6,6 @@ use Rattle.mm_catalog.proofs.bind.names.column.Given as goal
 
 abbrev pub invariant-loop-source : goal.invariant-loop-source
 invariant-loop-source l = record {
-  fitted : fitted (written l.name) (columns_of_all (take l.source l.scopes)) ≡ option_to_list (option_map as_found l.found);
-  within : IfSome l.found (λ named. named.place.source < length l.scopes);
+  fitted : fitted (written l.name) (columns_of_all (take l.source l.tables)) ≡ option_to_list (option_map as_found l.found);
+  within : IfSome l.found (λ named. named.place.source < length l.tables);
 }

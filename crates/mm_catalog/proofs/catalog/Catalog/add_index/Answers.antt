@@ -13,23 +13,15 @@ use Rattle.mm_catalog.proofs.Lists.{whole}
 use Rattle.mm_catalog.proofs.Declared.{there_at, column_at, current_at, indexed_consistent, indexed_done}
 use Rattle.mm_catalog.proofs.catalog.Catalog.add_index.Goals as goal
 
-pub declare-requires-clause-there : goal.declare-requires-clause-there
-declare-requires-clause-there c =
+pub declare-requires : goal.declare-requires
+declare-requires c =
     let s : CatalogState = record { limits = c.self.inside.limits; names = map string_bytes c.self.inside.names.keys; relations = c.self.inside.relations.items } in
     let meant : IsMeant s.limits (database_of s) (resolved.Index c.args.table c.args.column c.args.kind) = rw (← c.self.view_is) at c.requires in
-    subst (λ (rs : List RelationState). c.args.table.0 < length rs) (sym c.as_mut_slice.ensures.value) (there_at s c.self.invariant c.args.table.0 meant.0 meant.1)
-
-pub declare-requires-clause-column : goal.declare-requires-clause-column
-declare-requires-clause-column c =
-    let s : CatalogState = record { limits = c.self.inside.limits; names = map string_bytes c.self.inside.names.keys; relations = c.self.inside.relations.items } in
-    let meant : IsMeant s.limits (database_of s) (resolved.Index c.args.table c.args.column c.args.kind) = rw (← c.self.view_is) at c.requires in
-    subst (λ (rs : List RelationState). (t : RelationState) → slice_get rs c.args.table.0 ≡ Some t → c.args.column.0 < length t.targets) (sym c.as_mut_slice.ensures.value)
-    (column_at s c.self.invariant c.args.table.0 c.args.column.0 meant.0 meant.1 meant.2.on_column)
-
-pub declare-requires-clause-current : goal.declare-requires-clause-current
-declare-requires-clause-current c =
-    let s : CatalogState = record { limits = c.self.inside.limits; names = map string_bytes c.self.inside.names.keys; relations = c.self.inside.relations.items } in
-    subst (λ rs. IsCurrentAt rs c.args.table.0) (sym c.as_mut_slice.ensures.value) (current_at s c.self.invariant c.args.table.0)
+    rw c.as_mut_slice.ensures.value (record {
+      there = there_at s c.self.invariant c.args.table.0 meant.0 meant.1;
+      column = column_at s c.self.invariant c.args.table.0 c.args.column.0 meant.0 meant.1 meant.2.on_column;
+      current = current_at s c.self.invariant c.args.table.0;
+    })
 
 pub invariant_of-self : goal.invariant_of-self
 invariant_of-self c =

@@ -1,4 +1,4 @@
-use Rattle.std.proofs.Common.{◌≡◌, false, cond, List, [], ◌∷◌, ◌++◌, is_some, map, length, drop, sym, ap, ◌∙◌, subst, arith}
+use Rattle.std.proofs.Common.{◌≡◌, false, cond, List, [], ◌∷◌, ◌++◌, is_some, map, length, drop, sym, ap, ◌∙◌, subst, arith, refl}
 use Rattle.std.specs.String.{string_bytes}
 use Rattle.std.proofs.lemmas.List.{map-append}
 use Rattle.plain_tables.specs.Databases.{table_named}
@@ -16,6 +16,7 @@ use Rattle.mm_catalog.proofs.Created.{new_key, leads_before}
 use Rattle.mm_catalog.proofs.Gaining.{consistent_created, done_created}
 use Rattle.mm_catalog.proofs.Lists.{whole}
 use Rattle.mm_catalog.proofs.catalog.Catalog.create.Goals as goal
+use Rattle.mm_catalog.proofs.catalog.Catalog.create.Goals.{After-push_reserved}
 
 pub count_targets-requires : goal.count_targets-requires
 count_targets-requires c = record {
@@ -34,13 +35,18 @@ invariant_of-self-in_err-count_targets c =
     let names = ap (map string_bytes) c.reserve-2.ensures.keys in
     subst IsConsistent (λ i. record { limits = s.limits; names = sym names i; relations = sym relations i }) c.self.invariant
 
-pub invariant_of-self-2 : goal.invariant_of-self-2
-invariant_of-self-2 c =
+abbrev seen : After-push_reserved → CatalogState
+seen c = record { limits = c.self.inside.limits; names = map string_bytes c.self.inside.names.keys; relations = c.self.inside.relations.items }
+
+-- the table is there, and the catalog is consistent
+created : (c : After-push_reserved) → (d : CatalogState) → d ≡ record (seen c) { names = map string_bytes c.insert.new.self.keys; relations = c.push_reserved.new.self.items }
+    → IsConsistent d × IsDone (seen c) d (resolved.Table c.args.name c.args.schema)
+created c d is =
     let keys = c.self.inside.names.keys in
     let keys_now = c.reserve-2.new.self.keys in
     let k = c.in_ok-name.name in
     let named : string_bytes k ≡ c.args.name = c.in_ok-name.ensures.ok ∙ c.as_str.ensures in
-    let s : CatalogState = record { limits = c.self.inside.limits; names = map string_bytes keys; relations = c.self.inside.relations.items } in
+    let s = seen c in
     let meant : IsDeclarable s.limits (database_of s) c.args.name c.args.schema = rw (← c.self.view_is) at c.requires in
     let absent : is_some (table_named (string_bytes k) (database_of s)) ≡ false = subst (λ n. is_some (table_named n (database_of s)) ≡ false) (sym named) meant.is_new in
     let same_keys : keys_now ≡ keys = c.reserve-2.ensures.keys in
@@ -58,33 +64,13 @@ invariant_of-self-2 c =
     let relations : c.push_reserved.new.self.items ≡ mid ++ aimed_relation s.names c.args.schema ∷ [] =
     c.push_reserved.ensures.items ∙ ap (λ rs. rs ++ c.in_ok-relation.relation ∷ []) back ∙ ap (λ r. mid ++ r ∷ []) made in
     let kept : IsKept (aimed_relation s.names c.args.schema) = subst IsKept made c.in_ok-relation.ensures.kept in
-    subst IsConsistent (λ i. record { limits = s.limits; names = sym names i; relations = sym relations i })
-    (consistent_created s c.self.invariant mid gains c.args.name c.args.schema kept meant counts)
+    subst (λ e. IsConsistent e × IsDone s e (resolved.Table c.args.name c.args.schema)) ((λ i. record { limits = s.limits; names = sym names i; relations = sym relations i }) ∙ sym is) (
+      consistent_created s c.self.invariant mid gains c.args.name c.args.schema kept meant counts,
+      done_created s c.self.invariant mid gains c.args.name c.args.schema kept meant counts,
+    )
+
+pub invariant_of-self-2 : goal.invariant_of-self-2
+invariant_of-self-2 c = (created (goal.at.invariant_of-self-2 c).After-push_reserved _ refl).0
 
 pub returns-clause-done : goal.returns-clause-done
-returns-clause-done c =
-    let keys = c.self.inside.names.keys in
-    let keys_now = c.reserve-2.new.self.keys in
-    let k = c.in_ok-name.name in
-    let named : string_bytes k ≡ c.args.name = c.in_ok-name.ensures.ok ∙ c.as_str.ensures in
-    let s : CatalogState = record { limits = c.self.inside.limits; names = map string_bytes keys; relations = c.self.inside.relations.items } in
-    let meant : IsDeclarable s.limits (database_of s) c.args.name c.args.schema = rw (← c.self.view_is) at c.requires in
-    let absent : is_some (table_named (string_bytes k) (database_of s)) ≡ false = subst (λ n. is_some (table_named n (database_of s)) ≡ false) (sym named) meant.is_new in
-    let same_keys : keys_now ≡ keys = c.reserve-2.ensures.keys in
-    let names : map string_bytes c.insert.new.self.keys ≡ s.names ++ c.args.name ∷ [] =
-    ap (map string_bytes) c.in-Ok.ensures.keys
-    ∙ ap (λ b. map string_bytes (cond b keys_now (keys_now ++ k ∷ []))) (new_key s c.self.invariant keys_now k (ap (map string_bytes) same_keys) absent)
-    ∙ map-append string_bytes keys_now (k ∷ []) ∙ (λ i. map string_bytes (same_keys i) ++ named i ∷ []) in
-    let mid = c.count_targets.new.relations in
-    let was : c.as_mut_slice.result.now ≡ s.relations = c.as_mut_slice.ensures.value ∙ c.in_ok-reserve.ensures.items in
-    let back = whole mid (drop (length mid) c.reserve.new.self.items) c.reserve.new.self.len (omega (arith, c.count_targets.auto.relations, ap length c.as_mut_slice.ensures.value, c.reserve.new.self.ok.0)) in
-    let gains : GainCounts s.relations mid = subst (λ (rs : List RelationState). GainCounts rs mid) was c.in_ok-count_targets.ensures.gained in
-    let made : c.in_ok-relation.relation ≡ aimed_relation s.names c.args.schema = c.in_ok-relation.ensures.made in
-    let counts : LeadIntoCounted mid (aimed_relation s.names c.args.schema).targets =
-    subst (λ (r : RelationState). LeadIntoCounted mid r.targets) made (λ column table t. c.in_ok-count_targets.ensures.counted column table t (omega arith)) in
-    let relations : c.push_reserved.new.self.items ≡ mid ++ aimed_relation s.names c.args.schema ∷ [] =
-    c.push_reserved.ensures.items ∙ ap (λ rs. rs ++ c.in_ok-relation.relation ∷ []) back ∙ ap (λ r. mid ++ r ∷ []) made in
-    let kept : IsKept (aimed_relation s.names c.args.schema) = subst IsKept made c.in_ok-relation.ensures.kept in
-    rw (← c.self.view_is)
-    (subst (λ t. IsDone s t (resolved.Table c.args.name c.args.schema)) (λ i. record { limits = s.limits; names = sym names i; relations = sym relations i })
-    (done_created s c.self.invariant mid gains c.args.name c.args.schema kept meant counts))
+returns-clause-done c = rw (← c.self.view_is) (created (goal.at.returns-clause-done c).After-push_reserved _ refl).1

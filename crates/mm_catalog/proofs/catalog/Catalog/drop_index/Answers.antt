@@ -1,4 +1,4 @@
-use Rattle.std.proofs.Common.{◌<◌, List, length, map, drop, refl, sym, ap, subst, arith}
+use Rattle.std.proofs.Common.{◌<◌, List, length, map, drop, refl, sym, ap, subst, arith, take, ◌++◌}
 use Rattle.std.specs.String.{string_bytes}
 use Rattle.plain_tables.specs.declared.resolved.Resolved.TheVariants as resolved
 use Rattle.mm_relation.specs.State.{RelationState}
@@ -10,34 +10,28 @@ use Rattle.mm_catalog.specs.Changes.{IsCurrentAt, IsDone}
 use Rattle.mm_catalog.proofs.Lists.{whole}
 use Rattle.mm_catalog.proofs.Declared.{there_at, current_at, IsLeft, left_undeclared}
 use Rattle.mm_catalog.proofs.catalog.Catalog.drop_index.Goals as goal
+use Rattle.mm_catalog.proofs.catalog.Catalog.drop_index.Goals.{After-undeclare}
 
-pub undeclare-requires-clause-there : goal.undeclare-requires-clause-there
-undeclare-requires-clause-there c =
+pub undeclare-requires : goal.undeclare-requires
+undeclare-requires c =
     let s : CatalogState = record { limits = c.self.inside.limits; names = map string_bytes c.self.inside.names.keys; relations = c.self.inside.relations.items } in
     let meant : IsMeant s.limits (database_of s) (resolved.DropIndex c.args.table c.args.column c.args.kind) = rw (← c.self.view_is) at c.requires in
-    subst (λ (rs : List RelationState). c.args.table.0 < length rs) (sym c.as_mut_slice.ensures.value) (there_at s c.self.invariant c.args.table.0 meant.0 meant.1)
+    rw c.as_mut_slice.ensures.value (record {
+      there = there_at s c.self.invariant c.args.table.0 meant.0 meant.1;
+      current = current_at s c.self.invariant c.args.table.0;
+    })
 
-pub undeclare-requires-clause-current : goal.undeclare-requires-clause-current
-undeclare-requires-clause-current c =
-    let s : CatalogState = record { limits = c.self.inside.limits; names = map string_bytes c.self.inside.names.keys; relations = c.self.inside.relations.items } in
-    subst (λ rs. IsCurrentAt rs c.args.table.0) (sym c.as_mut_slice.ensures.value) (current_at s c.self.invariant c.args.table.0)
+abbrev seen : After-undeclare → CatalogState
+seen c = record { limits = c.self.inside.limits; names = map string_bytes c.self.inside.names.keys; relations = c.self.inside.relations.items }
+
+left : (c : After-undeclare) → IsLeft (seen c) (take c.self.inside.relations.len (c.undeclare.new.relations ++ drop (length c.undeclare.new.relations) c.self.inside.relations.items)) (resolved.DropIndex c.args.table c.args.column c.args.kind)
+left c =
+    let meant : IsMeant (seen c).limits (database_of (seen c)) (resolved.DropIndex c.args.table c.args.column c.args.kind) = rw (← c.self.view_is) at c.requires in
+    let back = whole c.undeclare.new.relations (drop (length c.undeclare.new.relations) c.self.inside.relations.items) c.self.inside.relations.len (omega (arith, c.undeclare.auto.relations, ap length c.as_mut_slice.ensures.value, c.self.inside.relations.ok.0)) in
+    rw back (left_undeclared (seen c) c.self.invariant c.args.table c.args.column c.args.kind c.undeclare.new.relations meant (rw c.as_mut_slice.ensures.value at c.undeclare.ensures))
 
 pub invariant_of-self : goal.invariant_of-self
-invariant_of-self c =
-    let s : CatalogState = record { limits = c.self.inside.limits; names = map string_bytes c.self.inside.names.keys; relations = c.self.inside.relations.items } in
-    let meant : IsMeant s.limits (database_of s) (resolved.DropIndex c.args.table c.args.column c.args.kind) = rw (← c.self.view_is) at c.requires in
-    let back = whole c.undeclare.new.relations (drop (length c.undeclare.new.relations) c.self.inside.relations.items) c.self.inside.relations.len (omega (arith, c.undeclare.auto.relations, ap length c.as_mut_slice.ensures.value, c.self.inside.relations.ok.0)) in
-    let left : IsLeft s c.undeclare.new.relations (resolved.DropIndex c.args.table c.args.column c.args.kind) =
-    left_undeclared s c.self.invariant c.args.table c.args.column c.args.kind c.undeclare.new.relations meant (rw c.as_mut_slice.ensures.value at c.undeclare.ensures) in
-    subst (λ rs. IsConsistent (record s { relations = rs })) (sym back) left.consistent
+invariant_of-self c = (left (goal.at.invariant_of-self c).After-undeclare).consistent
 
 pub returns : goal.returns
-returns c =
-    let s : CatalogState = record { limits = c.self.inside.limits; names = map string_bytes c.self.inside.names.keys; relations = c.self.inside.relations.items } in
-    let meant : IsMeant s.limits (database_of s) (resolved.DropIndex c.args.table c.args.column c.args.kind) = rw (← c.self.view_is) at c.requires in
-    let back = whole c.undeclare.new.relations (drop (length c.undeclare.new.relations) c.self.inside.relations.items) c.self.inside.relations.len (omega (arith, c.undeclare.auto.relations, ap length c.as_mut_slice.ensures.value, c.self.inside.relations.ok.0)) in
-    let left : IsLeft s c.undeclare.new.relations (resolved.DropIndex c.args.table c.args.column c.args.kind) =
-    left_undeclared s c.self.invariant c.args.table c.args.column c.args.kind c.undeclare.new.relations meant (rw c.as_mut_slice.ensures.value at c.undeclare.ensures) in
-    rw (← c.self.view_is)
-    (subst (λ rs. IsDone s (record s { relations = rs }) (resolved.DropIndex c.args.table c.args.column c.args.kind)) (sym back)
-    (record { database = left.database; limits = refl }))
+returns c = rw (← c.self.view_is) (record { database = (left (goal.at.returns c).After-undeclare).database; limits = refl })

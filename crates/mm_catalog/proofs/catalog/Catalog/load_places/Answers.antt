@@ -13,6 +13,7 @@ use Rattle.mm_catalog.proofs.Loaded.{more_none, more_then}
 use Rattle.mm_catalog.proofs.LoadSteps.{under_way_none, under_way_meant, under_way_then}
 use Rattle.mm_catalog.proofs.TakenBack.{taken_back}
 use Rattle.mm_catalog.proofs.catalog.Catalog.load_places.Goals as goal
+use Rattle.mm_catalog.proofs.catalog.Catalog.load_places.Goals.{After-as_slice}
 
 pub loop-place-init : goal.loop-place-init
 loop-place-init c =
@@ -26,13 +27,16 @@ loop-place-init c =
       way = under_way_none old c.args.table (map (row_at c.args.rows.now) c.args.places.now) c.requires.meant;
     }
 
+-- the row whose turn it is
+next : (c : After-as_slice) → slice_get (map (row_at c.args.rows.now) c.args.places.now) c.loop-place.place-index ≡ Some c.as_slice.result.now
+next c =
+    next_at c.args.rows.now c.args.places.now c.loop-place.place-index c.index-rows-place.result c.loop-place-test.true c.requires.within c.index-rows-place.is
+    ∙ ap Some (sym c.as_slice.ensures)
+
 pub copy_in-requires : goal.copy_in-requires
 copy_in-requires c =
-    let rows = c.args.rows.now in
-    let i = c.loop-place.place-index in
-    let row = c.as_slice.result.now in
-    let at : slice_get (map (row_at rows) c.args.places.now) i ≡ Some row = next_at rows c.args.places.now i c.index-rows-place.result c.loop-place-test.true c.requires.within c.index-rows-place.is ∙ ap Some (sym c.as_slice.ensures) in
-    under_way_meant c.args.self.now c.loop-place.self c.args.table (map (row_at rows) c.args.places.now) i c.loop-place.invariant.way row at
+    under_way_meant c.args.self.now c.loop-place.self c.args.table (map (row_at c.args.rows.now) c.args.places.now) c.loop-place.place-index c.loop-place.invariant.way c.as_slice.result.now
+    (next (goal.at.copy_in-requires c).After-as_slice)
 
 pub take_back-requires-clause-there : goal.take_back-requires-clause-there
 take_back-requires-clause-there c =
@@ -55,7 +59,7 @@ loop-place-preserved c =
     let all = map (row_at rows) c.args.places.now in
     let i = c.loop-place.place-index in
     let row = c.as_slice.result.now in
-    let at : slice_get (map (row_at rows) c.args.places.now) i ≡ Some row = next_at rows c.args.places.now i c.index-rows-place.result c.loop-place-test.true c.requires.within c.index-rows-place.is ∙ ap Some (sym c.as_slice.ensures) in
+    let at = next (goal.at.loop-place-preserved c).After-as_slice in
     let taken = c.loop-place.taken.items in
     record {
       count = ap length c.push_reserved.ensures.items ∙ omega (arith, c.loop-place.invariant.count, length_push taken c.in-Ok-copy_in.r);

@@ -8,14 +8,14 @@ use Rattle.mm_catalog.proofs.catalog.Catalog.place_value.Goals as goal
 
 pub returns-in_default-clause-missed : goal.returns-in_default-clause-missed
 returns-in_default-clause-missed c =
-    sym (place_found (columns_of_all c.args.scopes.now) (written c.args.name) None (ap (option_map as_found) (sym c.in_default.is) ∙ c.column.ensures.meant))
+    sym (place_found (columns_of_all c.args.tables.now) (written c.args.name) None (ap (option_map as_found) (sym c.in_default.is) ∙ c.column.ensures.meant))
 
 pub returns-clause-place : goal.returns-clause-place
 returns-clause-place c =
-    sym (place_found (columns_of_all c.args.scopes.now) (written c.args.name) (Some c.in-Some.named) (ap (option_map as_found) (sym c.in-Some.is) ∙ c.column.ensures.meant))
+    sym (place_found (columns_of_all c.args.tables.now) (written c.args.name) (Some c.in-Some.named) (ap (option_map as_found) (sym c.in-Some.is) ∙ c.column.ensures.meant))
 
 pub returns-clause-types : goal.returns-clause-types
 returns-clause-types c =
     c.mistypes.ensures
-    ∙ sym (mistypes_found (database_of c.args.self.now) (columns_of_all c.args.scopes.now) (written c.args.name) c.args.value.now c.in-Some.named
+    ∙ sym (mistypes_found (database_of c.args.self.now) (columns_of_all c.args.tables.now) (written c.args.name) c.args.value.now c.in-Some.named
     (ap (option_map as_found) (sym c.in-Some.is) ∙ c.column.ensures.meant))

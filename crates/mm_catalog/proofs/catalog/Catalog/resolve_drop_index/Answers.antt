@@ -9,14 +9,14 @@ returns-in_err-column c =
     let is : c.from_residual-in_err-column.result ≡ Err c.in_err-column.field-0.0 = search rules in
     is
     ∙ ap (λ e. Err e) c.in_err-column.ensures.refused
-    ∙ sym (drop_index_missed (database_of c.args.self.now) c.args.table c.in_ok-scope.scope c.in_ok-scope.ensures.found c.args.column c.args.kind c.in_err-column.ensures.missed)
+    ∙ sym (drop_index_missed (database_of c.args.self.now) c.args.table c.in_ok-named_table.named_table c.in_ok-named_table.ensures.found c.args.column c.args.kind c.in_err-column.ensures.missed)
 
 pub returns-then-not-declares : goal.returns-then-not-declares
 returns-then-not-declares c =
-    sym (drop_index_found (database_of c.args.self.now) c.args.table c.in_ok-scope.scope c.in_ok-scope.ensures.found c.args.column c.args.kind c.in_ok-column.column c.in_ok-column.ensures.found true
+    sym (drop_index_found (database_of c.args.self.now) c.args.table c.in_ok-named_table.named_table c.in_ok-named_table.ensures.found c.args.column c.args.kind c.in_ok-column.column c.in_ok-column.ensures.found true
     (ap not (sym c.declares.ensures ∙ c.if-not-declares.true)))
 
 pub returns : goal.returns
 returns c =
-    sym (drop_index_found (database_of c.args.self.now) c.args.table c.in_ok-scope.scope c.in_ok-scope.ensures.found c.args.column c.args.kind c.in_ok-column.column c.in_ok-column.ensures.found false
+    sym (drop_index_found (database_of c.args.self.now) c.args.table c.in_ok-named_table.named_table c.in_ok-named_table.ensures.found c.args.column c.args.kind c.in_ok-column.column c.in_ok-column.ensures.found false
     (ap not (sym c.declares.ensures ∙ c.if-not-declares.false)))

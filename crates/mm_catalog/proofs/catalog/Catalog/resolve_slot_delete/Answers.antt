@@ -15,30 +15,22 @@ use Rattle.mm_catalog.proofs.catalog.Catalog.resolve_slot_delete.Goals.{After-re
 
 pub returns-in_err-tests-clause-refused : goal.returns-in_err-tests-clause-refused
 returns-in_err-tests-clause-refused c =
-    let scope = c.in_ok-scope.scope in
     let tables = database_of c.args.self.now in
-    let own : columns_of_all c.from_ref.result.now ≡ columns_of scope = ap columns_of_all c.from_ref.ensures.value in
     let is : c.from_residual-in_err-tests.result ≡ Err c.in_err-tests.field-0.0 = search rules in
-    rw is (λ other. refused tables (statement.Delete c.args.table c.args.conditions) c.in_err-tests.field-0.0
-    (delete-missed tables c.args.table scope c.in_ok-scope.ensures.found c.args.conditions
-    (ap (λ cs. misses cs (slot_condition_names c.args.conditions)) (sym own) ∙ c.in_err-tests.ensures.missed other)
+    rw is (λ other.
+    let missed = c.in_err-tests.ensures.missed other in
+    refused tables (statement.Delete c.args.table c.args.conditions) c.in_err-tests.field-0.0
+    (delete-missed tables c.args.table c.in_ok-named_table.named_table c.in_ok-named_table.ensures.found c.args.conditions (rw c.from_ref.ensures.value at missed)
     ∙ ap (λ e. Err e) (sym (c.in_err-tests.ensures.refused other))))
 
 means : (c : After-resolution) → resolution_of (database_of c.args.self.now) (statement.Delete c.args.table c.args.conditions) ≡ c.resolution.result
 means c =
-    let tables = database_of c.args.self.now in
-    let scope = c.in_ok-scope.scope in
-    let conditions = c.args.conditions in
-    let tests = c.in_ok-tests.tests in
-    let own : columns_of_all c.from_ref.result.now ≡ columns_of scope = ap columns_of_all c.from_ref.ensures.value in
-    let named = ap (λ cs. misses cs (slot_condition_names conditions)) (sym own) ∙ c.in_ok-tests.ensures.named in
-    let are = c.in_ok-tests.ensures.tests ∙ ap (λ (cs : List JoinedColumn). slot_tests_of cs conditions) own in
-    let asked : IsWantedOf (condition_needs tables (columns_of scope) conditions) c.slot_tests.new.wanted =
-    subst (λ (cs : List JoinedColumn). IsWantedOf (condition_needs tables cs conditions) c.slot_tests.new.wanted) own
-    (c.in_ok-tests.ensures.wanted [] c.new-wanted.ensures) in
-    let last : c.delete_late-last.result ≡ first_refusal (delete_late (length tests)) = c.delete_late-last.ensures ∙ ap (λ n. first_refusal (delete_late n)) c.len.ensures in
-    delete-found tables c.args.table scope c.in_ok-scope.ensures.found conditions named tests are
-    ∙ sym (c.resolution.ensures (condition_needs tables (columns_of scope) conditions) (delete_late (length tests)) asked last)
+    let tests = c.in_ok-tests.ensures in
+    let own = c.from_ref.ensures.value in
+    let asked = tests.wanted [] c.new-wanted.ensures in
+    delete-found (database_of c.args.self.now) c.args.table c.in_ok-named_table.named_table c.in_ok-named_table.ensures.found c.args.conditions
+    (rw own at tests.named) c.in_ok-tests.tests (rw own at tests.tests)
+    ∙ sym (c.resolution.ensures _ (delete_late (length c.in_ok-tests.tests)) (rw own at asked) (rw c.len.ensures at c.delete_late-last.ensures))
 
 pub returns-clause-meant : goal.returns-clause-meant
 returns-clause-meant c =

@@ -12,12 +12,12 @@ use Rattle.mm_catalog.proofs.catalog.Catalog.resolve_slot_insert.Goals.{After-re
 means : (c : After-resolution) → resolution_of (database_of c.args.self.now) (statement.Insert c.args.table c.args.slots) ≡ c.resolution.result
 means c =
     let tables = database_of c.args.self.now in
-    let scope = c.in_ok-scope.scope in
-    let many : length c.args.slots ≡ length scope.columns.now = sym c.len.ensures ∙ c.if-len-scope.false in
-    let asked : IsWantedOf (row_needs tables scope.columns.now c.args.slots) c.in_ok-wanted.wanted =
-    subst (λ (slots : List Slot). IsWantedOf (row_needs tables scope.columns.now slots) c.in_ok-wanted.wanted) c.as_slice.ensures c.in_ok-wanted.ensures in
-    insert-counted tables c.args.table scope c.in_ok-scope.ensures.found c.args.slots true (eq-eqb (length c.args.slots) (length scope.columns.now) many)
-    ∙ sym (c.resolution.ensures (row_needs tables scope.columns.now c.args.slots) [] asked refl)
+    let named_table = c.in_ok-named_table.named_table in
+    let many : length c.args.slots ≡ length named_table.columns.now = sym c.len.ensures ∙ c.if-len-named_table.false in
+    let asked : IsWantedOf (row_needs tables named_table.columns.now c.args.slots) c.in_ok-wanted.wanted =
+    subst (λ (slots : List Slot). IsWantedOf (row_needs tables named_table.columns.now slots) c.in_ok-wanted.wanted) c.as_slice.ensures c.in_ok-wanted.ensures in
+    insert-counted tables c.args.table named_table c.in_ok-named_table.ensures.found c.args.slots true (eq-eqb (length c.args.slots) (length named_table.columns.now) many)
+    ∙ sym (c.resolution.ensures (row_needs tables named_table.columns.now c.args.slots) [] asked refl)
 
 pub returns-clause-meant : goal.returns-clause-meant
 returns-clause-meant c =

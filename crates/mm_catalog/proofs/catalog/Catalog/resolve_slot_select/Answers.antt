@@ -16,96 +16,70 @@ use Rattle.plain_statements.specs.Filling.{filled_condition}
 use Rattle.plain_statements.specs.Slots.{condition_needs, first_refusal, opened, slot_condition_names}
 use Rattle.plain_statements.proofs.Resolutions.{resolution_of}
 use Rattle.mm_catalog.specs.Seen.{database_of}
-use Rattle.mm_catalog.specs.declared.bind.joined_scope.JoinedScope.{JoinedScope}
 use Rattle.mm_catalog.specs.declared.bind.scope.Scope.{Scope}
+use Rattle.mm_catalog.specs.declared.bind.named_table.NamedTable.{NamedTable}
 use Rattle.mm_catalog.specs.Resolve.{columns_of_all}
 use Rattle.mm_catalog.specs.ResolveChecks.{verdict}
-use Rattle.mm_catalog.specs.Select.{IsJoinedScopeOf, RefusesSelects, joined_rest, select_late}
+use Rattle.mm_catalog.specs.Select.{IsScopeOf, RefusesSelects, joined_rest, select_late}
 use Rattle.mm_catalog.specs.Slots.{slot_joined_by, slot_source_on}
 use Rattle.mm_catalog.specs.Wanted.{IsWantedOf}
-use Rattle.mm_catalog.proofs.ResolveStatements.{answers, items-missed, refused, select-found, select-refused, tests-missed}
+use Rattle.mm_catalog.proofs.ResolveStatements.{answers, items-missed, refused, select-checked, selection-is, tests-missed}
 use Rattle.mm_catalog.proofs.catalog.Catalog.resolve_slot_select.Goals as goal
-use Rattle.mm_catalog.proofs.catalog.Catalog.resolve_slot_select.Goals.{In_ok-scope, In_ok-sources, After-check_joined, After-resolution}
-
-joined : (c : In_ok-scope) → IsJoinedScopeOf (database_of c.args.self.now) c.args.table c.args.joins c.in_ok-scope.scope
-joined c = subst (λ (js : List Join). IsJoinedScopeOf (database_of c.args.self.now) c.args.table js c.in_ok-scope.scope) c.as_slice.ensures c.in_ok-scope.ensures.found
-
-named : (c : In_ok-sources) → misses (columns_of_all c.in_ok-scope.scope.scopes.items) (slot_condition_names c.args.conditions) ≡ false
-named c = ap (λ (ss : List Scope). misses (columns_of_all ss) (slot_condition_names c.args.conditions)) (sym c.deref.ensures.value) ∙ c.in_ok-sources.ensures.named
-
-judged : (c : After-check_joined) → c.check_joined.result
-    ≡ verdict (joined_rest (database_of c.args.self.now) c.in_ok-scope.scope (shown_of (columns_of_all c.in_ok-scope.scope.scopes.items) c.args.items))
-judged c =
-    c.check_joined.ensures ∙ ap (λ (shown : Shown). verdict (joined_rest (database_of c.args.self.now) c.in_ok-scope.scope shown)) c.in_ok-shown.ensures.shown
+use Rattle.mm_catalog.proofs.catalog.Catalog.resolve_slot_select.Goals.{After-resolution}
 
 pub returns-in_err-scope-clause-refused : goal.returns-in_err-scope-clause-refused
 returns-in_err-scope-clause-refused c =
     let is : c.from_residual.result ≡ Err c.in_err-scope.field-0.0 = search rules in
     rw is (λ other values.
-    subst (λ (js : List Join). RefusesSelects (database_of c.args.self.now) c.args.table js c.in_err-scope.field-0.0) c.as_slice.ensures (c.in_err-scope.ensures.refused other)
-    c.args.distinct c.args.items (map (filled_condition values) c.args.conditions))
+    let refuses = c.in_err-scope.ensures.refused other in
+    (rw c.as_slice.ensures at refuses) c.args.distinct c.args.items (map (filled_condition values) c.args.conditions))
 
 pub returns-in_err-shown-clause-refused : goal.returns-in_err-shown-clause-refused
 returns-in_err-shown-clause-refused c =
-    let s : Statement = statement.Select c.args.distinct c.args.items c.args.table c.args.joins c.args.conditions in
     let is : c.from_residual-in_err-shown.result ≡ Err c.in_err-shown.field-0.0 = search rules in
-    rw is (λ other. refused (database_of c.args.self.now) s c.in_err-shown.field-0.0
+    rw is (λ other. refused (database_of c.args.self.now) (statement.Select c.args.distinct c.args.items c.args.table c.args.joins c.args.conditions) c.in_err-shown.field-0.0
     (items-missed (database_of c.args.self.now) c.args.distinct c.args.items c.args.table c.args.joins c.args.conditions c.in_ok-scope.scope
-    (joined (goal.at.returns-in_err-shown-clause-refused c).In_ok-scope) (c.in_err-shown.ensures.missed other)
+    (rw c.as_slice.ensures at c.in_ok-scope.ensures.found) (c.in_err-shown.ensures.missed other)
     ∙ ap (λ e. Err e) (sym (c.in_err-shown.ensures.refused other))))
 
 pub returns-in_err-sources-clause-refused : goal.returns-in_err-sources-clause-refused
 returns-in_err-sources-clause-refused c =
-    let s : Statement = statement.Select c.args.distinct c.args.items c.args.table c.args.joins c.args.conditions in
     let is : c.from_residual-in_err-sources.result ≡ Err c.in_err-sources.field-0.0 = search rules in
-    rw is (λ other. refused (database_of c.args.self.now) s c.in_err-sources.field-0.0
+    rw is (λ other.
+    let missed = c.in_err-sources.ensures.missed other in
+    refused (database_of c.args.self.now) (statement.Select c.args.distinct c.args.items c.args.table c.args.joins c.args.conditions) c.in_err-sources.field-0.0
     (tests-missed (database_of c.args.self.now) c.args.distinct c.args.items c.args.table c.args.joins c.args.conditions c.in_ok-scope.scope
-    (joined (goal.at.returns-in_err-sources-clause-refused c).In_ok-scope) c.in_ok-shown.ensures.named
-    (ap (λ (ss : List Scope). misses (columns_of_all ss) (slot_condition_names c.args.conditions)) (sym c.deref.ensures.value) ∙ c.in_err-sources.ensures.missed other)
+    (rw c.as_slice.ensures at c.in_ok-scope.ensures.found) c.in_ok-shown.ensures.named (rw c.deref.ensures.value at missed)
     ∙ ap (λ e. Err e) (sym (c.in_err-sources.ensures.refused other))))
 
 pub returns-in_err-check_joined-clause-refused : goal.returns-in_err-check_joined-clause-refused
 returns-in_err-check_joined-clause-refused c =
-    let at = goal.at.returns-in_err-check_joined-clause-refused c in
-    let s : Statement = statement.Select c.args.distinct c.args.items c.args.table c.args.joins c.args.conditions in
     let e = c.in_err-check_joined.field-0.0 in
     let is : c.from_residual-in_err-check_joined.result ≡ Err e = search rules in
-    rw is (λ _. refused (database_of c.args.self.now) s e
-    (select-refused (database_of c.args.self.now) c.args.distinct c.args.items c.args.table c.args.joins c.args.conditions c.in_ok-scope.scope (joined at.In_ok-scope)
-    c.in_ok-shown.ensures.named (named at.In_ok-sources) e (sym (judged at.After-check_joined) ∙ c.in_err-check_joined.was)))
+    let told = rw (c.check_joined.ensures, c.in_ok-shown.ensures.shown) at c.in_err-check_joined.was in
+    let checked = select-checked (database_of c.args.self.now) c.args.distinct c.args.items c.args.table c.args.joins c.args.conditions c.in_ok-scope.scope
+    (rw c.as_slice.ensures at c.in_ok-scope.ensures.found) c.in_ok-shown.ensures.named (rw c.deref.ensures.value at c.in_ok-sources.ensures.named) in
+    rw is (λ _. refused (database_of c.args.self.now) (statement.Select c.args.distinct c.args.items c.args.table c.args.joins c.args.conditions) e (rw told at checked))
 
 means : (c : After-resolution)
     → resolution_of (database_of c.args.self.now) (statement.Select c.args.distinct c.args.items c.args.table c.args.joins c.args.conditions) ≡ c.resolution.result
 means c =
     let tables = database_of c.args.self.now in
-    let found : JoinedScope = c.in_ok-scope.scope in
-    let conditions = c.args.conditions in
-    let columns : List JoinedColumn = columns_of_all found.scopes.items in
-    let all = subst (λ (js : List Join). IsJoinedScopeOf tables c.args.table js found) c.as_slice.ensures c.in_ok-scope.ensures.found in
-    let conditions_named = ap (λ (ss : List Scope). misses (columns_of_all ss) (slot_condition_names conditions)) (sym c.deref.ensures.value) ∙ c.in_ok-sources.ensures.named in
-    let source : SlotSource = c.remove-source.result in
-    let sources : List SlotSource = c.in_ok-sources.sources in
-    let made : sources ≡ map (slot_source_on columns conditions) (enumerate_from 0 found.scopes.items) =
-    c.in_ok-sources.ensures.sources ∙ ap (λ (ss : List Scope). map (slot_source_on (columns_of_all ss) conditions) (enumerate_from 0 ss)) c.deref.ensures.value in
-    let passed : verdict (joined_rest tables found (shown_of columns c.args.items)) ≡ Ok tt =
-    ap (λ (shown : Shown). verdict (joined_rest tables found shown)) (sym c.in_ok-shown.ensures.shown) ∙ sym c.check_joined.ensures ∙ c.in_ok-check_joined.was in
-    let asked : IsWantedOf (condition_needs tables columns conditions) c.slot_sources.new.wanted =
-    subst (λ (ss : List Scope). IsWantedOf (condition_needs tables (columns_of_all ss) conditions) c.slot_sources.new.wanted) c.deref.ensures.value
-    (c.in_ok-sources.ensures.wanted [] c.new-wanted.ensures) in
-    let sides : c.len-2.result ≡ length found.sides.items = omega (arith, c.len-2.ensures, found.sides.ok.0) in
-    let late : List Check = select_late (shown_of columns c.args.items) (length conditions) (length found.sides.items) in
-    let last : c.select_late-last.result ≡ first_refusal late =
-    c.select_late-last.ensures
-    ∙ ap (λ (shown : Shown). first_refusal (select_late shown c.len.result c.len-2.result)) c.in_ok-shown.ensures.shown
-    ∙ ap (λ n. first_refusal (select_late (shown_of columns c.args.items) n c.len-2.result)) c.len.ensures
-    ∙ ap (λ n. first_refusal (select_late (shown_of columns c.args.items) (length conditions) n)) sides in
-    let query : Shown → List SlotJoined → Template =
-    λ shown others. template.Select (record { distinct = c.args.distinct; shown = shown; source = source; joins = others }) in
-    let joined_so : List SlotSource → List SlotJoined = λ xs. map (λ s. slot_joined_by s.0 s.1) (zip xs found.sides.items) in
-    select-found tables c.args.distinct c.args.items c.args.table c.args.joins conditions found all c.in_ok-shown.ensures.named conditions_named passed source sources made c.remove-source.ensures.value
-    ∙ ap (λ (shown : Shown). opened (condition_needs tables columns conditions) late (query shown (joined_so (remove sources 0)))) (sym c.in_ok-shown.ensures.shown)
-    ∙ ap (λ (js : List SlotJoined). opened (condition_needs tables columns conditions) late (query c.in_ok-shown.shown js)) (sym (c.in_ok-joins.ensures ∙ ap joined_so c.remove-source.ensures.rest))
-    ∙ sym (c.resolution.ensures (condition_needs tables columns conditions) late asked last)
+    let scope : Scope = c.in_ok-scope.scope in
+    let columns = columns_of_all scope.tables.items in
+    let joined = rw c.as_slice.ensures at c.in_ok-scope.ensures.found in
+    let sources = c.in_ok-sources.ensures in
+    let checked = select-checked tables c.args.distinct c.args.items c.args.table c.args.joins c.args.conditions scope joined c.in_ok-shown.ensures.named (rw c.deref.ensures.value at sources.named) in
+    let passed = rw (c.check_joined.ensures, c.in_ok-shown.ensures.shown) at c.in_ok-check_joined.was in
+    let selected = selection-is tables c.args.distinct c.args.items c.args.table c.args.joins c.args.conditions scope joined passed
+    c.remove-source.result c.in_ok-sources.sources (rw c.deref.ensures.value at sources.sources) c.remove-source.ensures.value in
+    let asked = sources.wanted [] c.new-wanted.ensures in
+    let sides : c.len-2.result ≡ length scope.sides.items = omega (arith, c.len-2.ensures, scope.sides.ok.0) in
+    let late : List Check = select_late (shown_of columns c.args.items) (length c.args.conditions) (length scope.sides.items) in
+    let last : c.select_late-last.result ≡ first_refusal late = rw (c.in_ok-shown.ensures.shown, c.len.ensures, sides) at c.select_late-last.ensures in
+    let needs = condition_needs tables columns c.args.conditions in
+    rw (c.resolution.ensures needs late (rw c.deref.ensures.value at asked) last, c.in_ok-joins.ensures, c.remove-source.ensures.rest, c.in_ok-shown.ensures.shown)
+    ((rw passed at checked) ∙ ap (opened needs late) selected)
 
 pub returns-clause-meant : goal.returns-clause-meant
 returns-clause-meant c =

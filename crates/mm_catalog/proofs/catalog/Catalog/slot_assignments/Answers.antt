@@ -17,7 +17,7 @@ use Rattle.mm_catalog.proofs.catalog.Catalog.slot_assignments.Goals as goal
 pub returns-in_err-place-clause-missed : goal.returns-in_err-place-clause-missed
 returns-in_err-place-clause-missed c =
     let is : c.from_residual-in_err-place.result ≡ Err c.in_err-place.field-0.0 = search rules in
-    let columns = columns_of_all c.args.scopes.now in
+    let columns = columns_of_all c.args.tables.now in
     let gives = c.into_iter-setting-iterator.ensures.into_iter_gives in
     let settings = c.into_vec-settings.result in
     let turn = YieldsList-turn (YieldsList-from_vec settings.items gives.0 (omega (arith, gives.1, settings.ok.0))) c.loop-setting.yielded c.loop-setting.setting-iterator c.loop-setting.yielded_by c.next.result c.next.new.self c.in-Some.setting c.in-Some.is c.next.ensures.steps in
@@ -27,7 +27,7 @@ returns-in_err-place-clause-missed c =
 
 pub loop-setting-preserved : goal.loop-setting-preserved
 loop-setting-preserved c =
-    let columns = columns_of_all c.args.scopes.now in
+    let columns = columns_of_all c.args.tables.now in
     let given = c.loop-setting.yielded in
     let setting = c.in-Some.setting in
     let place = c.in_ok-place.place in

@@ -10,7 +10,7 @@ abbrev pub invariant-loop-setting : goal.invariant-loop-setting
 invariant-loop-setting l = record {
   can_next : (goal.iterator-loop-setting).can_next l.setting-iterator;
   is_finite : (goal.iterator-loop-setting).is_finite l.setting-iterator;
-  assignments : l.assignments.items ≡ slot_assignments_of (columns_of_all l.scopes) l.yielded;
-  wanted : Adds (setting_needs (database_of l.self) (columns_of_all l.scopes) l.yielded) l.initial.wanted l.wanted;
-  named : misses (columns_of_all l.scopes) (map slot_setting_name l.yielded) ≡ false;
+  assignments : l.assignments.items ≡ slot_assignments_of (columns_of_all l.tables) l.yielded;
+  wanted : Adds (setting_needs (database_of l.self) (columns_of_all l.tables) l.yielded) l.initial.wanted l.wanted;
+  named : misses (columns_of_all l.tables) (map slot_setting_name l.yielded) ≡ false;
 }

@@ -21,7 +21,7 @@ use Rattle.mm_catalog.specs.Slots.{slot_source_on, slot_test_at, with_slot_test}
 use Rattle.mm_catalog.proofs.Adding.{adds-more, adds-none}
 use Rattle.mm_catalog.proofs.Lists.{whole}
 use Rattle.mm_catalog.proofs.ResolveNamed.{missed_at, named_more}
-use Rattle.mm_catalog.proofs.ResolveSources.{sources_more, untested_are}
+use Rattle.mm_catalog.proofs.ResolveSources.{length-on, source_added, untested_are}
 use Rattle.mm_catalog.proofs.catalog.Catalog.slot_sources.Goals as goal
 
 abbrev source_with : TableNumber → List SlotTest → SlotSource
@@ -31,7 +31,7 @@ pub loop-condition-init : goal.loop-condition-init
 loop-condition-init c = record {
   can_next = tt;
   is_finite = tt;
-  sources = c.in_ok-sources.ensures ∙ untested_are (λ (d : SlotCond). d.column) slot_test_at source_with (columns_of_all c.args.scopes.now) 0 c.args.scopes.now;
+  sources = c.in_ok-sources.ensures ∙ untested_are (λ (d : SlotCond). d.column) slot_test_at source_with (columns_of_all c.args.tables.now) 0 c.args.tables.now;
   wanted = adds-none _;
   named = refl;
 }
@@ -39,7 +39,7 @@ loop-condition-init c = record {
 pub returns-in_err-place-clause-missed : goal.returns-in_err-place-clause-missed
 returns-in_err-place-clause-missed c =
     let is : c.from_residual-in_err-place.result ≡ Err c.in_err-place.field-0.0 = search rules in
-    let columns = columns_of_all c.args.scopes.now in
+    let columns = columns_of_all c.args.tables.now in
     let gives = c.into_iter-condition-iterator.ensures.into_iter_gives in
     let conditions = c.into_vec-condition-items.result in
     let turn = YieldsList-turn (YieldsList-from_vec conditions.items gives.0 (omega (arith, gives.1, conditions.ok.0))) c.loop-condition.yielded c.loop-condition.condition-iterator c.loop-condition.yielded_by c.next.result c.next.new.self c.in-Some.condition c.in-Some.is c.next.ensures.steps in
@@ -49,39 +49,28 @@ returns-in_err-place-clause-missed c =
 
 pub add_slot_test-requires : goal.add_slot_test-requires
 add_slot_test-requires c =
-    let scopes = c.args.scopes.now in
-    let many : length c.as_mut_slice.result.now ≡ length scopes =
-    ap length (c.as_mut_slice.ensures.value ∙ c.loop-condition.invariant.sources)
-    ∙ length-map (enumerate_from 0 scopes) (slot_source_on (columns_of_all scopes) c.loop-condition.yielded)
-    ∙ length-enumerate_from 0 scopes in
-    omega (arith, c.in_ok-place.ensures.within, many)
+    let tables = c.args.tables.now in
+    let many = length-on (λ (d : SlotCond). d.column) slot_test_at source_with (columns_of_all tables) c.loop-condition.yielded tables in
+    omega (arith, c.in_ok-place.ensures.within, many, ap length (c.as_mut_slice.ensures.value ∙ c.loop-condition.invariant.sources))
 
 pub loop-condition-preserved : goal.loop-condition-preserved
 loop-condition-preserved c =
-    let scopes = c.args.scopes.now in
-    let columns = columns_of_all scopes in
+    let tables = c.args.tables.now in
+    let columns = columns_of_all tables in
     let given = c.loop-condition.yielded in
     let condition : SlotCond = c.in-Some.condition in
     let place = c.in_ok-place.place in
     let before = c.loop-condition.sources in
     let column : SlotCond → ColName = λ d. d.column in
-    let many : length before.items ≡ length scopes =
-    ap length c.loop-condition.invariant.sources ∙ length-map (enumerate_from 0 scopes) (slot_source_on columns given) ∙ length-enumerate_from 0 scopes in
-    let there = slice_get-inside before.items place.source (omega (arith, c.in_ok-place.ensures.within, many)) in
-    let set_so : c.add_slot_test.new.sources ≡ set before.items place.source (with_slot_test there.0 (slot_test_at condition place)) =
-    c.in_ok-add_slot_test.ensures there.0 (ap (λ (ss : List SlotSource). slice_get ss place.source) c.as_mut_slice.ensures.value ∙ there.1)
-    ∙ ap (λ (ss : List SlotSource). set ss place.source (with_slot_test there.0 c.slot_test.result)) c.as_mut_slice.ensures.value
-    ∙ ap (λ t. set before.items place.source (with_slot_test there.0 t)) c.slot_test.ensures in
     let all = whole c.add_slot_test.new.sources (drop (length c.add_slot_test.new.sources) before.items) before.len
     (omega (arith, c.add_slot_test.auto.sources, ap length c.as_mut_slice.ensures.value, before.ok.0)) in
     record {
       can_next = tt;
       is_finite = tt;
       sources =
-          all ∙ set_so
-          ∙ ap (λ (ss : List SlotSource). set ss place.source (with_slot_test there.0 (slot_test_at condition place))) c.loop-condition.invariant.sources
-          ∙ sym (sources_more column slot_test_at source_with columns given condition with_slot_test (λ _ _ _. refl) place c.in_ok-place.ensures.place 0 place.source scopes there.0 (sym (zero-add place.source))
-          (ap (λ (ss : List SlotSource). slice_get ss place.source) (sym c.loop-condition.invariant.sources) ∙ there.1));
+          all
+          ∙ source_added column slot_test_at source_with columns given condition with_slot_test (λ _ _ _. refl) place c.in_ok-place.ensures.place tables c.as_mut_slice.result.now c.add_slot_test.new.sources c.slot_test.result
+          (c.as_mut_slice.ensures.value ∙ c.loop-condition.invariant.sources) c.in_ok-place.ensures.within c.slot_test.ensures c.in_ok-add_slot_test.ensures;
       wanted = adds-more (λ d. option_map (λ joined. (d.slot, compared_need (database_of c.args.self.now) joined.column.kind d.op)) (column_meant columns d.column)) given condition
           _ _ _ c.loop-condition.invariant.wanted c.in_ok-place.ensures.wanted;
       named = named_more columns column given condition place c.in_ok-place.ensures.place c.loop-condition.invariant.named;

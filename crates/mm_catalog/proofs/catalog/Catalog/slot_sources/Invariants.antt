@@ -12,7 +12,7 @@ abbrev pub invariant-loop-condition : goal.invariant-loop-condition
 invariant-loop-condition l = record {
   can_next : (goal.iterator-loop-condition).can_next l.condition-iterator;
   is_finite : (goal.iterator-loop-condition).is_finite l.condition-iterator;
-  sources : l.sources.items ≡ map (slot_source_on (columns_of_all l.scopes) l.yielded) (enumerate_from 0 l.scopes);
-  wanted : Adds (condition_needs (database_of l.self) (columns_of_all l.scopes) l.yielded) l.initial.wanted l.wanted;
-  named : misses (columns_of_all l.scopes) (slot_condition_names l.yielded) ≡ false;
+  sources : l.sources.items ≡ map (slot_source_on (columns_of_all l.tables) l.yielded) (enumerate_from 0 l.tables);
+  wanted : Adds (condition_needs (database_of l.self) (columns_of_all l.tables) l.yielded) l.initial.wanted l.wanted;
+  named : misses (columns_of_all l.tables) (slot_condition_names l.yielded) ≡ false;
 }

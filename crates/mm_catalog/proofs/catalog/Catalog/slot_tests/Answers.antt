@@ -18,7 +18,7 @@ use Rattle.mm_catalog.proofs.catalog.Catalog.slot_tests.Goals as goal
 pub returns-in_err-place-clause-missed : goal.returns-in_err-place-clause-missed
 returns-in_err-place-clause-missed c =
     let is : c.from_residual-in_err-place.result ≡ Err c.in_err-place.field-0.0 = search rules in
-    let columns = columns_of_all c.args.scopes.now in
+    let columns = columns_of_all c.args.tables.now in
     let gives = c.into_iter-condition-iterator.ensures.into_iter_gives in
     let conditions = c.into_vec-conditions.result in
     let turn = YieldsList-turn (YieldsList-from_vec conditions.items gives.0 (omega (arith, gives.1, conditions.ok.0))) c.loop-condition.yielded c.loop-condition.condition-iterator c.loop-condition.yielded_by c.next.result c.next.new.self c.in-Some.condition c.in-Some.is c.next.ensures.steps in
@@ -28,7 +28,7 @@ returns-in_err-place-clause-missed c =
 
 pub loop-condition-preserved : goal.loop-condition-preserved
 loop-condition-preserved c =
-    let columns = columns_of_all c.args.scopes.now in
+    let columns = columns_of_all c.args.tables.now in
     let given = c.loop-condition.yielded in
     let condition = c.in-Some.condition in
     let place = c.in_ok-place.place in

@@ -10,7 +10,7 @@ abbrev pub invariant-loop-condition : goal.invariant-loop-condition
 invariant-loop-condition l = record {
   can_next : (goal.iterator-loop-condition).can_next l.condition-iterator;
   is_finite : (goal.iterator-loop-condition).is_finite l.condition-iterator;
-  tests : l.tests.items ≡ slot_tests_of (columns_of_all l.scopes) l.yielded;
-  wanted : Adds (condition_needs (database_of l.self) (columns_of_all l.scopes) l.yielded) l.initial.wanted l.wanted;
-  named : misses (columns_of_all l.scopes) (slot_condition_names l.yielded) ≡ false;
+  tests : l.tests.items ≡ slot_tests_of (columns_of_all l.tables) l.yielded;
+  wanted : Adds (condition_needs (database_of l.self) (columns_of_all l.tables) l.yielded) l.initial.wanted l.wanted;
+  named : misses (columns_of_all l.tables) (slot_condition_names l.yielded) ≡ false;
 }

@@ -18,7 +18,7 @@ use Rattle.mm_catalog.specs.Seen.{database_of}
 use Rattle.mm_catalog.specs.Select.{source_on, with_test}
 use Rattle.mm_catalog.proofs.Lists.{whole}
 use Rattle.mm_catalog.proofs.ResolveNamed.{missed_at, named_more, any_more}
-use Rattle.mm_catalog.proofs.ResolveSources.{sources_more, untested_are}
+use Rattle.mm_catalog.proofs.ResolveSources.{length-on, source_added, untested_are}
 use Rattle.mm_catalog.proofs.catalog.Catalog.sources.Goals as goal
 
 abbrev source_with : TableNumber → List Test → Source
@@ -28,7 +28,7 @@ pub loop-condition-init : goal.loop-condition-init
 loop-condition-init c = record {
   can_next = tt;
   is_finite = tt;
-  sources = c.in_ok-sources.ensures ∙ untested_are (λ (d : Cond). d.column) test_at source_with (columns_of_all c.args.scopes.now) 0 c.args.scopes.now;
+  sources = c.in_ok-sources.ensures ∙ untested_are (λ (d : Cond). d.column) test_at source_with (columns_of_all c.args.tables.now) 0 c.args.tables.now;
   types = refl;
   named = refl;
 }
@@ -36,7 +36,7 @@ loop-condition-init c = record {
 pub returns-in_err-at-clause-missed : goal.returns-in_err-at-clause-missed
 returns-in_err-at-clause-missed c =
     let is : c.from_residual-in_err-at.result ≡ Err c.in_err-at.field-0.0 = search rules in
-    let columns = columns_of_all c.args.scopes.now in
+    let columns = columns_of_all c.args.tables.now in
     let gives = c.into_iter-condition-iterator.ensures.into_iter_gives in
     let conditions = c.into_vec-condition-items.result in
     let turn = YieldsList-turn (YieldsList-from_vec conditions.items gives.0 (omega (arith, gives.1, conditions.ok.0))) c.loop-condition.yielded c.loop-condition.condition-iterator c.loop-condition.yielded_by c.next.result c.next.new.self c.in-Some.condition c.in-Some.is c.next.ensures.steps in
@@ -46,40 +46,29 @@ returns-in_err-at-clause-missed c =
 
 pub add_test-requires : goal.add_test-requires
 add_test-requires c =
-    let scopes = c.args.scopes.now in
-    let many : length c.as_mut_slice.result.now ≡ length scopes =
-    ap length (c.as_mut_slice.ensures.value ∙ c.loop-condition.invariant.sources)
-    ∙ length-map (enumerate_from 0 scopes) (source_on (columns_of_all scopes) c.loop-condition.yielded)
-    ∙ length-enumerate_from 0 scopes in
-    omega (arith, c.in_ok-at.ensures.within, many)
+    let tables = c.args.tables.now in
+    let many = length-on (λ (d : Cond). d.column) test_at source_with (columns_of_all tables) c.loop-condition.yielded tables in
+    omega (arith, c.in_ok-at.ensures.within, many, ap length (c.as_mut_slice.ensures.value ∙ c.loop-condition.invariant.sources))
 
 pub loop-condition-preserved : goal.loop-condition-preserved
 loop-condition-preserved c =
-    let scopes = c.args.scopes.now in
-    let columns = columns_of_all scopes in
+    let tables = c.args.tables.now in
+    let columns = columns_of_all tables in
     let given = c.loop-condition.yielded in
     let condition : Cond = c.in-Some.condition in
     let at = c.in_ok-at.at in
     let place = at.place in
     let before = c.loop-condition.sources in
     let column : Cond → ColName = λ d. d.column in
-    let many : length before.items ≡ length scopes =
-    ap length c.loop-condition.invariant.sources ∙ length-map (enumerate_from 0 scopes) (source_on columns given) ∙ length-enumerate_from 0 scopes in
-    let there = slice_get-inside before.items place.source (omega (arith, c.in_ok-at.ensures.within, many)) in
-    let set_so : c.add_test.new.sources ≡ set before.items place.source (with_test there.0 (test_at condition place)) =
-    c.in_ok-add_test.ensures there.0 (ap (λ (ss : List Source). slice_get ss place.source) c.as_mut_slice.ensures.value ∙ there.1)
-    ∙ ap (λ (ss : List Source). set ss place.source (with_test there.0 c.test.result)) c.as_mut_slice.ensures.value
-    ∙ ap (λ t. set before.items place.source (with_test there.0 t)) c.test.ensures in
     let all = whole c.add_test.new.sources (drop (length c.add_test.new.sources) before.items) before.len
     (omega (arith, c.add_test.auto.sources, ap length c.as_mut_slice.ensures.value, before.ok.0)) in
     record {
       can_next = tt;
       is_finite = tt;
       sources =
-          all ∙ set_so
-          ∙ ap (λ (ss : List Source). set ss place.source (with_test there.0 (test_at condition place))) c.loop-condition.invariant.sources
-          ∙ sym (sources_more column test_at source_with columns given condition with_test (λ _ _ _. refl) place c.in_ok-at.ensures.place 0 place.source scopes there.0 (sym (zero-add place.source))
-          (ap (λ (ss : List Source). slice_get ss place.source) (sym c.loop-condition.invariant.sources) ∙ there.1));
+          all
+          ∙ source_added column test_at source_with columns given condition with_test (λ _ _ _. refl) place c.in_ok-at.ensures.place tables c.as_mut_slice.result.now c.add_test.new.sources c.test.result
+          (c.as_mut_slice.ensures.value ∙ c.loop-condition.invariant.sources) c.in_ok-at.ensures.within c.test.ensures c.in_ok-add_test.ensures;
       types =
           ap (λ m. m || at.mistyped) c.loop-condition.invariant.types
           ∙ sym (any_more (is_mistyped (database_of c.args.self.now) columns) given condition at.mistyped c.in_ok-at.ensures.types);

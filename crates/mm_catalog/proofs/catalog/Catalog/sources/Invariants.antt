@@ -11,7 +11,7 @@ abbrev pub invariant-loop-condition : goal.invariant-loop-condition
 invariant-loop-condition l = record {
   can_next : (goal.iterator-loop-condition).can_next l.condition-iterator;
   is_finite : (goal.iterator-loop-condition).is_finite l.condition-iterator;
-  sources : l.sources.items ≡ map (source_on (columns_of_all l.scopes) l.yielded) (enumerate_from 0 l.scopes);
-  types : l.mistyped ≡ list_any (is_mistyped (database_of l.self) (columns_of_all l.scopes)) l.yielded;
-  named : misses (columns_of_all l.scopes) (condition_names l.yielded) ≡ false;
+  sources : l.sources.items ≡ map (source_on (columns_of_all l.tables) l.yielded) (enumerate_from 0 l.tables);
+  types : l.mistyped ≡ list_any (is_mistyped (database_of l.self) (columns_of_all l.tables)) l.yielded;
+  named : misses (columns_of_all l.tables) (condition_names l.yielded) ≡ false;
 }

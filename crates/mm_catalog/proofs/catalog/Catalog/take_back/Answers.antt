@@ -13,16 +13,17 @@ use Rattle.mm_catalog.proofs.catalog.Catalog.take_back.Goals as goal
 use Rattle.mm_catalog.specs.Standing.{Stands}
 use Rattle.mm_catalog.proofs.Standing.{stands_at}
 
-pub take_out-requires-clause-there : goal.take_out-requires-clause-there
-take_out-requires-clause-there c =
+pub take_out-requires : goal.take_out-requires
+take_out-requires c =
     let s : CatalogState = record { limits = c.self.inside.limits; names = map string_bytes c.self.inside.names.keys; relations = c.self.inside.relations.items } in
     let there : c.args.table.0 < length (database_of s) = rw (← c.self.view_is) at c.requires.there in
-    subst (λ (rs : List RelationState). c.args.table.0 < length rs) (sym c.as_mut_slice.ensures.value) (omega (arith, there, database-length s c.self.invariant.named))
-
-pub take_out-requires-clause-stands : goal.take_out-requires-clause-stands
-take_out-requires-clause-stands c =
-    let s : CatalogState = record { limits = c.self.inside.limits; names = map string_bytes c.self.inside.names.keys; relations = c.self.inside.relations.items } in
-    subst (λ rs. Stands rs c.args.table.0) (sym c.as_mut_slice.ensures.value) (stands_at s c.self.invariant c.args.table.0)
+    let held : HoldsRows s c.args.table.0 c.args.rows.now = rw (← c.self.view_is) at c.requires.held in
+    rw c.as_mut_slice.ensures.value (record {
+      there = omega (arith, there, database-length s c.self.invariant.named);
+      stands = stands_at s c.self.invariant c.args.table.0;
+      held = held;
+      once = c.requires.once;
+    })
 
 pub invariant_of-self : goal.invariant_of-self
 invariant_of-self c =

@@ -10,7 +10,7 @@ abbrev pub invariant-loop-condition : goal.invariant-loop-condition
 invariant-loop-condition l = record {
   can_next : (goal.iterator-loop-condition).can_next l.condition-iterator;
   is_finite : (goal.iterator-loop-condition).is_finite l.condition-iterator;
-  tests : l.tests.items ≡ tests_of (columns_of_all l.scopes) l.yielded;
-  types : l.mistyped ≡ list_any (is_mistyped (database_of l.self) (columns_of_all l.scopes)) l.yielded;
-  named : misses (columns_of_all l.scopes) (condition_names l.yielded) ≡ false;
+  tests : l.tests.items ≡ tests_of (columns_of_all l.tables) l.yielded;
+  types : l.mistyped ≡ list_any (is_mistyped (database_of l.self) (columns_of_all l.tables)) l.yielded;
+  named : misses (columns_of_all l.tables) (condition_names l.yielded) ≡ false;
 }

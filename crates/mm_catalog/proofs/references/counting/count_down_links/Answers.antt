@@ -2,7 +2,7 @@ use Rattle.std.proofs.Common.{◌≡◌, ◌<◌, ◌+◌, [], ◌∷◌, Some, 
 use Rattle.std.specs.Option.{option_map}
 use Rattle.std.proofs.lemmas.Option.{same_Some}
 use Rattle.plain_tables.specs.declared.schema.Schema.{Schema}
-use Rattle.mm_catalog.specs.Linked.{link_at, row_links}
+use Rattle.mm_catalog.specs.Linked.{link_at, row_links, Linked}
 use Rattle.mm_catalog.specs.Counted.{AreCountedBy, IsHeldIn, linked_of, naming, none}
 use Rattle.mm_catalog.proofs.Counted.{counted_as, counted_none, first_links, held_still, link_of_row, naming_within, naming_link, naming_no_link, naming_row, enough_left, down_then}
 use Rattle.mm_catalog.proofs.references.counting.count_down_links.Goals as goal
@@ -11,27 +11,23 @@ use Rattle.mm_catalog.proofs.references.counting.count_down_links.Goals.{in-Some
 pub loop-column-init : goal.loop-column-init
 loop-column-init c = counted_none c.args.before.now c.requires.kept
 
-pub count_down-requires-clause-held : goal.count_down-requires-clause-held
-count_down-requires-clause-held c =
-    let targets = c.args.relation.now.targets in
-    let row = c.row-row.result.row in
-    let within : c.loop-column.column < length targets =
-    omega (arith, c.a_relation_is_kept.ensures.width, ap (λ (s : Schema). length s.columns) c.schema.ensures, c.len-column-end.ensures, c.loop-column-test.true) in
-    let link : link_at targets row c.loop-column.column ≡ Some (linked_of c.in-Some.link) = sym c.link_in.ensures ∙ ap (option_map linked_of) c.in-Some.is in
-    held_still c.args.before.now c.loop-column.before (linked_of c.in-Some.link) c.loop-column.invariant.recounted
-    (link_of_row targets row (IsHeldIn c.args.before.now) c.loop-column.column (linked_of c.in-Some.link) (c.requires.named row c.row-row.ensures.row) within link)
-
-pub count_down-requires-clause-enough : goal.count_down-requires-clause-enough
-count_down-requires-clause-enough c =
+pub count_down-requires : goal.count_down-requires
+count_down-requires c =
     let targets = c.args.relation.now.targets in
     let row = c.row-row.result.row in
     let i = c.loop-column.column in
+    let link : Linked = linked_of c.in-Some.link in
     let within : i < length targets =
     omega (arith, c.a_relation_is_kept.ensures.width, ap (λ (s : Schema). length s.columns) c.schema.ensures, c.len-column-end.ensures, c.loop-column-test.true) in
-    let link : link_at targets row i ≡ Some (linked_of c.in-Some.link) = sym c.link_in.ensures ∙ ap (option_map linked_of) c.in-Some.is in
-    enough_left c.args.before.now c.loop-column.before (naming (first_links targets row i)) (naming (linked_of c.in-Some.link ∷ [])) (naming (row_links targets row)) c.loop-column.invariant
-    (λ table r. let more = naming_link targets row i (linked_of c.in-Some.link) link table r in
-    omega (arith, more, naming_within targets row (i + 1) (length targets) table r (omega (arith, within)), naming_row targets row (length targets) refl table r)) (c.requires.enough row c.row-row.ensures.row)
+    let at : link_at targets row i ≡ Some link = sym c.link_in.ensures ∙ ap (option_map linked_of) c.in-Some.is in
+    record {
+      kept = c.loop-column.invariant.kept;
+      held = held_still c.args.before.now c.loop-column.before link c.loop-column.invariant.recounted
+          (link_of_row targets row (IsHeldIn c.args.before.now) i link (c.requires.named row c.row-row.ensures.row) within at);
+      enough = enough_left c.args.before.now c.loop-column.before (naming (first_links targets row i)) (naming (link ∷ [])) (naming (row_links targets row)) c.loop-column.invariant
+          (λ table r. let more = naming_link targets row i link at table r in
+          omega (arith, more, naming_within targets row (i + 1) (length targets) table r (omega (arith, within)), naming_row targets row (length targets) refl table r)) (c.requires.enough row c.row-row.ensures.row);
+    }
 
 pub loop-column-preserved : goal.loop-column-preserved
 loop-column-preserved c =

@@ -1,10 +1,10 @@
 use Rattle.std.proofs.Common.{◌≡◌, ◌<◌, ◌∙◌, sym, ap, Some, List, length, arith}
 use Rattle.std.specs.Option.{option_map}
 use Rattle.plain_tables.specs.Queries.{column_meant}
-use Rattle.mm_catalog.specs.declared.bind.scope.Scope.{Scope}
+use Rattle.mm_catalog.specs.declared.bind.named_table.NamedTable.{NamedTable}
 use Rattle.mm_catalog.specs.Resolve.{columns_of, columns_of_all, written, place_in, placed}
 use Rattle.mm_catalog.proofs.ResolveColumns.{place_found}
-use Rattle.mm_catalog.proofs.bind.scope.Scope.place.Goals as goal
+use Rattle.mm_catalog.proofs.bind.named_table.NamedTable.place.Goals as goal
 
 pub returns : goal.returns
 returns c =
@@ -14,4 +14,4 @@ returns c =
     let first : named.place.source ≡ 0 = omega (arith, below, c.from_ref.ensures.len) in
     ap (λ source. Some (place_in source named.place.column)) (sym first)
     ∙ place_found (columns_of c.args.self.now) name (Some named)
-    (c.in_ok-named.ensures.meant ∙ ap (λ (ss : List Scope). option_map placed (column_meant (columns_of_all ss) name)) c.from_ref.ensures.value)
+    (c.in_ok-named.ensures.meant ∙ ap (λ (ss : List NamedTable). option_map placed (column_meant (columns_of_all ss) name)) c.from_ref.ensures.value)

@@ -3,11 +3,11 @@ use Rattle.std.specs.Prelude.{zip}
 use Rattle.std.proofs.lemmas.Iterator.{YieldsList-from_zip}
 use Rattle.std.proofs.lemmas.Iterator.Adapters.{YieldsList-from_vec}
 use Rattle.std.proofs.lemmas.Iterator.Consumers.{YieldsList-at, YieldsList-end}
-use Rattle.plain_statements.specs.declared.resolution.SlotSource.{SlotSource}
-use Rattle.mm_catalog.specs.declared.bind.joined_scope.Sides.{Sides}
-use Rattle.mm_catalog.specs.Slots.{slot_joined_by}
+use Rattle.plain_tables.specs.declared.resolved.Source.{Source}
+use Rattle.mm_catalog.specs.declared.bind.scope.Sides.{Sides}
+use Rattle.mm_catalog.specs.Select.{joined_by}
 use Rattle.mm_catalog.proofs.ResolveSources.{map-map}
-use Rattle.mm_catalog.proofs.bind.joined_scope.JoinedScope.slot_joins.Goals as goal
+use Rattle.mm_catalog.proofs.bind.scope.Scope.joins.Goals as goal
 
 pub returns : goal.returns
 returns c =
@@ -21,5 +21,5 @@ returns c =
     let all = YieldsList-end pairs c.loop-source.yielded c.loop-source.source-iterator c.loop-source.yielded_by c.next.result c.next.new.self c.in-None.is c.next.ensures.steps in
     c.from_vec.ensures
     ∙ c.loop-source.invariant
-    ∙ map-map (λ (s : SlotSource × Sides). slot_joined_by s.0 s.1) (λ (s : SlotSource × Sides). (s.0, s.1)) c.loop-source.yielded
-    ∙ ap (map (λ (s : SlotSource × Sides). slot_joined_by s.0 s.1)) (all.0 ∙ ap (λ (ss : List SlotSource). zip ss sides.items) c.into_vec-sources.ensures)
+    ∙ map-map (λ (s : Source × Sides). joined_by s.0 s.1) (λ (s : Source × Sides). (s.0, s.1)) c.loop-source.yielded
+    ∙ ap (map (λ (s : Source × Sides). joined_by s.0 s.1)) (all.0 ∙ ap (λ (ss : List Source). zip ss sides.items) c.into_vec-sources.ensures)
