@@ -69,7 +69,9 @@ impl Catalog {
         if self.is_table_referenced(named_table.name) {
             return Err(Refusal::TableIsReferenced);
         }
-        Ok(Resolved::DropTable { table: named_table.table })
+        Ok(Resolved::DropTable {
+            table: named_table.table,
+        })
     }
 
     fn resolve_index(&self, table: Text, column: Text, kind: IndexKind) -> Result<Resolved, Refusal>
@@ -183,6 +185,8 @@ impl Catalog {
         ensures { result ≡ resolved_of [] (database_of self.now) (command.Dump table) }
     {
         let named_table = self.named_table(&table)?;
-        Ok(Resolved::Dump { table: named_table.table })
+        Ok(Resolved::Dump {
+            table: named_table.table,
+        })
     }
 }

@@ -34,11 +34,7 @@ impl Catalog {
 
     /// What can be named in a select from the table of that name and those that are joined with it, and the columns of its
     /// joins. A table that isn't there is told before a join that names no two columns.
-    pub(crate) fn scope<'a>(
-        &'a self,
-        table: &Text,
-        joins: &[Join],
-    ) -> Result<Scope<'a>, Refusal>
+    pub(crate) fn scope<'a>(&'a self, table: &Text, joins: &[Join]) -> Result<Scope<'a>, Refusal>
         ensures found { IfOk result (IsScopeOf (database_of self.now) table.now joins.now) }
         ensures refused { IfErr result (λ e. e ≢ refusal.NoMemory → RefusesSelects (database_of self.now) table.now joins.now e) }
     {
@@ -74,7 +70,12 @@ impl<'a> Scope<'a> {
     }
 
     // The columns of a join, where the one side names a column of these tables, and the other one of its own table.
-    fn sides_so(&self, own: &NamedTable<'a>, outer: &JoinSide, inner: &JoinSide) -> Option<Sides<'a>>
+    fn sides_so(
+        &self,
+        own: &NamedTable<'a>,
+        outer: &JoinSide,
+        inner: &JoinSide,
+    ) -> Option<Sides<'a>>
         ensures { option_map sides_found result ≡ option_map placed_sides (option_zip (column_meant (columns_of_all self.now.tables.items) (side_name outer.now)) (column_meant (columns_of own.now) (side_name inner.now))) }
     {
         Some(Sides {

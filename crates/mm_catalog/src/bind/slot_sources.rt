@@ -39,7 +39,10 @@ fn add_slot_test(sources: &mut [SlotSource], source: usize, test: SlotTest) -> R
 }
 
 // Tables as sources that no condition is on.
-fn untested_slot_sources(alloc: Global, tables: &[NamedTable<'_>]) -> Result<Vec<SlotSource>, NoMemory>
+fn untested_slot_sources(
+    alloc: Global,
+    tables: &[NamedTable<'_>],
+) -> Result<Vec<SlotSource>, NoMemory>
     ensures { IfOk result (λ sources. sources.items ≡ map untested_slots tables.now) }
 {
     let sources = tables
