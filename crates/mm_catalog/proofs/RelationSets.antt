@@ -1,5 +1,5 @@
 -- A relation in some of whose rows cells are set: the order of its keys, its links, and what it shows.
-use Rattle.std.proofs.Common.{◌≡◌, ◌≢◌, ℕ, suc, ◌+◌, ◌-◌, ◌*◌, ◌≤◌, Bool, true, false, cond, List, [], ◌∷◌, Option, Some, None, IsSome, IsTrue, is_some, refl, sym, ap, ◌∙◌, subst, arith, length, map, inl, inr, get_or}
+use Rattle.std.proofs.Common.{◌≡◌, ◌≢◌, ℕ, ◌+◌, ◌-◌, ◌*◌, ◌≤◌, Bool, true, false, cond, List, [], ◌∷◌, Option, Some, None, IsSome, IsTrue, is_some, refl, sym, ap, ◌∙◌, subst, arith, length, map, inl, inr, get_or}
 use Rattle.std.specs.List.{All, AllPairs, Contains, count_by, slice_get, sum_by}
 use Rattle.std.specs.Option.{option_and_then, option_cmp, option_map, option_map_or}
 use Rattle.std.specs.Ordering.{then_cmp, on}

@@ -1,5 +1,5 @@
 -- The rows that a relation shows, where one comes in or goes out.
-use Rattle.std.proofs.Common.{◌≡◌, ℕ, zero, suc, ◌<◌, Bool, true, false, cond, List, [], ◌∷◌, ◌++◌, Some, refl, sym, ap, ◌∙◌, arith, length, map, filter, get_or}
+use Rattle.std.proofs.Common.{◌≡◌, ℕ, zero, suc, ◌<◌, Bool, List, [], ◌∷◌, ◌++◌, Some, refl, sym, ap, ◌∙◌, arith, length, map, filter, get_or}
 use Rattle.std.specs.List.{All}
 use Rattle.std.specs.Option.{option_cmp, option_and_then, option_map_or}
 use Rattle.std.specs.Ordering.{is_lt, is_gt, ordering_reverse}
