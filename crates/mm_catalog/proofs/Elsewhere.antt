@@ -1,13 +1,13 @@
 -- A catalog of which one relation's rows change and others are recounted: what it shows, and that it stays consistent.
 use Rattle.std.proofs.Common.{◌≡◌, ◌≢◌, ℕ, zero, suc, ◌+◌, ◌-◌, ◌<◌, ◌≤◌, ◌==◌, Bool, false, cond, List, [], ◌∷◌, ◌++◌, Option, Some, None, IsSome, refl, sym, ap, ◌∙◌, subst, arith, length, map, set, take, drop, get_or, length-append, length-set, length-take, length-drop, inl, inr}
-use Rattle.std.specs.List.{All, cons_option, count_by, filter_map, flat_map, range_with_len, slice_get, zip}
-use Rattle.std.specs.Option.{option_and_then, option_map, option_map_or}
+use Rattle.std.specs.List.{All, count_by, flat_map, range_with_len, slice_get, zip}
+use Rattle.std.specs.Option.{option_and_then, option_map_or}
 use Rattle.std.specs.FinMap.{get}
 use Rattle.std.specs.Ordering.{is_eq}
 use Rattle.std.proofs.lemmas.Bool.{and_left, cases_eq, cases_lt, ne_eqb}
 use Rattle.std.proofs.lemmas.List.Elements.{All-append, All-set, All-drop}
-use Rattle.std.proofs.lemmas.List.Sums.{sum_by-append, sum_by-cons}
-use Rattle.std.proofs.lemmas.Option.{none-some, same_Some, slice_get_within, slice_get-get_or, option_and_then_some}
+use Rattle.std.proofs.lemmas.List.Sums.{sum_by-append}
+use Rattle.std.proofs.lemmas.Option.{none-some, same_Some, slice_get_within, slice_get-get_or}
 use Rattle.common_lemmas.proofs.Places.{slice_get-inside, slice_get-front}
 use Rattle.common_lemmas.proofs.Elements.{All-at}
 use Rattle.part_raw.specs.TupleRefs.{ref_cmp}
@@ -23,7 +23,7 @@ use Rattle.mm_relation.specs.Reading.{Keys, AgreeOnLinks, key_at, link_in, row_v
 use Rattle.mm_relation.specs.State.{tree_list, RelationState, IsKept, IsCurrent, linked_keys}
 use Rattle.mm_catalog.specs.State.{CatalogState}
 use Rattle.mm_catalog.specs.Seen.{database_of, table_of, rows_of, values_of, row_values, or_null, plain_index}
-use Rattle.mm_catalog.specs.Linked.{Linked, target_of, target_at, link_at, row_links, relation_links, links, is_link_to, links_to, HasLinksOrNulls}
+use Rattle.mm_catalog.specs.Linked.{target_of, target_at, relation_links, links, is_link_to, links_to, HasLinksOrNulls}
 use Rattle.mm_catalog.specs.Consistent.{IsAmong, IsConsistent, AreCounted}
 use Rattle.mm_catalog.specs.Changes.{IsCurrentAt}
 use Rattle.mm_catalog.specs.Recounted.{IsRecounted, AreRecounted, HaveReferrers, IsRewritten}

@@ -1,8 +1,8 @@
 -- A catalog into which a row comes: what it shows, that it stays consistent, and why one does not come.
-use Rattle.std.proofs.Common.{◌≡◌, ◌≢◌, ℕ, ◌+◌, ◌<◌, ◌==◌, ◌⊎◌, false, List, [], ◌∷◌, ◌++◌, Option, Some, None, refl, sym, ap, ◌∙◌, subst, arith, length, map, take, drop, set, get_or, length-take, inl, inr}
-use Rattle.std.specs.List.{All, count_by, slice_get, flat_map, range_with_len}
+use Rattle.std.proofs.Common.{◌≡◌, ◌≢◌, ℕ, ◌+◌, ◌<◌, ◌==◌, ◌⊎◌, false, List, ◌∷◌, ◌++◌, Some, None, refl, sym, ap, ◌∙◌, subst, arith, length, map, take, drop, set, get_or, length-take, inl, inr}
+use Rattle.std.specs.List.{All, count_by, slice_get, flat_map}
 use Rattle.std.specs.Prelude.{Result, Ok, Err, IfOk, OnOk, OnErr, IfErr}
-use Rattle.std.specs.Option.{option_and_then, option_map_or}
+use Rattle.std.specs.Option.{option_and_then}
 use Rattle.std.specs.Ordering.{is_eq}
 use Rattle.std.specs.FinMap as finite
 use Rattle.std.specs.FinMap.{get}
@@ -27,7 +27,7 @@ use Rattle.plain_tables.proofs.SoundLemmas.{done_keeps_sound}
 use Rattle.mm_relation.specs.Rows.{Row}
 use Rattle.mm_relation.specs.declared.row.Cell.{Cell}
 use Rattle.mm_relation.specs.Changes.{new_row}
-use Rattle.mm_relation.specs.State.{tree_list, RelationState, HasKey, linked_keys}
+use Rattle.mm_relation.specs.State.{RelationState, HasKey, linked_keys}
 use Rattle.mm_catalog.specs.State.{CatalogState}
 use Rattle.mm_catalog.specs.Seen.{database_of, table_of, rows_of, row_values, plain_index}
 use Rattle.mm_catalog.specs.Linked.{Linked, link_at, row_links, relation_links, links, links_to, is_link_to, HasLinksOrNulls}
@@ -48,7 +48,7 @@ use Rattle.mm_catalog.proofs.Shown.{rows_inserted}
 use Rattle.mm_catalog.proofs.LinksHeld.{link_held}
 use Rattle.mm_catalog.proofs.Elsewhere.{rewritten_from, kept_from, database_rewritten, consistent_rewritten, current_beside_old, counted_from}
 use Rattle.mm_catalog.proofs.CellRows.{cells_shown, cells_linked}
-use Rattle.mm_catalog.proofs.RowLinks.{All-filter_map, link_parts, each_link}
+use Rattle.mm_catalog.proofs.RowLinks.{link_parts, each_link}
 use Rattle.mm_catalog.proofs.Referenced.{some_column}
 use Rattle.mm_catalog.proofs.Checked.{key_refuses, reference_refuses, full_refuses, nothing_refuses}
 use Rattle.mm_catalog.proofs.Anywhere.{none_counted}

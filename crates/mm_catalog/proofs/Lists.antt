@@ -1,8 +1,9 @@
 -- Lists, by what they have at each place.
 use Rattle.std.proofs.Common.{◌≡◌, ◌≢◌, ℕ, zero, suc, ◌<◌, List, [], ◌∷◌, Some, refl, sym, ap, ◌∙◌, arith, length, map, set, take, drop, get_or, ◌++◌}
-use Rattle.std.specs.List.{slice_get, zip}
+use Rattle.std.specs.List.{slice_get, zip, All}
 use Rattle.std.proofs.Math.Seq.{take-append_seam}
 use Rattle.std.proofs.lemmas.Option.{none-some, same_Some}
+use Rattle.std.proofs.lemmas.List.Elements.{All-head, All-tail}
 
 -- lists that have the same at each place are one
 pub same_by_get : {A : Type 0} (xs ys : List A) → ((i : ℕ) → slice_get xs i ≡ slice_get ys i) → xs ≡ ys
@@ -46,6 +47,11 @@ map-zip-set f g (a ∷ xs) (b ∷ ys) zero x y e at others =
 map-zip-set f g (a ∷ xs) (b ∷ ys) (suc n) x y e at others =
     ap (λ z. z ∷ map g (zip xs (set ys n y))) (others 0 a b (omega arith) refl refl)
     ∙ ap (λ zs. f (a, b) ∷ zs) (map-zip-set f g xs ys n x y (omega arith) at (λ i a b h p q. others (suc i) a b (omega arith) p q))
+
+-- what is the same of each is the same of all
+pub map_agree_on : {A B : Type 0} (f g : A → B) (xs : List A) → All (λ x. f x ≡ g x) xs → map f xs ≡ map g xs
+map_agree_on f g [] same = refl
+map_agree_on f g (x ∷ xs) same = rw (All-head (λ y. f y ≡ g y) x xs same, map_agree_on f g xs (All-tail (λ y. f y ≡ g y) x xs same)) refl
 
 -- the first behind the first n
 pub first_behind : {A : Type 0} (xs : List A) (n : ℕ) (d : A) → n < length xs → slice_get xs n ≡ Some (get_or (drop n xs) 0 d)

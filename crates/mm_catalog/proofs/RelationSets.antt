@@ -1,5 +1,5 @@
 -- A relation in some of whose rows cells are set: the order of its keys, its links, and what it shows.
-use Rattle.std.proofs.Common.{◌≡◌, ◌≢◌, ℕ, suc, ◌+◌, ◌-◌, ◌*◌, ◌≤◌, Bool, true, false, cond, List, [], ◌∷◌, Option, Some, None, IsSome, IsTrue, is_some, refl, sym, ap, ◌∙◌, subst, arith, length, map, inl, inr}
+use Rattle.std.proofs.Common.{◌≡◌, ◌≢◌, ℕ, ◌+◌, ◌-◌, ◌*◌, ◌≤◌, Bool, true, false, cond, List, [], ◌∷◌, Option, Some, None, IsSome, IsTrue, is_some, refl, sym, ap, ◌∙◌, subst, arith, length, map, inl, inr, get_or}
 use Rattle.std.specs.List.{All, AllPairs, Contains, count_by, slice_get, sum_by}
 use Rattle.std.specs.Option.{option_and_then, option_cmp, option_map, option_map_or}
 use Rattle.std.specs.Ordering.{then_cmp, on}
@@ -31,6 +31,7 @@ use Rattle.mm_catalog.specs.Seen.{row_values, rows_of, values_of}
 use Rattle.mm_catalog.proofs.Rising.{rising_same}
 use Rattle.mm_catalog.proofs.RowSets.{AreApart, with_cell, row_linked, row_links_set, values_set}
 use Rattle.mm_catalog.proofs.SumsApart.{sum_changed, sum_shifted}
+use Rattle.mm_catalog.proofs.Lists.{map_agree_on}
 use Rattle.mm_relation.proofs.Listings.{rising_apart}
 use Rattle.mm_relation.proofs.Setting.{among_or_not}
 
@@ -186,18 +187,15 @@ module _ (b a : RelationState) (rs : List TupleRef) (sets : List CellSet) (chang
               | false ↦ λ e. refl
             ] refl
 
-        map_same : (f g : TupleRef → plain.Row) (xs : List TupleRef) → ((r : TupleRef) → Contains xs r → f r ≡ g r) → map f xs ≡ map g xs
-        map_same f g [] same = refl
-        map_same f g (x ∷ xs) same =
-            ap (λ y. y ∷ map f xs) (same x (0, omega arith, refl)) ∙ ap (λ ys. g x ∷ ys) (map_same f g xs (λ r h. same r (suc h.0, omega (arith, h.1), h.2)))
-
         -- it shows the values that are assigned in the rows that are picked
         pub rows_set : ((r : TupleRef) → IsSome (get b.rows r) → (Contains rs r → IsTrue (picks (shown r))) × (IsTrue (picks (shown r)) → Contains rs r)) → rows_of keys a ≡ map assigned_if (rows_of keys b)
         unfolding rows_of
         rows_set told =
             (λ i. map (values_of keys (length (changed.keeps.schema i).columns) a.rows) (by_key_set i))
-            ∙ map_same (values_of keys (length b.schema.columns) a.rows) (λ r. assigned_if (shown r)) (tree_list b.by_key)
-            (λ r h. let there = told r (All-contains (λ q. IsSome (get b.rows q)) (tree_list b.by_key) r was.keyed.lists.held h) in
+            ∙ map_agree_on (values_of keys (length b.schema.columns) a.rows) (λ r. assigned_if (shown r)) (tree_list b.by_key)
+            (λ k d l.
+            let r = get_or (tree_list b.by_key) k d in
+            let there = told r (was.keyed.lists.held k d l) in
             elim (among_or_not rs r) [
               | inl among ↦ picked_shows r among (there.0 among)
               | inr never ↦ others_show r never there.1

@@ -1,5 +1,5 @@
 -- Tables by their names.
-use Rattle.std.specs.Prelude.{Bool, ◌||◌, [], ◌∷◌, refl}
+use Rattle.std.specs.Prelude.{Bool, refl}
 use Rattle.std.proofs.Common.{◌≡◌, ℕ, ◌<◌, List, length, map, Some, None, is_some, sym, ap, ◌∙◌, position, slice_get, arith}
 use Rattle.std.specs.List.{list_any, zip}
 use Rattle.std.specs.Option.{option_map, option_and_then}

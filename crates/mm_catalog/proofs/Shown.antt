@@ -1,14 +1,15 @@
 -- The rows that a relation shows, where one comes in or goes out.
-use Rattle.std.proofs.Common.{◌≡◌, ℕ, zero, suc, ◌<◌, Bool, true, false, cond, List, [], ◌∷◌, ◌++◌, Some, refl, sym, ap, ◌∙◌, arith, length, map, filter, get_or}
+use Rattle.std.proofs.Common.{◌≡◌, ℕ, zero, suc, ◌<◌, Bool, List, [], ◌∷◌, ◌++◌, Some, refl, sym, ap, ◌∙◌, arith, length, map, filter, get_or}
 use Rattle.std.specs.List.{All}
 use Rattle.std.specs.Option.{option_cmp, option_and_then, option_map_or}
 use Rattle.std.specs.Ordering.{is_lt, is_gt, ordering_reverse}
 use Rattle.std.specs.declared.cmp.Ordering.{Ordering}
-use Rattle.std.specs.declared.cmp.Ordering.TheVariants.{Less, Equal, Greater}
+use Rattle.std.specs.declared.cmp.Ordering.TheVariants.{Less}
 use Rattle.std.specs.FinMap.{get, insert}
 use Rattle.std.proofs.lemmas.List.{map-append}
-use Rattle.std.proofs.lemmas.List.Elements.{All-contains_itself}
+use Rattle.std.proofs.lemmas.List.Elements.{All-contains_itself, All-filter}
 use Rattle.common_lemmas.proofs.Orders.{then-Equal}
+use Rattle.common_lemmas.proofs.Filters.{filter-map, filter_agree_on}
 use Rattle.part_raw.proofs.Tuples.{get-insert_same, held_tuple}
 use Rattle.part_raw.specs.declared.tuple_ref.TupleRef.{TupleRef}
 use Rattle.mm_index.specs.Order.{insert_placed}
@@ -23,18 +24,13 @@ use Rattle.mm_relation.specs.State.{tree_list, RelationState, IsKept, HasKey}
 use Rattle.mm_relation.proofs.KeyOrder.{same_elsewhere}
 use Rattle.mm_catalog.specs.Seen.{row_values, values_of, rows_of}
 use Rattle.mm_catalog.proofs.Keyed.{place_beside, keys_inserted}
+use Rattle.mm_catalog.proofs.Lists.{map_agree_on}
 
 -- what is made of the elements that pass is what passes of what is made of them
 map_filter : {A B : Type 0} (f g : A → B) (p : A → Bool) (test : B → Bool) (xs : List A) → All (λ x. f x ≡ g x) xs → All (λ x. p x ≡ test (g x)) xs → map f (filter p xs) ≡ filter test (map g xs)
-map_filter f g p test [] same told = refl
-map_filter f g p test (x ∷ xs) same told =
-    let rest = map_filter f g p test xs (λ k d l. same (suc k) d (omega arith)) (λ k d l. told (suc k) d (omega arith)) in
-    let here : f x ≡ g x = same 0 x (omega arith) in
-    ap (λ b. map f (cond b (x ∷ filter p xs) (filter p xs))) (told 0 x (omega arith))
-    ∙ elim (test (g x)) as (λ b. map f (cond b (x ∷ filter p xs) (filter p xs)) ≡ cond b (g x ∷ filter test (map g xs)) (filter test (map g xs))) [
-      | true ↦ ap (λ y. y ∷ map f (filter p xs)) here ∙ ap (λ ys. g x ∷ ys) rest
-      | false ↦ rest
-    ]
+map_filter f g p test xs same told =
+    map_agree_on f g (filter p xs) (All-filter p (λ x. f x ≡ g x) xs same)
+    ∙ ap (map g) (filter_agree_on p (λ x. test (g x)) xs told) ∙ sym (filter-map test g xs)
 
 turned : (o : Ordering) → is_gt o ≡ is_lt (ordering_reverse o)
 turned Less = refl

@@ -1,5 +1,5 @@
 -- The rows that a relation shows, where some go out.
-use Rattle.std.proofs.Common.{◌≡◌, ◌≢◌, ℕ, suc, Bool, true, false, not, cond, IsTrue, List, [], ◌∷◌, IsSome, refl, sym, ap, ◌∙◌, subst, arith, length, map, filter, get_or}
+use Rattle.std.proofs.Common.{◌≡◌, ◌≢◌, ℕ, Bool, true, not, IsTrue, List, [], IsSome, refl, sym, ap, ◌∙◌, subst, length, map, filter, get_or}
 use Rattle.std.specs.List.{All, AllPairs, Contains}
 use Rattle.std.specs.Option.{option_map_or}
 use Rattle.std.specs.Ordering.{ordering_reverse}
@@ -7,10 +7,12 @@ use Rattle.std.specs.declared.cmp.Ordering.TheVariants.{Less, Greater}
 use Rattle.std.specs.FinMap.{get}
 use Rattle.std.proofs.lemmas.Bool.{false_from_ne_true, false≢true, not-true}
 use Rattle.std.proofs.lemmas.Cmp.{eq_by_cmp_equiv}
-use Rattle.std.proofs.lemmas.List.Elements.{All-contains}
+use Rattle.std.proofs.lemmas.List.Elements.{All-contains, Contains-get_or}
 use Rattle.std.proofs.lemmas.List.Kept.{AllPairs-filter}
 use Rattle.std.proofs.lemmas.Option.{none-some}
+use Rattle.std.proofs.lemmas.List.{length-map}
 use Rattle.common_lemmas.proofs.Elements.{Contains-filter, Contains-from_filter}
+use Rattle.common_lemmas.proofs.Filters.{filter-map}
 use Rattle.part_raw.specs.declared.tuple_ref.TupleRef.{TupleRef}
 use Rattle.part_raw.specs.Store.{Tuples}
 use Rattle.part_raw.proofs.Refs.{ref_cmp_total}
@@ -27,28 +29,7 @@ use Rattle.mm_relation.specs.State.{tree_list, RelationState, IsKept, no_keys}
 use Rattle.mm_catalog.specs.Seen.{row_values, values_of, rows_of}
 use Rattle.mm_catalog.specs.Deleted.{AreRemoved}
 use Rattle.mm_catalog.proofs.Rising.{rising_same}
-
--- what is made of the elements that pass, where it is the same of those
-map_passing : {A B : Type 0} (f g : A → B) (p : A → Bool) (test : B → Bool) (xs : List A) → ((x : A) → Contains xs x → p x ≡ test (g x)) → ((x : A) → Contains xs x → p x ≡ true → f x ≡ g x) → map f (filter p xs) ≡ filter test (map g xs)
-map_passing f g p test [] told same = refl
-map_passing f g p test (x ∷ xs) told same =
-    let rest = map_passing f g p test xs (λ y h. told y (suc h.0, omega (arith, h.1), h.2)) (λ y h. same y (suc h.0, omega (arith, h.1), h.2)) in
-    let first : Contains (x ∷ xs) x = (0, omega arith, refl) in
-    elim (test (g x)) as (λ b. p x ≡ b → map f (cond (p x) (x ∷ filter p xs) (filter p xs)) ≡ cond b (g x ∷ filter test (map g xs)) (filter test (map g xs))) [
-      | true ↦ λ e.
-          ap (λ b. map f (cond b (x ∷ filter p xs) (filter p xs))) e
-          ∙ ap (λ y. y ∷ map f (filter p xs)) (same x first e) ∙ ap (λ ys. g x ∷ ys) rest
-      | false ↦ λ e. ap (λ b. map f (cond b (x ∷ filter p xs) (filter p xs))) e ∙ rest
-    ] (told x first)
-
-length-passing : {A B : Type 0} (g : A → B) (test : B → Bool) (xs : List A) → length (filter test (map g xs)) ≡ length (filter (λ x. test (g x)) xs)
-length-passing g test [] = refl
-length-passing g test (x ∷ xs) =
-    let rest = length-passing g test xs in
-    elim (test (g x)) as (λ b. length (cond b (g x ∷ filter test (map g xs)) (filter test (map g xs))) ≡ length (cond b (x ∷ filter (λ y. test (g y)) xs) (filter (λ y. test (g y)) xs))) [
-      | true ↦ omega (arith, rest)
-      | false ↦ rest
-    ]
+use Rattle.mm_catalog.proofs.Lists.{map_agree_on}
 
 -- what rises repeats nothing
 not_below_itself : (rows : Tuples Row) (a : TupleRef) → column_cmp no_keys 0 rows a a ≡ Less → ⊥
@@ -75,7 +56,7 @@ module _ (keys : Keys) (old : RelationState) (kept : IsKept old) (refs : List Tu
   pub length_picked : All (λ r. IsSome (get old.rows r)) refs → AllPairs (λ q r. q ≢ r) refs → length (filter picks (rows_of keys old)) ≡ length refs
   unfolding rows_of
   length_picked held once =
-      length-passing before picks (tree_list old.by_key)
+      ap length (filter-map picks before (tree_list old.by_key)) ∙ length-map (filter (λ q. picks (before q)) (tree_list old.by_key)) before
       ∙ length-same_bag (filter (λ q. picks (before q)) (tree_list old.by_key)) refs
       (IsSameBag-from_members same_ref Decides-same_ref (eq_by_cmp_equiv ref_cmp_total) (filter (λ q. picks (before q)) (tree_list old.by_key)) refs
       (AllPairs-filter (λ q r. q ≢ r) (λ q. picks (before q)) (tree_list old.by_key)
@@ -119,5 +100,8 @@ module _ (keys : Keys) (old : RelationState) (kept : IsKept old) (refs : List Tu
     rows_left =
         ap (λ (columns : ℕ). map (values_of keys columns new.rows) (tree_list new.by_key)) (ap (λ (schema : Schema). length schema.columns) removed.keeps.schema)
         ∙ ap (map (values_of keys (length old.schema.columns) new.rows)) keys_left
-        ∙ map_passing (values_of keys (length old.schema.columns) new.rows) before is_left (λ v. not (picks v)) (tree_list old.by_key) (λ q h. refl)
-        (λ q h e. ap (λ o. option_map_or (row_values keys (length old.schema.columns)) o []) (left_in q h e))
+        ∙ map_agree_on (values_of keys (length old.schema.columns) new.rows) before (filter is_left (tree_list old.by_key))
+        (λ k d l.
+        let from = Contains-from_filter is_left (tree_list old.by_key) _ (Contains-get_or (filter is_left (tree_list old.by_key)) k d l) in
+        ap (λ o. option_map_or (row_values keys (length old.schema.columns)) o []) (left_in (get_or (filter is_left (tree_list old.by_key)) k d) from.0 from.1))
+        ∙ sym (filter-map (λ v. not (picks v)) before (tree_list old.by_key))

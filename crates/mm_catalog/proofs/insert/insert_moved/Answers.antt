@@ -1,5 +1,4 @@
-use Rattle.std.proofs.Common.{rules, List, get_or, ap, arith, length, ◌∙◌}
-use Rattle.mm_relation.specs.State.{RelationState}
+use Rattle.std.proofs.Common.{rules, get_or, ap, arith, length, ◌∙◌}
 use Rattle.mm_catalog.proofs.Taking.{IsSplit, inserted_so, kept_out_so, refused_so, some_first, split_here, stands_beside}
 use Rattle.mm_catalog.proofs.insert.insert_moved.Goals as goal
 use Rattle.mm_catalog.proofs.insert.insert_moved.Goals.{After-index-rest-0}

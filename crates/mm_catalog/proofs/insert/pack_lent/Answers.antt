@@ -1,15 +1,7 @@
-use Rattle.std.proofs.Common.{rules, ◌≡◌, ℕ, List, ◌∷◌, Some, length, refl, sym, ap, ◌∙◌, subst, arith}
+use Rattle.std.proofs.Common.{rules, ◌≡◌, Some, length, refl, sym, ap, ◌∙◌, subst, arith}
 use Rattle.std.specs.List.{slice_get}
 use Rattle.std.proofs.lemmas.List.{length_push}
 use Rattle.std.proofs.lemmas.Option.{slice_get_read}
-use Rattle.std.specs.Prelude.{IfErr}
-use Rattle.std.proofs.lemmas.Result.{IfErr-weaker}
-use Rattle.plain_tables.specs.declared.refusal.Refusal.{Refusal}
-use Rattle.plain_tables.specs.declared.refusal.Refusal.TheVariants.{NoMemory}
-use Rattle.plain_tables.specs.declared.value.Value.{Value}
-use Rattle.mm_catalog.specs.Inserted.{IsKeptOut, IsNotNamed}
-use Rattle.mm_relation.specs.Rows.{StartsWithKey}
-use Rattle.mm_catalog.specs.Cells.{IsCellOf, cell_for, led_to}
 use Rattle.mm_catalog.proofs.Packed.{AreFirst, first_none, first_more, starts, row_packed, kept_out_by, kept_out_for_memory}
 use Rattle.mm_catalog.proofs.insert.pack_lent.Goals as goal
 use Rattle.mm_catalog.proofs.insert.pack_lent.Goals.{After-value-item}

@@ -1,6 +1,5 @@
 use Rattle.std.proofs.Common.{◌≡◌, Some, take, get_or, sym, ap, ◌∙◌}
 use Rattle.std.specs.List.{slice_get}
-use Rattle.mm_catalog.proofs.Lists.{first_behind}
 use Rattle.mm_catalog.proofs.UpdateRefused.{not_set, updated_there}
 use Rattle.mm_catalog.proofs.updating.set_rows.Goals as goal
 use Rattle.mm_catalog.proofs.updating.set_rows.Goals.{After-index-rest-0}

@@ -1,12 +1,7 @@
-use Rattle.std.proofs.Common.{rules, ◌≡◌, ℕ, ◌*◌, ◌<◌, List, Option, IsSome, arith, drop, length, map, sym, ap, ◌∙◌, subst}
-use Rattle.std.specs.List.{All}
-use Rattle.std.specs.Prelude.{IfErr}
-use Rattle.plain_tables.specs.declared.refusal.Refusal.TheVariants.{NoMemory}
+use Rattle.std.proofs.Common.{rules, ◌≡◌, ◌*◌, List, arith, drop, length, map, ap, ◌∙◌, subst}
 use Rattle.mm_relation.specs.Changes.{IsChanged}
-use Rattle.mm_relation.specs.Reading.{cell_value}
-use Rattle.mm_relation.specs.State.{linked_keys}
-use Rattle.mm_catalog.specs.Assigned.{CellSet, links_at, set_links}
-use Rattle.mm_catalog.specs.Counted.{AreCountedBy, HaveAtLeast, HaveRoom, IsHeldIn, linked_of, naming, none}
+use Rattle.mm_catalog.specs.Assigned.{links_at, set_links}
+use Rattle.mm_catalog.specs.Counted.{AreCountedBy, linked_of, naming, none}
 use Rattle.mm_relation.specs.Settings.{link_set}
 use Rattle.mm_catalog.specs.Linked.{Linked}
 use Rattle.mm_catalog.proofs.Lists.{whole}

@@ -1,14 +1,12 @@
-use Rattle.std.proofs.Common.{◌≡◌, ◌<◌, List, Some, length, map, drop, sym, ap, subst, arith}
+use Rattle.std.proofs.Common.{length, map, drop, sym, ap, subst, arith}
 use Rattle.std.specs.Prelude.{OnOk}
-use Rattle.std.specs.List.{slice_get}
 use Rattle.std.specs.String.{string_bytes}
 use Rattle.plain_tables.specs.declared.resolved.Resolved.TheVariants as resolved
-use Rattle.mm_relation.specs.State.{RelationState}
 use Rattle.mm_catalog.specs.State.{CatalogState}
 use Rattle.mm_catalog.specs.Seen.{database_of}
 use Rattle.plain_tables.specs.ResolvedLaws.{IsMeant}
 use Rattle.mm_catalog.specs.Consistent.{IsConsistent}
-use Rattle.mm_catalog.specs.Changes.{IsCurrentAt, IsDone}
+use Rattle.mm_catalog.specs.Changes.{IsDone}
 use Rattle.mm_catalog.proofs.Lists.{whole}
 use Rattle.mm_catalog.proofs.Declared.{there_at, column_at, current_at, indexed_consistent, indexed_done}
 use Rattle.mm_catalog.proofs.catalog.Catalog.add_index.Goals as goal

@@ -1,23 +1,15 @@
-use Rattle.std.proofs.Common.{◌≡◌, ◌<◌, List, Some, length, map, drop, sym, ap, subst, arith, ◌++◌, take}
-use Rattle.std.specs.Prelude.{IfOk, OnOk, IfErr}
-use Rattle.std.specs.List.{slice_get}
+use Rattle.std.proofs.Common.{length, map, drop, ap, arith, ◌++◌, take}
 use Rattle.std.specs.String.{string_bytes}
 use Rattle.common_lemmas.proofs.Places.{slice_get-inside}
-use Rattle.plain_tables.specs.Doing.{done}
 use Rattle.plain_tables.specs.ResolvedLaws.{IsMeant}
 use Rattle.plain_tables.specs.declared.resolved.Resolved.TheVariants as resolved
-use Rattle.mm_relation.specs.State.{RelationState}
 use Rattle.mm_catalog.specs.State.{CatalogState}
 use Rattle.mm_catalog.specs.Seen.{database_of}
-use Rattle.mm_catalog.specs.Consistent.{IsConsistent}
-use Rattle.mm_catalog.specs.Changes.{HasEffect, IsRefusedFor}
-use Rattle.mm_catalog.specs.Loaded.{HasCome}
 use Rattle.mm_catalog.proofs.Lists.{whole}
 use Rattle.mm_catalog.proofs.Declared.{there_at}
 use Rattle.mm_catalog.proofs.Inserted.{IsInsertedSo, inserted_so, some_value, values_width}
 use Rattle.mm_catalog.proofs.catalog.Catalog.copy_in.Goals as goal
 use Rattle.mm_catalog.proofs.catalog.Catalog.copy_in.Goals.{After-insert}
-use Rattle.mm_catalog.specs.Standing.{Stands}
 use Rattle.mm_catalog.proofs.Standing.{stands_at}
 
 pub insert-requires : goal.insert-requires

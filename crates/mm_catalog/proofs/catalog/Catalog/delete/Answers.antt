@@ -1,9 +1,8 @@
-use Rattle.std.proofs.Common.{◌<◌, Bool, List, length, map, drop, sym, ap, subst, arith}
+use Rattle.std.proofs.Common.{◌<◌, Bool, length, map, drop, sym, ap, subst, arith}
 use Rattle.std.specs.Prelude.{OnOk}
 use Rattle.std.specs.String.{string_bytes}
 use Rattle.plain_tables.specs.Doing as doing
 use Rattle.plain_tables.specs.Tables.{Row}
-use Rattle.mm_relation.specs.State.{RelationState}
 use Rattle.mm_catalog.specs.State.{CatalogState}
 use Rattle.mm_catalog.specs.Seen.{database_of}
 use Rattle.mm_catalog.specs.Consistent.{IsConsistent}
@@ -13,7 +12,6 @@ use Rattle.mm_catalog.proofs.Lists.{whole}
 use Rattle.mm_catalog.proofs.Tables.{database-length}
 use Rattle.mm_catalog.proofs.Deleting.{deleted_consistent, deleted_effect, deleted_refused}
 use Rattle.mm_catalog.proofs.catalog.Catalog.delete.Goals as goal
-use Rattle.mm_catalog.specs.Standing.{Stands}
 use Rattle.mm_catalog.proofs.Standing.{stands_at}
 
 pub delete-requires : goal.delete-requires

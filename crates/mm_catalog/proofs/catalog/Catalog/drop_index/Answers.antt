@@ -1,12 +1,9 @@
-use Rattle.std.proofs.Common.{◌<◌, List, length, map, drop, refl, sym, ap, subst, arith, take, ◌++◌}
+use Rattle.std.proofs.Common.{length, map, drop, refl, ap, arith, take, ◌++◌}
 use Rattle.std.specs.String.{string_bytes}
 use Rattle.plain_tables.specs.declared.resolved.Resolved.TheVariants as resolved
-use Rattle.mm_relation.specs.State.{RelationState}
 use Rattle.mm_catalog.specs.State.{CatalogState}
 use Rattle.mm_catalog.specs.Seen.{database_of}
 use Rattle.plain_tables.specs.ResolvedLaws.{IsMeant}
-use Rattle.mm_catalog.specs.Consistent.{IsConsistent}
-use Rattle.mm_catalog.specs.Changes.{IsCurrentAt, IsDone}
 use Rattle.mm_catalog.proofs.Lists.{whole}
 use Rattle.mm_catalog.proofs.Declared.{there_at, current_at, IsLeft, left_undeclared}
 use Rattle.mm_catalog.proofs.catalog.Catalog.drop_index.Goals as goal

@@ -1,18 +1,16 @@
-use Rattle.std.proofs.Common.{◌≡◌, ◌<◌, ◌++◌, List, length, map, take, drop, sym, ap, ◌∙◌, subst, arith, refl}
-use Rattle.std.specs.List.{All, remove}
+use Rattle.std.proofs.Common.{◌≡◌, ◌++◌, length, map, take, drop, sym, ap, ◌∙◌, subst, arith, refl}
+use Rattle.std.specs.List.{remove}
 use Rattle.std.specs.String.{string_bytes}
 use Rattle.indexmap.proofs.SetLemmas.{map-remove}
 use Rattle.plain_tables.specs.ResolvedLaws.{IsMeant}
 use Rattle.plain_tables.specs.declared.resolved.Resolved.TheVariants as resolved
-use Rattle.mm_relation.specs.State.{RelationState}
 use Rattle.mm_catalog.specs.State.{CatalogState}
 use Rattle.mm_catalog.specs.Seen.{database_of}
-use Rattle.mm_catalog.specs.Dropped.{renumbered, IsUnlinked}
+use Rattle.mm_catalog.specs.Dropped.{renumbered}
 use Rattle.mm_catalog.proofs.Lists.{whole}
 use Rattle.mm_catalog.proofs.Dropping.{within, wide_others, table_dropped}
 use Rattle.mm_catalog.proofs.catalog.Catalog.drop_table.Goals as goal
 use Rattle.mm_catalog.proofs.catalog.Catalog.drop_table.Goals.{After-as_mut_slice-2, After-renumber_behind}
-use Rattle.mm_catalog.specs.Standing.{Stands}
 use Rattle.mm_catalog.proofs.Standing.{stands_at}
 use Rattle.mm_catalog.specs.Consistent.{IsConsistent}
 use Rattle.mm_catalog.specs.Changes.{IsDone}

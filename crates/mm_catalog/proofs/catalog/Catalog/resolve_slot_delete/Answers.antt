@@ -1,14 +1,9 @@
-use Rattle.std.proofs.Common.{rules, ◌≡◌, ◌∙◌, List, [], length, sym, ap, subst}
+use Rattle.std.proofs.Common.{rules, ◌≡◌, ◌∙◌, [], length, sym, ap}
 use Rattle.std.specs.Prelude.{Err}
-use Rattle.plain_tables.specs.Effects.{misses}
-use Rattle.plain_tables.specs.Queries.{JoinedColumn}
 use Rattle.plain_statements.specs.declared.statement.Statement.TheVariants as statement
-use Rattle.plain_statements.specs.Slots.{condition_needs, first_refusal, slot_condition_names, slot_tests_of}
 use Rattle.plain_statements.proofs.Resolutions.{resolution_of}
 use Rattle.mm_catalog.specs.Seen.{database_of}
-use Rattle.mm_catalog.specs.Resolve.{columns_of, columns_of_all}
 use Rattle.mm_catalog.specs.ResolveChecks.{delete_late}
-use Rattle.mm_catalog.specs.Wanted.{IsWantedOf}
 use Rattle.mm_catalog.proofs.ResolveStatements.{answers, delete-found, delete-missed, refused}
 use Rattle.mm_catalog.proofs.catalog.Catalog.resolve_slot_delete.Goals as goal
 use Rattle.mm_catalog.proofs.catalog.Catalog.resolve_slot_delete.Goals.{After-resolution}

@@ -1,28 +1,15 @@
-use Rattle.std.proofs.Common.{rules, ◌≡◌, ◌∙◌, List, [], sym, ap, arith, false, map, subst}
-use Rattle.std.specs.Prelude.{Ok, Err, length}
-use Rattle.std.specs.List.{enumerate_from, remove, zip}
-use Rattle.plain_tables.specs.Effects.{Check, misses}
-use Rattle.plain_tables.specs.Queries.{JoinedColumn}
+use Rattle.std.proofs.Common.{rules, ◌≡◌, ◌∙◌, List, [], sym, ap, arith, map}
+use Rattle.std.specs.Prelude.{Err, length}
+use Rattle.plain_tables.specs.Effects.{Check}
 use Rattle.plain_tables.specs.Resolving.{shown_of}
-use Rattle.plain_tables.specs.declared.command.Join.{Join}
-use Rattle.plain_tables.specs.declared.resolved.Shown.{Shown}
-use Rattle.plain_statements.specs.declared.resolution.SlotJoined.{SlotJoined}
-use Rattle.plain_statements.specs.declared.resolution.SlotSource.{SlotSource}
-use Rattle.plain_statements.specs.declared.resolution.Template.{Template}
-use Rattle.plain_statements.specs.declared.resolution.Template.TheVariants as template
-use Rattle.plain_statements.specs.declared.statement.Statement.{Statement}
 use Rattle.plain_statements.specs.declared.statement.Statement.TheVariants as statement
 use Rattle.plain_statements.specs.Filling.{filled_condition}
-use Rattle.plain_statements.specs.Slots.{condition_needs, first_refusal, opened, slot_condition_names}
+use Rattle.plain_statements.specs.Slots.{condition_needs, first_refusal, opened}
 use Rattle.plain_statements.proofs.Resolutions.{resolution_of}
 use Rattle.mm_catalog.specs.Seen.{database_of}
 use Rattle.mm_catalog.specs.declared.bind.scope.Scope.{Scope}
-use Rattle.mm_catalog.specs.declared.bind.named_table.NamedTable.{NamedTable}
 use Rattle.mm_catalog.specs.Resolve.{columns_of_all}
-use Rattle.mm_catalog.specs.ResolveChecks.{verdict}
-use Rattle.mm_catalog.specs.Select.{IsScopeOf, RefusesSelects, joined_rest, select_late}
-use Rattle.mm_catalog.specs.Slots.{slot_joined_by, slot_source_on}
-use Rattle.mm_catalog.specs.Wanted.{IsWantedOf}
+use Rattle.mm_catalog.specs.Select.{select_late}
 use Rattle.mm_catalog.proofs.ResolveStatements.{answers, items-missed, refused, select-checked, selection-is, tests-missed}
 use Rattle.mm_catalog.proofs.catalog.Catalog.resolve_slot_select.Goals as goal
 use Rattle.mm_catalog.proofs.catalog.Catalog.resolve_slot_select.Goals.{After-resolution}

@@ -1,17 +1,11 @@
-use Rattle.std.proofs.Common.{rules, ◌≡◌, ◌∙◌, ◌++◌, List, [], false, length, map, sym, ap, subst}
+use Rattle.std.proofs.Common.{rules, ◌≡◌, ◌∙◌, [], length, sym, ap}
 use Rattle.std.specs.Prelude.{Err}
-use Rattle.std.specs.Str.{bytes_eq}
-use Rattle.plain_tables.specs.Effects.{misses, repeats}
-use Rattle.plain_tables.specs.Queries.{JoinedColumn}
-use Rattle.plain_statements.specs.declared.resolution.SlotAssignment.{SlotAssignment}
-use Rattle.plain_statements.specs.declared.statement.SlotSetting.{SlotSetting}
 use Rattle.plain_statements.specs.declared.statement.Statement.TheVariants as statement
-use Rattle.plain_statements.specs.Slots.{condition_needs, first_refusal, setting_needs, slot_assignments_of, slot_condition_names, slot_setting_name, slot_tests_of}
+use Rattle.plain_statements.specs.Slots.{setting_needs}
 use Rattle.plain_statements.proofs.Resolutions.{resolution_of}
 use Rattle.mm_catalog.specs.Seen.{database_of}
-use Rattle.mm_catalog.specs.Resolve.{columns_of, columns_of_all}
+use Rattle.mm_catalog.specs.Resolve.{columns_of}
 use Rattle.mm_catalog.specs.ResolveChecks.{update_late}
-use Rattle.mm_catalog.specs.Wanted.{IsWantedOf}
 use Rattle.mm_catalog.proofs.ResolveStatements.{answers, conditions-missed, refused, settings-missed, update-found, update-twice}
 use Rattle.mm_catalog.proofs.catalog.Catalog.resolve_slot_update.Goals as goal
 use Rattle.mm_catalog.proofs.catalog.Catalog.resolve_slot_update.Goals.{After-resolution}

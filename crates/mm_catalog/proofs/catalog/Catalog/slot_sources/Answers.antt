@@ -1,12 +1,8 @@
-use Rattle.std.proofs.Common.{rules, ◌≡◌, ◌∙◌, length, refl, set, sym, ap, arith, List, drop, slice_get, zero-add}
+use Rattle.std.proofs.Common.{rules, ◌≡◌, ◌∙◌, length, refl, sym, ap, arith, List, drop}
 use Rattle.std.specs.Prelude.{Err}
-use Rattle.std.specs.List.{enumerate_from}
 use Rattle.std.specs.Option.{option_map}
-use Rattle.std.proofs.lemmas.List.{length-map}
-use Rattle.std.proofs.lemmas.List.FromFn.{length-enumerate_from}
 use Rattle.std.proofs.lemmas.Iterator.Adapters.{YieldsList-from_vec}
 use Rattle.std.proofs.lemmas.Iterator.Consumers.{YieldsList-turn}
-use Rattle.common_lemmas.proofs.Places.{slice_get-inside}
 use Rattle.plain_tables.specs.Effects.{misses}
 use Rattle.plain_tables.specs.Queries.{column_meant}
 use Rattle.plain_tables.specs.declared.condition.ColName.{ColName}
@@ -17,7 +13,7 @@ use Rattle.plain_statements.specs.declared.resolution.SlotTest.{SlotTest}
 use Rattle.plain_statements.specs.Slots.{compared_need, slot_condition_names}
 use Rattle.mm_catalog.specs.Resolve.{columns_of_all}
 use Rattle.mm_catalog.specs.Seen.{database_of}
-use Rattle.mm_catalog.specs.Slots.{slot_source_on, slot_test_at, with_slot_test}
+use Rattle.mm_catalog.specs.Slots.{slot_test_at, with_slot_test}
 use Rattle.mm_catalog.proofs.Adding.{adds-more, adds-none}
 use Rattle.mm_catalog.proofs.Lists.{whole}
 use Rattle.mm_catalog.proofs.ResolveNamed.{missed_at, named_more}

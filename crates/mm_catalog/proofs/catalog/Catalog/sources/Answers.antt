@@ -1,11 +1,7 @@
-use Rattle.std.proofs.Common.{rules, ◌≡◌, ◌∙◌, length, refl, set, sym, ap, arith, List, drop, slice_get, zero-add}
+use Rattle.std.proofs.Common.{rules, ◌≡◌, ◌∙◌, length, refl, sym, ap, arith, List, drop}
 use Rattle.std.specs.Prelude.{Err, ◌||◌}
-use Rattle.std.specs.List.{enumerate_from}
-use Rattle.std.proofs.lemmas.List.{length-map}
-use Rattle.std.proofs.lemmas.List.FromFn.{length-enumerate_from}
 use Rattle.std.proofs.lemmas.Iterator.Adapters.{YieldsList-from_vec}
 use Rattle.std.proofs.lemmas.Iterator.Consumers.{YieldsList-turn}
-use Rattle.common_lemmas.proofs.Places.{slice_get-inside}
 use Rattle.plain_tables.specs.Effects.{misses, condition_names}
 use Rattle.plain_tables.specs.Resolving.{is_mistyped}
 use Rattle.plain_tables.specs.declared.condition.ColName.{ColName}
@@ -15,7 +11,7 @@ use Rattle.plain_tables.specs.declared.resolved.Source.{Source}
 use Rattle.plain_tables.specs.declared.resolved.Test.{Test}
 use Rattle.mm_catalog.specs.Resolve.{columns_of_all, test_at}
 use Rattle.mm_catalog.specs.Seen.{database_of}
-use Rattle.mm_catalog.specs.Select.{source_on, with_test}
+use Rattle.mm_catalog.specs.Select.{with_test}
 use Rattle.mm_catalog.proofs.Lists.{whole}
 use Rattle.mm_catalog.proofs.ResolveNamed.{missed_at, named_more, any_more}
 use Rattle.mm_catalog.proofs.ResolveSources.{length-on, source_added, untested_are}

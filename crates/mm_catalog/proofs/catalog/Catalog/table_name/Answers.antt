@@ -8,29 +8,24 @@ use Rattle.mm_catalog.specs.State.{CatalogState}
 use Rattle.mm_catalog.specs.Seen.{database_of}
 use Rattle.mm_catalog.proofs.Tables.{database-length, database-name}
 use Rattle.mm_catalog.proofs.catalog.Catalog.table_name.Goals as goal
+use Rattle.mm_catalog.proofs.catalog.Catalog.table_name.Goals.{After-as_slice}
+
+within : (c : After-as_slice) → c.args.table.0 < length c.as_slice.result.now
+within c =
+    let s : CatalogState = record { limits = c.self.inside.limits; names = map string_bytes c.self.inside.names.keys; relations = c.self.inside.relations.items } in
+    let there : c.args.table.0 < length (database_of s) = rw (← c.self.view_is) at c.requires in
+    omega (arith, there, database-length s c.self.invariant.named, c.self.invariant.named, length-map c.self.inside.names.keys string_bytes, ap length c.as_slice.ensures.keys)
 
 pub bounds-as_slice-table : goal.bounds-as_slice-table
-bounds-as_slice-table c =
-    let s : CatalogState = record { limits = c.self.inside.limits; names = map string_bytes c.self.inside.names.keys; relations = c.self.inside.relations.items } in
-    let within : c.args.table.0 < length (database_of s) = rw (← c.self.view_is) at c.requires in
-    let tables : length (database_of s) ≡ length s.relations = database-length s c.self.invariant.named in
-    let named : length s.names ≡ length s.relations = c.self.invariant.named in
-    let keys : length s.names ≡ length c.self.inside.names.keys = length-map c.self.inside.names.keys string_bytes in
-    let lent : length c.as_slice.result.now ≡ length c.self.inside.names.keys = ap length c.as_slice.ensures.keys in
-    omega (arith, within, tables, named, keys, lent)
+bounds-as_slice-table c = within (goal.at.bounds-as_slice-table c).After-as_slice
 
 pub returns : goal.returns
 returns c =
     let s : CatalogState = record { limits = c.self.inside.limits; names = map string_bytes c.self.inside.names.keys; relations = c.self.inside.relations.items } in
-    let within : c.args.table.0 < length (database_of s) = rw (← c.self.view_is) at c.requires in
-    let tables : length (database_of s) ≡ length s.relations = database-length s c.self.invariant.named in
-    let named : length s.names ≡ length s.relations = c.self.invariant.named in
-    let keys : length s.names ≡ length c.self.inside.names.keys = length-map c.self.inside.names.keys string_bytes in
-    let lent : length c.as_slice.result.now ≡ length c.self.inside.names.keys = ap length c.as_slice.ensures.keys in
-    let inside : c.args.table.0 < length s.relations = omega (arith, within, tables) in
-    let bound : c.args.table.0 < length c.as_slice.result.now = omega (arith, within, tables, named, keys, lent) in
+    let there : c.args.table.0 < length (database_of s) = rw (← c.self.view_is) at c.requires in
+    let inside : c.args.table.0 < length s.relations = omega (arith, there, database-length s c.self.invariant.named) in
     let read : slice_get c.as_slice.result.now c.args.table.0 ≡ Some c.index-as_slice-table.result =
-    slice_get_read c.as_slice.result.now (length c.as_slice.result.now) c.args.table.0 c.index-as_slice-table.result refl bound c.index-as_slice-table.is in
+    slice_get_read c.as_slice.result.now (length c.as_slice.result.now) c.args.table.0 c.index-as_slice-table.result refl (within (goal.at.returns c).After-as_slice) c.index-as_slice-table.is in
     let at : slice_get s.names c.args.table.0 ≡ Some c.as_str.result.now =
     slice_get-map string_bytes c.self.inside.names.keys c.args.table.0
     ∙ ap (λ ks. option_map string_bytes (slice_get ks c.args.table.0)) (sym c.as_slice.ensures.keys)

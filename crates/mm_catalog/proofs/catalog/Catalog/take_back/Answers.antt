@@ -1,6 +1,5 @@
-use Rattle.std.proofs.Common.{◌<◌, List, length, map, drop, refl, sym, ap, subst, arith}
+use Rattle.std.proofs.Common.{◌<◌, length, map, drop, refl, sym, ap, subst, arith}
 use Rattle.std.specs.String.{string_bytes}
-use Rattle.mm_relation.specs.State.{RelationState}
 use Rattle.mm_catalog.specs.State.{CatalogState}
 use Rattle.mm_catalog.specs.Seen.{database_of}
 use Rattle.mm_catalog.specs.Consistent.{IsConsistent}
@@ -10,7 +9,6 @@ use Rattle.mm_catalog.proofs.Lists.{whole}
 use Rattle.mm_catalog.proofs.Tables.{database-length}
 use Rattle.mm_catalog.proofs.Deleting.{taken_out}
 use Rattle.mm_catalog.proofs.catalog.Catalog.take_back.Goals as goal
-use Rattle.mm_catalog.specs.Standing.{Stands}
 use Rattle.mm_catalog.proofs.Standing.{stands_at}
 
 pub take_out-requires : goal.take_out-requires
