@@ -7,6 +7,7 @@ use Rattle.std.proofs.lemmas.List.Concat.{flat_map-cons}
 use Rattle.std.proofs.lemmas.List.Elements.{All-map}
 use Rattle.std.proofs.lemmas.List.FromFn.{get_or-map-range_with_len, length-range_with_len}
 use Rattle.std.proofs.lemmas.Option.{get_or_from_slice_get, slice_get-get_or, slice_get_within}
+use Rattle.std.proofs.lemmas.Simd.{map-map}
 use Rattle.part_raw.specs.declared.tuple_ref.TupleRef.{TupleRef}
 use Rattle.plain_tables.specs.Doing.{headings, joined_tables}
 use Rattle.plain_tables.specs.Queries.{JoinedColumn, column_number, source_columns, stands}
@@ -35,7 +36,7 @@ use Rattle.mm_session.specs.Keyed.{AsksForKey, IsKeyTest, columns_shown, values_
 use Rattle.mm_session.specs.Members.{tables_at}
 use Rattle.mm_session.specs.Shown.{heading, places_shown}
 use Rattle.mm_session.specs.Walked.{rows_shown, shown_row}
-use Rattle.mm_session.proofs.MemberLemmas.{map_map, width_same}
+use Rattle.mm_session.proofs.MemberLemmas.{width_same}
 use Rattle.mm_session.proofs.PlaceLemmas.{place_at, places_from}
 use Rattle.mm_session.proofs.WalkedLemmas.{columns_over, heads_shown, places_some, walked_rows}
 
@@ -67,7 +68,7 @@ module _ (relations : List RelationState) (s : RelationState) (kept : IsKept s) 
 -- ---- what is shown of it
 
 numbers_of : (ns : List ℕ) → map (λ (p : Place). p.column) (map (place_at 0) ns) ≡ map column_number ns
-numbers_of ns = map_map (λ (p : Place). p.column) (place_at 0) ns
+numbers_of ns = map-map (λ (p : Place). p.column) (place_at 0) ns
 
 columns_alone : (table : Table) (its : Shown) → columns_shown (length table.columns) its ≡ map (λ place. place.column) (places_shown (table ∷ []) its)
 columns_alone table (shown.Columns places) = refl
@@ -118,7 +119,7 @@ module _ (c : CatalogState) (ok : IsConsistent c) (query : Query) (one : IsMeant
   values_same : (r : TupleRef) → values_shown c s query.shown r ≡ shown_row c s places r
   values_same r =
       ap (map (λ (column : ColumnNumber). value_in c.relations s column.0 r)) columns_same
-      ∙ map_map (λ (column : ColumnNumber). value_in c.relations s column.0 r) (λ (p : Place). p.column) places
+      ∙ map-map (λ (column : ColumnNumber). value_in c.relations s column.0 r) (λ (p : Place). p.column) places
 
   wide : length (columns_shown (length s.schema.columns) query.shown) ≡ length places
   wide = ap length columns_same ∙ length-map places (λ (p : Place). p.column)

@@ -4,6 +4,7 @@ use Rattle.std.proofs.lemmas.List.{length-map, length-append}
 use Rattle.std.proofs.lemmas.List.Concat.{flat_map-cons}
 use Rattle.std.proofs.lemmas.List.Elements.{All-map, All-weaker, All-contains}
 use Rattle.std.proofs.lemmas.Option.{slice_get_within, none-some}
+use Rattle.std.proofs.lemmas.Simd.{map-map}
 use Rattle.std.specs.Cmp.Lexicographic.{pointwise, pointwise_decides}
 use Rattle.std.specs.List.{All, Contains, flat_map, filter_map, cons_option, enumerate_from}
 use Rattle.std.specs.List.Sorted.{IsSorted}
@@ -42,7 +43,7 @@ use Rattle.temp_list.specs.Lists.{ListState, IsOver, IsRowOver, HasPlace, value_
 use Rattle.temp_list.proofs.SortLemmas.{keys_total}
 use Rattle.mm_session.specs.Members.{HasMembers, tables_at, joined_numbers, member_of}
 use Rattle.mm_session.specs.Shown.{places_shown, heading, list_values, CanShow, IsOrderedOf}
-use Rattle.mm_session.proofs.MemberLemmas.{map_map, map_same, value_same, width_same}
+use Rattle.mm_session.proofs.MemberLemmas.{map_same, value_same, width_same}
 use Rattle.mm_session.proofs.PlaceLemmas.{tables_get}
 use Rattle.mm_session.proofs.RisingLemmas.{sorted_is_rising}
 use Rattle.mm_session.proofs.ShowLemmas.{still_over, headings_shown, values_shown}
@@ -144,7 +145,7 @@ module _ (c : CatalogState) (ok : IsConsistent c) where
       ordered_shown =
           map_same (list_values c described) (λ row. shown_values query.shown (member_of c list.sources row)) has.ordered
           (λ k d l. row_shown (get_or has.ordered k d) (subst (λ ns. IsRowOver c.relations ns (get_or has.ordered k d)) (sym has.tables) (has.each k d l)) (are_members k d l))
-          ∙ sym (map_map (shown_values query.shown) (member_of c list.sources) has.ordered) ∙ ap (map (shown_values query.shown)) lead
+          ∙ sym (map-map (shown_values query.shown) (member_of c list.sources) has.ordered) ∙ ap (map (shown_values query.shown)) lead
 
       module _ (new : ListState) (sources : new.sources ≡ list.sources) (columns : new.columns ≡ places) where
         values_kept : (rows : List (List TupleRef)) → map (list_values c new) rows ≡ map (list_values c described) rows

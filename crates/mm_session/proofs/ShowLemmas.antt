@@ -5,6 +5,7 @@ use Rattle.std.proofs.lemmas.List.Concat.{flat_map-cons}
 use Rattle.std.proofs.lemmas.List.Elements.{All-head, All-tail, All-contains, All-contains_itself}
 use Rattle.std.proofs.lemmas.List.FromFn.{fill_by_all}
 use Rattle.std.proofs.lemmas.Option.{slice_get-get_or, none-some, same_Some}
+use Rattle.std.proofs.lemmas.Simd.{map-map}
 use Rattle.std.specs.Cmp.Lexicographic.{pointwise, pointwise_decides}
 use Rattle.std.specs.List.{All, flat_map, filter_map, cons_option, enumerate_from, range_with_len}
 use Rattle.std.specs.Option.{option_and_then, option_map, option_map_or}
@@ -28,7 +29,6 @@ use Rattle.mm_index.proofs.Refs.{same_ref, Decides-same_ref}
 use Rattle.mm_relation.specs.State.{RelationState}
 use Rattle.temp_list.specs.Lists.{ListState, IsOver, IsRowOver, HasPlace}
 use Rattle.mm_session.specs.Shown.{places_shown, heading, IsOrderedOf}
-use Rattle.mm_session.proofs.MemberLemmas.{map_map}
 use Rattle.mm_session.proofs.PlaceLemmas.{place_at, places_from}
 
 -- ---- a list in its order
@@ -80,7 +80,7 @@ module _ {B : Type 0} (f : Place → B) (whole : List Table) (g : ℕ → Table 
   table_by_table n (t ∷ tables) among =
       let place : JoinedColumn → Place = λ j. j.place in
       let here : map f (map place (source_columns (n, t))) ≡ g n t =
-      ap (map f) (places_from n 0 t.name t.columns) ∙ map_map f (place_at n) (range_with_len 0 (length t.columns))
+      ap (map f) (places_from n 0 t.name t.columns) ∙ map-map f (place_at n) (range_with_len 0 (length t.columns))
       ∙ each n t (ap (slice_get whole) (sym (n_zero n)) ∙ among 0 t refl) in
       ap (λ js. map f (map place js)) (flat_map-cons source_columns (n, t) (enumerate_from (n + 1) tables))
       ∙ ap (map f) (map-append place (source_columns (n, t)) (flat_map source_columns (enumerate_from (n + 1) tables)))

@@ -11,6 +11,7 @@ use Rattle.plain_tables.specs.Csv.{row_record}
 use Rattle.std.proofs.lemmas.List.Elements.{filter-append}
 use Rattle.std.proofs.lemmas.List.Sums.{length-filter, count_by-le-length}
 use Rattle.std.proofs.lemmas.Option.{same_Some}
+use Rattle.std.proofs.lemmas.Simd.{map-map}
 use Rattle.part_raw.specs.declared.tuple_ref.TupleRef.{TupleRef}
 use Rattle.plain_tables.specs.Joining.{members_of}
 use Rattle.plain_tables.specs.Doing.{headings, joined_tables, shown_rows}
@@ -36,7 +37,7 @@ use Rattle.mm_session.specs.Members.{HasMembers, IsSourceOf, tables_at, joined_n
 use Rattle.mm_session.specs.Shown.{places_shown, heading, list_values}
 use Rattle.mm_session.specs.Walked.{shown_row, AreColumns, WritesRows, rows_shown}
 use Rattle.project_hash.proofs.TableLemmas.{place_alone}
-use Rattle.mm_session.proofs.MemberLemmas.{map_map, map_same}
+use Rattle.mm_session.proofs.MemberLemmas.{map_same}
 use Rattle.mm_session.proofs.QueryLemmas.{key_source, source_columns, listing_over, singles_rise, single_lead}
 use Rattle.mm_session.proofs.SelectLemmas.{described_over, some_places, ordered_shown, names_shown}
 
@@ -149,7 +150,7 @@ module _ (c : CatalogState) (ok : IsConsistent c) (query : Query) (one : IsMeant
         map_same (shown_row c s places) (λ r. list_values c (record listing { columns = places }) (r ∷ [])) refs
         (λ k d l. map_same (λ place. value_in c.relations s place.column.0 (get_or refs k d)) (value_of c.relations (n ∷ []) (get_or refs k d ∷ [])) places
         (λ j e m. sym (one_value (get_or places j e) (get_or refs k d) (places_over j e m))))
-        ∙ sym (map_map (list_values c (record listing { columns = places })) (λ (r : TupleRef). r ∷ []) refs)
+        ∙ sym (map-map (list_values c (record listing { columns = places })) (λ (r : TupleRef). r ∷ []) refs)
         ∙ ordered_shown c ok query one.0 listing has places shows
         ∙ ap (λ way. shown_rows way query.shown members) (sym ordered)
       where
