@@ -1,5 +1,5 @@
 -- Commands that a catalog declines, and the effect that they are refused by.
-use Rattle.std.proofs.Common.{◌≡◌, ℕ, List, Ok, sym, ap, ◌∙◌, inl, inr}
+use Rattle.std.proofs.Common.{◌≡◌, List, Ok, ap, ◌∙◌, inl, inr}
 use Rattle.std.specs.Prelude.{◌⊎◌}
 use Rattle.plain_tables.specs.Databases.{Database}
 use Rattle.plain_tables.specs.CsvReading.{Record}

@@ -6,7 +6,7 @@ use lib.Chars.{codes}
 use Rattle.plain_tables.specs.AnswerText.{answer_text, refusal_text, record_part}
 use Rattle.plain_tables.specs.Refusals.{number_of, text_of}
 use Rattle.plain_tables.specs.declared.refusal.Refusal.{Refusal}
-use Rattle.plain_tables.specs.declared.refusal.Refusal.TheVariants.{LineTooLong, NotUtf8, BlockTooLong, BlockCutShort, NotACommand, NoSuchTable, TableExists, NoSuchColumn, ColumnNamedTwice, TableNamedTwice, WrongType, KeyCannotBeSet, TooMany, NoSuchIndex, IndexExists, TableIsReferenced, KeyExists, NoReferencedRow, TableFull, RowIsReferenced, WrongNumberOfValues, TextTooLong, BadHeader, BadRecord, DumpTooLong, NoMemory}
+use Rattle.plain_tables.specs.declared.refusal.Refusal.TheVariants.{LineTooLong}
 use Rattle.plain_streams.proofs.RunLemmas.{error_is_refused}
 use Rattle.mm_session.specs.Refused.{TellsRefusal}
 
