@@ -5,7 +5,7 @@ use Rattle.std.specs.List.{Contains}
 use Rattle.std.proofs.lemmas.Bool.{cases_eq, false≢true, eqb-true}
 use Rattle.std.proofs.lemmas.List.{get_or_default, get_or-take, length-take-le}
 use Rattle.std.proofs.lemmas.List.FromFn.{length-map-range_with_len}
-use Rattle.plain_tables.specs.Spelling.{AreBlanks, IsMadeOf, Keyword, Spells, Symbol, is_blank}
+use Rattle.plain_tables.specs.Spelling.{IsMadeOf, Keyword, Spells, Symbol, is_blank}
 use Rattle.plain_tables.specs.declared.value.Value.{Value}
 use Rattle.plain_tables.specs.declared.command.Command.{Command}
 use Rattle.plain_tables.proofs.FirstWords.{behind_word, first_word, split-word}

@@ -14,7 +14,6 @@ use Rattle.plain_tables.specs.declared.command.Limits.{Limits}
 use Rattle.plain_tables.specs.declared.refusal.Refusal.{Refusal}
 use Rattle.plain_tables.specs.declared.refusal.Refusal.TheVariants as refusal
 use Rattle.plain_tables.specs.declared.resolved.Resolved.{Resolved}
-use Rattle.plain_tables.specs.declared.resolved.Resolved.TheVariants as resolved
 use Rattle.plain_tables.proofs.GivenLemmas.{spellable_are_given}
 use Rattle.plain_tables.proofs.Meanings.{satisfies, if_checked, if_numbered}
 use Rattle.plain_tables.proofs.ResolvedLemmas.{resolved_are_meant}

@@ -1,12 +1,10 @@
 -- Requests: an answer to a request whose line declares and drops no table leaves the names and columns of tables.
-use Rattle.std.proofs.Common.{◌≡◌, ◌∙◌, ℕ, zero, suc, Bool, List, [], ◌∷◌, map, set, slice_get, true, false, refl, sym, ap, subst, inl, inr, Option, Some, None, Ok, Err, IfOk}
-use Rattle.std.specs.Option.{option_map_or}
+use Rattle.std.proofs.Common.{◌≡◌, ◌∙◌, ℕ, Bool, List, map, true, false, refl, sym, subst, inl, inr, Ok, IfOk}
 use Rattle.std.proofs.lemmas.Bool.{cases_Bool, false≢true}
 use Rattle.plain_tables.specs.CommandLaws.{table_of}
-use Rattle.plain_tables.specs.Databases.{Database, table_named}
+use Rattle.plain_tables.specs.Databases.{Database}
 use Rattle.plain_tables.specs.Doing.{done, with_index, without_index}
 use Rattle.plain_tables.specs.Effects.{Check, Effect}
-use Rattle.plain_tables.specs.Queries.{place_meant}
 use Rattle.plain_tables.specs.ResolvedLaws.{emptied}
 use Rattle.plain_tables.specs.Resolving.{drop_index_checks, index_checks, meaning, number_of, on_column, on_numbered, resolved_of}
 use Rattle.plain_tables.specs.Spelling.{Spells}
@@ -17,8 +15,6 @@ use Rattle.plain_tables.specs.declared.command.Command.TheVariants as command
 use Rattle.plain_tables.specs.declared.command.Limits.{Limits}
 use Rattle.plain_tables.specs.declared.numbers.ColumnNumber.{ColumnNumber}
 use Rattle.plain_tables.specs.declared.numbers.TableNumber.{TableNumber}
-use Rattle.plain_tables.specs.declared.numbers.Place.{Place}
-use Rattle.plain_tables.specs.declared.refusal.Refusal.TheVariants.{NoSuchColumn, NoSuchTable}
 use Rattle.plain_tables.specs.declared.resolved.Resolved.{Resolved}
 use Rattle.plain_tables.specs.declared.resolved.Resolved.TheVariants as resolved
 use Rattle.plain_tables.proofs.ChangeLemmas.{own_rows_change, map_set_alike}
