@@ -2,13 +2,13 @@
 use Rattle.std.proofs.Common.{◌≡◌, ℕ, zero, suc, ◌+◌, ◌-◌, ◌*◌, ◌/◌, ◌%◌, ◌<◌, ◌≤◌, true, false, List, [], ◌∷◌, ◌++◌, length, get_or, set, map, None, Some, refl, sym, ap, ◌∙◌, arith, inl, inr, cond}
 use Rattle.std.specs.Prelude.{IsTrue, is_some}
 use Rattle.std.proofs.lemmas.Bool.{cases_lt}
-use Rattle.std.proofs.lemmas.List.{append_assoc, length-append, get_or_append_left, get_or-append_right, set-append_left, set-append_right, get_or-map, get_or_past, get_or-replicate, length-map}
+use Rattle.std.proofs.lemmas.List.{append_assoc, length-append, get_or_append_left, get_or-append_right, set-append_left, set-append_right, get_or-map, get_or_past, get_or-replicate, get_or-set_same, length-map, length-set}
 use Rattle.std.proofs.Math.Seq.{map-set_same}
 use Rattle.part_raw.specs.declared.tuple_ref.TupleRef.{TupleRef}
 use Rattle.lin_hash.specs.declared.row_block.RowBlock.{RowBlock}
 use Rattle.lin_hash.specs.declared.row_node.RowNode.{RowNode}
 use Rattle.lin_hash.specs.HeldRows.{IsCovered}
-use Rattle.lin_hash.specs.RowNodes.{is_used, block_nodes, row_node_at, unused_node}
+use Rattle.lin_hash.specs.RowNodes.{is_used, block_nodes, row_at, row_node_at, unused_node}
 use Rattle.lin_hash.specs.RowBlocks.{row_nodes_in, covered_by, has_memory}
 
 pub length-row_nodes_in : (bs : List RowBlock) → length (row_nodes_in bs) ≡ 256 * length bs
@@ -95,3 +95,10 @@ module _ (bs : List RowBlock) (p : ℕ) (b : RowBlock) (is : b ≡ get_or bs (p 
         | None ↦ λ h. absurd (let none = get_or-replicate 256 (p % 256) unused_node unused_node (omega arith) in let no : false ≡ true = rw none at h in cc)
         | Some _ ↦ λ h. refl
       ] here
+
+  -- a block that comes there with memory covers the place
+  pub covered-here : (new : RowBlock) → is_some new.nodes ≡ true → IsCovered (covered_by (set bs (p / 256) new)) (row_at p)
+  covered-here new there =
+      let long = length-set bs (p / 256) new in
+      let here = block-inside in
+      get_or-map has_memory (set bs (p / 256) new) (p / 256) new false (omega (arith, long, here)) ∙ ap has_memory (get_or-set_same bs (p / 256) new new here) ∙ there

@@ -16,6 +16,8 @@ pub mod Moves
 pub mod Placed
 pub mod Rehung
 pub mod RowLinks
+pub mod RowTaking
+pub mod RowLongest
 pub mod RowLinking
 pub mod RowHung
 pub mod Taken

@@ -85,7 +85,6 @@ module _ (level mark : ℕ) (nodes : List RowNode) (heads : List NodeLink) (loos
   pub hung-first : (b : ℕ) → b < length h.chains → IfSome (leads_to (head_at heads b)) (λ q. is_used (row_node_at nodes q) ≡ true)
   hung-first b inside = first-used nodes (head_at heads b) (get_or h.chains b []) (h.linked.each b inside)
 
-
 -- a chain visits the row that its link leads to
 first-in : (nodes : List RowNode) (behind l : NodeLink) (es : List (ℕ × TupleRef)) (q : ℕ) → IsLinked nodes behind l es → leads_to l ≡ Some q → 0 < times_at q es
 first-in nodes behind l [] q h is = absurd (let e : None ≡ Some q = sym h ∙ is in cc)

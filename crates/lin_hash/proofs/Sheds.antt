@@ -250,4 +250,3 @@ module _ (bs cs : List RowBlock) (each : AreShed bs cs) (long : length cs ≡ le
 
   pub released-kept : (k : ℕ) → get_or (covered_by (take n cs)) k false ≡ true → get_or (covered_by bs) k false ≡ true
   released-kept k h = kept_at bs cs each long n k h
-

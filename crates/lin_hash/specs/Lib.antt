@@ -9,6 +9,10 @@ pub mod Rest
 pub mod RowBlocks
 pub mod RowChains
 pub mod RowNodes
+pub mod RowRest
+pub mod RowTables
+pub mod RowsHeld
+pub mod RowsRoom
 pub mod RowsCounted
 pub mod HeldRows
 pub mod Shape

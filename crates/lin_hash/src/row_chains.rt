@@ -40,12 +40,7 @@ pub fn link(nodes: &mut RowNodes, heads: &mut [NodeLink], address: Address, plac
 }
 
 // Puts the nodes from a link on, which hang on no bucket, in front of the chains of their hashes.
-pub fn link_from(
-    nodes: &mut RowNodes,
-    heads: &mut [NodeLink],
-    address: Address,
-    first: NodeLink,
-)
+pub fn link_from(nodes: &mut RowNodes, heads: &mut [NodeLink], address: Address, first: NodeLink)
     requires loose { AreLoose address.level address.mark nodes.old.items heads.old first }
     requires few { length nodes.old.items < 2 ^ 32 - 2 }
     ensures hung { AreRowsHung address.level address.mark nodes.new.items heads.new [] }

@@ -160,6 +160,7 @@ impl RowNodes {
     pub fn enter(&mut self, place: usize, hash: u32)
         requires covered { IsCovered self.old.covered (row_at place) }
         requires free { is_used (row_node_at self.old.items place) ≡ false }
+        ensures inside { place < length self.old.items }
         ensures items { self.new.items ≡ slice_set self.old.items place (loose_node hash) }
         ensures covered { self.new.covered ≡ self.old.covered }
     {
@@ -182,6 +183,7 @@ impl RowNodes {
         requires { is_used (row_node_at self.old.items place) ≡ true }
         ensures items { self.new.items ≡ slice_set self.old.items place unused_node }
         ensures covered { self.new.covered ≡ self.old.covered }
+        ensures stays { IsCovered self.new.covered (row_at place) }
     {
         let block = &mut self.blocks[place / NODES_A_BLOCK];
         block.leave(place % NODES_A_BLOCK);

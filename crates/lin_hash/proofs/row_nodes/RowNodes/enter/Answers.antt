@@ -1,4 +1,4 @@
-use Rattle.std.proofs.Common.{◌≡◌, ◌<◌, ◌/◌, length, ap, sym, ◌∙◌, refl, arith}
+use Rattle.std.proofs.Common.{◌≡◌, ◌<◌, ◌/◌, length, ap, sym, ◌∙◌, refl, subst, arith}
 use Rattle.part_raw.specs.declared.tuple_ref.TupleRef.{TupleRef}
 use Rattle.lin_hash.specs.HeldRows.{IsCovered}
 use Rattle.lin_hash.specs.RowNodes.{is_used, row_at, row_node_at, unused_node, loose_node}
@@ -34,3 +34,6 @@ returns-clause-covered c =
     let d = (goal.at.returns-clause-covered c).After-index_mut-block in
     let there = covered-there c.self.inside.blocks.items (row_at c.args.place) c.index_mut-block.result.now (covered d) c.index_mut-block.ensures.value in
     covered-set c.self.inside.blocks.items c.args.place c.index_mut-block.result.now c.index_mut-block.ensures.value (inside d) c.enter.new.self (c.enter.ensures.there ∙ sym there) ∙ ap (λ v. v.covered) c.self.view_is
+
+pub returns-clause-inside : goal.returns-clause-inside
+returns-clause-inside c = let here = inside (goal.at.returns-clause-inside c).After-index_mut-block in subst (λ ns. c.args.place < length ns) (ap (λ v. v.items) c.self.view_is) here

@@ -1,7 +1,7 @@
 use Rattle.std.proofs.Common.{◌≡◌, ◌<◌, ◌/◌, ◌&&◌, ◌==◌, true, length, ap, sym, ◌∙◌, refl, arith}
 use Rattle.lin_hash.specs.RowNodes.{is_used, row_node_at, unused_node}
 use Rattle.lin_hash.specs.RowBlocks.{row_nodes_in, covered_by, is_spare}
-use Rattle.lin_hash.proofs.InRowBlocks.{length-row_nodes_in, block-inside, at-place, set-place, covered-set, used-inside, used-there}
+use Rattle.lin_hash.proofs.InRowBlocks.{length-row_nodes_in, block-inside, at-place, set-place, covered-here, covered-set, used-inside, used-there}
 use Rattle.lin_hash.proofs.RowsIn.{one_if}
 use Rattle.lin_hash.proofs.Sheds.{spare-set, spare-used}
 use Rattle.lin_hash.proofs.row_nodes.RowNodes.leave.Goals as goal
@@ -66,3 +66,13 @@ returns-else-block-eq0-clause-covered c =
     let d = (goal.at.returns-else-block-eq0-clause-covered c).After-index_mut-block in
     let there = used-there c.self.inside.blocks.items c.args.place c.index_mut-block.result.now c.index_mut-block.ensures.value (inside d) (used d) in
     covered-set c.self.inside.blocks.items c.args.place c.index_mut-block.result.now c.index_mut-block.ensures.value (inside d) c.leave.new.self (c.leave.ensures.there ∙ sym there) ∙ ap (λ v. v.covered) c.self.view_is
+
+pub returns-then-block-eq0-clause-stays : goal.returns-then-block-eq0-clause-stays
+returns-then-block-eq0-clause-stays c =
+    let d = (goal.at.returns-then-block-eq0-clause-stays c).After-index_mut-block in
+    covered-here c.self.inside.blocks.items c.args.place c.index_mut-block.result.now c.index_mut-block.ensures.value (inside d) c.leave.new.self c.leave.ensures.there
+
+pub returns-else-block-eq0-clause-stays : goal.returns-else-block-eq0-clause-stays
+returns-else-block-eq0-clause-stays c =
+    let d = (goal.at.returns-else-block-eq0-clause-stays c).After-index_mut-block in
+    covered-here c.self.inside.blocks.items c.args.place c.index_mut-block.result.now c.index_mut-block.ensures.value (inside d) c.leave.new.self c.leave.ensures.there
