@@ -1,5 +1,5 @@
 -- What hangs on the chains of its buckets, whatever a chain is made of: a chain that changes, a bucket more and a bucket less.
-use Rattle.std.proofs.Common.{◌≡◌, ◌≢◌, ℕ, zero, suc, ◌+◌, ◌-◌, ◌*◌, ◌%◌, ◌^◌, ◌<◌, ◌≤◌, List, [], ◌∷◌, ◌++◌, length, get_or, set, take, replicate, None, refl, sym, ap, ◌∙◌, arith, inl, inr, subst}
+use Rattle.std.proofs.Common.{◌≡◌, ◌≢◌, ℕ, zero, suc, ◌+◌, ◌-◌, ◌*◌, ◌%◌, ◌^◌, ◌<◌, List, [], ◌∷◌, ◌++◌, length, get_or, set, take, replicate, refl, sym, ap, ◌∙◌, arith, inl, inr, subst}
 use Rattle.std.specs.List.{count_by}
 use Rattle.std.proofs.lemmas.Bool.{cases_lt, cases_eq}
 use Rattle.std.proofs.lemmas.List.{length-set, length-append, length-replicate, get_or-set_same, get_or-set_other, get_or-replicate, get_or_append_left, set-set, set-get_or, take_more, take_all}
@@ -9,7 +9,7 @@ use Rattle.mm_index.specs.Bag.{IsSameBag}
 use Rattle.mm_index.proofs.Bags.{IsSameBag-from_same}
 use Rattle.lin_hash.specs.Address.{bucket_by, bucket_of, IsPlaced, IsAddressed}
 use Rattle.lin_hash.specs.declared.node.NodeLink.{NodeLink}
-use Rattle.lin_hash.specs.Nodes.{leads_to, head_at}
+use Rattle.lin_hash.specs.Nodes.{head_at}
 use Rattle.lin_hash.specs.Chains.{AreChainsBy, AreHungBy}
 use Rattle.lin_hash.proofs.Moves.{count_by-append, count_by-cons}
 use Rattle.lin_hash.proofs.Joined.{joined, joined-added, joined-taken, count_by-set, count_by-pushed}

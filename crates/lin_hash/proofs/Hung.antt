@@ -1,8 +1,7 @@
 -- Nodes that hang on the chains of their buckets, and those that are loose.
-use Rattle.std.proofs.Common.{◌≡◌, ◌≢◌, ℕ, ◌+◌, ◌-◌, ◌^◌, ◌<◌, ◌≤◌, Bool, ◌==◌, List, [], ◌∷◌, ◌++◌, length, get_or, set, None, Some, refl, sym, ap, ◌∙◌, arith, inl, inr, subst}
+use Rattle.std.proofs.Common.{◌≡◌, ℕ, ◌+◌, ◌-◌, ◌^◌, ◌<◌, ◌≤◌, Bool, ◌==◌, List, [], ◌∷◌, ◌++◌, length, get_or, set, None, Some, refl, sym, ap, ◌∙◌, arith, subst}
 use Rattle.std.specs.List.{count_by, sum_by}
-use Rattle.std.proofs.lemmas.Bool.{cases_lt, cases_eq}
-use Rattle.std.proofs.lemmas.List.{length-set, length-append, get_or-set_same, get_or-set_other, get_or_append_left, get_or_default}
+use Rattle.std.proofs.lemmas.List.{length-set, length-append, get_or-set_same, get_or_default}
 use Rattle.std.proofs.lemmas.List.Sums.{get_or-le-sum_by}
 use Rattle.std.proofs.Math.Seq.{get_or-append_seam}
 use Rattle.mm_index.specs.Bag.{IsSameBag}
@@ -13,11 +12,11 @@ use Rattle.lin_hash.specs.declared.node.Node.{Node}
 use Rattle.lin_hash.specs.Nodes.{leads_to, link_to, head_at, node_at, next_at, leading_to}
 use Rattle.lin_hash.specs.Chains.{Placed, place_of, placed_at, all_placed, Stands, IsChain, AreChains, AreHung, AreHungBy}
 use Rattle.lin_hash.proofs.Moves.{count_by-append, count_by-cons}
-use Rattle.lin_hash.proofs.Joined.{joined, count_by-joined, joined-added}
+use Rattle.lin_hash.proofs.Joined.{joined, count_by-joined}
 use Rattle.lin_hash.proofs.Placed.{one_if, times_at, times_at-once, placed, placed-relinked, placed-push, count_by-placed_set}
 use Rattle.lin_hash.proofs.ChainLemmas.{leads_to-link, times_at-first, Stands-relinked, IsChain-set, IsChain-grown, IsChain-front}
 use Rattle.lin_hash.proofs.Hanging.{AreHungBy-link}
-use Rattle.lin_hash.proofs.Levels.{bucket_of-inside, IsAddressed-added}
+use Rattle.lin_hash.proofs.Levels.{bucket_of-inside}
 
 -- what is not in all chains is in none of them
 times_at-chain : (p : ℕ) (chains : List (List Placed)) (i : ℕ) → i < length chains → times_at p (joined chains) ≡ 0 → times_at p (get_or chains i []) ≡ 0

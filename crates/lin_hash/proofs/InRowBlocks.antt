@@ -1,5 +1,5 @@
 -- Nodes of rows in blocks, by the place of a block and that within it.
-use Rattle.std.proofs.Common.{◌≡◌, ℕ, zero, suc, ◌+◌, ◌-◌, ◌*◌, ◌/◌, ◌%◌, ◌<◌, ◌≤◌, true, false, List, [], ◌∷◌, ◌++◌, length, get_or, set, map, None, Some, refl, sym, ap, ◌∙◌, arith, inl, inr, cond}
+use Rattle.std.proofs.Common.{◌≡◌, ℕ, zero, suc, ◌+◌, ◌-◌, ◌*◌, ◌/◌, ◌%◌, ◌<◌, ◌≤◌, true, false, List, [], ◌∷◌, ◌++◌, length, get_or, set, None, Some, refl, sym, ap, ◌∙◌, arith, inl, inr}
 use Rattle.std.specs.Prelude.{IsTrue, is_some}
 use Rattle.std.proofs.lemmas.Bool.{cases_lt}
 use Rattle.std.proofs.lemmas.List.{append_assoc, length-append, get_or_append_left, get_or-append_right, set-append_left, set-append_right, get_or-map, get_or_past, get_or-replicate, get_or-set_same, length-map, length-set}
@@ -73,6 +73,12 @@ used-inside nodes p used =
       | inl inside ↦ inside
       | inr beyond ↦ let none = get_or_past nodes p unused_node beyond in absurd (let no : false ≡ true = rw none at used in cc)
     ]
+
+-- behind the last block stands no node
+pub used-beyond : (bs : List RowBlock) (p : ℕ) → length bs ≤ p / 256 → false ≡ is_used (row_node_at (row_nodes_in bs) p)
+used-beyond bs p beyond =
+    let long = length-row_nodes_in bs in
+    sym (ap is_used (get_or_past (row_nodes_in bs) p unused_node (omega (arith, long, beyond))))
 
 module _ (bs : List RowBlock) (p : ℕ) (b : RowBlock) (is : b ≡ get_or bs (p / 256) b) (inside : p < length (row_nodes_in bs)) where
   pub block-inside : p / 256 < length bs

@@ -1,25 +1,22 @@
 -- What hangs on the buckets where a node leaves its chain, and where a bucket is split, is folded or is looked through.
-use Rattle.std.proofs.Common.{◌≡◌, ◌≢◌, ℕ, zero, suc, ◌+◌, ◌*◌, ◌%◌, ◌^◌, ◌<◌, ◌≤◌, true, false, cond, ◌==◌, List, [], ◌∷◌, ◌++◌, length, get_or, set, map, None, refl, sym, ap, ◌∙◌, arith, inl, inr, subst}
+use Rattle.std.proofs.Common.{◌≡◌, ◌≢◌, ℕ, zero, suc, ◌<◌, ◌≤◌, true, false, cond, ◌==◌, List, [], ◌∷◌, length, get_or, set, map, refl, sym, ap, ◌∙◌, arith, subst}
 use Rattle.std.specs.List.{count_by, sum_by, filter, Contains}
-use Rattle.std.proofs.lemmas.Bool.{cases_lt, eq-eqb, eqb-true}
-use Rattle.std.proofs.lemmas.List.{length-set, get_or-set_same, get_or-set_other, set-set}
-use Rattle.std.proofs.lemmas.List.Elements.{All-nil}
+use Rattle.std.proofs.lemmas.Bool.{eq-eqb, eqb-true}
+use Rattle.std.proofs.lemmas.List.{length-set, get_or-set_other}
 use Rattle.std.proofs.lemmas.List.Sums.{get_or-le-sum_by, count_by-le-length}
 use Rattle.common_lemmas.proofs.Counts.{count_by-true, count_by-member, member-from_count_by}
 use Rattle.part_raw.specs.declared.tuple_ref.TupleRef.{TupleRef}
 use Rattle.mm_index.specs.Bag.{IsSameBag, with_hash}
-use Rattle.mm_index.proofs.Bags.{IsSameBag-map, IsSameBag-trans, IsSameBag-sym, IsSameBag-from_same, IsSameBag-middle, IsSameBag-with_hash, Contains-with_hash, Contains-from_with_hash}
+use Rattle.mm_index.proofs.Bags.{IsSameBag-map, IsSameBag-trans, IsSameBag-sym, IsSameBag-from_same, IsSameBag-with_hash, Contains-with_hash, Contains-from_with_hash}
 use Rattle.mm_index.proofs.Refs.{Contains-same_refs}
-use Rattle.lin_hash.specs.Address.{bucket_by, bucket_of, IsAddressed}
+use Rattle.lin_hash.specs.Address.{bucket_of}
 use Rattle.lin_hash.specs.declared.node.NodeLink.{NodeLink}
 use Rattle.lin_hash.specs.declared.node.Node.{Node}
-use Rattle.lin_hash.specs.Nodes.{leads_to, head_at, node_at, next_at, entries_of}
-use Rattle.lin_hash.specs.Chains.{Placed, place_of, placed_at, entry_in, all_placed, Stands, IsChain, AreChains, AreHung, HoldsEntry, Visits}
-use Rattle.lin_hash.proofs.Moves.{count_by-append, count_by-cons}
-use Rattle.lin_hash.proofs.Joined.{joined, count_by-joined, count_by-set, count_by-pushed, joined-taken}
+use Rattle.lin_hash.specs.Nodes.{head_at, node_at, next_at, entries_of}
+use Rattle.lin_hash.specs.Chains.{Placed, place_of, placed_at, entry_in, all_placed, Stands, IsChain, AreHung, HoldsEntry, Visits}
+use Rattle.lin_hash.proofs.Joined.{joined, count_by-joined, count_by-set}
 use Rattle.lin_hash.proofs.Placed.{times_at, times_at-once, entries-placed, length-placed, placed-there}
-use Rattle.lin_hash.proofs.Buckets.{IsPlaced-set}
-use Rattle.lin_hash.proofs.Levels.{bucket_of-inside, mark-inside, with_hash-bucket, IsAddressed-taken, IsAddressed-split, IsAddressed-split_up}
+use Rattle.lin_hash.proofs.Levels.{bucket_of-inside, with_hash-bucket}
 
 -- the references under a hash, with their places or without
 with_hash-entries : (hash : ℕ) (es : List Placed) → with_hash hash (map entry_in es) ≡ map (λ y. y.0) (with_hash hash es)

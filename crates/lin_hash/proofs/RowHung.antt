@@ -1,8 +1,8 @@
 -- Rows that hang on the chains of their buckets, and those that are loose.
-use Rattle.std.proofs.Common.{◌≡◌, ◌≢◌, ℕ, suc, zero, ◌+◌, ◌-◌, ◌^◌, ◌<◌, ◌≤◌, ◌==◌, true, false, cond, Option, List, [], ◌∷◌, ◌++◌, length, get_or, set, take, drop, None, Some, IfSome, refl, sym, ap, ◌∙◌, arith, inl, inr, subst}
+use Rattle.std.proofs.Common.{◌≡◌, ◌≢◌, ℕ, suc, zero, ◌+◌, ◌-◌, ◌^◌, ◌<◌, ◌≤◌, ◌==◌, true, false, Option, List, [], ◌∷◌, ◌++◌, length, get_or, set, take, drop, None, Some, IfSome, refl, sym, ap, ◌∙◌, arith, inl, inr, subst}
 use Rattle.std.specs.List.{count_by, sum_by, Contains}
-use Rattle.std.proofs.lemmas.List.{length-set, get_or-set_same, get_or-set_other, set-get_or, get_or_default, take-append-drop}
-use Rattle.std.proofs.lemmas.List.Sums.{get_or-le-sum_by, count_by-le-length}
+use Rattle.std.proofs.lemmas.List.{length-set, get_or-set_same, get_or-set_other, set-get_or, take-append-drop}
+use Rattle.std.proofs.lemmas.List.Sums.{get_or-le-sum_by}
 use Rattle.std.proofs.Math.Seq.{drop-cons}
 use Rattle.std.proofs.lemmas.Bool.{ne_eqb}
 use Rattle.std.proofs.lemmas.Bool.Decides.{eqb_tells}
@@ -18,14 +18,14 @@ use Rattle.lin_hash.specs.declared.row_node.RowNode.{RowNode}
 use Rattle.lin_hash.specs.HeldRows.{KeepsRows}
 use Rattle.lin_hash.specs.Nodes.{head_at, leads_to, link_to, no_link}
 use Rattle.lin_hash.specs.RowNodes.{front_node, headed_at, is_used, leading_at, linked_before, linked_past, loose_node, not_unused, row_at, row_node_at, rows_of, trailing, trailing_at, unused_node, with_next, with_prev}
-use Rattle.lin_hash.specs.RowChains.{AreLoose, AreRowsHung, row_entry_at, IsLinked, IsRowChain, StandsBehind, row_next_at}
-use Rattle.lin_hash.proofs.Hanging.{AreChainsBy-change, AreHungBy-link, AreHungBy-without}
+use Rattle.lin_hash.specs.RowChains.{AreLoose, AreRowsHung, row_entry_at, IsLinked, IsRowChain, row_next_at}
+use Rattle.lin_hash.proofs.Hanging.{AreHungBy-link, AreHungBy-without}
 use Rattle.lin_hash.proofs.InRowBlocks.{used-inside}
-use Rattle.lin_hash.proofs.Joined.{joined, joined-added, count_by-joined, count_by-set}
-use Rattle.lin_hash.proofs.Levels.{bucket_of-inside, with_hash-bucket, IsAddressed-added}
+use Rattle.lin_hash.proofs.Joined.{joined, count_by-joined, count_by-set}
+use Rattle.lin_hash.proofs.Levels.{bucket_of-inside, with_hash-bucket}
 use Rattle.lin_hash.proofs.Moves.{count_by-append, count_by-cons}
 use Rattle.lin_hash.proofs.RowLinks.{AreOnce, after-chain, IsLinked-kept, IsLinked-set, IsLinked-trailed_other, IsLinked-unheaded, IsLinked-unlinked, IsOfChain, IsOfChain-leads, IsRowChain-front, StandsBehind-used, last_number, last_number-some, prev-last, stands-behind, times_at-first, times_at-last, times_at-less}
-use Rattle.lin_hash.proofs.RowsIn.{length-rows, one_if, rows-set_alike, times_at, times_at-once, used_one, count_by-rows_set, entry_at}
+use Rattle.lin_hash.proofs.RowsIn.{length-rows, one_if, rows-set_alike, times_at, times_at-once, used_one, count_by-rows_set}
 
 -- what is not in all chains is in none of them
 times_at-chain : (p : ℕ) (chains : List (List (ℕ × TupleRef))) (i : ℕ) → i < length chains → times_at p (get_or chains i []) ≤ times_at p (joined chains)

@@ -1,15 +1,13 @@
 -- A step of the loop that links rows.
-use Rattle.std.proofs.Common.{◌≡◌, ◌+◌, ◌-◌, ◌^◌, ◌<◌, ◌≤◌, ℕ, true, List, [], ◌∷◌, ◌++◌, length, set, None, Some, IfSome, refl, sym, ap, ◌∙◌, arith, subst}
-use Rattle.std.specs.List.{count_by}
-use Rattle.std.proofs.lemmas.List.Sums.{count_by-le-length}
+use Rattle.std.proofs.Common.{◌≡◌, ◌-◌, ◌^◌, ◌<◌, ◌≤◌, ℕ, true, List, [], ◌∷◌, length, set, None, Some, IfSome, refl, ap, arith, subst}
 use Rattle.common_lemmas.proofs.Counts.{count_by-true}
 use Rattle.part_raw.specs.declared.tuple_ref.TupleRef.{TupleRef}
 use Rattle.lin_hash.specs.Address.{bucket_of}
 use Rattle.lin_hash.specs.declared.node.NodeLink.{NodeLink}
 use Rattle.lin_hash.specs.declared.row_node.RowNode.{RowNode}
 use Rattle.lin_hash.specs.Nodes.{head_at, leads_to, link_to}
-use Rattle.lin_hash.specs.RowNodes.{is_used, linked_before, row_at, row_node_at, rows_of}
-use Rattle.lin_hash.specs.RowChains.{AreLoose, AreRowsHung, IsLinked, row_entries_from, row_entry_at, row_next_at}
+use Rattle.lin_hash.specs.RowNodes.{is_used, linked_before, row_node_at, rows_of}
+use Rattle.lin_hash.specs.RowChains.{AreLoose, AreRowsHung, row_entries_from, row_entry_at, row_next_at}
 use Rattle.lin_hash.proofs.InRowBlocks.{used-inside}
 use Rattle.lin_hash.proofs.Joined.{joined}
 use Rattle.lin_hash.proofs.Levels.{bucket_of-inside}

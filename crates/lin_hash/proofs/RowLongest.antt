@@ -1,6 +1,6 @@
 -- The longest chain of rows, by the buckets that they belong to.
 use Rattle.std.proofs.Common.{◌≡◌, ℕ, ◌<◌, ◌≤◌, Bool, ◌==◌, List, [], length, get_or, sym, ap, ◌∙◌, arith}
-use Rattle.std.specs.List.{count_by, EachIndex, SomeIndex}
+use Rattle.std.specs.List.{EachIndex, SomeIndex}
 use Rattle.std.proofs.lemmas.Bool.{eq-eqb, ne_eqb}
 use Rattle.std.proofs.lemmas.List.Sums.{length-filter}
 use Rattle.common_lemmas.proofs.Filters.{filter_all}

@@ -1,5 +1,5 @@
 -- A row that comes into the bucket of its hash, and one that leaves it.
-use Rattle.std.proofs.Common.{◌≡◌, ◌+◌, ◌-◌, ◌^◌, ◌<◌, ◌≤◌, ◌==◌, ℕ, Bool, true, false, Option, None, Some, List, [], ◌∷◌, ◌++◌, length, set, IfSome, refl, sym, ap, ◌∙◌, subst, arith}
+use Rattle.std.proofs.Common.{◌≡◌, ◌-◌, ◌^◌, ◌<◌, ◌==◌, ℕ, true, false, Option, None, Some, List, [], ◌∷◌, ◌++◌, length, set, IfSome, refl, sym, ap, ◌∙◌, subst, arith}
 use Rattle.std.specs.Prelude.{slice_index_or}
 use Rattle.std.specs.List.{Contains}
 use Rattle.std.proofs.lemmas.Bool.{eqb-true}
@@ -7,29 +7,29 @@ use Rattle.std.proofs.lemmas.List.{length-set}
 use Rattle.common_lemmas.proofs.Counts.{member-from_count_by}
 use Rattle.part_raw.specs.declared.tuple_ref.TupleRef.{TupleRef}
 use Rattle.mm_index.specs.Bag.{IsSameBag}
-use Rattle.mm_index.proofs.Bags.{IsSameBag-from_same, IsSameBag-trans}
 use Rattle.lin_hash.specs.Address.{bucket_of}
 use Rattle.lin_hash.specs.declared.node.NodeLink.{NodeLink}
 use Rattle.lin_hash.specs.declared.row_node.RowNode.{RowNode}
 use Rattle.lin_hash.specs.Nodes.{head_at, leads_to, link_to}
 use Rattle.lin_hash.specs.RowNodes.{headed_at, is_used, linked_before, linked_past, loose_node, row_at, row_node_at, rows_of, unused_node}
 use Rattle.lin_hash.specs.RowChains.{AreRowsHung, row_entry_at}
-use Rattle.lin_hash.proofs.InRowBlocks.{used-inside}
 use Rattle.lin_hash.proofs.Levels.{bucket_of-inside}
-use Rattle.lin_hash.proofs.Moves.{count_by-cons}
 use Rattle.lin_hash.proofs.RowHung.{AreRowsHung-entered, AreRowsHung-left, AreRowsHung-link, AreRowsHung-unlink, IsSameBag-entered, IsSameBag-left, entered-node, gone-entry, gone-used, hung-first, hung-inside, hung-split, linked-relinks, next-used, prev-used, unlinked-relinks}
 use Rattle.lin_hash.proofs.RowLinks.{times_at-first}
-use Rattle.lin_hash.proofs.RowsIn.{times_at}
 
--- a row that stands under no hash has no node
-pub free-from_absent : (nodes : List RowNode) (r : TupleRef) → ((h : ℕ) → Contains (rows_of nodes) (h, r) → ⊥) → is_used (row_node_at nodes r.number) ≡ false
-free-from_absent nodes r absent =
-    let used_not : is_used (row_node_at nodes r.number) ≡ true → ⊥ = λ used.
+-- a row that has its node stands under the node's hash
+pub held-from_used : (nodes : List RowNode) (r : TupleRef) → is_used (row_node_at nodes r.number) ≡ true → (h : ℕ) × Contains (rows_of nodes) (h, r)
+held-from_used nodes r used =
     let bag = (IsSameBag-left nodes r.number used).count (λ e. e.1.number == r.number) in
     let first = times_at-first (row_entry_at nodes r.number) (rows_of (set nodes r.number unused_node)) in
     let found = member-from_count_by (λ e. e.1.number == r.number) (rows_of nodes) (omega (arith, bag, first)) in
     let same : found.0.1.number ≡ r.number = eqb-true found.0.1.number r.number found.2 in
-    absent found.0.0 (subst (λ n. Contains (rows_of nodes) (found.0.0, row_at n)) same found.1) in
+    (found.0.0, subst (λ n. Contains (rows_of nodes) (found.0.0, row_at n)) same found.1)
+
+-- a row that stands under no hash has no node
+pub free-from_absent : (nodes : List RowNode) (r : TupleRef) → ((h : ℕ) → Contains (rows_of nodes) (h, r) → ⊥) → is_used (row_node_at nodes r.number) ≡ false
+free-from_absent nodes r absent =
+    let used_not : is_used (row_node_at nodes r.number) ≡ true → ⊥ = λ used. (let held = held-from_used nodes r used in absent held.0 held.1) in
     elim (is_used (row_node_at nodes r.number)) as (λ b. (b ≡ true → ⊥) → b ≡ false) [ true ↦ λ h. absurd (h refl) | false ↦ λ h. refl ] used_not
 
 -- a row comes in

@@ -1,13 +1,10 @@
 -- The rows that have their nodes among these, by the places of the nodes.
-use Rattle.std.proofs.Common.{◌≡◌, ◌≢◌, ℕ, zero, suc, ◌+◌, ◌*◌, ◌<◌, ◌≤◌, ◌==◌, Bool, true, false, cond, List, [], ◌∷◌, ◌++◌, length, get_or, set, refl, sym, ap, ◌∙◌, arith, inl, inr, subst}
+use Rattle.std.proofs.Common.{◌≡◌, ℕ, zero, suc, ◌+◌, ◌<◌, ◌≤◌, ◌==◌, Bool, true, false, cond, List, [], ◌∷◌, ◌++◌, length, set, refl, ap, arith, inl, inr}
 use Rattle.std.specs.List.{count_by}
 use Rattle.std.proofs.lemmas.Bool.Decides.{eqb_tells}
-use Rattle.std.proofs.lemmas.List.{append_assoc, append-nil}
 use Rattle.part_raw.specs.declared.tuple_ref.TupleRef.{TupleRef}
-use Rattle.mm_index.specs.Bag.{IsSameBag}
-use Rattle.lin_hash.specs.declared.node.NodeLink.{NodeLink}
 use Rattle.lin_hash.specs.declared.row_node.RowNode.{RowNode}
-use Rattle.lin_hash.specs.RowNodes.{is_used, row_at, row_node_at, rows_from, rows_of}
+use Rattle.lin_hash.specs.RowNodes.{is_used, row_at, row_node_at, rows_from}
 use Rattle.lin_hash.proofs.Moves.{count_by-cons}
 
 -- 1 where a test passes

@@ -1,19 +1,18 @@
 -- Blocks that come with no memory, that get theirs, and that lose it.
-use Rattle.std.proofs.Common.{◌≡◌, ◌≢◌, ℕ, zero, suc, ◌+◌, ◌-◌, ◌*◌, ◌/◌, ◌<◌, ◌≤◌, ◌==◌, ◌&&◌, true, false, List, [], ◌∷◌, ◌++◌, length, get_or, set, take, drop, map, replicate, None, Some, refl, sym, ap, ◌∙◌, arith, inl, inr, subst}
+use Rattle.std.proofs.Common.{◌≡◌, ℕ, zero, suc, ◌+◌, ◌-◌, ◌<◌, ◌≤◌, ◌==◌, ◌&&◌, true, false, List, [], ◌∷◌, ◌++◌, length, get_or, set, take, drop, replicate, None, Some, refl, sym, ap, ◌∙◌, arith, inl, inr}
 use Rattle.std.specs.Prelude.{is_some}
-use Rattle.std.specs.List.{All, count_by, sum_by}
+use Rattle.std.specs.List.{All, count_by}
 use Rattle.std.proofs.lemmas.Bool.{cases_lt, cases_eq, ne_eqb}
 use Rattle.std.proofs.lemmas.List.{length-append, length-set, length-take-le, get_or_append_left, get_or-append_right, get_or-map, get_or_past, get_or_default, get_or-drop, get_or-set_same, get_or-set_other, length-map, append-nil, take-append-drop}
 use Rattle.std.proofs.lemmas.List.Elements.{All-head, All-tail}
 use Rattle.std.proofs.lemmas.List.Sums.{get_or-le-sum_by, sum_by-set}
-use Rattle.part_raw.specs.declared.tuple_ref.TupleRef.{TupleRef}
 use Rattle.lin_hash.specs.declared.row_block.RowBlock.{RowBlock}
 use Rattle.lin_hash.specs.declared.row_node.RowNode.{RowNode}
-use Rattle.lin_hash.specs.HeldRows.{IsCovered, KeepsRows}
+use Rattle.lin_hash.specs.HeldRows.{KeepsRows}
 use Rattle.lin_hash.specs.RowNodes.{is_used, block_nodes, row_node_at, rows_from, unused_node}
 use Rattle.lin_hash.specs.RowBlocks.{row_nodes_in, covered_by, has_memory, is_spare, IsShed}
 use Rattle.lin_hash.proofs.Moves.{count_by-append, count_by-cons}
-use Rattle.lin_hash.proofs.InRowBlocks.{length-row_nodes_in, row_nodes_in-append, row_nodes_in-alike, at-place, used-inside}
+use Rattle.lin_hash.proofs.InRowBlocks.{row_nodes_in-append, row_nodes_in-alike, used-inside}
 use Rattle.lin_hash.proofs.RowsIn.{one_if, rows-append, rows-none}
 
 -- one block changes

@@ -1,27 +1,23 @@
 -- A node that leaves its chain, a bucket that is folded, and nodes that are linked anew.
-use Rattle.std.proofs.Common.{◌≡◌, ℕ, zero, suc, ◌+◌, ◌-◌, ◌*◌, ◌^◌, ◌<◌, ◌≤◌, ◌==◌, List, [], ◌∷◌, ◌++◌, length, get_or, set, take, replicate, Option, None, Some, IfSome, refl, sym, ap, ◌∙◌, arith, inl, inr, subst}
-use Rattle.std.specs.List.{count_by, sum_by}
+use Rattle.std.proofs.Common.{◌≡◌, ℕ, ◌+◌, ◌^◌, ◌<◌, ◌≤◌, ◌==◌, List, [], ◌∷◌, ◌++◌, length, get_or, set, replicate, Option, None, Some, IfSome, refl, sym, ap, ◌∙◌, arith, subst}
+use Rattle.std.specs.List.{sum_by}
 use Rattle.std.proofs.lemmas.List.Sums.{get_or-le-sum_by}
-use Rattle.std.proofs.Math.Seq.{get_or-append_seam}
-use Rattle.std.proofs.lemmas.Bool.{cases_lt}
-use Rattle.std.proofs.lemmas.List.{length-set, length-append, length-replicate, get_or-replicate, set-get_or, map-append, take_more, take_all, append-nil}
-use Rattle.std.proofs.lemmas.List.Elements.{All-nil}
+use Rattle.std.proofs.lemmas.List.{length-set, length-append, set-get_or, map-append}
 use Rattle.mm_index.specs.Bag.{IsSameBag}
 use Rattle.mm_index.proofs.Bags.{IsSameBag-map, IsSameBag-trans, IsSameBag-from_same, IsSameBag-middle}
-use Rattle.lin_hash.specs.Address.{bucket_by, bucket_of, IsPlaced, IsAddressed}
+use Rattle.lin_hash.specs.Address.{bucket_of}
 use Rattle.lin_hash.specs.declared.node.NodeLink.{NodeLink}
 use Rattle.lin_hash.specs.declared.node.Node.{Node}
-use Rattle.lin_hash.specs.Nodes.{leads_to, no_link, link_to, head_at, node_at, next_at, leading_to, entry_of, entries_of, relinked_behind, relinked_head}
+use Rattle.lin_hash.specs.Nodes.{no_link, link_to, head_at, node_at, next_at, leading_to, entry_of, entries_of, relinked_behind, relinked_head}
 use Rattle.lin_hash.specs.Chains.{Placed, place_of, placed_at, entry_in, all_placed, Stands, IsChain, AreHungBy, AreHung, last_place}
 use Rattle.lin_hash.proofs.Moves.{count_by-append, count_by-cons}
-use Rattle.lin_hash.proofs.Joined.{joined, count_by-joined, count_by-pushed}
+use Rattle.lin_hash.proofs.Joined.{count_by-joined}
 use Rattle.lin_hash.proofs.Placed.{times_at, placed, placed-relinked, entries-placed, entries-relinked}
 use Rattle.lin_hash.proofs.ChainLemmas.{Stands-relinked, IsChain-set, IsChain-unique, IsChain-unlinked, times_at-last}
 use Rattle.lin_hash.proofs.Hung.{IsSameBag-put, IsSameBag-grown, AreHung-grown, AreHung-popped, AreHung-put, Stands-grown, Stands-put, AreHung-link, last_entry, last-there}
 use Rattle.lin_hash.proofs.Rehung.{times_at-others, times_at-most}
 use Rattle.lin_hash.proofs.Hanging.{AreHungBy-without, AreHungBy-empty}
-use Rattle.lin_hash.proofs.Buckets.{IsPlaced-push, IsPlaced-front}
-use Rattle.lin_hash.proofs.Levels.{bucket_of-inside, IsSplit, IsSplit-back, IsSplit-down, IsAddressed-fold, IsAddressed-new}
+use Rattle.lin_hash.proofs.Levels.{bucket_of-inside, IsAddressed-new}
 
 -- each node of a chain stands there
 pub IsChain-stands : (nodes : List Node) (l : NodeLink) (before : List Placed) (x : Placed) (after : List Placed) → IsChain nodes l (before ++ x ∷ after) → Stands nodes x

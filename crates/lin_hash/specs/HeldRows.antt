@@ -1,5 +1,5 @@
 -- What a hash of rows and its parts are seen as.
-use Rattle.std.specs.Prelude.{◌≡◌, ◌/◌, ◌<◌, ℕ, Bool, true, false, IsTrue, List, slice_index_or}
+use Rattle.std.specs.Prelude.{◌≡◌, ◌/◌, ℕ, Bool, true, false, IsTrue, List, slice_index_or}
 use Rattle.part_raw.specs.declared.tuple_ref.TupleRef.{TupleRef}
 use Rattle.lin_hash.specs.declared.row_node.RowNode.{RowNode}
 use Rattle.lin_hash.specs.RowNodes.{is_used, row_node_at, rows_of}

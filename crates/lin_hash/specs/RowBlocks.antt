@@ -1,9 +1,8 @@
 -- The nodes of rows in blocks.
-use Rattle.std.specs.Prelude.{◌≡◌, ◌==◌, ◌&&◌, ◌/◌, ◌⊎◌, ℕ, ◌<◌, Bool, true, false, IsTrue, [], ◌∷◌, ◌++◌, List, is_some, map, slice_index_or}
-use Rattle.part_raw.specs.declared.tuple_ref.TupleRef.{TupleRef}
+use Rattle.std.specs.Prelude.{◌≡◌, ◌==◌, ◌&&◌, ◌⊎◌, Bool, false, [], ◌∷◌, ◌++◌, List, is_some, map}
 use Rattle.lin_hash.specs.declared.row_node.RowNode.{RowNode}
 use Rattle.lin_hash.specs.declared.row_block.RowBlock.{RowBlock}
-use Rattle.lin_hash.specs.RowNodes.{is_used, row_node_at, rows_of, block_nodes}
+use Rattle.lin_hash.specs.RowNodes.{block_nodes}
 
 -- the nodes of the blocks, those of one block after those of another
 abbrev pub row_nodes_in : List RowBlock → List RowNode

@@ -1,5 +1,5 @@
 -- Chains of the nodes of rows, linked both ways, and which rows hang on them.
-use Rattle.std.specs.Prelude.{◌≡◌, ◌≢◌, ◌<◌, ℕ, zero, suc, [], ◌∷◌, List, Option, Some, None, length, MatchOption}
+use Rattle.std.specs.Prelude.{◌≡◌, ◌≢◌, ◌<◌, ℕ, zero, suc, [], ◌∷◌, List, Some, None, length, MatchOption}
 use Rattle.std.specs.Option.{MatchOption-prop}
 use Rattle.std.specs.Coded.{×_prop, Unit-prop, le_prop}
 use Rattle.part_raw.specs.declared.tuple_ref.TupleRef.{TupleRef}

@@ -1,5 +1,5 @@
 -- The nodes of rows, as they are read.
-use Rattle.std.specs.Prelude.{◌==◌, ℕ, ◌+◌, Bool, not, [], ◌∷◌, ◌++◌, List, Option, Some, None, Box, if◌then◌else◌, slice_index_or, slice_set, replicate}
+use Rattle.std.specs.Prelude.{◌==◌, ℕ, ◌+◌, Bool, not, [], ◌∷◌, List, Option, Some, None, Box, if◌then◌else◌, slice_index_or, slice_set, replicate}
 use Rattle.part_raw.specs.declared.tuple_ref.TupleRef.{TupleRef}
 use Rattle.lin_hash.specs.declared.node.NodeLink.{NodeLink}
 use Rattle.lin_hash.specs.declared.row_node.RowNode.{RowNode}

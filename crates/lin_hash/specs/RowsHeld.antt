@@ -1,5 +1,5 @@
 -- A table of rows that may not be there yet, and what is true of the counts of a hash of rows.
-use Rattle.std.specs.Prelude.{◌≡◌, ◌*◌, ◌≤◌, ℕ, Bool, [], List, Option, Some, None, length}
+use Rattle.std.specs.Prelude.{ℕ, Bool, [], List, Option, Some, None}
 use Rattle.part_raw.specs.declared.tuple_ref.TupleRef.{TupleRef}
 use Rattle.lin_hash.specs.HeldRows.{HeldRowTable}
 

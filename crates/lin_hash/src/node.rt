@@ -2,7 +2,7 @@
 //!
 //! A node has an entry and a link to the next node of its chain, or none. A link takes 32 bits, of which one value is kept
 //! for no place, so a table has 2^32 - 1 nodes at most.
-ghost use Rattle.std.specs.Prelude.{◌≡◌, ◌<◌, ◌-◌, ◌^◌};
+ghost use Rattle.std.specs.Prelude.{◌≡◌, ◌==◌, ◌<◌, ◌-◌, ◌^◌};
 ghost use Rattle.lin_hash.specs.Nodes.{leads_to, no_link, unused_link, link_to};
 
 use part_raw::TupleRef;
@@ -31,6 +31,12 @@ impl NodeLink {
         NodeLink {
             place: u32::MAX - 1,
         }
+    }
+
+    pub fn is_unused(self) -> bool
+        ensures { result ≡ (self.place == 4294967294) }
+    {
+        self.place == u32::MAX - 1
     }
 
     pub fn to(place: usize) -> NodeLink

@@ -3,6 +3,7 @@
 //! It counts the rows, so that the table knows when to split and when to fold. Where a row stands is the table's matter. A
 //! new hash has no table, and takes one with its first `reserve` or `cover`.
 ghost use Rattle.std.specs.Prelude.{◌≡◌, ◌+◌, ◌*◌, ◌^◌, ◌-◌, ◌<◌, ◌≤◌, ℕ, [], ◌∷◌, length, Contains, OnOk, OnErr};
+ghost use Rattle.std.specs.Bool.{OnTrue, OnFalse};
 ghost use Rattle.part_raw.specs.declared.tuple_ref.TupleRef.{TupleRef};
 ghost use Rattle.mm_index.specs.Bag.{AppendsBag, IsSameBag, with_hash};
 ghost use Rattle.lin_hash.specs.Held.{StaysOrDoubles};
@@ -99,6 +100,17 @@ impl RowHash {
         match &self.table {
             Some(table) => table.spare_nodes(),
             None => 0,
+        }
+    }
+
+    /// Whether a row stands under some hash: the row may be any.
+    pub fn holds(&self, r: TupleRef) -> bool
+        ensures held { OnTrue result ((hash : ℕ) × Contains self.now.entries (hash, r)) }
+        ensures absent { OnFalse result ((hash : ℕ) → ¬ (Contains self.now.entries (hash, r))) }
+    {
+        match &self.table {
+            Some(table) => table.holds(r),
+            None => false,
         }
     }
 

@@ -1,6 +1,6 @@
 //! The node of a row, which stands at the place of the row's reference.
 ghost use Rattle.std.specs.Prelude.{◌≡◌};
-ghost use Rattle.lin_hash.specs.RowNodes.{unused_node};
+ghost use Rattle.lin_hash.specs.RowNodes.{is_used as is_used_so, unused_node};
 
 use crate::node::NodeLink;
 use std::mem::size_of;
@@ -23,6 +23,13 @@ impl RowNode {
             next: NodeLink::none(),
             prev: NodeLink::unused(),
         }
+    }
+
+    // Whether a row has its node here.
+    pub fn is_used(self) -> bool
+        ensures { result ≡ is_used_so self }
+    {
+        !self.prev.is_unused()
     }
 }
 

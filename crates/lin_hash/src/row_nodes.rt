@@ -125,6 +125,17 @@ impl RowNodes {
         }
     }
 
+    // Whether a row uses the node at a place, which may be any.
+    pub fn holds(&self, place: usize) -> bool
+        ensures { result ≡ is_used (row_node_at self.now.items place) }
+    {
+        let at = place / NODES_A_BLOCK;
+        if at >= self.blocks.len() {
+            return false;
+        }
+        self.get(place).is_used()
+    }
+
     // Another node comes to a place that a row uses.
     pub fn put(&mut self, place: usize, node: RowNode)
         requires held { is_used (row_node_at self.old.items place) ≡ true }

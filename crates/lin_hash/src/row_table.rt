@@ -3,6 +3,7 @@
 //! The head of a bucket links to the first node of its chain. The heads stand in one vector, and each node at the place of
 //! its row. Who counts the rows is not the table's matter: it is told.
 ghost use Rattle.std.specs.Prelude.{◌≡◌, ◌+◌, ◌-◌, ◌*◌, ◌^◌, ◌<◌, ◌≤◌, ℕ, [], ◌∷◌, length, vec_len, vec_capacity, IfOk, OnOk, OnErr, Contains};
+ghost use Rattle.std.specs.Bool.{OnTrue, OnFalse};
 ghost use Rattle.part_raw.specs.declared.tuple_ref.TupleRef.{TupleRef};
 ghost use Rattle.mm_index.specs.Bag.{IsSameBag, with_hash};
 ghost use Rattle.lin_hash.specs.Held.{StaysOrDoubles};
@@ -176,6 +177,14 @@ impl RowTable {
     {
         let bucket = self.address.bucket(hash);
         RowChain::new(hash, self.nodes.as_blocks(), self.heads[bucket])
+    }
+
+    // Whether a row stands under some hash.
+    pub fn holds(&self, r: TupleRef) -> bool
+        ensures held { OnTrue result ((hash : ℕ) × Contains self.now.entries (hash, r)) }
+        ensures absent { OnFalse result ((hash : ℕ) → ¬ (Contains self.now.entries (hash, r))) }
+    {
+        self.nodes.holds(r.number as usize)
     }
 
     // How many rows the longest chain has.

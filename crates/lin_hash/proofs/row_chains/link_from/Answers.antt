@@ -1,7 +1,6 @@
 use Rattle.std.proofs.Common.{◌≡◌, ◌<◌, ◌^◌, ◌-◌, length, None, Some, sym, ap, ◌∙◌, arith}
 use Rattle.std.proofs.lemmas.List.{length-set}
 use Rattle.lin_hash.specs.Nodes.{leads_to}
-use Rattle.lin_hash.specs.RowNodes.{rows_of}
 use Rattle.lin_hash.proofs.RowLinking.{loose-used, loose-inside, loose-bucket, loose-head, loose-step, loose-rows, loose-long, loose-smaller, loose-none}
 use Rattle.lin_hash.proofs.row_chains.link_from.Goals as goal
 

@@ -1,4 +1,4 @@
-use Rattle.std.proofs.Common.{◌≡◌, List, length}
+use Rattle.std.proofs.Common.{◌≡◌, length}
 use Rattle.lin_hash.specs.RowNodes.{rows_of}
 use Rattle.lin_hash.specs.RowChains.{AreLoose, row_entries_from}
 use Rattle.lin_hash.proofs.row_chains.link_from.Given as goal

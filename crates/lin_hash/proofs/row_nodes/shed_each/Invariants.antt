@@ -1,4 +1,4 @@
-use Rattle.std.proofs.Common.{◌≡◌, ◌<◌, ◌≤◌, ℕ, length, get_or}
+use Rattle.std.proofs.Common.{◌≡◌, ◌<◌, ◌≤◌, ℕ, get_or}
 use Rattle.lin_hash.specs.declared.row_block.RowBlock.{RowBlock}
 use Rattle.lin_hash.specs.RowBlocks.{IsShed}
 use Rattle.lin_hash.proofs.row_nodes.shed_each.Given as goal

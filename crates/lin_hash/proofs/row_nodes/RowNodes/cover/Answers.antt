@@ -1,7 +1,6 @@
-use Rattle.std.proofs.Common.{◌≡◌, ◌<◌, ◌/◌, ◌++◌, ◌+◌, ◌^◌, ◌↔◌, Bool, true, false, List, length, get_or, set, ap, sym, refl, ◌∙◌, subst, arith}
+use Rattle.std.proofs.Common.{◌≡◌, ◌/◌, ◌++◌, ◌↔◌, Bool, true, false, List, length, get_or, set, ap, sym, refl, ◌∙◌, subst, arith}
 use Rattle.std.specs.List.{count_by}
 use Rattle.std.proofs.lemmas.List.{length-set}
-use Rattle.part_raw.specs.declared.tuple_ref.TupleRef.{TupleRef}
 use Rattle.lin_hash.specs.declared.row_block.RowBlock.{RowBlock}
 use Rattle.lin_hash.specs.HeldRows.{IsCovered, KeepsRows}
 use Rattle.lin_hash.specs.RowNodes.{row_at}

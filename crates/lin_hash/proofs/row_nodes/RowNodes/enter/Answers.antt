@@ -1,5 +1,4 @@
-use Rattle.std.proofs.Common.{◌≡◌, ◌<◌, ◌/◌, length, ap, sym, ◌∙◌, refl, subst, arith}
-use Rattle.part_raw.specs.declared.tuple_ref.TupleRef.{TupleRef}
+use Rattle.std.proofs.Common.{◌<◌, length, ap, sym, ◌∙◌, refl, subst, arith}
 use Rattle.lin_hash.specs.HeldRows.{IsCovered}
 use Rattle.lin_hash.specs.RowNodes.{is_used, row_at, row_node_at, unused_node, loose_node}
 use Rattle.lin_hash.specs.RowBlocks.{row_nodes_in, covered_by}

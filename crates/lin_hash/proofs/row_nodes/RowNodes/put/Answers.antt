@@ -1,4 +1,4 @@
-use Rattle.std.proofs.Common.{◌≡◌, ◌<◌, ◌/◌, ◌&&◌, ◌==◌, true, length, ap, sym, ◌∙◌, refl, arith}
+use Rattle.std.proofs.Common.{◌≡◌, ◌<◌, ◌/◌, true, length, ap, sym, ◌∙◌, refl, arith}
 use Rattle.lin_hash.specs.RowNodes.{is_used, row_node_at, unused_node}
 use Rattle.lin_hash.specs.RowBlocks.{row_nodes_in, is_spare}
 use Rattle.lin_hash.proofs.InRowBlocks.{length-row_nodes_in, block-inside, at-place, set-place, covered-set, used-inside, used-there}

@@ -1,8 +1,7 @@
-use Rattle.std.proofs.Common.{◌≡◌, ◌≤◌, ◌/◌, false, List, length, get_or, take, ap, sym, ◌∙◌, subst, arith}
+use Rattle.std.proofs.Common.{◌≡◌, ◌≤◌, ◌/◌, false, length, get_or, ap, sym, ◌∙◌, subst, arith}
 use Rattle.std.specs.List.{count_by}
 use Rattle.std.proofs.Math.Seq.{take-append_seam}
-use Rattle.lin_hash.specs.declared.row_block.RowBlock.{RowBlock}
-use Rattle.lin_hash.specs.HeldRows.{IsCovered, KeepsRows}
+use Rattle.lin_hash.specs.HeldRows.{KeepsRows}
 use Rattle.lin_hash.specs.RowBlocks.{covered_by, is_spare, row_nodes_in}
 use Rattle.lin_hash.proofs.InRowBlocks.{length-row_nodes_in}
 use Rattle.lin_hash.proofs.Sheds.{released-keeps, released-spare, released-kept}

@@ -1,7 +1,6 @@
-use Rattle.std.proofs.Common.{◌≡◌, ◌<◌, ◌^◌, ◌-◌, false, length, ap, sym, ◌∙◌, arith}
+use Rattle.std.proofs.Common.{◌≡◌, false, length, ap, ◌∙◌, arith}
 use Rattle.std.proofs.lemmas.List.{with_items_is, length-set}
 use Rattle.lin_hash.specs.RowNodes.{is_used, row_node_at}
-use Rattle.lin_hash.proofs.RowHung.{hung-inside}
 use Rattle.lin_hash.proofs.RowTaking.{free-from_absent, entered-used, entered-bucket, entered-first, added-hung, added-few, added-entries}
 use Rattle.lin_hash.proofs.row_table.RowTable.add.Goals as goal
 use Rattle.lin_hash.proofs.row_table.RowTable.add.Goals.{After-enter}

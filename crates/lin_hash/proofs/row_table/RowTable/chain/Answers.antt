@@ -1,9 +1,7 @@
-use Rattle.std.proofs.Common.{◌≡◌, [], length, get_or, ap, sym, ◌∙◌, subst, arith}
+use Rattle.std.proofs.Common.{◌≡◌, [], length, get_or, ap, ◌∙◌, arith}
 use Rattle.std.proofs.lemmas.List.{get_or_default}
-use Rattle.lin_hash.specs.declared.node.NodeLink.{NodeLink}
-use Rattle.lin_hash.specs.declared.row_node.RowNode.{RowNode}
 use Rattle.lin_hash.specs.Nodes.{head_at, no_link}
-use Rattle.lin_hash.specs.RowChains.{RowsEndWithin, row_entries_from}
+use Rattle.lin_hash.specs.RowChains.{row_entries_from}
 use Rattle.lin_hash.proofs.RowHung.{hung-inside, hung-chain, hung-chain_short, IsSameBag-hung}
 use Rattle.lin_hash.proofs.RowWalks.{RowsEndWithin-from_chain, row_entries_from-chain}
 use Rattle.lin_hash.proofs.row_table.RowTable.chain.Goals as goal

@@ -1,8 +1,8 @@
-use Rattle.std.proofs.Common.{◌≡◌, ◌<◌, ◌^◌, ◌-◌, true, length, ap, sym, ◌∙◌, subst, arith}
+use Rattle.std.proofs.Common.{◌≡◌, length, ap, ◌∙◌, arith}
 use Rattle.std.specs.List.{Contains}
 use Rattle.std.proofs.lemmas.List.{with_items_is}
 use Rattle.lin_hash.specs.Address.{bucket_of}
-use Rattle.lin_hash.specs.RowNodes.{is_used, row_node_at, rows_of}
+use Rattle.lin_hash.specs.RowNodes.{row_node_at, rows_of}
 use Rattle.lin_hash.proofs.InRowBlocks.{used-inside}
 use Rattle.lin_hash.proofs.RowTaking.{held-used, held-next, held-prev, held-bucket, unlinked-used, length-headed, left-hung, left-few, left-entries}
 use Rattle.lin_hash.proofs.row_table.RowTable.take.Goals as goal
