@@ -9,3 +9,5 @@ mod linear_hash;
 mod linked_nodes;
 #[cfg(test)]
 mod partitions;
+#[cfg(test)]
+mod rows_hashed;
