@@ -3,6 +3,8 @@ pub mod KeyedLemmas
 pub mod ListLemmas
 pub mod RangeLemmas
 pub mod SearchLemmas
+pub mod NeighbourLemmas
+pub mod KeepingLemmas
 pub mod KeyLemmas
 pub mod SlotLemmas
 pub mod SortLemmas

@@ -1,5 +1,5 @@
 -- What is read of the rows of relations that are lent, and which of them pass tests.
-use Rattle.std.specs.Prelude.{◌≡◌, ◌==◌, ◌&&◌, Bool, ℕ, ◌<◌, List, Option, Some, None, length, slice_get}
+use Rattle.std.specs.Prelude.{◌≡◌, ◌==◌, ◌&&◌, Bool, not, ℕ, ◌+◌, ◌<◌, List, ◌++◌, Option, Some, None, drop, length, slice_get, take}
 use Rattle.std.specs.List.{All, filter, list_all}
 use Rattle.part_raw.specs.declared.tuple_ref.TupleRef.{TupleRef}
 use Rattle.plain_tables.specs.declared.condition.Op.{Op}
@@ -44,6 +44,14 @@ standing relations s column op value = filter (λ r. stands op (value_in relatio
 -- whether a test bounds the values of a column: it is on that column, by any operator but <>
 abbrev pub bounds : ℕ → Test → Bool
 bounds column test = is_range test.op && (test.column.0 == column)
+
+-- the tests that do not bound a column
+abbrev pub unbounded : ℕ → List Test → List Test
+unbounded column tests = filter (λ t. not (bounds column t)) tests
+
+-- the tests but the one with this number
+abbrev pub all_but : ℕ → List Test → List Test
+all_but n tests = take n tests ++ drop (n + 1) tests
 
 -- whether a value passes each test that bounds its column
 abbrev pub is_between : ℕ → List Test → Value → Bool

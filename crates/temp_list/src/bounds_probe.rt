@@ -13,8 +13,8 @@ use part_raw::TupleRef;
 use plain_tables::{ColumnNumber, Op, StoredValue, Test};
 use std::cmp::Ordering;
 
-// Whether a test bounds the values of a column.
-fn bounds(column: ColumnNumber, test: &Test) -> bool
+/// Whether a test bounds the values of a column.
+pub fn bounds(column: ColumnNumber, test: &Test) -> bool
     ensures { result ≡ bounds_so column.0 test.now }
 {
     !matches!(test.op, Op::Ne) && test.column.0 == column.0

@@ -18,6 +18,7 @@ mod bounds_probe;
 mod keyed;
 pub mod laws;
 mod list;
+mod range;
 mod range_probe;
 mod row;
 pub mod search;
@@ -26,5 +27,5 @@ mod sorting;
 mod standing;
 
 pub use list::TempList;
-pub use selecting::{find_few_rows, find_rows};
+pub use selecting::{find_few_rows, find_rows, select};
 pub use standing::stands;

@@ -5,10 +5,12 @@ ghost use Rattle.mm_relation.specs.State.{IsCurrent, linked_keys};
 ghost use Rattle.mm_relation.specs.Changes.{HasTree, HasHash};
 ghost use Rattle.mm_index.specs.Bag.{AppendsBag, IsSameBag};
 ghost use Rattle.plan_chooser.specs.Plans.{is_range};
+ghost use Rattle.plain_tables.specs.Queries.{stands as stands_so};
 ghost use Rattle.plain_tables.specs.declared.condition.Op.TheVariants as operator;
-ghost use Rattle.temp_list.specs.Reading.{standing, between, HasColumns, value_in, row_passes as row_passes_so, passing as passing_so};
+ghost use Rattle.temp_list.specs.Reading.{standing, between, HasColumns, value_in, row_passes as row_passes_so, passing as passing_so, all_but, unbounded};
 
-use crate::bounds_probe::BoundsProbe;
+use crate::bounds_probe::{BoundsProbe, bounds};
+use crate::range::append_range;
 use crate::range_probe::RangeProbe;
 use crate::standing::{passes, stands};
 use mm_relation::laws::a_relation_is_kept;
@@ -129,6 +131,30 @@ pub fn passing_in_slots<R: Relations>(
     Ok(Some(rows))
 }
 
+// Keeps those of the rows that pass a test, in their order. It is a short loop, in which the reads of rows that lie far apart go side
+// by side.
+fn keep_standing<R: Relations>(
+    tables: &R,
+    relation: &Relation,
+    test: &Test,
+    rows: &mut Vec<TupleRef>,
+)
+    requires held { All (λ r. IsSome (finite.get relation.now.rows r)) rows.old.items }
+    requires current { IsCurrent (linked_keys relation.now.targets (R.tables tables.now)) relation.now }
+    requires within { test.now.column.0 < length relation.now.schema.columns }
+    ensures { rows.new.items ≡ filter (λ r. stands_so test.now.op (value_in (R.tables tables.now) relation.now test.now.column.0 r) test.now.value) rows.old.items }
+{
+    let mut kept = 0;
+    for i in 0..rows.len() {
+        let r = rows[i];
+        if passes(read(tables, relation, r, test.column), test) {
+            rows[kept] = r;
+            kept += 1;
+        }
+    }
+    rows.truncate(kept);
+}
+
 /// Keeps those of the rows that pass the tests, in their order.
 pub fn keep_passing<R: Relations>(
     tables: &R,
@@ -141,15 +167,48 @@ pub fn keep_passing<R: Relations>(
     requires columns { HasColumns relation.now tests.now }
     ensures { rows.new.items ≡ filter (row_passes_so (R.tables tables.now) relation.now tests.now) rows.old.items }
 {
-    let mut kept = 0;
-    for i in 0..rows.len() {
-        let r = rows[i];
-        if passes_all(tables, relation, r, tests) {
-            rows[kept] = r;
-            kept += 1;
-        }
+    for test in tests {
+        keep_standing(tables, relation, test, rows);
     }
-    rows.truncate(kept);
+}
+
+/// Keeps those of the rows that pass the tests but one, in their order.
+pub fn keep_passing_others<R: Relations>(
+    tables: &R,
+    relation: &Relation,
+    tests: &[Test],
+    n: usize,
+    rows: &mut Vec<TupleRef>,
+)
+    requires held { All (λ r. IsSome (finite.get relation.now.rows r)) rows.old.items }
+    requires current { IsCurrent (linked_keys relation.now.targets (R.tables tables.now)) relation.now }
+    requires columns { HasColumns relation.now tests.now }
+    requires there { n < length tests.now }
+    ensures { rows.new.items ≡ filter (row_passes_so (R.tables tables.now) relation.now (all_but n tests.now)) rows.old.items }
+{
+    keep_passing(tables, relation, &tests[..n], rows);
+    keep_passing(tables, relation, &tests[n + 1..], rows);
+}
+
+/// Keeps those of the rows that pass the tests which don't bound a column, in their order.
+pub fn keep_passing_unbounded<R: Relations>(
+    tables: &R,
+    relation: &Relation,
+    column: ColumnNumber,
+    tests: &[Test],
+    rows: &mut Vec<TupleRef>,
+)
+    requires held { All (λ r. IsSome (finite.get relation.now.rows r)) rows.old.items }
+    requires current { IsCurrent (linked_keys relation.now.targets (R.tables tables.now)) relation.now }
+    requires columns { HasColumns relation.now tests.now }
+    ensures { rows.new.items ≡ filter (row_passes_so (R.tables tables.now) relation.now (unbounded column.0 tests.now)) rows.old.items }
+{
+    for test in tests {
+        if bounds(column, test) {
+            continue;
+        }
+        keep_standing(tables, relation, test, rows);
+    }
 }
 
 /// Appends the row that has this key, where there is one. At an error nothing is appended.
@@ -197,7 +256,7 @@ pub fn rows_by_tree<R: Relations>(
         sought: value,
         asked: 0,
     };
-    relation.range_column(column, &mut probe, out)
+    append_range(relation, column, &mut probe, out)
 }
 
 /// Appends the rows whose value in a column with a tree passes each test on it, those by `<>` aside, each once. At an error
@@ -223,7 +282,7 @@ pub fn rows_between<R: Relations>(
         tests,
         asked: 0,
     };
-    relation.range_column(column, &mut probe, out)
+    append_range(relation, column, &mut probe, out)
 }
 
 /// Appends the rows whose value in a column with a hash equals this value, each once. At an error nothing is appended.

@@ -3,11 +3,13 @@ ghost use Rattle.std.specs.Prelude.{◌<◌, IfOk, IfSome, length};
 ghost use Rattle.plan_chooser.specs.Plans.{Fits};
 ghost use Rattle.plan_chooser.specs.declared.plans.SelectPlan.TheVariants as plans;
 ghost use Rattle.temp_list.specs.Reading.{AreSound, OfRelation, HasColumns};
-ghost use Rattle.temp_list.specs.Selecting.{AreSelected};
+ghost use Rattle.temp_list.specs.Selecting.{AreSelected, IsSelected};
 
 use crate::keyed::has_integer_keys;
+use crate::list::TempList;
 use crate::search::{
-    keep_passing, passing, passing_in_slots, rows_between, rows_by_hash, rows_by_tree,
+    keep_passing_others, keep_passing_unbounded, passing, passing_in_slots, rows_between,
+    rows_by_hash, rows_by_tree,
 };
 use mm_relation::laws::a_relation_is_kept;
 use mm_relation::{Relation, Relations};
@@ -93,7 +95,7 @@ fn find_by_hash<R: Relations>(
         &test.value.sought(),
         &mut found,
     )?;
-    keep_passing(tables, relation, tests, &mut found);
+    keep_passing_others(tables, relation, tests, n, &mut found);
     Ok(found)
 }
 
@@ -123,7 +125,7 @@ fn find_by_one_test<R: Relations>(
         &test.value.sought(),
         &mut found,
     )?;
-    keep_passing(tables, relation, tests, &mut found);
+    keep_passing_others(tables, relation, tests, n, &mut found);
     Ok(found)
 }
 
@@ -146,7 +148,7 @@ fn find_between<R: Relations>(
     let test = &tests[n];
     let mut found = Vec::new(alloc);
     rows_between(tables, relation, test.column, tests, &mut found)?;
-    keep_passing(tables, relation, tests, &mut found);
+    keep_passing_unbounded(tables, relation, test.column, tests, &mut found);
     Ok(found)
 }
 
@@ -192,4 +194,22 @@ pub fn find_rows<R: Relations>(
         SelectPlan::Hash(n) => find_by_hash(alloc, tables, table, tests, n),
         SelectPlan::Tree(n) => find_by_tree(alloc, tables, table, tests, n),
     }
+}
+
+/// A list of the rows of a table that pass the tests, each once, in any order, found by a plan that fits. It shows no columns.
+pub fn select<R: Relations>(
+    alloc: Global,
+    tables: &R,
+    table: TableNumber,
+    plan: SelectPlan,
+    tests: &[Test],
+) -> Result<TempList, NoMemory>
+    requires sound { AreSound (R.tables tables.now) }
+    requires there { table.0 < length (R.tables tables.now) }
+    requires columns { OfRelation (R.tables tables.now) table.0 (λ s. HasColumns s tests.now) }
+    requires fits { OfRelation (R.tables tables.now) table.0 (λ s. Fits s tests.now plan) }
+    ensures { IfOk result (λ l. OfRelation (R.tables tables.now) table.0 (λ s. IsSelected (R.tables tables.now) table.0 s tests.now l)) }
+{
+    let rows = find_rows(alloc, tables, table, plan, tests)?;
+    TempList::of_rows(alloc, table, rows.as_slice())
 }
