@@ -1,0 +1,165 @@
+"""Commands on four times the rows take some four times as long, whatever values the indexes hold: the patterns of growth.py are
+counted in instructions, which valgrind does, and in large sizes (`tests/fire growth`) in a processor's time. There some are
+held against times of their own as well, the expiry of sessions against SQLite's, and the memory of a row against what it may be.
+
+The environment says in large sizes how many rows the smaller tables have: MMDB_ROWS.
+"""
+
+import math
+import random
+import shutil
+import sqlite3
+import time
+import unittest
+
+import growth
+import holding
+import sizes
+
+FEW = sizes.said("MMDB_ROWS", sizes.size(1_000, 100_000))
+MANY = 4 * FEW
+# A pattern grows by this power of its rows at most, of times by a greater one, since large tables leave the caches behind; and it
+# takes at most so many times what it takes on differing values.
+MOST_POWER = sizes.size(1.3, 1.6)
+MOST_RATIO = 1.5
+# A time is the least of some rounds, and a shorter one than this is taken for it.
+ROUNDS = 3
+ROUNDS_OF_FEW = 9
+LEAST = 0.001
+# All rows of one value go in so many seconds at most, single ones among equals in at most so many times what they take among
+# differing ones, and a row in three indexes holds at most so many bytes.
+MOST_SECONDS = 1
+MOST_AMONG_EQUALS = 1.3
+MOST_BYTES = 100
+METER = growth.Meter()
+
+
+def tearDownModule():
+    METER.close()
+
+
+def pairs(asked):
+    """The pairs of patterns at numbers of rows."""
+    return [pattern.pair(rows) for pattern, rows in asked]
+
+
+def ratio(taken, other):
+    """How many times another what is taken is; counts of instructions are all above the least time."""
+    return max(taken, LEAST) / max(other, LEAST)
+
+
+def tell(what):
+    print(what, flush=True)
+
+
+@unittest.skipUnless(sizes.is_large or shutil.which("valgrind"), "valgrind counts the instructions")
+class Patterns(unittest.TestCase):
+    @classmethod
+    def setUpClass(cls):
+        cls.patterns = growth.patterns()
+        asked = [(pattern, rows) for pattern in cls.patterns for rows in (FEW, MANY)]
+        cls.taken = cls.timed(asked) if sizes.is_large else dict(zip(asked, METER.instructions(pairs(asked))))
+
+    @classmethod
+    def timed(cls, asked):
+        """The seconds of each pattern at each number of rows. Those that are compared with the same take their turns."""
+        taken = {}
+        for partner in dict.fromkeys(pattern.partner() for pattern in cls.patterns):
+            group = [(pattern, rows) for pattern, rows in asked if pattern.partner() == partner]
+            taken.update(zip(group, METER.seconds(pairs(group), ROUNDS)))
+            for pattern, rows in group:
+                tell(f"{pattern}: {taken[pattern, rows]:.4f} s at {rows} rows")
+        return taken
+
+    def test_no_pattern_grows_by_the_square(self):
+        for pattern in self.patterns:
+            with self.subTest(pattern=str(pattern)):
+                times = ratio(self.taken[pattern, MANY], self.taken[pattern, FEW])
+                self.assertLessEqual(math.log(times, MANY / FEW), MOST_POWER)
+
+    def test_equal_values_take_as_long_as_differing_ones(self):
+        for pattern in filter(growth.Pattern.is_hashed, self.patterns):
+            for rows in (FEW, MANY):
+                with self.subTest(pattern=str(pattern), rows=rows):
+                    self.assertLessEqual(ratio(self.taken[pattern, rows], self.taken[pattern.partner(), rows]), MOST_RATIO)
+
+
+@unittest.skipUnless(sizes.is_large, "it tells times, in large sizes")
+class Times(unittest.TestCase):
+    def test_all_rows_of_one_value_go(self):
+        (taken,) = METER.seconds(pairs([(growth.Pattern("delete all", "hash", "one", "rising"), MANY)]))
+        tell(f"{MANY} rows of one value go in {taken:.3f} s")
+        self.assertLessEqual(taken, MOST_SECONDS)
+
+    def test_rows_go_among_equals(self):
+        of_one = growth.Pattern("delete of few", "hash", "one", "random")
+        equal, differing = METER.seconds(pairs([(of_one, FEW), (of_one.partner(), FEW)]), ROUNDS_OF_FEW)
+        tell(f"{FEW // growth.EQUAL} of {FEW} rows go by their keys in {equal:.6f} s among equals, else in {differing:.6f} s")
+        self.assertLessEqual(equal, MOST_AMONG_EQUALS * differing)
+
+
+@unittest.skipUnless(sizes.is_large, "it tells times, in large sizes")
+class Sessions(unittest.TestCase):
+    """Sessions of which half are anonymous, under a hash of the user and a tree of the time: a tenth expires."""
+
+    @classmethod
+    def setUpClass(cls):
+        count = 2 * FEW
+        ends = random.Random(growth.SEED).sample(range(count), count)
+        cls.rows = [(key, f"user {key}" if key % 2 else "", end) for key, end in enumerate(ends)]
+        cls.end = count // 10
+
+    def mmdb(self):
+        block = b"id,user,until\n" + b"".join(b"%d,%s,%d\n" % (key, user.encode(), end) for key, user, end in self.rows)
+        before = b"table session (id int, user text, until int)\nindex session user hash\nindex session until tree\n"
+        before += b"load session %d\n" % len(block) + block
+        (taken,) = METER.seconds([growth.Pair(before, b"delete session where until < %d\n" % self.end)])
+        return taken
+
+    def sqlite(self):
+        with sqlite3.connect(":memory:") as database:
+            database.execute("create table session (id integer primary key, user text, until int)")
+            database.execute("create index user on session (user)")
+            database.execute("create index until on session (until)")
+            database.executemany("insert into session values (?, ?, ?)", self.rows)
+        began = time.process_time()
+        self.assertEqual(database.execute("delete from session where until < ?", [self.end]).rowcount, self.end)
+        database.commit()
+        return time.process_time() - began
+
+    def test_expiry(self):
+        ours, theirs = (min(expire() for _ in range(ROUNDS)) for expire in (self.mmdb, self.sqlite))
+        tell(f"{self.end} of {len(self.rows)} sessions expire in {ours:.4f} s, in SQLite in {theirs:.4f} s")
+        self.assertLessEqual(ours, theirs)
+
+
+@unittest.skipUnless(sizes.is_large, "large sizes")
+class Memory(unittest.TestCase):
+    """A row of four columns has entries in the tree of its key, in a declared tree and in a hash."""
+
+    TABLE = b"table t (id int, n int, h int, s text)\nindex t n tree\nindex t h hash\n"
+
+    @classmethod
+    def setUpClass(cls):
+        cls.counter = holding.Counter()
+        cls.addClassCleanup(cls.counter.close)
+
+    def check(self, count, hashed):
+        keys = random.Random(growth.SEED).sample(range(count), count)
+        rows = [(key, 7 * key % count, hashed(key), key % 100) for key in keys]
+        inserts = growth.each(b"insert t (%d, %d, %d, 'text %d')\n", rows)
+        ended, out, held = self.counter.run([holding.FRONT + self.TABLE, holding.MARK, inserts, holding.MARK])
+        self.assertEqual((ended.status, out.count(b"ok 1\n")), (0, count))
+        row = (held[1] - held[0]) / count
+        tell(f"a row in three indexes takes {row:.1f} bytes at {count} rows")
+        self.assertLessEqual(row, MOST_BYTES)
+
+    def test_rows_of_differing_values(self):
+        for count in (FEW, 10 * FEW):
+            with self.subTest(count=count):
+                self.check(count, lambda key: key)
+
+    def test_rows_of_one_value(self):
+        for count in (FEW, 10 * FEW):
+            with self.subTest(count=count):
+                self.check(count, lambda key: 0)
