@@ -75,11 +75,7 @@ impl IndexOn {
         let column = self.column;
         match &mut self.index {
             Index::Tree(tree) => {
-                let order = ColumnOrder {
-                    rows,
-                    others,
-                    column,
-                };
+                let order = ColumnOrder::beside(rows, others, column, r);
                 tree.insert(&mut OrderProbe::new(&order, r));
             }
             Index::Hash(hash) => hash.insert(hash_in(rows, others, column, r), r),
@@ -95,11 +91,7 @@ impl IndexOn {
         let column = self.column;
         match &mut self.index {
             Index::Tree(tree) => {
-                let order = ColumnOrder {
-                    rows,
-                    others,
-                    column,
-                };
+                let order = ColumnOrder::beside(rows, others, column, r);
                 tree.remove(&mut OrderProbe::new(&order, r));
             }
             Index::Hash(hash) => hash.remove(hash_in(rows, others, column, r), r),
