@@ -11,11 +11,12 @@ use Rattle.lin_hash.specs.Address.{bucket_of}
 use Rattle.lin_hash.specs.declared.node.NodeLink.{NodeLink}
 use Rattle.lin_hash.specs.declared.node.Node.{Node}
 use Rattle.lin_hash.specs.Nodes.{leads_to, link_to, head_at, node_at, next_at, leading_to}
-use Rattle.lin_hash.specs.Chains.{Placed, place_of, placed_at, all_placed, Stands, IsChain, AreChains, AreHung}
+use Rattle.lin_hash.specs.Chains.{Placed, place_of, placed_at, all_placed, Stands, IsChain, AreChains, AreHung, AreHungBy}
 use Rattle.lin_hash.proofs.Moves.{count_by-append, count_by-cons}
 use Rattle.lin_hash.proofs.Joined.{joined, count_by-joined, joined-added}
 use Rattle.lin_hash.proofs.Placed.{one_if, times_at, times_at-once, placed, placed-relinked, placed-push, count_by-placed_set}
 use Rattle.lin_hash.proofs.ChainLemmas.{leads_to-link, times_at-first, Stands-relinked, IsChain-set, IsChain-grown, IsChain-front}
+use Rattle.lin_hash.proofs.Hanging.{AreHungBy-link}
 use Rattle.lin_hash.proofs.Levels.{bucket_of-inside, IsAddressed-added}
 
 -- what is not in all chains is in none of them
@@ -31,63 +32,6 @@ AreChains-set nodes heads chains p n none h = record {
   number = h.number;
   each = λ i inside. IsChain-set nodes p n (head_at heads i) (get_or chains i []) (times_at-chain p chains i inside none) (h.each i inside);
 }
-
--- where one chain changes
-pub AreChains-change : (nodes now : List Node) (heads : List NodeLink) (chains : List (List Placed)) (b : ℕ) (l : NodeLink) (es : List Placed) → b < length chains → AreChains nodes heads chains → ((i : ℕ) → i < length chains → i ≢ b → IsChain now (head_at heads i) (get_or chains i [])) → IsChain now l es → AreChains now (set heads b l) (set chains b es)
-AreChains-change nodes now heads chains b l es inside h others new =
-    let number = h.number in
-    record {
-      number = length-set heads b l ∙ number ∙ sym (length-set chains b es);
-      each = λ i within.
-          elim (cases_eq i b) [
-            | inl same ↦
-                let head : head_at (set heads b l) i ≡ l = rw same (get_or-set_same heads b l _ (omega arith)) in
-                let chain : get_or (set chains b es) i [] ≡ es = rw same (get_or-set_same chains b es [] inside) in
-                rw (head, chain) new
-            | inr apart ↦
-                let head : head_at (set heads b l) i ≡ head_at heads i = get_or-set_other heads b i l _ apart in
-                let chain : get_or (set chains b es) i [] ≡ get_or chains i [] = get_or-set_other chains b i es [] apart in
-                rw (head, chain) (others i (rw length-set at within) apart)
-          ];
-    }
-
--- a bucket more at the end
-pub AreChains-push : (nodes : List Node) (heads : List NodeLink) (chains : List (List Placed)) (l : NodeLink) → leads_to l ≡ None → AreChains nodes heads chains → AreChains nodes (heads ++ l ∷ []) (chains ++ [] ∷ [])
-AreChains-push nodes heads chains l none h =
-    let number = h.number in
-    let more_heads = length-append heads (l ∷ []) in
-    let more_chains = length-append chains ([] ∷ []) in
-    record {
-      number = omega (arith, number, more_heads, more_chains);
-      each = λ i within.
-          elim (cases_lt i (length chains)) [
-            | inl below ↦
-                let head : head_at (heads ++ l ∷ []) i ≡ head_at heads i = get_or_append_left heads (l ∷ []) _ i (omega arith) in
-                let chain : get_or (chains ++ [] ∷ []) i [] ≡ get_or chains i [] = get_or_append_left chains ([] ∷ []) [] i below in
-                rw (head, chain) (h.each i below)
-            | inr from ↦
-                let at : i ≡ length heads = omega arith in
-                let here : i ≡ length chains = omega arith in
-                let head : head_at (heads ++ l ∷ []) i ≡ l = rw at (get_or-append_seam heads l [] _) in
-                let chain : get_or (chains ++ [] ∷ []) i [] ≡ [] = rw here (get_or-append_seam chains [] [] []) in
-                rw (head, chain) none
-          ];
-    }
-
--- and one less
-pub AreChains-front : (nodes : List Node) (heads : List NodeLink) (l : NodeLink) (chains : List (List Placed)) (last : List Placed) → AreChains nodes (heads ++ l ∷ []) (chains ++ last ∷ []) → AreChains nodes heads chains
-AreChains-front nodes heads l chains last h =
-    let number = h.number in
-    let more_heads = length-append heads (l ∷ []) in
-    let more_chains = length-append chains (last ∷ []) in
-    let same : length heads ≡ length chains = omega (arith, number, more_heads, more_chains) in
-    record {
-      number = same;
-      each = λ i below.
-          let head : head_at (heads ++ l ∷ []) i ≡ head_at heads i = get_or_append_left heads (l ∷ []) _ i (omega arith) in
-          let chain : get_or (chains ++ last ∷ []) i [] ≡ get_or chains i [] = get_or_append_left chains (last ∷ []) [] i below in
-          rw (head, chain) at (h.each i (omega (arith, more_chains)));
-    }
 
 module _ (level mark : ℕ) (nodes : List Node) (heads : List NodeLink) (e : Placed) (loose : List Placed) (h : AreHung level mark nodes heads (e ∷ loose)) where
   -- a loose node hangs nowhere, and is loose once
@@ -118,21 +62,9 @@ module _ (level mark : ℕ) (nodes : List Node) (heads : List NodeLink) (e : Pla
       let now : next_at (set nodes p n) p ≡ head_at heads b = ap (λ m. m.next) (get_or-set_same nodes p n _ there) in
       let front : IsChain (set nodes p n) (link_to p) (e ∷ get_or h.chains b []) =
       (leads_to-link p few, Stands-relinked nodes p (head_at heads b) e stands, subst (λ (k : NodeLink). IsChain (set nodes p n) k (get_or h.chains b [])) (sym now) (IsChain-set nodes p n (head_at heads b) (get_or h.chains b []) away behind)) in
-      record {
-        chains = set h.chains b (e ∷ get_or h.chains b []);
-        linked =
-            AreChains-change nodes (set nodes p n) heads h.chains b (link_to p) (e ∷ get_or h.chains b []) inside h.linked
-            (λ i within apart. (AreChains-set nodes heads h.chains p n chains-without h.linked).each i within) front;
-        held =
-            record {
-              count = λ test.
-                  let added = (joined-added h.chains b inside e (e ∷ get_or h.chains b []) refl).count test in
-                  let was = h.held.count test in
-                  let same : count_by test (all_placed (set nodes p n)) ≡ count_by test (all_placed nodes) = ap (count_by test) (placed-relinked 0 nodes p (head_at heads b)) in
-                  omega (arith, added, was, same, count_by-append test loose (joined (set h.chains b (e ∷ get_or h.chains b []))), count_by-append test (e ∷ loose) (joined h.chains), count_by-cons test e loose, count_by-cons test e (joined h.chains));
-            };
-        addressed = IsAddressed-added level mark h.chains h.addressed e b (e ∷ get_or h.chains b []) at refl;
-      }
+      let linked = AreHungBy-link (IsChain nodes) (IsChain (set nodes p n)) level mark heads e loose (all_placed nodes) h b (link_to p) at
+      (λ i within apart. (AreChains-set nodes heads h.chains p n chains-without h.linked).each i within) front in
+      subst (AreHungBy (IsChain (set nodes p n)) level mark (set heads b (link_to p)) loose) (sym (placed-relinked 0 nodes p (head_at heads b))) linked
 
 -- the same, as the code says it
 pub AreHung-link : (level mark : ℕ) (nodes : List Node) (heads : List NodeLink) (e : Placed) (loose : List Placed) (h : AreHung level mark nodes heads (e ∷ loose)) → Stands nodes e → length nodes < 2 ^ 32 → (now : List Node) (now_heads : List NodeLink) → now ≡ set nodes (place_of e) (leading_to (node_at nodes (place_of e)) (head_at heads (bucket_of level mark (node_at nodes (place_of e)).hash))) → now_heads ≡ set heads (bucket_of level mark (node_at nodes (place_of e)).hash) (link_to (place_of e)) → AreHung level mark now now_heads loose

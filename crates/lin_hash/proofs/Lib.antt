@@ -1,6 +1,11 @@
 pub mod Addresses
 pub mod InBlocks
+pub mod InRowBlocks
+pub mod RowWalks
+pub mod RowsIn
+pub mod Sheds
 pub mod Buckets
+pub mod Hanging
 pub mod Hung
 pub mod Joined
 pub mod Levels
@@ -10,5 +15,10 @@ pub mod ChainLemmas
 pub mod Moves
 pub mod Placed
 pub mod Rehung
+pub mod RowLinks
+pub mod RowTaking
+pub mod RowLongest
+pub mod RowLinking
+pub mod RowHung
 pub mod Taken
 pub mod Walks

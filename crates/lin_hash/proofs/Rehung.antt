@@ -18,7 +18,6 @@ use Rattle.lin_hash.specs.Chains.{Placed, place_of, placed_at, entry_in, all_pla
 use Rattle.lin_hash.proofs.Moves.{count_by-append, count_by-cons}
 use Rattle.lin_hash.proofs.Joined.{joined, count_by-joined, count_by-set, count_by-pushed, joined-taken}
 use Rattle.lin_hash.proofs.Placed.{times_at, times_at-once, entries-placed, length-placed, placed-there}
-use Rattle.lin_hash.proofs.Hung.{AreChains-change, AreChains-push}
 use Rattle.lin_hash.proofs.Buckets.{IsPlaced-set}
 use Rattle.lin_hash.proofs.Levels.{bucket_of-inside, mark-inside, with_hash-bucket, IsAddressed-taken, IsAddressed-split, IsAddressed-split_up}
 
@@ -104,94 +103,3 @@ module _ (level mark : ℕ) (nodes : List Node) (heads : List NodeLink) (h : Are
       let stands : Stands nodes (hash, found.0) = subst (Stands nodes) held.2 (chain-stands nodes (head_at heads b) (get_or h.chains b []) chain held.0 (hash, found.0) held.1) in
       let same : (hash, found.0) ≡ placed_at nodes p = sym stands.is ∙ ap (placed_at nodes) (eqb-true found.0.1 p found.2) in
       (get_or h.chains b [], chain, hung-chain_short hash b at, subst (Contains (get_or h.chains b [])) same held)
-
-  -- a node leaves its chain
-  pub AreHung-without : (b : ℕ) (x : Placed) (before after : List Placed) (q_nodes : List Node) (l : NodeLink) → b < length h.chains → b ≡ bucket_of level mark x.0 → get_or h.chains b [] ≡ before ++ x ∷ after → all_placed q_nodes ≡ all_placed nodes → ((i : ℕ) → i < length h.chains → i ≢ b → IsChain q_nodes (head_at heads i) (get_or h.chains i [])) → IsChain q_nodes l (before ++ after) → AreHung level mark q_nodes (set heads b l) (x ∷ [])
-  AreHung-without b x before after q_nodes l inside at is same others new =
-      let bag : IsSameBag (get_or h.chains b []) (x ∷ (before ++ after)) = rw is (IsSameBag-middle before after x) in
-      record {
-        chains = set h.chains b (before ++ after);
-        linked = AreChains-change nodes q_nodes heads h.chains b l (before ++ after) inside h.linked others new;
-        held =
-            record {
-              count = λ test.
-                  let taken = (joined-taken h.chains b inside x (before ++ after) bag).count test in
-                  let held = h.held.count test in
-                  let kept : count_by test (all_placed q_nodes) ≡ count_by test (all_placed nodes) = ap (count_by test) same in
-                  omega (arith, taken, held, kept, count_by-append test (x ∷ []) (joined (set h.chains b (before ++ after))), count_by-cons test x [], count_by-cons test x (joined (set h.chains b (before ++ after))));
-            };
-        addressed = IsAddressed-taken level mark h.chains h.addressed x b (before ++ after) at bag;
-      }
-
--- a bucket that was emptied, and its nodes are loose
-module _ (level mark : ℕ) (nodes : List Node) (heads : List NodeLink) (h : AreHung level mark nodes heads []) where
-  emptied : IsAddressed level mark (set h.chains mark [])
-  emptied = record {
-    low = h.addressed.low;
-    marked = h.addressed.marked;
-    number = length-set h.chains mark [] ∙ h.addressed.number;
-    placed = IsPlaced-set (4 * 2 ^ level) mark h.chains mark [] (mark-inside level mark h.chains h.addressed) h.addressed.placed (All-nil (λ e. bucket_by (4 * 2 ^ level) mark e.0 ≡ mark));
-  }
-
-  pub split-inside : mark < length heads
-  split-inside = let m = mark-inside level mark h.chains h.addressed in let number = h.linked.number in omega (arith, m, number)
-
-  pub split-chain : IsChain nodes (head_at heads mark) (get_or h.chains mark [])
-  split-chain = h.linked.each mark (mark-inside level mark h.chains h.addressed)
-
-  module _ (l k : NodeLink) (l_none : leads_to l ≡ None) (k_none : leads_to k ≡ None) where
-    split-linked : AreChains nodes (set heads mark l ++ k ∷ []) (set h.chains mark [] ++ [] ∷ [])
-    split-linked =
-        AreChains-push nodes (set heads mark l) (set h.chains mark []) k k_none
-        (AreChains-change nodes nodes heads h.chains mark l [] (mark-inside level mark h.chains h.addressed) h.linked (λ i inside apart. h.linked.each i inside) l_none)
-
-    split-held : IsSameBag (get_or h.chains mark [] ++ joined (set h.chains mark [] ++ [] ∷ [])) (all_placed nodes)
-    split-held = record {
-      count = λ test.
-          let held = h.held.count test in
-          let gone = count_by-set test h.chains mark [] (mark-inside level mark h.chains h.addressed) in
-          let more = count_by-pushed test (set h.chains mark []) [] in
-          omega (arith, held, gone, more, count_by-append test (get_or h.chains mark []) (joined (set h.chains mark [] ++ [] ∷ [])));
-    }
-
-    none_left : IsSameBag (get_or (set h.chains mark []) mark []) ([] ++ [])
-    none_left = IsSameBag-from_same _ _ (get_or-set_same h.chains mark [] [] (mark-inside level mark h.chains h.addressed))
-
-    split-upper : length (set h.chains mark []) ≡ length h.chains
-    split-upper = length-set h.chains mark []
-
-    -- the mark moves on
-    pub AreHung-split : mark + 1 < 4 * 2 ^ level → AreHung level (mark + 1) nodes (set heads mark l ++ k ∷ []) (get_or h.chains mark [])
-    AreHung-split next =
-        let up = IsAddressed-split level mark (set h.chains mark []) emptied (4 * 2 ^ level) (length (set h.chains mark [])) refl refl [] [] none_left (All-nil (λ e. e.0 % (2 * (4 * 2 ^ level)) ≢ length (set h.chains mark []))) (All-nil (λ e. e.0 % (2 * (4 * 2 ^ level)) ≡ length (set h.chains mark []))) (λ e. absurd (omega arith)) in
-        record {
-          chains = set h.chains mark [] ++ [] ∷ [];
-          linked = split-linked;
-          held = split-held;
-          addressed = rw (set-set h.chains mark [] []) at up;
-        }
-
-    -- the level rises
-    pub AreHung-split_up : mark + 1 ≡ 4 * 2 ^ level → length heads < 2 ^ 32 → AreHung (level + 1) 0 nodes (set heads mark l ++ k ∷ []) (get_or h.chains mark [])
-    AreHung-split_up whole few =
-        let number = h.linked.number in
-        let longer = split-upper in
-        let up = IsAddressed-split_up level mark (set h.chains mark []) emptied (4 * 2 ^ level) (length (set h.chains mark [])) refl refl [] [] none_left (All-nil (λ e. e.0 % (2 * (4 * 2 ^ level)) ≢ length (set h.chains mark []))) (All-nil (λ e. e.0 % (2 * (4 * 2 ^ level)) ≡ length (set h.chains mark []))) whole (omega (arith, number, longer, few)) in
-        record {
-          chains = set h.chains mark [] ++ [] ∷ [];
-          linked = split-linked;
-          held = split-held;
-          addressed = rw (set-set h.chains mark [] []) at up;
-        }
-
-    -- as the address says
-    pub AreHung-raised : (up on : ℕ) → (mark + 1 < 4 * 2 ^ level → (up ≡ level) × (on ≡ mark + 1)) → (mark + 1 ≡ 4 * 2 ^ level → (up ≡ level + 1) × (on ≡ 0)) → length heads < 2 ^ 32 → AreHung up on nodes (set heads mark l ++ k ∷ []) (get_or h.chains mark [])
-    AreHung-raised up on next doubled few =
-        let marked = h.addressed.marked in
-        elim (cases_lt (mark + 1) (4 * 2 ^ level)) [
-          | inl below ↦ let n = next below in rw (n.0, n.1) (AreHung-split below)
-          | inr from ↦
-              let whole : mark + 1 ≡ 4 * 2 ^ level = omega (arith, marked) in
-              let n = doubled whole in
-              rw (n.0, n.1) (AreHung-split_up whole few)
-        ]

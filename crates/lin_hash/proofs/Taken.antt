@@ -7,18 +7,19 @@ use Rattle.std.proofs.lemmas.Bool.{cases_lt}
 use Rattle.std.proofs.lemmas.List.{length-set, length-append, length-replicate, get_or-replicate, set-get_or, map-append, take_more, take_all, append-nil}
 use Rattle.std.proofs.lemmas.List.Elements.{All-nil}
 use Rattle.mm_index.specs.Bag.{IsSameBag}
-use Rattle.mm_index.proofs.Bags.{IsSameBag-map, IsSameBag-trans, IsSameBag-from_same}
+use Rattle.mm_index.proofs.Bags.{IsSameBag-map, IsSameBag-trans, IsSameBag-from_same, IsSameBag-middle}
 use Rattle.lin_hash.specs.Address.{bucket_by, bucket_of, IsPlaced, IsAddressed}
 use Rattle.lin_hash.specs.declared.node.NodeLink.{NodeLink}
 use Rattle.lin_hash.specs.declared.node.Node.{Node}
 use Rattle.lin_hash.specs.Nodes.{leads_to, no_link, link_to, head_at, node_at, next_at, leading_to, entry_of, entries_of, relinked_behind, relinked_head}
-use Rattle.lin_hash.specs.Chains.{Placed, place_of, placed_at, entry_in, all_placed, Stands, IsChain, AreChains, AreHung, last_place}
+use Rattle.lin_hash.specs.Chains.{Placed, place_of, placed_at, entry_in, all_placed, Stands, IsChain, AreHungBy, AreHung, last_place}
 use Rattle.lin_hash.proofs.Moves.{count_by-append, count_by-cons}
 use Rattle.lin_hash.proofs.Joined.{joined, count_by-joined, count_by-pushed}
 use Rattle.lin_hash.proofs.Placed.{times_at, placed, placed-relinked, entries-placed, entries-relinked}
 use Rattle.lin_hash.proofs.ChainLemmas.{Stands-relinked, IsChain-set, IsChain-unique, IsChain-unlinked, times_at-last}
-use Rattle.lin_hash.proofs.Hung.{AreChains-front, IsSameBag-put, IsSameBag-grown, AreHung-grown, AreHung-popped, AreHung-put, Stands-grown, Stands-put, AreHung-link, last_entry, last-there}
-use Rattle.lin_hash.proofs.Rehung.{times_at-others, times_at-most, AreHung-without}
+use Rattle.lin_hash.proofs.Hung.{IsSameBag-put, IsSameBag-grown, AreHung-grown, AreHung-popped, AreHung-put, Stands-grown, Stands-put, AreHung-link, last_entry, last-there}
+use Rattle.lin_hash.proofs.Rehung.{times_at-others, times_at-most}
+use Rattle.lin_hash.proofs.Hanging.{AreHungBy-without, AreHungBy-empty}
 use Rattle.lin_hash.proofs.Buckets.{IsPlaced-push, IsPlaced-front}
 use Rattle.lin_hash.proofs.Levels.{bucket_of-inside, IsSplit, IsSplit-back, IsSplit-down, IsAddressed-fold, IsAddressed-new}
 
@@ -50,16 +51,18 @@ module _ (level mark : ℕ) (nodes : List Node) (heads : List NodeLink) (h : Are
       let bucket : times_at q (get_or h.chains b []) ≤ sum_by (times_at q) h.chains = get_or-le-sum_by (times_at q) h.chains b [] inside in
       let all = count_by-joined (λ d. place_of d == q) h.chains in
       let n : Node = leading_to (node_at nodes q) (next_at nodes (place_of x)) in
-      let hung = AreHung-without level mark nodes heads h b x before after (set nodes q n) (head_at heads b) inside at is (placed-relinked 0 nodes q (next_at nodes (place_of x)))
+      let bag : IsSameBag (get_or h.chains b []) (x ∷ (before ++ after)) = rw is (IsSameBag-middle before after x) in
+      let hung = AreHungBy-without (IsChain nodes) (IsChain (set nodes q n)) level mark heads (all_placed nodes) h b x (before ++ after) (head_at heads b) at bag
       (λ i within apart. IsChain-set nodes q n (head_at heads i) (get_or h.chains i []) (times_at-others q h.chains b i inside within apart most (omega (arith, here, one))) (h.linked.each i within))
       (IsChain-unlinked nodes (head_at heads b) before q x after last (omega (arith, here, one, behind, bucket, all, most)) (omega (arith, here, bucket, all, most)) chain) in
-      subst (λ (hs : List NodeLink). AreHung level mark (set nodes q n) hs (x ∷ [])) (set-get_or heads b (record { place = 0 })) hung
+      let same : all_placed nodes ≡ all_placed (set nodes q n) = sym (placed-relinked 0 nodes q (next_at nodes (place_of x))) in
+      subst (λ (hs : List NodeLink). AreHung level mark (set nodes q n) hs (x ∷ [])) (set-get_or heads b (record { place = 0 })) (subst (AreHungBy (IsChain (set nodes q n)) level mark (set heads b (head_at heads b)) (x ∷ [])) same hung)
 
   AreHung-front : (after : List Placed) → IsChain nodes (head_at heads b) (x ∷ after) → AreHung level mark nodes (set heads b (next_at nodes (place_of x))) (x ∷ [])
   AreHung-front after chain =
       let inside : b < length h.chains = bucket_of-inside level mark h.chains h.addressed x.0 b at in
       let is : get_or h.chains b [] ≡ x ∷ after = IsChain-unique nodes (head_at heads b) (get_or h.chains b []) (x ∷ after) (h.linked.each b inside) chain in
-      AreHung-without level mark nodes heads h b x [] after nodes (next_at nodes (place_of x)) inside at is refl (λ i within apart. h.linked.each i within) chain.2
+      AreHungBy-without (IsChain nodes) (IsChain nodes) level mark heads (all_placed nodes) h b x after (next_at nodes (place_of x)) at (IsSameBag-from_same _ _ is) (λ i within apart. h.linked.each i within) chain.2
 
   AreHung-taken_by : (before after : List Placed) → IsChain nodes (head_at heads b) (before ++ x ∷ after) → (behind : Option ℕ) → behind ≡ last_place before → AreHung level mark (relinked_behind nodes behind (next_at nodes (place_of x))) (relinked_head heads b behind (next_at nodes (place_of x))) (x ∷ [])
   AreHung-taken_by [] after chain behind is = rw is (AreHung-front after chain)
@@ -94,89 +97,6 @@ pub length-taken_head : (heads : List NodeLink) (b : ℕ) (behind : Option ℕ) 
 length-taken_head heads b None l = length-set heads b l
 length-taken_head heads b (Some q) l = refl
 
--- the last bucket is folded
-last_of : {A : Type 0} (xs : List A) (d : A) → 0 < length xs → xs ≡ take (length xs - 1) xs ++ get_or xs (length xs - 1) d ∷ []
-last_of xs d some =
-    let back : length xs - 1 + 1 ≡ length xs = omega arith in
-    sym (take_all (length xs - 1 + 1) xs (omega arith)) ∙ take_more xs (length xs - 1) d (omega arith)
-
-pub AreHung-fold : (level mark below under : ℕ) (nodes : List Node) (heads hs : List NodeLink) (l : NodeLink) (h : AreHung level mark nodes heads []) → heads ≡ hs ++ l ∷ [] → IsSplit below under h.chains → (loose : List Placed) × IsChain nodes l loose × AreHung below under nodes hs loose
-AreHung-fold level mark below under nodes heads hs l h is split =
-    let n : ℕ = length h.chains - 1 in
-    let cs : List (List Placed) = take n h.chains in
-    let last : List Placed = get_or h.chains n [] in
-    let longer = length-append hs (l ∷ []) in
-    let heads_number = ap length is in
-    let number = h.linked.number in
-    let parts : h.chains ≡ cs ++ last ∷ [] = last_of h.chains [] (omega (arith, longer, heads_number, number)) in
-    let chains_longer = length-append cs (last ∷ []) in
-    let chains_number = ap length parts in
-    let linked : AreChains nodes (hs ++ l ∷ []) (cs ++ last ∷ []) = subst (λ xs. AreChains nodes xs (cs ++ last ∷ [])) is (subst (AreChains nodes heads) parts h.linked) in
-    let split_parts : IsSplit below under (cs ++ last ∷ []) = subst (IsSplit below under) parts split in
-    let front : IsPlaced (4 * 2 ^ below) (under + 1) cs = IsPlaced-front (4 * 2 ^ below) (under + 1) cs last split_parts.placed in
-    let split_number : length (cs ++ last ∷ []) ≡ 4 * 2 ^ below + (under + 1) = split_parts.number in
-    let under_low : under < 4 * 2 ^ below = split_parts.marked in
-    let emptied_split : IsSplit below under (cs ++ [] ∷ []) =
-    record {
-      low = split_parts.low;
-      marked = under_low;
-      number = let m = length-append cs ([] ∷ []) in omega (arith, m, chains_longer, split_number);
-      placed = IsPlaced-push (4 * 2 ^ below) (under + 1) cs [] front (All-nil (λ e. bucket_by (4 * 2 ^ below) (under + 1) e.0 ≡ length cs));
-    } in
-    let addressed : IsAddressed below under (set cs under (get_or cs under [])) = IsAddressed-fold below under cs [] (get_or cs under []) emptied_split (IsSameBag-from_same _ _ refl) in
-    let seam : last ≡ get_or (cs ++ last ∷ []) (length cs) [] = sym (get_or-append_seam cs last [] []) in
-    let head : head_at (hs ++ l ∷ []) (length cs) ≡ l = (let same : length cs ≡ length hs = omega (arith, longer, heads_number, number, chains_longer, chains_number) in rw same (get_or-append_seam hs l [] _)) in
-    let end : IsChain nodes (head_at (hs ++ l ∷ []) (length cs)) (get_or (cs ++ last ∷ []) (length cs) []) = linked.each (length cs) (omega (arith, chains_longer)) in (
-      last,
-      (rw (head, ← seam) at end),
-      record {
-        chains = cs;
-        linked = AreChains-front nodes hs l cs last linked;
-        held =
-            record {
-              count = λ test.
-                  let held = h.held.count test in
-                  let pushed = count_by-pushed test cs last in
-                  let same : count_by test (joined h.chains) ≡ count_by test (joined (cs ++ last ∷ [])) = ap (λ xs. count_by test (joined xs)) parts in
-                  omega (arith, held, pushed, same, count_by-append test last (joined cs));
-            };
-        addressed = rw (set-get_or cs under []) at addressed;
-      },
-    )
-
--- no chain has a node, and all nodes are loose
-joined-replicate : (n : ℕ) → joined {A = Placed} (replicate n []) ≡ []
-joined-replicate zero = refl
-joined-replicate (suc n) = joined-replicate n
-
-pub AreHung-emptied : (level mark : ℕ) (chains : List (List Placed)) (nodes : List Node) (l : NodeLink) (n : ℕ) → IsAddressed level mark chains → n ≡ length chains → leads_to l ≡ None → AreHung level mark nodes (replicate n l) (all_placed nodes)
-AreHung-emptied level mark chains nodes l n h number none = record {
-  chains = replicate n [];
-  linked =
-      record {
-        number = length-replicate n l ∙ sym (length-replicate n []);
-        each = λ i inside.
-            let within : i < n = rw length-replicate at inside in
-            let head : head_at (replicate n l) i ≡ l = get_or-replicate n i l _ within in
-            let chain : get_or {A = List Placed} (replicate n []) i [] ≡ [] = get_or-replicate n i [] [] within in
-            rw (head, chain) none;
-      };
-  held = IsSameBag-from_same _ _ (ap (λ r. all_placed nodes ++ r) (joined-replicate n) ∙ append-nil (all_placed nodes));
-  addressed =
-      record {
-        low = h.low;
-        marked = h.marked;
-        number = length-replicate n [] ∙ number ∙ h.number;
-        placed =
-            record {
-              at = λ i inside.
-                  let within : i < n = rw length-replicate at inside in
-                  let chain : get_or {A = List Placed} (replicate n []) i [] ≡ [] = get_or-replicate n i [] [] within in
-                  rw chain (All-nil (λ e. bucket_by (4 * 2 ^ level) mark e.0 ≡ i));
-            };
-      };
-}
-
 -- the entries of the nodes
 pub IsSameBag-entries : (nodes now : List Node) (e : Placed) → IsSameBag (all_placed now) (e ∷ all_placed nodes) → IsSameBag (entries_of now) (entry_in e ∷ entries_of nodes)
 IsSameBag-entries nodes now e h =
@@ -184,22 +104,7 @@ IsSameBag-entries nodes now e h =
     (IsSameBag-trans (IsSameBag-map entry_in h) (IsSameBag-from_same _ _ (ap (λ es. entry_in e ∷ es) (entries-placed 0 nodes))))
 
 pub AreHung-new : AreHung 0 0 [] (replicate 4 no_link) []
-AreHung-new = AreHung-emptied 0 0 (replicate 4 []) [] no_link 4 IsAddressed-new refl refl
-
--- the last split, as the address says
-pub IsSplit-lowered : (level mark below under : ℕ) (chains : List (List Placed)) → IsAddressed level mark chains → (0 < mark → (below ≡ level) × (under + 1 ≡ mark)) → (mark ≡ 0 → (below + 1 ≡ level) × (under + 1 ≡ 4 * 2 ^ below)) → IsSplit below under chains
-IsSplit-lowered level mark below under chains h back halved =
-    elim (cases_lt 0 mark) [
-      | inl pos ↦
-          let n = back pos in
-          let on : under ≡ mark - 1 = (let m = n.1 in omega (arith, m)) in
-          rw (n.0, on) (IsSplit-back level mark chains pos h)
-      | inr none ↦
-          let zero_mark : mark ≡ 0 = omega arith in
-          let n = halved zero_mark in
-          let on : under ≡ 4 * 2 ^ below - 1 = (let m = n.1 in omega (arith, m)) in
-          rw on (IsSplit-down level mark chains below (sym n.0) zero_mark h)
-    ]
+AreHung-new = AreHungBy-empty (IsChain []) 0 0 (replicate 4 []) no_link 4 IsAddressed-new refl refl
 
 -- the entries that are left
 pub entries-taken : (nodes : List Node) (behind : Option ℕ) (l : NodeLink) → entries_of (relinked_behind nodes behind l) ≡ entries_of nodes

@@ -42,16 +42,24 @@ abbrev pub all_placed : List Node → List Placed
 all_placed nodes = placed_from 0 nodes
 
 -- each head leads to the chain of its bucket
-pub record AreChains (nodes : List Node) (heads : List NodeLink) (chains : List (List Placed)) : Type 0 where
+pub record AreChainsBy {A : Type 0} (is_chain : NodeLink → List (ℕ × A) → Type 0) (heads : List NodeLink) (chains : List (List (ℕ × A))) : Type 0 where
   pub number : length heads ≡ length chains
-  pub each : (i : ℕ) → i < length chains → IsChain nodes (head_at heads i) (slice_index_or chains i [])
+  pub each : (i : ℕ) → i < length chains → is_chain (head_at heads i) (slice_index_or chains i [])
+
+-- all of these hang on the chains of the buckets of their hashes, each once, but for those that are loose
+pub record AreHungBy {A : Type 0} (is_chain : NodeLink → List (ℕ × A) → Type 0) (level mark : ℕ) (heads : List NodeLink) (loose all : List (ℕ × A)) : Type 0 where
+  pub chains : List (List (ℕ × A))
+  pub linked : AreChainsBy is_chain heads chains
+  pub held : IsSameBag (loose ++ flat_map (λ c. c) chains) all
+  pub addressed : IsAddressed level mark chains
+
+-- the chains are of nodes
+abbrev pub AreChains : List Node → List NodeLink → List (List Placed) → Type 0
+AreChains nodes heads chains = AreChainsBy (IsChain nodes) heads chains
 
 -- the nodes hang on the chains of the buckets of their hashes, each once, but for those that are loose
-pub record AreHung (level mark : ℕ) (nodes : List Node) (heads : List NodeLink) (loose : List Placed) : Type 0 where
-  pub chains : List (List Placed)
-  pub linked : AreChains nodes heads chains
-  pub held : IsSameBag (loose ++ flat_map (λ c. c) chains) (all_placed nodes)
-  pub addressed : IsAddressed level mark chains
+abbrev pub AreHung : (level mark : ℕ) → List Node → List NodeLink → List Placed → Type 0
+AreHung level mark nodes heads loose = AreHungBy (IsChain nodes) level mark heads loose (all_placed nodes)
 
 -- the place of the last of them
 abbrev pub last_place : List Placed → Option ℕ

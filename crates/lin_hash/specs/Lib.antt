@@ -6,6 +6,15 @@ pub mod Filled
 pub mod Held
 pub mod Nodes
 pub mod Rest
+pub mod RowBlocks
+pub mod RowChains
+pub mod RowNodes
+pub mod RowRest
+pub mod RowTables
+pub mod RowsHeld
+pub mod RowsRoom
+pub mod RowsCounted
+pub mod HeldRows
 pub mod Shape
 pub mod Tables
 pub mod Walks

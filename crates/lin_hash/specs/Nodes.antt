@@ -11,6 +11,10 @@ leads_to l = if l.place == 4294967295 then None else Some l.place
 abbrev pub no_link : NodeLink
 no_link = record { place = 4294967295 }
 
+-- the link of a node of a row that stands on no chain
+abbrev pub unused_link : NodeLink
+unused_link = record { place = 4294967294 }
+
 abbrev pub link_to : ℕ → NodeLink
 link_to place = record { place = place }
 

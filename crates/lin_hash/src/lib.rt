@@ -22,9 +22,18 @@ mod growing;
 mod index;
 mod node;
 mod nodes;
+mod row_block;
+mod row_chain;
+mod row_chains;
+mod row_hash;
+mod row_node;
+mod row_nodes;
+mod row_table;
 mod shape;
 mod table;
 
 pub use chain::Chain;
 pub use index::LinHash;
+pub use row_chain::RowChain;
+pub use row_hash::RowHash;
 pub use shape::HashShape;

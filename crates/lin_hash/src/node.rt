@@ -3,7 +3,7 @@
 //! A node has an entry and a link to the next node of its chain, or none. A link takes 32 bits, of which one value is kept
 //! for no place, so a table has 2^32 - 1 nodes at most.
 ghost use Rattle.std.specs.Prelude.{◌≡◌, ◌<◌, ◌-◌, ◌^◌};
-ghost use Rattle.lin_hash.specs.Nodes.{leads_to, no_link, link_to};
+ghost use Rattle.lin_hash.specs.Nodes.{leads_to, no_link, unused_link, link_to};
 
 use part_raw::TupleRef;
 use std::mem::size_of;
@@ -22,6 +22,15 @@ impl NodeLink {
         ensures { result ≡ no_link }
     {
         NodeLink { place: u32::MAX }
+    }
+
+    // The link of a node of a row that stands on no chain.
+    pub fn unused() -> NodeLink
+        ensures { result ≡ unused_link }
+    {
+        NodeLink {
+            place: u32::MAX - 1,
+        }
     }
 
     pub fn to(place: usize) -> NodeLink

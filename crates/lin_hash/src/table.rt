@@ -22,10 +22,10 @@ use std::marker::Model;
 use std::mem;
 
 // More entries to a bucket than these, and an insert splits one.
-const MOST_ENTRIES_A_BUCKET: usize = 2;
+pub const MOST_ENTRIES_A_BUCKET: usize = 2;
 
 // More buckets to an entry than these, and a remove folds one.
-const MOST_BUCKETS_AN_ENTRY: usize = 2;
+pub const MOST_BUCKETS_AN_ENTRY: usize = 2;
 
 /// At least four buckets, and the nodes of their chains.
 #[derive(Drop)]

@@ -1,4 +1,5 @@
-use Rattle.lin_hash.proofs.Taken.{AreHung-fold, IsSplit-lowered}
+use Rattle.lin_hash.specs.Chains.{IsChain, all_placed}
+use Rattle.lin_hash.proofs.Hanging.{AreHungBy-fold, IsSplit-lowered}
 use Rattle.lin_hash.proofs.table.Table.fold.Goals as goal
 
 pub link_from-requires-clause-loose : goal.link_from-requires-clause-loose
@@ -8,4 +9,4 @@ link_from-requires-clause-loose c =
     let a = c.lowered-self-inside.result in
     let split = IsSplit-lowered t.address.level t.address.mark a.level a.mark h.chains h.addressed c.lowered-self-inside.ensures.back c.lowered-self-inside.ensures.halved in
     rw c.deref_mut.ensures.value
-    (AreHung-fold t.address.level t.address.mark a.level a.mark t.nodes.items t.heads.items c.pop.new.self.items c.in-Some.last h c.in-Some.ensures.items split)
+    (AreHungBy-fold (IsChain t.nodes.items) t.address.level t.address.mark a.level a.mark t.heads.items c.pop.new.self.items c.in-Some.last (all_placed t.nodes.items) h c.in-Some.ensures.items split)

@@ -1,7 +1,8 @@
 use Rattle.std.proofs.Common.{◌≡◌, ◌<◌, ◌^◌, [], length, get_or, None, ap, ◌∙◌, arith}
 use Rattle.std.proofs.lemmas.List.{get_or_default}
 use Rattle.lin_hash.specs.Nodes.{leads_to, head_at}
-use Rattle.lin_hash.proofs.Rehung.{split-inside, split-chain, AreHung-raised}
+use Rattle.lin_hash.specs.Chains.{IsChain, all_placed}
+use Rattle.lin_hash.proofs.Hanging.{hung-mark_inside, hung-mark_chain, AreHungBy-raised}
 use Rattle.lin_hash.proofs.table.Table.split.Goals as goal
 
 pub link_from-requires-clause-loose : goal.link_from-requires-clause-loose
@@ -9,11 +10,11 @@ link_from-requires-clause-loose c =
     let t = c.self.inside in
     let h = c.self.invariant.hung in
     let a = c.raised-self-inside.result in
-    let inside = split-inside t.address.level t.address.mark t.nodes.items t.heads.items h in
+    let inside = hung-mark_inside (IsChain t.nodes.items) t.address.level t.address.mark t.heads.items (all_placed t.nodes.items) h in
     let first : c.replace-first.result ≡ head_at t.heads.items t.address.mark =
     c.replace-first.ensures.value ∙ c.index_mut.ensures.value ∙ get_or_default t.heads.items t.address.mark _ _ inside in
     let none : leads_to c.replace-first.new.dest ≡ None = ap leads_to (c.replace-first.ensures.after ∙ c.none.ensures) in
     let last : leads_to c.none-2.result ≡ None = ap leads_to c.none-2.ensures in
     let buckets = ap (λ v. v.buckets) c.self.view_is in
     let few : length t.heads.items < 2 ^ 32 = omega (arith, buckets, c.requires.few, t.heads.ok.0) in
-    (get_or h.chains t.address.mark [], (rw first (split-chain t.address.level t.address.mark t.nodes.items t.heads.items h)), (rw (c.deref_mut.ensures.value, c.push_reserved.ensures.items) (AreHung-raised t.address.level t.address.mark t.nodes.items t.heads.items h c.replace-first.new.dest c.none-2.result none last a.level a.mark c.raised-self-inside.ensures.next c.raised-self-inside.ensures.doubled few)))
+    (get_or h.chains t.address.mark [], (rw first (hung-mark_chain (IsChain t.nodes.items) t.address.level t.address.mark t.heads.items (all_placed t.nodes.items) h)), (rw (c.deref_mut.ensures.value, c.push_reserved.ensures.items) (AreHungBy-raised (IsChain t.nodes.items) t.address.level t.address.mark t.heads.items (all_placed t.nodes.items) h c.replace-first.new.dest c.none-2.result none last a.level a.mark c.raised-self-inside.ensures.next c.raised-self-inside.ensures.doubled few)))
