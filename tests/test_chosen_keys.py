@@ -9,10 +9,10 @@ import sizes
 
 COUNT = sizes.size(1_000, 100_000)
 MEETING = sizes.size(1_000, 20_000)
-FIRST_HASH = 2166136261
-FACTOR = 16777619
+FIRST_HASH = 14695981039346656037
+FACTOR = 1099511628211
 # The hash of this text is 0, and stays 0 with each byte 0 behind it.
-HASHED_TO_0 = b"hzchcxz"
+HASHED_TO_0 = b"\x15?\t5?\t\x04\x02\x16\x030\tx\x0c"
 
 
 def by_turns(some, others):
@@ -39,7 +39,7 @@ ORDERS = {
 def hash_of(content):
     number = FIRST_HASH
     for byte in content:
-        number = (number ^ byte) * FACTOR % 2**32
+        number = (number ^ byte) * FACTOR % 2**64
     return number
 
 

@@ -78,11 +78,11 @@ static void told(kind of, int64_t began)
 }
 
 /* The hash by which mmdb finds a text, as docs/lin_hash.md tells it. */
-static uint32_t hash_of(const char *text)
+static uint64_t hash_of(const char *text)
 {
-    uint32_t hash = (UINT32_C(2166136261) ^ 1) * UINT32_C(16777619);
+    uint64_t hash = (UINT64_C(14695981039346656037) ^ 1) * UINT64_C(1099511628211);
     for (; *text != '\0'; text++)
-        hash = (hash ^ (unsigned char)*text) * UINT32_C(16777619);
+        hash = (hash ^ (unsigned char)*text) * UINT64_C(1099511628211);
     return hash;
 }
 
@@ -91,7 +91,7 @@ static void token_of(int64_t number, char *token)
 {
     const uint64_t of = mixed((uint64_t)number);
     const int padding = (int)(of % 17);
-    uint32_t last;
+    uint64_t last;
     if (!all.is_chosen) {
         sprintf(token, "%016" PRIx64 "%.*s-%" PRId64, of, padding, "0123456789abcdef", number);
         return;

@@ -32,6 +32,11 @@ abbrev pub column_cmp : Keys → ℕ → Tuples Row → TupleRef → TupleRef �
 column_cmp keys column tuples =
     then_cmp (on (value_at keys column tuples) (option_cmp value_cmp)) (on (key_at tuples) (option_cmp value_cmp))
 
+-- a row's value in a column and its key, as they were read
+pub record IsRead (keys : Keys) (column : ℕ) (tuples : Tuples Row) (r : TupleRef) (v k : Value) : Type 0 where
+  pub value : value_at keys column tuples r ≡ Some v
+  pub key : key_at tuples r ≡ Some k
+
 pub column_cmp_total : (keys : Keys) (column : ℕ) (tuples : Tuples Row) → IsTotalOrder (column_cmp keys column tuples)
 column_cmp_total keys column tuples =
     then_total (on_total (value_at keys column tuples) (options_total value_cmp_total)) (on_total (key_at tuples) (options_total value_cmp_total))

@@ -5,7 +5,7 @@ use Rattle.std.specs.FinMap as map
 use Rattle.part_raw.specs.declared.tuple_ref.TupleRef.{TupleRef}
 use Rattle.part_raw.specs.Store.{Tuples}
 use Rattle.plain_tables.specs.declared.value.Value.{Value}
-use Rattle.plain_tables.specs.Hashes.{hash_of}
+use Rattle.plain_tables.specs.Hashes.{low_hash}
 use Rattle.mm_relation.specs.declared.row.Cell.{Cell}
 use Rattle.mm_relation.specs.declared.row.Cell.TheVariants.{Held, Link}
 use Rattle.mm_relation.specs.Rows.{Row}
@@ -39,10 +39,10 @@ HoldsLink tuples column to = (r : TupleRef) × (t : Row) × (0 < column) × (map
 abbrev pub AgreeOnLinks : Tuples Row → Keys → Keys → Type 0
 AgreeOnLinks tuples keys others = (column : ℕ) (to : TupleRef) → HoldsLink tuples column to → others column to ≡ keys column to
 
--- the hash of what a row has in a column, 0 where there is nothing to read
+-- the hash modulo 2^32 of what a row has in a column, 0 where there is nothing to read
 abbrev pub hash_of_value : Option Value → ℕ
 hash_of_value None = 0
-hash_of_value (Some value) = hash_of value
+hash_of_value (Some value) = low_hash value
 
 abbrev pub hash_at : Keys → ℕ → Tuples Row → TupleRef → ℕ
 hash_at keys column rows r = hash_of_value (value_at keys column rows r)

@@ -14,7 +14,7 @@ use lin_hash::LinHash;
 use mm_index::{ExactIndex, OrderProbe};
 use no_memory::NoMemory;
 use part_raw::TupleRef;
-use plain_tables::{ColumnNumber, IndexKind, hash_of};
+use plain_tables::{ColumnNumber, IndexKind, hash_of, low_bits};
 
 /// What stands on a column: the rows in the order of their values there, or under the hash of these.
 #[derive(Drop)]
@@ -30,12 +30,12 @@ pub struct IndexOn {
     pub index: Index,
 }
 
-// The hash of a row's value in a column.
+// The hash under which a row's value in a column stands.
 pub fn hash_in<R: LinkedKeys>(rows: &Rows, others: &R, column: ColumnNumber, r: TupleRef) -> u32
     requires { IsSome (value_at (R.keys others.now) column.0 rows.now.tuples r) }
     ensures { result ≡ hash_at (R.keys others.now) column.0 rows.now.tuples r }
 {
-    hash_of(value_in(rows, others, column, r))
+    low_bits(hash_of(value_in(rows, others, column, r)))
 }
 
 impl IndexOn {
@@ -75,11 +75,7 @@ impl IndexOn {
         let column = self.column;
         match &mut self.index {
             Index::Tree(tree) => {
-                let order = ColumnOrder {
-                    rows,
-                    others,
-                    column,
-                };
+                let order = ColumnOrder::beside(rows, others, column, r);
                 tree.insert(&mut OrderProbe::new(&order, r));
             }
             Index::Hash(hash) => hash.insert(hash_in(rows, others, column, r), r),
@@ -95,11 +91,7 @@ impl IndexOn {
         let column = self.column;
         match &mut self.index {
             Index::Tree(tree) => {
-                let order = ColumnOrder {
-                    rows,
-                    others,
-                    column,
-                };
+                let order = ColumnOrder::beside(rows, others, column, r);
                 tree.remove(&mut OrderProbe::new(&order, r));
             }
             Index::Hash(hash) => hash.remove(hash_in(rows, others, column, r), r),

@@ -61,6 +61,6 @@ pub fn take_row(rows: &mut Rows, by_key: &mut Tree, r: TupleRef)
     ensures width { rows.new.width ≡ rows.old.width }
     ensures counted { rows.new.counted ≡ rows.old.counted }
 {
-    by_key.remove(&mut OrderProbe::new(&KeyOrder { rows }, r));
+    by_key.remove(&mut OrderProbe::new(&KeyOrder::beside(rows, r), r));
     rows.remove(r);
 }

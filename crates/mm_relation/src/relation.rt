@@ -1,5 +1,5 @@
 //! The rows of one table.
-ghost use Rattle.std.specs.Prelude.{◌≡◌, ◌≢◌, ◌+◌, ◌++◌, ◌-◌, ◌^◌, [], Contains, ◌<◌, ◌≤◌, All, true, false, Some, IsOk, IsSome, IsTrue, IfSome, IfNone, IfOk, OnOk, OnErr, length, map};
+ghost use Rattle.std.specs.Prelude.{◌≡◌, ◌≢◌, ◌+◌, ◌*◌, ◌++◌, ◌-◌, ◌^◌, [], Contains, ◌<◌, ◌≤◌, All, true, false, Some, IsOk, IsSome, IsTrue, IfSome, IfNone, IfOk, OnOk, OnErr, length, map};
 ghost use Rattle.std.specs.Bool.{OnTrue, OnFalse};
 
 use crate::change::{change_all, copies_for};
@@ -74,7 +74,7 @@ impl Relation {
     ghost use Rattle.mm_index.specs.Asking.{IsOnlyAsked, counted};
     ghost use Rattle.mm_index.specs.Bag.{IsSameBag, with_hash};
     ghost use Rattle.mm_index.specs.Range.{NeverFalls, from_range, in_range};
-    ghost use Rattle.ttree.specs.Held.{rest_of};
+    ghost use Rattle.ttree.specs.Held.{rest_of, height};
     ghost use Rattle.lin_hash.specs.Rest.{chain_rest};
     ghost use Rattle.lin_hash.specs.Shape.{HasHashShape};
 
@@ -299,8 +299,21 @@ impl Relation {
         ensures found { IfSome result (λ r. key_at self.now.rows r ≡ Some key.now) }
         ensures none { IfNone result ((r : TupleRef) → key_at self.now.rows r ≢ Some key.now) }
     {
+        self.find_key_counted(key).0
+    }
+
+    /// The row with this key, and how many rows' keys were compared with it.
+    pub fn find_key_counted(&self, key: &SoughtValue<'_>) -> (Option<TupleRef>, u64)
+        ensures found { IfSome result.0 (λ r. key_at self.now.rows r ≡ Some key.now) }
+        ensures none { IfNone result.0 ((r : TupleRef) → key_at self.now.rows r ≢ Some key.now) }
+        ensures asks { 0 < finite.len self.now.rows → 1 ≤ result.1 }
+        ensures most { result.1 ≤ most_compared self.now.by_key }
+        ensures bound { result.1 ≤ 2 * height self.now.by_key + 6 }
+    {
         a_relation_is_kept(self);
-        self.find(&mut self.key_probe(key))
+        let mut probe = self.key_probe(key);
+        let found = self.find(&mut probe);
+        (found, probe.asked())
     }
 
     /// Whether a row has the key of the row of these cells.

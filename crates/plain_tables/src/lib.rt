@@ -39,7 +39,7 @@ pub mod written_laws;
 pub use command::{Command, Items, Join, JoinSide, LONGEST_BLOCK, Limits, MOST_ROWS, Setting};
 pub use condition::{ColName, Cond, Op};
 pub use digits::{integer, magnitude};
-pub use hash::{hash_of, hash_of_sought};
+pub use hash::{hash_of, hash_of_sought, low_bits};
 pub use no_memory::NoMemory;
 pub use numbers::{ColumnNumber, Place, TableNumber};
 pub use refusal::Refusal;

@@ -1,13 +1,13 @@
 //! How many keys a search compares, and how the tree stands that it searches.
 //!
-//! The contract of `find` bounds the number from above, and the probe counts. That a search compares at all as often as it
-//! has to, no contract says.
+//! The contract of `find_key_counted` bounds the number from above. That a search compares at all as often as it has to, no
+//! contract says.
 ghost use Rattle.std.specs.Prelude.{◌≡◌, ◌∷◌, [], IfOk, length};
 ghost use Rattle.plain_tables.specs.declared.value.Value.TheVariants.{Int};
 ghost use Rattle.mm_relation.specs.declared.row.Cell.TheVariants.{Held};
 ghost use Rattle.mm_relation.specs.State.{IsCurrent, linked_keys};
 
-use mm_relation::{Probe, Relation, Relations, RowRefusal, StoredCell, TableNumber};
+use mm_relation::{Relation, Relations, RowRefusal, StoredCell, TableNumber};
 use no_memory::NoMemory;
 use plain_tables::{ColKind, Column, Schema, Sequence, Text, Value};
 use std::alloc::Global;
@@ -78,10 +78,7 @@ fn put_keys(alloc: Global, relation: &mut Relation) -> Result<(), RowRefusal>
 // How many keys are compared in a search for this one.
 fn compared(relation: &Relation, key: u32) -> u64 {
     let key = Value::Int(i64::from(key));
-    let sought = key.sought();
-    let mut probe = relation.key_probe(&sought);
-    let _ = relation.find(&mut probe);
-    probe.asked()
+    relation.find_key_counted(&key.sought()).1
 }
 
 // The greatest number of comparisons in a search for one of these keys.

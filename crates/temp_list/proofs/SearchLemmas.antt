@@ -25,7 +25,7 @@ use Rattle.plain_tables.specs.declared.condition.Op.TheVariants as op
 use Rattle.plain_tables.specs.declared.resolved.Test.{Test}
 use Rattle.plain_tables.specs.declared.value.Value.{Value}
 use Rattle.plain_tables.specs.Values.{value_cmp}
-use Rattle.plain_tables.specs.Hashes.{hash_of}
+use Rattle.plain_tables.specs.Hashes.{low_hash}
 use Rattle.plain_tables.specs.Queries.{stands}
 use Rattle.plain_tables.proofs.ValueLemmas.{value_cmp-exact}
 use Rattle.plan_chooser.specs.Plans.{is_range}
@@ -173,26 +173,26 @@ module _ (relations : List RelationState) (s : RelationState) (column : ℕ) (ke
       between_range = places_range (place_between column tests) (between_rises column tests) (is_between column tests) (between_stands column tests)
 
   module _ (has : HasHash s column) (sought : Value) where
-    pub hash_listed : IsSameBag (with_hash (hash_of sought) (entries_of s column)) (filter (λ r. hash_at keys column s.rows r == hash_of sought) (tree_list s.by_key))
+    pub hash_listed : IsSameBag (with_hash (low_hash sought) (entries_of s column)) (filter (λ r. hash_at keys column s.rows r == low_hash sought) (tree_list s.by_key))
     hash_listed =
-        IsSameBag-trans (IsSameBag-with_hash (hash_of sought) (hash_found keys s.rows (tree_list s.by_key) column s.hashes has current.hashes))
-        (IsSameBag-from_same _ _ (with_hash-map (hash_at keys column s.rows) (hash_of sought) (tree_list s.by_key)))
+        IsSameBag-trans (IsSameBag-with_hash (low_hash sought) (hash_found keys s.rows (tree_list s.by_key) column s.hashes has current.hashes))
+        (IsSameBag-from_same _ _ (with_hash-map (hash_at keys column s.rows) (low_hash sought) (tree_list s.by_key)))
 
-    same_hash : (r : TupleRef) → IsSome (finite.get s.rows r) → stands op.Eq (value_in relations s column r) sought ≡ true → (hash_at keys column s.rows r == hash_of sought) ≡ true
+    same_hash : (r : TupleRef) → IsSome (finite.get s.rows r) → stands op.Eq (value_in relations s column r) sought ≡ true → (hash_at keys column s.rows r == low_hash sought) ≡ true
     same_hash r held e =
-        eq-eqb (hash_at keys column s.rows r) (hash_of sought) (ap hash_of_value (has_value r held) ∙ ap hash_of (equal_one (value_in relations s column r) sought e))
+        eq-eqb (hash_at keys column s.rows r) (low_hash sought) (ap hash_of_value (has_value r held) ∙ ap low_hash (equal_one (value_in relations s column r) sought e))
 
     -- those of the chain that equal the value are the rows whose values do
-    pub hash_range : (chain : List TupleRef) → IsSameBag chain (with_hash (hash_of sought) (entries_of s column)) → IsSameBag (filter (λ r. stands op.Eq (value_in relations s column r) sought) chain) (standing relations s column op.Eq sought)
+    pub hash_range : (chain : List TupleRef) → IsSameBag chain (with_hash (low_hash sought) (entries_of s column)) → IsSameBag (filter (λ r. stands op.Eq (value_in relations s column r) sought) chain) (standing relations s column op.Eq sought)
     hash_range chain bag =
         let so : TupleRef → Bool = λ r. stands op.Eq (value_in relations s column r) sought in
-        let hashed : TupleRef → Bool = λ r. hash_at keys column s.rows r == hash_of sought in
+        let hashed : TupleRef → Bool = λ r. hash_at keys column s.rows r == low_hash sought in
         IsSameBag-trans (IsSameBag-filter so chain (filter hashed (tree_list s.by_key)) (IsSameBag-trans bag hash_listed))
         (IsSameBag-from_same (filter so (filter hashed (tree_list s.by_key))) (filter so (tree_list s.by_key))
         (filter_inner so hashed (tree_list s.by_key) (λ k d l. same_hash (get_or (tree_list s.by_key) k d) (kept.keyed.lists.held k d l))))
 
     -- each of the chain is held
-    pub hash_held : (chain : List TupleRef) → IsSameBag chain (with_hash (hash_of sought) (entries_of s column)) → (r : TupleRef) → Contains chain r → IsSome (finite.get s.rows r)
+    pub hash_held : (chain : List TupleRef) → IsSameBag chain (with_hash (low_hash sought) (entries_of s column)) → (r : TupleRef) → Contains chain r → IsSome (finite.get s.rows r)
     hash_held chain bag r h =
-        let hashed : TupleRef → Bool = λ q. hash_at keys column s.rows q == hash_of sought in
+        let hashed : TupleRef → Bool = λ q. hash_at keys column s.rows q == low_hash sought in
         listed_held r (Contains-from_filter hashed (tree_list s.by_key) r (Contains-same_refs chain (filter hashed (tree_list s.by_key)) r (IsSameBag-trans bag hash_listed) h)).0

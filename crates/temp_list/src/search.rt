@@ -17,7 +17,7 @@ use mm_relation::laws::a_relation_is_kept;
 use mm_relation::{Relation, Relations};
 use no_memory::NoMemory;
 use part_raw::{MAX_TUPLES, TupleRef};
-use plain_tables::{ColumnNumber, Op, SoughtValue, StoredValue, Test, hash_of_sought};
+use plain_tables::{ColumnNumber, Op, SoughtValue, StoredValue, Test, hash_of_sought, low_bits};
 use std::alloc::Global;
 
 /// The value in a column of a row that is lent.
@@ -301,7 +301,7 @@ pub fn rows_by_hash<R: Relations>(
 {
     a_relation_is_kept(relation);
     let before = out.len();
-    for r in relation.chain_of(column, hash_of_sought(value)) {
+    for r in relation.chain_of(column, low_bits(hash_of_sought(value))) {
         if !stands(Op::Eq, read(tables, relation, r, column), value) {
             continue;
         }

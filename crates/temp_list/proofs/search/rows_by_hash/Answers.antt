@@ -1,8 +1,8 @@
-use Rattle.std.proofs.Common.{◌∙◌, ◌++◌, sym, ap, subst, List}
+use Rattle.std.proofs.Common.{◌∙◌, ◌++◌, sym, ap, subst, List, ◌%◌, ◌^◌}
 use Rattle.std.proofs.lemmas.List.{append-nil}
 use Rattle.mm_index.specs.Bag.{IsSameBag, with_hash}
 use Rattle.part_raw.specs.declared.tuple_ref.TupleRef.{TupleRef}
-use Rattle.plain_tables.specs.Hashes.{hash_of}
+use Rattle.plain_tables.specs.Hashes.{low_hash}
 use Rattle.mm_relation.specs.Changes.{entries_of}
 use Rattle.lin_hash.specs.Rest.{chain_rest}
 use Rattle.mm_relation.proofs.Listings.{next_listed}
@@ -11,8 +11,8 @@ use Rattle.temp_list.proofs.search.rows_by_hash.Goals as goal
 
 pub loop-r-init : goal.loop-r-init
 loop-r-init g c = record {
-  chain = subst (λ hash. IsSameBag (chain_rest c.into_iter-r-iterator.result) (with_hash hash (entries_of c.args.relation.now c.args.column.0))) c.hash_of_sought.ensures
-      (subst (λ chain. IsSameBag (chain_rest chain) (with_hash c.hash_of_sought.result (entries_of c.args.relation.now c.args.column.0))) (sym c.into_iter-r-iterator.ensures.into_iter_gives)
+  chain = subst (λ hash. IsSameBag (chain_rest c.into_iter-r-iterator.result) (with_hash hash (entries_of c.args.relation.now c.args.column.0))) (c.low_bits.ensures ∙ ap (λ h. h % 2 ^ 32) c.hash_of_sought.ensures)
+      (subst (λ chain. IsSameBag (chain_rest chain) (with_hash c.low_bits.result (entries_of c.args.relation.now c.args.column.0))) (sym c.into_iter-r-iterator.ensures.into_iter_gives)
       c.chain_of-r-items.ensures);
   found = sym (append-nil c.args.out.now.items);
 }
@@ -29,6 +29,6 @@ returns-clause-ok g c = (
   c.loop-r.invariant.found,
   hash_range (g.R.Relations.tables c.args.tables.now) c.args.relation.now c.args.column.0 c.a_relation_is_kept.ensures c.requires.current c.requires.within c.requires.has_hash c.args.value.now
       c.loop-r.yielded
-      (subst (λ (chain : List TupleRef). IsSameBag chain (with_hash (hash_of c.args.value.now) (entries_of c.args.relation.now c.args.column.0)))
+      (subst (λ (chain : List TupleRef). IsSameBag chain (with_hash (low_hash c.args.value.now) (entries_of c.args.relation.now c.args.column.0)))
       (ap (λ (rest : List TupleRef). c.loop-r.yielded ++ rest) c.in-None.ensures.steps.0 ∙ append-nil c.loop-r.yielded) c.loop-r.invariant.chain),
 )
