@@ -14,7 +14,7 @@ use Rattle.mm_relation.specs.Rows.{Row}
 use Rattle.mm_relation.specs.Reading.{Keys, value_at, row_value}
 use Rattle.mm_relation.specs.Order.{KeysDiffer}
 use Rattle.mm_relation.specs.State.{IsKeyed}
-use Rattle.mm_relation.specs.Indexes.{Indexes, Await, Gain, Have, Lose, Serve, HaveRoom, CanRead, CanReadRow, IsColumn}
+use Rattle.mm_relation.specs.Indexes.{Indexes, Await, Gain, Have, Lose, Serve, HaveRoom, Cover, CanRead, CanReadRow, IsColumn}
 use Rattle.mm_relation.proofs.KeyOrder.{unlisted, same_elsewhere, not_taken}
 use Rattle.mm_relation.proofs.Serving.{all_agree, all_gain, all_lose, all_bag, all_await, all_have}
 
@@ -36,9 +36,9 @@ module _ (keys : Keys) (rows : Tuples Row) (list : List TupleRef) (all : Indexes
       | inr there ↦ subst IsSome (sym (value_elsewhere c q there)) (read c q column (held_in_list q there))
     ]
 
-    pub awaits : len rows < 2 ^ 32 → KeysDiffer (insert rows r t) → HaveRoom 1 all → Await keys (insert rows r t) r all
-    awaits few differ room =
-        all_await keys (insert rows r t) differ list all all served_beside r (unlisted rows list r t keyed fresh) (omega (arith, keyed.lists.count, few)) room readable_with
+    pub awaits : len rows < 2 ^ 32 → KeysDiffer (insert rows r t) → HaveRoom 1 all → Cover r all → Await keys (insert rows r t) r all
+    awaits few differ room covers =
+        all_await keys (insert rows r t) differ list all all served_beside r (unlisted rows list r t keyed fresh) (omega (arith, keyed.lists.count, few)) room covers readable_with
 
     pub served_with : (now : List TupleRef) (new : Indexes) → KeysDiffer (insert rows r t) → IsSameBag now (r ∷ list) → Await keys (insert rows r t) r all → Gain keys (insert rows r t) r all new → Serve keys (insert rows r t) now new
     served_with now new differ bag await gains =

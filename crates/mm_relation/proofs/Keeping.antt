@@ -1,5 +1,6 @@
 -- What a relation keeps, told of its parts.
-use Rattle.std.proofs.Common.{◌≡◌, ◌≤◌, ◌<◌, ◌+◌, ℕ, List, [], ◌∷◌, IfSome, IfNone, Option, Some, None, IsSome, is_some, Bool, true, false, cond, not, refl, sym, ap, ◌∙◌, arith, subst, length, get_or, map, filter, inl, inr}
+use Rattle.std.proofs.Common.{◌≡◌, ◌≤◌, ◌<◌, ◌+◌, ℕ, List, [], ◌∷◌, Option, Some, None, IsSome, is_some, Bool, true, false, cond, not, refl, sym, ap, ◌∙◌, arith, subst, length, get_or, map, filter, inl, inr}
+use Rattle.std.specs.Prelude.{Result, Ok, Err, IfOk, OnErr}
 use Rattle.std.specs.List.{All, Contains}
 use Rattle.std.specs.Option.{option_and_then}
 use Rattle.std.proofs.lemmas.List.Elements.{All-cons, All-contains, All-filter, All-map, All-tail, filter_passes}
@@ -11,10 +12,14 @@ use Rattle.part_raw.specs.Store.{Tuples}
 use Rattle.part_raw.proofs.Tuples.{get-insert_same, get-insert_other, get-remove_other, held_tuple, len-insert_fresh}
 use Rattle.part_raw.proofs.Lookup.{same_or_other}
 use Rattle.plain_tables.specs.declared.schema.Schema.{Schema}
+use Rattle.plain_tables.specs.declared.value.Value.{Value}
+use Rattle.mm_relation.specs.declared.refusal.RowRefusal.{RowRefusal}
+use Rattle.mm_relation.specs.declared.refusal.RowRefusal.TheVariants.{KeyExists, Full, NoMemory}
+use Rattle.mm_relation.specs.Changes.{IsPlacedRightly, IsToldRightly}
 use Rattle.mm_relation.specs.Rows.{Row}
 use Rattle.mm_relation.specs.declared.numbers.DeclaredIndex.{DeclaredIndex}
 use Rattle.mm_relation.specs.Reading.{Keys, row_value}
-use Rattle.mm_relation.specs.State.{RowTree, tree_list, IsKeyed, IsKept, IsCurrent, IsReadable, TreeServes, HashServes, columns_with_tree, columns_with_hash, is_tree}
+use Rattle.mm_relation.specs.State.{RelationState, HasKey, RowTree, tree_list, IsKeyed, IsKept, IsCurrent, IsReadable, TreeServes, HashServes, columns_with_tree, columns_with_hash, is_tree}
 use Rattle.mm_relation.specs.Indexes.{Indexes, SeenIndex, seen, declaration_of, kind_in, trees_of, hashes_of, Where, Serve, Serves, CanRead, CanReadRow, IsColumn}
 use Rattle.mm_relation.specs.Seen.{state}
 use Rattle.mm_relation.proofs.KeyOrder.{not_taken}
@@ -114,14 +119,21 @@ pub readable_without : (keys : Keys) (width : ℕ) (rows : Tuples Row) (list : L
 readable_without keys width rows list r keyed held before q u e =
     before q u (sym (get-remove_other rows r q (not_taken rows list r keyed held q (ap is_some e))) ∙ e)
 
--- the same where a row came in, unless its key was there
-pub readable_after : (keys : Keys) (width : ℕ) (rows now : Tuples Row) (t : Row) (o : Option TupleRef) → IfSome o (λ r. now ≡ insert rows r t) → IfNone o (now ≡ rows) → ((q : TupleRef) (u : Row) → get rows q ≡ Some u → IsReadable keys width u) → IsReadable keys width t → (q : TupleRef) (u : Row) → get now q ≡ Some u → IsReadable keys width u
-readable_after keys width rows now t (Some r) put kept before row = rw put (readable_with keys width rows r t before row)
-readable_after keys width rows now t None put kept before row = rw kept before
+-- the same where a row came in, unless it was refused
+pub readable_after : (keys : Keys) (width : ℕ) (rows now : Tuples Row) (t : Row) (o : Result TupleRef RowRefusal) → IfOk o (λ r. now ≡ insert rows r t) → OnErr o (now ≡ rows) → ((q : TupleRef) (u : Row) → get rows q ≡ Some u → IsReadable keys width u) → IsReadable keys width t → (q : TupleRef) (u : Row) → get now q ≡ Some u → IsReadable keys width u
+readable_after keys width rows now t (Ok r) put kept before row = rw put (readable_with keys width rows r t before row)
+readable_after keys width rows now t (Err e) put kept before row = rw kept before
 
-pub few_after : (rows now : Tuples Row) (t : Row) (o : Option TupleRef) → IfSome o (λ r. get rows r ≡ None) → IfSome o (λ r. now ≡ insert rows r t) → IfNone o (now ≡ rows) → len rows < 16777216 → len now ≤ 16777216
-few_after rows now t (Some r) fresh put kept few =
+pub few_after : (rows now : Tuples Row) (t : Row) (o : Result TupleRef RowRefusal) → IfOk o (λ r. get rows r ≡ None) → IfOk o (λ r. now ≡ insert rows r t) → OnErr o (now ≡ rows) → len rows < 16777216 → len now ≤ 16777216
+few_after rows now t (Ok r) fresh put kept few =
     let more : len (insert rows r t) ≡ len rows + 1 = len-insert_fresh rows r t fresh in
     let same : len now ≡ len (insert rows r t) = ap len put in
     omega arith
-few_after rows now t None fresh put kept few = let same : len now ≡ len rows = ap len kept in omega arith
+few_after rows now t (Err e) fresh put kept few = let same : len now ≡ len rows = ap len kept in omega arith
+
+-- what is told where there is room is told rightly
+pub told_placed : (s : RelationState) (key : Value) (o : Result TupleRef RowRefusal) → len s.rows < 16777216 → IsPlacedRightly (HasKey s.rows key) o → IsToldRightly s key o
+told_placed s key (Ok r) few told = (told, few)
+told_placed s key (Err KeyExists) few told = told
+told_placed s key (Err Full) few told = absurd told
+told_placed s key (Err NoMemory) few told = tt

@@ -55,3 +55,9 @@ pub each_alike : {A B : Type 0} (f : A → B) (old lent new : List A) → lent �
 each_alike f old lent new same long each =
     let count : length new ≡ length old = long ∙ ap length same in
     ap (map f) (refilled old new count) ∙ same_mapped f old new count (rw same at each)
+
+-- and what held of each still does
+pub each_keeps : {A : Type 0} (Q : A → Type 0) (old lent new : List A) → lent ≡ old → length new ≡ length lent → ((k : ℕ) (d : A) → k < length lent → Q (get_or lent k d) → Q (get_or new k d)) → All Q old → All Q (refill (length old) old new)
+each_keeps Q old lent new same long each all =
+    let count : length new ≡ length old = long ∙ ap length same in
+    rw (refilled old new count) (λ k d l. let inside : k < length old = omega (arith, l, count) in (rw same at each) k d inside (all k d inside))

@@ -18,7 +18,7 @@ use Rattle.mm_relation.specs.Reading.{Keys, row_value}
 use Rattle.mm_relation.specs.Order.{column_cmp}
 use Rattle.mm_relation.specs.State.{IsKeyed, no_keys}
 use Rattle.mm_relation.specs.Settings.{with_cells, CanSet}
-use Rattle.mm_relation.specs.Indexes.{Indexes, Await, Gain, Lose, LosesAs, Serve, HaveRoom, CanRead, CanReadRow, IsColumn, wanted, room_in}
+use Rattle.mm_relation.specs.Indexes.{Indexes, Await, Gain, Lose, LosesAs, Serve, HaveRoom, CoversIn, Cover, CanRead, CanReadRow, IsColumn, wanted, room_in}
 use Rattle.mm_relation.proofs.KeyOrder.{keyed_again, keyed_without, bag_without, not_taken, still_held}
 use Rattle.mm_relation.proofs.Changing.{awaits, served_with, served_without}
 use Rattle.mm_relation.proofs.Serving.{lose_declared}
@@ -29,6 +29,12 @@ room_out : (keys : Keys) (rows : Tuples Row) (r : TupleRef) (c : ℕ) (old mid :
 room_out keys rows r c (Tree t) (Tree u) loses room = omega (arith, loses.room, room)
 room_out keys rows r c (Hash h) (Hash g) loses room = omega (arith, loses.room, room)
 room_out keys rows r c was is loses room = absurd loses
+
+-- and memory for its node
+covers_out : (keys : Keys) (rows : Tuples Row) (r : TupleRef) (c : ℕ) (old mid : Index) → LosesAs keys rows r c old mid → CoversIn r mid
+covers_out keys rows r c (Tree t) (Tree u) loses = tt
+covers_out keys rows r c (Hash h) (Hash g) loses = loses.covered
+covers_out keys rows r c was is loses = absurd loses
 
 module _ (keys : Keys) (rows : Tuples Row) (list : List TupleRef) (all : Indexes) (r : TupleRef) (t : Row) (sets : List (ColumnNumber × Cell)) (keyed : IsKeyed rows list) (read : CanRead keys rows all) (serves : Serve keys rows list all) (can : CanSet keys rows sets) (found : get rows r ≡ Some t) where
   held : IsSome (get rows r)
@@ -73,12 +79,17 @@ module _ (keys : Keys) (rows : Tuples Row) (list : List TupleRef) (all : Indexes
         let inside : k < length all = omega (arith, loses.count, l) in
         room_out keys rows r _ (get_or all k d).index (get_or mid k d).index (loses.at k d inside).1 (room k d inside)
 
+    covers_less : Cover r mid
+    covers_less = λ k d l.
+        let inside : k < length all = omega (arith, loses.count, l) in
+        covers_out keys rows r _ (get_or all k d).index (get_or mid k d).index (loses.at k d inside).1
+
     module _ (few : len rows ≤ 16777216) (room : HaveRoom 1 all) where
       await_again : Await keys (insert (remove rows r) r (with_cells sets t)) r mid
       await_again =
           let fewer : len (remove rows r) + 1 ≡ len rows = len-remove_held rows r held in
           awaits keys (remove rows r) rest mid keyed_less read_less serves_less r (with_cells sets t) (get-remove_same rows r) row_read
-          (omega arith) (rw again keyed_now.keys_differ) (room_less room)
+          (omega arith) (rw again keyed_now.keys_differ) (room_less room) covers_less
 
       pub await_now : Await keys (insert rows r (with_cells sets t)) r mid
       await_now = subst (λ now. Await keys now r mid) again await_again

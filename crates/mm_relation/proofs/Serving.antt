@@ -6,7 +6,7 @@ use Rattle.std.proofs.lemmas.List.{length-map}
 use Rattle.std.proofs.lemmas.Bool.{eqb-true, eq-eqb, and_parts, and_from}
 use Rattle.std.specs.Bool.{Decides}
 use Rattle.std.proofs.lemmas.List.Sums.{sum_by-cons}
-use Rattle.common_lemmas.proofs.Elements.{All-from_map, Contains-map, Contains-cons}
+use Rattle.common_lemmas.proofs.Elements.{All-from_map, Contains-map, Contains-from_map, Contains-cons}
 use Rattle.part_raw.specs.declared.tuple_ref.TupleRef.{TupleRef}
 use Rattle.part_raw.specs.Store.{Tuples}
 use Rattle.mm_index.specs.Bag.{IsSameBag}
@@ -23,7 +23,7 @@ use Rattle.mm_relation.specs.declared.numbers.DeclaredIndex.{DeclaredIndex}
 use Rattle.mm_relation.specs.Reading.{Keys, value_at, key_at, hash_at, hash_of_value}
 use Rattle.mm_relation.specs.Order.{KeysDiffer, column_cmp, column_cmp_strict}
 use Rattle.mm_relation.specs.State.{RowTree, tree_list, is_tree, TreeServes, HashServes}
-use Rattle.mm_relation.specs.Indexes.{Indexes, SeenIndex, seen, seen_as, kind_in, declaration_of, room_in, wanted, Where, Await, Gain, Have, Lose, Serve, Serves, HaveRoom, IsColumn, TreeAwaits, TreeGains, TreeHas, TreeLoses, Awaits, AwaitsAs, Gains, GainsAs, HasAs, Loses, LosesAs}
+use Rattle.mm_relation.specs.Indexes.{Indexes, SeenIndex, seen, seen_as, kind_in, declaration_of, room_in, wanted, CoversIn, Cover, Where, Await, Gain, Have, Lose, Serve, Serves, HaveRoom, IsColumn, TreeAwaits, TreeGains, TreeHas, TreeLoses, Awaits, AwaitsAs, Gains, GainsAs, HasAs, Loses, LosesAs}
 use Rattle.mm_relation.proofs.Loops.{same_mapped}
 
 -- indexes that are seen alike were declared alike
@@ -33,6 +33,10 @@ declared_seen (on ∷ all) = ap (λ ds. declaration_of on ∷ ds) (declared_seen
 
 pub seen_declared : (old new : Indexes) → map seen new ≡ map seen old → map declaration_of new ≡ map declaration_of old
 seen_declared old new same = sym (declared_seen new) ∙ ap (map (λ (s : SeenIndex). s.declaration)) same ∙ declared_seen old
+
+-- and stand on the same columns
+pub column_seen : (old new : Indexes) → map seen new ≡ map seen old → (c : ℕ) → IsColumn new c → IsColumn old c
+column_seen old new same c column = subst (λ ds. Contains (map (λ (x : DeclaredIndex). x.column.0) ds) c) (seen_declared old new same) column
 
 -- what is left of two bags from which one element is taken
 pub same_behind : {A : Type 0} (x : A) (xs ys : List A) → IsSameBag (x ∷ xs) (x ∷ ys) → IsSameBag xs ys
@@ -137,9 +141,16 @@ module _ (keys : Keys) (rows : Tuples Row) where
       (IsSameBag-trans serves (IsSameBag-map (λ q. (hash_at keys c.0 rows q, q)) bag)))
   loses_as differ refs rest r c old new bag has loses serves = absurd loses
 
+  -- what a hash has an entry of is one of the references that it serves
+  pub from_entries : (refs : List TupleRef) (c : ℕ) (entries : List (ℕ × TupleRef)) (hash : ℕ) (r : TupleRef) → HashServes keys rows refs (c, entries) → Contains entries (hash, r) → Contains refs r
+  from_entries refs c entries hash r serves there =
+      let entry : TupleRef → ℕ × TupleRef = λ q. (hash_at keys c rows q, q) in
+      let found = Contains-from_map entry refs (hash, r) (Contains-same_entries entries (map entry refs) (hash, r) serves there) in
+      subst (Contains refs) (ap (λ x. x.1) found.2) found.1
+
   -- an index can take in a row that none of the references names, and has one that one of them names
-  awaits_as : (refs : List TupleRef) (r : TupleRef) (c : ColumnNumber) (index : Index) → (Contains refs r → ⊥) → length refs < 2 ^ 32 → wanted 1 index ≤ room_in index → ((q : TupleRef) → Contains (r ∷ refs) q → IsSome (value_at keys c.0 rows q)) → Serves keys rows refs (seen_as c index) → AwaitsAs keys rows r c.0 index
-  awaits_as refs r c (Tree t) absent short room read serves =
+  awaits_as : (refs : List TupleRef) (r : TupleRef) (c : ColumnNumber) (index : Index) → (Contains refs r → ⊥) → length refs < 2 ^ 32 → wanted 1 index ≤ room_in index → CoversIn r index → ((q : TupleRef) → Contains (r ∷ refs) q → IsSome (value_at keys c.0 rows q)) → Serves keys rows refs (seen_as c index) → AwaitsAs keys rows r c.0 index
+  awaits_as refs r c (Tree t) absent short room covers read serves =
       let same : length (tree_list t.tree) ≡ length refs = length-same_bag (tree_list t.tree) refs serves.bag in
       record {
         room = room;
@@ -151,9 +162,15 @@ module _ (keys : Keys) (rows : Tuples Row) where
           rising = serves.rising;
         };
       }
-  awaits_as refs r c (Hash h) absent short room read serves =
+  awaits_as refs r c (Hash h) absent short room covers read serves =
       let same : length h.entries ≡ length refs = length-same_bag h.entries _ serves ∙ length-map refs (λ q. (hash_at keys c.0 rows q, q)) in
-      record { room = room; short = omega (arith, same, short); r_readable = read r (0, omega arith, refl) }
+      record {
+        room = room;
+        short = omega (arith, same, short);
+        covered = covers;
+        absent = λ hash there. absent (from_entries refs c.0 h.entries hash r serves there);
+        r_readable = read r (0, omega arith, refl);
+      }
 
   has_as : (refs : List TupleRef) (r : TupleRef) (c : ColumnNumber) (index : Index) → Contains refs r → ((q : TupleRef) → Contains refs q → IsSome (value_at keys c.0 rows q)) → Serves keys rows refs (seen_as c index) → HasAs keys rows r c.0 index
   has_as refs r c (Tree t) there read serves = record {
@@ -165,7 +182,6 @@ module _ (keys : Keys) (rows : Tuples Row) where
   }
   has_as refs r c (Hash h) there read serves = record {
     held = Contains-same_entries _ h.entries (hash_at keys c.0 rows r, r) (IsSameBag-sym serves) (Contains-map (λ q. (hash_at keys c.0 rows q, q)) refs r there);
-    r_readable = read r there;
   }
 
   -- rows that have the same values in one column under the references, and the same keys, serve its index alike
@@ -226,9 +242,9 @@ module _ (keys : Keys) (rows : Tuples Row) where
     pub all_bag : (same : List TupleRef) → IsSameBag refs same → Serve keys rows same old
     all_bag same bag = λ k d l. serves_bag refs same (get_or (map seen old) k d) bag (serves k d l)
 
-    pub all_await : (r : TupleRef) → (Contains refs r → ⊥) → length refs < 2 ^ 32 → HaveRoom 1 old → ((c : ℕ) (q : TupleRef) → IsColumn old c → Contains (r ∷ refs) q → IsSome (value_at keys c rows q)) → Await keys rows r old
-    all_await r absent short room readable = λ k d l.
-        awaits_as refs r (get_or old k d).column (get_or old k d).index absent short (room k d l) (λ q h. readable _ q (column_at old k d l) h) (at k d l)
+    pub all_await : (r : TupleRef) → (Contains refs r → ⊥) → length refs < 2 ^ 32 → HaveRoom 1 old → Cover r old → ((c : ℕ) (q : TupleRef) → IsColumn old c → Contains (r ∷ refs) q → IsSome (value_at keys c rows q)) → Await keys rows r old
+    all_await r absent short room covers readable = λ k d l.
+        awaits_as refs r (get_or old k d).column (get_or old k d).index absent short (room k d l) (covers k d l) (λ q h. readable _ q (column_at old k d l) h) (at k d l)
 
     pub all_have : (r : TupleRef) → Contains refs r → ((c : ℕ) (q : TupleRef) → IsColumn old c → Contains refs q → IsSome (value_at keys c rows q)) → Have keys rows r old
     all_have r there readable = λ k d l.

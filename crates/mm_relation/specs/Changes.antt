@@ -44,6 +44,13 @@ IsToldRightly s key (Err KeyExists) = HasKey s.rows key
 IsToldRightly s key (Err Full) = (HasKey s.rows key → ⊥) × (16777216 ≤ finite.len s.rows)
 IsToldRightly s key (Err NoMemory) = Unit {0}
 
+-- why a row that there is room for didn't come in, by whether its key is there
+abbrev pub IsPlacedRightly : Type 0 → Result TupleRef RowRefusal → Type 0
+IsPlacedRightly key_held (Ok r) = key_held → ⊥
+IsPlacedRightly key_held (Err KeyExists) = key_held
+IsPlacedRightly key_held (Err Full) = ⊥
+IsPlacedRightly key_held (Err NoMemory) = Unit {0}
+
 -- a row as it comes in: no link names it
 abbrev pub new_row : Value → List Cell → Row
 new_row key cells = record { key = key; cells = cells; referrers = 0 }

@@ -6,7 +6,7 @@ use Rattle.part_raw.specs.Store.{Tuples}
 use Rattle.ttree_node.specs.TreeWithSpares.{TreeWithSpares}
 use Rattle.ttree.specs.Held.{empty, size}
 use Rattle.ttree.specs.Room.{room_of}
-use Rattle.lin_hash.specs.Held.{HeldBuckets}
+use Rattle.lin_hash.specs.HeldRows.{HeldRows, IsCovered}
 use Rattle.mm_index.specs.Bag.{IsSameBag}
 use Rattle.mm_index.specs.Order.{IsRising, insert_by, remove_by}
 use Rattle.plain_tables.specs.declared.schema.IndexKind.{IndexKind}
@@ -45,6 +45,11 @@ entries_in (Hash h) = h.entries
 abbrev pub room_in : Index → ℕ
 room_in (Tree t) = room_of 30 t
 room_in (Hash h) = h.room
+
+-- it has memory for the node of this row, where rows have nodes of their own
+abbrev pub CoversIn : TupleRef → Index → Type 0
+CoversIn r (Tree t) = Unit {0}
+CoversIn r (Hash h) = IsCovered h.covered r
 
 -- how many spare nodes a tree has
 abbrev pub spares_in : Index → ℕ
@@ -122,25 +127,27 @@ pub record TreeLoses (keys : Keys) (rows : Tuples Row) (r : TupleRef) (column : 
   pub rising : IsRising (column_cmp keys column rows) (tree_list new.tree)
 
 -- a hash on a column can take in this row
-pub record HashAwaits (keys : Keys) (rows : Tuples Row) (r : TupleRef) (column : ℕ) (h : HeldBuckets) : Type 0 where
+pub record HashAwaits (keys : Keys) (rows : Tuples Row) (r : TupleRef) (column : ℕ) (h : HeldRows) : Type 0 where
   pub room : 0 < h.room
   pub short : length h.entries < 2 ^ 32
+  pub covered : IsCovered h.covered r
+  pub absent : (hash : ℕ) → Contains h.entries (hash, r) → ⊥
   pub r_readable : IsSome (value_at keys column rows r)
 
 -- the hash with this row besides
-pub record HashGains (keys : Keys) (rows : Tuples Row) (r : TupleRef) (column : ℕ) (old new : HeldBuckets) : Type 0 where
+pub record HashGains (keys : Keys) (rows : Tuples Row) (r : TupleRef) (column : ℕ) (old new : HeldRows) : Type 0 where
   pub room : old.room ≤ new.room + 1
   pub entries : IsSameBag new.entries ((hash_at keys column rows r, r) ∷ old.entries)
 
 -- the hash has this row
-pub record HashHas (keys : Keys) (rows : Tuples Row) (r : TupleRef) (column : ℕ) (h : HeldBuckets) : Type 0 where
+pub record HashHas (keys : Keys) (rows : Tuples Row) (r : TupleRef) (column : ℕ) (h : HeldRows) : Type 0 where
   pub held : Contains h.entries (hash_at keys column rows r, r)
-  pub r_readable : IsSome (value_at keys column rows r)
 
--- the hash without this row
-pub record HashLoses (keys : Keys) (rows : Tuples Row) (r : TupleRef) (column : ℕ) (old new : HeldBuckets) : Type 0 where
+-- the hash without this row, for which it keeps memory
+pub record HashLoses (keys : Keys) (rows : Tuples Row) (r : TupleRef) (column : ℕ) (old new : HeldRows) : Type 0 where
   pub room : old.room + 1 ≤ new.room
   pub entries : IsSameBag old.entries ((hash_at keys column rows r, r) ∷ new.entries)
+  pub covered : IsCovered new.covered r
 
 -- an index on a column can take in this row
 abbrev pub AwaitsAs : Keys → Tuples Row → TupleRef → ℕ → Index → Type 0
@@ -219,6 +226,10 @@ Lose keys rows r old new = Each (Loses keys rows r) old new
 -- the trees are sure of so many inserts, and the hashes of one
 abbrev pub HaveRoom : ℕ → Indexes → Type 0
 HaveRoom n all = All (λ on. wanted n on.index ≤ room_in on.index) all
+
+-- each has memory for the node of this row
+abbrev pub Cover : TupleRef → Indexes → Type 0
+Cover r all = All (λ on. CoversIn r on.index) all
 
 -- as cells are set in the row, it goes out of an index whose column is set, and comes in again; the others stay as they are
 abbrev pub LosesSet : Keys → Tuples Row → TupleRef → List (ColumnNumber × Cell) → IndexOn → IndexOn → Type 0

@@ -15,8 +15,7 @@ use crate::numbers::DeclaredIndex;
 use crate::rows::Rows;
 use crate::sorted_rows::rows_by_column;
 use crate::tree::{Tree, tree_of};
-use lin_hash::LinHash;
-use mm_index::ExactIndex;
+use lin_hash::RowHash;
 use no_memory::NoMemory;
 use part_raw::TupleRef;
 use plain_tables::{ColumnNumber, IndexKind, Sequence};
@@ -29,15 +28,16 @@ fn hash_over<R: LinkedKeys>(
     by_key: &Tree,
     others: &R,
     column: ColumnNumber,
-) -> Result<LinHash, NoMemory>
+) -> Result<RowHash, NoMemory>
     requires keyed { IsKeyed rows.now.tuples (items_of_tree by_key.now) }
     requires few { finite.len rows.now.tuples ≤ 16777216 }
     requires read { (q : TupleRef) → IsSome (finite.get rows.now.tuples q) → IsSome (value_at (R.keys others.now) column.0 rows.now.tuples q) }
     ensures serves { IfOk result (λ h. HashServes (R.keys others.now) rows.now.tuples (items_of_tree by_key.now) (column.0, h.entries)) }
 {
-    let mut hash = LinHash::new(alloc);
+    let mut hash = RowHash::new(alloc);
     hash.reserve(by_key.len())?;
     for r in by_key.walk() {
+        hash.cover(r)?;
         hash.insert(hash_in(rows, others, column, r), r);
     }
     Ok(hash)

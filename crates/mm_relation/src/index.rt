@@ -1,8 +1,8 @@
 //! One declared index of a relation.
-ghost use Rattle.std.specs.Prelude.{◌≡◌, ◌≤◌, IsSome, OnOk, max};
+ghost use Rattle.std.specs.Prelude.{◌≡◌, ℕ, ◌≤◌, IsSome, OnOk, max};
 ghost use Rattle.mm_relation.specs.Order.{KeysDiffer};
 ghost use Rattle.mm_relation.specs.Reading.{value_at, hash_at};
-ghost use Rattle.mm_relation.specs.Indexes.{declaration_of, room_in, spares_in, HasFewSpares, seen, Awaits, Gains, Has, Loses};
+ghost use Rattle.mm_relation.specs.Indexes.{declaration_of, room_in, wanted, CoversIn, spares_in, HasFewSpares, seen, Awaits, Gains, Has, Loses};
 
 use crate::linked_keys::LinkedKeys;
 use crate::numbers::DeclaredIndex;
@@ -10,8 +10,8 @@ use crate::order::{ColumnOrder, value_in};
 use crate::rows::Rows;
 use crate::spares::{shed_hash, shed_tree};
 use crate::tree::Tree;
-use lin_hash::LinHash;
-use mm_index::{ExactIndex, OrderProbe};
+use lin_hash::RowHash;
+use mm_index::OrderProbe;
 use no_memory::NoMemory;
 use part_raw::TupleRef;
 use plain_tables::{ColumnNumber, IndexKind, hash_of, low_bits};
@@ -20,7 +20,7 @@ use plain_tables::{ColumnNumber, IndexKind, hash_of, low_bits};
 #[derive(Drop)]
 pub enum Index {
     Tree(Tree),
-    Hash(LinHash),
+    Hash(RowHash),
 }
 
 /// A declared index: its column, and the tree or the hash that stands on it.
@@ -66,6 +66,18 @@ impl IndexOn {
         }
     }
 
+    // Makes sure of memory for the node of a row's reference. A tree's nodes belong to no row.
+    pub fn cover(&mut self, r: TupleRef) -> Result<(), NoMemory>
+        ensures same { seen self.new ≡ seen self.old }
+        ensures room { (n : ℕ) → wanted n self.old.index ≤ room_in self.old.index → wanted n self.new.index ≤ room_in self.new.index }
+        ensures covered { OnOk result (CoversIn r self.new.index) }
+    {
+        match &mut self.index {
+            Index::Tree(_) => Ok(()),
+            Index::Hash(hash) => hash.cover(r),
+        }
+    }
+
     // Puts a row's reference in. It takes no memory.
     pub fn insert<R: LinkedKeys>(&mut self, rows: &Rows, others: &R, r: TupleRef)
         requires keys_differ { KeysDiffer rows.now.tuples }
@@ -94,7 +106,7 @@ impl IndexOn {
                 let order = ColumnOrder::beside(rows, others, column, r);
                 tree.remove(&mut OrderProbe::new(&order, r));
             }
-            Index::Hash(hash) => hash.remove(hash_in(rows, others, column, r), r),
+            Index::Hash(hash) => hash.remove(r),
         }
     }
 

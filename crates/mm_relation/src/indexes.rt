@@ -6,7 +6,7 @@ ghost use Rattle.mm_relation.specs.Order.{KeysDiffer};
 ghost use Rattle.mm_relation.specs.Declaring.{is_index};
 ghost use Rattle.mm_relation.specs.Settings.{sets_column};
 ghost use Rattle.mm_relation.specs.State.{tree_of, entries_on, HasColumn, HasHashColumn};
-ghost use Rattle.mm_relation.specs.Indexes.{seen, declaration_of, room_in, wanted, spares_in, HasFewSpares, trees_of, hashes_of, Awaits, Gains, Has, Loses, GainsSet, AwaitsSet, LosesSet, HaveRoom, Await, Gain, Have, Lose, AwaitSet, GainSet, LoseSet};
+ghost use Rattle.mm_relation.specs.Indexes.{seen, declaration_of, room_in, wanted, CoversIn, spares_in, HasFewSpares, trees_of, hashes_of, Awaits, Gains, Has, Loses, GainsSet, AwaitsSet, LosesSet, HaveRoom, Cover, Await, Gain, Have, Lose, AwaitSet, GainSet, LoseSet};
 
 use crate::index::{Index, IndexOn};
 use crate::linked_keys::LinkedKeys;
@@ -14,8 +14,7 @@ use crate::numbers::DeclaredIndex;
 use crate::rows::Rows;
 use crate::stored_cell::StoredCell;
 use crate::tree::Tree;
-use lin_hash::LinHash;
-use mm_index::ExactIndex;
+use lin_hash::RowHash;
 use no_memory::NoMemory;
 use part_raw::TupleRef;
 use plain_tables::{ColumnNumber, Sequence};
@@ -40,6 +39,17 @@ fn reserve_each(indexes: &mut [IndexOn], n: usize) -> Result<(), NoMemory>
     for on in indexes.iter_mut() {
         let wanted = wanted_in(on, n);
         on.reserve(wanted)?;
+    }
+    Ok(())
+}
+
+fn cover_each(indexes: &mut [IndexOn], r: TupleRef) -> Result<(), NoMemory>
+    ensures same { (k : ℕ) (d : IndexOn) → k < length indexes.old → seen (slice_index_or indexes.new k d) ≡ seen (slice_index_or indexes.old k d) }
+    ensures room { (n k : ℕ) (d : IndexOn) → k < length indexes.old → wanted n (slice_index_or indexes.old k d).index ≤ room_in (slice_index_or indexes.old k d).index → wanted n (slice_index_or indexes.new k d).index ≤ room_in (slice_index_or indexes.new k d).index }
+    ensures covered { OnOk result (All (λ on. CoversIn r on.index) indexes.new) }
+{
+    for on in indexes.iter_mut() {
+        on.cover(r)?;
     }
     Ok(())
 }
@@ -154,6 +164,15 @@ pub fn reserve(indexes: &mut Sequence<IndexOn>, n: usize) -> Result<(), NoMemory
     reserve_each(indexes.as_mut_slice(), n)
 }
 
+// Makes sure of memory in each for the node of this row. What they have room for stays.
+pub fn cover(indexes: &mut Sequence<IndexOn>, r: TupleRef) -> Result<(), NoMemory>
+    ensures same { map seen indexes.new ≡ map seen indexes.old }
+    ensures room { (n : ℕ) → HaveRoom n indexes.old → HaveRoom n indexes.new }
+    ensures covered { OnOk result (Cover r indexes.new) }
+{
+    cover_each(indexes.as_mut_slice(), r)
+}
+
 // Gives back what is spare of each, where that is more than what is in use.
 pub fn shed_spares(indexes: &mut Sequence<IndexOn>)
     ensures same { map seen indexes.new ≡ map seen indexes.old }
@@ -239,7 +258,7 @@ pub fn tree_on(indexes: &[IndexOn], column: ColumnNumber) -> &Tree
 }
 
 // The first hash on this column.
-pub fn hash_on(indexes: &[IndexOn], column: ColumnNumber) -> &LinHash
+pub fn hash_on(indexes: &[IndexOn], column: ColumnNumber) -> &RowHash
     requires { HasHashColumn column.0 (hashes_of (map seen indexes.now)) }
     ensures { result.now.entries ≡ entries_on column.0 (hashes_of (map seen indexes.now)) }
 {

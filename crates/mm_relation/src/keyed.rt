@@ -1,24 +1,36 @@
 //! The rows in their store, under the tree of their keys.
 ghost use Rattle.ttree.specs.Held.{items_of_tree};
 ghost use Rattle.ttree.specs.Room.{room_of};
-ghost use Rattle.std.specs.Prelude.{◌≡◌, ◌<◌, ◌∷◌, [], None, Some, IsSome, IfSome, IfNone, length};
+ghost use Rattle.std.specs.Prelude.{◌≡◌, ℕ, ◌<◌, ◌∷◌, [], None, IsSome, IfOk, OnErr, length, map};
 ghost use Rattle.std.specs.FinMap as finite;
 ghost use Rattle.part_raw.specs.declared.tuple_ref.TupleRef.{TupleRef};
 ghost use Rattle.mm_index.specs.Bag.{IsSameBag};
 ghost use Rattle.mm_relation.specs.Rows.{StartsWithKey, row_of};
 ghost use Rattle.mm_relation.specs.State.{IsKeyed, HasKey};
+ghost use Rattle.mm_relation.specs.Changes.{IsPlacedRightly};
+ghost use Rattle.mm_relation.specs.Indexes.{seen, HaveRoom, Cover};
 
+use crate::index::IndexOn;
+use crate::indexes::cover;
 use crate::order::KeyOrder;
 use crate::probe::KeyProbe;
+use crate::refusal::RowRefusal;
 use crate::rows::Rows;
 use crate::stored_cell::StoredCell;
 use crate::tree::Tree;
 use mm_index::OrderProbe;
 use part_raw::TupleRef;
+use plain_tables::Sequence;
 
 // Takes the row of these cells in unless its key is there, by one search, or by none where the keys of rows before it
-// stood behind all others and its own does. There is room for it. The cells are gone either way, and the vector keeps its memory.
-pub fn put_row(rows: &mut Rows, by_key: &mut Tree, row: &mut Vec<StoredCell>) -> Option<TupleRef>
+// stood behind all others and its own does. There is room for it, and the indexes get memory for its node. The cells are
+// gone either way, and the vector keeps its memory.
+pub fn put_row(
+    rows: &mut Rows,
+    by_key: &mut Tree,
+    indexes: &mut Sequence<IndexOn>,
+    row: &mut Vec<StoredCell>,
+) -> Result<TupleRef, RowRefusal>
     requires free { 0 < rows.old.free }
     requires width { length row.old.items ≡ rows.old.width }
     requires starts { StartsWithKey row.old.items }
@@ -26,18 +38,24 @@ pub fn put_row(rows: &mut Rows, by_key: &mut Tree, row: &mut Vec<StoredCell>) ->
     requires few { finite.len rows.old.tuples < 16777216 }
     requires keyed { IsKeyed rows.old.tuples (items_of_tree by_key.old) }
     ensures keyed { IsKeyed rows.new.tuples (items_of_tree by_key.new) }
-    ensures fresh { IfSome result (λ r. finite.get rows.old.tuples r ≡ None) }
-    ensures put { IfSome result (λ r. rows.new.tuples ≡ finite.insert rows.old.tuples r (row_of row.old.items 0)) }
-    ensures listed { IfSome result (λ r. IsSameBag (items_of_tree by_key.new) (r ∷ (items_of_tree by_key.old))) }
-    ensures no_key { IfSome result (λ _. HasKey rows.old.tuples (row_of row.old.items 0).key → ⊥) }
-    ensures has_key { IfNone result (HasKey rows.old.tuples (row_of row.old.items 0).key) }
-    ensures kept { IfNone result (rows.new.tuples ≡ rows.old.tuples) }
-    ensures kept_tree { IfNone result (by_key.new ≡ by_key.old) }
+    ensures fresh { IfOk result (λ r. finite.get rows.old.tuples r ≡ None) }
+    ensures put { IfOk result (λ r. rows.new.tuples ≡ finite.insert rows.old.tuples r (row_of row.old.items 0)) }
+    ensures listed { IfOk result (λ r. IsSameBag (items_of_tree by_key.new) (r ∷ (items_of_tree by_key.old))) }
+    ensures covered { IfOk result (λ r. Cover r indexes.new) }
+    ensures told { IsPlacedRightly (HasKey rows.old.tuples (row_of row.old.items 0).key) result }
+    ensures kept { OnErr result (rows.new.tuples ≡ rows.old.tuples) }
+    ensures kept_tree { OnErr result (by_key.new ≡ by_key.old) }
+    ensures same { map seen indexes.new ≡ map seen indexes.old }
+    ensures room { (n : ℕ) → HaveRoom n indexes.old → HaveRoom n indexes.new }
     ensures width { rows.new.width ≡ rows.old.width }
     ensures counted { rows.new.counted ≡ rows.old.counted }
     ensures moved { row.new.items ≡ [] }
 {
     let r = rows.put(row);
+    if cover(indexes, r).is_err() {
+        rows.remove(r);
+        return Err(RowRefusal::NoMemory);
+    }
     let sought = rows.key(r).sought();
     let mut probe = KeyProbe {
         rows,
@@ -46,9 +64,9 @@ pub fn put_row(rows: &mut Rows, by_key: &mut Tree, row: &mut Vec<StoredCell>) ->
     };
     if by_key.insert_from_end(&mut probe, r).is_some() {
         rows.remove(r);
-        return None;
+        return Err(RowRefusal::KeyExists);
     }
-    Some(r)
+    Ok(r)
 }
 
 // Takes a row out. It takes no memory.

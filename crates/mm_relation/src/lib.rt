@@ -40,7 +40,7 @@ mod stored_cell;
 mod tree;
 mod view;
 
-pub use lin_hash::{Chain, HashShape};
+pub use lin_hash::{HashShape, RowChain};
 pub use linked_keys::LinkedKeys;
 pub use mm_index::Probe;
 pub use numbers::DeclaredIndex;

@@ -1,17 +1,19 @@
 //! A row under all indexes of a relation, over the relation's parts.
 ghost use Rattle.ttree.specs.Held.{items_of_tree, size};
 ghost use Rattle.ttree.specs.Room.{room_of, nodes_of, nodes_for};
-ghost use Rattle.std.specs.Prelude.{◌≡◌, ℕ, ◌+◌, ◌≤◌, ◌<◌, [], max, length, slice_index_or, None, Some, IsSome, IfSome, IfNone, OnOk, All, map};
+ghost use Rattle.std.specs.Prelude.{◌≡◌, ℕ, ◌+◌, ◌≤◌, ◌<◌, [], max, length, slice_index_or, None, IsSome, IfOk, OnOk, OnErr, All, map};
 ghost use Rattle.std.specs.FinMap as finite;
 ghost use Rattle.mm_relation.specs.declared.index.IndexOn.{IndexOn};
 ghost use Rattle.mm_relation.specs.Rows.{StartsWithKey, row_of};
 ghost use Rattle.mm_relation.specs.State.{IsKeyed, HasKey};
+ghost use Rattle.mm_relation.specs.Changes.{IsPlacedRightly};
 ghost use Rattle.mm_relation.specs.Indexes.{seen, spares_in, HasFewSpares, declaration_of, HaveRoom, Serve, CanRead, CanReadRow};
 
 use crate::index::IndexOn;
 use crate::indexes::{insert, remove, reserve, shed_spares};
 use crate::keyed::{put_row, take_row};
 use crate::linked_keys::LinkedKeys;
+use crate::refusal::RowRefusal;
 use crate::rows::Rows;
 use crate::spares::{shed_rows, shed_tree};
 use crate::stored_cell::StoredCell;
@@ -47,14 +49,15 @@ pub fn make_room(
     reserve(indexes, 1)
 }
 
-// Takes the row of these cells in unless its key is there. There is room for it. The cells are gone either way.
+// Takes the row of these cells in unless its key is there. There is room for it, but for its nodes in the hashes. The cells
+// are gone either way.
 pub fn place<R: LinkedKeys>(
     rows: &mut Rows,
     by_key: &mut Tree,
     indexes: &mut Sequence<IndexOn>,
     links: &R,
     row: &mut Vec<StoredCell>,
-) -> Option<TupleRef>
+) -> Result<TupleRef, RowRefusal>
     requires free { 0 < rows.old.free }
     requires width { length row.old.items ≡ rows.old.width }
     requires starts { StartsWithKey row.old.items }
@@ -68,20 +71,19 @@ pub fn place<R: LinkedKeys>(
     ensures keyed { IsKeyed rows.new.tuples (items_of_tree by_key.new) }
     ensures serve { Serve (R.keys links.now) rows.new.tuples (items_of_tree by_key.new) indexes.new }
     ensures declared { map declaration_of indexes.new ≡ map declaration_of indexes.old }
-    ensures fresh { IfSome result (λ r. finite.get rows.old.tuples r ≡ None) }
-    ensures put { IfSome result (λ r. rows.new.tuples ≡ finite.insert rows.old.tuples r (row_of row.old.items 0)) }
-    ensures no_key { IfSome result (λ _. HasKey rows.old.tuples (row_of row.old.items 0).key → ⊥) }
-    ensures has_key { IfNone result (HasKey rows.old.tuples (row_of row.old.items 0).key) }
-    ensures kept { IfNone result (rows.new.tuples ≡ rows.old.tuples) }
-    ensures kept_tree { IfNone result (by_key.new ≡ by_key.old) }
-    ensures kept_indexes { IfNone result (indexes.new ≡ indexes.old) }
+    ensures fresh { IfOk result (λ r. finite.get rows.old.tuples r ≡ None) }
+    ensures put { IfOk result (λ r. rows.new.tuples ≡ finite.insert rows.old.tuples r (row_of row.old.items 0)) }
+    ensures told { IsPlacedRightly (HasKey rows.old.tuples (row_of row.old.items 0).key) result }
+    ensures kept { OnErr result (rows.new.tuples ≡ rows.old.tuples) }
+    ensures kept_tree { OnErr result (by_key.new ≡ by_key.old) }
+    ensures kept_indexes { OnErr result (map seen indexes.new ≡ map seen indexes.old) }
     ensures moved { row.new.items ≡ [] }
     ensures width { rows.new.width ≡ rows.old.width }
     ensures counted { rows.new.counted ≡ rows.old.counted }
 {
-    let r = put_row(rows, by_key, row)?;
+    let r = put_row(rows, by_key, indexes, row)?;
     insert(indexes, rows, links, r);
-    Some(r)
+    Ok(r)
 }
 
 // Takes a row out. It takes no memory, and gives back what is spare of the rows' store and of an index where that is more

@@ -16,7 +16,7 @@ use crate::rows::Rows;
 use crate::stored_cell::{SeenCell, StoredCell};
 use crate::tree::{Tree, Walk};
 use crate::view::RowView;
-use lin_hash::{Chain, HashShape, LinHash};
+use lin_hash::{HashShape, RowChain, RowHash};
 use mm_index::Probe;
 use no_memory::NoMemory;
 use part_raw::{MAX_TUPLES, TupleRef};
@@ -75,7 +75,7 @@ impl Relation {
     ghost use Rattle.mm_index.specs.Bag.{IsSameBag, with_hash};
     ghost use Rattle.mm_index.specs.Range.{NeverFalls, from_range, in_range};
     ghost use Rattle.ttree.specs.Held.{rest_of, height};
-    ghost use Rattle.lin_hash.specs.Rest.{chain_rest};
+    ghost use Rattle.lin_hash.specs.RowRest.{row_chain_rest};
     ghost use Rattle.lin_hash.specs.Shape.{HasHashShape};
 
     /// The key of a row.
@@ -203,7 +203,7 @@ impl Relation {
     }
 
     // The hash on a column.
-    fn hash(&self, column: ColumnNumber) -> &LinHash
+    fn hash(&self, column: ColumnNumber) -> &RowHash
         requires { HasHash self.now column.0 }
         ensures { result.now.entries ≡ entries_of self.now column.0 }
     {
@@ -254,10 +254,10 @@ impl Relation {
         self.tree(column).range(probe, out)
     }
 
-    /// The rows whose value in a column with a hash has this hash, in any order.
-    pub fn chain_of(&self, column: ColumnNumber, hash: u32) -> Chain<'_>
+    /// The rows whose value in a column with a hash has this hash modulo 2^32, in any order.
+    pub fn chain_of(&self, column: ColumnNumber, hash: u32) -> RowChain<'_>
         requires { HasHash self.now column.0 }
-        ensures { IsSameBag (chain_rest result) (with_hash hash (entries_of self.now column.0)) }
+        ensures { IsSameBag (row_chain_rest result) (with_hash hash (entries_of self.now column.0)) }
     {
         self.hash(column).chain(hash)
     }
@@ -369,7 +369,6 @@ impl Relation {
             &links,
             cells,
         )
-        .ok_or(RowRefusal::KeyExists)
     }
 
     /// Takes a row out. It takes no memory.

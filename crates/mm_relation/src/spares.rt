@@ -8,8 +8,7 @@ ghost use Rattle.ttree.specs.Held.{size};
 
 use crate::rows::Rows;
 use crate::tree::Tree;
-use lin_hash::LinHash;
-use mm_index::ExactIndex;
+use lin_hash::RowHash;
 
 // A store keeps partitions with no row that have so few cells in all, of 64 KiB, however few rows there are.
 const FEW_CELLS: u64 = 4_096;
@@ -17,11 +16,14 @@ const FEW_CELLS: u64 = 4_096;
 // A tree keeps so few spare nodes, however few are in use.
 const FEW_NODES: usize = 64;
 
-// A hash keeps memory for so few nodes, of 12 bytes each, however few entries it has.
+// A hash keeps so few nodes in blocks without a row, of 12 bytes each, and so few heads, however few entries it has.
 const FEW_HASH_NODES: usize = 4_096;
 
-// And for so many an entry: so memory isn't given back and taken again as entries go and come.
-const MOST_NODES_AN_ENTRY: usize = 4;
+// A spare node for so many entries: so memory isn't given back and taken again as entries go and come.
+const ENTRIES_A_SPARE_NODE: usize = 4;
+
+// And so many heads an entry.
+const MOST_HEADS_AN_ENTRY: usize = 4;
 
 // Gives the memory of the partitions with no row back where it is that of more than a quarter as many rows as there are,
 // and of more than a few. Each of them had to lose its rows before, so a removal costs no more for it in the long run.
@@ -45,13 +47,15 @@ pub fn shed_tree(tree: &mut Tree)
     }
 }
 
-// Gives the spare memory of a hash back where it has that of four times as many nodes as entries, and of more than a few.
-pub fn shed_hash(hash: &mut LinHash)
-    ensures entries { hash.new.entries ≡ hash.old.entries }
-    ensures kept { hash.old.nodes ≤ 4096 → hash.new ≡ hash.old }
+// Gives the spare memory of a hash back where it has more than a few nodes in blocks without a row and more than a quarter
+// as many as entries, or more than a few heads and more than four times as many as entries.
+pub fn shed_hash(hash: &mut RowHash)
+    ensures { hash.new.entries ≡ hash.old.entries }
 {
-    let nodes = hash.nodes();
-    if nodes > FEW_HASH_NODES && nodes / MOST_NODES_AN_ENTRY > hash.len() {
+    let (spares, heads, entries) = (hash.spare_nodes(), hash.heads(), hash.len());
+    let has_spare_nodes = spares > FEW_HASH_NODES.max(entries / ENTRIES_A_SPARE_NODE);
+    let has_spare_heads = heads > FEW_HASH_NODES && heads / MOST_HEADS_AN_ENTRY > entries;
+    if has_spare_nodes || has_spare_heads {
         hash.release_spares();
     }
 }

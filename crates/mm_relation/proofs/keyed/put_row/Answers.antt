@@ -1,14 +1,23 @@
 use Rattle.ttree.specs.Held.{items_of_tree}
-use Rattle.std.proofs.Common.{◌∙◌, sym, ap, arith, Some, is_some}
-use Rattle.std.specs.FinMap.{get, remove}
+use Rattle.std.proofs.Common.{◌≡◌, ◌∙◌, sym, ap, arith, Some, IsSome, is_some}
+use Rattle.std.specs.FinMap.{get, insert, remove}
+use Rattle.part_raw.specs.declared.tuple_ref.TupleRef.{TupleRef}
+use Rattle.part_raw.specs.Store.{Tuples}
 use Rattle.part_raw.proofs.Tuples.{get-insert_same}
 use Rattle.mm_relation.proofs.KeyOrder.{covered, in_order, key_found, keyed_with, bag_with, no_key, got_key, from_some, taken_again}
 use Rattle.common_lemmas.proofs.Options.{at_none}
-use Rattle.mm_relation.specs.Rows.{row_of}
+use Rattle.mm_relation.specs.Rows.{Row, row_of}
 use Rattle.mm_relation.proofs.keyed.put_row.Goals as goal
 
+-- the row is held once it was put
+there : (rows now : Tuples Row) (r : TupleRef) (t : Row) → now ≡ insert rows r t → IsSome (get now r)
+there rows now r t put = ap is_some (ap (λ m. get m r) put ∙ get-insert_same rows r t)
+
+pub remove-requires : goal.remove-requires
+remove-requires c = there c.args.rows.now.tuples c.put-r.new.self.tuples c.put-r.result (row_of c.args.row.now.items 0) c.put-r.ensures.tuples
+
 pub key-requires : goal.key-requires
-key-requires c = ap is_some (ap (λ m. get m c.put-r.result) c.put-r.ensures.tuples ∙ get-insert_same c.args.rows.now.tuples c.put-r.result (row_of c.args.row.now.items 0))
+key-requires c = there c.args.rows.now.tuples c.put-r.new.self.tuples c.put-r.result (row_of c.args.row.now.items 0) c.put-r.ensures.tuples
 
 pub insert_from_end-requires : goal.insert_from_end-requires
 insert_from_end-requires c = (
@@ -28,19 +37,28 @@ insert_from_end-requires c = (
   ),
 )
 
-pub returns-then-is_some-clause-keyed : goal.returns-then-is_some-clause-keyed
-returns-then-is_some-clause-keyed c =
-    rw (c.remove.ensures.rows, c.put-r.ensures.tuples, taken_again c.args.rows.now.tuples c.put-r.result (row_of c.args.row.now.items 0) c.put-r.ensures.fresh, from_some c.insert_from_end.result (sym c.if-is_some.ensures) c.insert_from_end.ensures.kept)
+pub returns-then-is_err-clause-keyed : goal.returns-then-is_err-clause-keyed
+returns-then-is_err-clause-keyed c =
+    rw (c.remove.ensures.rows, c.put-r.ensures.tuples, taken_again c.args.rows.now.tuples c.put-r.result (row_of c.args.row.now.items 0) c.put-r.ensures.fresh)
     c.requires.keyed
 
-pub returns-then-is_some-clause-has_key : goal.returns-then-is_some-clause-has_key
-returns-then-is_some-clause-has_key c =
+pub returns-then-is_err-clause-kept : goal.returns-then-is_err-clause-kept
+returns-then-is_err-clause-kept c =
+    c.remove.ensures.rows ∙ ap (λ m. remove m c.put-r.result) c.put-r.ensures.tuples ∙ taken_again c.args.rows.now.tuples c.put-r.result (row_of c.args.row.now.items 0) c.put-r.ensures.fresh
+
+pub returns-then-is_some-clause-keyed : goal.returns-then-is_some-clause-keyed
+returns-then-is_some-clause-keyed c =
+    rw (c.remove-then-is_some.ensures.rows, c.put-r.ensures.tuples, taken_again c.args.rows.now.tuples c.put-r.result (row_of c.args.row.now.items 0) c.put-r.ensures.fresh, from_some c.insert_from_end.result (sym c.if-is_some.ensures) c.insert_from_end.ensures.kept)
+    c.requires.keyed
+
+pub returns-then-is_some-clause-told : goal.returns-then-is_some-clause-told
+returns-then-is_some-clause-told c =
     key_found c.args.rows.now.tuples (items_of_tree c.args.by_key.now) c.put-r.result (row_of c.args.row.now.items 0) c.requires.keyed c.put-r.ensures.fresh c.insert_from_end.result (sym c.if-is_some.ensures) c.insert_from_end.ensures.held
     (rw (got_key c.args.rows.now.tuples c.put-r.new.self.tuples c.put-r.result (row_of c.args.row.now.items 0) c.sought-sought.result c.put-r.ensures.tuples (c.key.ensures ∙ ap Some (sym c.sought-sought.ensures)), c.put-r.ensures.tuples) at c.insert_from_end.ensures.found)
 
 pub returns-then-is_some-clause-kept : goal.returns-then-is_some-clause-kept
 returns-then-is_some-clause-kept c =
-    c.remove.ensures.rows ∙ ap (λ m. remove m c.put-r.result) c.put-r.ensures.tuples ∙ taken_again c.args.rows.now.tuples c.put-r.result (row_of c.args.row.now.items 0) c.put-r.ensures.fresh
+    c.remove-then-is_some.ensures.rows ∙ ap (λ m. remove m c.put-r.result) c.put-r.ensures.tuples ∙ taken_again c.args.rows.now.tuples c.put-r.result (row_of c.args.row.now.items 0) c.put-r.ensures.fresh
 
 pub returns-clause-keyed : goal.returns-clause-keyed
 returns-clause-keyed c =
@@ -57,7 +75,7 @@ returns-clause-listed c =
     (items_of_tree c.insert_from_end.new.self)
     (at_none c.insert_from_end.result _ (sym c.if-is_some.ensures) (rw (got_key c.args.rows.now.tuples c.put-r.new.self.tuples c.put-r.result (row_of c.args.row.now.items 0) c.sought-sought.result c.put-r.ensures.tuples (c.key.ensures ∙ ap Some (sym c.sought-sought.ensures)), c.put-r.ensures.tuples) at c.insert_from_end.ensures.inserted))
 
-pub returns-clause-no_key : goal.returns-clause-no_key
-returns-clause-no_key c =
+pub returns-clause-told : goal.returns-clause-told
+returns-clause-told c =
     no_key c.args.rows.now.tuples (items_of_tree c.args.by_key.now) c.put-r.result (row_of c.args.row.now.items 0) c.requires.keyed c.put-r.ensures.fresh
     (at_none c.insert_from_end.result _ (sym c.if-is_some.ensures) (rw (got_key c.args.rows.now.tuples c.put-r.new.self.tuples c.put-r.result (row_of c.args.row.now.items 0) c.sought-sought.result c.put-r.ensures.tuples (c.key.ensures ∙ ap Some (sym c.sought-sought.ensures)), c.put-r.ensures.tuples) at c.insert_from_end.ensures.none))

@@ -1,24 +1,44 @@
 use Rattle.ttree.specs.Held.{items_of_tree}
-use Rattle.std.proofs.Common.{arith}
+use Rattle.std.proofs.Common.{◌∙◌, arith, sym, subst}
+use Rattle.std.specs.List.{All}
 use Rattle.mm_relation.proofs.Changing.{awaits, served_with}
-use Rattle.mm_relation.proofs.Serving.{gain_declared}
+use Rattle.mm_relation.proofs.Serving.{gain_declared, seen_declared, column_seen}
+use Rattle.mm_relation.specs.Indexes.{Serves, Serve, CanRead, CanReadRow}
 use Rattle.mm_relation.specs.Rows.{row_of}
 use Rattle.mm_relation.proofs.parts.place.Goals as goal
 
 pub insert-requires-clause-awaits : goal.insert-requires-clause-awaits
 insert-requires-clause-awaits g c =
+    let keys = g.R.LinkedKeys.keys c.args.links.now in
+    let same = c.put_row.ensures.same in
     rw c.in_ok-r.ensures.put
-    (awaits (g.R.LinkedKeys.keys c.args.links.now) c.args.rows.now.tuples (items_of_tree c.args.by_key.now) c.args.indexes.now c.requires.keyed c.requires.read c.requires.serve c.in_ok-r.r (row_of c.args.row.now.items 0) c.in_ok-r.ensures.fresh c.requires.row_read
-    (omega (arith, c.requires.few)) (rw c.in_ok-r.ensures.put at c.in_ok-r.ensures.keyed.keys_differ) c.requires.room)
+    (awaits keys c.args.rows.now.tuples (items_of_tree c.args.by_key.now) c.put_row.new.indexes c.requires.keyed
+    (λ n q column held. c.requires.read n q (column_seen c.args.indexes.now c.put_row.new.indexes same n column) held)
+    (subst (λ ss. All (Serves keys c.args.rows.now.tuples (items_of_tree c.args.by_key.now)) ss) (sym same) c.requires.serve)
+    c.in_ok-r.r (row_of c.args.row.now.items 0) c.in_ok-r.ensures.fresh
+    (λ n column. c.requires.row_read n (column_seen c.args.indexes.now c.put_row.new.indexes same n column))
+    (omega (arith, c.requires.few)) (rw c.in_ok-r.ensures.put at c.in_ok-r.ensures.keyed.keys_differ) (c.put_row.ensures.room 1 c.requires.room) c.in_ok-r.ensures.covered)
 
 pub returns-clause-serve : goal.returns-clause-serve
 returns-clause-serve g c =
+    let keys = g.R.LinkedKeys.keys c.args.links.now in
+    let same = c.put_row.ensures.same in
+    let read : CanRead keys c.args.rows.now.tuples c.put_row.new.indexes = λ n q column held. c.requires.read n q (column_seen c.args.indexes.now c.put_row.new.indexes same n column) held in
+    let row_read : CanReadRow keys (row_of c.args.row.now.items 0) c.put_row.new.indexes = λ n column. c.requires.row_read n (column_seen c.args.indexes.now c.put_row.new.indexes same n column) in
+    let serve : Serve keys c.args.rows.now.tuples (items_of_tree c.args.by_key.now) c.put_row.new.indexes =
+    subst (λ ss. All (Serves keys c.args.rows.now.tuples (items_of_tree c.args.by_key.now)) ss) (sym same) c.requires.serve in
+    let differ = rw c.in_ok-r.ensures.put at c.in_ok-r.ensures.keyed.keys_differ in
     rw c.in_ok-r.ensures.put
-    (served_with (g.R.LinkedKeys.keys c.args.links.now) c.args.rows.now.tuples (items_of_tree c.args.by_key.now) c.args.indexes.now c.requires.keyed c.requires.read c.requires.serve c.in_ok-r.r (row_of c.args.row.now.items 0) c.in_ok-r.ensures.fresh c.requires.row_read
-    (items_of_tree c.put_row.new.by_key) c.insert.new.indexes (rw c.in_ok-r.ensures.put at c.in_ok-r.ensures.keyed.keys_differ) c.in_ok-r.ensures.listed
-    (awaits (g.R.LinkedKeys.keys c.args.links.now) c.args.rows.now.tuples (items_of_tree c.args.by_key.now) c.args.indexes.now c.requires.keyed c.requires.read c.requires.serve c.in_ok-r.r (row_of c.args.row.now.items 0) c.in_ok-r.ensures.fresh c.requires.row_read
-    (omega (arith, c.requires.few)) (rw c.in_ok-r.ensures.put at c.in_ok-r.ensures.keyed.keys_differ) c.requires.room)
+    (served_with keys c.args.rows.now.tuples (items_of_tree c.args.by_key.now) c.put_row.new.indexes c.requires.keyed read serve c.in_ok-r.r (row_of c.args.row.now.items 0) c.in_ok-r.ensures.fresh row_read
+    (items_of_tree c.put_row.new.by_key) c.insert.new.indexes differ c.in_ok-r.ensures.listed
+    (awaits keys c.args.rows.now.tuples (items_of_tree c.args.by_key.now) c.put_row.new.indexes c.requires.keyed read serve c.in_ok-r.r (row_of c.args.row.now.items 0) c.in_ok-r.ensures.fresh row_read
+    (omega (arith, c.requires.few)) differ (c.put_row.ensures.room 1 c.requires.room) c.in_ok-r.ensures.covered)
     (rw c.in_ok-r.ensures.put at c.insert.ensures))
 
 pub returns-clause-declared : goal.returns-clause-declared
-returns-clause-declared g c = gain_declared (g.R.LinkedKeys.keys c.args.links.now) _ _ c.args.indexes.now c.insert.new.indexes c.insert.ensures
+returns-clause-declared g c =
+    gain_declared (g.R.LinkedKeys.keys c.args.links.now) _ _ c.put_row.new.indexes c.insert.new.indexes c.insert.ensures
+    ∙ seen_declared c.args.indexes.now c.put_row.new.indexes c.put_row.ensures.same
+
+pub returns-in_err-r-clause-declared : goal.returns-in_err-r-clause-declared
+returns-in_err-r-clause-declared g c = seen_declared c.args.indexes.now c.put_row.new.indexes c.put_row.ensures.same

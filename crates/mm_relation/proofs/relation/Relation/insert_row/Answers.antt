@@ -1,8 +1,9 @@
 use Rattle.std.proofs.Common.{◌≡◌, ◌<◌, ◌∙◌, sym, ap, arith, subst, length}
 use Rattle.mm_relation.specs.Rows.{row_of}
 use Rattle.std.specs.FinMap.{len}
+use Rattle.mm_relation.specs.Seen.{state}
 use Rattle.mm_relation.specs.State.{IsKept, IsCurrent, linked_keys}
-use Rattle.mm_relation.proofs.Keeping.{same_state, can_read, row_read, served, kept_on, current_on, readable_after, few_after}
+use Rattle.mm_relation.proofs.Keeping.{same_state, can_read, row_read, served, kept_on, current_on, readable_after, few_after, told_placed}
 use Rattle.mm_relation.proofs.relation.Relation.insert_row.Goals as goal
 
 pub place-requires-clause-read : goal.place-requires-clause-read
@@ -59,3 +60,8 @@ returns-clause-current g c =
     (readable_after keys (length c.self.inside.targets.items) c.make_room.new.rows.tuples c.place.new.rows.tuples (row_of c.args.cells.now.items 0) c.place.result c.place.ensures.put c.place.ensures.kept
     current.readable (rw (← c.self.view_is) at c.requires.readable))
     (rw c.as_slice-2.ensures.value at c.place.ensures.serve))
+
+pub returns-clause-told : goal.returns-clause-told
+returns-clause-told g c =
+    let few : len c.self.inside.rows.tuples < 16777216 = omega (arith, c.len.ensures, c.if-len-from.false) in
+    rw (← c.self.view_is) (told_placed (state c.self.inside.rows.counted c.self.inside.schema c.self.inside.targets.items c.self.inside.declared.items c.self.inside.rows.tuples c.self.inside.by_key.tree c.self.inside.indexes) (row_of c.args.cells.now.items 0).key c.place.result few (rw c.make_room.ensures.rows at c.place.ensures.told))
