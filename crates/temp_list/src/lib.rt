@@ -18,6 +18,7 @@ mod bounds_probe;
 mod keyed;
 pub mod laws;
 mod list;
+mod only_row;
 mod range_probe;
 mod row;
 pub mod search;
@@ -26,5 +27,6 @@ mod sorting;
 mod standing;
 
 pub use list::TempList;
+pub use only_row::find_only_row;
 pub use selecting::{find_few_rows, find_rows};
 pub use standing::stands;
