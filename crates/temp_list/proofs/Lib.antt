@@ -9,5 +9,6 @@ pub mod KeyLemmas
 pub mod SlotLemmas
 pub mod SortLemmas
 pub mod SelectLemmas
+pub mod OnlyRowLemmas
 pub mod OneOrder
 pub mod LeadingLemmas

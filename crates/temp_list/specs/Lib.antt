@@ -5,4 +5,5 @@ pub mod Seen
 pub mod Keyed
 pub mod Ranges
 pub mod Selecting
+pub mod OnlyRow
 pub mod ListLaws

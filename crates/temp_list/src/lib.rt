@@ -18,6 +18,7 @@ mod bounds_probe;
 mod keyed;
 pub mod laws;
 mod list;
+mod only_row;
 mod range;
 mod range_probe;
 mod row;
@@ -27,5 +28,6 @@ mod sorting;
 mod standing;
 
 pub use list::TempList;
+pub use only_row::find_only_row;
 pub use selecting::{find_few_rows, find_rows, select};
 pub use standing::stands;
