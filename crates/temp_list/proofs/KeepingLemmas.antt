@@ -1,18 +1,26 @@
 -- Rows that pass tests one after another, and tests that are told already.
-use Rattle.std.proofs.Common.{◌≡◌, ◌≤◌, ◌<◌, ◌+◌, ℕ, Bool, true, false, ◌==◌, ◌&&◌, List, [], ◌∷◌, ◌++◌, length, take, drop, get_or, filter, refl, sym, ap, ◌∙◌, inl, inr}
-use Rattle.std.specs.List.{list_all}
-use Rattle.std.specs.Cmp.{second_so}
+use Rattle.std.proofs.Common.{◌≡◌, ◌≤◌, ◌<◌, ◌+◌, ℕ, Bool, true, false, ◌==◌, ◌&&◌, IsSome, IsTrue, List, [], ◌∷◌, ◌++◌, length, take, drop, get_or, filter, refl, sym, ap, ◌∙◌, subst, inl, inr}
+use Rattle.std.specs.FinMap as finite
+use Rattle.std.specs.List.{HoldsAt, list_all}
+use Rattle.std.specs.Cmp.{first_so, second_so}
 use Rattle.std.proofs.lemmas.Bool.{cases_Bool, eqb-true}
 use Rattle.std.proofs.lemmas.List.{drop_all, drop_more, take-append-drop}
-use Rattle.std.proofs.lemmas.List.Elements.{filter_agree}
+use Rattle.std.proofs.lemmas.List.Elements.{All-filter, filter_agree}
 use Rattle.std.proofs.lemmas.List.Folds.{list_all-append}
 use Rattle.common_lemmas.proofs.Filters.{filter-filter, filter_all}
 use Rattle.part_raw.specs.declared.tuple_ref.TupleRef.{TupleRef}
 use Rattle.plain_tables.specs.declared.resolved.Test.{Test}
+use Rattle.plain_tables.specs.declared.condition.Op.TheVariants as op
 use Rattle.plain_tables.specs.Queries.{stands}
-use Rattle.plan_chooser.specs.Plans.{is_range}
-use Rattle.mm_relation.specs.State.{RelationState}
-use Rattle.temp_list.specs.Reading.{value_in, row_passes, bounds, is_between, unbounded, all_but}
+use Rattle.plan_chooser.specs.Plans.{is_equality, is_range, hash_serves}
+use Rattle.mm_index.specs.Bag.{IsSameBag}
+use Rattle.mm_index.proofs.Bags.{IsSameBag-trans, IsSameBag-from_same}
+use Rattle.mm_relation.specs.Changes.{has_hash_on}
+use Rattle.mm_relation.specs.State.{tree_list, RelationState, IsKept}
+use Rattle.temp_list.specs.Reading.{value_in, row_passes, passing, bounds, is_between, unbounded, all_but}
+use Rattle.temp_list.specs.Selecting.{AreSelected}
+use Rattle.temp_list.proofs.SearchLemmas.{IsSameBag-filter}
+use Rattle.temp_list.proofs.SelectLemmas.{found_held, equality_op}
 
 -- the first of two tests and a rest, and the second
 both_first : (a b c : Bool) → (a && (b && c)) ≡ (b && (a && c))
@@ -97,3 +105,22 @@ module _ (relations : List RelationState) (s : RelationState) where
             (sym (eqb-true test.column.0 column (second_so (is_range test.op) (test.column.0 == column) b))))
         | inr f ↦ rw f (both_first between (so test r) others ∙ ap (λ c. so test r && c) (passes_unbounded column r tests))
       ]
+
+-- ---- what a select finds
+
+module _ (relations : List RelationState) (s : RelationState) (kept : IsKept s) where
+  -- of rows that some test picks, those that pass what is not told by it
+  pub selected_left : (tests : List Test) (found rows : List TupleRef) (so others : TupleRef → Bool) → IsSameBag found (filter so (tree_list s.by_key)) → ((r : TupleRef) → (so r && others r) ≡ row_passes relations s tests r) → rows ≡ filter others found → AreSelected relations s tests rows
+  selected_left tests found rows so others bag told is =
+      subst (AreSelected relations s tests) (sym is) (record {
+        held = All-filter others (λ r. IsSome (finite.get s.rows r)) found (found_held relations s kept found so bag);
+        bag = IsSameBag-trans (IsSameBag-filter others found (filter so (tree_list s.by_key)) bag)
+            (IsSameBag-from_same (filter others (filter so (tree_list s.by_key))) (passing relations s tests)
+            (filter-filter others so (tree_list s.by_key) ∙ filter_agree (λ r. so r && others r) (row_passes relations s tests) told (tree_list s.by_key)));
+      })
+
+-- the test that a hash serves asks for one value
+pub equality_served : (s : RelationState) (tests : List Test) (n : ℕ) (test : Test) → test ≡ get_or tests n test → HoldsAt (λ t. IsTrue (hash_serves s t)) tests n → test.op ≡ op.Eq
+equality_served s tests n test item served =
+    let serves : IsTrue (hash_serves s test) = subst (λ (t : Test). IsTrue (hash_serves s t)) (sym item) (served test) in
+    equality_op test.op (first_so (is_equality test.op) (has_hash_on s test.column.0) serves)

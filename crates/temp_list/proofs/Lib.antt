@@ -4,11 +4,12 @@ pub mod ListLemmas
 pub mod RangeLemmas
 pub mod SearchLemmas
 pub mod NeighbourLemmas
-pub mod KeepingLemmas
 pub mod KeyLemmas
 pub mod SlotLemmas
 pub mod SortLemmas
 pub mod SelectLemmas
 pub mod OnlyRowLemmas
+pub mod KeepingLemmas
+pub mod SelectedLemmas
 pub mod OneOrder
 pub mod LeadingLemmas

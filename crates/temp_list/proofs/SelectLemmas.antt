@@ -1,29 +1,29 @@
 -- What a select finds is the rows that pass.
-use Rattle.std.proofs.Common.{◌≡◌, ℕ, zero, suc, ◌<◌, Bool, true, ◌&&◌, IsTrue, List, [], ◌∷◌, ◌++◌, Some, IsSome, length, map, filter, get_or, refl, sym, ap, ◌∙◌, subst}
+use Rattle.std.proofs.Common.{◌≡◌, ℕ, ◌<◌, Bool, true, false, IsTrue, List, [], ◌++◌, Some, IsSome, length, filter, get_or, refl, sym, ap, ◌∙◌, subst, inl, inr}
 use Rattle.std.specs.Prelude.{slice_get}
 use Rattle.std.specs.List.{All, HoldsAt}
 use Rattle.std.specs.FinMap as finite
 use Rattle.std.specs.Cmp.{first_so}
-use Rattle.std.proofs.lemmas.List.Elements.{All-contains, All-contains_itself, All-filter, All-nil, All-cons, All-map, filter_agree}
-use Rattle.std.proofs.lemmas.Option.{slice_get_within, same_Some}
-use Rattle.common_lemmas.proofs.Filters.{filter-filter}
+use Rattle.std.proofs.lemmas.List.Elements.{All-contains, All-contains_itself, All-filter}
+use Rattle.std.proofs.lemmas.Bool.{cases_Bool}
+use Rattle.std.proofs.lemmas.List.Folds.{list_all_at}
 use Rattle.common_lemmas.proofs.Elements.{Contains-from_filter}
 use Rattle.part_raw.specs.declared.tuple_ref.TupleRef.{TupleRef}
 use Rattle.plain_tables.specs.declared.resolved.Test.{Test}
 use Rattle.plain_tables.specs.declared.condition.Op.{Op}
 use Rattle.plain_tables.specs.declared.condition.Op.TheVariants as op
+use Rattle.plain_tables.specs.Queries.{stands}
 use Rattle.plan_chooser.specs.Plans.{is_equality, hash_serves}
 use Rattle.mm_relation.specs.Changes.{has_hash_on}
 use Rattle.mm_index.specs.Bag.{IsSameBag, AppendsBag}
-use Rattle.mm_index.proofs.Bags.{IsSameBag-trans, IsSameBag-from_same, IsSameBag-map}
+use Rattle.mm_index.proofs.Bags.{IsSameBag-trans, IsSameBag-from_same}
 use Rattle.mm_index.proofs.Refs.{Contains-same_refs}
 use Rattle.mm_relation.specs.State.{tree_list, RelationState, IsKept}
-use Rattle.temp_list.specs.Reading.{AreSound, OfRelation, row_passes, passing}
-use Rattle.temp_list.specs.Lists.{ListState, IsOver, IsRowOver, HasPlace, relation_of}
-use Rattle.temp_list.specs.Selecting.{AreSelected, IsSelected}
+use Rattle.temp_list.specs.Reading.{AreSound, OfRelation, value_in, row_passes, passing}
+use Rattle.temp_list.specs.Selecting.{AreSelected}
 use Rattle.temp_list.proofs.ListLemmas.{same_at}
 use Rattle.temp_list.proofs.ReadingLemmas.{sound_at}
-use Rattle.temp_list.proofs.SearchLemmas.{IsSameBag-filter}
+use Rattle.temp_list.proofs.SearchLemmas.{IsSameBag-filter, filter_inner}
 
 module _ (relations : List RelationState) (s : RelationState) (kept : IsKept s) where
   pub passing_held : (tests : List Test) → All (λ r. IsSome (finite.get s.rows r)) (passing relations s tests)
@@ -35,25 +35,36 @@ module _ (relations : List RelationState) (s : RelationState) (kept : IsKept s) 
       All-contains (λ r. IsSome (finite.get s.rows r)) (tree_list s.by_key) (get_or found k d) kept.keyed.lists.held
       (Contains-from_filter so (tree_list s.by_key) (get_or found k d) (Contains-same_refs found (filter so (tree_list s.by_key)) (get_or found k d) bag (All-contains_itself found k d l))).0
 
-  -- of rows that some test picks, those that pass what is not told by it
-  pub selected : (tests : List Test) (found rows : List TupleRef) (so others : TupleRef → Bool) → IsSameBag found (filter so (tree_list s.by_key)) → ((r : TupleRef) → (so r && others r) ≡ row_passes relations s tests r) → rows ≡ filter others found → AreSelected relations s tests rows
-  selected tests found rows so others bag told is =
+  -- of rows among which are all that pass, those that pass
+  pub selected : (tests : List Test) (found rows : List TupleRef) (so : TupleRef → Bool) → IsSameBag found (filter so (tree_list s.by_key)) → ((r : TupleRef) → row_passes relations s tests r ≡ true → so r ≡ true) → rows ≡ filter (row_passes relations s tests) found → AreSelected relations s tests rows
+  selected tests found rows so bag passes is =
+      let p : TupleRef → Bool = row_passes relations s tests in
       subst (AreSelected relations s tests) (sym is) (record {
-        held = All-filter others (λ r. IsSome (finite.get s.rows r)) found (found_held found so bag);
-        bag = IsSameBag-trans (IsSameBag-filter others found (filter so (tree_list s.by_key)) bag)
-            (IsSameBag-from_same (filter others (filter so (tree_list s.by_key))) (passing relations s tests)
-            (filter-filter others so (tree_list s.by_key) ∙ filter_agree (λ r. so r && others r) (row_passes relations s tests) told (tree_list s.by_key)));
+        held = All-filter p (λ r. IsSome (finite.get s.rows r)) found (found_held found so bag);
+        bag = IsSameBag-trans (IsSameBag-filter p found (filter so (tree_list s.by_key)) bag)
+            (IsSameBag-from_same (filter p (filter so (tree_list s.by_key))) (filter p (tree_list s.by_key)) (filter_inner p so (tree_list s.by_key) (λ k d l. passes (get_or (tree_list s.by_key) k d))));
       })
 
+-- a row that passes all tests passes each
+pub passes_each : (relations : List RelationState) (s : RelationState) (tests : List Test) (n : ℕ) (test : Test) → n < length tests → test ≡ get_or tests n test → (r : TupleRef) → row_passes relations s tests r ≡ true → stands test.op (value_in relations s test.column.0 r) test.value ≡ true
+passes_each relations s tests n test within item r e =
+    let p : Test → Bool = λ t. stands t.op (value_in relations s t.column.0 r) t.value in
+    elim (cases_Bool (p test)) [
+      | inl told ↦ told
+      | inr failed ↦ absurd (let none : row_passes relations s tests r ≡ false = list_all_at p tests n test within (ap p (sym item) ∙ failed) in cc)
+    ]
+
 -- a hash serves an equality alone
-equality_op : (operator : Op) → is_equality operator ≡ true → operator ≡ op.Eq
+pub equality_op : (operator : Op) → is_equality operator ≡ true → operator ≡ op.Eq
 equality_op op.Eq e = refl
 equality_op operator e = cc
 
-pub equality_served : (s : RelationState) (tests : List Test) (n : ℕ) (test : Test) → test ≡ get_or tests n test → HoldsAt (λ t. IsTrue (hash_serves s t)) tests n → test.op ≡ op.Eq
-equality_served s tests n test item served =
+pub passes_equality : (relations : List RelationState) (s : RelationState) (tests : List Test) (n : ℕ) (test : Test) → n < length tests → test ≡ get_or tests n test → HoldsAt (λ t. IsTrue (hash_serves s t)) tests n → (r : TupleRef) → row_passes relations s tests r ≡ true → stands op.Eq (value_in relations s test.column.0 r) test.value ≡ true
+passes_equality relations s tests n test within item served r e =
     let serves : IsTrue (hash_serves s test) = subst (λ (t : Test). IsTrue (hash_serves s t)) (sym item) (served test) in
-    equality_op test.op (first_so (is_equality test.op) (has_hash_on s test.column.0) serves)
+    subst (λ (o : Op). stands o (value_in relations s test.column.0 r) test.value ≡ true)
+    (equality_op test.op (first_so (is_equality test.op) (has_hash_on s test.column.0) serves))
+    (passes_each relations s tests n test within item r e)
 
 -- what is appended to an empty vector
 pub all_appended : {A : Type 0} (old new bag : List A) → old ≡ [] → AppendsBag old new bag → IsSameBag new bag
@@ -69,32 +80,3 @@ pub bag_selected : (relations : List RelationState) → AreSound relations → (
 bag_selected relations sound table s lent tests rows bag =
     selected_there relations table s lent tests rows
     (record { held = found_held relations s (sound_at relations sound table s lent).0 rows (row_passes relations s tests) bag; bag = bag })
-
--- ---- a list of rows of one table
-
--- the list of these rows
-abbrev pub listing : ℕ → List TupleRef → ListState
-listing table rows = record { sources = table ∷ []; rows = map (λ r. r ∷ []) rows; columns = [] }
-
-module _ (relations : List RelationState) (table : ℕ) (s : RelationState) (lent : slice_get relations table ≡ Some s) where
-  row_over_one : (r : TupleRef) → IsSome (finite.get s.rows r) → IsRowOver relations (table ∷ []) (r ∷ [])
-  row_over_one r held = record { width = refl; held = at }
-    where
-      at : (source : ℕ) (t : RelationState) (q : TupleRef) → relation_of relations (table ∷ []) source ≡ Some t → slice_get (r ∷ []) source ≡ Some q → IsSome (finite.get t.rows q)
-      at zero t q from is =
-          let one : s ≡ t = same_at (slice_get relations table) s t lent from in
-          let same : r ≡ q = same_Some r q is in
-          subst (λ (u : RelationState). IsSome (finite.get u.rows q)) one (subst (λ (x : TupleRef). IsSome (finite.get s.rows x)) same held)
-      at (suc k) t q from is = cc
-
-  listing_over : (rows : List TupleRef) → All (λ r. IsSome (finite.get s.rows r)) rows → IsOver relations (listing table rows)
-  listing_over rows held = record {
-    sources = All-cons (λ n. n < length relations) table [] (slice_get_within relations table s lent) (All-nil (λ n. n < length relations));
-    rows = All-map (IsRowOver relations (table ∷ [])) (λ (r : TupleRef). r ∷ []) rows (λ k d l. row_over_one (get_or rows k d) (held k d l));
-    columns = All-nil (HasPlace relations (table ∷ []));
-  }
-
-  pub listed : (tests : List Test) (rows : List TupleRef) → AreSelected relations s tests rows → (list : ListState) → list ≡ listing table rows → IsSelected relations table s tests list
-  listed tests rows so list is =
-      subst (IsSelected relations table s tests) (sym is)
-      (record { sources = refl; columns = refl; over = listing_over rows so.held; rows = IsSameBag-map (λ (r : TupleRef). r ∷ []) so.bag })

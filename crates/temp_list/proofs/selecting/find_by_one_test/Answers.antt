@@ -1,8 +1,8 @@
 use Rattle.plain_tables.specs.Queries.{stands}
 use Rattle.temp_list.specs.Reading.{value_in, row_passes, all_but}
 use Rattle.temp_list.proofs.ReadingLemmas.{sound_at}
-use Rattle.temp_list.proofs.KeepingLemmas.{passes_others}
-use Rattle.temp_list.proofs.SelectLemmas.{found_held, all_appended, selected, selected_there}
+use Rattle.temp_list.proofs.KeepingLemmas.{passes_others, selected_left}
+use Rattle.temp_list.proofs.SelectLemmas.{found_held, all_appended, selected_there}
 use Rattle.temp_list.proofs.selecting.find_by_one_test.Goals as goal
 
 pub keep_passing_others-requires-clause-held : goal.keep_passing_others-requires-clause-held
@@ -17,7 +17,7 @@ keep_passing_others-requires-clause-current g c = (sound_at (g.R.Relations.table
 pub returns : goal.returns
 returns g c =
     selected_there (g.R.Relations.tables c.args.tables.now) c.args.table.0 c.at-relation.result.now c.at-relation.ensures c.args.tests.now c.keep_passing_others.new.rows.items
-    (selected (g.R.Relations.tables c.args.tables.now) c.at-relation.result.now c.a_relation_is_kept.ensures c.args.tests.now c.rows_by_tree.new.out.items c.keep_passing_others.new.rows.items
+    (selected_left (g.R.Relations.tables c.args.tables.now) c.at-relation.result.now c.a_relation_is_kept.ensures c.args.tests.now c.rows_by_tree.new.out.items c.keep_passing_others.new.rows.items
     (λ q. stands c.index-tests-n.result.op (value_in (g.R.Relations.tables c.args.tables.now) c.at-relation.result.now c.index-tests-n.result.column.0 q) c.index-tests-n.result.value)
     (row_passes (g.R.Relations.tables c.args.tables.now) c.at-relation.result.now (all_but c.args.n c.args.tests.now))
     (all_appended c.new-found.result.items _ _ c.new-found.ensures.items (rw c.sought.ensures at c.in_ok-rows_by_tree.ensures.ok))
