@@ -615,6 +615,32 @@ static void one_row_takes_no_memory(void)
     mmdb_close(&db);
 }
 
+/* To select or update the one row that has a value under an index takes no memory either. */
+static void one_row_under_an_index_takes_no_memory(const char *index)
+{
+    mmdb db = MMDB_CLOSED;
+    open_with_tables(&db);
+    GIVES(command(&db, "table w (k int, s text, id int)", NULL), MMDB_DONE);
+    GIVES(command(&db, index, NULL), MMDB_DONE);
+    GIVES(mmdb_refusal(&db), 0);
+    mmdb_statement insert = prepared(&db, "insert w (?, 'fourteen bytes', ?)");
+    for (int64_t id = 0; id < 100; id++) {
+        GIVES(mmdb_bind_integer(&db, insert.number, 0, 100 - id), MMDB_DONE);
+        GIVES(mmdb_bind_integer(&db, insert.number, 1, id), MMDB_DONE);
+        CHECK(changed_by(&db, insert) == 1);
+    }
+    mmdb_statement select = prepared(&db, "select id, s from w where id = ?");
+    mmdb_statement update = prepared(&db, "update w set s = 'fourteen bytes' where id = ?");
+    find_each(&db, select, 0, 1);
+    find_each(&db, update, 0, 1);
+    allocations_refuse(0, LONG_MAX);
+    find_each(&db, select, 1, 100);
+    find_each(&db, update, 1, 100);
+    CHECK(allocations_refused() == 0);
+    allocations_refuse(0, 0);
+    mmdb_close(&db);
+}
+
 int main(void)
 {
     mmdb db = MMDB_CLOSED;
@@ -645,6 +671,8 @@ int main(void)
     GIVES(command(&db, "table many (id int)", NULL), MMDB_DONE);
     many_statements_are_kept(&db);
     one_row_takes_no_memory();
+    one_row_under_an_index_takes_no_memory("index w id hash");
+    one_row_under_an_index_takes_no_memory("index w id tree");
     mmdb_close(&db);
     a_closed_handle_is_told(&db);
     CHECK(allocations_held() == 0);

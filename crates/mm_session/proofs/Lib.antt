@@ -5,11 +5,11 @@ pub mod BesideLemmas
 pub mod DumpLemmas
 pub mod IndexLemmas
 pub mod KeptLemmas
-pub mod KeyedLemmas
 pub mod LineLemmas
 pub mod ListingLemmas
 pub mod MemberLemmas
 pub mod NoLinks
+pub mod OnlyRowLemmas
 pub mod PerformLemmas
 pub mod PickLemmas
 pub mod PlaceLemmas

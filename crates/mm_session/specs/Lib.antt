@@ -7,11 +7,11 @@ pub mod Dumps
 pub mod IndexAnswers
 pub mod Judging
 pub mod Kept
-pub mod Keyed
 pub mod Listed
 pub mod Listing
 pub mod Members
 pub mod OneRequest
+pub mod OnlyRow
 pub mod Passing
 pub mod Performed
 pub mod Refused

@@ -6,7 +6,6 @@ ghost use Rattle.plain_tables.specs.ResolvedLaws.{OfTable, AreTests};
 ghost use Rattle.mm_catalog.specs.Seen.{database_of};
 ghost use Rattle.mm_session.specs.Passing.{ArePassing};
 
-use super::keyed::{key_test, keyed_row};
 use mm_catalog::Catalog;
 use mm_catalog::laws::a_catalog_is_consistent;
 use mm_relation::{Relations, TupleRef};
@@ -15,7 +14,7 @@ use plain_tables::{TableNumber, Test};
 use plan_chooser::{Policy, choose_select};
 use smallvec::SmallVec;
 use std::alloc::Global;
-use temp_list::find_rows;
+use temp_list::{find_only_row, find_rows};
 
 /// Rows that a change is about. One takes no memory.
 pub type FoundRows = SmallVec<TupleRef, 1>;
@@ -45,8 +44,8 @@ pub fn rows_passing(
     a_catalog_is_consistent(catalog);
     let relation = catalog.at(table);
     let plan = choose_select(policy, relation, tests);
-    if let Some(n) = key_test(plan, tests) {
-        return Ok(one_row(alloc, keyed_row(catalog, relation, tests, n)));
+    if let Some(row) = find_only_row(catalog, relation, plan, tests) {
+        return Ok(one_row(alloc, row));
     }
     let rows = find_rows(alloc, catalog, table, plan, tests)?;
     Ok(SmallVec::from_vec(rows))

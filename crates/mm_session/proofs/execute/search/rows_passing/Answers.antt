@@ -11,18 +11,18 @@ use Rattle.mm_session.proofs.execute.search.rows_passing.Goals as goal
 pub at-relation-requires : goal.at-relation-requires
 at-relation-requires c = there_at c.args.catalog.now c.a_catalog_is_consistent.ensures c.args.table.0 c.requires.0 c.requires.1
 
-pub keyed_row-requires-clause-current : goal.keyed_row-requires-clause-current
-keyed_row-requires-clause-current c = (among_at c.args.catalog.now c.a_catalog_is_consistent.ensures c.args.table.0 c.at-relation.result.now c.at-relation.ensures).current
+pub find_only_row-requires-clause-current : goal.find_only_row-requires-clause-current
+find_only_row-requires-clause-current c = (among_at c.args.catalog.now c.a_catalog_is_consistent.ensures c.args.table.0 c.at-relation.result.now c.at-relation.ensures).current
 
-pub keyed_row-requires-clause-columns : goal.keyed_row-requires-clause-columns
-keyed_row-requires-clause-columns c =
+pub find_only_row-requires-clause-columns : goal.find_only_row-requires-clause-columns
+find_only_row-requires-clause-columns c =
     test_columns c.args.catalog.now c.a_catalog_is_consistent.ensures c.args.table.0 c.requires.0 c.requires.1 c.args.tests.now c.requires.2 c.at-relation.result.now c.at-relation.ensures
 
 pub returns-in-Some : goal.returns-in-Some
 returns-in-Some c =
     are_passing c.args.catalog.now c.a_catalog_is_consistent.ensures c.args.table.0 c.requires.0 c.requires.1 c.args.tests.now c.at-relation.result.now c.at-relation.ensures
     (test_columns c.args.catalog.now c.a_catalog_is_consistent.ensures c.args.table.0 c.requires.0 c.requires.1 c.args.tests.now c.requires.2 c.at-relation.result.now c.at-relation.ensures)
-    c.one_row.result.items (IsSameBag-from_same c.one_row.result.items (passing c.args.catalog.now.relations c.at-relation.result.now c.args.tests.now) (c.one_row.ensures ∙ sym c.keyed_row.ensures))
+    c.one_row.result.items (IsSameBag-from_same c.one_row.result.items (passing c.args.catalog.now.relations c.at-relation.result.now c.args.tests.now) (c.one_row.ensures ∙ sym c.in-Some.ensures))
 
 pub find_rows-requires-clause-there : goal.find_rows-requires-clause-there
 find_rows-requires-clause-there c = there_at c.args.catalog.now c.a_catalog_is_consistent.ensures c.args.table.0 c.requires.0 c.requires.1

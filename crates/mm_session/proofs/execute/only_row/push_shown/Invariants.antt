@@ -1,7 +1,7 @@
 use Rattle.std.proofs.Common.{◌≡◌, ◌++◌, length, map, take}
 use Rattle.temp_list.specs.Reading.{value_in}
-use Rattle.mm_session.specs.Keyed.{columns_shown}
-use Rattle.mm_session.proofs.execute.keyed.push_shown.Given as goal
+use Rattle.mm_session.specs.OnlyRow.{columns_shown}
+use Rattle.mm_session.proofs.execute.only_row.push_shown.Given as goal
 
 abbrev pub invariant-loop-i : goal.invariant-loop-i
 invariant-loop-i l =

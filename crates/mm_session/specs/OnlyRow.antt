@@ -1,25 +1,23 @@
--- Rows of one table that are asked for by their key.
-use Rattle.std.specs.Prelude.{◌≡◌, ℕ, ◌<◌, List, length, map}
-use Rattle.std.specs.List.{HoldsAt, range_with_len}
+-- A select of one table of which one row passes at most, and what is shown of it.
+use Rattle.std.specs.Prelude.{◌≡◌, ℕ, List, Option, length, map}
+use Rattle.std.specs.List.{range_with_len}
+use Rattle.std.specs.Option.{option_to_list}
 use Rattle.part_raw.specs.declared.tuple_ref.TupleRef.{TupleRef}
 use Rattle.plain_tables.specs.Queries.{column_number}
 use Rattle.plain_tables.specs.Tables.{Row}
-use Rattle.plain_tables.specs.declared.condition.Op.TheVariants as operator
 use Rattle.plain_tables.specs.declared.numbers.ColumnNumber.{ColumnNumber}
+use Rattle.plain_tables.specs.declared.resolved.Query.{Query}
 use Rattle.plain_tables.specs.declared.resolved.Shown.{Shown}
 use Rattle.plain_tables.specs.declared.resolved.Shown.TheVariants as shown
-use Rattle.plain_tables.specs.declared.resolved.Test.{Test}
 use Rattle.mm_relation.specs.State.{RelationState}
 use Rattle.mm_catalog.specs.State.{CatalogState}
-use Rattle.temp_list.specs.Reading.{value_in}
+use Rattle.temp_list.specs.Reading.{OfRelation, passing, value_in}
+use Rattle.mm_session.specs.Walked.{IsOrdered}
 
--- a test that asks for the row of one key
-abbrev pub IsKeyTest : Test → Type 0
-IsKeyTest test = (test.column.0 ≡ 0) × (test.op ≡ operator.Eq)
-
--- the test of this number is one
-abbrev pub AsksForKey : List Test → ℕ → Type 0
-AsksForKey tests n = (n < length tests) × HoldsAt IsKeyTest tests n
+-- The query is one of a table alone, whose rows are shown in the order of their keys. This row passes, or none, and no other does.
+pub record ShowsOnly (c : CatalogState) (query : Query) (row : Option TupleRef) : Type 0 where
+  pub ordered : IsOrdered query
+  pub passes : OfRelation c.relations query.source.table.0 (λ s. passing c.relations s query.source.tests ≡ option_to_list row)
 
 -- the columns that are shown of one table of so many columns
 abbrev pub columns_shown : ℕ → Shown → List ColumnNumber

@@ -6,10 +6,10 @@ use Rattle.plain_tables.specs.declared.value.Value.{Value}
 use Rattle.mm_catalog.proofs.Declared.{among_at}
 use Rattle.temp_list.specs.Reading.{value_in}
 use Rattle.temp_list.proofs.ReadingLemmas.{can_read, lent_value}
-use Rattle.mm_session.specs.Keyed.{columns_shown}
-use Rattle.mm_session.proofs.KeyedLemmas.{column_inside, column_there}
+use Rattle.mm_session.specs.OnlyRow.{columns_shown}
+use Rattle.mm_session.proofs.OnlyRowLemmas.{column_inside, column_there}
 use Rattle.mm_session.proofs.NoLinks.{column_plain}
-use Rattle.mm_session.proofs.execute.keyed.push_shown.Goals as goal
+use Rattle.mm_session.proofs.execute.only_row.push_shown.Goals as goal
 
 abbrev none : ColumnNumber
 none = record { 0 = 0 }

@@ -1,7 +1,7 @@
 use Rattle.std.proofs.Common.{◌∙◌, ap, length, sym}
 use Rattle.plain_tables.specs.declared.schema.Schema.{Schema}
-use Rattle.mm_session.proofs.KeyedLemmas.{all_wide}
-use Rattle.mm_session.proofs.execute.keyed.shown_width.Goals as goal
+use Rattle.mm_session.proofs.OnlyRowLemmas.{all_wide}
+use Rattle.mm_session.proofs.execute.only_row.shown_width.Goals as goal
 
 pub returns-in-All : goal.returns-in-All
 returns-in-All c =

@@ -1,38 +1,36 @@
--- The row of a key, and what is shown of it.
-use Rattle.std.proofs.Common.{◌≡◌, ◌≢◌, ◌∙◌, ℕ, ◌<◌, true, false, List, [], ◌∷◌, ◌++◌, Some, refl, sym, ap, subst, arith, append-nil, filter, get_or, length, map}
+-- What is shown of the one row that passes.
+use Rattle.std.proofs.Common.{◌≡◌, ◌∙◌, ℕ, ◌<◌, List, [], ◌∷◌, ◌++◌, Option, None, Some, IsSome, is_some, refl, sym, ap, subst, arith, append-nil, get_or, length, map}
 use Rattle.std.specs.Prelude.{Result, Ok, Err, IfOk, OnOk, slice_get}
+use Rattle.std.specs.FinMap as finite
+use Rattle.std.specs.Int.{from_bool}
 use Rattle.std.specs.List.{All, cons_option, flat_map, range_with_len}
+use Rattle.std.specs.Option.{option_to_list}
 use Rattle.std.proofs.lemmas.List.{length-map}
 use Rattle.std.proofs.lemmas.List.Concat.{flat_map-cons}
 use Rattle.std.proofs.lemmas.List.Elements.{All-map}
 use Rattle.std.proofs.lemmas.List.FromFn.{get_or-map-range_with_len, length-range_with_len}
-use Rattle.std.proofs.lemmas.Option.{get_or_from_slice_get, slice_get-get_or, slice_get_within}
+use Rattle.std.proofs.lemmas.Option.{get_or_from_slice_get, slice_get-get_or}
 use Rattle.std.proofs.lemmas.Simd.{map-map}
 use Rattle.part_raw.specs.declared.tuple_ref.TupleRef.{TupleRef}
 use Rattle.plain_tables.specs.Doing.{headings, joined_tables}
-use Rattle.plain_tables.specs.Queries.{JoinedColumn, column_number, source_columns, stands}
+use Rattle.plain_tables.specs.Queries.{JoinedColumn, column_number, source_columns}
 use Rattle.plain_tables.specs.ResolvedLaws.{IsMeant}
 use Rattle.plain_tables.specs.Tables.{Table, Row}
-use Rattle.plain_tables.specs.declared.condition.Op.{Op}
-use Rattle.plain_tables.specs.declared.condition.Op.TheVariants as op
 use Rattle.plain_tables.specs.declared.numbers.ColumnNumber.{ColumnNumber}
 use Rattle.plain_tables.specs.declared.numbers.Place.{Place}
 use Rattle.plain_tables.specs.declared.resolved.Query.{Query}
 use Rattle.plain_tables.specs.declared.resolved.Resolved.TheVariants as resolved
 use Rattle.plain_tables.specs.declared.resolved.Shown.{Shown}
 use Rattle.plain_tables.specs.declared.resolved.Shown.TheVariants as shown
-use Rattle.plain_tables.specs.declared.resolved.Test.{Test}
 use Rattle.plain_tables.specs.declared.value.Value.{Value}
-use Rattle.mm_relation.specs.Reading.{key_at}
-use Rattle.mm_relation.specs.State.{RelationState, IsKept, tree_list}
+use Rattle.mm_relation.specs.State.{RelationState}
 use Rattle.mm_catalog.specs.State.{CatalogState}
 use Rattle.mm_catalog.specs.Seen.{database_of}
 use Rattle.mm_catalog.specs.Consistent.{IsConsistent}
-use Rattle.temp_list.specs.Reading.{passing, row_passes, value_in}
-use Rattle.temp_list.proofs.KeyLemmas.{standing_found, standing_none}
-use Rattle.temp_list.proofs.SearchLemmas.{filter_inner}
-use Rattle.temp_list.proofs.SelectLemmas.{passes_each}
-use Rattle.mm_session.specs.Keyed.{AsksForKey, IsKeyTest, columns_shown, values_shown}
+use Rattle.mm_catalog.proofs.Declared.{among_at}
+use Rattle.temp_list.specs.Reading.{value_in}
+use Rattle.temp_list.proofs.SelectLemmas.{passing_held}
+use Rattle.mm_session.specs.OnlyRow.{ShowsOnly, columns_shown, values_shown}
 use Rattle.mm_session.specs.Members.{tables_at}
 use Rattle.mm_session.specs.Shown.{heading, places_shown}
 use Rattle.mm_session.specs.Walked.{rows_shown, shown_row}
@@ -40,32 +38,7 @@ use Rattle.mm_session.proofs.MemberLemmas.{width_same}
 use Rattle.mm_session.proofs.PlaceLemmas.{place_at, places_from}
 use Rattle.mm_session.proofs.WalkedLemmas.{columns_over, heads_shown, places_some, walked_rows}
 
--- ---- the row of a key
-
-pub asks_at : (tests : List Test) (n : ℕ) (test : Test) → slice_get tests n ≡ Some test → IsKeyTest test → AsksForKey tests n
-asks_at tests n test at is = (slice_get_within tests n test at, λ d. subst IsKeyTest (sym (get_or_from_slice_get tests n test d at)) is)
-
-module _ (relations : List RelationState) (s : RelationState) (kept : IsKept s) (tests : List Test) (n : ℕ) (asks : AsksForKey tests n) (test : Test) (item : test ≡ get_or tests n test) where
-  key_asked : IsKeyTest test
-  key_asked = subst IsKeyTest (sym item) (asks.1 test)
-
-  -- a row that passes all tests has the key
-  has_key : (r : TupleRef) → row_passes relations s tests r ≡ true → stands op.Eq (value_in relations s 0 r) test.value ≡ true
-  has_key r passes =
-      subst (λ (o : Op). stands o (value_in relations s 0 r) test.value ≡ true) key_asked.1
-      (subst (λ k. stands test.op (value_in relations s k r) test.value ≡ true) key_asked.0 (passes_each relations s tests n test asks.0 item r passes))
-
-  among_keyed : filter (row_passes relations s tests) (filter (λ r. stands op.Eq (value_in relations s 0 r) test.value) (tree_list s.by_key)) ≡ passing relations s tests
-  among_keyed =
-      filter_inner (row_passes relations s tests) (λ r. stands op.Eq (value_in relations s 0 r) test.value) (tree_list s.by_key) (λ k d l. has_key (get_or (tree_list s.by_key) k d))
-
-  pub keyed_found : (r : TupleRef) → key_at s.rows r ≡ Some test.value → passing relations s tests ≡ filter (row_passes relations s tests) (r ∷ [])
-  keyed_found r at = sym among_keyed ∙ ap (filter (row_passes relations s tests)) (standing_found relations s kept test.value r at)
-
-  pub keyed_none : ((r : TupleRef) → key_at s.rows r ≢ Some test.value) → passing relations s tests ≡ []
-  keyed_none none = sym among_keyed ∙ ap (filter (row_passes relations s tests)) (standing_none relations s kept test.value none)
-
--- ---- what is shown of it
+-- ---- the columns that are shown
 
 numbers_of : (ns : List ℕ) → map (λ (p : Place). p.column) (map (place_at 0) ns) ≡ map column_number ns
 numbers_of ns = map-map (λ (p : Place). p.column) (place_at 0) ns
@@ -130,17 +103,33 @@ module _ (c : CatalogState) (ok : IsConsistent c) (query : Query) (one : IsMeant
   pub width_some : 0 < length (columns_shown (length s.schema.columns) query.shown)
   width_some = let some = places_some c ok query one s there places refl in omega (arith, some, wide)
 
-  module _ (ordered : query.distinct ≡ false) where
-    pub one_shown : (r : TupleRef) → passing c.relations s query.source.tests ≡ r ∷ [] → values_shown c s query.shown r ≡ flat_map (λ row. row) (rows_shown c query)
+  -- the row that passes is what is shown
+  module _ (row : Option TupleRef) (only : ShowsOnly c query row) where
+    pub only_rows : map (shown_row c s places) (option_to_list row) ≡ rows_shown c query
+    only_rows = ap (map (shown_row c s places)) (sym (only.passes s there)) ∙ walked_rows c ok query one s there places refl only.ordered.0
+
+    pub one_shown : (r : TupleRef) → row ≡ Some r → values_shown c s query.shown r ≡ flat_map (λ row. row) (rows_shown c query)
     one_shown r is =
         values_same r ∙ sym (flat_one (shown_row c s places r))
-        ∙ ap (λ refs. flat_map (λ (row : Row). row) (map (shown_row c s places) refs)) (sym is)
-        ∙ ap (flat_map (λ (row : Row). row)) (walked_rows c ok query one s there places refl ordered)
+        ∙ ap (λ o. flat_map (λ (row : Row). row) (map (shown_row c s places) (option_to_list o))) (sym is)
+        ∙ ap (flat_map (λ (row : Row). row)) only_rows
 
-    pub none_shown : passing c.relations s query.source.tests ≡ [] → flat_map (λ row. row) (rows_shown c query) ≡ []
+    pub none_shown : row ≡ None → flat_map (λ row. row) (rows_shown c query) ≡ []
     none_shown is =
-        ap (flat_map (λ (row : Row). row)) (sym (walked_rows c ok query one s there places refl ordered))
-        ∙ ap (λ refs. flat_map (λ (row : Row). row) (map (shown_row c s places) refs)) is
+        ap (flat_map (λ (row : Row). row)) (sym only_rows)
+        ∙ ap (λ o. flat_map (λ (row : Row). row) (map (shown_row c s places) (option_to_list o))) is
+
+    pub only_count : length (rows_shown c query) ≡ length (option_to_list row)
+    only_count = ap length (sym only_rows) ∙ length-map (option_to_list row) (shown_row c s places)
+
+    -- and it is held
+    pub only_held : All (λ r. IsSome (finite.get s.rows r)) (option_to_list row)
+    only_held = subst (All (λ r. IsSome (finite.get s.rows r))) (only.passes s there) (passing_held c.relations s (among_at c ok n s there).kept query.source.tests)
+
+-- how many rows that is
+pub one_or_none : (row : Option TupleRef) (count : ℕ) → count ≡ from_bool (is_some row) → count ≡ length (option_to_list row)
+one_or_none None count is = is
+one_or_none (Some r) count is = is
 
 -- ---- cells that were none
 
