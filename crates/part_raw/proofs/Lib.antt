@@ -5,6 +5,7 @@ pub mod Chain
 pub mod Deeds
 pub mod Lending
 pub mod SlotSteps
+pub mod RunSteps
 pub mod Lookup
 pub mod Rows
 pub mod WithCounts

@@ -1,7 +1,7 @@
 -- Rows among the places of a partition: what becomes of each slot's row where the places of one are written or emptied.
-use Rattle.std.proofs.Common.{◌≡◌, ◌≢◌, ◌⊎◌, ℕ, zero, suc, ◌+◌, ◌*◌, ◌/◌, ◌%◌, ◌<◌, ◌≤◌, true, List, [], ◌∷◌, ◌++◌, map, length, get_or, set, take, drop, Option, Some, None, is_some, IsSome, refl, sym, ap, ◌∙◌, inl, inr, arith, subst}
+use Rattle.std.proofs.Common.{◌≡◌, ◌≢◌, ◌⊎◌, ℕ, zero, suc, ◌+◌, ◌-◌, ◌*◌, ◌/◌, ◌%◌, ◌<◌, ◌≤◌, true, List, [], ◌∷◌, ◌++◌, map, length, get_or, set, take, drop, Option, Some, None, is_some, IsSome, refl, sym, ap, ◌∙◌, inl, inr, arith, subst}
 use Rattle.std.proofs.lemmas.Bool.{cases_eq, cases_lt, true≢false}
-use Rattle.std.proofs.lemmas.List.{length-set, length-map, length-take, length-drop, length-replicate, get_or-set_same, get_or-set_other, get_or-take, get_or-drop, get_or-map, get_or-replicate, get_or_past, drop-drop, ext_get_or, map-append, take_more, take_all}
+use Rattle.std.proofs.lemmas.List.{length-append, get_or_append_left, get_or-append_right, length-set, length-map, length-take, length-drop, length-replicate, get_or-set_same, get_or-set_other, get_or-take, get_or-drop, get_or-map, get_or-replicate, get_or_past, drop-drop, ext_get_or, map-append, take_more, take_all}
 use Rattle.std.proofs.lemmas.Nat.{row_fits, div-add-mod', div_below, mod_below}
 use Rattle.std.proofs.Math.ListN.{replicate}
 use Rattle.std.proofs.Math.Nat.{zero-mul, suc-mul, mul-le-mul_right}
@@ -136,6 +136,33 @@ module _ {T : Type 0} where
       ∙ get_or-set_same (put_run places (suc from) row) from (Some x) None (omega (arith, length-put_run places (suc from) row, within))
   put_run-inside places from (x ∷ row) (suc i) k within small at =
       get_or-set_other (put_run places (suc from) row) from k (Some x) None (omega (arith, at)) ∙ put_run-inside places (suc from) row i k (omega (arith, within)) (omega arith) (omega (arith, at))
+
+  -- the places before the row, its values, and the places behind it
+  pub put_run-spliced : (places : List (Option T)) (from : ℕ) (row : List T) (count : ℕ) → count ≡ length row → from + count ≤ length places
+      → put_run places from row ≡ take from places ++ (map Some row ++ drop (from + count) places)
+  put_run-spliced places from row count long within =
+      let before = length-take from places in let behind = length-drop (from + count) places in let m = length-map row Some in
+      let j = length-append (take from places) (map Some row ++ drop (from + count) places) in let l = length-append (map Some row) (drop (from + count) places) in
+      let put = length-put_run places from row in
+      ext_get_or None (put_run places from row) (take from places ++ (map Some row ++ drop (from + count) places)) (omega (arith, before, behind, m, j, l, put, long, within))
+      (λ k below.
+      elim (cases_lt k from) [
+        | inl small ↦
+            put_run-outside places from row k (inl small) ∙ sym (get_or-take from places k None small)
+            ∙ sym (get_or_append_left (take from places) (map Some row ++ drop (from + count) places) None k (omega (arith, before, small, within)))
+        | inr past ↦
+            sym (get_or-append_right (take from places) (map Some row ++ drop (from + count) places) from k None (omega (arith, before, within)) past
+            ∙ elim (cases_lt (k - from) (length row)) [
+              | inl inside ↦
+                  get_or_append_left (map Some row) (drop (from + count) places) None (k - from) (omega (arith, m, inside))
+                  ∙ sym (put_run-inside places from row (k - from) k (omega (arith, long, within)) inside (omega (arith, past)))
+              | inr after ↦
+                  get_or-append_right (map Some row) (drop (from + count) places) (length row) (k - from) None m after
+                  ∙ get_or-drop (from + count) places (k - from - length row) None
+                  ∙ ap (λ j. get_or places j None) (omega (arith, long, past, after))
+                  ∙ sym (put_run-outside places from row k (inr (omega (arith, past, after))))
+            ])
+      ])
 
   -- the last value of a row may be written first
   pub put_run-last : (places : List (Option T)) (from : ℕ) (row : List T) (x : T) → put_run (set places (from + length row) (Some x)) from row ≡ put_run places from (row ++ x ∷ [])

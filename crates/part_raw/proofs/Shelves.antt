@@ -1,7 +1,7 @@
 -- The tuples of a shelf, as its places and its counts change.
 use Rattle.std.proofs.Math.Nat.{eq-zero-or-pos}
 use Rattle.std.proofs.lemmas.List.{nil_from_length}
-use Rattle.std.proofs.Common.{◌≡◌, ℕ, ◌+◌, ◌*◌, ◌<◌, ◌≤◌, List, [], length, get_or, set, Option, Some, None, is_some, IsSome, sym, ap, ◌∙◌, arith, inl, inr}
+use Rattle.std.proofs.Common.{◌≡◌, ℕ, ◌+◌, ◌*◌, ◌<◌, ◌≤◌, List, [], length, get_or, set, Option, Some, None, is_some, IsSome, sym, ap, ◌∙◌, arith, inl, inr, subst}
 use Rattle.std.proofs.Math.ListN.{replicate}
 use Rattle.part_raw.specs.Store.{Tuple, tuple}
 use Rattle.part_raw.specs.Rows.{rows_in, put_run, clear_run, IsLaid}
@@ -105,6 +105,12 @@ pub rows-put : {T : Type 0} (places : List (Option T)) (slot : ℕ) (cells : Lis
     → IsLaid (length cells) (put_run places (slot * length cells) cells) × (rows_in (length cells) (put_run places (slot * length cells) cells) ≡ set (rows_in (length cells) places) slot (Some cells))
 rows-put places slot cells in_range laid =
     let c = put-changes slot places cells in_range laid in (laid-changed (length cells) slot places _ _ in_range laid c, rows-changed (length cells) slot places _ _ in_range laid c)
+
+pub rows-put_wide : {T : Type 0} (width : ℕ) (places : List (Option T)) (slot : ℕ) (cells : List T) → length cells ≡ width → slot < 256 → IsLaid width places
+    → IsLaid width (put_run places (slot * width) cells) × (rows_in width (put_run places (slot * width) cells) ≡ set (rows_in width places) slot (Some cells))
+rows-put_wide width places slot cells wide in_range laid =
+    subst (λ (n : ℕ). IsLaid n (put_run places (slot * n) cells) × (rows_in n (put_run places (slot * n) cells) ≡ set (rows_in n places) slot (Some cells))) wide
+    (rows-put places slot cells in_range (subst (λ (n : ℕ). IsLaid n places) (sym wide) laid))
 
 -- a partition's places are empty where no slot holds a row
 pub empty-rows : {T : Type 0} (width : ℕ) (places : List (Option T)) → 0 < width → IsLaid width places → IsVacant (rows_in width places) → places ≡ replicate (256 * width) None

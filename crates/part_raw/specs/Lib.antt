@@ -7,3 +7,6 @@ pub mod Counted
 pub mod Raw
 pub mod Block
 pub mod Open
+pub mod RawLends
+pub mod BlockLends
+pub mod StoreLends

@@ -1,6 +1,7 @@
 //! The block of a partition: its places, each empty or holding a value, and the right to give their memory back.
 ghost use Rattle.std.specs.Prelude.{◌≡◌, ◌<◌, [], None, Some, length, map, replicate, slice_index_or, slice_set, IfOk, IsSome};
 ghost use Rattle.part_raw.specs.Rows.{IsRun, window};
+ghost use Rattle.std.specs.Borrow.{sem};
 
 use crate::raw::{Deed, Slots, allocate, deallocate, let_go, no_deed};
 use std::alloc::{AllocError, Global};
@@ -29,6 +30,8 @@ impl<T> Model for Block<T> {
 }
 
 impl<T> Block<T> {
+    ghost use Rattle.part_raw.specs.BlockLends.{LendsPlaces};
+
     // A block with so many places, each empty. Nothing is written to a place.
     pub(crate) fn new(alloc: Global, places: usize) -> Result<Block<T>, AllocError>
         ensures { IfOk result (λ block. block ≡ replicate places None) }
@@ -68,6 +71,15 @@ impl<T> Block<T> {
         ensures { window from count self.now ≡ map Some result.now }
     {
         self.slots.run(from, count)
+    }
+
+    // The same, to write to.
+    pub(crate) fn run_mut(&mut self, from: usize, count: usize) -> &mut [T]
+        requires { IsRun self.old from count }
+        ensures* writes_back { sem 𝓛 (LendsPlaces T.row self.entry from count result) }
+        ensures values { window from count self.old ≡ map Some result.now }
+    {
+        self.slots.run_mut(from, count)
     }
 
     // Puts a value into an empty place.

@@ -8,6 +8,7 @@ ghost use base.Fml.{ftrue};
 ghost use denote.RawPtr.{Ptr};
 ghost use Rattle.part_raw.specs.Raw.{block_owns, block_lends, deed_owns};
 ghost use Rattle.part_raw.specs.Rows.{IsRun, window};
+ghost use Rattle.std.specs.Borrow.{sem};
 
 use std::alloc::{AllocError, Allocator};
 use std::marker::{Model, PhantomData};
@@ -95,6 +96,8 @@ pub(crate) fn let_go<T, A: Allocator>(slots: Slots<T>, deed: Deed<T, A>)
 }
 
 impl<T> Slots<T> {
+    ghost use Rattle.part_raw.specs.RawLends.{LendsRun};
+
     // Writes a tuple into an empty slot.
     pub(crate) fn write(&mut self, slot: usize, tuple: T)
         requires within { slot < length self.old.held }
@@ -121,5 +124,14 @@ impl<T> Slots<T> {
         ensures { window from count self.now.held ≡ map Some result.now }
     {
         unsafe { slice::from_raw_parts(self.ptr.add(from), count) }
+    }
+
+    // The same, to write to.
+    pub(crate) fn run_mut(&mut self, from: usize, count: usize) -> &mut [T]
+        requires { IsRun self.old.held from count }
+        ensures* writes_back { sem 𝓛 (LendsRun T.row self.entry from count result) }
+        ensures values { window from count self.old.held ≡ map Some result.now }
+    {
+        unsafe { slice::from_raw_parts_mut(self.ptr.add(from), count) }
     }
 }

@@ -1,6 +1,7 @@
 //! All partitions of a store, and the list of those with a free slot. A look-up reads the blocks alone; a put and a take
 //! keep the bitmaps, the count of free slots and the list in step with them.
 ghost use Rattle.std.specs.Prelude.{◌≡◌, ◌↔◌, ℕ, Bool, ◌+◌, ◌-◌, ◌*◌, ◌<◌, ◌≤◌, [], true, false, None, Some, IfSome, IfOk, IsOk, IsSome, IsTrue, OnErr, OnOk, ◌++◌, is_some, length, map, option_to_list, sum_by, slice_index_or, slice_set, take};
+ghost use Rattle.std.specs.Borrow.{sem};
 ghost use Rattle.std.specs.FinMap as finite;
 ghost use Rattle.std.specs.Vec.{vec_len, vec_capacity};
 ghost use Rattle.part_raw.specs.Store.{store, tuple, tuple_at, with_tuple, IsHeld, HasNoCounts, EndsHeld, free_reserved};
@@ -120,6 +121,8 @@ impl<T: Drop> Drop for Partitions<T> {
 }
 
 impl<T> Partitions<T> {
+    ghost use Rattle.part_raw.specs.StoreLends.{LendsCells};
+
     /// An empty store of tuples of so many cells, which keeps no counts. It takes no memory. Refused is a tuple of no cell,
     /// and one of more cells than a store can address.
     pub fn new(alloc: Global, width: usize) -> Result<Partitions<T>, NoMemory>
@@ -284,6 +287,19 @@ impl<T> Partitions<T> {
         let part = r.part();
         let slot = r.slot();
         self.blocks[part as usize].run(slot as usize * self.width, self.width)
+    }
+
+    /// The cells of the tuple under this reference, to write to. The tuple has what was written last, and all else stays.
+    pub fn get_mut(&mut self, r: TupleRef) -> &mut [T]
+        requires { IsHeld self.old r }
+        ensures* writes_back { sem 𝓛 (LendsCells T.row self.entry r result) }
+        ensures tuple { IfSome (tuple_at self.old r) (λ t. t.cells ≡ result.now) }
+        ensures width { length result.now ≡ self.old.width }
+    {
+        let part = r.part();
+        let slot = r.slot();
+        let width = self.width;
+        self.blocks[part as usize].run_mut(slot as usize * width, width)
     }
 
     /// Whether counts are kept. Where they are not, the count of each tuple is 0.

@@ -136,6 +136,22 @@ fn a_cell_is_replaced_in_its_place(rt: HostRuntime) {
 }
 
 #[test]
+fn cells_are_written_where_they_are_lent(rt: HostRuntime) {
+    let drops = Cell::new(0);
+    let mut store = store_of(&rt, rt.alloc(), 3);
+    let refs = fill(&rt, rt.alloc(), &mut store, &drops, 2);
+    let before = *refs.as_slice().first().expect(&rt, "a reference");
+    let r = *refs.as_slice().get(1).expect(&rt, "a reference");
+    assert!(&rt; store.holds(r));
+    let cells = store.get_mut(r);
+    assert!(&rt; cells.len() == 3);
+    cells[0].number = 5;
+    cells[2].number = 7;
+    assert!(&rt; has(&store, r, &[5, 1, 7]));
+    assert!(&rt; has(&store, before, &[0, 0, 0]) && drops.get() == 0);
+}
+
+#[test]
 fn a_count_stands_beside_the_cells(rt: HostRuntime) {
     let drops = Cell::new(0);
     let mut store = store_of(&rt, rt.alloc(), 3);
