@@ -68,6 +68,7 @@ impl<'a, R: LinkedKeys> ColumnOrder<'a, R> {
     }
 
     // How a row stands to the one that was read.
+    #[inline]
     fn to_known(&self, r: TupleRef) -> Ordering
         requires read { IsRead (R.keys self.now.others.now) self.now.column.0 self.now.rows.now.tuples self.now.known self.now.value self.now.key }
         requires covered { IsSome (value_at (R.keys self.now.others.now) self.now.column.0 self.now.rows.now.tuples r) }
@@ -78,6 +79,16 @@ impl<'a, R: LinkedKeys> ColumnOrder<'a, R> {
             Ordering::Equal => self.rows.key(r).compare(&self.key),
             _ => first,
         }
+    }
+
+    // How a row stands to one that was not read, about which no search asks.
+    #[cold]
+    fn to_other(&self, a: TupleRef, b: TupleRef) -> Ordering
+        requires a_covered { IsSome (value_at (R.keys self.now.others.now) self.now.column.0 self.now.rows.now.tuples a) }
+        requires b_covered { IsSome (value_at (R.keys self.now.others.now) self.now.column.0 self.now.rows.now.tuples b) }
+        ensures { result ≡ column_cmp (R.keys self.now.others.now) self.now.column.0 self.now.rows.now.tuples a b }
+    {
+        ColumnOrder::beside(self.rows, self.others, self.column, b).to_known(a)
     }
 }
 
@@ -92,11 +103,13 @@ impl<'a, R: LinkedKeys> TupleOrder for ColumnOrder<'a, R> {
 
     ghost is_strict = { λ o sound. column_cmp_strict (R.keys o.others.now) o.column.0 o.rows.now.tuples sound.0 };
 
+    #[inline]
     fn cmp(&self, a: TupleRef, b: TupleRef) -> Ordering {
         if b == self.known {
-            return self.to_known(a);
+            self.to_known(a)
+        } else {
+            self.to_other(a, b)
         }
-        ColumnOrder::beside(self.rows, self.others, self.column, b).to_known(a)
     }
 }
 
