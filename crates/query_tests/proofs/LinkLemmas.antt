@@ -14,7 +14,7 @@ use Rattle.join_ops.specs.Joins.{IsThere, HasSideTree}
 use Rattle.query_tests.specs.Linked.{AreJoinable}
 
 module _ (c : CatalogState) (ok : IsConsistent c) where
-  sound : AreSound c.relations
+  pub sound : AreSound c.relations
   sound = record { each = λ k d l. let among = ok.each k d l in (among.kept, among.current) }
 
   -- a key can be joined with a column that refers to it and has a tree

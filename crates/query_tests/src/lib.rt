@@ -1,8 +1,10 @@
-//! The test of joins: how many values they compare. It stands in a crate of its own, since a crate with tests is proved
-//! twice.
+//! The tests of joins and selects: how many values a join compares, and that a select finds memory. They stand in a crate of their
+//! own, since a crate with tests is proved twice.
 #![tactic(auto)]
 
 #[cfg(test)]
 mod counts;
 #[cfg(test)]
 mod linked;
+#[cfg(test)]
+mod selects;
