@@ -99,10 +99,10 @@ module _ {MAX : ℕ} where
   set_present m q w None h = tt
   set_present m q w (Some p) h = kept_present p.at q w m h
 
-  pub parent_present : (p : Parts MAX) (place : Option NodePlace) (n : Node MAX) → Visit p place n → Present p.nodes.held n.parent
+  pub parent_present : (p : Parts MAX) (place : Option NodePlace) (n : Node MAX) → Visit p place n → Present p.nodes.held n.head.parent
   parent_present p place n v =
       let z = v.standing in
-      subst (λ o. Present p.nodes.held o) (sym (ap (λ (m : Node MAX). m.parent) v.node_is)) (top_present p.nodes.held (there v.at) z.above (unplug p.nodes.held z.above (node z.l (spot v.at z.x) z.r) z.linked.stands).0)
+      subst (λ o. Present p.nodes.held o) (sym (ap (λ (m : Node MAX). m.head.parent) v.node_is)) (top_present p.nodes.held (there v.at) z.above (unplug p.nodes.held z.above (node z.l (spot v.at z.x) z.r) z.linked.stands).0)
 
   at_parent : (p' : Parts MAX) (c : List (Frame Spot)) (ps : List Ptr) → Linked p' (plug c empty) ps → Now p' (parent_of c) (up (relabel_zipper label (at c empty)))
   at_parent p' [] ps k = record { sound = (empty, ps, k); placed = λ i. is_place_in (located_is p' empty ps k i) None; position = refl }
@@ -113,14 +113,14 @@ module _ {MAX : ℕ} where
 
   pub leaf_gone : (p p' : Parts MAX) (place : Option NodePlace) (n : Node MAX) (v : Visit p place n) (q : NodePlace) → place ≡ Some q
       → has_left (position_at p place).here ≡ false → has_right (position_at p place).here ≡ false
-      → p'.nodes.held ≡ linked_down n.parent n.side None (set_node q.at (blank p.free) p.nodes.held) → p'.root ≡ rooted n.parent None p.root → p'.free ≡ Some q → p'.spares ≡ p.spares + 1
-      → Now p' n.parent (without_leaf (position_at p place))
+      → p'.nodes.held ≡ linked_down n.head.parent n.head.side None (set_node q.at (blank p.free) p.nodes.held) → p'.root ≡ rooted n.head.parent None p.root → p'.free ≡ Some q → p'.spares ≡ p.spares + 1
+      → Now p' n.head.parent (without_leaf (position_at p place))
   leaf_gone p p' place n v q is nl nr held root free spares =
       let z = v.standing in
       let same : v.at ≡ q.at = some_place (sym v.place_is ∙ is) in
       let no_left : z.l ≡ empty = no_node z.l ((λ i. has_left (sym v.position i).here) ∙ nl) in let no_right : z.r ≡ empty = no_node z.r ((λ i. has_right (sym v.position i).here) ∙ nr) in
       let k : Linked p (plug z.above (leaf q.at z.x)) z.spares = subst (λ (t : Tree Spot × Tree Spot × Ptr). Linked p (plug z.above (node t.0 (spot t.2 z.x) t.1)) z.spares) (λ i. (no_left i, no_right i, same i)) z.linked in
-      let up_is : n.parent ≡ parent_of z.above = ap (λ (m : Node MAX). m.parent) v.node_is in let side_is : n.side ≡ side_of z.above = ap (λ (m : Node MAX). m.side) v.node_is in
+      let up_is : n.head.parent ≡ parent_of z.above = ap (λ (m : Node MAX). m.head.parent) v.node_is in let side_is : n.head.side ≡ side_of z.above = ap (λ (m : Node MAX). m.head.side) v.node_is in
       let done : Linked p' (plug z.above empty) (q.at ∷ z.spares) = dropped p p' z.above q.at z.x z.spares k (held ∙ (λ i. linked_down (up_is i) (side_is i) None (set_node q.at (blank p.free) p.nodes.held))) (root ∙ (λ i. rooted (up_is i) None p.root)) free spares in
       let now = at_parent p' z.above (q.at ∷ z.spares) done in
       record {

@@ -45,7 +45,7 @@ module _ {MAX : ℕ} where
         let k = changed (record { items = xs; height = v.standing.x.height }) (held ∙ (λ i. set_node (same i) (record (v.node_is i) { items = record { items = xs } }) p.nodes.held)) in
         record { sound = k.sound; placed = k.placed; position = k.position ∙ (λ i. with_items xs (sym v.position i)) }
 
-    pub reheighted : (h : ℕ) → p'.nodes.held ≡ set_node q (record n { height = h }) p.nodes.held → Now p' place (with_height h (position_at p place))
+    pub reheighted : (h : ℕ) → p'.nodes.held ≡ set_node q (record n { head = record n.head { height = h } }) p.nodes.held → Now p' place (with_height h (position_at p place))
     reheighted h held =
-        let k = changed (record { items = v.standing.x.items; height = h }) (held ∙ (λ i. set_node (same i) (record (v.node_is i) { height = h }) p.nodes.held)) in
+        let k = changed (record { items = v.standing.x.items; height = h }) (held ∙ (λ i. set_node (same i) (record (v.node_is i) { head = record (v.node_is i).head { height = h } }) p.nodes.held)) in
         record { sound = k.sound; placed = k.placed; position = k.position ∙ (λ i. with_height h (sym v.position i)) }

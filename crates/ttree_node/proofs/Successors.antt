@@ -17,8 +17,8 @@ side_seen_at [] = refl
 side_seen_at (went_left x r ∷ c) = refl
 side_seen_at (went_right l x ∷ c) = refl
 
-pub side_seen : {MAX : ℕ} (p : Parts MAX) (place : Option NodePlace) (n : Node MAX) → (v : Visit p place n) → n.side ≡ last_side (position_at p place).above
-side_seen p place n v = (λ i. (v.node_is i).side) ∙ side_seen_at v.standing.above ∙ (λ i. last_side (sym v.position i).above)
+pub side_seen : {MAX : ℕ} (p : Parts MAX) (place : Option NodePlace) (n : Node MAX) → (v : Visit p place n) → n.head.side ≡ last_side (position_at p place).above
+side_seen p place n v = (λ i. (v.node_is i).head.side) ∙ side_seen_at v.standing.above ∙ (λ i. last_side (sym v.position i).above)
 
 -- a step down to the left keeps the list of the subtree and what is behind it
 module _ {I : Type 0} where

@@ -74,9 +74,9 @@ module _ {MAX : ℕ} where
       let v = visit i i refl s place found is ((λ k. is_place_in (located (view k)) place) ∙ placed) n got in
       to_left i place n v v.standing.r refl ((λ k. has_right (sym v.position k).here) ∙ (λ k. has_right (position_at (view k) place).here) ∙ child)
 
-  module _ (p : Parts MAX) (place : Option NodePlace) (n : Node MAX) (k : ToLeft p place n) (lower : NodePlace) (below : n.right ≡ Some lower) where
+  module _ (p : Parts MAX) (place : Option NodePlace) (n : Node MAX) (k : ToLeft p place n) (lower : NodePlace) (below : n.head.right ≡ Some lower) where
     lower_is_left : lower.at ≡ k.b
-    lower_is_left = some_place (sym below ∙ ap (λ (m : Node MAX). m.right) k.node_is)
+    lower_is_left = some_place (sym below ∙ ap (λ (m : Node MAX). m.head.right) k.node_is)
 
     child_left : node_at lower.at p.nodes.held ≡ Some (node_for k.y (there k.a) Right (root_of k.mid) (root_of k.r))
     child_left = (λ i. node_at (lower_is_left i) p.nodes.held) ∙ (let u = unplug p.nodes.held k.c (node k.l (spot k.a k.x) (node k.mid (spot k.b k.y) k.r)) k.linked.stands in u.1.2.0)
@@ -88,9 +88,9 @@ module _ {MAX : ℕ} where
       child_is_left : m ≡ node_for k.y (there k.a) Right (root_of k.mid) (root_of k.r)
       child_is_left = some_node (sym got ∙ child_left)
 
-      pub middle_present_left : Present p.nodes.held m.left
+      pub middle_present_left : Present p.nodes.held m.head.left
       middle_present_left = let u = unplug p.nodes.held k.c (node k.l (spot k.a k.x) (node k.mid (spot k.b k.y) k.r)) k.linked.stands in
-          subst (λ o. Present p.nodes.held o) (sym (ap (λ (w : Node MAX). w.left) child_is_left)) (stands_present p.nodes.held (there k.b) Left k.mid u.1.2.1)
+          subst (λ o. Present p.nodes.held o) (sym (ap (λ (w : Node MAX). w.head.left) child_is_left)) (stands_present p.nodes.held (there k.b) Left k.mid u.1.2.1)
 
       pub child_kept_left : (upper : NodePlace) → place ≡ Some upper → (w : Node MAX) → node_at lower.at (set_node upper.at w p.nodes.held) ≡ Some m
       child_kept_left upper is w =
@@ -99,15 +99,15 @@ module _ {MAX : ℕ} where
           set_other upper.at lower.at w p.nodes.held (subst (λ (q : Ptr × Ptr). same_place q.0 q.1 ≡ false) (λ i. (sym lower_is_left i, sym upper_is i)) (differs k.b k.a apart)) ∙ got
 
       pub now_left : (p' : Parts MAX) (upper : NodePlace) → place ≡ Some upper
-          → p'.nodes.held ≡ linked_down n.parent n.side n.right (linked_up m.left place Right (set_node lower.at (node_for (label_of m) n.parent n.side place m.right) (set_node upper.at (node_for (label_of n) n.right Left n.left m.left) p.nodes.held)))
-          → p'.root ≡ rooted n.parent n.right p.root → p'.free ≡ p.free → p'.spares ≡ p.spares → Now p' n.right (with_tree rotated_left (position_at p place))
+          → p'.nodes.held ≡ linked_down n.head.parent n.head.side n.head.right (linked_up m.head.left place Right (set_node lower.at (node_for (label_of m) n.head.parent n.head.side place m.head.right) (set_node upper.at (node_for (label_of n) n.head.right Left n.head.left m.head.left) p.nodes.held)))
+          → p'.root ≡ rooted n.head.parent n.head.right p.root → p'.free ≡ p.free → p'.spares ≡ p.spares → Now p' n.head.right (with_tree rotated_left (position_at p place))
       now_left p' upper is held root free spares =
           let upper_is : upper.at ≡ k.a = some_place (sym is ∙ k.place_is) in
           let t : Tree Spot = node (node k.l (spot k.a k.x) k.mid) (spot k.b k.y) k.r in
           let done : Linked p' (plug k.c t) k.ps = turned_left p p' k.c k.l k.a k.x k.mid k.b k.y k.r k.ps k.linked
-          (held ∙ (λ i. let N = k.node_is i in let M = child_is_left i in linked_down N.parent N.side N.right (linked_up M.left (k.place_is i) Right (set_node (lower_is_left i) (node_for (label_of M) N.parent N.side (k.place_is i) M.right) (set_node (upper_is i) (node_for (label_of N) N.right Left N.left M.left) p.nodes.held)))))
-          (root ∙ (λ i. rooted (k.node_is i).parent (k.node_is i).right p.root)) free spares in
-          let to : n.right ≡ there k.b = ap (λ (w : Node MAX). w.right) k.node_is in
+          (held ∙ (λ i. let N = k.node_is i in let M = child_is_left i in linked_down N.head.parent N.head.side N.head.right (linked_up M.head.left (k.place_is i) Right (set_node (lower_is_left i) (node_for (label_of M) N.head.parent N.head.side (k.place_is i) M.head.right) (set_node (upper_is i) (node_for (label_of N) N.head.right Left N.head.left M.head.left) p.nodes.held)))))
+          (root ∙ (λ i. rooted (k.node_is i).head.parent (k.node_is i).head.right p.root)) free spares in
+          let to : n.head.right ≡ there k.b = ap (λ (w : Node MAX). w.head.right) k.node_is in
           record {
             sound = (plug k.c t, k.ps, done);
             placed = (λ i. is_place_in (located_is p' (plug k.c t) k.ps done i) (to i)) ∙ placed_root k.c t refl;
@@ -154,9 +154,9 @@ module _ {MAX : ℕ} where
       let v = visit i i refl s place found is ((λ k. is_place_in (located (view k)) place) ∙ placed) n got in
       to_right i place n v v.standing.l refl ((λ k. has_left (sym v.position k).here) ∙ (λ k. has_left (position_at (view k) place).here) ∙ child)
 
-  module _ (p : Parts MAX) (place : Option NodePlace) (n : Node MAX) (k : ToRight p place n) (lower : NodePlace) (below : n.left ≡ Some lower) where
+  module _ (p : Parts MAX) (place : Option NodePlace) (n : Node MAX) (k : ToRight p place n) (lower : NodePlace) (below : n.head.left ≡ Some lower) where
     lower_is_right : lower.at ≡ k.b
-    lower_is_right = some_place (sym below ∙ ap (λ (m : Node MAX). m.left) k.node_is)
+    lower_is_right = some_place (sym below ∙ ap (λ (m : Node MAX). m.head.left) k.node_is)
 
     child_right : node_at lower.at p.nodes.held ≡ Some (node_for k.y (there k.a) Left (root_of k.r) (root_of k.mid))
     child_right = (λ i. node_at (lower_is_right i) p.nodes.held) ∙ (let u = unplug p.nodes.held k.c (node (node k.r (spot k.b k.y) k.mid) (spot k.a k.x) k.l) k.linked.stands in u.1.1.0)
@@ -168,9 +168,9 @@ module _ {MAX : ℕ} where
       child_is_right : m ≡ node_for k.y (there k.a) Left (root_of k.r) (root_of k.mid)
       child_is_right = some_node (sym got ∙ child_right)
 
-      pub middle_present_right : Present p.nodes.held m.right
+      pub middle_present_right : Present p.nodes.held m.head.right
       middle_present_right = let u = unplug p.nodes.held k.c (node (node k.r (spot k.b k.y) k.mid) (spot k.a k.x) k.l) k.linked.stands in
-          subst (λ o. Present p.nodes.held o) (sym (ap (λ (w : Node MAX). w.right) child_is_right)) (stands_present p.nodes.held (there k.b) Right k.mid u.1.1.2)
+          subst (λ o. Present p.nodes.held o) (sym (ap (λ (w : Node MAX). w.head.right) child_is_right)) (stands_present p.nodes.held (there k.b) Right k.mid u.1.1.2)
 
       pub child_kept_right : (upper : NodePlace) → place ≡ Some upper → (w : Node MAX) → node_at lower.at (set_node upper.at w p.nodes.held) ≡ Some m
       child_kept_right upper is w =
@@ -179,15 +179,15 @@ module _ {MAX : ℕ} where
           set_other upper.at lower.at w p.nodes.held (subst (λ (q : Ptr × Ptr). same_place q.0 q.1 ≡ false) (λ i. (sym lower_is_right i, sym upper_is i)) (differs k.b k.a apart)) ∙ got
 
       pub now_right : (p' : Parts MAX) (upper : NodePlace) → place ≡ Some upper
-          → p'.nodes.held ≡ linked_down n.parent n.side n.left (linked_up m.right place Left (set_node lower.at (node_for (label_of m) n.parent n.side m.left place) (set_node upper.at (node_for (label_of n) n.left Right m.right n.right) p.nodes.held)))
-          → p'.root ≡ rooted n.parent n.left p.root → p'.free ≡ p.free → p'.spares ≡ p.spares → Now p' n.left (with_tree rotated_right (position_at p place))
+          → p'.nodes.held ≡ linked_down n.head.parent n.head.side n.head.left (linked_up m.head.right place Left (set_node lower.at (node_for (label_of m) n.head.parent n.head.side m.head.left place) (set_node upper.at (node_for (label_of n) n.head.left Right m.head.right n.head.right) p.nodes.held)))
+          → p'.root ≡ rooted n.head.parent n.head.left p.root → p'.free ≡ p.free → p'.spares ≡ p.spares → Now p' n.head.left (with_tree rotated_right (position_at p place))
       now_right p' upper is held root free spares =
           let upper_is : upper.at ≡ k.a = some_place (sym is ∙ k.place_is) in
           let t : Tree Spot = node k.r (spot k.b k.y) (node k.mid (spot k.a k.x) k.l) in
           let done : Linked p' (plug k.c t) k.ps = turned_right p p' k.c k.l k.a k.x k.mid k.b k.y k.r k.ps k.linked
-          (held ∙ (λ i. let N = k.node_is i in let M = child_is_right i in linked_down N.parent N.side N.left (linked_up M.right (k.place_is i) Left (set_node (lower_is_right i) (node_for (label_of M) N.parent N.side M.left (k.place_is i)) (set_node (upper_is i) (node_for (label_of N) N.left Right M.right N.right) p.nodes.held)))))
-          (root ∙ (λ i. rooted (k.node_is i).parent (k.node_is i).left p.root)) free spares in
-          let to : n.left ≡ there k.b = ap (λ (w : Node MAX). w.left) k.node_is in
+          (held ∙ (λ i. let N = k.node_is i in let M = child_is_right i in linked_down N.head.parent N.head.side N.head.left (linked_up M.head.right (k.place_is i) Left (set_node (lower_is_right i) (node_for (label_of M) N.head.parent N.head.side M.head.left (k.place_is i)) (set_node (upper_is i) (node_for (label_of N) N.head.left Right M.head.right N.head.right) p.nodes.held)))))
+          (root ∙ (λ i. rooted (k.node_is i).head.parent (k.node_is i).head.left p.root)) free spares in
+          let to : n.head.left ≡ there k.b = ap (λ (w : Node MAX). w.head.left) k.node_is in
           record {
             sound = (plug k.c t, k.ps, done);
             placed = (λ i. is_place_in (located_is p' (plug k.c t) k.ps done i) (to i)) ∙ placed_root k.c t refl;

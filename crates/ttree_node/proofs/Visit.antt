@@ -8,6 +8,7 @@ use Rattle.ttree_node.specs.Tree.{Tree, empty, node, Frame, went_left, went_righ
 use Rattle.ttree_node.specs.Linked.{Spot, spot, there, root_of, parent_of, side_of, node_for, located, Sound, IsPlaceIn, is_place_in}
 use Rattle.ttree_node.specs.Seen.{position_at}
 use Rattle.ttree_node.specs.declared.nodes.NodePlace.{NodePlace}
+use Rattle.ttree_node.specs.declared.node.HeadFields.{HeadFields}
 use Rattle.ttree_node.specs.declared.node.Node.{Node}
 use Rattle.ttree_node.specs.declared.parts.Parts.{Parts}
 use Rattle.ttree_node.proofs.Standing.{label, is_node_relabel, Standing, standing, step_placed, step_moved}
@@ -47,19 +48,19 @@ module _ {MAX : ℕ} where
     abbrev s : Standing p v.at
     s = v.standing
 
-    pub left_seen : is_some n.left ≡ has_left (position_at p place).here
-    left_seen = (λ i. is_some (v.node_is i).left) ∙ some_root s.l ∙ (λ i. has_left (sym v.position i).here)
+    pub left_seen : is_some n.head.left ≡ has_left (position_at p place).here
+    left_seen = (λ i. is_some (v.node_is i).head.left) ∙ some_root s.l ∙ (λ i. has_left (sym v.position i).here)
 
-    pub right_seen : is_some n.right ≡ has_right (position_at p place).here
-    right_seen = (λ i. is_some (v.node_is i).right) ∙ some_root s.r ∙ (λ i. has_right (sym v.position i).here)
+    pub right_seen : is_some n.head.right ≡ has_right (position_at p place).here
+    right_seen = (λ i. is_some (v.node_is i).head.right) ∙ some_root s.r ∙ (λ i. has_right (sym v.position i).here)
 
     root_seen_at : (c : List (Frame Spot)) → is_root (relabel_frames label c) ≡ not (is_some (parent_of c))
     root_seen_at [] = refl
     root_seen_at (went_left x r ∷ c) = refl
     root_seen_at (went_right l x ∷ c) = refl
 
-    pub root_seen : not (is_some n.parent) ≡ is_root (position_at p place).above
-    root_seen = (λ i. not (is_some (v.node_is i).parent)) ∙ sym (root_seen_at s.above) ∙ (λ i. is_root (sym v.position i).above)
+    pub root_seen : not (is_some n.head.parent) ≡ is_root (position_at p place).above
+    root_seen = (λ i. not (is_some (v.node_is i).head.parent)) ∙ sym (root_seen_at s.above) ∙ (λ i. is_root (sym v.position i).above)
 
     pub narrow_here : MAX ≤ MOST_ITEMS
     narrow_here = s.linked.narrow (omega (arith, s.linked.total, size_plug s.above (node s.l (spot v.at s.x) s.r)))
@@ -67,21 +68,21 @@ module _ {MAX : ℕ} where
     pub items_seen : n.items.items ≡ items_of (position_at p place).here
     items_seen = (λ i. (v.node_is i).items.items) ∙ (λ i. items_of (sym v.position i).here)
 
-    pub height_seen : n.height ≡ stated (position_at p place).here
-    height_seen = (λ i. (v.node_is i).height) ∙ (λ i. stated (sym v.position i).here)
+    pub height_seen : n.head.height ≡ stated (position_at p place).here
+    height_seen = (λ i. (v.node_is i).head.height) ∙ (λ i. stated (sym v.position i).here)
 
-    pub left_placed : has_left (position_at p place).here ≡ true → IsPlaceIn (located p) n.left
-    left_placed h = step_placed p v.at s (went_left (spot v.at s.x) s.r ∷ s.above) s.l refl (sym (is_node_relabel label s.l) ∙ (λ i. has_left (sym v.position i).here) ∙ h) n.left (ap (λ (m : Node MAX). m.left) v.node_is)
+    pub left_placed : has_left (position_at p place).here ≡ true → IsPlaceIn (located p) n.head.left
+    left_placed h = step_placed p v.at s (went_left (spot v.at s.x) s.r ∷ s.above) s.l refl (sym (is_node_relabel label s.l) ∙ (λ i. has_left (sym v.position i).here) ∙ h) n.head.left (ap (λ (m : Node MAX). m.head.left) v.node_is)
 
-    pub left_moved : has_left (position_at p place).here ≡ true → position_at p n.left ≡ down_left (position_at p place)
-    left_moved h = step_moved p v.at s (went_left (spot v.at s.x) s.r ∷ s.above) s.l refl (sym (is_node_relabel label s.l) ∙ (λ i. has_left (sym v.position i).here) ∙ h) n.left (ap (λ (m : Node MAX). m.left) v.node_is)
+    pub left_moved : has_left (position_at p place).here ≡ true → position_at p n.head.left ≡ down_left (position_at p place)
+    left_moved h = step_moved p v.at s (went_left (spot v.at s.x) s.r ∷ s.above) s.l refl (sym (is_node_relabel label s.l) ∙ (λ i. has_left (sym v.position i).here) ∙ h) n.head.left (ap (λ (m : Node MAX). m.head.left) v.node_is)
         ∙ (λ i. down_left (sym v.position i))
 
-    pub right_placed : has_right (position_at p place).here ≡ true → IsPlaceIn (located p) n.right
-    right_placed h = step_placed p v.at s (went_right s.l (spot v.at s.x) ∷ s.above) s.r refl (sym (is_node_relabel label s.r) ∙ (λ i. has_right (sym v.position i).here) ∙ h) n.right (ap (λ (m : Node MAX). m.right) v.node_is)
+    pub right_placed : has_right (position_at p place).here ≡ true → IsPlaceIn (located p) n.head.right
+    right_placed h = step_placed p v.at s (went_right s.l (spot v.at s.x) ∷ s.above) s.r refl (sym (is_node_relabel label s.r) ∙ (λ i. has_right (sym v.position i).here) ∙ h) n.head.right (ap (λ (m : Node MAX). m.head.right) v.node_is)
 
-    pub right_moved : has_right (position_at p place).here ≡ true → position_at p n.right ≡ down_right (position_at p place)
-    right_moved h = step_moved p v.at s (went_right s.l (spot v.at s.x) ∷ s.above) s.r refl (sym (is_node_relabel label s.r) ∙ (λ i. has_right (sym v.position i).here) ∙ h) n.right (ap (λ (m : Node MAX). m.right) v.node_is)
+    pub right_moved : has_right (position_at p place).here ≡ true → position_at p n.head.right ≡ down_right (position_at p place)
+    right_moved h = step_moved p v.at s (went_right s.l (spot v.at s.x) ∷ s.above) s.r refl (sym (is_node_relabel label s.r) ∙ (λ i. has_right (sym v.position i).here) ∙ h) n.head.right (ap (λ (m : Node MAX). m.head.right) v.node_is)
         ∙ (λ i. down_right (sym v.position i))
 
     -- a node above, as a place of its own
@@ -98,11 +99,15 @@ module _ {MAX : ℕ} where
     higher (went_left x r ∷ c) e h to is = record { above = c; tree = node (node s.l (spot v.at s.x) s.r) x r; same = λ i. plug (sym e i) (node s.l (spot v.at s.x) s.r); is = refl; root = is; moved = λ i. up (relabel_zipper label (Rattle.ttree_node.specs.Tree.at (sym e i) (node s.l (spot v.at s.x) s.r))) }
     higher (went_right l x ∷ c) e h to is = record { above = c; tree = node l x (node s.l (spot v.at s.x) s.r); same = λ i. plug (sym e i) (node s.l (spot v.at s.x) s.r); is = refl; root = is; moved = λ i. up (relabel_zipper label (Rattle.ttree_node.specs.Tree.at (sym e i) (node s.l (spot v.at s.x) s.r))) }
 
-    raised : is_root (position_at p place).above ≡ false → Higher n.parent
-    raised h = higher s.above refl ((λ i. is_root (sym v.position i).above) ∙ h) n.parent (ap (λ (m : Node MAX). m.parent) v.node_is)
+    raised : is_root (position_at p place).above ≡ false → Higher n.head.parent
+    raised h = higher s.above refl ((λ i. is_root (sym v.position i).above) ∙ h) n.head.parent (ap (λ (m : Node MAX). m.head.parent) v.node_is)
 
-    pub parent_placed : is_root (position_at p place).above ≡ false → IsPlaceIn (located p) n.parent
-    parent_placed h = let k = raised h in step_placed p v.at s k.above k.tree k.same k.is n.parent k.root
+    pub parent_placed : is_root (position_at p place).above ≡ false → IsPlaceIn (located p) n.head.parent
+    parent_placed h = let k = raised h in step_placed p v.at s k.above k.tree k.same k.is n.head.parent k.root
 
-    pub parent_moved : is_root (position_at p place).above ≡ false → position_at p n.parent ≡ up (position_at p place)
-    parent_moved h = let k = raised h in step_moved p v.at s k.above k.tree k.same k.is n.parent k.root ∙ k.moved ∙ (λ i. up (sym v.position i))
+    pub parent_moved : is_root (position_at p place).above ≡ false → position_at p n.head.parent ≡ up (position_at p place)
+    parent_moved h = let k = raised h in step_moved p v.at s k.above k.tree k.same k.is n.head.parent k.root ∙ k.moved ∙ (λ i. up (sym v.position i))
+
+-- what is read of a node's links is a node with them
+pub with_head : {MAX : ℕ} {o : Option (Node MAX)} {v : Node MAX} {l : HeadFields} → o ≡ Some v → l ≡ v.head → o ≡ Some (record v { head = l })
+with_head {v = v} there read = there ∙ (λ i. Some (record v { head = sym read i }))

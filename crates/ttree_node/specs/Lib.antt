@@ -2,6 +2,7 @@ pub mod Editor
 pub mod Held
 pub mod Laws
 pub mod Lends
+pub mod Link
 pub mod Linked
 pub mod LinkedTreeLends
 pub mod Look

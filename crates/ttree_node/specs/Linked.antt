@@ -72,13 +72,13 @@ module _ (q : Ptr) where
 module _ {MAX : ℕ} where
   -- the node with that label and these links
   abbrev pub node_for : Label TupleRef → Option NodePlace → Side → Option NodePlace → Option NodePlace → Node MAX
-  node_for x parent side l r = record { height = x.height; side = side; left = l; right = r; parent = parent; items = record { items = x.items } }
+  node_for x parent side l r = record { head = record { height = x.height; side = side; left = l; right = r; parent = parent }; items = record { items = x.items } }
 
   -- the node with another child on that side
   abbrev pub with_link : Side → Option NodePlace → Node MAX → Node MAX
   with_link Root q n = n
-  with_link Left q n = record n { left = q }
-  with_link Right q n = record n { right = q }
+  with_link Left q n = record n { head = record n.head { left = q } }
+  with_link Right q n = record n { head = record n.head { right = q } }
 
   -- the set where the node at the place, if there is one, has another child on that side
   abbrev pub linked_down : Option NodePlace → Side → Option NodePlace → List (Ptr × Node MAX) → List (Ptr × Node MAX)
@@ -87,7 +87,7 @@ module _ {MAX : ℕ} where
 
   -- the node under another parent, on that side of it
   abbrev pub with_parent : Option NodePlace → Side → Node MAX → Node MAX
-  with_parent q s n = record n { parent = q; side = s }
+  with_parent q s n = record n { head = record n.head { parent = q; side = s } }
 
   -- the set where the node at the place, if there is one, hangs there
   abbrev pub linked_up : Option NodePlace → Option NodePlace → Side → List (Ptr × Node MAX) → List (Ptr × Node MAX)
@@ -117,11 +117,11 @@ module _ {MAX : ℕ} where
     Chained (p ∷ ps) = (node_at p m ≡ Some (node_for (record { items = []; height = 0 }) None Root (head_of ps) None)) × Chained ps
 
   abbrev pub label_of : Node MAX → Label TupleRef
-  label_of n = record { items = n.items.items; height = n.height }
+  label_of n = record { items = n.items.items; height = n.head.height }
 
   abbrev pub grown : (Option NodePlace → Tree Spot) → Ptr → Option (Node MAX) → Tree Spot
   grown below p None = empty
-  grown below p (Some n) = node (below n.left) (spot p (label_of n)) (below n.right)
+  grown below p (Some n) = node (below n.head.left) (spot p (label_of n)) (below n.head.right)
 
   -- the tree whose root lies at a place, read along at most so many links in a row
   unfoldable pub read : ℕ → List (Ptr × Node MAX) → Option NodePlace → Tree Spot
@@ -132,8 +132,8 @@ module _ {MAX : ℕ} where
   abbrev pub climbed : (Option NodePlace → Tree Spot) → (Side → Option NodePlace → List (Frame Spot)) → Side → Ptr → Option (Node MAX) → List (Frame Spot)
   climbed below up s p None = []
   climbed below up Root p (Some n) = []
-  climbed below up Left p (Some n) = went_left (spot p (label_of n)) (below n.right) ∷ up n.side n.parent
-  climbed below up Right p (Some n) = went_right (below n.left) (spot p (label_of n)) ∷ up n.side n.parent
+  climbed below up Left p (Some n) = went_left (spot p (label_of n)) (below n.head.right) ∷ up n.head.side n.head.parent
+  climbed below up Right p (Some n) = went_right (below n.head.left) (spot p (label_of n)) ∷ up n.head.side n.head.parent
 
   -- the steps above a node that hangs on that side of a parent
   unfoldable pub read_above : ℕ → List (Ptr × Node MAX) → Side → Option NodePlace → List (Frame Spot)
@@ -143,7 +143,7 @@ module _ {MAX : ℕ} where
 
   abbrev pub seen_from : List (Ptr × Node MAX) → Ptr → Option (Node MAX) → Zipper Spot
   seen_from m p None = at [] empty
-  seen_from m p (Some n) = at (read_above (length m) m n.side n.parent) (read (length m) m (there p))
+  seen_from m p (Some n) = at (read_above (length m) m n.head.side n.head.parent) (read (length m) m (there p))
 
   -- the place in the tree at which a node lies, or that of the missing root
   abbrev pub zipper_at : List (Ptr × Node MAX) → Option NodePlace → Zipper Spot

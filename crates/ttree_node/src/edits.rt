@@ -47,6 +47,7 @@ impl<const MAX: usize> LinkedNodes<MAX> {
     {
         let (left, right) = self.heights(place);
         let higher = left.max(right);
-        self.parts.nodes.get_mut(place.unwrap()).height = higher.saturating_add(1);
+        let node = self.parts.nodes.get_mut(place.unwrap());
+        node.head.set_height(higher.saturating_add(1));
     }
 }

@@ -43,10 +43,9 @@ impl<const MAX: usize> LinkedNodes<MAX> {
     {
         let leaf = place.unwrap();
         let node = self.parts.nodes.get(leaf);
-        let parent = node.parent;
-        let side = node.side;
+        let head = node.head.read();
         self.parts.retire(leaf);
-        self.parts.set_child(parent, side, None);
-        parent
+        self.parts.set_child(head.parent, head.side, None);
+        head.parent
     }
 }

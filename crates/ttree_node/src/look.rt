@@ -1,5 +1,5 @@
 //! A place in a tree that is only read.
-ghost use Rattle.std.specs.Prelude.{◌≡◌, true, false};
+ghost use Rattle.std.specs.Prelude.{◌≡◌, true, false, slice_get};
 ghost use Rattle.ttree_node.specs.Linked.{located, IsPlaceIn};
 
 use crate::linked_nodes::LinkedNodes;
@@ -62,12 +62,28 @@ impl<'a, const MAX: usize> Look<'a, MAX> {
         self.nodes.items(self.at)
     }
 
+    /// The stated height of the node, 0 where no node is.
+    pub fn height(&self) -> u32
+        ensures { result ≡ stated (position self.now).here }
+    {
+        self.nodes.height_at(self.at)
+    }
+
     /// The stated heights of the left and of the right child, 0 for none.
     pub fn heights(&self) -> (u32, u32)
         ensures left { result.0 ≡ stated (left_of (position self.now).here) }
         ensures right { result.1 ≡ stated (right_of (position self.now).here) }
     {
         self.nodes.heights(self.at)
+    }
+
+    /// The least item of the left and of the right child, where there is one.
+    #[inline]
+    pub fn least_below(&self) -> (Option<TupleRef>, Option<TupleRef>)
+        ensures left { result.0 ≡ slice_get (items_of (left_of (position self.now).here)) 0 }
+        ensures right { result.1 ≡ slice_get (items_of (right_of (position self.now).here)) 0 }
+    {
+        self.nodes.least_below(self.at)
     }
 
     /// Goes to the root.

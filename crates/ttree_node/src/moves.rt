@@ -1,5 +1,5 @@
 //! The steps from node to node, and what is read at a node. Each is a read of one link or two.
-ghost use Rattle.std.specs.Prelude.{◌≡◌, ◌≤◌, true, false, length, []};
+ghost use Rattle.std.specs.Prelude.{◌≡◌, ◌≤◌, true, false, length, slice_get, []};
 
 use crate::linked_nodes::LinkedNodes;
 use crate::nodes::NodePlace;
@@ -37,7 +37,7 @@ impl<const MAX: usize> LinkedNodes<MAX> {
         ensures placed { IsPlaceIn (located self.now) result }
         ensures moved { position_at self.now result ≡ down_left (position_at self.now place) }
     {
-        self.parts.nodes.get(place.unwrap()).left
+        self.parts.nodes.get(place.unwrap()).head.left()
     }
 
     pub(crate) fn right_of(&self, place: Option<NodePlace>) -> Option<NodePlace>
@@ -46,7 +46,7 @@ impl<const MAX: usize> LinkedNodes<MAX> {
         ensures placed { IsPlaceIn (located self.now) result }
         ensures moved { position_at self.now result ≡ down_right (position_at self.now place) }
     {
-        self.parts.nodes.get(place.unwrap()).right
+        self.parts.nodes.get(place.unwrap()).head.right()
     }
 
     pub(crate) fn parent_of(&self, place: Option<NodePlace>) -> Option<NodePlace>
@@ -55,7 +55,7 @@ impl<const MAX: usize> LinkedNodes<MAX> {
         ensures placed { IsPlaceIn (located self.now) result }
         ensures moved { position_at self.now result ≡ up (position_at self.now place) }
     {
-        self.parts.nodes.get(place.unwrap()).parent
+        self.parts.nodes.get(place.unwrap()).head.parent()
     }
 
     pub(crate) fn is_root(&self, place: Option<NodePlace>) -> bool
@@ -63,7 +63,7 @@ impl<const MAX: usize> LinkedNodes<MAX> {
         ensures { result ≡ is_root (position_at self.now place).above }
     {
         match place {
-            Some(found) => !self.parts.nodes.get(found).parent.is_some(),
+            Some(found) => !self.parts.nodes.get(found).head.parent().is_some(),
             None => true,
         }
     }
@@ -73,7 +73,7 @@ impl<const MAX: usize> LinkedNodes<MAX> {
         ensures { result ≡ has_left (position_at self.now place).here }
     {
         match place {
-            Some(found) => self.parts.nodes.get(found).left.is_some(),
+            Some(found) => self.parts.nodes.get(found).head.left().is_some(),
             None => false,
         }
     }
@@ -83,7 +83,7 @@ impl<const MAX: usize> LinkedNodes<MAX> {
         ensures { result ≡ has_right (position_at self.now place).here }
     {
         match place {
-            Some(found) => self.parts.nodes.get(found).right.is_some(),
+            Some(found) => self.parts.nodes.get(found).head.right().is_some(),
             None => false,
         }
     }
@@ -106,7 +106,7 @@ impl<const MAX: usize> LinkedNodes<MAX> {
         ensures { result ≡ stated (position_at self.now place).here }
     {
         match place {
-            Some(found) => self.parts.nodes.get(found).height,
+            Some(found) => self.parts.nodes.get(found).head.height(),
             None => 0,
         }
     }
@@ -125,6 +125,29 @@ impl<const MAX: usize> LinkedNodes<MAX> {
             self.height_at(self.right_of(place))
         } else {
             0
+        };
+        (left, right)
+    }
+
+    // The least item of the left and of the right child, where there is one.
+    #[inline]
+    pub(crate) fn least_below(
+        &self,
+        place: Option<NodePlace>,
+    ) -> (Option<TupleRef>, Option<TupleRef>)
+        requires { IsPlaceIn (located self.now) place }
+        ensures left { result.0 ≡ slice_get (items_of (left_of (position_at self.now place).here)) 0 }
+        ensures right { result.1 ≡ slice_get (items_of (right_of (position_at self.now place).here)) 0 }
+    {
+        let left = if self.has_left(place) {
+            self.items(self.left_of(place)).first().copied()
+        } else {
+            None
+        };
+        let right = if self.has_right(place) {
+            self.items(self.right_of(place)).first().copied()
+        } else {
+            None
         };
         (left, right)
     }

@@ -6,11 +6,19 @@ ghost use Rattle.ttree_node.specs.Held.{node_at, without, held_owns, held_lent};
 use raw_box::RawBox;
 use std::alloc::Global;
 use std::marker::{Model, PhantomData};
+use std::ptr::null_mut;
 
 // Where a node lies. It owns nothing.
 #[derive(Clone, Copy)]
 pub struct NodePlace {
     at: *mut u8,
+}
+
+impl NodePlace {
+    // A place at which nothing lies.
+    pub(crate) fn nowhere() -> NodePlace {
+        NodePlace { at: null_mut() }
+    }
 }
 
 // The owner of the nodes' memory. It takes no space: the places lie in the nodes.

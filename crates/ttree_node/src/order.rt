@@ -17,7 +17,7 @@ impl<const MAX: usize> LinkedNodes<MAX> {
         ensures { result ≡ last_side (position_at self.now place).above }
     {
         match place {
-            Some(found) => self.parts.nodes.get(found).side,
+            Some(found) => self.parts.nodes.get(found).head.side(),
             None => Side::Root,
         }
     }

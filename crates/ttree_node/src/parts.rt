@@ -2,7 +2,7 @@
 ghost use Rattle.std.specs.Prelude.{◌≡◌, ◌+◌, ◌-◌, ◌<◌, ◌≤◌, ◌^◌, List, [], ◌∷◌, Some, None, IsSome, OnOk, OnErr};
 ghost use denote.RawPtr.{Ptr};
 
-use crate::node::{Node, Side};
+use crate::node::{Head, HeadFields, Node, Side};
 use crate::nodes::{NodePlace, Nodes};
 use arrayvec::ArrayVec;
 use no_memory::NoMemory;
@@ -59,11 +59,10 @@ impl<const MAX: usize> Parts<MAX> {
     {
         let place = self.free.unwrap();
         let node = self.nodes.get_mut(place);
-        let next = node.left;
-        node.height = 1;
-        node.side = side;
-        node.left = None;
-        node.parent = parent;
+        let next = node.head.left();
+        node.head.set_height(1);
+        node.head.set_left(None);
+        node.head.set_parent(parent, side);
         node.items.push(item);
         self.free = next;
         self.spares -= 1;
@@ -82,11 +81,10 @@ impl<const MAX: usize> Parts<MAX> {
     {
         let next = self.free;
         let node = self.nodes.get_mut(place);
-        node.height = 0;
-        node.side = Side::Root;
-        node.left = next;
-        node.right = None;
-        node.parent = None;
+        node.head.set_height(0);
+        node.head.set_left(next);
+        node.head.set_right(None);
+        node.head.set_parent(None, Side::Root);
         node.items.clear();
         self.free = Some(place);
         self.spares += 1;
@@ -109,8 +107,8 @@ impl<const MAX: usize> Parts<MAX> {
             Some(above) => {
                 let node = self.nodes.get_mut(above);
                 match side {
-                    Side::Left => node.left = child,
-                    Side::Right => node.right = child,
+                    Side::Left => node.head.set_left(child),
+                    Side::Right => node.head.set_right(child),
                     Side::Root => {}
                 }
             }
@@ -131,10 +129,9 @@ impl<const MAX: usize> Parts<MAX> {
         ensures rest { (self.new.root ≡ self.old.root) × (self.new.free ≡ self.old.free) × (self.new.spares ≡ self.old.spares) }
     {
         let node = self.nodes.get_mut(place);
-        node.parent = parent;
-        node.side = side;
-        node.left = left;
-        node.right = right;
+        node.head.set_parent(parent, side);
+        node.head.set_left(left);
+        node.head.set_right(right);
     }
 
     // Hangs `child`, if it is a node, on that side of `parent`. The parent's link is left as it is.
@@ -150,8 +147,7 @@ impl<const MAX: usize> Parts<MAX> {
     {
         if let Some(below) = child {
             let node = self.nodes.get_mut(below);
-            node.parent = parent;
-            node.side = side;
+            node.head.set_parent(parent, side);
         }
     }
 
@@ -167,12 +163,15 @@ impl<const MAX: usize> Parts<MAX> {
         if MAX > MOST_ITEMS {
             return Err(NoMemory);
         }
-        let node = Node {
+        let head = Head::of(HeadFields {
             height: 0,
             side: Side::Root,
             left: self.free,
             right: None,
             parent: None,
+        });
+        let node = Node {
+            head,
             items: ArrayVec::new(),
         };
         let block = RawBox::new(self.alloc, node)?;
@@ -192,7 +191,7 @@ impl<const MAX: usize> Parts<MAX> {
     {
         let place = self.free.unwrap();
         let node = self.nodes.give_out(place, self.alloc).into_inner();
-        self.free = node.left;
+        self.free = node.head.left();
         self.spares -= 1;
     }
 }

@@ -20,16 +20,17 @@ impl<const MAX: usize> LinkedNodes<MAX> {
     {
         let upper = place.unwrap();
         let node = self.parts.nodes.get(upper);
-        let (parent, side, outer, below) = (node.parent, node.side, node.left, node.right);
-        let lower = below.unwrap();
+        let own = node.head.read();
+        let lower = own.right.unwrap();
         let child = self.parts.nodes.get(lower);
-        let (middle, inner) = (child.left, child.right);
+        let below = child.head.read();
         self.parts
-            .set_links(upper, below, Side::Left, outer, middle);
-        self.parts.set_links(lower, parent, side, place, inner);
-        self.parts.set_parent(middle, place, Side::Right);
-        self.parts.set_child(parent, side, below);
-        below
+            .set_links(upper, own.right, Side::Left, own.left, below.left);
+        self.parts
+            .set_links(lower, own.parent, own.side, place, below.right);
+        self.parts.set_parent(below.left, place, Side::Right);
+        self.parts.set_child(own.parent, own.side, own.right);
+        own.right
     }
 
     pub(crate) fn rotate_right(&mut self, place: Option<NodePlace>) -> Option<NodePlace>
@@ -42,15 +43,16 @@ impl<const MAX: usize> LinkedNodes<MAX> {
     {
         let upper = place.unwrap();
         let node = self.parts.nodes.get(upper);
-        let (parent, side, below, outer) = (node.parent, node.side, node.left, node.right);
-        let lower = below.unwrap();
+        let own = node.head.read();
+        let lower = own.left.unwrap();
         let child = self.parts.nodes.get(lower);
-        let (inner, middle) = (child.left, child.right);
+        let below = child.head.read();
         self.parts
-            .set_links(upper, below, Side::Right, middle, outer);
-        self.parts.set_links(lower, parent, side, inner, place);
-        self.parts.set_parent(middle, place, Side::Left);
-        self.parts.set_child(parent, side, below);
-        below
+            .set_links(upper, own.left, Side::Right, below.right, own.right);
+        self.parts
+            .set_links(lower, own.parent, own.side, below.left, place);
+        self.parts.set_parent(below.right, place, Side::Left);
+        self.parts.set_child(own.parent, own.side, own.left);
+        own.left
     }
 }

@@ -1,4 +1,5 @@
 use Rattle.std.proofs.Common.{◌∙◌}
+use Rattle.std.specs.Option.{is_some}
 use Rattle.ttree_node.proofs.Visit.{present, visit, left_seen}
 use Rattle.ttree_node.proofs.linked_nodes.LinkedNodes.has_left.Goals as goal
 
@@ -6,4 +7,4 @@ pub get-requires : goal.get-requires
 get-requires g c = present c.args.self.now c.self.inside.parts c.self.view_is c.self.invariant c.args.place c.in-Some.found c.in-Some.is c.requires
 
 pub returns-in-Some : goal.returns-in-Some
-returns-in-Some g c = c.is_some.ensures ∙ left_seen c.args.self.now c.args.place c.get.result.now (visit c.args.self.now c.self.inside.parts c.self.view_is c.self.invariant c.args.place c.in-Some.found c.in-Some.is c.requires c.get.result.now c.get.ensures)
+returns-in-Some g c = c.is_some.ensures ∙ (λ i. is_some (c.left.ensures i)) ∙ left_seen c.args.self.now c.args.place c.get.result.now (visit c.args.self.now c.self.inside.parts c.self.view_is c.self.invariant c.args.place c.in-Some.found c.in-Some.is c.requires c.get.result.now c.get.ensures)

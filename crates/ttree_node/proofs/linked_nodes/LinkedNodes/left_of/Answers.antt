@@ -2,11 +2,11 @@ use Rattle.ttree_node.proofs.Visit.{Visit, visit, left_placed, left_moved}
 use Rattle.ttree_node.proofs.linked_nodes.LinkedNodes.left_of.Given.{Over}
 use Rattle.ttree_node.proofs.linked_nodes.LinkedNodes.left_of.Goals as goal
 
-visited : (g : Over) (c : goal.After-result-1 g) → Visit c.args.self.now c.args.place c.get.result.now
+visited : (g : Over) (c : goal.After-left g) → Visit c.args.self.now c.args.place c.get.result.now
 visited g c = visit c.args.self.now c.self.inside.parts c.self.view_is c.self.invariant c.args.place c.unwrap.result c.unwrap.ensures c.requires.placed c.get.result.now c.get.ensures
 
 pub returns-clause-placed : goal.returns-clause-placed
-returns-clause-placed g c = left_placed c.args.self.now c.args.place c.get.result.now (visited g c) c.requires.child
+returns-clause-placed g c = rw c.left.ensures (left_placed c.args.self.now c.args.place c.get.result.now (visited g c) c.requires.child)
 
 pub returns-clause-moved : goal.returns-clause-moved
-returns-clause-moved g c = left_moved c.args.self.now c.args.place c.get.result.now (visited g c) c.requires.child
+returns-clause-moved g c = rw c.left.ensures (left_moved c.args.self.now c.args.place c.get.result.now (visited g c) c.requires.child)

@@ -9,13 +9,14 @@ use Rattle.ttree_node.proofs.linked_nodes.LinkedNodes.reheight.Given.{Over}
 use Rattle.ttree_node.proofs.linked_nodes.LinkedNodes.reheight.Goals as goal
 
 now : (g : Over) (c : goal.After-self-1 g)
-    → Now (record c.self.inside.parts { nodes = with_node c.self.inside.parts.nodes c.unwrap.result.at (record c.get_mut.result.now { height = c.saturating_add.result }) }) c.args.place
+    → Now (record c.self.inside.parts { nodes = with_node c.self.inside.parts.nodes c.unwrap.result.at (record c.get_mut-node.result.now { head = c.set_height.new.self }) }) c.args.place
     (with_height c.saturating_add.result (position_at c.args.self.now c.args.place))
 now g c =
-    let n = c.get_mut.result.now in let q = c.unwrap.result.at in
-    let v = visit c.args.self.now c.self.inside.parts c.self.view_is c.self.invariant c.args.place c.unwrap.result c.unwrap.ensures c.requires.placed n c.get_mut.ensures.value in
+    let n = c.get_mut-node.result.now in let q = c.unwrap.result.at in
+    let v = visit c.args.self.now c.self.inside.parts c.self.view_is c.self.invariant c.args.place c.unwrap.result c.unwrap.ensures c.requires.placed n c.get_mut-node.ensures.value in
     reheighted c.args.self.now _ c.args.place n v (λ i. (c.self.view_is i).root) (λ i. (c.self.view_is i).free) (λ i. (c.self.view_is i).spares) q c.unwrap.ensures c.saturating_add.result
-    (λ i. set_node q (record n { height = c.saturating_add.result }) (c.self.view_is i).nodes.held)
+    ((λ i. set_node q (record n { head = c.set_height.ensures i }) c.self.inside.parts.nodes.held)
+    ∙ (λ i. set_node q (record n { head = record n.head { height = c.saturating_add.result } }) (c.self.view_is i).nodes.held))
 
 pub invariant_of-self : goal.invariant_of-self
 invariant_of-self g c = (now g c).sound

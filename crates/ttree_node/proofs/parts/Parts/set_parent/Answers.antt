@@ -1,9 +1,11 @@
 use Rattle.std.proofs.Common.{◌∙◌, sym}
+use Rattle.ttree_node.specs.Held.{set_node}
 use Rattle.ttree_node.specs.Linked.{with_parent, linked_up}
 use Rattle.ttree_node.proofs.Maps.{set_by}
 use Rattle.ttree_node.proofs.parts.Parts.set_parent.Goals as goal
 
 pub returns-in-Some-clause-held : goal.returns-in-Some-clause-held
 returns-in-Some-clause-held g c =
-    set_by c.in-Some.below.at (with_parent c.args.parent c.args.side) c.get_mut-node.result.now c.args.self.now.nodes.held c.get_mut-node.ensures.value
+    (λ i. set_node c.in-Some.below.at (record c.get_mut-node.result.now { head = c.set_parent.ensures i }) c.args.self.now.nodes.held)
+    ∙ set_by c.in-Some.below.at (with_parent c.args.parent c.args.side) c.get_mut-node.result.now c.args.self.now.nodes.held c.get_mut-node.ensures.value
     ∙ (λ i. linked_up (sym c.in-Some.is i) c.args.parent c.args.side c.args.self.now.nodes.held)
