@@ -1,5 +1,5 @@
 -- A search goes down a tree, and asks about the least item of each node alone.
-use Rattle.std.proofs.Common.{◌≡◌, ℕ, ◌+◌, ◌-◌, ◌<◌, ◌≤◌, List, [], ◌∷◌, ◌++◌, length, get_or, drop, refl, sym, ap, subst, ◌∙◌, append_assoc, arith, true, false, Option, Some, None, Ordering}
+use Rattle.std.proofs.Common.{◌≡◌, ℕ, ◌+◌, ◌-◌, ◌<◌, ◌≤◌, List, [], ◌∷◌, ◌++◌, length, get_or, slice_get, drop, refl, sym, ap, subst, ◌∙◌, append_assoc, arith, true, false, Option, Some, None, Ordering}
 use Rattle.std.specs.List.{All}
 use Rattle.std.specs.Option.{IfSome, IfNone}
 use Rattle.std.specs.declared.cmp.Ordering.TheVariants.{Less, Greater}
@@ -210,6 +210,11 @@ module _ {I : Type 0} where
   pub most_here : (most : ℕ) (t : Tree (Label I)) → HasItemsInEach most t → length (items_of t) ≤ most
   most_here most empty e = omega arith
   most_here most (node l x r) e = e.1.1
+
+  -- ---- the least item, as a read gives it
+  pub least_is : (xs : List I) (r d : I) → slice_get xs 0 ≡ Some r → get_or xs 0 d ≡ r
+  least_is [] r d h = cc
+  least_is (x ∷ xs) r d h = cc
 
   module _ (most : ℕ) (tree : Tree (Label I)) (z : Zipper (Label I)) (same : whole z ≡ tree) where
     items_here : HasItemsInEach most tree → HasItemsInEach most z.here

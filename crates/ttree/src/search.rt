@@ -1,9 +1,9 @@
 //! The search of a tree from its root, to read it or to edit it there. It asks about the least item of each node alone, and
 //! then among the items of one.
-ghost use Rattle.std.specs.Prelude.{◌≡◌, ◌+◌, ◌≤◌, true, All, IfOk, IfErr};
+ghost use Rattle.std.specs.Prelude.{◌≡◌, ◌+◌, ◌<◌, ◌≤◌, true, All, Some, IfSome, IfOk, IfErr, length, slice_get};
 ghost use Rattle.mm_index.specs.Asking.{counted};
 ghost use Rattle.mm_index.specs.Range.{NeverFalls};
-ghost use Rattle.ttree_node.specs.Tree.{whole, list, items_of, is_node, is_root, height};
+ghost use Rattle.ttree_node.specs.Tree.{whole, list, items_of, is_node, is_root, left_of, right_of, height};
 ghost use Rattle.ttree_node.specs.Look.{position};
 ghost use Rattle.ttree_node.specs.Editor.{position as edited, tree_at, spares_at};
 ghost use Rattle.ttree.specs.Shape.{HasItemsInEach, binary_digits};
@@ -11,6 +11,7 @@ ghost use Rattle.ttree.specs.Searching.{taken, IsAskedAtMost, IsHitIn, IsGap, Is
 
 use crate::asking::{Seek, ask, search_between};
 use mm_index::Probe;
+use part_raw::TupleRef;
 use std::cmp::Ordering;
 use ttree_node::{Editor, Look};
 
@@ -21,6 +22,46 @@ pub(crate) enum Descent<'a, const MAX: usize> {
     // Where no child hangs on the side it would go. The last node on it whose least item stands below the range goes with
     // it, if there is one.
     End(Option<Look<'a, MAX>>),
+}
+
+// How high a tree is whose nodes and rows lie outside the caches, so that it pays to read both children of a node before the answer
+// about it is known. A tree of 50,000 rows is about so high.
+const TALL: u32 = 12;
+
+// The least items of the children, as far as they were read.
+#[derive(Clone, Copy)]
+struct Below {
+    left: Option<TupleRef>,
+    right: Option<TupleRef>,
+}
+
+// Reads the least items of both children, or nothing.
+#[inline]
+fn read_below<const MAX: usize>(look: &Look<'_, MAX>, is_tall: bool) -> Below
+    ensures left { IfSome result.left (λ r. slice_get (items_of (left_of (position look.now).here)) 0 ≡ Some r) }
+    ensures right { IfSome result.right (λ r. slice_get (items_of (right_of (position look.now).here)) 0 ≡ Some r) }
+{
+    if !is_tall {
+        return Below {
+            left: None,
+            right: None,
+        };
+    }
+    let (left, right) = look.least_below();
+    Below { left, right }
+}
+
+// The least item of the node, which may have been read before.
+#[inline]
+fn least_here<const MAX: usize>(look: &Look<'_, MAX>, read: Option<TupleRef>) -> TupleRef
+    requires some { 0 < length (items_of (position look.now).here) }
+    requires read { IfSome read (λ r. slice_get (items_of (position look.now).here) 0 ≡ Some r) }
+    ensures { slice_get (items_of (position look.now).here) 0 ≡ Some result }
+{
+    match read {
+        Some(item) => item,
+        None => look.items()[0],
+    }
 }
 
 // Goes down from the root: to the left where the least item stands above the range, and to the right where it stands below.
@@ -42,15 +83,20 @@ fn descend<'a, P: Probe, const MAX: usize>(
     ensures probe { IsAskedAtMost (height (whole (position look.old))) P.is_sound P.can_place P.place P.asked probe.old probe.new }
     ensures asks { counted (P.asked probe.old) ≤ P.asked probe.new }
 {
+    let is_tall = look.height() >= TALL;
     let mut last = None;
+    let mut known = None;
     loop {
-        match ask(probe, look.items()[0], seek) {
+        let item = least_here(look, known);
+        let below = read_below(look, is_tall);
+        match ask(probe, item, seek) {
             Ordering::Equal => return Descent::Hit,
             Ordering::Greater => {
                 if !look.has_left() {
                     return Descent::End(last);
                 }
                 look.down_left();
+                known = below.left;
             }
             Ordering::Less => {
                 last = Some(*look);
@@ -58,6 +104,7 @@ fn descend<'a, P: Probe, const MAX: usize>(
                     return Descent::End(last);
                 }
                 look.down_right();
+                known = below.right;
             }
         }
     }

@@ -1,7 +1,7 @@
-use Rattle.std.proofs.Common.{◌≡◌, ◌+◌, ◌≤◌, true, []}
+use Rattle.std.proofs.Common.{◌≡◌, ◌+◌, ◌≤◌, true, [], Some, slice_get}
 use Rattle.std.specs.Option.{IfSome, IfNone}
 use Rattle.mm_index.specs.Asking.{IsOnlyAsked}
-use Rattle.ttree_node.specs.Tree.{whole, height, is_node, list_before}
+use Rattle.ttree_node.specs.Tree.{whole, height, is_node, items_of, list_before}
 use Rattle.ttree_node.specs.Look.{position}
 use Rattle.ttree.specs.Searching.{taken}
 use Rattle.ttree.proofs.Descent.{IsAhead, IsLast}
@@ -14,6 +14,7 @@ invariant-loop-look g l = record {
   first : IfNone l.last (list_before (position l.look).above ≡ []);
   behind : IfSome l.last (λ r. (r.nodes ≡ l.fn.look.nodes) × IsLast (λ q. taken l.seek (g.P.Probe.place l.fn.probe q)) (whole (position l.fn.look)) (position l.look) (position r));
   node : is_node (position l.look).here ≡ true;
+  known : IfSome l.known (λ r. slice_get (items_of (position l.look).here) 0 ≡ Some r);
   only : IsOnlyAsked g.P.Probe.is_sound g.P.Probe.can_place g.P.Probe.place g.P.Probe.asked l.fn.probe l.probe;
   most : g.P.Probe.asked l.probe + height (position l.look).here ≤ g.P.Probe.asked l.fn.probe + height (whole (position l.fn.look));
   nodes : l.look.nodes ≡ l.fn.look.nodes;
