@@ -11,14 +11,9 @@ pub mod Loaded
 pub mod Picked
 pub mod Recounted
 pub mod Counted
-pub mod Resolve
-pub mod ResolveChecks
 pub mod Seen
-pub mod Select
 pub mod State
 pub mod Trees
 pub mod LoadOrder
 pub mod Standing
-pub mod Slots
-pub mod Wanted
 pub mod Indexes

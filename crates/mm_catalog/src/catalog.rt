@@ -68,7 +68,7 @@ impl Catalog {
     ghost use Rattle.mm_catalog.specs.Loaded.{HasCome, HaveGone, AreFreeRows};
     ghost use Rattle.mm_catalog.specs.Picked.{ArePicked, HoldsRows};
     ghost use Rattle.plain_tables.specs.Databases.{is_named};
-    ghost use Rattle.mm_catalog.specs.Resolve.{table_number};
+    ghost use Rattle.mm_resolver.specs.Naming.{table_number};
     ghost use Rattle.mm_catalog.specs.Trees.{TellsTree};
     ghost use Rattle.mm_relation.specs.Changes.{HasTree};
     ghost use Rattle.mm_relation.specs.State.{RelationState};

@@ -1,5 +1,5 @@
 //! A relation whose links lead into the tables that its columns refer to, and those tables, which count them.
-ghost use Rattle.std.specs.Prelude.{◌≡◌, ◌<◌, ℕ, Some, IfOk, OnErr, OnOk, length, map, option_copied};
+ghost use Rattle.std.specs.Prelude.{◌≡◌, ◌<◌, ℕ, Some, IfOk, OnErr, OnOk, length, map};
 ghost use Rattle.std.specs.List.{list_any};
 ghost use Rattle.std.specs.String.{string_bytes};
 ghost use Rattle.plain_tables.specs.References as plain;
@@ -11,20 +11,10 @@ use crate::references::link::target_number;
 use indexmap::IndexSet;
 use mm_relation::Relation;
 use mm_relation::laws::a_relation_is_kept;
+use mm_resolver::referred;
 use no_memory::NoMemory;
-use plain_tables::{ColKind, Column, ColumnNumber, Schema, TableNumber, Text};
+use plain_tables::{Column, ColumnNumber, Schema, TableNumber, Text};
 use std::alloc::Global;
-
-// The name of the table that a column refers to.
-pub fn referred(column: &Column) -> Option<&Text>
-    ensures { option_copied result ≡ plain.referred column.now.kind }
-{
-    match &column.kind {
-        ColKind::Int | ColKind::Text => None,
-        ColKind::Ref(table) => Some(table),
-        ColKind::RefOrNull(table) => Some(table),
-    }
-}
 
 // Whether one of these columns refers to the table of that name.
 fn refers_to(columns: &[Column], name: &str) -> bool

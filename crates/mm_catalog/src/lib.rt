@@ -7,7 +7,7 @@
 //!
 //! A catalog is the one type that is seen as a database of plain tables. Each call says by the definitions of
 //! plain_tables what it does to that database, and asks that its command be one of it. `Catalog::resolve` makes such a
-//! command of one by names, or tells why it is refused.
+//! command of one by names, or tells why it is refused: mm_resolver does that, of the names, the columns and the indexes.
 //!
 //! It does not care how a relation keeps its rows and indexes, how a command is spelled, nor what it answers.
 //!
@@ -18,7 +18,6 @@
 #![tactic(auto)]
 
 mod before;
-mod bind;
 mod by_key;
 mod catalog;
 mod create;
@@ -30,8 +29,9 @@ pub mod laws;
 mod load;
 mod references;
 mod removal;
+mod schemas;
 mod updating;
 
-pub use bind::{MOST_COLUMNS, MOST_CONDITIONS, MOST_ITEMS, MOST_JOINS, MOST_TABLES};
 pub use catalog::Catalog;
 pub use indexes::{IndexShape, TableIndex};
+pub use mm_resolver::{MOST_COLUMNS, MOST_CONDITIONS, MOST_ITEMS, MOST_JOINS, MOST_TABLES};

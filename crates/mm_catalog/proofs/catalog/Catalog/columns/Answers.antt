@@ -5,7 +5,7 @@ use Rattle.std.proofs.lemmas.Option.{slice_get_read}
 use Rattle.mm_catalog.specs.State.{CatalogState}
 use Rattle.mm_catalog.specs.Seen.{database_of}
 use Rattle.mm_catalog.proofs.Tables.{database-length}
-use Rattle.mm_catalog.proofs.ResolveTables.{database-columns}
+use Rattle.mm_catalog.proofs.NamedTables.{database-columns}
 use Rattle.mm_catalog.proofs.catalog.Catalog.columns.Goals as goal
 
 pub index-requires : goal.index-requires

@@ -5,7 +5,7 @@ use Rattle.std.proofs.lemmas.Option.{slice_get_read}
 use Rattle.mm_catalog.specs.State.{CatalogState}
 use Rattle.mm_catalog.specs.Seen.{database_of, plain_index}
 use Rattle.mm_catalog.proofs.Tables.{database-length}
-use Rattle.mm_catalog.proofs.ResolveTables.{database-indexes}
+use Rattle.mm_catalog.proofs.NamedTables.{database-indexes}
 use Rattle.mm_catalog.proofs.catalog.Catalog.declared.Goals as goal
 
 pub index-requires : goal.index-requires

@@ -4,7 +4,7 @@ use Rattle.std.specs.String.{string_bytes}
 use Rattle.plain_tables.specs.References.{refers_to}
 use Rattle.mm_relation.specs.State.{RelationState}
 use Rattle.mm_catalog.specs.State.{CatalogState}
-use Rattle.mm_catalog.proofs.ResolveTables.{database-any}
+use Rattle.mm_catalog.proofs.NamedTables.{database-any}
 use Rattle.mm_catalog.proofs.catalog.Catalog.is_table_referenced.Goals as goal
 
 pub returns : goal.returns

@@ -5,7 +5,7 @@ use Rattle.plain_tables.specs.Databases.{is_named}
 use Rattle.mm_catalog.specs.State.{CatalogState}
 use Rattle.mm_catalog.specs.Seen.{database_of}
 use Rattle.mm_catalog.proofs.Aimed.{key_found}
-use Rattle.mm_catalog.proofs.ResolveTables.{named_position}
+use Rattle.mm_catalog.proofs.NamedTables.{named_position}
 use Rattle.mm_catalog.proofs.catalog.Catalog.table_number.Goals as goal
 use Rattle.mm_catalog.proofs.catalog.Catalog.table_number.Goals.{After-get_index_of}
 

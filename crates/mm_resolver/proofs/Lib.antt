@@ -1,0 +1,15 @@
+pub mod Lists
+pub mod Tables
+pub mod BlockColumns
+pub mod Loads
+pub mod Columns
+pub mod Named
+pub mod Adding
+pub mod Scopes
+pub mod Sources
+pub mod Meanings
+pub mod Joins
+pub mod Select
+pub mod StatementMeanings
+pub mod Holes
+pub mod Answered
